@@ -1,0 +1,6 @@
+pub mod Visits
+pub mod PrefixLemmas
+pub mod Grammars
+pub mod NumberTexts
+pub mod Lists
+pub mod Pairs

@@ -1,0 +1,8 @@
+use Rattle.std.proofs.Common.{◌≡◌, drop, map}
+use Rattle.serde_json.specs.View.{view}
+use Rattle.warg_crypto.specs.Lists.{data_of}
+use Rattle.warg_crypto.proofs.Lists.{before}
+use Rattle.warg_crypto.proofs.json.lists.list_value.Given as goal
+
+abbrev pub invariant-values : goal.invariant-values
+invariant-values g l = before (map view l.items.items) (data_of g.T.JsonValue.writes (drop l.value-index l.fn.list)) ≡ data_of g.T.JsonValue.writes l.fn.list

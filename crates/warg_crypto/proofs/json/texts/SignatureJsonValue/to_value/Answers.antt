@@ -1,0 +1,13 @@
+use Rattle.std.proofs.Common.{◌≡◌, List, ℕ, Ok, rules, subst}
+use Rattle.base64.specs.GeneralPurpose.{IsBytes}
+use Rattle.serde_json.specs.View.{view}
+use Rattle.warg_crypto.specs.JsonTexts.{signature_json}
+use Rattle.warg_crypto.specs.JsonTextLaws.{signature_reads_back}
+use Rattle.warg_crypto.proofs.json.texts.SignatureJsonValue.to_value.Goals as goal
+
+pub returns-clause-back : goal.returns-clause-back
+returns-clause-back c =
+    let bytes : IsBytes c.args.self.now.bytes = subst (λ (xs : List ℕ). IsBytes xs) c.bytes.ensures c.byte_range.ensures in
+    let written : signature_json c.args.self.now ≡ Ok (view c.string_value.result) = search rules in
+    let read = signature_reads_back c.args.self.now _ (record { name = c.algorithm-name.ensures.named; bytes = bytes }) written in
+    λ _. record { again = read.again; is = read.is; equal = read.equal }

@@ -1,0 +1,17 @@
+-- Which error a part's fault is.
+use Rattle.warg_crypto.specs.declared.coding.WireFault.{WireFault}
+use Rattle.warg_crypto.specs.declared.coding.WireFault.TheVariants as wire
+use Rattle.warg_crypto.specs.declared.coding.DecodeError.{DecodeError}
+use Rattle.warg_crypto.specs.declared.coding.DecodeError.TheVariants as fault
+use Rattle.warg_crypto.specs.declared.signing.error.KeyParseError.{KeyParseError}
+use Rattle.warg_crypto.specs.declared.signing.error.KeyParseError.TheVariants as key
+
+-- a message's fault; want of memory stays want of memory
+abbrev pub wire_error : WireFault → DecodeError
+wire_error wire.OutOfMemory = fault.OutOfMemory
+wire_error e = fault.Wire e
+
+-- a key's fault; want of memory stays want of memory
+abbrev pub key_error : KeyParseError → DecodeError
+key_error key.OutOfMemory = fault.OutOfMemory
+key_error e = fault.Key e

@@ -1,0 +1,51 @@
+-- What is written and read of JSON: each reader is a function to its value, or the first fault.
+use Rattle.std.specs.Prelude.{ℕ, ◌≡◌, ◌⊎◌, List, Option, Some, None, Result, Ok, Err, MatchResult}
+use Rattle.serde_json.specs.Data.{Data, Members, Items}
+use Rattle.serde_json.specs.Find.{as_array, as_object, as_str, get_member}
+use Rattle.warg_crypto.specs.declared.json.error.JsonError.{JsonError}
+use Rattle.warg_crypto.specs.declared.json.error.JsonError.TheVariants as fault
+
+-- What a call answered, seen by view, is want.
+abbrev pub Answers : {X Y : Type 0} → (X → Y) → Result X JsonError → Result Y JsonError → Type 0
+Answers view r want = MatchResult r (λ x. want ≡ Ok (view x)) (λ e. want ≡ Err e)
+
+-- The same, unless memory ran out.
+abbrev pub Gives : {X Y : Type 0} → (X → Y) → Result X JsonError → Result Y JsonError → Type 0
+Gives view r want = MatchResult r (λ x. want ≡ Ok (view x)) (λ e. (e ≡ fault.OutOfMemory) ⊎ (want ≡ Err e))
+
+-- What d reads as is the same as x.
+pub record ReadsBack {A : Type 0} (reads : Data → Result A JsonError) (same : A → A → Type 0) (x : A) (d : Data) : Type 0 where
+  pub again : A
+  pub is : reads d ≡ Ok again
+  pub equal : same x again
+
+-- what is written
+abbrev pub wrote : {A : Type 0} → A → Result A JsonError
+wrote x = Ok x
+
+infixl 10 ◌>>=◌
+abbrev pub ◌>>=◌ : {A B : Type 0} → Result A JsonError → (A → Result B JsonError) → Result B JsonError
+(Ok x) >>= f = f x
+(Err e) >>= f = Err e
+
+-- what is there, or the fault
+abbrev pub some_or : {A : Type 0} → JsonError → Option A → Result A JsonError
+some_or e (Some x) = Ok x
+some_or e None = Err e
+
+-- any other fault stands for a text outside its grammar
+abbrev pub or_bad_text : {A E : Type 0} → Result A E → Result A JsonError
+or_bad_text (Ok x) = Ok x
+or_bad_text (Err e) = Err fault.BadText
+
+abbrev pub text_in : Data → Result (List ℕ) JsonError
+text_in d = some_or fault.WrongType (as_str d)
+
+abbrev pub members_in : Data → Result Members JsonError
+members_in d = some_or fault.WrongType (as_object d)
+
+abbrev pub items_in : Data → Result Items JsonError
+items_in d = some_or fault.WrongType (as_array d)
+
+abbrev pub member_in : List ℕ → Data → Result Data JsonError
+member_in name d = members_in d >>= λ ms. some_or fault.Missing (get_member name ms)

@@ -1,0 +1,35 @@
+-- The texts of keys and of signatures.
+use Rattle.std.specs.Prelude.{ℕ, List, Result, Ok, Err}
+use Rattle.warg_crypto.specs.Tags.{Tag, tag_of}
+use Rattle.warg_crypto.specs.declared.signing.tagged.TagError.{TagError}
+use Rattle.warg_crypto.specs.declared.signing.tagged.TagError.TheVariants as fault
+use Rattle.warg_crypto.specs.declared.signing.error.KeyParseError.{KeyParseError}
+use Rattle.warg_crypto.specs.declared.signing.error.KeyParseError.TheVariants as key
+use Rattle.warg_crypto.specs.declared.signing.error.SignatureParseError.{SignatureParseError}
+use Rattle.warg_crypto.specs.declared.signing.error.SignatureParseError.TheVariants as signature
+
+-- a text's fault, as that of a key
+abbrev pub key_fault : TagError → KeyParseError
+key_fault fault.MissingColon = key.MissingColon
+key_fault fault.EmptyAlgorithm = key.EmptyAlgorithm
+key_fault fault.BadBase64 = key.BadBase64
+key_fault fault.OutOfMemory = key.OutOfMemory
+
+-- a text's fault, as that of a signature
+abbrev pub signature_fault : TagError → SignatureParseError
+signature_fault fault.MissingColon = signature.MissingColon
+signature_fault fault.EmptyAlgorithm = signature.EmptyAlgorithm
+signature_fault fault.BadBase64 = signature.BadBase64
+signature_fault fault.OutOfMemory = signature.OutOfMemory
+
+abbrev pub with_fault : {E : Type 0} → (TagError → E) → Result Tag TagError → Result Tag E
+with_fault named (Ok tag) = Ok tag
+with_fault named (Err e) = Err (named e)
+
+-- the key that a text says, or its first fault
+abbrev pub public_key_of : List ℕ → Result Tag KeyParseError
+public_key_of text = with_fault key_fault (tag_of text)
+
+-- the signature that a text says, or its first fault
+abbrev pub signature_of : List ℕ → Result Tag SignatureParseError
+signature_of text = with_fault signature_fault (tag_of text)

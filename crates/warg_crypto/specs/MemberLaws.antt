@@ -1,0 +1,59 @@
+-- What was written as a member reads back.
+use Rattle.std.specs.Prelude.{ℕ, ◌≡◌, List, ⊤, Option, Some, None, Result, Ok, Err, refl}
+use Rattle.std.proofs.Common.{sym, ap, ◌∙◌, subst}
+use Rattle.serde_json.specs.Data.{Data, Members, null, boolean, number, string, array, object, put}
+use Rattle.warg_crypto.specs.declared.json.error.JsonError.{JsonError}
+use Rattle.warg_crypto.specs.Json.{◌>>=◌, ReadsBack, wrote}
+use Rattle.warg_crypto.specs.Members.{option_json, optional, put_json, put_option, put_some}
+use Rattle.warg_crypto.specs.Steps.{ok_same, bind_ok}
+
+-- a member was put, and then the rest was written
+pub put_then : {A : Type 0} (writes : A → Result Data JsonError) (name : List ℕ) (x : A) (ms : Members) (rest : Members → Result Data JsonError) (d : Data)
+    → (put_json writes name x ms >>= rest) ≡ Ok d → (j : Data) × (writes x ≡ Ok j) × (rest (put name j ms) ≡ Ok d)
+put_then writes name x ms rest d e = by (writes x) e
+  where
+    by : (r : Result Data JsonError) → ((r >>= λ j. wrote (put name j ms)) >>= rest) ≡ Ok d → (j : Data) × (r ≡ Ok j) × (rest (put name j ms) ≡ Ok d)
+    by (Ok j) is = (j, refl, is)
+    by (Err f) is = cc is
+
+pub put_option_then : {A : Type 0} (writes : A → Result Data JsonError) (name : List ℕ) (o : Option A) (ms : Members) (rest : Members → Result Data JsonError) (d : Data)
+    → (put_option writes name o ms >>= rest) ≡ Ok d → (j : Option Data) × (option_json writes o ≡ Ok j) × (rest (put_some name j ms) ≡ Ok d)
+put_option_then writes name o ms rest d e = by (option_json writes o) e
+  where
+    by : (r : Result (Option Data) JsonError) → ((r >>= λ j. wrote (put_some name j ms)) >>= rest) ≡ Ok d → (j : Option Data) × (r ≡ Ok j) × (rest (put_some name j ms) ≡ Ok d)
+    by (Ok j) is = (j, refl, is)
+    by (Err f) is = cc is
+
+-- what reads back as an equal value reads as the value
+pub read_again : {A : Type 0} (reads : Data → Result A JsonError) (x : A) (d : Data) → ReadsBack reads (λ a b. a ≡ b) x d → reads d ≡ Ok x
+read_again reads x d r = r.is ∙ ap wrote (sym r.equal)
+
+-- both are missing, or the values are the same
+abbrev pub SameOptions : {A : Type 0} → (A → A → Type 0) → Option A → Option A → Type 0
+SameOptions same None None = ⊤
+SameOptions same (Some x) (Some y) = same x y
+SameOptions same None (Some y) = ⊥
+SameOptions same (Some x) None = ⊥
+
+-- what d reads as, where it may be missing, is the same as o
+pub record OptionReadsBack {A : Type 0} (reads : Data → Result A JsonError) (same : A → A → Type 0) (o : Option A) (d : Option Data) : Type 0 where
+  pub again : Option A
+  pub is : optional reads d ≡ Ok again
+  pub equal : SameOptions same o again
+
+module _ {A : Type 0} (writes : A → Result Data JsonError) (reads : Data → Result A JsonError) (is_written : A → Type 0) (same : A → A → Type 0)
+    (back : (x : A) (d : Data) → is_written x → writes x ≡ Ok d → ReadsBack reads same x d) (e : JsonError) (no_null : reads null ≡ Err e) where
+  some_read_back : (d : Data) (x : A) → reads d ≡ Ok x → optional reads (Some d) ≡ Ok (Some x)
+  some_read_back null x h = cc (no_null, h)
+  some_read_back (boolean b) x h = rw h refl
+  some_read_back (number n) x h = rw h refl
+  some_read_back (string t) x h = rw h refl
+  some_read_back (array ds) x h = rw h refl
+  some_read_back (object ms) x h = rw h refl
+
+  pub optional_reads_back : (o : Option A) (d : Option Data) → ((x : A) → o ≡ Some x → is_written x) → option_json writes o ≡ Ok d → OptionReadsBack reads same o d
+  optional_reads_back None d own is = record { again = None; is = subst (λ (x : Option Data). optional reads x ≡ Ok None) (ok_same _ _ is) refl; equal = tt }
+  optional_reads_back (Some x) d own is =
+      let w = bind_ok (writes x) _ d is in
+      let r = back x w.0 (own x refl) w.1 in
+      record { again = Some r.again; is = subst (λ (o : Option Data). optional reads o ≡ Ok (Some r.again)) (ok_same _ _ w.2) (some_read_back w.0 r.again r.is); equal = r.equal }

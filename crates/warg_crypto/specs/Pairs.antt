@@ -1,0 +1,57 @@
+-- Objects as maps from names to values: their pairs, in the order of the members, which is the byte
+-- order of the names.
+use Rattle.std.specs.Prelude.{ℕ, ◌≡◌, List, [], ◌∷◌, Option, Some, None, Result, Ok}
+use Rattle.std.specs.Cmp.Lexicographic.{slice_cmp}
+use Rattle.std.specs.List.Sorted.{IsStrictlySortedBy}
+use Rattle.std.specs.Ordering.{nat_cmp}
+use Rattle.serde_json.specs.Data.{Data, Members, no_members, member, object, put}
+use Rattle.serde_json.specs.Find.{get_member}
+use Rattle.warg_crypto.specs.declared.json.error.JsonError.{JsonError}
+use Rattle.warg_crypto.specs.Json.{◌>>=◌, members_in, wrote}
+
+-- the names of the members, in order
+abbrev pub names_of : Members → List (List ℕ)
+names_of no_members = []
+names_of (member name d more) = name ∷ names_of more
+
+-- the names ascend in byte order, so none stands twice
+abbrev pub AreAscending : List (List ℕ) → Type 0
+AreAscending names = IsStrictlySortedBy (slice_cmp nat_cmp) names
+
+module _ {K A : Type 0} (named : List ℕ → Result K JsonError) (reads : Data → Result A JsonError) where
+  -- the pairs of the members, in order: of each the name, then the value
+  abbrev pub pairs_of : Members → Result (List (K × A)) JsonError
+  pairs_of no_members = Ok []
+  pairs_of (member name d more) = named name >>= λ k. reads d >>= λ x. pairs_of more >>= λ rest. wrote ((k, x) ∷ rest)
+
+  abbrev pub pairs_in : Data → Result (List (K × A)) JsonError
+  pairs_in d = members_in d >>= pairs_of
+
+  -- none where there is none
+  abbrev pub pairs_or_none : Option Data → Result (List (K × A)) JsonError
+  pairs_or_none None = Ok []
+  pairs_or_none (Some d) = pairs_in d
+
+  -- the pairs of the member of that name, which may be missing, of a value that is an object
+  abbrev pub pairs_member : List ℕ → Data → Result (List (K × A)) JsonError
+  pairs_member name d = members_in d >>= λ ms. pairs_or_none (get_member name ms)
+
+  -- the pairs of members whose names ascend
+  pub record ArePairsInOrder (pairs : List (K × A)) : Type 0 where
+    pub members : Members
+    pub ascend : AreAscending (names_of members)
+    pub are : pairs_of members ≡ Ok pairs
+
+module _ {K A : Type 0} (name_of : K → List ℕ) (writes : A → Result Data JsonError) where
+  -- the members, with those of the pairs put in turn
+  abbrev pub pairs_onto : Members → List (K × A) → Result Members JsonError
+  pairs_onto ms [] = Ok ms
+  pairs_onto ms (e ∷ es) = writes e.1 >>= λ d. pairs_onto (put (name_of e.0) d ms) es
+
+  abbrev pub pairs_json : List (K × A) → Result Data JsonError
+  pairs_json es = pairs_onto no_members es >>= λ ms. wrote (object ms)
+
+  -- none where there are none
+  abbrev pub some_pairs_json : List (K × A) → Result (Option Data) JsonError
+  some_pairs_json [] = Ok None
+  some_pairs_json (e ∷ es) = pairs_json (e ∷ es) >>= λ d. wrote (Some d)

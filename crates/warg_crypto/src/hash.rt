@@ -1,0 +1,190 @@
+//! Hash algorithms and hashes.
+
+ghost use Rattle.std.specs.Prelude.{◌≡◌, ◌%◌, ◌↔◌, codes, length, IsTrue, Some};
+ghost use Rattle.std.specs.List.{AllPass};
+ghost use Rattle.sha2.specs.Sha256.{sha256};
+ghost use Rattle.warg_crypto.specs.HashText.{algorithm_of};
+
+mod typed;
+
+use hex::FromHex;
+use sha2::Digest;
+use std::fmt;
+use std::str::FromStr;
+use thiserror::Error;
+pub use typed::{Hash, Sha256, SupportedDigest};
+
+/// A hash algorithm.
+#[derive(Clone, Copy, Debug, PartialEq, Eq, Hash)]
+pub enum HashAlgorithm {
+    /// SHA-256 of FIPS 180-4.
+    Sha256,
+}
+
+/// The text names no known hash algorithm.
+#[derive(Clone, Copy, Debug, PartialEq, Eq, Error)]
+#[error("UnknownAlgorithm")]
+pub struct UnknownAlgorithm;
+
+impl HashAlgorithm {
+    /// The hash of the bytes.
+    pub fn digest(self, bytes: &[u8]) -> AnyHash
+        ensures algorithm { result.algorithm ≡ self }
+        ensures bytes { result.bytes ≡ sha256 bytes.now }
+    {
+        match self {
+            HashAlgorithm::Sha256 => AnyHash::new(self, sha2::Sha256::digest(bytes)),
+        }
+    }
+}
+
+impl fmt::Display for HashAlgorithm {
+    ghost output = { λ _. Some (codes "sha256") };
+
+    fn fmt<W: fmt::Write>(&self, f: &mut fmt::Formatter<W>) -> fmt::Result {
+        f.write_str(match self {
+            HashAlgorithm::Sha256 => "sha256",
+        })
+    }
+}
+
+impl FromStr for HashAlgorithm {
+    type Err = UnknownAlgorithm;
+
+    ghost from_str_gives = { λ text r. r ≡ algorithm_of text };
+
+    fn from_str(text: &str) -> Result<HashAlgorithm, UnknownAlgorithm> {
+        if text == "sha256" {
+            Ok(HashAlgorithm::Sha256)
+        } else {
+            Err(UnknownAlgorithm)
+        }
+    }
+}
+
+/// A hash under its algorithm. Its text is the algorithm's name, a colon, and its bytes in
+/// lower-case hex digits; digits of either case are read.
+#[derive(Clone, Copy, Debug, PartialEq, Eq, Hash)]
+pub struct AnyHash {
+    algorithm: HashAlgorithm,
+    bytes: [u8; 32],
+}
+
+/// Why a text is no hash.
+#[derive(Clone, Copy, Debug, PartialEq, Eq, Error)]
+pub enum AnyHashError {
+    /// No colon stands in the text.
+    #[error("MissingAlgorithm")]
+    MissingAlgorithm,
+    /// What stands before the first colon names no known algorithm.
+    #[error("UnknownAlgorithm")]
+    UnknownAlgorithm,
+    /// What stands behind it are not pairs of hex digits.
+    #[error("BadHex")]
+    BadHex,
+    /// They are not 64.
+    #[error("BadLength")]
+    BadLength,
+}
+
+impl AnyHash {
+    /// The hash of these bytes under the algorithm.
+    pub fn new(algorithm: HashAlgorithm, bytes: [u8; 32]) -> AnyHash
+        ensures algorithm { result.algorithm ≡ algorithm }
+        ensures bytes { result.bytes ≡ bytes }
+    {
+        AnyHash { algorithm, bytes }
+    }
+
+    /// The algorithm.
+    pub fn algorithm(&self) -> HashAlgorithm
+        ensures { result ≡ self.now.algorithm }
+    {
+        self.algorithm
+    }
+
+    /// The 32 bytes.
+    pub fn bytes(&self) -> &[u8]
+        ensures value { result.now ≡ self.now.bytes }
+        ensures len { length result.now ≡ 32 }
+    {
+        &self.bytes
+    }
+}
+
+impl AnyHash {
+    ghost use Rattle.warg_crypto.specs.HashText.{hash_text};
+
+    /// The text of the hash, written over `buffer`.
+    pub fn write_text<'b>(&self, buffer: &'b mut [u8; 71]) -> &'b str
+        ensures { result.now ≡ hash_text self.now }
+    {
+        let (name, digits) = buffer.split_at_mut(7);
+        name.copy_from_slice(b"sha256:");
+        let _ = hex::encode_to_slice(&self.bytes, digits);
+        unsafe { str::from_utf8_unchecked(buffer) }
+    }
+}
+
+impl fmt::Display for AnyHash {
+    ghost use Rattle.std.specs.Prelude.{Some};
+    ghost use Rattle.warg_crypto.specs.HashText.{hash_text};
+
+    ghost output = { λ h. Some (hash_text h) };
+
+    fn fmt<W: fmt::Write>(&self, f: &mut fmt::Formatter<W>) -> fmt::Result {
+        let mut buffer = [0u8; 71];
+        f.write_str(self.write_text(&mut buffer))
+    }
+}
+
+impl FromStr for AnyHash {
+    type Err = AnyHashError;
+
+    ghost use Rattle.std.specs.Prelude.{◌≡◌};
+    ghost use Rattle.warg_crypto.specs.HashText.{hash_of};
+
+    ghost from_str_gives = { λ text r. r ≡ hash_of text };
+
+    fn from_str(text: &str) -> Result<AnyHash, AnyHashError> {
+        let Some((name, digits)) = text.split_once(':') else {
+            return Err(AnyHashError::MissingAlgorithm);
+        };
+        if name != "sha256" {
+            return Err(AnyHashError::UnknownAlgorithm);
+        }
+        hash_of_digits(digits.as_bytes())
+    }
+}
+
+ghost use Rattle.hex.specs.Hex.{is_hex_digit};
+ghost use Rattle.warg_crypto.specs.HashText.{hash_of_digits};
+
+fn is_hex_digit(byte: u8) -> bool
+    ensures { result ≡ is_hex_digit byte }
+{
+    matches!(byte, b'A'..=b'F' | b'a'..=b'f' | b'0'..=b'9')
+}
+
+// Whether pairs of digits stand there.
+fn are_pairs(digits: &[u8]) -> bool
+    ensures { IsTrue result ↔ ((length digits.now % 2 ≡ 0) × AllPass is_hex_digit digits.now) }
+{
+    digits.len() % 2 == 0 && digits.iter().all(|d| is_hex_digit(*d))
+}
+
+// The hash that the digits spell.
+fn hash_of_digits(digits: &[u8]) -> Result<AnyHash, AnyHashError>
+    ensures { result ≡ hash_of_digits digits.now }
+{
+    if !are_pairs(digits) {
+        return Err(AnyHashError::BadHex);
+    }
+    match <[u8; 32]>::from_hex(digits) {
+        Ok(bytes) => Ok(AnyHash::new(HashAlgorithm::Sha256, bytes)),
+        Err(_) => Err(AnyHashError::BadLength),
+    }
+}
+
+#[cfg(test)]
+mod tests;

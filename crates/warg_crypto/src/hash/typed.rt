@@ -1,0 +1,109 @@
+//! Hashes whose type names their algorithm.
+
+ghost use Rattle.std.specs.Prelude.{◌≡◌, ◌++◌, ℕ, List, []};
+ghost use Rattle.sha2.specs.Sha256.{sha256};
+ghost use Rattle.sha2.specs.Hashers.{Holds256};
+ghost use Rattle.warg_crypto.specs.declared.hash.HashAlgorithm.{HashAlgorithm};
+
+use crate::hash::{AnyHash, HashAlgorithm};
+use crate::visit::{ByteVisitor, VisitBytes};
+use sha2::Digest;
+use std::alloc::{AllocError, Global};
+use std::marker::PhantomData;
+
+/// A digest that hashes are made by.
+pub trait SupportedDigest {
+    ghost ALGORITHM: { HashAlgorithm };
+
+    /// The algorithm.
+    const ALGORITHM: HashAlgorithm;
+
+    // The digest of the bytes seen.
+    ghost digest_of: { List ℕ → List ℕ };
+
+    /// The digest of the bytes of the content.
+    fn digest<T: VisitBytes>(content: &T) -> [u8; 32]
+        ensures { result ≡ digest_of (T.bytes_of content.now) };
+}
+
+/// A visitor that hashes what it sees, by SHA-256.
+#[derive(Drop)]
+pub struct Sha256Visitor {
+    hasher: sha2::Sha256,
+}
+
+impl Sha256Visitor {
+    pub fn new() -> Sha256Visitor
+        ensures { Holds256 result.hasher [] }
+    {
+        Sha256Visitor {
+            hasher: sha2::Sha256::new(),
+        }
+    }
+
+    pub fn finalize(self) -> [u8; 32]
+        ensures { (m : List ℕ) → Holds256 self.hasher m → result ≡ sha256 m }
+    {
+        self.hasher.finalize()
+    }
+}
+
+impl ByteVisitor for Sha256Visitor {
+    ghost seen = { λ v m. Holds256 v.hasher m };
+
+    ghost refuses = { λ _ _. ⊥ };
+
+    fn visit_bytes(&mut self, bytes: &[u8]) -> Result<(), AllocError> {
+        self.hasher.update(bytes);
+        Ok(())
+    }
+}
+
+/// SHA-256, by name.
+#[derive(Clone, Copy, Debug, PartialEq, Eq, Hash)]
+pub struct Sha256;
+
+impl SupportedDigest for Sha256 {
+    ghost use Rattle.warg_crypto.specs.declared.hash.HashAlgorithm.TheVariants.{Sha256};
+
+    ghost ALGORITHM = { Sha256 };
+
+    const ALGORITHM: HashAlgorithm = HashAlgorithm::Sha256;
+
+    ghost use Rattle.sha2.specs.Sha256.{sha256};
+
+    ghost digest_of = { sha256 };
+
+    fn digest<T: VisitBytes>(content: &T) -> [u8; 32] {
+        let mut visitor = Sha256Visitor::new();
+        content.visit(&mut visitor).unwrap();
+        visitor.finalize()
+    }
+}
+
+/// A hash by the digest `D`.
+pub struct Hash<D> {
+    bytes: [u8; 32],
+    digest: PhantomData<D>,
+}
+
+impl<D: SupportedDigest> Hash<D> {
+    /// The hash of the bytes of the content.
+    pub fn of<T: VisitBytes>(content: &T) -> Hash<D>
+        ensures { result.bytes ≡ D.digest_of (T.bytes_of content.now) }
+    {
+        Hash {
+            bytes: D::digest(content),
+            digest: PhantomData,
+        }
+    }
+}
+
+impl<D: SupportedDigest> From<Hash<D>> for AnyHash {
+    ghost from_gives = { λ h r. (r.algorithm ≡ D.ALGORITHM) × (r.bytes ≡ h.bytes) };
+
+    fn from(hash: Hash<D>) -> AnyHash {
+        let Hash { bytes, digest: _ } = hash;
+        AnyHash::new(D::ALGORITHM, bytes)
+    }
+}

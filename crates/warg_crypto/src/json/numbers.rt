@@ -1,0 +1,77 @@
+//! JSON of whole numbers.
+
+ghost use Rattle.std.specs.Prelude.{◌<◌, ◌^◌};
+ghost use Rattle.serde_json.specs.Data.{number, unsigned};
+ghost use Rattle.serde_json.specs.View.{view};
+ghost use Rattle.warg_crypto.specs.Json.{Answers, wrote};
+ghost use Rattle.warg_crypto.specs.Numbers.{number_below};
+ghost use Rattle.warg_crypto.specs.NumberLaws.{number_reads_back};
+
+use crate::json::{JsonError, JsonValue};
+use serde_json::Value;
+use std::alloc::Global;
+
+/// The number of a value that is a whole one below 2^64, else `WrongType`.
+fn number_in(value: &Value) -> Result<u64, JsonError>
+    ensures { Answers (λ n. n) result (number_below (2 ^ 64) (view value.now)) }
+{
+    value.as_u64().ok_or(JsonError::WrongType)
+}
+
+impl JsonValue for u64 {
+    ghost writes = { λ n. wrote (number (unsigned n)) };
+
+    ghost reads = { number_below (2 ^ 64) };
+
+    ghost is_written = { λ n. n < 2 ^ 64 };
+
+    ghost reads_back = { number_reads_back (2 ^ 64) };
+
+    fn to_value(&self, _alloc: Global) -> Result<Value, JsonError> {
+        Ok(Value::from(*self))
+    }
+
+    fn from_value(_alloc: Global, value: &Value) -> Result<u64, JsonError> {
+        number_in(value)
+    }
+}
+
+impl JsonValue for u32 {
+    ghost writes = { λ n. wrote (number (unsigned n)) };
+
+    ghost reads = { number_below (2 ^ 32) };
+
+    ghost is_written = { λ n. n < 2 ^ 32 };
+
+    ghost reads_back = { number_reads_back (2 ^ 32) };
+
+    fn to_value(&self, _alloc: Global) -> Result<Value, JsonError> {
+        Ok(Value::from(*self))
+    }
+
+    fn from_value(_alloc: Global, value: &Value) -> Result<u32, JsonError> {
+        let number = number_in(value)?;
+        if number > u32::MAX as u64 {
+            return Err(JsonError::WrongType);
+        }
+        Ok(number as u32)
+    }
+}
+
+impl JsonValue for usize {
+    ghost writes = { λ n. wrote (number (unsigned n)) };
+
+    ghost reads = { number_below (2 ^ 64) };
+
+    ghost is_written = { λ n. n < 2 ^ 64 };
+
+    ghost reads_back = { number_reads_back (2 ^ 64) };
+
+    fn to_value(&self, _alloc: Global) -> Result<Value, JsonError> {
+        Ok(Value::from(*self))
+    }
+
+    fn from_value(_alloc: Global, value: &Value) -> Result<usize, JsonError> {
+        Ok(number_in(value)? as usize)
+    }
+}

@@ -1,0 +1,108 @@
+//! Keys, signatures, and what signs and verifies.
+
+ghost use Rattle.std.specs.Prelude.{◌≡◌, ℕ, Bool, List, IfOk, false, true};
+ghost use Rattle.warg_crypto.specs.Tags.{Tag};
+ghost use Rattle.warg_crypto.specs.Signed.{signed_message};
+ghost use Rattle.warg_crypto.specs.declared.signing.error.SignatureError.TheVariants.{Refused};
+
+mod error;
+mod key;
+mod signed;
+mod tagged;
+
+use crate::coding::Encode;
+pub use error::{KeyParseError, SignatureError, SignatureParseError};
+pub use key::{KeyID, PublicKey};
+pub use signed::Signature;
+use std::alloc::{AllocError, Global};
+
+/// Says whether a signature belongs to a message under a key.
+pub trait Verifier {
+    // The signature belongs to the message under the key: key, message, signature.
+    ghost belongs: { Self → Tag → List ℕ → Tag → Bool };
+
+    /// `Ok` exactly where the signature belongs to the message under the key, else `Refused`.
+    fn verify(
+        &self,
+        alloc: Global,
+        key: &PublicKey,
+        message: &[u8],
+        signature: &Signature,
+    ) -> Result<(), SignatureError>
+        ensures ok { IfOk result (λ _. belongs self.now key.now message.now signature.now ≡ true) }
+        ensures refused { result ≡ Err Refused → belongs self.now key.now message.now signature.now ≡ false };
+}
+
+/// Signs messages by one key.
+pub trait Signer {
+    ghost key_of: { Self → Tag };
+
+    // The signature is one that the signer gives for the message.
+    ghost gives: { Self → List ℕ → Tag → Type 0 };
+
+    // The signer does not sign the message.
+    ghost refuses: { Self → List ℕ → Type 0 };
+
+    /// The key that verifies what is signed here.
+    fn public_key(&self) -> &PublicKey
+        ensures { result.now ≡ key_of self.now };
+
+    /// A signature of the message.
+    fn sign(&self, alloc: Global, message: &[u8]) -> Result<Signature, SignatureError>
+        ensures ok { IfOk result (λ s. gives self.now message.now s) }
+        ensures refused { result ≡ Err Refused → refuses self.now message.now };
+}
+
+// The prefix, a colon, the content.
+fn message_of(alloc: Global, prefix: &str, content: &[u8]) -> Result<Vec<u8>, AllocError>
+    ensures { IfOk result (λ v. v.items ≡ signed_message prefix.now content.now) }
+{
+    let mut message = Vec::new(alloc);
+    message.extend_from_slice(prefix.as_bytes())?;
+    message.push(b':')?;
+    message.extend_from_slice(content)?;
+    Ok(message)
+}
+
+/// A value that is signed under a prefix of its kind: the message is the prefix, a colon, and the
+/// value's bytes.
+pub trait Signable: Encode {
+    /// The prefix of the signed messages of this kind.
+    const PREFIX: &'static str;
+
+    // The bytes of `PREFIX`.
+    ghost signed_prefix: { List ℕ };
+
+    /// `PREFIX`, for generic code.
+    fn signing_prefix() -> &'static str
+        ensures { result.now ≡ signed_prefix };
+
+    /// The signer's signature of the value.
+    fn sign<S: Signer>(&self, alloc: Global, signer: &S) -> Result<Signature, SignatureError>
+        ensures ok { IfOk result (λ s. S.gives signer.now (signed_message signed_prefix (Self.encoding self.now)) s) }
+        ensures refused { result ≡ Err Refused → S.refuses signer.now (signed_message signed_prefix (Self.encoding self.now)) }
+    {
+        let content = self.encode(alloc)?;
+        let message = message_of(alloc, Self::signing_prefix(), content.as_slice())?;
+        signer.sign(alloc, message.as_slice())
+    }
+
+    /// `Ok` exactly where the signature belongs, under the key, to the message of a value of this
+    /// kind with these bytes, else `Refused`.
+    fn verify<V: Verifier>(
+        alloc: Global,
+        verifier: &V,
+        key: &PublicKey,
+        content: &[u8],
+        signature: &Signature,
+    ) -> Result<(), SignatureError>
+        ensures ok { IfOk result (λ _. V.belongs verifier.now key.now (signed_message signed_prefix content.now) signature.now ≡ true) }
+        ensures refused { result ≡ Err Refused → V.belongs verifier.now key.now (signed_message signed_prefix content.now) signature.now ≡ false }
+    {
+        let message = message_of(alloc, Self::signing_prefix(), content)?;
+        verifier.verify(alloc, key, message.as_slice(), signature)
+    }
+}
+
+#[cfg(test)]
+mod tests;
