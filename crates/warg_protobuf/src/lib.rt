@@ -1,0 +1,46 @@
+//! The messages of the Warg protocol in the proto3 wire format: read with the first fault named, and written.
+#![tactic(auto)]
+
+mod define_namespace;
+mod envelope;
+mod error;
+mod field;
+mod grant_flat;
+mod import_namespace;
+mod init;
+pub mod laws;
+mod message;
+mod nested;
+mod oneof;
+pub mod operator_entry;
+mod operator_record;
+pub mod package_entry;
+mod package_record;
+mod record;
+mod release;
+mod revoke_flat;
+mod shape;
+mod signed;
+mod text;
+mod timestamp;
+mod varint;
+mod writing;
+mod yank;
+
+pub use define_namespace::OperatorDefineNamespace;
+pub use envelope::Envelope;
+pub use error::WireError;
+pub use grant_flat::{OperatorGrantFlat, PackageGrantFlat};
+pub use import_namespace::OperatorImportNamespace;
+pub use init::{OperatorInit, PackageInit};
+pub use operator_entry::OperatorEntry;
+pub use operator_record::OperatorRecord;
+pub use package_entry::PackageEntry;
+pub use package_record::PackageRecord;
+pub use release::PackageRelease;
+pub use revoke_flat::{OperatorRevokeFlat, PackageRevokeFlat};
+pub use timestamp::TimestampPair;
+pub use yank::PackageYank;
+
+#[cfg(test)]
+mod tests;
