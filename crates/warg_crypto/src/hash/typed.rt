@@ -11,7 +11,7 @@ use sha2::Digest;
 use std::alloc::{AllocError, Global};
 use std::marker::PhantomData;
 
-/// A digest that hashes are made by.
+/// A digest that hashes are made by: a function of the bytes of what is hashed.
 pub trait SupportedDigest {
     ghost ALGORITHM: { HashAlgorithm };
 
@@ -33,6 +33,7 @@ pub struct Sha256Visitor {
 }
 
 impl Sha256Visitor {
+    /// A visitor that saw no bytes.
     pub fn new() -> Sha256Visitor
         ensures { Holds256 result.hasher [] }
     {
@@ -41,6 +42,7 @@ impl Sha256Visitor {
         }
     }
 
+    /// The digest of the bytes that the visitor saw.
     pub fn finalize(self) -> [u8; 32]
         ensures { (m : List ℕ) → Holds256 self.hasher m → result ≡ sha256 m }
     {
@@ -82,6 +84,7 @@ impl SupportedDigest for Sha256 {
 }
 
 /// A hash by the digest `D`.
+#[derive(Clone, Copy, Debug, PartialEq, Eq)]
 pub struct Hash<D> {
     bytes: [u8; 32],
     digest: PhantomData<D>,
