@@ -1,0 +1,14 @@
+pub mod Firsts
+pub mod ActLaws
+pub mod ContentsLemmas
+pub mod Missing
+pub mod RightsLemmas
+pub mod Steps
+pub mod HistoryLaws
+pub mod Coherence
+pub mod EqualLemmas
+pub mod SameStates
+pub mod RefusalLaws
+pub mod HistoryViews
+pub mod KindLaws
+pub mod SameLaws

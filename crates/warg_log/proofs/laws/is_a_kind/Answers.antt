@@ -1,0 +1,6 @@
+use Rattle.std.proofs.Common.{refl}
+use Rattle.warg_log.proofs.KindLaws.{log_laws}
+use Rattle.warg_log.proofs.laws.is_a_kind.Goals as goal
+
+pub returns : goal.returns
+returns g c = λ read. log_laws g.M.Matter.rules g.M.Permission.PartialEq.eq read (g.M.Matter.rules.after g.M.Matter.rules.start) g.met.M.Matter.after_none g.met.M.Matter.after_append (λ es h. refl)

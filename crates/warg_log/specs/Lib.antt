@@ -1,0 +1,15 @@
+pub mod Permissions
+pub mod Acts
+pub mod Judging
+pub mod Rights
+pub mod Contents
+pub mod Offences
+pub mod Records
+pub mod History
+pub mod States
+pub mod Refusals
+pub mod Histories
+pub mod LogKind
+pub mod Steps
+pub mod Equal
+pub mod EqualLaws

@@ -1,0 +1,21 @@
+-- What a map from key ids to sets of permissions says, as functions.
+use Rattle.std.specs.Prelude.{ℕ, List, Bool, false, Option, Some, None, is_some, [], ◌∷◌, ◌++◌, ◌&&◌, not, if◌then◌else◌}
+use Rattle.std.specs.Option.{option_map_or}
+use Rattle.std.specs.Str.{bytes_eq}
+use Rattle.indexmap.specs.IndexMap.{IndexMap, get}
+use Rattle.indexmap.specs.IndexSet.{IndexSet, contains}
+use Rattle.warg_log.specs.Permissions.{lists}
+
+module _ {P S Z : Type 0} where
+  -- whether the map gives k the permission p
+  abbrev pub holds_in : (P → P → Bool) → IndexMap (List ℕ) (IndexSet P S) Z → List ℕ → P → Bool
+  holds_in same m k p = option_map_or (λ s. contains same s p) (get bytes_eq m k) false
+
+  -- whether the map has an entry for k
+  abbrev pub has_entry_in : IndexMap (List ℕ) (IndexSet P S) Z → List ℕ → Bool
+  has_entry_in m k = is_some (get bytes_eq m k)
+
+-- the first of the permissions that is not held, or that is listed earlier
+abbrev pub first_missing : {P : Type 0} → (P → P → Bool) → (P → Bool) → List P → List P → Option P
+first_missing same held earlier [] = None
+first_missing same held earlier (p ∷ ps) = if held p && not (lists same earlier p) then first_missing same held (earlier ++ p ∷ []) ps else Some p

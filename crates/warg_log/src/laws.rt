@@ -1,0 +1,50 @@
+//! What holds of every log of every kind.
+ghost use Rattle.std.specs.Prelude.{◌≡◌, ◌↔◌, ℕ, List, Result, true};
+ghost use Rattle.warg_records.specs.Faults.{RecordFault};
+ghost use Rattle.warg_records.specs.Letters.{Letter};
+ghost use Rattle.warg_records.specs.Readings.{Reading};
+ghost use Rattle.warg_records.specs.Readings.{Said};
+ghost use Rattle.warg_validator.specs.Effects as effects;
+ghost use Rattle.warg_validator.specs.Effects.{GivesWhatIsHeld};
+ghost use Rattle.warg_validator.specs.Kinds.{KindLaws, view_after};
+ghost use Rattle.warg_log.specs.Contents.{Contents};
+ghost use Rattle.warg_log.specs.Equal.{IsSame, same_states};
+ghost use Rattle.warg_log.specs.Histories.{Placed, Holds, holds};
+ghost use Rattle.warg_log.specs.History.{start};
+ghost use Rattle.warg_log.specs.LogKind.{kind_of, effects_of};
+ghost use Rattle.warg_log.specs.Offences.{offence_of};
+ghost use Rattle.warg_log.specs.States.{State, view_of_state};
+ghost use Rattle.warg_log.specs.declared.refusal.Refusal.{Refusal};
+
+use crate::matter::Matter;
+
+/// The rules of a log are those of a kind, whatever content bytes are read as: what lawful records say
+/// together, by one list of their entries, is what they make one by one.
+pub fn is_a_kind<M: Matter>()
+    ensures { (read : List ℕ → Result (Said M.Permission M.Own) RecordFault) → KindLaws (kind_of M.rules M.Permission.eq read (M.rules.after M.rules.start)) }
+{}
+
+/// What an entry of a lawful record gives, its signer held, but for the Init that begins the log.
+pub fn gives_what_is_held<M: Matter>()
+    ensures { (read : List ℕ → Result (Said M.Permission M.Own) RecordFault) → GivesWhatIsHeld (kind_of M.rules M.Permission.eq read (M.rules.after M.rules.start)) (effects_of M.rules M.Permission.eq read) }
+{}
+
+/// Logs are equal exactly if they answer alike.
+pub fn equal_logs_answer_alike<M: Matter>()
+    ensures { (s t : State (Contents M.Permission) M) → (same_states M.Permission.eq M.eq s t ≡ true) ↔ IsSame M.alike (view_of_state M.Permission.eq M.view s) (view_of_state M.Permission.eq M.view t) }
+{}
+
+/// No two refusals tell the same offence.
+pub fn refusals_tell_apart<P>()
+    ensures { (r s : Refusal P) → offence_of r ≡ offence_of s → r ≡ s }
+{}
+
+/// What the entries of records do to permissions, one after another, is what the view of those records holds.
+pub fn effects_are_what_is_held<M: Matter>()
+    ensures { (read : List ℕ → Result (Said M.Permission M.Own) RecordFault) (es : List Letter) (k : List ℕ) (p : M.Permission) → effects.holds (effects_of M.rules M.Permission.eq read) es k p ≡ (view_after (kind_of M.rules M.Permission.eq read (M.rules.after M.rules.start)) (start M.rules M.Permission.eq) es).whole.authority.holds k p }
+{}
+
+/// A key holds a permission exactly if some entry speaks of both, and the last such entry gives.
+pub fn last_entry_decides<M: Matter>()
+    ensures { (h : List (Placed (Reading M.Permission M.Own))) (k : List ℕ) (p : M.Permission) → (holds M.Permission.eq h k p ≡ true) ↔ Holds M.Permission.eq h k p }
+{}

@@ -1,0 +1,86 @@
+//! Why a log of any kind refuses a record.
+ghost use Rattle.std.specs.Prelude.{◌≡◌, ◌↔◌, IsTrue, is_none};
+ghost use Rattle.warg_log.specs.Offences.{offence_of};
+
+use std::alloc::AllocError;
+use warg_crypto::hash::HashAlgorithm;
+use warg_crypto::signing::{KeyID, SignatureError};
+
+/// Why a log of any kind refuses a record.
+#[derive(Debug, Drop)]
+pub enum Refusal<P> {
+    /// An entry stands before any Init.
+    FirstEntryIsNotInit,
+    /// After the record there is still no Init.
+    InitialRecordDoesNotInit,
+    /// The signer has no key in this log, or does not own the key of its Init.
+    KeyIDNotRecognized {
+        key_id: KeyID,
+    },
+    /// An Init stands already.
+    InitialEntryAfterBeginning,
+    /// The signer lacks a permission that the entry asks or hands on.
+    UnauthorizedAction {
+        key_id: KeyID,
+        needed_permission: P,
+    },
+    /// The key lacks a permission that is to be taken from it.
+    PermissionNotFoundToRevoke {
+        permission: P,
+        key_id: KeyID,
+    },
+    /// The signature is not the signer's.
+    SignatureError(SignatureError),
+    /// The record names its predecessor by another algorithm. Never answered: there is one algorithm.
+    IncorrectHashAlgorithm {
+        found: HashAlgorithm,
+        expected: HashAlgorithm,
+    },
+    /// The record names another predecessor.
+    RecordHashDoesNotMatch,
+    /// The first record names a predecessor.
+    PreviousHashOnFirstRecord,
+    /// A later record names no predecessor.
+    NoPreviousHashAfterInit,
+    /// The record is of a version that may not stand here.
+    ProtocolVersionNotAllowed {
+        version: u32,
+    },
+    /// The record is older than its predecessor.
+    TimestampLowerThanPrevious,
+    /// There was no memory left. Says nothing of the record.
+    OutOfMemory,
+}
+
+impl<P> Refusal<P> {
+    /// Whether it stands for want of memory, and says nothing of the record.
+    pub fn is_out_of_memory(&self) -> bool
+        ensures told { result ≡ is_none (offence_of self.now) }
+        ensures only { IsTrue result ↔ (self.now ≡ Refusal.OutOfMemory) }
+    {
+        matches!(self, Refusal::OutOfMemory)
+    }
+}
+
+impl<P> From<AllocError> for Refusal<P> {
+    ghost use Rattle.warg_log.specs.declared.refusal.Refusal.TheVariants.{OutOfMemory};
+
+    ghost from_gives = { λ _ e. e ≡ OutOfMemory };
+
+    fn from(_error: AllocError) -> Refusal<P> {
+        Refusal::OutOfMemory
+    }
+}
+
+impl<P> From<SignatureError> for Refusal<P> {
+    ghost use Rattle.warg_log.specs.Refusals.{refusal_of_signature};
+
+    ghost from_gives = { λ e r. r ≡ refusal_of_signature e };
+
+    fn from(error: SignatureError) -> Refusal<P> {
+        match error {
+            SignatureError::Refused => Refusal::SignatureError(error),
+            SignatureError::OutOfMemory => Refusal::OutOfMemory,
+        }
+    }
+}

@@ -1,0 +1,4 @@
+pub mod AcceptedLaws
+pub mod ExtensionLaws
+pub mod KebabLemmas
+pub mod NamespaceLemmas

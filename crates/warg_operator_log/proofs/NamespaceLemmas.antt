@@ -1,0 +1,102 @@
+-- What a map from names to namespaces says as a list.
+use Rattle.std.proofs.Common.{◌≡◌, ℕ, List, [], ◌∷◌, ◌++◌, map, Bool, true, false, cond, ◌&&◌, Option, Some, None, refl, sym, ap, ◌∙◌, true≢false, if◌then◌else◌, is_some}
+use Rattle.std.specs.Prelude.{string_bytes, is_none}
+use Rattle.std.specs.declared.string.String.{String}
+use Rattle.std.specs.Option.{option_map, option_eq}
+use Rattle.std.specs.Str.{bytes_eq}
+use Rattle.std.specs.String.{string_eq}
+use Rattle.std.specs.HashMap.{entries_eq}
+use Rattle.std.specs.Map.{lookup, lookup_entry, keys_of}
+use Rattle.std.specs.List.{AllZip, list_all}
+use Rattle.std.specs.Cmp.Lexicographic.{nat_list_eq_equiv}
+use Rattle.std.proofs.lemmas.Slice.Eq.{bytes_eq-Decides}
+use Rattle.warg_operator_log.specs.Namespaces.{Namespace, names}
+use Rattle.warg_operator_log.specs.NamespaceMap.{namespace_view, named}
+use Rattle.warg_operator_log.specs.SameNamespaces.{same_namespace, same_namespaces}
+use Rattle.warg_operator_log.specs.declared.namespace.NamespaceState.{NamespaceState}
+
+cond_map : {A B : Type 0} (f : A → B) (b : Bool) (x : A) (o : Option A) → cond b (Some (f x)) (option_map f o) ≡ option_map f (cond b (Some x) o)
+cond_map f true x o = refl
+cond_map f false x o = refl
+
+module _ {Z : Type 0} where
+  -- a look-up by text finds what the list has at the bytes
+  pub names-lookup : (k : List ℕ) (es : List (String Z × NamespaceState)) → names (named es) k ≡ option_map namespace_view (lookup (λ n. bytes_eq k (string_bytes n)) es)
+  names-lookup k [] = refl
+  names-lookup k (e ∷ es) = ap (cond (bytes_eq k (string_bytes e.0)) (Some (namespace_view e.1))) (names-lookup k es) ∙ cond_map namespace_view (bytes_eq k (string_bytes e.0)) e.1 (lookup (λ n. bytes_eq k (string_bytes n)) es)
+
+  pub named-push : (n : String Z) (s : NamespaceState) (es : List (String Z × NamespaceState)) → named (es ++ (n, s) ∷ []) ≡ named es ++ (string_bytes n, namespace_view s) ∷ []
+  named-push n s [] = refl
+  named-push n s (e ∷ es) = ap (λ l. (string_bytes e.0, namespace_view e.1) ∷ l) (named-push n s es)
+
+  -- clones of namespaces under clones of their names
+  pub named-cloned : (C : String Z → String Z → Type 0) → ((x y : String Z) → C x y → string_bytes y ≡ string_bytes x) → (es fs : List (String Z × NamespaceState)) → AllZip (λ p q. C p.0 q.0 × (namespace_view q.1 ≡ namespace_view p.1)) es fs → named fs ≡ named es
+  named-cloned C clones [] [] h = refl
+  named-cloned C clones [] (f ∷ fs) h = absurd h
+  named-cloned C clones (e ∷ es) [] h = absurd h
+  named-cloned C clones (e ∷ es) (f ∷ fs) h = λ i. (clones e.0 f.0 h.0.0 i, h.0.1 i) ∷ named-cloned C clones es fs h.1 i
+
+  abbrev shown : String Z × NamespaceState → String Z × NamespaceState → Bool
+  shown p q = same_namespace (namespace_view p.1) (namespace_view q.1)
+
+  abbrev bytes_of : String Z × NamespaceState → List ℕ × Namespace
+  bytes_of e = (string_bytes e.0, namespace_view e.1)
+
+  found : (b : Bool) (e : String Z × NamespaceState) (o : Option (String Z × NamespaceState)) → cond b (Some (bytes_of e)) (option_map bytes_of o) ≡ option_map bytes_of (cond b (Some e) o)
+  found true e o = refl
+  found false e o = refl
+
+  entry-named : (k : String Z) (es : List (String Z × NamespaceState)) → lookup_entry (bytes_eq (string_bytes k)) (named es) ≡ option_map bytes_of (lookup_entry (string_eq k) es)
+  entry-named k [] = refl
+  entry-named k (e ∷ es) = ap (cond (bytes_eq (string_bytes k) (string_bytes e.0)) (Some (bytes_of e))) (entry-named k es) ∙ found (string_eq k e.0) e (lookup_entry (string_eq k) es)
+
+  eq-shown : (p q : Option (String Z × NamespaceState)) → option_eq (λ (p q : List ℕ × Namespace). same_namespace p.1 q.1) (option_map bytes_of p) (option_map bytes_of q) ≡ option_eq shown p q
+  eq-shown None None = refl
+  eq-shown None (Some y) = refl
+  eq-shown (Some x) None = refl
+  eq-shown (Some x) (Some y) = refl
+
+  all-named : (t : List ℕ → Bool) (es : List (String Z × NamespaceState)) → list_all (λ k. t (string_bytes k)) (keys_of es) ≡ list_all t (keys_of (named es))
+  all-named t [] = refl
+  all-named t (e ∷ es) = ap (λ b. t (string_bytes e.0) && b) (all-named t es)
+
+  -- `==` of maps is that of the lists that they show
+  pub entries-same : (es fs : List (String Z × NamespaceState)) → entries_eq string_eq shown es fs ≡ same_namespaces (named es) (named fs)
+  unfolding entries_eq
+  entries-same es fs =
+      let shows : List ℕ × Namespace → List ℕ × Namespace → Bool = λ p q. same_namespace p.1 q.1 in
+      let test : List ℕ → Bool = λ k. option_eq shows (lookup_entry (bytes_eq k) (named es)) (lookup_entry (bytes_eq k) (named fs)) in
+      let at : (k : String Z) → option_eq shown (lookup_entry (string_eq k) es) (lookup_entry (string_eq k) fs) ≡ test (string_bytes k)
+      = λ k. sym (eq-shown (lookup_entry (string_eq k) es) (lookup_entry (string_eq k) fs)) ∙ (λ i. option_eq shows (sym (entry-named k es) i) (sym (entry-named k fs) i)) in
+      (λ i. list_all (λ k. at k i) (keys_of es) && list_all (λ k. at k i) (keys_of fs)) ∙ (λ i. all-named test es i && all-named test fs i)
+
+-- a look-up in a list with one more
+pub names-push : (n k : List ℕ) (s : Namespace) (es : List (List ℕ × Namespace)) → names es n ≡ None → names (es ++ (n, s) ∷ []) k ≡ (if bytes_eq n k then Some s else names es k)
+names-push n k s [] none = by (bytes_eq k n) (bytes_eq n k) (nat_list_eq_equiv.symm k n)
+  where
+    by : (a b : Bool) → a ≡ b → cond a (Some s) None ≡ (if b then Some s else None)
+    by true b h = ap (λ b. if b then Some s else None) h
+    by false b h = ap (λ b. if b then Some s else None) h
+names-push n k s (e ∷ es) none = by (bytes_eq n e.0) refl none (bytes_eq k e.0) refl (names-push n k s es)
+  where
+    by : (b : Bool) → bytes_eq n e.0 ≡ b → cond b (Some e.1) (names es n) ≡ None → (c : Bool) → bytes_eq k e.0 ≡ c → (names es n ≡ None → names (es ++ (n, s) ∷ []) k ≡ (if bytes_eq n k then Some s else names es k))
+        → cond c (Some e.1) (names (es ++ (n, s) ∷ []) k) ≡ (if bytes_eq n k then Some s else cond c (Some e.1) (names es k))
+    by true m h c is rest = cc h
+    by false m h false is rest = rest h
+    by false m h true is rest = sym (ap (λ b. if b then Some s else Some e.1) (ap (bytes_eq n) ((bytes_eq-Decides k e.0).0 is) ∙ m))
+
+-- a name that a look-up by text does not find
+pub names-none : {Z : Type 0} (n : List ℕ) (rs : List (List ℕ × Namespace)) (es : List (String Z × NamespaceState)) → named es ≡ rs → is_some (lookup (λ k. bytes_eq n (string_bytes k)) es) ≡ false → names rs n ≡ None
+names-none n rs es is h = ap (λ rs. names rs n) (sym is) ∙ names-lookup n es ∙ by (lookup (λ k. bytes_eq n (string_bytes k)) es) h
+  where
+    by : (o : Option NamespaceState) → is_some o ≡ false → option_map namespace_view o ≡ None
+    by None h = refl
+    by (Some x) h = absurd (true≢false h)
+
+-- and one that it finds
+pub names-known : {Z : Type 0} (n : List ℕ) (rs : List (List ℕ × Namespace)) (es : List (String Z × NamespaceState)) → named es ≡ rs → is_some (lookup (λ k. bytes_eq n (string_bytes k)) es) ≡ true → is_none (names rs n) ≡ false
+names-known n rs es is h = ap (λ rs. is_none (names rs n)) (sym is) ∙ ap is_none (names-lookup n es) ∙ by (lookup (λ k. bytes_eq n (string_bytes k)) es) h
+  where
+    by : (o : Option NamespaceState) → is_some o ≡ true → is_none (option_map namespace_view o) ≡ false
+    by None h = absurd (true≢false (sym h))
+    by (Some x) h = refl

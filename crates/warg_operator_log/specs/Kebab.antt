@@ -1,0 +1,41 @@
+-- Kebab names.
+use Rattle.std.specs.Prelude.{◌≡◌, ◌<◌, ◌==◌, ◌&&◌, ◌||◌, not, ℕ, nat_le, Bool, true, false, List, [], ◌∷◌, ◌++◌, length, Option, Some, None, if◌then◌else◌}
+use Rattle.std.specs.List.{list_all, join_with_byte, before_first, after_first, position_or_len}
+
+-- a letter a to z
+abbrev pub is_letter : ℕ → Bool
+is_letter b = nat_le 97 b && nat_le b 122
+
+-- a letter a to z, or a digit 0 to 9
+abbrev pub is_letter_or_digit : ℕ → Bool
+is_letter_or_digit b = is_letter b || (nat_le 48 b && nat_le b 57)
+
+-- a word: a letter, then letters and digits
+pub record IsWord (word : List ℕ) : Type 0 where
+  pub first : ℕ
+  pub others : List ℕ
+  pub parts : word ≡ first ∷ others
+  pub letter : is_letter first ≡ true
+  pub rest : list_all is_letter_or_digit others ≡ true
+
+-- each of them is a word
+abbrev pub AreWords : List (List ℕ) → Type 0
+AreWords [] = Unit {0}
+AreWords (word ∷ words) = IsWord word × AreWords words
+
+-- a kebab name: one word or more, joined by single hyphens
+pub record IsKebabName (name : List ℕ) : Type 0 where
+  pub words : List (List ℕ)
+  pub some : 0 < length words
+  pub each : AreWords words
+  pub joined : name ≡ join_with_byte 45 words
+
+-- whether the bytes end a kebab name, where a word starts with them or goes on: what is computed
+abbrev pub ends_kebab : Bool → List ℕ → Bool
+ends_kebab starts [] = not starts
+ends_kebab true (b ∷ bs) = is_letter b && ends_kebab false bs
+ends_kebab false (b ∷ bs) = if b == 45 then ends_kebab true bs else is_letter_or_digit b && ends_kebab false bs
+
+-- whether the bytes are a kebab name
+abbrev pub is_kebab_name : List ℕ → Bool
+is_kebab_name bs = ends_kebab true bs

@@ -1,0 +1,9 @@
+pub mod Entries
+pub mod ErrorLaws
+pub mod Kebab
+pub mod NamespaceMap
+pub mod Namespaces
+pub mod SameNamespaceLaws
+pub mod SameNamespaces
+pub mod State
+pub mod StateLaws

@@ -1,0 +1,175 @@
+//! Why a record is refused.
+ghost use Rattle.std.specs.Prelude.{◌≡◌};
+
+use std::alloc::AllocError;
+use thiserror::Error;
+use warg_crypto::hash::HashAlgorithm;
+use warg_crypto::signing::{KeyID, SignatureError};
+use warg_log::{Fault, Refusal};
+use warg_records::operator::Permission;
+
+/// Why a namespace is refused.
+#[derive(Drop)]
+pub enum NamespaceError {
+    InvalidNamespace { namespace: String },
+    NamespaceAlreadyDefined { namespace: String },
+    OutOfMemory,
+}
+
+impl From<AllocError> for NamespaceError {
+    ghost use Rattle.warg_operator_log.specs.declared.error.NamespaceError.TheVariants.{OutOfMemory};
+
+    ghost from_gives = { λ _ e. e ≡ OutOfMemory };
+
+    fn from(_error: AllocError) -> NamespaceError {
+        NamespaceError::OutOfMemory
+    }
+}
+
+/// Why a record of an operator log is refused.
+#[derive(Debug, Drop, PartialEq, Eq, Error)]
+pub enum ValidationError {
+    /// An entry stands before the log's init. Never answered: each other entry first asks its signer a
+    /// permission, which nobody holds before an init.
+    #[error("the first entry of the log is not \"init\"")]
+    FirstEntryIsNotInit,
+    /// After the first record there is still no init.
+    #[error("the initial record is empty and does not \"init\"")]
+    InitialRecordDoesNotInit,
+    /// No key of this id is known to the log.
+    #[error("the Key ID used to sign this envelope is not known to this operator log")]
+    KeyIDNotRecognized {
+        key_id: KeyID,
+    },
+    /// A second init.
+    #[error("a second \"init\" entry was found")]
+    InitialEntryAfterBeginning,
+    /// The signer lacks a permission that the entry asks or hands on.
+    #[error("the key with ID {key_id} did not have required permission {needed_permission}")]
+    UnauthorizedAction {
+        key_id: KeyID,
+        needed_permission: Permission,
+    },
+    /// The key lacks a permission that is to be taken from it.
+    #[error("attempted to remove permission {permission} from key {key_id} which did not have it")]
+    PermissionNotFoundToRevoke {
+        permission: Permission,
+        key_id: KeyID,
+    },
+    /// The signature is not the signer's. The case that memory was wanting is never held here.
+    #[error("unable to verify signature: {0}")]
+    SignatureError(SignatureError),
+    /// The record before is named by another algorithm. Never answered, since there is one algorithm.
+    #[error("record hash uses {found} algorithm but {expected} was expected")]
+    IncorrectHashAlgorithm {
+        found: HashAlgorithm,
+        expected: HashAlgorithm,
+    },
+    /// The record names another record before it than the log's last.
+    #[error("previous record hash does not match")]
+    RecordHashDoesNotMatch,
+    /// The first record names a record before it.
+    #[error("the first record contained a previous hash value")]
+    PreviousHashOnFirstRecord,
+    /// A later record names no record before it.
+    #[error("non-initial record contained no previous hash")]
+    NoPreviousHashAfterInit,
+    /// The version of the protocol is not one of this log.
+    #[error("protocol version {version} not allowed")]
+    ProtocolVersionNotAllowed {
+        version: u32,
+    },
+    /// The record is older than the log's last.
+    #[error("record has lower timestamp than previous")]
+    TimestampLowerThanPrevious,
+    /// The name is not one or more words of lower-case letters and digits, each beginning with a
+    /// letter, joined by single hyphens.
+    #[error("the namespace `{namespace}` is invalid; namespace must be a lowercased kebab case string")]
+    InvalidNamespace {
+        namespace: String,
+    },
+    /// The name has its namespace already.
+    #[error("the namespace `{namespace}` is already defined and cannot be redefined")]
+    NamespaceAlreadyDefined {
+        namespace: String,
+    },
+    /// There was no memory left. This says nothing of the record.
+    #[error("OutOfMemory")]
+    OutOfMemory,
+}
+
+impl From<SignatureError> for ValidationError {
+    ghost use Rattle.warg_operator_log.specs.State.{error_of_signature};
+
+    ghost from_gives = { λ s e. e ≡ error_of_signature s };
+
+    fn from(error: SignatureError) -> ValidationError {
+        match error {
+            SignatureError::Refused => ValidationError::SignatureError(error),
+            SignatureError::OutOfMemory => ValidationError::OutOfMemory,
+        }
+    }
+}
+
+impl From<Refusal<Permission>> for ValidationError {
+    ghost use Rattle.std.specs.Option.{option_map};
+    ghost use Rattle.warg_log.specs.Offences as shared;
+    ghost use Rattle.warg_log.specs.History.{Wrong};
+    ghost use Rattle.warg_operator_log.specs.State.{offence_of};
+
+    ghost from_gives = { λ r e. offence_of e ≡ option_map Wrong.Shared (shared.offence_of r) };
+
+    fn from(refusal: Refusal<Permission>) -> ValidationError {
+        match refusal {
+            Refusal::FirstEntryIsNotInit => ValidationError::FirstEntryIsNotInit,
+            Refusal::InitialRecordDoesNotInit => ValidationError::InitialRecordDoesNotInit,
+            Refusal::KeyIDNotRecognized { key_id } => ValidationError::KeyIDNotRecognized {
+                key_id,
+            },
+            Refusal::InitialEntryAfterBeginning => ValidationError::InitialEntryAfterBeginning,
+            Refusal::UnauthorizedAction {
+                key_id,
+                needed_permission,
+            } => ValidationError::UnauthorizedAction {
+                key_id,
+                needed_permission,
+            },
+            Refusal::PermissionNotFoundToRevoke { permission, key_id } => {
+                ValidationError::PermissionNotFoundToRevoke { permission, key_id }
+            }
+            Refusal::SignatureError(error) => ValidationError::SignatureError(error),
+            Refusal::IncorrectHashAlgorithm { found, expected } => {
+                ValidationError::IncorrectHashAlgorithm { found, expected }
+            }
+            Refusal::RecordHashDoesNotMatch => ValidationError::RecordHashDoesNotMatch,
+            Refusal::PreviousHashOnFirstRecord => ValidationError::PreviousHashOnFirstRecord,
+            Refusal::NoPreviousHashAfterInit => ValidationError::NoPreviousHashAfterInit,
+            Refusal::ProtocolVersionNotAllowed { version } => {
+                ValidationError::ProtocolVersionNotAllowed { version }
+            }
+            Refusal::TimestampLowerThanPrevious => ValidationError::TimestampLowerThanPrevious,
+            Refusal::OutOfMemory => ValidationError::OutOfMemory,
+        }
+    }
+}
+
+impl From<Fault<Permission, NamespaceError>> for ValidationError {
+    ghost use Rattle.warg_log.specs.States.{fault_told};
+    ghost use Rattle.warg_operator_log.specs.Entries.{told};
+    ghost use Rattle.warg_operator_log.specs.State.{offence_of};
+
+    ghost from_gives = { λ f e. offence_of e ≡ fault_told told f };
+
+    fn from(fault: Fault<Permission, NamespaceError>) -> ValidationError {
+        match fault {
+            Fault::Shared(refusal) => ValidationError::from(refusal),
+            Fault::Own(NamespaceError::InvalidNamespace { namespace }) => {
+                ValidationError::InvalidNamespace { namespace }
+            }
+            Fault::Own(NamespaceError::NamespaceAlreadyDefined { namespace }) => {
+                ValidationError::NamespaceAlreadyDefined { namespace }
+            }
+            Fault::Own(NamespaceError::OutOfMemory) => ValidationError::OutOfMemory,
+        }
+    }
+}

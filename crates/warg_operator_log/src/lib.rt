@@ -1,0 +1,18 @@
+//! The log of an operator: its state, record after record.
+#![tactic(auto)]
+
+mod error;
+pub mod laws;
+mod name;
+mod namespace;
+mod namespace_map;
+mod state;
+mod validator;
+
+pub use error::{NamespaceError, ValidationError};
+pub use namespace::NamespaceState;
+pub use state::LogState;
+pub use warg_log::Head;
+
+#[cfg(test)]
+mod tests;

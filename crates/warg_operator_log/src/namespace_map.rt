@@ -1,0 +1,224 @@
+//! The namespaces of a log, by name.
+ghost use Rattle.std.specs.Prelude.{◌≡◌, [], ◌∷◌, ◌++◌, ℕ, List, IfOk, OnOk, None, Some, if◌then◌else◌, string_bytes, refl};
+ghost use Rattle.std.specs.Str.{bytes_eq};
+ghost use Rattle.std.specs.Option.{option_copied, option_map};
+ghost use Rattle.std.specs.Cmp.{partial_equiv_from_equiv};
+ghost use Rattle.indexmap.specs.IndexMap.{get_by_text};
+ghost use Rattle.warg_records.specs.OperatorEntries.{OperatorAct, reading, said};
+ghost use Rattle.warg_log.specs.Judging.{Judges};
+ghost use Rattle.warg_operator_log.specs.Namespaces.{OwnOffence, Names, Namespace, names, name_offence, rules, names-none, names-append, alike_offence, alike_after};
+ghost use Rattle.warg_operator_log.specs.NamespaceMap.{namespace_view, named};
+ghost use Rattle.warg_operator_log.specs.SameNamespaces.{same_namespaces};
+ghost use Rattle.warg_operator_log.specs.SameNamespaceLaws.{namespaces_decide, namespaces_equiv};
+ghost use Rattle.warg_operator_log.specs.Entries.{told};
+
+use crate::error::NamespaceError;
+use crate::name::is_kebab_name;
+use crate::namespace::NamespaceState;
+use indexmap::IndexMap;
+use std::alloc::{AllocError, Global};
+use std::marker::Model;
+use warg_crypto::Timestamp;
+use warg_crypto::hash::Sha256;
+use warg_crypto::signing::KeyID;
+use warg_log::{Matter, Parts, Step};
+use warg_records::ProtoEnvelope;
+use warg_records::operator::{OperatorEntry, OperatorRecord, Permission};
+use warg_records::registry::RecordId;
+
+/// The namespaces of a log, by name.
+#[derive(Drop)]
+pub struct NamespaceMap {
+    map: IndexMap<String, NamespaceState>,
+}
+
+impl Model for NamespaceMap {
+    ghost use Rattle.std.specs.Prelude.{List, ℕ};
+    ghost use Rattle.warg_operator_log.specs.Namespaces.{Namespace};
+    ghost use Rattle.warg_operator_log.specs.NamespaceMap.{named};
+
+    ghost Value = { List (List ℕ × Namespace) };
+
+    ghost view = { λ a. named a.map.entries };
+}
+
+/// Adds a namespace of a new name.
+fn add(
+    map: &mut IndexMap<String, NamespaceState>,
+    name: String,
+    state: NamespaceState,
+) -> Result<(), AllocError>
+    requires { get_by_text map.old (string_bytes name) ≡ None }
+    ensures { OnOk result (named map.new.entries ≡ named map.old.entries ++ (string_bytes name, namespace_view state) ∷ []) }
+{
+    map.insert(name, state)?;
+    Ok(())
+}
+
+impl NamespaceMap {
+    /// What the namespace of this name is.
+    pub fn get(&self, name: &str) -> Option<&NamespaceState>
+        ensures { option_map namespace_view (option_copied result) ≡ names self.now name.now }
+    {
+        self.map.get(name)
+    }
+
+    fn define(&mut self, name: &String, state: NamespaceState) -> Result<(), NamespaceError>
+        ensures judges { Judges told (name_offence (names self.old) (string_bytes name.now)) result }
+        ensures after { OnOk result ((k : List ℕ) → names self.new k ≡ (if bytes_eq (string_bytes name.now) k then Some (namespace_view state) else names self.old k)) }
+    {
+        if !is_kebab_name(name.as_bytes()) {
+            return Err(NamespaceError::InvalidNamespace {
+                namespace: name.clone()?,
+            });
+        }
+        if self.map.contains_key(name.as_str()) {
+            return Err(NamespaceError::NamespaceAlreadyDefined {
+                namespace: name.clone()?,
+            });
+        }
+        add(&mut self.map, name.clone()?, state)?;
+        Ok(())
+    }
+}
+
+impl Matter for NamespaceMap {
+    type Permission = Permission;
+
+    type Record = OperatorRecord;
+
+    type Entry = OperatorEntry;
+
+    type Error = NamespaceError;
+
+    ghost Own = { OperatorAct };
+
+    ghost View = { Names };
+
+    ghost Offence = { OwnOffence };
+
+    ghost rules = { rules };
+
+    ghost view = { names };
+
+    ghost alike = { λ v w. v ≡ w };
+
+    ghost said = { said };
+
+    ghost reading = { reading };
+
+    ghost told = { told };
+
+    ghost signs_under = { refl };
+
+    ghost after_none = { names-none };
+
+    ghost after_append = { names-append };
+
+    ghost equals = { namespaces_decide };
+
+    ghost alike_self = { λ v. refl };
+
+    ghost alike_offence = { alike_offence };
+
+    ghost alike_after = { alike_after };
+
+    fn new(alloc: Global) -> NamespaceMap {
+        NamespaceMap {
+            map: IndexMap::new(alloc),
+        }
+    }
+
+    fn try_clone(&self) -> Result<NamespaceMap, AllocError> {
+        copy_namespaces(self)
+    }
+
+    fn by_own_key(_version: u32) -> bool {
+        false
+    }
+
+    fn parts(contents: &OperatorRecord) -> Parts<'_, OperatorEntry> {
+        Parts {
+            prev: contents.prev,
+            version: contents.version,
+            timestamp: contents.timestamp,
+            entries: contents.entries.as_slice(),
+        }
+    }
+
+    fn record_id(envelope: &ProtoEnvelope<OperatorRecord>) -> RecordId {
+        RecordId::operator_record::<Sha256>(envelope)
+    }
+
+    fn required_permission(entry: &OperatorEntry) -> Option<Permission> {
+        entry.required_permission()
+    }
+
+    fn step(entry: &OperatorEntry) -> Step<'_, Permission> {
+        match entry {
+            OperatorEntry::Init {
+                hash_algorithm,
+                key,
+            } => Step::Init {
+                hash_algorithm: *hash_algorithm,
+                key,
+            },
+            OperatorEntry::GrantFlat { key, permissions } => Step::GrantFlat { key, permissions },
+            OperatorEntry::RevokeFlat {
+                key_id,
+                permissions,
+            } => Step::RevokeFlat {
+                key_id,
+                permissions,
+            },
+            OperatorEntry::DefineNamespace { .. } => Step::Own,
+            OperatorEntry::ImportNamespace { .. } => Step::Own,
+        }
+    }
+
+    fn apply(
+        &mut self,
+        _version: u32,
+        entry: &OperatorEntry,
+        _signer: &KeyID,
+        _timestamp: Timestamp,
+        _record_id: RecordId,
+    ) -> Result<(), NamespaceError> {
+        match entry {
+            OperatorEntry::DefineNamespace { namespace } => {
+                self.define(namespace, NamespaceState::Defined)
+            }
+            OperatorEntry::ImportNamespace {
+                namespace,
+                registry,
+            } => {
+                let registry = registry.clone()?;
+                self.define(namespace, NamespaceState::Imported { registry })
+            }
+            _ => Ok(()),
+        }
+    }
+}
+
+/// The same again.
+fn copy_namespaces(namespaces: &NamespaceMap) -> Result<NamespaceMap, AllocError>
+    ensures { IfOk result (λ copy. copy ≡ namespaces.now) }
+{
+    Ok(NamespaceMap {
+        map: namespaces.map.clone()?,
+    })
+}
+
+impl PartialEq for NamespaceMap {
+    ghost eq = { same_namespaces };
+
+    ghost laws = { partial_equiv_from_equiv namespaces_equiv };
+
+    fn eq(&self, other: &NamespaceMap) -> bool {
+        self.map == other.map
+    }
+}
+
+impl Eq for NamespaceMap {
+    ghost laws = { namespaces_equiv };
+}

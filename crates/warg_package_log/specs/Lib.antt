@@ -1,0 +1,15 @@
+pub mod AlikeLaws
+pub mod Catalog
+pub mod Entries
+pub mod ErrorLaws
+pub mod Extensions
+pub mod Latest
+pub mod ListedReleaseLaws
+pub mod ListedReleases
+pub mod ReleaseLaws
+pub mod Releases
+pub mod SameReleaseLaws
+pub mod SameReleases
+pub mod State
+pub mod StateLaws
+pub mod Versions

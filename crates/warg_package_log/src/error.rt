@@ -1,0 +1,183 @@
+//! Why a record is refused.
+ghost use Rattle.std.specs.Prelude.{◌≡◌};
+
+use semver::Version;
+use std::alloc::AllocError;
+use thiserror::Error;
+use warg_crypto::hash::HashAlgorithm;
+use warg_crypto::signing::{KeyID, SignatureError};
+use warg_log::{Fault, Refusal};
+use warg_records::package::Permission;
+
+/// Why a release or a yank is refused.
+#[derive(Drop)]
+pub enum ReleaseError {
+    ReleaseOfReleased { version: Version },
+    YankOfUnreleased { version: Version },
+    YankOfYanked { version: Version },
+    OutOfMemory,
+}
+
+impl From<AllocError> for ReleaseError {
+    ghost use Rattle.warg_package_log.specs.declared.error.ReleaseError.TheVariants.{OutOfMemory};
+
+    ghost from_gives = { λ _ e. e ≡ OutOfMemory };
+
+    fn from(_error: AllocError) -> ReleaseError {
+        ReleaseError::OutOfMemory
+    }
+}
+
+/// Why a record of a package log is refused.
+#[derive(Debug, Drop, PartialEq, Eq, Error)]
+pub enum ValidationError {
+    /// An entry stands before the log's init.
+    #[error("the first entry of the log is not \"init\"")]
+    FirstEntryIsNotInit,
+    /// After the first record there is still no init.
+    #[error("the initial record is empty and does not \"init\"")]
+    InitialRecordDoesNotInit,
+    /// No key of this id is known to the log, or the signer of an init does not own its key.
+    #[error("the Key ID used to sign this envelope is not known to this package log")]
+    KeyIDNotRecognized {
+        key_id: KeyID,
+    },
+    /// A second init.
+    #[error("a second \"init\" entry was found")]
+    InitialEntryAfterBeginning,
+    /// The signer lacks a permission that the entry asks or hands on.
+    #[error("the key with ID {key_id} did not have required permission {needed_permission}")]
+    UnauthorizedAction {
+        key_id: KeyID,
+        needed_permission: Permission,
+    },
+    /// The key lacks a permission that is to be taken from it.
+    #[error("attempted to remove permission {permission} from key {key_id} which did not have it")]
+    PermissionNotFoundToRevoke {
+        permission: Permission,
+        key_id: KeyID,
+    },
+    /// The signature is not the signer's. The case that memory was wanting is never held here.
+    #[error("unable to verify signature")]
+    SignatureError(SignatureError),
+    /// The record before is named by another algorithm. Never answered, since there is one algorithm.
+    #[error("record hash uses {found} algorithm but {expected} was expected")]
+    IncorrectHashAlgorithm {
+        found: HashAlgorithm,
+        expected: HashAlgorithm,
+    },
+    /// The record names another record before it than the log's last.
+    #[error("previous record hash does not match")]
+    RecordHashDoesNotMatch,
+    /// The first record names a record before it.
+    #[error("the first record contained a previous hash value")]
+    PreviousHashOnFirstRecord,
+    /// A later record names no record before it.
+    #[error("non-initial record contained no previous hash")]
+    NoPreviousHashAfterInit,
+    /// The version of the protocol is not one of this log.
+    #[error("protocol version {version} not allowed")]
+    ProtocolVersionNotAllowed {
+        version: u32,
+    },
+    /// The record is older than the log's last.
+    #[error("record has lower timestamp than previous")]
+    TimestampLowerThanPrevious,
+    /// The version is released already, be it yanked since.
+    #[error("an entry attempted to release version {version} which is already released")]
+    ReleaseOfReleased {
+        version: Version,
+    },
+    /// The version to be yanked was never released.
+    #[error("an entry attempted to yank version {version} which had not yet been released")]
+    YankOfUnreleased {
+        version: Version,
+    },
+    /// The version to be yanked is yanked already.
+    #[error("an entry attempted to yank version {version} which is already yanked")]
+    YankOfYanked {
+        version: Version,
+    },
+    /// There was no memory left. This says nothing of the record.
+    #[error("OutOfMemory")]
+    OutOfMemory,
+}
+
+impl From<SignatureError> for ValidationError {
+    ghost use Rattle.warg_package_log.specs.State.{error_of_signature};
+
+    ghost from_gives = { λ s e. e ≡ error_of_signature s };
+
+    fn from(error: SignatureError) -> ValidationError {
+        match error {
+            SignatureError::Refused => ValidationError::SignatureError(error),
+            SignatureError::OutOfMemory => ValidationError::OutOfMemory,
+        }
+    }
+}
+
+impl From<Refusal<Permission>> for ValidationError {
+    ghost use Rattle.std.specs.Option.{option_map};
+    ghost use Rattle.warg_log.specs.Offences as shared;
+    ghost use Rattle.warg_log.specs.History.{Wrong};
+    ghost use Rattle.warg_package_log.specs.State.{offence_of};
+
+    ghost from_gives = { λ r e. offence_of e ≡ option_map Wrong.Shared (shared.offence_of r) };
+
+    fn from(refusal: Refusal<Permission>) -> ValidationError {
+        match refusal {
+            Refusal::FirstEntryIsNotInit => ValidationError::FirstEntryIsNotInit,
+            Refusal::InitialRecordDoesNotInit => ValidationError::InitialRecordDoesNotInit,
+            Refusal::KeyIDNotRecognized { key_id } => ValidationError::KeyIDNotRecognized {
+                key_id,
+            },
+            Refusal::InitialEntryAfterBeginning => ValidationError::InitialEntryAfterBeginning,
+            Refusal::UnauthorizedAction {
+                key_id,
+                needed_permission,
+            } => ValidationError::UnauthorizedAction {
+                key_id,
+                needed_permission,
+            },
+            Refusal::PermissionNotFoundToRevoke { permission, key_id } => {
+                ValidationError::PermissionNotFoundToRevoke { permission, key_id }
+            }
+            Refusal::SignatureError(error) => ValidationError::SignatureError(error),
+            Refusal::IncorrectHashAlgorithm { found, expected } => {
+                ValidationError::IncorrectHashAlgorithm { found, expected }
+            }
+            Refusal::RecordHashDoesNotMatch => ValidationError::RecordHashDoesNotMatch,
+            Refusal::PreviousHashOnFirstRecord => ValidationError::PreviousHashOnFirstRecord,
+            Refusal::NoPreviousHashAfterInit => ValidationError::NoPreviousHashAfterInit,
+            Refusal::ProtocolVersionNotAllowed { version } => {
+                ValidationError::ProtocolVersionNotAllowed { version }
+            }
+            Refusal::TimestampLowerThanPrevious => ValidationError::TimestampLowerThanPrevious,
+            Refusal::OutOfMemory => ValidationError::OutOfMemory,
+        }
+    }
+}
+
+impl From<Fault<Permission, ReleaseError>> for ValidationError {
+    ghost use Rattle.warg_log.specs.States.{fault_told};
+    ghost use Rattle.warg_package_log.specs.Entries.{told};
+    ghost use Rattle.warg_package_log.specs.State.{offence_of};
+
+    ghost from_gives = { λ f e. offence_of e ≡ fault_told told f };
+
+    fn from(fault: Fault<Permission, ReleaseError>) -> ValidationError {
+        match fault {
+            Fault::Shared(refusal) => ValidationError::from(refusal),
+            Fault::Own(ReleaseError::ReleaseOfReleased { version }) => {
+                ValidationError::ReleaseOfReleased { version }
+            }
+            Fault::Own(ReleaseError::YankOfUnreleased { version }) => {
+                ValidationError::YankOfUnreleased { version }
+            }
+            Fault::Own(ReleaseError::YankOfYanked { version }) => {
+                ValidationError::YankOfYanked { version }
+            }
+            Fault::Own(ReleaseError::OutOfMemory) => ValidationError::OutOfMemory,
+        }
+    }
+}

@@ -1,0 +1,21 @@
+//! The log of a package: its state, record after record.
+#![tactic(auto)]
+
+mod catalog;
+mod error;
+mod latest;
+pub mod laws;
+mod release;
+mod release_map;
+mod releases;
+mod state;
+mod validator;
+
+pub use error::{ReleaseError, ValidationError};
+pub use release::{Release, ReleaseState};
+pub use releases::Releases;
+pub use state::LogState;
+pub use warg_log::Head;
+
+#[cfg(test)]
+mod tests;

@@ -1,0 +1,12 @@
+pub mod Views
+pub mod Each
+pub mod Wire
+pub mod Distinct
+pub mod Relations
+pub mod WriteBack
+pub mod OfBytes
+pub mod KebabLemmas
+pub mod PackageNames
+pub mod PrefixCode
+pub mod Pieces
+pub mod JsonLemmas

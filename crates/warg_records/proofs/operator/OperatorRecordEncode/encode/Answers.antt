@@ -1,0 +1,14 @@
+use Rattle.warg_protobuf.specs.OperatorRecord.{operator_record_table, IsOperatorRecord}
+use Rattle.warg_records.specs.OperatorEntries.{said}
+use Rattle.warg_records.specs.OperatorReading.{operator_entry_of, operator_record_of}
+use Rattle.warg_records.specs.OperatorWriting.{operator_record_message}
+use Rattle.warg_records.proofs.WriteBack.{encoded_back, operator_back}
+use Rattle.warg_records.proofs.operator.OperatorRecordEncode.encode.Goals as goal
+
+pub returns-clause-read_again : goal.returns-clause-read_again
+returns-clause-read_again c = rw c.in_ok-message.ensures at c.encode.ensures.read_again
+
+pub returns-clause-same : goal.returns-clause-same
+returns-clause-same c = λ whole. encoded_back operator_record_table IsOperatorRecord operator_entry_of operator_record_of c.record_reading_computes.ensures.of_operator
+    (said c.args.self.now) (operator_record_message (said c.args.self.now)) (operator_back (said c.args.self.now) whole)
+    (λ v. v.items) c.encode.result (rw c.in_ok-message.ensures at c.encode.ensures.read_again)

@@ -1,0 +1,14 @@
+use Rattle.warg_protobuf.specs.PackageRecord.{package_record_table, IsPackageRecord}
+use Rattle.warg_records.specs.PackageEntries.{said}
+use Rattle.warg_records.specs.PackageReading.{package_entry_of, package_record_of}
+use Rattle.warg_records.specs.PackageWriting.{package_record_message}
+use Rattle.warg_records.proofs.WriteBack.{encoded_back, package_back}
+use Rattle.warg_records.proofs.package.PackageRecordEncode.encode.Goals as goal
+
+pub returns-clause-read_again : goal.returns-clause-read_again
+returns-clause-read_again c = rw c.in_ok-message.ensures at c.encode.ensures.read_again
+
+pub returns-clause-same : goal.returns-clause-same
+returns-clause-same c = λ whole. encoded_back package_record_table IsPackageRecord package_entry_of package_record_of c.record_reading_computes.ensures.of_package
+    (said c.args.self.now) (package_record_message (said c.args.self.now)) (package_back (said c.args.self.now) whole)
+    (λ v. v.items) c.encode.result (rw c.in_ok-message.ensures at c.encode.ensures.read_again)

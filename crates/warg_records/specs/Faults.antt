@@ -1,0 +1,44 @@
+-- Why bytes are no record or no envelope. Want of memory is none of these.
+use Rattle.std.specs.Prelude.{◌≡◌, ℤ, Option, Some, None, Result, Ok, Err}
+use Rattle.warg_crypto.specs.declared.coding.WireFault.{WireFault}
+use Rattle.warg_crypto.specs.declared.coding.DecodeError.{DecodeError}
+use Rattle.warg_crypto.specs.declared.coding.DecodeError.TheVariants as error
+use Rattle.warg_crypto.specs.declared.hash.AnyHashError.{AnyHashError}
+use Rattle.warg_crypto.specs.declared.signing.error.KeyParseError.{KeyParseError}
+
+-- a record's first fault
+pub data RecordFault : Type 0 where
+  Wire : WireFault → RecordFault
+  Prev : AnyHashError → RecordFault
+  MissingTime : RecordFault
+  TimeOutOfRange : RecordFault
+  EmptyEntry : RecordFault
+  Algorithm : RecordFault
+  Key : KeyParseError → RecordFault
+  Permission : ℤ → RecordFault
+  Version : RecordFault
+  ContentHash : AnyHashError → RecordFault
+
+-- the fault that an error tells; want of memory tells none
+abbrev pub fault_of : DecodeError → Option RecordFault
+fault_of (error.Wire w) = Some (Wire w)
+fault_of (error.Prev h) = Some (Prev h)
+fault_of error.MissingTime = Some MissingTime
+fault_of error.TimeOutOfRange = Some TimeOutOfRange
+fault_of error.EmptyEntry = Some EmptyEntry
+fault_of error.Algorithm = Some Algorithm
+fault_of (error.Key k) = Some (Key k)
+fault_of (error.Permission v) = Some (Permission v)
+fault_of error.Version = Some Version
+fault_of (error.ContentHash h) = Some (ContentHash h)
+fault_of error.OutOfMemory = None
+
+-- what is said ends with this fault; an error that tells none says nothing
+abbrev pub TellsFault : {X F : Type 0} → Result X F → Option F → Type 0
+TellsFault said None = Unit {0}
+TellsFault said (Some f) = said ≡ Err f
+
+-- what was answered, seen by view, is what is said, want of memory aside
+abbrev pub IsReading : {X Y E F : Type 0} → (X → Y) → (E → Option F) → Result Y F → Result X E → Type 0
+IsReading view told said (Ok x) = said ≡ Ok (view x)
+IsReading view told said (Err e) = TellsFault said (told e)

@@ -1,0 +1,21 @@
+-- Which faults are faults of bytes: all but those that tell of wanting memory, or that no bytes have.
+use Rattle.warg_crypto.specs.declared.coding.WireFault.TheVariants as wire
+use Rattle.warg_crypto.specs.declared.signing.error.KeyParseError.TheVariants as key
+use Rattle.warg_crypto.specs.declared.signing.error.SignatureParseError.TheVariants as signature
+use Rattle.warg_protobuf.specs.declared.error.WireError.TheVariants as outer
+use Rattle.warg_records.specs.Envelopes.{EnvelopeFault, ProtobufEnvelope, Contents, Signature, KeyID, ContentsOutOfMemory}
+use Rattle.warg_records.specs.Faults.{RecordFault, Wire, Key}
+
+abbrev pub IsOfContent : RecordFault → Type 0
+IsOfContent (Wire wire.OutOfMemory) = ⊥
+IsOfContent (Key key.OutOfMemory) = ⊥
+IsOfContent f = Unit {0}
+
+abbrev pub IsOfEnvelope : EnvelopeFault RecordFault → Type 0
+IsOfEnvelope (ProtobufEnvelope outer.OutOfMemory) = ⊥
+IsOfEnvelope (ProtobufEnvelope w) = Unit {0}
+IsOfEnvelope (Contents f) = IsOfContent f
+IsOfEnvelope (Signature signature.OutOfMemory) = ⊥
+IsOfEnvelope (Signature s) = Unit {0}
+IsOfEnvelope (KeyID h) = ⊥
+IsOfEnvelope ContentsOutOfMemory = ⊥

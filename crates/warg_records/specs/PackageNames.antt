@@ -1,0 +1,10 @@
+-- What the refusal of a text as a package name says.
+use Rattle.std.specs.Prelude.{◌≡◌, ℕ, List, string_bytes}
+use Rattle.warg_records.specs.KebabNames.{IsPackageText}
+use Rattle.warg_records.specs.declared.registry.package_name.PackageNameError.{PackageNameError}
+use Rattle.warg_records.specs.declared.registry.package_name.PackageNameError.TheVariants.{InvalidPackageName, OutOfMemory}
+
+-- the text is no package name, and the error carries it
+abbrev pub Refuses : PackageNameError → List ℕ → Type 0
+Refuses (InvalidPackageName name) text = (string_bytes name ≡ text) × (IsPackageText text → ⊥)
+Refuses OutOfMemory text = Unit {0}

@@ -1,0 +1,21 @@
+-- Which error of an envelope a part's error is. Want of memory stays want of memory.
+use Rattle.warg_crypto.specs.declared.coding.DecodeError.{DecodeError}
+use Rattle.warg_crypto.specs.declared.coding.DecodeError.TheVariants as contents
+use Rattle.warg_crypto.specs.declared.signing.error.SignatureParseError.{SignatureParseError}
+use Rattle.warg_crypto.specs.declared.signing.error.SignatureParseError.TheVariants as signature
+use Rattle.warg_protobuf.specs.declared.error.WireError.{WireError}
+use Rattle.warg_protobuf.specs.declared.error.WireError.TheVariants as wire
+use Rattle.warg_records.specs.declared.proto_envelope.error.ParseEnvelopeError.{ParseEnvelopeError}
+use Rattle.warg_records.specs.declared.proto_envelope.error.ParseEnvelopeError.TheVariants.{ProtobufEnvelope, Contents, Signature, OutOfMemory}
+
+abbrev pub wire_error : WireError → ParseEnvelopeError
+wire_error wire.OutOfMemory = OutOfMemory
+wire_error w = ProtobufEnvelope w
+
+abbrev pub contents_error : DecodeError → ParseEnvelopeError
+contents_error contents.OutOfMemory = OutOfMemory
+contents_error d = Contents d
+
+abbrev pub signature_error : SignatureParseError → ParseEnvelopeError
+signature_error signature.OutOfMemory = OutOfMemory
+signature_error s = Signature s

@@ -1,0 +1,58 @@
+-- Which records read back as they are written. All of these facts but that on versions hold of every value of the
+-- code's types; a version that was parsed reads back too.
+use Rattle.std.specs.Prelude.{◌≡◌, ℕ, pos, List, length, Option, Some, None, Ok}
+use Rattle.std.specs.List.{AllByRecursion}
+use Rattle.hex.specs.Hex.{IsBytes}
+use Rattle.semver.specs.Identifiers.{parts_text}
+use Rattle.semver.specs.Parse.{version_parts}
+use Rattle.warg_crypto.specs.Tags.{Tag, IsName}
+use Rattle.warg_crypto.specs.Times.{Time, time_from}
+use Rattle.warg_crypto.specs.declared.hash.AnyHash.{AnyHash}
+use Rattle.warg_records.specs.Readings.{Act, Init, GrantFlat, RevokeFlat, Reading, Shared, Own, Said}
+use Rattle.warg_records.specs.PackageEntries.{Parts, PackageAct, Release, Yank}
+use Rattle.warg_records.specs.OperatorEntries.{OperatorAct}
+use Rattle.warg_records.specs.declared.registry.record_id.RecordId.{RecordId}
+
+-- a hash of 32 bytes
+pub record IsWholeHash (h : AnyHash) : Type 0 where
+  pub size : length h.bytes ≡ 32
+  pub bytes : IsBytes h.bytes
+
+-- a key or a signature: a name, and bytes
+pub record IsWholeTag (t : Tag) : Type 0 where
+  pub name : IsName t.name
+  pub bytes : IsBytes t.bytes
+
+-- a time in range, whose nanoseconds make no second
+abbrev pub IsWholeTime : Time → Type 0
+IsWholeTime t = time_from t.seconds (pos t.nanos) ≡ Ok t
+
+-- the version's text reads back as the version
+abbrev pub ReadsBack : Parts → Type 0
+ReadsBack p = version_parts (parts_text p) ≡ Ok p
+
+abbrev pub IsWholeLink : Option RecordId → Type 0
+IsWholeLink None = Unit {0}
+IsWholeLink (Some id) = IsWholeHash id.hash
+
+abbrev pub IsWholeAct : {P : Type 0} → Act P → Type 0
+IsWholeAct (Init algorithm key) = IsWholeTag key
+IsWholeAct (GrantFlat key permissions) = IsWholeTag key
+IsWholeAct (RevokeFlat key_id permissions) = Unit {0}
+
+abbrev pub IsWholeEntry : {P O : Type 0} → (O → Type 0) → Reading P O → Type 0
+IsWholeEntry IsWholeOwn (Shared act) = IsWholeAct act
+IsWholeEntry IsWholeOwn (Own own) = IsWholeOwn own
+
+-- each part of a record is whole
+pub record IsWhole {P O : Type 0} (IsWholeOwn : O → Type 0) (s : Said P O) : Type 0 where
+  pub prev : IsWholeLink s.prev
+  pub time : IsWholeTime s.time
+  pub entries : AllByRecursion (IsWholeEntry IsWholeOwn) s.entries
+
+abbrev pub IsWholePackageAct : PackageAct → Type 0
+IsWholePackageAct (Release version content) = ReadsBack version × IsWholeHash content
+IsWholePackageAct (Yank version) = ReadsBack version
+
+abbrev pub IsWholeOperatorAct : OperatorAct → Type 0
+IsWholeOperatorAct own = Unit {0}

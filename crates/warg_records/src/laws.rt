@@ -1,0 +1,54 @@
+//! Laws of the definitions. None of these functions has an effect.
+
+ghost use Rattle.std.specs.Prelude.{List, ℕ, IfErr};
+ghost use Rattle.warg_protobuf.specs.OperatorRecord.{IsOperatorRecord, operator_record_table};
+ghost use Rattle.warg_protobuf.specs.PackageRecord.{IsPackageRecord, package_record_table};
+ghost use Rattle.warg_records.specs.EnvelopeRelations.{ReadsEnvelope};
+ghost use Rattle.warg_records.specs.Envelopes.{envelope_of};
+ghost use Rattle.warg_records.specs.OfBytes.{IsOfContent, IsOfEnvelope};
+ghost use Rattle.warg_records.specs.OperatorReading.{operator_entry_of, operator_record_of};
+ghost use Rattle.warg_records.specs.PackageReading.{package_entry_of, package_record_of};
+ghost use Rattle.warg_records.specs.Relations.{HasRecordFault, IsRecord, ReadsRecord};
+ghost use Rattle.warg_records.specs.PrefixEncodings.{IsPrefixCode};
+
+use warg_protobuf::laws::{decoding_computes, exactly_one};
+
+/// What is computed of content bytes is the record that they are, or their first fault.
+pub fn record_reading_computes()
+    ensures of_package { (content : List ℕ) → ReadsRecord package_record_table IsPackageRecord package_entry_of (package_record_of content) content }
+    ensures of_operator { (content : List ℕ) → ReadsRecord operator_record_table IsOperatorRecord operator_entry_of (operator_record_of content) content }
+{
+    decoding_computes();
+}
+
+/// What is computed of bytes is the envelope that they are, or their first fault.
+pub fn envelope_reading_computes()
+    ensures of_package { (bytes : List ℕ) → ReadsEnvelope
+        (IsRecord package_record_table IsPackageRecord package_entry_of)
+        (HasRecordFault package_record_table IsPackageRecord package_entry_of)
+        (envelope_of package_record_of bytes) bytes }
+    ensures of_operator { (bytes : List ℕ) → ReadsEnvelope
+        (IsRecord operator_record_table IsOperatorRecord operator_entry_of)
+        (HasRecordFault operator_record_table IsOperatorRecord operator_entry_of)
+        (envelope_of operator_record_of bytes) bytes }
+{
+    decoding_computes();
+    record_reading_computes();
+}
+
+/// No reading of bytes ends with want of memory, at the top or inside another fault.
+pub fn no_fault_of_memory()
+    ensures of_package { (content : List ℕ) → IfErr (package_record_of content) IsOfContent }
+    ensures of_operator { (content : List ℕ) → IfErr (operator_record_of content) IsOfContent }
+    ensures of_package_envelope { (bytes : List ℕ) → IfErr (envelope_of package_record_of bytes) IsOfEnvelope }
+    ensures of_operator_envelope { (bytes : List ℕ) → IfErr (envelope_of operator_record_of bytes) IsOfEnvelope }
+{
+    decoding_computes();
+    exactly_one();
+}
+
+/// No prefix encoding of a checkpoint, a timestamped checkpoint, a leaf of either tree or a package
+/// name is a proper beginning of another, and equal ones come from equal values of one kind.
+pub fn no_encoding_begins_another()
+    ensures { IsPrefixCode }
+{}

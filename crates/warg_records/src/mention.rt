@@ -1,0 +1,45 @@
+//! What the entries of a record mention.
+
+ghost use Rattle.std.specs.Prelude.{◌≡◌, [], ◌∷◌, Option, IfOk, OnOk};
+ghost use Rattle.std.specs.List.{filter_map};
+ghost use Rattle.indexmap.specs.IndexSet.{insert_all};
+ghost use Rattle.warg_records.specs.Mentions.{distinct};
+
+use indexmap::IndexSet;
+use std::alloc::{AllocError, Global};
+use std::hash::Hash;
+
+/// An entry that may mention something.
+pub(crate) trait Mention {
+    type Item: Copy + Eq + Hash;
+
+    // What the entry mentions.
+    ghost mentioned: { Self → Option Self.Item };
+
+    fn mention(&self) -> Option<Self::Item>
+        ensures { result ≡ mentioned self.now };
+}
+
+// Inserts what the entry mentions.
+fn insert_mention<E: Mention>(items: &mut IndexSet<E::Item>, entry: &E) -> Result<(), AllocError>
+    ensures { OnOk result (items.new.keys ≡ insert_all E.Item.eq items.old.keys (filter_map E.mentioned (entry.now ∷ []))) }
+{
+    if let Some(item) = entry.mention() {
+        items.insert(item)?;
+    }
+    Ok(())
+}
+
+/// What the entries mention, each once, by first mention.
+pub(crate) fn mentions<E: Mention>(
+    alloc: Global,
+    entries: &[E],
+) -> Result<IndexSet<E::Item>, AllocError>
+    ensures { IfOk result (λ s. s.keys ≡ distinct E.Item.eq (filter_map E.mentioned entries.now)) }
+{
+    let mut items = IndexSet::new(alloc);
+    for entry in entries {
+        insert_mention(&mut items, entry)?;
+    }
+    Ok(items)
+}

@@ -1,0 +1,99 @@
+//! Records of operator logs.
+
+ghost use Rattle.std.specs.Prelude.{◌≡◌, codes, IfOk, Ok, []};
+ghost use Rattle.warg_records.specs.Faults.{IsReading, fault_of};
+ghost use Rattle.warg_records.specs.FaultLaws.{fault_of-memory};
+ghost use Rattle.warg_records.specs.Readings.{Said};
+ghost use Rattle.warg_protobuf.specs.OperatorRecord.{IsOperatorRecord};
+ghost use Rattle.warg_records.specs.OperatorWriting.{operator_content_of, operator_record_message};
+ghost use Rattle.warg_records.specs.Whole.{IsWhole, IsWholeOperatorAct};
+ghost use Rattle.warg_records.specs.Faults.{RecordFault};
+ghost use Rattle.warg_records.specs.OperatorEntries.{OperatorAct, said};
+ghost use Rattle.warg_records.specs.OperatorReading.{operator_record_of};
+ghost use Rattle.warg_records.specs.declared.operator.permission.Permission.{Permission};
+ghost use Rattle.std.proofs.Common.{refl};
+
+mod model;
+mod permission;
+mod reading;
+mod writing;
+
+use crate::Record;
+use crate::laws::record_reading_computes;
+use indexmap::IndexSet;
+pub use model::{OperatorEntry, OperatorRecord};
+pub use permission::Permission;
+use std::alloc::{AllocError, Global};
+use warg_crypto::hash::AnyHash;
+use warg_crypto::{Decode, DecodeError, Encode, Signable};
+
+/// The version of the protocol that operator records have.
+pub const OPERATOR_RECORD_VERSION: u32 = 0;
+
+impl Decode for OperatorRecord {
+    ghost decodes = { λ content r. IsReading said fault_of (operator_record_of content) r };
+
+    fn decode(alloc: Global, content: &[u8]) -> Result<OperatorRecord, DecodeError> {
+        reading::read_record(alloc, content)
+    }
+}
+
+impl Encode for OperatorRecord {
+    ghost encoding = { λ r. operator_content_of (said r) };
+
+    #[tactic(auto, unfolding(crate::specs::OperatorWriting::operator_content_of))]
+    fn encode(&self, alloc: Global) -> Result<Vec<u8>, AllocError>
+        ensures spelled { IfOk result (λ v. v.items ≡ operator_content_of (said self.now)) }
+
+        // What is written is the message of the record, and reads back as the record.
+        ensures read_again { IfOk result (λ v. IsOperatorRecord v.items (operator_record_message (said self.now))) }
+        ensures same { IsWhole IsWholeOperatorAct (said self.now) → IfOk result (λ v. operator_record_of v.items ≡ Ok (said self.now)) }
+    {
+        record_reading_computes();
+        let message = self.to_proto(alloc)?;
+        message.encode(alloc)
+    }
+}
+
+impl Signable for OperatorRecord {
+    const PREFIX: &'static str = "WARG-OPERATOR-RECORD-SIGNATURE-V0";
+
+    ghost signed_prefix = { codes "WARG-OPERATOR-RECORD-SIGNATURE-V0" };
+
+    fn signing_prefix() -> &'static str {
+        Self::PREFIX
+    }
+}
+
+impl Record for OperatorRecord {
+    ghost Meaning = { Said Permission OperatorAct };
+
+    ghost meaning = { said };
+
+    ghost Fault = { RecordFault };
+
+    ghost fault_of = { fault_of };
+
+    ghost read = { operator_record_of };
+
+    ghost decodes_reading = { λ b r h. h };
+
+    ghost memory_tells_none = { refl };
+
+    ghost memory_alone = { fault_of-memory };
+
+    ghost mentions = { λ _. [] };
+
+    fn contents(&self, alloc: Global) -> Result<IndexSet<AnyHash>, AllocError> {
+        Ok(IndexSet::new(alloc))
+    }
+
+    fn try_clone(&self) -> Result<OperatorRecord, AllocError> {
+        Ok(OperatorRecord {
+            prev: self.prev,
+            version: self.version,
+            timestamp: self.timestamp,
+            entries: self.entries.clone()?,
+        })
+    }
+}

@@ -1,0 +1,115 @@
+//! What a record of an operator log holds.
+
+ghost use Rattle.std.specs.Prelude.{◌≡◌};
+ghost use Rattle.warg_records.specs.OperatorEntries.{reading, required_permission_of};
+
+use crate::operator::permission::Permission;
+use crate::registry::RecordId;
+use std::alloc::AllocError;
+use warg_crypto::Timestamp;
+use warg_crypto::hash::HashAlgorithm;
+use warg_crypto::signing::{KeyID, PublicKey};
+
+/// A record of an operator log: entries that one key signs together.
+#[derive(Debug, Drop, PartialEq, Eq)]
+pub struct OperatorRecord {
+    /// The id of the record before; none in a log's first record.
+    pub prev: Option<RecordId>,
+    /// The version of the protocol.
+    pub version: u32,
+    /// When the record was made.
+    pub timestamp: Timestamp,
+    /// The entries, in order.
+    pub entries: Vec<OperatorEntry>,
+}
+
+/// An entry of an operator record.
+#[derive(Debug, Drop, PartialEq, Eq)]
+pub enum OperatorEntry {
+    /// Begins the log. It stands as the log's first entry, and nowhere else.
+    Init {
+        /// The algorithm of the log's hashes.
+        hash_algorithm: HashAlgorithm,
+        /// The operator's first key.
+        key: PublicKey,
+    },
+    /// Gives permissions to a key. The signer must hold them.
+    GrantFlat {
+        /// The key.
+        key: PublicKey,
+        /// What it may do from now on.
+        permissions: Vec<Permission>,
+    },
+    /// Takes permissions from a key. The signer must hold them.
+    RevokeFlat {
+        /// The id of the key.
+        key_id: KeyID,
+        /// What it may no longer do.
+        permissions: Vec<Permission>,
+    },
+    /// Defines a namespace, for packages of the registry's own.
+    DefineNamespace {
+        /// The namespace.
+        namespace: String,
+    },
+    /// Imports a namespace from another registry.
+    ImportNamespace {
+        /// The namespace.
+        namespace: String,
+        /// Where the other registry is.
+        registry: String,
+    },
+}
+
+impl OperatorEntry {
+    /// The permission that the signer must hold for an entry of this kind, if any.
+    pub fn required_permission(&self) -> Option<Permission>
+        ensures { result ≡ required_permission_of (reading self.now) }
+    {
+        match self {
+            OperatorEntry::Init { .. } => None,
+            OperatorEntry::GrantFlat { .. } | OperatorEntry::RevokeFlat { .. } => {
+                Some(Permission::Commit)
+            }
+            OperatorEntry::DefineNamespace { .. } => Some(Permission::DefineNamespace),
+            OperatorEntry::ImportNamespace { .. } => Some(Permission::ImportNamespace),
+        }
+    }
+}
+
+impl Clone for OperatorEntry {
+    ghost is_clone = { λ a b. reading b ≡ reading a };
+
+    fn clone(&self) -> Result<OperatorEntry, AllocError> {
+        Ok(match self {
+            OperatorEntry::Init {
+                hash_algorithm,
+                key,
+            } => OperatorEntry::Init {
+                hash_algorithm: *hash_algorithm,
+                key: key.clone()?,
+            },
+            OperatorEntry::GrantFlat { key, permissions } => OperatorEntry::GrantFlat {
+                key: key.clone()?,
+                permissions: permissions.clone()?,
+            },
+            OperatorEntry::RevokeFlat {
+                key_id,
+                permissions,
+            } => OperatorEntry::RevokeFlat {
+                key_id: key_id.clone()?,
+                permissions: permissions.clone()?,
+            },
+            OperatorEntry::DefineNamespace { namespace } => OperatorEntry::DefineNamespace {
+                namespace: namespace.clone()?,
+            },
+            OperatorEntry::ImportNamespace {
+                namespace,
+                registry,
+            } => OperatorEntry::ImportNamespace {
+                namespace: namespace.clone()?,
+                registry: registry.clone()?,
+            },
+        })
+    }
+}

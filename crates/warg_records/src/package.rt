@@ -1,0 +1,110 @@
+//! Records of package logs.
+
+ghost use Rattle.std.specs.Prelude.{◌≡◌, codes, IfOk, Ok};
+ghost use Rattle.warg_records.specs.Faults.{IsReading, fault_of};
+ghost use Rattle.warg_records.specs.FaultLaws.{fault_of-memory};
+ghost use Rattle.warg_records.specs.Readings.{Said};
+ghost use Rattle.warg_protobuf.specs.PackageRecord.{IsPackageRecord};
+ghost use Rattle.warg_records.specs.PackageWriting.{package_content_of, package_record_message};
+ghost use Rattle.warg_records.specs.Whole.{IsWhole, IsWholePackageAct};
+ghost use Rattle.warg_records.specs.Faults.{RecordFault};
+ghost use Rattle.warg_records.specs.PackageEntries.{PackageAct, content_of, mentions, reading, said};
+ghost use Rattle.warg_records.specs.PackageReading.{package_record_of};
+ghost use Rattle.warg_records.specs.declared.package.permission.Permission.{Permission};
+ghost use Rattle.std.proofs.Common.{refl};
+
+mod model;
+mod permission;
+mod reading;
+mod writing;
+
+use crate::Record;
+use crate::laws::record_reading_computes;
+use crate::mention::{self, Mention};
+use indexmap::IndexSet;
+pub use model::{PackageEntry, PackageRecord};
+pub use permission::Permission;
+use std::alloc::{AllocError, Global};
+use warg_crypto::hash::AnyHash;
+use warg_crypto::{Decode, DecodeError, Encode, Signable};
+
+/// The version of the protocol that package records have.
+pub const PACKAGE_RECORD_VERSION: u32 = 0;
+
+impl Decode for PackageRecord {
+    ghost decodes = { λ content r. IsReading said fault_of (package_record_of content) r };
+
+    fn decode(alloc: Global, content: &[u8]) -> Result<PackageRecord, DecodeError> {
+        reading::read_record(alloc, content)
+    }
+}
+
+impl Encode for PackageRecord {
+    ghost encoding = { λ r. package_content_of (said r) };
+
+    #[tactic(auto, unfolding(crate::specs::PackageWriting::package_content_of))]
+    fn encode(&self, alloc: Global) -> Result<Vec<u8>, AllocError>
+        ensures spelled { IfOk result (λ v. v.items ≡ package_content_of (said self.now)) }
+
+        // What is written is the message of the record, and reads back as the record.
+        ensures read_again { IfOk result (λ v. IsPackageRecord v.items (package_record_message (said self.now))) }
+        ensures same { IsWhole IsWholePackageAct (said self.now) → IfOk result (λ v. package_record_of v.items ≡ Ok (said self.now)) }
+    {
+        record_reading_computes();
+        let message = self.to_proto(alloc)?;
+        message.encode(alloc)
+    }
+}
+
+impl Signable for PackageRecord {
+    const PREFIX: &'static str = "WARG-PACKAGE-RECORD-SIGNATURE-V0";
+
+    ghost signed_prefix = { codes "WARG-PACKAGE-RECORD-SIGNATURE-V0" };
+
+    fn signing_prefix() -> &'static str {
+        Self::PREFIX
+    }
+}
+
+impl Record for PackageRecord {
+    ghost Meaning = { Said Permission PackageAct };
+
+    ghost meaning = { said };
+
+    ghost Fault = { RecordFault };
+
+    ghost fault_of = { fault_of };
+
+    ghost read = { package_record_of };
+
+    ghost decodes_reading = { λ b r h. h };
+
+    ghost memory_tells_none = { refl };
+
+    ghost memory_alone = { fault_of-memory };
+
+    ghost mentions = { mentions };
+
+    fn contents(&self, alloc: Global) -> Result<IndexSet<AnyHash>, AllocError> {
+        mention::mentions(alloc, self.entries.as_slice())
+    }
+
+    fn try_clone(&self) -> Result<PackageRecord, AllocError> {
+        Ok(PackageRecord {
+            prev: self.prev,
+            version: self.version,
+            timestamp: self.timestamp,
+            entries: self.entries.clone()?,
+        })
+    }
+}
+
+impl Mention for PackageEntry {
+    type Item = AnyHash;
+
+    ghost mentioned = { λ e. content_of (reading e) };
+
+    fn mention(&self) -> Option<AnyHash> {
+        self.content().copied()
+    }
+}

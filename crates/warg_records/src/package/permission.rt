@@ -1,0 +1,127 @@
+//! What a package log lets keys do.
+
+ghost use Rattle.std.specs.Prelude.{◌≡◌, [], ◌∷◌, pos, Option, Some, Ok, Err};
+ghost use Rattle.std.specs.Cmp.{partial_equiv_from_equiv};
+ghost use Rattle.std.specs.Hash as fed;
+ghost use Rattle.warg_records.specs.Permissions.{named_or, numbered_or};
+ghost use Rattle.warg_records.specs.PackagePermissions.{number_of, permission_of, permission_text, permission_in, same_permission, same_permission_equiv, hash-same_permission, permission_of-number_of};
+
+use crate::permission::{InvalidPermission, NumberedPermission, PermissionParseError};
+use std::fmt;
+use std::hash::{Hash, Hasher};
+use std::str::FromStr;
+
+/// What a key may do in a package log.
+#[derive(Clone, Copy, Debug)]
+pub enum Permission {
+    /// The key may release versions.
+    Release,
+    /// The key may yank versions.
+    Yank,
+}
+
+impl Permission {
+    /// All permissions, in the order of their numbers in messages.
+    pub const fn all() -> [Permission; 2]
+        ensures { result ≡ Permission.Release ∷ Permission.Yank ∷ [] }
+    {
+        [Permission::Release, Permission::Yank]
+    }
+
+    // The number of the permission in a message.
+    fn number(self) -> u8
+        ensures { result ≡ number_of self }
+    {
+        match self {
+            Permission::Release => 1,
+            Permission::Yank => 2,
+        }
+    }
+}
+
+impl PartialEq for Permission {
+    ghost eq = { same_permission };
+
+    ghost laws = { partial_equiv_from_equiv same_permission_equiv };
+
+    fn eq(&self, other: &Permission) -> bool {
+        self.number() == other.number()
+    }
+}
+
+impl Eq for Permission {
+    ghost laws = { same_permission_equiv };
+}
+
+impl Hash for Permission {
+    ghost hash_input = { λ p. fed.u8 (number_of p) };
+
+    ghost respects_eq = { hash-same_permission };
+
+    fn hash<H: Hasher>(&self, state: &mut H) {
+        self.number().hash(state);
+    }
+}
+
+impl fmt::Display for Permission {
+    ghost output = { λ p. Some (permission_text p) };
+
+    fn fmt<W: fmt::Write>(&self, f: &mut fmt::Formatter<W>) -> fmt::Result {
+        f.write_str(match self {
+            Permission::Release => "release",
+            Permission::Yank => "yank",
+        })
+    }
+}
+
+impl FromStr for Permission {
+    type Err = InvalidPermission;
+
+    ghost from_str_gives = { λ text r. r ≡ named_or (permission_in text) };
+
+    fn from_str(text: &str) -> Result<Permission, InvalidPermission> {
+        match text {
+            "release" => Ok(Permission::Release),
+            "yank" => Ok(Permission::Yank),
+            _ => Err(InvalidPermission),
+        }
+    }
+}
+
+impl NumberedPermission for Permission {
+    ghost permission_of = { permission_of };
+
+    ghost number_of = { λ p. pos (number_of p) };
+
+    ghost reads_back = { permission_of-number_of };
+
+    fn from_number(number: i32) -> Option<Permission> {
+        match number {
+            1 => Some(Permission::Release),
+            2 => Some(Permission::Yank),
+            _ => None,
+        }
+    }
+
+    fn to_number(self) -> i32 {
+        self.number() as i32
+    }
+}
+
+impl TryFrom<i32> for Permission {
+    type Error = PermissionParseError;
+
+    ghost try_from_gives = { λ v r. r ≡ numbered_or v (permission_of v) };
+
+    fn try_from(value: i32) -> Result<Permission, PermissionParseError> {
+        Permission::from_number(value).ok_or(PermissionParseError { value })
+    }
+}
+
+impl From<&Permission> for i32 {
+    ghost from_gives = { λ p n. n ≡ pos (number_of p.now) };
+
+    fn from(permission: &Permission) -> i32 {
+        permission.to_number()
+    }
+}

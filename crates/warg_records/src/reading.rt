@@ -1,0 +1,142 @@
+//! What both kinds of record share in reading from their messages.
+
+ghost use Rattle.std.specs.Prelude.{◌≡◌, map, string_bytes, Result};
+ghost use Rattle.warg_crypto.specs.declared.coding.DecodeError.{DecodeError};
+ghost use Rattle.warg_protobuf.specs.Timestamp.{timestamp_seen};
+ghost use Rattle.warg_protobuf.specs.Views.{option_view};
+ghost use Rattle.warg_records.specs.Faults.{RecordFault, fault_of, IsReading};
+ghost use Rattle.warg_records.specs.Steps.{each, prev_of, time_of, key_of, beginning_of, permission_in, wire_error_of};
+
+use crate::permission::NumberedPermission;
+use crate::registry::RecordId;
+use std::alloc::Global;
+use std::str::FromStr;
+use warg_crypto::hash::{AnyHash, HashAlgorithm};
+use warg_crypto::signing::PublicKey;
+use warg_crypto::{DecodeError, Timestamp, WireFault};
+use warg_protobuf::{TimestampPair, WireError};
+
+/// A part of a record that is read from its message.
+pub(crate) trait FromMessage: Drop {
+    type Message: Drop;
+
+    // The message as plain data.
+    ghost Seen: { Type 0 };
+
+    ghost seen: { Self.Message → Seen };
+
+    // The part as plain data.
+    ghost Plain: { Type 0 };
+
+    ghost plain: { Self → Plain };
+
+    // What a message says, or its first fault.
+    ghost read: { Seen → Result Plain RecordFault };
+
+    fn from_message(alloc: Global, message: Self::Message) -> Result<Self, DecodeError>
+        ensures { IsReading plain fault_of (read (seen message)) result };
+}
+
+/// Reads all messages, in order, up to the first fault.
+pub(crate) fn read_each<T: FromMessage>(
+    alloc: Global,
+    messages: Vec<T::Message>,
+) -> Result<Vec<T>, DecodeError>
+    ensures { IsReading (λ v. map T.plain v.items) fault_of (each T.read (map T.seen messages.items)) result }
+{
+    let mut parts = Vec::new(alloc);
+    for message in messages {
+        let part = T::from_message(alloc, message)?;
+        parts.push(part)?;
+    }
+    Ok(parts)
+}
+
+/// The permission of a number.
+fn read_permission<P: NumberedPermission>(number: i32) -> Result<P, DecodeError>
+    ensures { IsReading (λ p. p) fault_of (permission_in P.permission_of number) result }
+{
+    match P::from_number(number) {
+        Some(permission) => Ok(permission),
+        None => Err(DecodeError::Permission { value: number }),
+    }
+}
+
+/// Reads all permissions, in order, up to the first number that is none.
+pub(crate) fn read_permissions<P: NumberedPermission>(
+    alloc: Global,
+    numbers: Vec<i32>,
+) -> Result<Vec<P>, DecodeError>
+    ensures { IsReading (λ v. v.items) fault_of (each (permission_in P.permission_of) numbers.items) result }
+{
+    let mut permissions = Vec::with_capacity(alloc, numbers.len())?;
+    for number in numbers {
+        let permission = read_permission::<P>(number)?;
+        permissions.push(permission)?;
+    }
+    Ok(permissions)
+}
+
+/// The error of bytes that are no message.
+pub(crate) fn wire_error(error: WireError) -> DecodeError
+    ensures { result ≡ wire_error_of error }
+{
+    match error {
+        WireError::Truncated => DecodeError::Wire(WireFault::Truncated),
+        WireError::VarintTooLong => DecodeError::Wire(WireFault::VarintTooLong),
+        WireError::BadKey => DecodeError::Wire(WireFault::BadKey),
+        WireError::Group => DecodeError::Wire(WireFault::Group),
+        WireError::WrongWireType => DecodeError::Wire(WireFault::WrongWireType),
+        WireError::NotUtf8 => DecodeError::Wire(WireFault::NotUtf8),
+        WireError::OutOfMemory => DecodeError::OutOfMemory,
+    }
+}
+
+/// The id of the record before.
+pub(crate) fn read_prev(prev: Option<String>) -> Result<Option<RecordId>, DecodeError>
+    ensures { IsReading (λ p. p) fault_of (prev_of (option_view (λ s. string_bytes s) prev)) result }
+{
+    let Some(text) = prev else {
+        return Ok(None);
+    };
+    match AnyHash::from_str(text.as_str()) {
+        Ok(hash) => Ok(Some(RecordId::from(hash))),
+        Err(error) => Err(DecodeError::Prev(error)),
+    }
+}
+
+/// The time, its nanoseconds carried.
+pub(crate) fn read_time(time: Option<TimestampPair>) -> Result<Timestamp, DecodeError>
+    ensures { IsReading (λ t. t) fault_of (time_of (option_view timestamp_seen time)) result }
+{
+    let Some(time) = time else {
+        return Err(DecodeError::MissingTime);
+    };
+    match Timestamp::from_parts(time.seconds, time.nanos) {
+        Ok(timestamp) => Ok(timestamp),
+        Err(_) => Err(DecodeError::TimeOutOfRange),
+    }
+}
+
+/// A key.
+pub(crate) fn read_key(alloc: Global, text: &str) -> Result<PublicKey, DecodeError>
+    ensures { IsReading (λ k. k) fault_of (key_of text.now) result }
+{
+    Ok(PublicKey::parse(alloc, text)?)
+}
+
+/// The algorithm and the key that begin a log.
+pub(crate) fn read_init(
+    alloc: Global,
+    key: &str,
+    hash_algorithm: &str,
+) -> Result<(HashAlgorithm, PublicKey), DecodeError>
+    ensures { IsReading (λ p. (p.0, p.1)) fault_of
+        (beginning_of (record { key = key.now; hash_algorithm = hash_algorithm.now })) result }
+{
+    let Ok(algorithm) = HashAlgorithm::from_str(hash_algorithm) else {
+        return Err(DecodeError::Algorithm);
+    };
+    let key = read_key(alloc, key)?;
+    Ok((algorithm, key))
+}

@@ -1,0 +1,157 @@
+//! JSON of ids, names, checkpoints and leaves.
+
+ghost use Rattle.std.specs.Prelude.{◌≡◌, ◌<◌, ◌^◌, true};
+ghost use Rattle.warg_crypto.specs.JsonTexts.{IsHash};
+ghost use Rattle.warg_records.specs.KebabNames.{is_package_name};
+ghost use Rattle.warg_records.specs.RegistryJson.{IsCheckpoint, IsLogLeaf, IsTimestamped, checkpoint_in, checkpoint_json, log_id_in, log_id_json, log_leaf_in, log_leaf_json, package_name_in, package_name_json, record_id_in, record_id_json, timestamped_checkpoint_in, timestamped_checkpoint_json};
+ghost use Rattle.warg_records.specs.RegistryJsonLaws.{checkpoint_reads_back, log_id_reads_back, log_leaf_reads_back, package_name_reads_back, record_id_reads_back, timestamped_reads_back};
+
+use crate::registry::{
+    Checkpoint, LogId, LogLeaf, PackageName, PackageNameError, RecordId, TimestampedCheckpoint,
+};
+use serde_json::{Map, Value};
+use std::alloc::Global;
+use warg_crypto::hash::AnyHash;
+use warg_crypto::json::members::{member_in, object_value, put_value, text_in, text_value};
+use warg_crypto::{JsonError, JsonValue};
+
+impl JsonValue for LogId {
+    ghost writes = { log_id_json };
+
+    ghost reads = { log_id_in };
+
+    ghost is_written = { λ id. IsHash id.hash };
+
+    ghost reads_back = { log_id_reads_back };
+
+    fn to_value(&self, alloc: Global) -> Result<Value, JsonError> {
+        AnyHash::from(*self).to_value(alloc)
+    }
+
+    fn from_value(alloc: Global, value: &Value) -> Result<LogId, JsonError> {
+        Ok(LogId::from(AnyHash::from_value(alloc, value)?))
+    }
+}
+
+impl JsonValue for RecordId {
+    ghost writes = { record_id_json };
+
+    ghost reads = { record_id_in };
+
+    ghost is_written = { λ id. IsHash id.hash };
+
+    ghost reads_back = { record_id_reads_back };
+
+    fn to_value(&self, alloc: Global) -> Result<Value, JsonError> {
+        AnyHash::from(*self).to_value(alloc)
+    }
+
+    fn from_value(alloc: Global, value: &Value) -> Result<RecordId, JsonError> {
+        Ok(RecordId::from(AnyHash::from_value(alloc, value)?))
+    }
+}
+
+impl JsonValue for PackageName {
+    ghost writes = { package_name_json };
+
+    ghost reads = { package_name_in };
+
+    ghost is_written = { λ name. is_package_name name ≡ true };
+
+    ghost reads_back = { package_name_reads_back };
+
+    fn to_value(&self, alloc: Global) -> Result<Value, JsonError> {
+        text_value(alloc, self.as_str())
+    }
+
+    fn from_value(alloc: Global, value: &Value) -> Result<PackageName, JsonError> {
+        match PackageName::new(alloc, text_in(value)?) {
+            Ok(name) => Ok(name),
+            Err(PackageNameError::InvalidPackageName { name: _ }) => Err(JsonError::BadText),
+            Err(PackageNameError::OutOfMemory) => Err(JsonError::OutOfMemory),
+        }
+    }
+}
+
+impl JsonValue for Checkpoint {
+    ghost writes = { checkpoint_json };
+
+    ghost reads = { checkpoint_in };
+
+    ghost is_written = { λ c. IsCheckpoint c };
+
+    ghost reads_back = { checkpoint_reads_back };
+
+    fn to_value(&self, alloc: Global) -> Result<Value, JsonError> {
+        let mut map = Map::new(alloc);
+        put_value(&mut map, alloc, "logRoot", &self.log_root)?;
+        put_value(&mut map, alloc, "logLength", &self.log_length)?;
+        put_value(&mut map, alloc, "mapRoot", &self.map_root)?;
+        Ok(object_value(map))
+    }
+
+    fn from_value(alloc: Global, value: &Value) -> Result<Checkpoint, JsonError> {
+        let log_root = AnyHash::from_value(alloc, member_in(value, "logRoot")?)?;
+        let log_length = usize::from_value(alloc, member_in(value, "logLength")?)?;
+        let map_root = AnyHash::from_value(alloc, member_in(value, "mapRoot")?)?;
+        Ok(Checkpoint {
+            log_root,
+            log_length,
+            map_root,
+        })
+    }
+}
+
+impl JsonValue for TimestampedCheckpoint {
+    ghost writes = { timestamped_checkpoint_json };
+
+    ghost reads = { timestamped_checkpoint_in };
+
+    ghost is_written = { λ t. IsTimestamped t };
+
+    ghost reads_back = { timestamped_reads_back };
+
+    fn to_value(&self, alloc: Global) -> Result<Value, JsonError> {
+        let mut map = Map::new(alloc);
+        put_value(&mut map, alloc, "logRoot", &self.checkpoint.log_root)?;
+        put_value(&mut map, alloc, "logLength", &self.checkpoint.log_length)?;
+        put_value(&mut map, alloc, "mapRoot", &self.checkpoint.map_root)?;
+        put_value(&mut map, alloc, "timestamp", &self.timestamp)?;
+        Ok(object_value(map))
+    }
+
+    fn from_value(alloc: Global, value: &Value) -> Result<TimestampedCheckpoint, JsonError> {
+        let checkpoint = Checkpoint::from_value(alloc, value)?;
+        let timestamp = u64::from_value(alloc, member_in(value, "timestamp")?)?;
+        Ok(TimestampedCheckpoint {
+            checkpoint,
+            timestamp,
+        })
+    }
+}
+
+impl JsonValue for LogLeaf {
+    ghost writes = { log_leaf_json };
+
+    ghost reads = { log_leaf_in };
+
+    ghost is_written = { λ l. IsLogLeaf l };
+
+    ghost reads_back = { log_leaf_reads_back };
+
+    fn to_value(&self, alloc: Global) -> Result<Value, JsonError> {
+        let mut map = Map::new(alloc);
+        put_value(&mut map, alloc, "logId", &self.log_id)?;
+        put_value(&mut map, alloc, "recordId", &self.record_id)?;
+        Ok(object_value(map))
+    }
+
+    fn from_value(alloc: Global, value: &Value) -> Result<LogLeaf, JsonError> {
+        let log_id = LogId::from_value(alloc, member_in(value, "logId")?)?;
+        let record_id = RecordId::from_value(alloc, member_in(value, "recordId")?)?;
+        Ok(LogLeaf { log_id, record_id })
+    }
+}
+
+#[cfg(test)]
+mod tests;

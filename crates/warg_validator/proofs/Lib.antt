@@ -1,0 +1,6 @@
+pub mod WalkLaws
+pub mod StringLaws
+pub mod LoopLaws
+pub mod KindWalks
+pub mod OutcomeLaws
+pub mod LogLaws

@@ -1,0 +1,7 @@
+pub mod CountLaws
+pub mod Counts
+pub mod Effects
+pub mod Kinds
+pub mod Outcomes
+pub mod Strings
+pub mod Walks

@@ -1,0 +1,71 @@
+//! Laws over all logs of a kind. They have no effect.
+ghost use Rattle.std.specs.Prelude.{◌≡◌, ◌↔◌, ℕ, ◌+◌, List, [], ◌∷◌, ◌++◌, length, map, take, Option, Some, None, true};
+ghost use Rattle.std.specs.List.{slice_get};
+ghost use Rattle.warg_records.specs.Envelopes.{EnvelopeFault, envelope_of};
+ghost use Rattle.warg_records.specs.Letters.{Letter};
+ghost use Rattle.warg_validator.specs.Kinds.{Belief, IsAccepted, StandsFor, last_id};
+ghost use Rattle.warg_validator.specs.Outcomes.{HasNoOffence, IsFirstOffence, IsFoundBy, first_offence_from};
+ghost use Rattle.warg_validator.specs.Strings.{Cause, read_all};
+
+use crate::validator::Validator;
+
+/// A log with one record more is accepted exactly if the log is and the record has no offence after
+/// it, and then says what the record makes of what the log said.
+pub fn one_more<L: Validator>()
+    ensures accepted { (b : Belief) (es : List Letter) (e : Letter) →
+        IsAccepted L.kind b (es ++ e ∷ []) ↔ (IsAccepted L.kind b es × (L.kind.offence b (L.kind.view_of es) e ≡ None)) }
+    ensures view { (b : Belief) (es : List Letter) (e : Letter) → IsAccepted L.kind b (es ++ e ∷ []) →
+        L.kind.view_of (es ++ e ∷ []) ≡ L.kind.after (L.kind.view_of es) e }
+{}
+
+/// The head of an accepted log is the id of its last record, and each record names the id of the one
+/// before it, the first none.
+pub fn links<L: Validator>()
+    ensures head { (b : Belief) (es : List Letter) → IsAccepted L.kind b es → L.kind.head (L.kind.view_of es) ≡ last_id L.kind es }
+    ensures link { (b : Belief) (es : List Letter) → IsAccepted L.kind b es → (i : ℕ) (e : Letter) → slice_get es i ≡ Some e →
+        L.kind.prev e.content ≡ last_id L.kind (take i es) }
+{}
+
+/// Accepted logs with equal content bytes and equal key ids, record for record, say the same, and
+/// states that stand for them are equal, whatever the signatures and whoever verified them.
+pub fn determination<L: Validator>()
+    ensures views { (b d : Belief) (es fs : List Letter) → IsAccepted L.kind b es → IsAccepted L.kind d fs →
+        map (λ e. e.content) es ≡ map (λ e. e.content) fs → map (λ e. e.key_id) es ≡ map (λ e. e.key_id) fs →
+        L.kind.view_of es ≡ L.kind.view_of fs }
+    ensures states { (b d : Belief) (es fs : List Letter) → IsAccepted L.kind b es → IsAccepted L.kind d fs →
+        map (λ e. e.content) es ≡ map (λ e. e.content) fs → map (λ e. e.key_id) es ≡ map (λ e. e.key_id) fs →
+        (s t : L) → StandsFor L.kind L.view s es → StandsFor L.kind L.view t fs → L.eq s t ≡ true }
+{}
+
+/// States that stand for one log are equal, also where one only answers as such a state does.
+pub fn one_state<L: Validator>()
+    ensures same { (es : List Letter) (s t : L) → StandsFor L.kind L.view s es → StandsFor L.kind L.view t es → L.eq s t ≡ true }
+    ensures alike { (es : List Letter) (s t : L) → L.same (L.view s) (L.kind.view_of es) → StandsFor L.kind L.view t es → L.eq s t ≡ true }
+{}
+
+/// Strings without offence are an accepted log.
+pub fn strings_are_accepted<L: Validator>()
+    ensures { (b : Belief) (ss : List (List ℕ)) → HasNoOffence L.kind b (envelope_of L.Record.read) L.kind.view_of ss →
+        IsAccepted L.kind b (read_all (envelope_of L.Record.read) ss) }
+{}
+
+/// The first offence is one place and one cause, or there is none: a search from the front, view by
+/// view, finds it.
+pub fn first_offence<L: Validator>()
+    ensures { (b : Belief) (ss : List (List ℕ)) (o : Option (ℕ × Cause (EnvelopeFault L.Record.Fault) L.Offence)) →
+        IsFoundBy L.kind b (envelope_of L.Record.read) L.kind.view_of ss o ↔
+        (first_offence_from L.kind b (envelope_of L.Record.read) L.kind.start ss ≡ o) }
+{}
+
+/// A log in two parts: the whole has no offence exactly if neither the first part has one nor the
+/// second after the first, and an offence of the second is one of the whole, as many places later.
+pub fn resumption<L: Validator>()
+    ensures lawful { (b : Belief) (ss ts : List (List ℕ)) →
+        HasNoOffence L.kind b (envelope_of L.Record.read) L.kind.view_of (ss ++ ts) ↔
+        (HasNoOffence L.kind b (envelope_of L.Record.read) L.kind.view_of ss ×
+        HasNoOffence L.kind b (envelope_of L.Record.read) (λ fs. L.kind.view_of (read_all (envelope_of L.Record.read) ss ++ fs)) ts) }
+    ensures first { (b : Belief) (ss ts : List (List ℕ)) → HasNoOffence L.kind b (envelope_of L.Record.read) L.kind.view_of ss →
+        (i : ℕ) (c : Cause (EnvelopeFault L.Record.Fault) L.Offence) →
+        IsFirstOffence L.kind b (envelope_of L.Record.read) (λ fs. L.kind.view_of (read_all (envelope_of L.Record.read) ss ++ fs)) ts i c →
+        IsFirstOffence L.kind b (envelope_of L.Record.read) L.kind.view_of (ss ++ ts) (length ss + i) c }
+{}

@@ -1,0 +1,11 @@
+//! What a kind of log has to say of itself, and the reading of whole logs, written once for every kind.
+#![tactic(auto)]
+
+mod effect;
+pub mod laws;
+mod replay;
+mod validator;
+
+pub use effect::Effect;
+pub use replay::{RunCause, RunError, run, run_from};
+pub use validator::Validator;
