@@ -10,7 +10,11 @@ use warg_records::ProtoEnvelope;
 use warg_records::operator::{OperatorEntry, OperatorRecord, Permission};
 use warg_records::registry::RecordId;
 
-const ALL: [Permission; 3] = [Permission::Commit, Permission::DefineNamespace, Permission::ImportNamespace];
+const ALL: [Permission; 3] = [
+    Permission::Commit,
+    Permission::DefineNamespace,
+    Permission::ImportNamespace,
+];
 
 /// Which record a record names as the one before it.
 #[derive(Clone, Copy)]
@@ -144,7 +148,12 @@ fn a_log_begins(rt: HostRuntime) -> Result<(), Fail> {
     assert!(rt; empty.head().is_none());
     let state = after_init(alloc, Vec::new(alloc))??;
     let alice = id(alloc, "alice")?;
-    assert!(rt; state.head().as_ref().is_some_and(|head| head.timestamp == Timestamp::new(1, 0)));
+    assert!(rt;
+        state
+            .head()
+            .as_ref()
+            .is_some_and(|head| head.timestamp == Timestamp::new(1, 0))
+    );
     assert!(rt; state.public_key(&alice) == Some(&key(alloc, "alice")?));
     assert!(rt; state.key_has_permission_to_sign_checkpoints(&alice));
     assert!(rt; !state.key_has_permission_to_sign_checkpoints(&id(alloc, "bob")?));
@@ -155,10 +164,14 @@ fn a_log_begins(rt: HostRuntime) -> Result<(), Fail> {
 }
 
 fn with_namespaces(alloc: Global) -> Result<Draft, Fail> {
-    Ok(draft("alice", 1, vec![in alloc;
-        define(alloc, "my-namespace")?,
-        import(alloc, "imported-namespace", "registry.example.com")?,
-    ]?))
+    Ok(draft(
+        "alice",
+        1,
+        vec![in alloc;
+            define(alloc, "my-namespace")?,
+            import(alloc, "imported-namespace", "registry.example.com")?,
+        ]?,
+    ))
 }
 
 #[test]
@@ -179,14 +192,30 @@ fn namespaces_are_defined_and_imported(rt: HostRuntime) -> Result<(), Fail> {
 fn an_init_asks_nothing_of_its_signer(rt: HostRuntime) -> Result<(), Fail> {
     let alloc = rt.alloc();
     let (alice, carol) = (id(alloc, "alice")?, id(alloc, "carol")?);
-    let state = outcome(alloc, vec![in alloc;
-        draft("carol", 1, vec![in alloc; init(alloc, "alice")?, grant(alloc, "carol", &[Permission::Commit])?]?),
-    ]?)??;
+    let state = outcome(
+        alloc,
+        vec![in alloc;
+            draft(
+                "carol",
+                1,
+                vec![in alloc;
+                    init(alloc, "alice")?,
+                    grant(alloc, "carol", &[Permission::Commit])?
+                ]?
+            ),
+        ]?,
+    )??;
     assert!(rt; state.key_has_permission_to_sign_checkpoints(&carol));
     assert!(rt; !state.key_has_permission_to_sign_checkpoints(&alice));
     assert!(rt; state.public_key(&alice) == Some(&key(alloc, "alice")?));
     // Who may commit may sign checkpoints, and gives no more than that.
-    let drafts = vec![in alloc; draft("alice", 1, vec![in alloc; grant(alloc, "bob", &[Permission::Commit])?]?)]?;
+    let drafts = vec![in alloc;
+        draft(
+            "alice",
+            1,
+            vec![in alloc; grant(alloc, "bob", &[Permission::Commit])?]?
+        ),
+    ]?;
     let state = after_init(alloc, drafts)??;
     assert!(rt; state.key_has_permission_to_sign_checkpoints(&id(alloc, "bob")?));
     Ok(())
@@ -201,39 +230,112 @@ fn unlawful_records_are_refused(rt: HostRuntime) -> Result<(), Fail> {
         permissions: vec![in alloc; Permission::Commit]?,
     };
     let rows: Vec<(Draft, ValidationError)> = vec![in alloc;
-        (draft("alice", 2, vec![in alloc; grant(alloc, "carol", &[Permission::Commit])?, unknown, define(alloc, "example-namespace")?]?), ValidationError::PermissionNotFoundToRevoke {
-            permission: Permission::Commit,
-            key_id: nobody,
-        }),
-        (draft("alice", 2, vec![in alloc; define(alloc, "other-namespace")?, import(alloc, "my-namespace", "registry.alternative.com")?]?), ValidationError::NamespaceAlreadyDefined {
-            namespace: String::from_str(alloc, "my-namespace")?,
-        }),
-        (draft("alice", 2, vec![in alloc; define(alloc, "other-namespace")?, import(alloc, "my-NAMESPACE", "registry.alternative.com")?]?), ValidationError::InvalidNamespace {
-            namespace: String::from_str(alloc, "my-NAMESPACE")?,
-        }),
-        (draft("alice", 2, vec![in alloc; define(alloc, "my--namespace")?]?), ValidationError::InvalidNamespace {
-            namespace: String::from_str(alloc, "my--namespace")?,
-        }),
-        (draft("bob", 2, vec![in alloc; grant(alloc, "carol", &[Permission::DefineNamespace])?]?), ValidationError::UnauthorizedAction {
-            key_id: id(alloc, "bob")?,
-            needed_permission: Permission::DefineNamespace,
-        }),
-        (draft("bob", 2, vec![in alloc; define(alloc, "other-namespace")?]?), ValidationError::UnauthorizedAction {
-            key_id: id(alloc, "bob")?,
-            needed_permission: Permission::DefineNamespace,
-        }),
-        (draft("carol", 2, Vec::new(alloc)), ValidationError::KeyIDNotRecognized {
-            key_id: id(alloc, "carol")?,
-        }),
-        (Draft { version: 7, ..draft("alice", 2, Vec::new(alloc)) }, ValidationError::ProtocolVersionNotAllowed { version: 7 }),
-        (Draft { version: 7, link: Link::Wrong, ..draft("alice", 2, Vec::new(alloc)) }, ValidationError::RecordHashDoesNotMatch),
-        (Draft { link: Link::Missing, ..draft("alice", 2, Vec::new(alloc)) }, ValidationError::NoPreviousHashAfterInit),
-        (draft("alice", 0, Vec::new(alloc)), ValidationError::TimestampLowerThanPrevious),
+        (
+            draft(
+                "alice",
+                2,
+                vec![in alloc;
+                    grant(alloc, "carol", &[Permission::Commit])?,
+                    unknown,
+                    define(alloc, "example-namespace")?
+                ]?
+            ),
+            ValidationError::PermissionNotFoundToRevoke {
+                permission: Permission::Commit,
+                key_id: nobody,
+            }
+        ),
+        (
+            draft(
+                "alice",
+                2,
+                vec![in alloc;
+                    define(alloc, "other-namespace")?,
+                    import(alloc, "my-namespace", "registry.alternative.com")?
+                ]?
+            ),
+            ValidationError::NamespaceAlreadyDefined {
+                namespace: String::from_str(alloc, "my-namespace")?,
+            }
+        ),
+        (
+            draft(
+                "alice",
+                2,
+                vec![in alloc;
+                    define(alloc, "other-namespace")?,
+                    import(alloc, "my-NAMESPACE", "registry.alternative.com")?
+                ]?
+            ),
+            ValidationError::InvalidNamespace {
+                namespace: String::from_str(alloc, "my-NAMESPACE")?,
+            }
+        ),
+        (
+            draft("alice", 2, vec![in alloc; define(alloc, "my--namespace")?]?),
+            ValidationError::InvalidNamespace {
+                namespace: String::from_str(alloc, "my--namespace")?,
+            }
+        ),
+        (
+            draft(
+                "bob",
+                2,
+                vec![in alloc; grant(alloc, "carol", &[Permission::DefineNamespace])?]?
+            ),
+            ValidationError::UnauthorizedAction {
+                key_id: id(alloc, "bob")?,
+                needed_permission: Permission::DefineNamespace,
+            }
+        ),
+        (
+            draft("bob", 2, vec![in alloc; define(alloc, "other-namespace")?]?),
+            ValidationError::UnauthorizedAction {
+                key_id: id(alloc, "bob")?,
+                needed_permission: Permission::DefineNamespace,
+            }
+        ),
+        (
+            draft("carol", 2, Vec::new(alloc)),
+            ValidationError::KeyIDNotRecognized {
+                key_id: id(alloc, "carol")?,
+            }
+        ),
+        (
+            Draft {
+                version: 7,
+                ..draft("alice", 2, Vec::new(alloc))
+            },
+            ValidationError::ProtocolVersionNotAllowed { version: 7 }
+        ),
+        (
+            Draft {
+                version: 7,
+                link: Link::Wrong,
+                ..draft("alice", 2, Vec::new(alloc))
+            },
+            ValidationError::RecordHashDoesNotMatch
+        ),
+        (
+            Draft {
+                link: Link::Missing,
+                ..draft("alice", 2, Vec::new(alloc))
+            },
+            ValidationError::NoPreviousHashAfterInit
+        ),
+        (
+            draft("alice", 0, Vec::new(alloc)),
+            ValidationError::TimestampLowerThanPrevious
+        ),
     ]?;
     for (draft, refusal) in rows {
         let before = vec![in alloc;
             with_namespaces(alloc)?,
-            self::draft("alice", 1, vec![in alloc; grant(alloc, "bob", &[Permission::Commit])?]?),
+            self::draft(
+                "alice",
+                1,
+                vec![in alloc; grant(alloc, "bob", &[Permission::Commit])?]?
+            ),
             draft,
         ]?;
         match after_init(alloc, before)? {
@@ -248,16 +350,42 @@ fn unlawful_records_are_refused(rt: HostRuntime) -> Result<(), Fail> {
 fn unlawful_first_records_are_refused(rt: HostRuntime) -> Result<(), Fail> {
     let alloc = rt.alloc();
     let rows: Vec<(Draft, ValidationError)> = vec![in alloc;
-        (draft("alice", 1, vec![in alloc; grant(alloc, "bob", &[Permission::Commit])?]?), ValidationError::UnauthorizedAction {
-            key_id: id(alloc, "alice")?,
-            needed_permission: Permission::Commit,
-        }),
-        (draft("alice", 1, Vec::new(alloc)), ValidationError::InitialRecordDoesNotInit),
-        (draft("alice", 1, vec![in alloc; init(alloc, "alice")?, init(alloc, "alice")?]?), ValidationError::InitialEntryAfterBeginning),
-        (draft("carol", 1, vec![in alloc; init(alloc, "alice")?]?), ValidationError::KeyIDNotRecognized {
-            key_id: id(alloc, "carol")?,
-        }),
-        (Draft { link: Link::Wrong, ..draft("alice", 1, vec![in alloc; init(alloc, "alice")?]?) }, ValidationError::PreviousHashOnFirstRecord),
+        (
+            draft(
+                "alice",
+                1,
+                vec![in alloc; grant(alloc, "bob", &[Permission::Commit])?]?
+            ),
+            ValidationError::UnauthorizedAction {
+                key_id: id(alloc, "alice")?,
+                needed_permission: Permission::Commit,
+            }
+        ),
+        (
+            draft("alice", 1, Vec::new(alloc)),
+            ValidationError::InitialRecordDoesNotInit
+        ),
+        (
+            draft(
+                "alice",
+                1,
+                vec![in alloc; init(alloc, "alice")?, init(alloc, "alice")?]?
+            ),
+            ValidationError::InitialEntryAfterBeginning
+        ),
+        (
+            draft("carol", 1, vec![in alloc; init(alloc, "alice")?]?),
+            ValidationError::KeyIDNotRecognized {
+                key_id: id(alloc, "carol")?,
+            }
+        ),
+        (
+            Draft {
+                link: Link::Wrong,
+                ..draft("alice", 1, vec![in alloc; init(alloc, "alice")?]?)
+            },
+            ValidationError::PreviousHashOnFirstRecord
+        ),
     ]?;
     for (draft, refusal) in rows {
         match outcome(alloc, vec![in alloc; draft]?)? {
@@ -273,22 +401,85 @@ fn a_refusal_says_why(rt: HostRuntime) -> Result<(), Fail> {
     let alloc = rt.alloc();
     let bob = KeyID::from(String::from_str(alloc, "bob")?);
     let rows: Vec<(ValidationError, &str)> = vec![in alloc;
-        (ValidationError::FirstEntryIsNotInit, "the first entry of the log is not \"init\""),
-        (ValidationError::InitialRecordDoesNotInit, "the initial record is empty and does not \"init\""),
-        (ValidationError::KeyIDNotRecognized { key_id: bob.try_clone()? }, "the Key ID used to sign this envelope is not known to this operator log"),
-        (ValidationError::InitialEntryAfterBeginning, "a second \"init\" entry was found"),
-        (ValidationError::UnauthorizedAction { key_id: bob.try_clone()?, needed_permission: Permission::DefineNamespace }, "the key with ID bob did not have required permission defineNamespace"),
-        (ValidationError::PermissionNotFoundToRevoke { permission: Permission::Commit, key_id: bob }, "attempted to remove permission commit from key bob which did not have it"),
-        (ValidationError::from(SignatureError::Refused), "unable to verify signature: Refused"),
-        (ValidationError::IncorrectHashAlgorithm { found: HashAlgorithm::Sha256, expected: HashAlgorithm::Sha256 }, "record hash uses sha256 algorithm but sha256 was expected"),
-        (ValidationError::RecordHashDoesNotMatch, "previous record hash does not match"),
-        (ValidationError::PreviousHashOnFirstRecord, "the first record contained a previous hash value"),
-        (ValidationError::NoPreviousHashAfterInit, "non-initial record contained no previous hash"),
-        (ValidationError::ProtocolVersionNotAllowed { version: 7 }, "protocol version 7 not allowed"),
-        (ValidationError::TimestampLowerThanPrevious, "record has lower timestamp than previous"),
-        (ValidationError::InvalidNamespace { namespace: String::from_str(alloc, "A")? }, "the namespace `A` is invalid; namespace must be a lowercased kebab case string"),
-        (ValidationError::NamespaceAlreadyDefined { namespace: String::from_str(alloc, "a")? }, "the namespace `a` is already defined and cannot be redefined"),
-        (ValidationError::from(SignatureError::OutOfMemory), "OutOfMemory"),
+        (
+            ValidationError::FirstEntryIsNotInit,
+            "the first entry of the log is not \"init\""
+        ),
+        (
+            ValidationError::InitialRecordDoesNotInit,
+            "the initial record is empty and does not \"init\""
+        ),
+        (
+            ValidationError::KeyIDNotRecognized {
+                key_id: bob.try_clone()?
+            },
+            "the Key ID used to sign this envelope is not known to this operator log"
+        ),
+        (
+            ValidationError::InitialEntryAfterBeginning,
+            "a second \"init\" entry was found"
+        ),
+        (
+            ValidationError::UnauthorizedAction {
+                key_id: bob.try_clone()?,
+                needed_permission: Permission::DefineNamespace
+            },
+            "the key with ID bob did not have required permission defineNamespace"
+        ),
+        (
+            ValidationError::PermissionNotFoundToRevoke {
+                permission: Permission::Commit,
+                key_id: bob
+            },
+            "attempted to remove permission commit from key bob which did not have it"
+        ),
+        (
+            ValidationError::from(SignatureError::Refused),
+            "unable to verify signature: Refused"
+        ),
+        (
+            ValidationError::IncorrectHashAlgorithm {
+                found: HashAlgorithm::Sha256,
+                expected: HashAlgorithm::Sha256
+            },
+            "record hash uses sha256 algorithm but sha256 was expected"
+        ),
+        (
+            ValidationError::RecordHashDoesNotMatch,
+            "previous record hash does not match"
+        ),
+        (
+            ValidationError::PreviousHashOnFirstRecord,
+            "the first record contained a previous hash value"
+        ),
+        (
+            ValidationError::NoPreviousHashAfterInit,
+            "non-initial record contained no previous hash"
+        ),
+        (
+            ValidationError::ProtocolVersionNotAllowed { version: 7 },
+            "protocol version 7 not allowed"
+        ),
+        (
+            ValidationError::TimestampLowerThanPrevious,
+            "record has lower timestamp than previous"
+        ),
+        (
+            ValidationError::InvalidNamespace {
+                namespace: String::from_str(alloc, "A")?
+            },
+            "the namespace `A` is invalid; namespace must be a lowercased kebab case string"
+        ),
+        (
+            ValidationError::NamespaceAlreadyDefined {
+                namespace: String::from_str(alloc, "a")?
+            },
+            "the namespace `a` is already defined and cannot be redefined"
+        ),
+        (
+            ValidationError::from(SignatureError::OutOfMemory),
+            "OutOfMemory"
+        ),
     ]?;
     for (error, text) in rows {
         let shown = error.to_string(alloc)?;

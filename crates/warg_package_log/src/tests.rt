@@ -150,11 +150,17 @@ fn a_log_begins(rt: HostRuntime) -> Result<(), Fail> {
         return Err(Fail::new("no head"));
     };
     let mut message = Vec::from_slice(alloc, b"WARG-PACKAGE-LOG-RECORD-V0:")?;
-    message.extend_from_slice(b"\x1a\x02\x08\x01\x22\x18\x0a\x16\x0a\x0ctoy:YWxpY2U=\x12\x06sha256")?;
+    message.extend_from_slice(
+        b"\x1a\x02\x08\x01\x22\x18\x0a\x16\x0a\x0ctoy:YWxpY2U=\x12\x06sha256",
+    )?;
     assert!(rt; AnyHash::from(head.digest) == HashAlgorithm::Sha256.digest(message.as_slice()));
     assert!(rt; head.timestamp == Timestamp::new(1, 0));
     assert!(rt; state.public_key(&alice) == Some(&key(alloc, "alice")?));
-    assert!(rt; state.key_permissions(&alice).is_some_and(|set| set.len() == 2));
+    assert!(rt;
+        state
+            .key_permissions(&alice)
+            .is_some_and(|set| set.len() == 2)
+    );
     assert!(rt; state.key_permissions(&id(alloc, "bob")?).is_none());
     assert!(rt; state.releases().next().is_none());
     Ok(())
@@ -162,8 +168,16 @@ fn a_log_begins(rt: HostRuntime) -> Result<(), Fail> {
 
 fn bob_releases(alloc: Global) -> Result<Vec<Draft>, Fail> {
     Ok(vec![in alloc;
-        draft("alice", 1, vec![in alloc; init(alloc, "alice")?, grant(alloc, "bob", &ALL)?]?),
-        draft("bob", 2, vec![in alloc; release(alloc, "1.1.0", &[0, 1, 2, 3])?]?),
+        draft(
+            "alice",
+            1,
+            vec![in alloc; init(alloc, "alice")?, grant(alloc, "bob", &ALL)?]?
+        ),
+        draft(
+            "bob",
+            2,
+            vec![in alloc; release(alloc, "1.1.0", &[0, 1, 2, 3])?]?
+        ),
     ]?)
 }
 
@@ -172,7 +186,10 @@ fn a_release_stands_until_it_is_yanked(rt: HostRuntime) -> Result<(), Fail> {
     let alloc = rt.alloc();
     let version = Version::parse(alloc, "1.1.0")?;
     let content = HashAlgorithm::Sha256.digest(&[0, 1, 2, 3]);
-    let (any, later) = (VersionReq::parse(alloc, "~1")?, VersionReq::parse(alloc, "~1.2")?);
+    let (any, later) = (
+        VersionReq::parse(alloc, "~1")?,
+        VersionReq::parse(alloc, "~1.2")?,
+    );
     let state = outcome(alloc, bob_releases(alloc)?)??;
     let Some(found) = state.find_latest_release(&any) else {
         return Err(Fail::new("no release"));
@@ -185,7 +202,11 @@ fn a_release_stands_until_it_is_yanked(rt: HostRuntime) -> Result<(), Fail> {
     assert!(rt; state.find_latest_release(&later).is_none());
     let record_id = found.record_id;
     let mut drafts = bob_releases(alloc)?;
-    drafts.push(draft("alice", 3, vec![in alloc; revoke(alloc, "bob", &ALL)?, yank(alloc, "1.1.0")?]?))?;
+    drafts.push(draft(
+        "alice",
+        3,
+        vec![in alloc; revoke(alloc, "bob", &ALL)?, yank(alloc, "1.1.0")?]?,
+    ))?;
     let state = outcome(alloc, drafts)??;
     assert!(rt; state.find_latest_release(&any).is_none());
     let yanked = Release {
@@ -202,7 +223,11 @@ fn a_release_stands_until_it_is_yanked(rt: HostRuntime) -> Result<(), Fail> {
     let mut releases = state.releases();
     assert!(rt; releases.next() == Some(&yanked));
     assert!(rt; releases.next().is_none());
-    assert!(rt; state.key_permissions(&id(alloc, "bob")?).is_some_and(|set| set.len() == 0));
+    assert!(rt;
+        state
+            .key_permissions(&id(alloc, "bob")?)
+            .is_some_and(|set| set.len() == 0)
+    );
     assert!(rt; state.try_clone()? == state);
     Ok(())
 }
@@ -222,11 +247,19 @@ fn the_latest_release_is_the_greatest(rt: HostRuntime) -> Result<(), Fail> {
         }
         let state = after_init(alloc, vec![in alloc; draft("alice", 1, entries)]?)??;
         let latest = Version::parse(alloc, latest)?;
-        assert!(rt; state.find_latest_release(&any).is_some_and(|found| found.version == latest));
+        assert!(rt;
+            state
+                .find_latest_release(&any)
+                .is_some_and(|found| found.version == latest)
+        );
         let mut releases = state.releases();
         for version in versions {
             let version = Version::parse(alloc, version)?;
-            assert!(rt; releases.next().is_some_and(|release| release.version == version));
+            assert!(rt;
+                releases
+                    .next()
+                    .is_some_and(|release| release.version == version)
+            );
         }
         assert!(rt; releases.next().is_none());
     }
@@ -237,21 +270,42 @@ fn the_latest_release_is_the_greatest(rt: HostRuntime) -> Result<(), Fail> {
 fn lawful_records_are_accepted(rt: HostRuntime) -> Result<(), Fail> {
     let alloc = rt.alloc();
     // A stranger may grant an own key nothing.
-    let state = after_init(alloc, vec![in alloc; draft("mallory", 1, vec![in alloc; grant(alloc, "mallory", &[])?]?)]?)??;
+    let state = after_init(
+        alloc,
+        vec![in alloc; draft("mallory", 1, vec![in alloc; grant(alloc, "mallory", &[])?]?)]?,
+    )??;
     let mallory = id(alloc, "mallory")?;
     assert!(rt; state.public_key(&mallory) == Some(&key(alloc, "mallory")?));
-    assert!(rt; state.key_permissions(&mallory).is_some_and(|set| set.len() == 0));
+    assert!(rt;
+        state
+            .key_permissions(&mallory)
+            .is_some_and(|set| set.len() == 0)
+    );
     // Who holds release alone keeps it, and an equal time passes, with no entries too.
-    let state = after_init(alloc, vec![in alloc;
-        draft("alice", 5, vec![in alloc; revoke(alloc, "alice", &[Permission::Yank])?]?),
-        draft("alice", 5, Vec::new(alloc)),
-    ]?)??;
+    let state = after_init(
+        alloc,
+        vec![in alloc;
+            draft(
+                "alice",
+                5,
+                vec![in alloc; revoke(alloc, "alice", &[Permission::Yank])?]?
+            ),
+            draft("alice", 5, Vec::new(alloc)),
+        ]?,
+    )??;
     let alice = id(alloc, "alice")?;
     let Some(permissions) = state.key_permissions(&alice) else {
         return Err(Fail::new("no permissions"));
     };
-    assert!(rt; permissions.contains(&Permission::Release) && !permissions.contains(&Permission::Yank));
-    assert!(rt; state.head().as_ref().is_some_and(|head| head.timestamp == Timestamp::new(5, 0)));
+    assert!(rt;
+        permissions.contains(&Permission::Release) && !permissions.contains(&Permission::Yank)
+    );
+    assert!(rt;
+        state
+            .head()
+            .as_ref()
+            .is_some_and(|head| head.timestamp == Timestamp::new(5, 0))
+    );
     Ok(())
 }
 
@@ -265,35 +319,116 @@ fn unlawful_records_are_refused(rt: HostRuntime) -> Result<(), Fail> {
         permissions: vec![in alloc; Permission::Release]?,
     };
     let rows: Vec<(Draft, ValidationError)> = vec![in alloc;
-        (draft("alice", 1, vec![in alloc; grant(alloc, "bob", &[Permission::Release])?, unknown]?), ValidationError::PermissionNotFoundToRevoke {
-            permission: Permission::Release,
-            key_id: nobody,
-        }),
-        (draft("alice", 1, vec![in alloc; grant(alloc, "bob", &[Permission::Release])?, revoke(alloc, "bob", &[Permission::Release, Permission::Release])?]?), ValidationError::PermissionNotFoundToRevoke {
-            permission: Permission::Release,
-            key_id: id(alloc, "bob")?,
-        }),
-        (draft("alice", 1, vec![in alloc; revoke(alloc, "alice", &[Permission::Yank])?, grant(alloc, "bob", &[Permission::Yank])?]?), ValidationError::UnauthorizedAction {
-            key_id: id(alloc, "alice")?,
-            needed_permission: Permission::Yank,
-        }),
-        (draft("alice", 1, vec![in alloc; init(alloc, "alice")?]?), ValidationError::InitialEntryAfterBeginning),
-        (draft("alice", 1, vec![in alloc; release(alloc, "1.0.0", b"")?, yank(alloc, "1.0.0")?, release(alloc, "1.0.0", b"")?]?), ValidationError::ReleaseOfReleased {
-            version: one.clone()?,
-        }),
-        (draft("alice", 1, vec![in alloc; yank(alloc, "1.0.0")?]?), ValidationError::YankOfUnreleased {
-            version: one.clone()?,
-        }),
-        (draft("alice", 1, vec![in alloc; release(alloc, "1.0.0", b"")?, yank(alloc, "1.0.0")?, yank(alloc, "1.0.0")?]?), ValidationError::YankOfYanked {
-            version: one,
-        }),
-        (Draft { version: 7, ..draft("alice", 1, Vec::new(alloc)) }, ValidationError::ProtocolVersionNotAllowed { version: 7 }),
-        (Draft { version: 7, link: Link::Wrong, ..draft("alice", 1, Vec::new(alloc)) }, ValidationError::RecordHashDoesNotMatch),
-        (Draft { link: Link::Missing, ..draft("alice", 1, Vec::new(alloc)) }, ValidationError::NoPreviousHashAfterInit),
-        (Draft { timestamp: Timestamp::new(0, 999_999_999), ..draft("alice", 1, Vec::new(alloc)) }, ValidationError::TimestampLowerThanPrevious),
-        (draft("carol", 1, Vec::new(alloc)), ValidationError::KeyIDNotRecognized {
-            key_id: id(alloc, "carol")?,
-        }),
+        (
+            draft(
+                "alice",
+                1,
+                vec![in alloc; grant(alloc, "bob", &[Permission::Release])?, unknown]?
+            ),
+            ValidationError::PermissionNotFoundToRevoke {
+                permission: Permission::Release,
+                key_id: nobody,
+            }
+        ),
+        (
+            draft(
+                "alice",
+                1,
+                vec![in alloc;
+                    grant(alloc, "bob", &[Permission::Release])?,
+                    revoke(alloc, "bob", &[Permission::Release, Permission::Release])?
+                ]?
+            ),
+            ValidationError::PermissionNotFoundToRevoke {
+                permission: Permission::Release,
+                key_id: id(alloc, "bob")?,
+            }
+        ),
+        (
+            draft(
+                "alice",
+                1,
+                vec![in alloc;
+                    revoke(alloc, "alice", &[Permission::Yank])?,
+                    grant(alloc, "bob", &[Permission::Yank])?
+                ]?
+            ),
+            ValidationError::UnauthorizedAction {
+                key_id: id(alloc, "alice")?,
+                needed_permission: Permission::Yank,
+            }
+        ),
+        (
+            draft("alice", 1, vec![in alloc; init(alloc, "alice")?]?),
+            ValidationError::InitialEntryAfterBeginning
+        ),
+        (
+            draft(
+                "alice",
+                1,
+                vec![in alloc;
+                    release(alloc, "1.0.0", b"")?,
+                    yank(alloc, "1.0.0")?,
+                    release(alloc, "1.0.0", b"")?
+                ]?
+            ),
+            ValidationError::ReleaseOfReleased {
+                version: one.clone()?,
+            }
+        ),
+        (
+            draft("alice", 1, vec![in alloc; yank(alloc, "1.0.0")?]?),
+            ValidationError::YankOfUnreleased {
+                version: one.clone()?,
+            }
+        ),
+        (
+            draft(
+                "alice",
+                1,
+                vec![in alloc;
+                    release(alloc, "1.0.0", b"")?,
+                    yank(alloc, "1.0.0")?,
+                    yank(alloc, "1.0.0")?
+                ]?
+            ),
+            ValidationError::YankOfYanked { version: one, }
+        ),
+        (
+            Draft {
+                version: 7,
+                ..draft("alice", 1, Vec::new(alloc))
+            },
+            ValidationError::ProtocolVersionNotAllowed { version: 7 }
+        ),
+        (
+            Draft {
+                version: 7,
+                link: Link::Wrong,
+                ..draft("alice", 1, Vec::new(alloc))
+            },
+            ValidationError::RecordHashDoesNotMatch
+        ),
+        (
+            Draft {
+                link: Link::Missing,
+                ..draft("alice", 1, Vec::new(alloc))
+            },
+            ValidationError::NoPreviousHashAfterInit
+        ),
+        (
+            Draft {
+                timestamp: Timestamp::new(0, 999_999_999),
+                ..draft("alice", 1, Vec::new(alloc))
+            },
+            ValidationError::TimestampLowerThanPrevious
+        ),
+        (
+            draft("carol", 1, Vec::new(alloc)),
+            ValidationError::KeyIDNotRecognized {
+                key_id: id(alloc, "carol")?,
+            }
+        ),
     ]?;
     for (draft, refusal) in rows {
         match after_init(alloc, vec![in alloc; draft]?)? {
@@ -308,17 +443,46 @@ fn unlawful_records_are_refused(rt: HostRuntime) -> Result<(), Fail> {
 fn unlawful_first_records_are_refused(rt: HostRuntime) -> Result<(), Fail> {
     let alloc = rt.alloc();
     let rows: Vec<(Draft, ValidationError)> = vec![in alloc;
-        (draft("alice", 1, vec![in alloc; release(alloc, "1.0.0", b"")?]?), ValidationError::UnauthorizedAction {
-            key_id: id(alloc, "alice")?,
-            needed_permission: Permission::Release,
-        }),
-        (draft("alice", 1, vec![in alloc; grant(alloc, "bob", &[Permission::Release])?]?), ValidationError::FirstEntryIsNotInit),
-        (draft("alice", 1, Vec::new(alloc)), ValidationError::InitialRecordDoesNotInit),
-        (draft("alice", 1, vec![in alloc; init(alloc, "alice")?, init(alloc, "alice")?]?), ValidationError::InitialEntryAfterBeginning),
-        (draft("carol", 1, vec![in alloc; init(alloc, "alice")?]?), ValidationError::KeyIDNotRecognized {
-            key_id: id(alloc, "carol")?,
-        }),
-        (Draft { link: Link::Wrong, ..draft("alice", 1, vec![in alloc; init(alloc, "alice")?]?) }, ValidationError::PreviousHashOnFirstRecord),
+        (
+            draft("alice", 1, vec![in alloc; release(alloc, "1.0.0", b"")?]?),
+            ValidationError::UnauthorizedAction {
+                key_id: id(alloc, "alice")?,
+                needed_permission: Permission::Release,
+            }
+        ),
+        (
+            draft(
+                "alice",
+                1,
+                vec![in alloc; grant(alloc, "bob", &[Permission::Release])?]?
+            ),
+            ValidationError::FirstEntryIsNotInit
+        ),
+        (
+            draft("alice", 1, Vec::new(alloc)),
+            ValidationError::InitialRecordDoesNotInit
+        ),
+        (
+            draft(
+                "alice",
+                1,
+                vec![in alloc; init(alloc, "alice")?, init(alloc, "alice")?]?
+            ),
+            ValidationError::InitialEntryAfterBeginning
+        ),
+        (
+            draft("carol", 1, vec![in alloc; init(alloc, "alice")?]?),
+            ValidationError::KeyIDNotRecognized {
+                key_id: id(alloc, "carol")?,
+            }
+        ),
+        (
+            Draft {
+                link: Link::Wrong,
+                ..draft("alice", 1, vec![in alloc; init(alloc, "alice")?]?)
+            },
+            ValidationError::PreviousHashOnFirstRecord
+        ),
     ]?;
     for (draft, refusal) in rows {
         match outcome(alloc, vec![in alloc; draft]?)? {
@@ -335,23 +499,89 @@ fn a_refusal_says_why(rt: HostRuntime) -> Result<(), Fail> {
     let bob = KeyID::from(String::from_str(alloc, "bob")?);
     let version = Version::parse(alloc, "1.0.0")?;
     let rows: Vec<(ValidationError, &str)> = vec![in alloc;
-        (ValidationError::FirstEntryIsNotInit, "the first entry of the log is not \"init\""),
-        (ValidationError::InitialRecordDoesNotInit, "the initial record is empty and does not \"init\""),
-        (ValidationError::KeyIDNotRecognized { key_id: bob.try_clone()? }, "the Key ID used to sign this envelope is not known to this package log"),
-        (ValidationError::InitialEntryAfterBeginning, "a second \"init\" entry was found"),
-        (ValidationError::UnauthorizedAction { key_id: bob.try_clone()?, needed_permission: Permission::Release }, "the key with ID bob did not have required permission release"),
-        (ValidationError::PermissionNotFoundToRevoke { permission: Permission::Yank, key_id: bob }, "attempted to remove permission yank from key bob which did not have it"),
-        (ValidationError::from(SignatureError::Refused), "unable to verify signature"),
-        (ValidationError::IncorrectHashAlgorithm { found: HashAlgorithm::Sha256, expected: HashAlgorithm::Sha256 }, "record hash uses sha256 algorithm but sha256 was expected"),
-        (ValidationError::RecordHashDoesNotMatch, "previous record hash does not match"),
-        (ValidationError::PreviousHashOnFirstRecord, "the first record contained a previous hash value"),
-        (ValidationError::NoPreviousHashAfterInit, "non-initial record contained no previous hash"),
-        (ValidationError::ProtocolVersionNotAllowed { version: 7 }, "protocol version 7 not allowed"),
-        (ValidationError::TimestampLowerThanPrevious, "record has lower timestamp than previous"),
-        (ValidationError::ReleaseOfReleased { version: version.clone()? }, "an entry attempted to release version 1.0.0 which is already released"),
-        (ValidationError::YankOfUnreleased { version: version.clone()? }, "an entry attempted to yank version 1.0.0 which had not yet been released"),
-        (ValidationError::YankOfYanked { version }, "an entry attempted to yank version 1.0.0 which is already yanked"),
-        (ValidationError::from(SignatureError::OutOfMemory), "OutOfMemory"),
+        (
+            ValidationError::FirstEntryIsNotInit,
+            "the first entry of the log is not \"init\""
+        ),
+        (
+            ValidationError::InitialRecordDoesNotInit,
+            "the initial record is empty and does not \"init\""
+        ),
+        (
+            ValidationError::KeyIDNotRecognized {
+                key_id: bob.try_clone()?
+            },
+            "the Key ID used to sign this envelope is not known to this package log"
+        ),
+        (
+            ValidationError::InitialEntryAfterBeginning,
+            "a second \"init\" entry was found"
+        ),
+        (
+            ValidationError::UnauthorizedAction {
+                key_id: bob.try_clone()?,
+                needed_permission: Permission::Release
+            },
+            "the key with ID bob did not have required permission release"
+        ),
+        (
+            ValidationError::PermissionNotFoundToRevoke {
+                permission: Permission::Yank,
+                key_id: bob
+            },
+            "attempted to remove permission yank from key bob which did not have it"
+        ),
+        (
+            ValidationError::from(SignatureError::Refused),
+            "unable to verify signature"
+        ),
+        (
+            ValidationError::IncorrectHashAlgorithm {
+                found: HashAlgorithm::Sha256,
+                expected: HashAlgorithm::Sha256
+            },
+            "record hash uses sha256 algorithm but sha256 was expected"
+        ),
+        (
+            ValidationError::RecordHashDoesNotMatch,
+            "previous record hash does not match"
+        ),
+        (
+            ValidationError::PreviousHashOnFirstRecord,
+            "the first record contained a previous hash value"
+        ),
+        (
+            ValidationError::NoPreviousHashAfterInit,
+            "non-initial record contained no previous hash"
+        ),
+        (
+            ValidationError::ProtocolVersionNotAllowed { version: 7 },
+            "protocol version 7 not allowed"
+        ),
+        (
+            ValidationError::TimestampLowerThanPrevious,
+            "record has lower timestamp than previous"
+        ),
+        (
+            ValidationError::ReleaseOfReleased {
+                version: version.clone()?
+            },
+            "an entry attempted to release version 1.0.0 which is already released"
+        ),
+        (
+            ValidationError::YankOfUnreleased {
+                version: version.clone()?
+            },
+            "an entry attempted to yank version 1.0.0 which had not yet been released"
+        ),
+        (
+            ValidationError::YankOfYanked { version },
+            "an entry attempted to yank version 1.0.0 which is already yanked"
+        ),
+        (
+            ValidationError::from(SignatureError::OutOfMemory),
+            "OutOfMemory"
+        ),
     ]?;
     for (error, text) in rows {
         let shown = error.to_string(alloc)?;

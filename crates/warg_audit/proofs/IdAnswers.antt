@@ -1,0 +1,95 @@
+-- The answers to an input, by what was found of its lines.
+use Rattle.std.proofs.Common.{◌≡◌, ◌≢◌, ◌<◌, ◌≤◌, ◌⊎◌, ℕ, Bool, true, false, cond, List, [], ◌∷◌, ◌++◌, length, codes, refl, sym, ◌∙◌, ap, arith, append_assoc, zero, suc, inl, inr, Option, Some, None, IfSome, IfOk, Result, Ok, IsErr}
+use Rattle.std.specs.Io.KnownBytes.{Appends}
+use Rattle.warg_audit.specs.declared.command.Kind.{Kind}
+use Rattle.warg_audit.specs.declared.command.Command.{Command}
+use Rattle.warg_audit.specs.Commands.{command_of}
+use Rattle.warg_audit.specs.Lines.{lines_of, string_of, AreLines, is_line_feed, onto}
+use Rattle.warg_audit.specs.Answers.{IsEnvelopeAnswer, has_fault, IsIdAnswer, no_line, bad_digits, second_line, one_line, IsCommandAnswer, IsAnswer, other_words, over_limit, of_lines}
+use Rattle.warg_audit.specs.Printed.{Printed, usage, too_long, bad_line, refused, read_fault, out_of_memory}
+use Rattle.warg_audit.specs.Names.{wire_name}
+use Rattle.warg_protobuf.specs.Envelope.{envelope_table}
+use Rattle.warg_protobuf.specs.Table.{HasFault}
+use Rattle.warg_protobuf.specs.declared.error.WireError.{WireError}
+use Rattle.warg_protobuf.specs.declared.error.WireError.TheVariants.{OutOfMemory}
+use Rattle.warg_audit.specs.Replies.{IsReply, answer, unread, starved, IsPrinted, IsAnswered, IsTrouble}
+use Rattle.warg_audit.proofs.LineLemmas.{lines_of-are}
+
+-- ---- the lines behind the first one
+
+no_more : (text : List ℕ) → length text ≡ 0 → lines_of text ≡ []
+no_more [] e = refl
+no_more (b ∷ rest) e = absurd (omega arith)
+
+first_of_onto : (b : ℕ) (lines : List (List ℕ)) → (next : List ℕ) × (more : List (List ℕ)) × (onto b lines ≡ next ∷ more)
+first_of_onto b [] = (b ∷ [], [], refl)
+first_of_onto b (line ∷ more) = (b ∷ line, more, refl)
+
+first_of_step : (ends : Bool) (b : ℕ) (lines : List (List ℕ)) → (next : List ℕ) × (more : List (List ℕ)) × (cond ends ([] ∷ lines) (onto b lines) ≡ next ∷ more)
+first_of_step true b lines = ([], lines, refl)
+first_of_step false b lines = first_of_onto b lines
+
+more_lines : (text : List ℕ) → 0 < length text → (next : List ℕ) × (more : List (List ℕ)) × (lines_of text ≡ next ∷ more)
+more_lines [] h = absurd (omega arith)
+more_lines (b ∷ rest) h = first_of_step (is_line_feed b) b (lines_of rest)
+
+-- ---- the answer to an input, by its first line and what stands behind it
+
+module _ (kind : Kind) (text line more : List ℕ) (printed : Printed) where
+  pub empty_text : length text ≡ 0 → printed ≡ bad_line 0 → IsIdAnswer kind (lines_of text) printed
+  empty_text e is = no_line (no_more text e) is
+
+  pub bad_first : lines_of text ≡ line ∷ lines_of more → IsErr (string_of line) → printed ≡ bad_line 0 → IsIdAnswer kind (lines_of text) printed
+  bad_first cut bad is = bad_digits line (lines_of more) cut bad is
+
+  pub line_behind : (bytes : List ℕ) → lines_of text ≡ line ∷ lines_of more → string_of line ≡ Ok bytes → 0 < length more → printed ≡ bad_line 1 → IsIdAnswer kind (lines_of text) printed
+  line_behind bytes cut good some is =
+      let next = more_lines more some in
+      second_line line bytes next.0 next.1 (cut ∙ ap (λ lines. line ∷ lines) next.2) good is
+
+  pub only_line : (bytes : List ℕ) → lines_of text ≡ line ∷ lines_of more → string_of line ≡ Ok bytes → length more ≡ 0 → IsEnvelopeAnswer kind bytes printed → IsIdAnswer kind (lines_of text) printed
+  only_line bytes cut good none is = one_line line bytes (cut ∙ ap (λ lines. line ∷ lines) (no_more more none)) good is
+
+pub of_fault : (kind : Kind) (bytes : List ℕ) (printed : Printed) (fault : WireError) → (fault ≢ OutOfMemory → HasFault envelope_table bytes fault)
+    → (fault ≢ OutOfMemory) × (printed ≡ refused 0 (codes "ProtobufEnvelope." ++ wire_name fault)) → IsEnvelopeAnswer kind bytes printed
+of_fault kind bytes printed fault has is = has_fault fault (has is.0) is.1
+
+-- ---- a list longer than any number
+
+long_list : (n : ℕ) → (bytes : List ℕ) × (n < length bytes)
+long_list zero = (0 ∷ [], omega arith)
+long_list (suc n) = let more = long_list n in (0 ∷ more.0, omega (arith, more.1))
+
+-- ---- replies
+
+module _ (words : List (List ℕ)) (Failed : Type 0) (printed : Printed) where
+  pub usage_reply : (told : Option (List ℕ)) → command_of words ≡ None → printed ≡ usage → IsReply words told Failed printed
+  usage_reply (Some all) none e = answer all refl (other_words none e)
+  usage_reply None none e = answer [] tt (other_words none e)
+
+  pub long_reply : (told : Option (List ℕ)) (command : Command) → command_of words ≡ Some command → IfSome told (λ bytes. 16_777_216 < length bytes)
+      → printed ≡ too_long → IsReply words told Failed printed
+  long_reply (Some all) command is h e = answer all refl (over_limit command is h e)
+  long_reply None command is h e = let long = long_list 16_777_216 in answer long.0 tt (over_limit command is long.1 e)
+
+  pub lines_reply : (told : Option (List ℕ)) (command : Command) (bytes : List ℕ) → command_of words ≡ Some command → IfSome told (λ all. all ≡ bytes)
+      → length bytes ≤ 16_777_216 → IsCommandAnswer command (lines_of bytes) printed → IsReply words told Failed printed
+  lines_reply told command bytes is are short found = answer bytes are (of_lines command (lines_of bytes) is short (lines_of-are bytes) found)
+
+-- ---- what was written of a reply
+
+module _ (words : List (List ℕ)) (told before after : Option (List ℕ)) (Failed : Type 0) (printed : Printed) (status : ℕ) where
+  pub answered_by : IsReply words told Failed printed → status ≡ printed.status → Appends before after printed.text → status ≢ 3 → IsAnswered words told before after status
+  answered_by (answer bytes are is) same wrote other = record { bytes = bytes; are_told = are; printed = printed; is_answer = is; is_printed = record { status_is = same; text_is = wrote } }
+  answered_by (unread failed is) same wrote other = absurd (other (same ∙ ap (λ (p : Printed). p.status) is))
+  answered_by (starved is) same wrote other = absurd (other (same ∙ ap (λ (p : Printed). p.status) is))
+
+-- ---- the text of a refusal
+
+regroup : (a b c d e : List ℕ) → a ++ (b ++ (c ++ (d ++ e))) ≡ a ++ b ++ c ++ d ++ e
+regroup a b c d e = sym (simp append_assoc)
+
+pub refusal_text : (index_text name shown text : List ℕ) → text ≡ codes "refused " ++ (index_text ++ (codes " ProtobufEnvelope." ++ (shown ++ codes "\n"))) → shown ≡ name
+    → text ≡ codes "refused " ++ index_text ++ codes " " ++ (codes "ProtobufEnvelope." ++ name) ++ codes "\n"
+refusal_text index_text name shown text e s =
+    e ∙ rw s (regroup (codes "refused ") index_text (codes " ") (codes "ProtobufEnvelope." ++ name) (codes "\n"))

@@ -1,0 +1,12 @@
+pub mod Commands
+pub mod Lines
+pub mod Names
+pub mod Printed
+pub mod LogAnswers
+pub mod ErrorNames
+pub mod ReleaseLines
+pub mod Kinds
+pub mod Answers
+pub mod Pieces
+pub mod Replies
+pub mod Meters

@@ -1,0 +1,42 @@
+-- What is printed by a reader and a writer that may fail.
+use Rattle.std.specs.Prelude.{◌≡◌, ◌⊎◌, ℕ, Bool, true, false, List, Option, IfSome, string_bytes}
+use Rattle.std.specs.Io.KnownBytes.{Appends}
+use Rattle.warg_audit.specs.declared.reply.Text.{Text}
+use Rattle.warg_audit.specs.declared.reply.Text.TheVariants.{Made, Fixed}
+use Rattle.warg_audit.specs.declared.reply.Reply.{Reply}
+use Rattle.warg_audit.specs.Answers.{IsAnswer}
+use Rattle.warg_audit.specs.Printed.{Printed, read_fault, out_of_memory}
+
+abbrev pub text_of : Text → List ℕ
+text_of (Made text) = string_bytes text
+text_of (Fixed text) = text.now
+
+-- a reply as plain data
+abbrev pub printed_of : Reply → Printed
+printed_of reply = record { text = text_of reply.text; status = reply.status }
+
+-- The reply to words, of a reader that has these bytes left if it tells them: the answer to its
+-- bytes; or the line that tells of a failed read; or the line that tells of refused memory.
+pub data IsReply (words : List (List ℕ)) (told : Option (List ℕ)) (ReadFailed : Type 0) (printed : Printed) : Type 0 where
+  answer : (bytes : List ℕ) → IfSome told (λ all. all ≡ bytes) → IsAnswer words bytes printed → IsReply words told ReadFailed printed
+  unread : ReadFailed → printed ≡ read_fault → IsReply words told ReadFailed printed
+  starved : printed ≡ out_of_memory → IsReply words told ReadFailed printed
+
+-- this was printed whole, by a writer that holds these bytes before and after if it tells them, and its status given
+pub record IsPrinted (before after : Option (List ℕ)) (status : ℕ) (printed : Printed) : Type 0 where
+  pub status_is : status ≡ printed.status
+  pub text_is : Appends before after printed.text
+
+-- the answer was printed whole
+pub record IsAnswered (words : List (List ℕ)) (told before after : Option (List ℕ)) (status : ℕ) : Type 0 where
+  pub bytes : List ℕ
+  pub are_told : IfSome told (λ all. all ≡ bytes)
+  pub printed : Printed
+  pub is_answer : IsAnswer words bytes printed
+  pub is_printed : IsPrinted before after status printed
+
+-- why there is status 3
+pub data IsTrouble (before after : Option (List ℕ)) (ReadFailed WriteFailed : Type 0) : Type 0 where
+  unread : ReadFailed → Appends before after read_fault.text → IsTrouble before after ReadFailed WriteFailed
+  starved : Appends before after out_of_memory.text → IsTrouble before after ReadFailed WriteFailed
+  unwritten : WriteFailed → IsTrouble before after ReadFailed WriteFailed

@@ -1,0 +1,23 @@
+//! Laws of the definitions, as functions that do nothing.
+
+ghost use Rattle.std.specs.Prelude.{◌≡◌, ℕ, List};
+ghost use Rattle.warg_audit.specs.Answers.{IsIdAnswer, id_answer};
+ghost use Rattle.warg_audit.specs.declared.command.Kind.{Kind};
+ghost use Rattle.warg_audit.specs.Printed.{Printed};
+ghost use Rattle.warg_audit.specs.Lines.{AreLines, lines_of};
+
+use warg_protobuf::laws::decoding_computes;
+
+/// Each text has lines, and no other ones.
+pub fn one_list_of_lines()
+    ensures some { (text : List ℕ) → AreLines text (lines_of text) }
+    ensures only { (text : List ℕ) (lines : List (List ℕ)) → AreLines text lines → lines ≡ lines_of text }
+{}
+
+/// Lines of which an id is asked have an answer, and no other one.
+pub fn one_id_answer()
+    ensures some { (kind : Kind) (lines : List (List ℕ)) → IsIdAnswer kind lines (id_answer kind lines) }
+    ensures only { (kind : Kind) (lines : List (List ℕ)) (printed : Printed) → IsIdAnswer kind lines printed → printed ≡ id_answer kind lines }
+{
+    decoding_computes();
+}

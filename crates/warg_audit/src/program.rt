@@ -1,0 +1,83 @@
+//! The program as a function of its words, its reader and its writer.
+
+ghost use Rattle.std.specs.Prelude.{◌≡◌, ◌≢◌, ◌⊎◌, map, string_bytes, IfOk, Some, None};
+ghost use Rattle.std.specs.Io.KnownBytes.{Appends};
+ghost use Rattle.warg_audit.specs.Answers.{IsCommandAnswer};
+ghost use Rattle.warg_audit.specs.Printed.{usage};
+ghost use Rattle.warg_audit.specs.Commands.{command_of};
+ghost use Rattle.warg_audit.specs.Lines.{lines_of};
+ghost use Rattle.warg_audit.specs.Meters.{left, held, ReadsWithin, ReadFailed, WriteFailed};
+ghost use Rattle.warg_audit.specs.Replies.{printed_of, IsReply, IsPrinted, IsAnswered, IsTrouble};
+
+use crate::command::{Command, Kind, parse_command};
+use crate::identify::id_reply;
+use crate::input::Input;
+use crate::log::log_reply;
+use crate::output::Output;
+use crate::reading::{InputError, read_all};
+use crate::reply::Reply;
+use std::alloc::{AllocError, Global};
+use std::io::{Read, Write};
+
+/// What is printed for words that ask for nothing.
+pub const USAGE: &str = "usage: warg_audit [id] package|operator\n";
+
+/// What is printed where memory is refused.
+pub const OUT_OF_MEMORY: &str = "out of memory\n";
+
+// The answer to an input of no more than the limit.
+fn command_reply(alloc: Global, command: Command, bytes: &[u8]) -> Result<Reply, AllocError>
+    ensures { IfOk result (λ reply. IsCommandAnswer command (lines_of bytes.now) (printed_of reply)) }
+{
+    match command {
+        Command::Id(kind) => id_reply(alloc, kind, bytes),
+        Command::Audit(Kind::Package) => log_reply::<warg_package_log::LogState>(alloc, bytes),
+        Command::Audit(Kind::Operator) => log_reply::<warg_operator_log::LogState>(alloc, bytes),
+    }
+}
+
+/// What the program prints to the words, made whole before anything is written. For words that
+/// ask for nothing, nothing is read and no memory is taken.
+pub fn make_reply<R: Read>(alloc: Global, words: &[String], input: &mut Input<R>) -> Reply
+    ensures reply { IsReply (map string_bytes words.now) (left R.remaining input.old) (ReadFailed input.old input.new) (printed_of result) }
+    ensures other_words { command_of (map string_bytes words.now) ≡ None → (input.new ≡ input.old) × (printed_of result ≡ usage) }
+    ensures reads { ReadsWithin input.old input.new 16_777_217 }
+{
+    let Some(command) = parse_command(words) else {
+        return Reply::fixed(USAGE, 2);
+    };
+    match read_all(alloc, input) {
+        Ok(bytes) => match command_reply(alloc, command, bytes.as_slice()) {
+            Ok(reply) => reply,
+            Err(_) => Reply::fixed(OUT_OF_MEMORY, 3),
+        },
+        Err(InputError::Fault) => Reply::fixed("read fault\n", 3),
+        Err(InputError::TooLong) => Reply::fixed("too long\n", 2),
+        Err(InputError::OutOfMemory) => Reply::fixed(OUT_OF_MEMORY, 3),
+    }
+}
+
+/// Answers the bytes of the input on the output, and gives the exit status.
+pub fn audit<R: Read, W: Write>(
+    alloc: Global,
+    words: &[String],
+    input: &mut Input<R>,
+    output: &mut Output<W>,
+) -> u8
+    // Any other status than 3 is that of the answer, which was written whole and alone.
+    ensures answered { result ≢ 3 → IsAnswered (map string_bytes words.now) (left R.remaining input.old) (held W.contents output.old) (held W.contents output.new) result }
+
+    // Status 3 tells of a failed read or of refused memory, by its line, or of a failed write.
+    ensures trouble { result ≡ 3 → IsTrouble (held W.contents output.old) (held W.contents output.new) (ReadFailed input.old input.new) (WriteFailed output.old output.new) }
+
+    // Words that ask for nothing: no read, and the usage line unless it can't be written.
+    ensures other_words { command_of (map string_bytes words.now) ≡ None → (input.new ≡ input.old)
+        × (IsPrinted (held W.contents output.old) (held W.contents output.new) result usage ⊎ ((result ≡ 3) × WriteFailed output.old output.new)) }
+    ensures reads { ReadsWithin input.old input.new 16_777_217 }
+{
+    let reply = make_reply(alloc, words, input);
+    match output.write_all(reply.text().as_bytes()) {
+        Ok(()) => reply.status(),
+        Err(_) => 3,
+    }
+}

@@ -1,0 +1,52 @@
+//! Reading all there is, up to a limit.
+
+ghost use Rattle.std.specs.Prelude.{◌≡◌, ◌<◌, ◌≤◌, length, IfOk, IfSome};
+ghost use Rattle.warg_audit.specs.Meters.{left, ReadsWithin, ReadFailed};
+ghost use Rattle.warg_audit.specs.declared.reading.InputError.TheVariants as fault;
+
+use crate::input::Input;
+use std::alloc::Global;
+use std::io::Read;
+
+/// The greatest length of an input, in bytes.
+pub const MAX_INPUT: usize = 16_777_216;
+
+// The bytes asked for in one read.
+const CHUNK: usize = 16_384;
+
+/// Why there is no input.
+#[derive(Clone, Copy, Debug, PartialEq, Eq)]
+pub(crate) enum InputError {
+    Fault,
+    TooLong,
+    OutOfMemory,
+}
+
+/// All bytes of the input: at most one read more than the limit has bytes, and none after the
+/// first fault, the first read of no bytes or the first byte past the limit.
+pub(crate) fn read_all<R: Read>(alloc: Global, input: &mut Input<R>) -> Result<Vec<u8>, InputError>
+    ensures reads { ReadsWithin input.old input.new 16_777_217 }
+    ensures ok { IfOk result (λ v. IfSome (left R.remaining input.old) (λ bytes. bytes ≡ v.items)) }
+    ensures short { IfOk result (λ v. length v.items ≤ 16_777_216) }
+    ensures long { result ≡ Err fault.TooLong → IfSome (left R.remaining input.old) (λ bytes. 16_777_216 < length bytes) }
+    ensures failed { result ≡ Err fault.Fault → ReadFailed input.old input.new }
+{
+    let mut bytes = Vec::new(alloc);
+    let mut buf = [0u8; CHUNK];
+    'reads: for _turn in 0..MAX_INPUT + 1 {
+        let room = CHUNK.min(MAX_INPUT + 1 - bytes.len());
+        let Ok(count) = input.read(&mut buf[..room]) else {
+            return Err(InputError::Fault);
+        };
+        if count == 0 {
+            return Ok(bytes);
+        }
+        if bytes.extend_from_slice(&buf[..count]).is_err() {
+            return Err(InputError::OutOfMemory);
+        }
+        if bytes.len() > MAX_INPUT {
+            return Err(InputError::TooLong);
+        }
+    }
+    unreachable!()
+}
