@@ -34,7 +34,7 @@ struct Draft {
     entries: Vec<OperatorEntry>,
 }
 
-fn draft(signer: &'static str, seconds: i64, entries: Vec<OperatorEntry>) -> Draft {
+fn new_draft(signer: &'static str, seconds: i64, entries: Vec<OperatorEntry>) -> Draft {
     Draft {
         signer,
         timestamp: Timestamp::new(seconds, 0),
@@ -134,7 +134,7 @@ fn after_init(
     alloc: Global,
     drafts: Vec<Draft>,
 ) -> Result<Result<LogState, ValidationError>, Fail> {
-    let mut all = vec![in alloc; draft("alice", 1, vec![in alloc; init(alloc, "alice")?]?)]?;
+    let mut all = vec![in alloc; new_draft("alice", 1, vec![in alloc; init(alloc, "alice")?]?)]?;
     for draft in drafts {
         all.push(draft)?;
     }
@@ -164,7 +164,7 @@ fn a_log_begins(rt: HostRuntime) -> Result<(), Fail> {
 }
 
 fn with_namespaces(alloc: Global) -> Result<Draft, Fail> {
-    Ok(draft(
+    Ok(new_draft(
         "alice",
         1,
         vec![in alloc;
@@ -195,7 +195,7 @@ fn an_init_asks_nothing_of_its_signer(rt: HostRuntime) -> Result<(), Fail> {
     let state = outcome(
         alloc,
         vec![in alloc;
-            draft(
+            new_draft(
                 "carol",
                 1,
                 vec![in alloc;
@@ -210,7 +210,7 @@ fn an_init_asks_nothing_of_its_signer(rt: HostRuntime) -> Result<(), Fail> {
     assert!(rt; state.public_key(&alice) == Some(&key(alloc, "alice")?));
     // Who may commit may sign checkpoints, and gives no more than that.
     let drafts = vec![in alloc;
-        draft(
+        new_draft(
             "alice",
             1,
             vec![in alloc; grant(alloc, "bob", &[Permission::Commit])?]?
@@ -231,7 +231,7 @@ fn unlawful_records_are_refused(rt: HostRuntime) -> Result<(), Fail> {
     };
     let rows: Vec<(Draft, ValidationError)> = vec![in alloc;
         (
-            draft(
+            new_draft(
                 "alice",
                 2,
                 vec![in alloc;
@@ -246,7 +246,7 @@ fn unlawful_records_are_refused(rt: HostRuntime) -> Result<(), Fail> {
             }
         ),
         (
-            draft(
+            new_draft(
                 "alice",
                 2,
                 vec![in alloc;
@@ -259,7 +259,7 @@ fn unlawful_records_are_refused(rt: HostRuntime) -> Result<(), Fail> {
             }
         ),
         (
-            draft(
+            new_draft(
                 "alice",
                 2,
                 vec![in alloc;
@@ -272,13 +272,13 @@ fn unlawful_records_are_refused(rt: HostRuntime) -> Result<(), Fail> {
             }
         ),
         (
-            draft("alice", 2, vec![in alloc; define(alloc, "my--namespace")?]?),
+            new_draft("alice", 2, vec![in alloc; define(alloc, "my--namespace")?]?),
             ValidationError::InvalidNamespace {
                 namespace: String::from_str(alloc, "my--namespace")?,
             }
         ),
         (
-            draft(
+            new_draft(
                 "bob",
                 2,
                 vec![in alloc; grant(alloc, "carol", &[Permission::DefineNamespace])?]?
@@ -289,14 +289,14 @@ fn unlawful_records_are_refused(rt: HostRuntime) -> Result<(), Fail> {
             }
         ),
         (
-            draft("bob", 2, vec![in alloc; define(alloc, "other-namespace")?]?),
+            new_draft("bob", 2, vec![in alloc; define(alloc, "other-namespace")?]?),
             ValidationError::UnauthorizedAction {
                 key_id: id(alloc, "bob")?,
                 needed_permission: Permission::DefineNamespace,
             }
         ),
         (
-            draft("carol", 2, Vec::new(alloc)),
+            new_draft("carol", 2, Vec::new(alloc)),
             ValidationError::KeyIDNotRecognized {
                 key_id: id(alloc, "carol")?,
             }
@@ -304,7 +304,7 @@ fn unlawful_records_are_refused(rt: HostRuntime) -> Result<(), Fail> {
         (
             Draft {
                 version: 7,
-                ..draft("alice", 2, Vec::new(alloc))
+                ..new_draft("alice", 2, Vec::new(alloc))
             },
             ValidationError::ProtocolVersionNotAllowed { version: 7 }
         ),
@@ -312,26 +312,26 @@ fn unlawful_records_are_refused(rt: HostRuntime) -> Result<(), Fail> {
             Draft {
                 version: 7,
                 link: Link::Wrong,
-                ..draft("alice", 2, Vec::new(alloc))
+                ..new_draft("alice", 2, Vec::new(alloc))
             },
             ValidationError::RecordHashDoesNotMatch
         ),
         (
             Draft {
                 link: Link::Missing,
-                ..draft("alice", 2, Vec::new(alloc))
+                ..new_draft("alice", 2, Vec::new(alloc))
             },
             ValidationError::NoPreviousHashAfterInit
         ),
         (
-            draft("alice", 0, Vec::new(alloc)),
+            new_draft("alice", 0, Vec::new(alloc)),
             ValidationError::TimestampLowerThanPrevious
         ),
     ]?;
     for (draft, refusal) in rows {
         let before = vec![in alloc;
             with_namespaces(alloc)?,
-            self::draft(
+            self::new_draft(
                 "alice",
                 1,
                 vec![in alloc; grant(alloc, "bob", &[Permission::Commit])?]?
@@ -351,7 +351,7 @@ fn unlawful_first_records_are_refused(rt: HostRuntime) -> Result<(), Fail> {
     let alloc = rt.alloc();
     let rows: Vec<(Draft, ValidationError)> = vec![in alloc;
         (
-            draft(
+            new_draft(
                 "alice",
                 1,
                 vec![in alloc; grant(alloc, "bob", &[Permission::Commit])?]?
@@ -362,11 +362,11 @@ fn unlawful_first_records_are_refused(rt: HostRuntime) -> Result<(), Fail> {
             }
         ),
         (
-            draft("alice", 1, Vec::new(alloc)),
+            new_draft("alice", 1, Vec::new(alloc)),
             ValidationError::InitialRecordDoesNotInit
         ),
         (
-            draft(
+            new_draft(
                 "alice",
                 1,
                 vec![in alloc; init(alloc, "alice")?, init(alloc, "alice")?]?
@@ -374,7 +374,7 @@ fn unlawful_first_records_are_refused(rt: HostRuntime) -> Result<(), Fail> {
             ValidationError::InitialEntryAfterBeginning
         ),
         (
-            draft("carol", 1, vec![in alloc; init(alloc, "alice")?]?),
+            new_draft("carol", 1, vec![in alloc; init(alloc, "alice")?]?),
             ValidationError::KeyIDNotRecognized {
                 key_id: id(alloc, "carol")?,
             }
@@ -382,7 +382,7 @@ fn unlawful_first_records_are_refused(rt: HostRuntime) -> Result<(), Fail> {
         (
             Draft {
                 link: Link::Wrong,
-                ..draft("alice", 1, vec![in alloc; init(alloc, "alice")?]?)
+                ..new_draft("alice", 1, vec![in alloc; init(alloc, "alice")?]?)
             },
             ValidationError::PreviousHashOnFirstRecord
         ),

@@ -31,7 +31,7 @@ struct Draft {
     entries: Vec<PackageEntry>,
 }
 
-fn draft(signer: &'static str, seconds: i64, entries: Vec<PackageEntry>) -> Draft {
+fn new_draft(signer: &'static str, seconds: i64, entries: Vec<PackageEntry>) -> Draft {
     Draft {
         signer,
         timestamp: Timestamp::new(seconds, 0),
@@ -131,7 +131,7 @@ fn after_init(
     alloc: Global,
     drafts: Vec<Draft>,
 ) -> Result<Result<LogState, ValidationError>, Fail> {
-    let mut all = vec![in alloc; draft("alice", 1, vec![in alloc; init(alloc, "alice")?]?)]?;
+    let mut all = vec![in alloc; new_draft("alice", 1, vec![in alloc; init(alloc, "alice")?]?)]?;
     for draft in drafts {
         all.push(draft)?;
     }
@@ -168,12 +168,12 @@ fn a_log_begins(rt: HostRuntime) -> Result<(), Fail> {
 
 fn bob_releases(alloc: Global) -> Result<Vec<Draft>, Fail> {
     Ok(vec![in alloc;
-        draft(
+        new_draft(
             "alice",
             1,
             vec![in alloc; init(alloc, "alice")?, grant(alloc, "bob", &ALL)?]?
         ),
-        draft(
+        new_draft(
             "bob",
             2,
             vec![in alloc; release(alloc, "1.1.0", &[0, 1, 2, 3])?]?
@@ -202,7 +202,7 @@ fn a_release_stands_until_it_is_yanked(rt: HostRuntime) -> Result<(), Fail> {
     assert!(rt; state.find_latest_release(&later).is_none());
     let record_id = found.record_id;
     let mut drafts = bob_releases(alloc)?;
-    drafts.push(draft(
+    drafts.push(new_draft(
         "alice",
         3,
         vec![in alloc; revoke(alloc, "bob", &ALL)?, yank(alloc, "1.1.0")?]?,
@@ -245,7 +245,7 @@ fn the_latest_release_is_the_greatest(rt: HostRuntime) -> Result<(), Fail> {
         for version in versions {
             entries.push(release(alloc, version, b"")?)?;
         }
-        let state = after_init(alloc, vec![in alloc; draft("alice", 1, entries)]?)??;
+        let state = after_init(alloc, vec![in alloc; new_draft("alice", 1, entries)]?)??;
         let latest = Version::parse(alloc, latest)?;
         assert!(rt;
             state
@@ -272,7 +272,7 @@ fn lawful_records_are_accepted(rt: HostRuntime) -> Result<(), Fail> {
     // A stranger may grant an own key nothing.
     let state = after_init(
         alloc,
-        vec![in alloc; draft("mallory", 1, vec![in alloc; grant(alloc, "mallory", &[])?]?)]?,
+        vec![in alloc; new_draft("mallory", 1, vec![in alloc; grant(alloc, "mallory", &[])?]?)]?,
     )??;
     let mallory = id(alloc, "mallory")?;
     assert!(rt; state.public_key(&mallory) == Some(&key(alloc, "mallory")?));
@@ -285,12 +285,12 @@ fn lawful_records_are_accepted(rt: HostRuntime) -> Result<(), Fail> {
     let state = after_init(
         alloc,
         vec![in alloc;
-            draft(
+            new_draft(
                 "alice",
                 5,
                 vec![in alloc; revoke(alloc, "alice", &[Permission::Yank])?]?
             ),
-            draft("alice", 5, Vec::new(alloc)),
+            new_draft("alice", 5, Vec::new(alloc)),
         ]?,
     )??;
     let alice = id(alloc, "alice")?;
@@ -320,7 +320,7 @@ fn unlawful_records_are_refused(rt: HostRuntime) -> Result<(), Fail> {
     };
     let rows: Vec<(Draft, ValidationError)> = vec![in alloc;
         (
-            draft(
+            new_draft(
                 "alice",
                 1,
                 vec![in alloc; grant(alloc, "bob", &[Permission::Release])?, unknown]?
@@ -331,7 +331,7 @@ fn unlawful_records_are_refused(rt: HostRuntime) -> Result<(), Fail> {
             }
         ),
         (
-            draft(
+            new_draft(
                 "alice",
                 1,
                 vec![in alloc;
@@ -345,7 +345,7 @@ fn unlawful_records_are_refused(rt: HostRuntime) -> Result<(), Fail> {
             }
         ),
         (
-            draft(
+            new_draft(
                 "alice",
                 1,
                 vec![in alloc;
@@ -359,11 +359,11 @@ fn unlawful_records_are_refused(rt: HostRuntime) -> Result<(), Fail> {
             }
         ),
         (
-            draft("alice", 1, vec![in alloc; init(alloc, "alice")?]?),
+            new_draft("alice", 1, vec![in alloc; init(alloc, "alice")?]?),
             ValidationError::InitialEntryAfterBeginning
         ),
         (
-            draft(
+            new_draft(
                 "alice",
                 1,
                 vec![in alloc;
@@ -377,13 +377,13 @@ fn unlawful_records_are_refused(rt: HostRuntime) -> Result<(), Fail> {
             }
         ),
         (
-            draft("alice", 1, vec![in alloc; yank(alloc, "1.0.0")?]?),
+            new_draft("alice", 1, vec![in alloc; yank(alloc, "1.0.0")?]?),
             ValidationError::YankOfUnreleased {
                 version: one.clone()?,
             }
         ),
         (
-            draft(
+            new_draft(
                 "alice",
                 1,
                 vec![in alloc;
@@ -397,7 +397,7 @@ fn unlawful_records_are_refused(rt: HostRuntime) -> Result<(), Fail> {
         (
             Draft {
                 version: 7,
-                ..draft("alice", 1, Vec::new(alloc))
+                ..new_draft("alice", 1, Vec::new(alloc))
             },
             ValidationError::ProtocolVersionNotAllowed { version: 7 }
         ),
@@ -405,26 +405,26 @@ fn unlawful_records_are_refused(rt: HostRuntime) -> Result<(), Fail> {
             Draft {
                 version: 7,
                 link: Link::Wrong,
-                ..draft("alice", 1, Vec::new(alloc))
+                ..new_draft("alice", 1, Vec::new(alloc))
             },
             ValidationError::RecordHashDoesNotMatch
         ),
         (
             Draft {
                 link: Link::Missing,
-                ..draft("alice", 1, Vec::new(alloc))
+                ..new_draft("alice", 1, Vec::new(alloc))
             },
             ValidationError::NoPreviousHashAfterInit
         ),
         (
             Draft {
                 timestamp: Timestamp::new(0, 999_999_999),
-                ..draft("alice", 1, Vec::new(alloc))
+                ..new_draft("alice", 1, Vec::new(alloc))
             },
             ValidationError::TimestampLowerThanPrevious
         ),
         (
-            draft("carol", 1, Vec::new(alloc)),
+            new_draft("carol", 1, Vec::new(alloc)),
             ValidationError::KeyIDNotRecognized {
                 key_id: id(alloc, "carol")?,
             }
@@ -444,14 +444,14 @@ fn unlawful_first_records_are_refused(rt: HostRuntime) -> Result<(), Fail> {
     let alloc = rt.alloc();
     let rows: Vec<(Draft, ValidationError)> = vec![in alloc;
         (
-            draft("alice", 1, vec![in alloc; release(alloc, "1.0.0", b"")?]?),
+            new_draft("alice", 1, vec![in alloc; release(alloc, "1.0.0", b"")?]?),
             ValidationError::UnauthorizedAction {
                 key_id: id(alloc, "alice")?,
                 needed_permission: Permission::Release,
             }
         ),
         (
-            draft(
+            new_draft(
                 "alice",
                 1,
                 vec![in alloc; grant(alloc, "bob", &[Permission::Release])?]?
@@ -459,11 +459,11 @@ fn unlawful_first_records_are_refused(rt: HostRuntime) -> Result<(), Fail> {
             ValidationError::FirstEntryIsNotInit
         ),
         (
-            draft("alice", 1, Vec::new(alloc)),
+            new_draft("alice", 1, Vec::new(alloc)),
             ValidationError::InitialRecordDoesNotInit
         ),
         (
-            draft(
+            new_draft(
                 "alice",
                 1,
                 vec![in alloc; init(alloc, "alice")?, init(alloc, "alice")?]?
@@ -471,7 +471,7 @@ fn unlawful_first_records_are_refused(rt: HostRuntime) -> Result<(), Fail> {
             ValidationError::InitialEntryAfterBeginning
         ),
         (
-            draft("carol", 1, vec![in alloc; init(alloc, "alice")?]?),
+            new_draft("carol", 1, vec![in alloc; init(alloc, "alice")?]?),
             ValidationError::KeyIDNotRecognized {
                 key_id: id(alloc, "carol")?,
             }
@@ -479,7 +479,7 @@ fn unlawful_first_records_are_refused(rt: HostRuntime) -> Result<(), Fail> {
         (
             Draft {
                 link: Link::Wrong,
-                ..draft("alice", 1, vec![in alloc; init(alloc, "alice")?]?)
+                ..new_draft("alice", 1, vec![in alloc; init(alloc, "alice")?]?)
             },
             ValidationError::PreviousHashOnFirstRecord
         ),

@@ -10,7 +10,14 @@ ghost use Rattle.warg_records.specs.OperatorReading.{operator_entry_of, operator
 ghost use Rattle.warg_records.specs.PackageReading.{package_entry_of, package_record_of};
 ghost use Rattle.warg_records.specs.Relations.{HasRecordFault, IsRecord, ReadsRecord};
 ghost use Rattle.warg_records.specs.PrefixEncodings.{IsPrefixCode};
+ghost use Rattle.std.specs.Prelude.{◌≡◌, ◌<◌, Ok, slice_index};
+ghost use Rattle.warg_crypto.specs.Keys.{signature_of};
+ghost use Rattle.warg_crypto.specs.Tags.{tag_text};
+ghost use Rattle.warg_protobuf.specs.Envelope.{IsEnvelope};
+ghost use Rattle.warg_records.specs.Envelopes.{IsHonest, envelope_message};
+ghost use Rattle.warg_records.specs.Letters.{Held};
 
+use crate::{ProtoEnvelope, Record};
 use warg_protobuf::laws::{decoding_computes, exactly_one};
 
 /// What is computed of content bytes is the record that they are, or their first fault.
@@ -52,3 +59,26 @@ pub fn no_fault_of_memory()
 pub fn no_encoding_begins_another()
     ensures { IsPrefixCode }
 {}
+
+// Each byte is below 256, as its type says.
+fn byte_range(bytes: &[u8])
+    ensures { (i : ℕ) → slice_index bytes.now i < 256 }
+{}
+
+/// The text of an envelope's signature reads back as the signature.
+pub fn signature_reads_back<C>(envelope: &ProtoEnvelope<C>)
+    ensures { signature_of (tag_text envelope.now.sealed.signature) ≡ Ok envelope.now.sealed.signature }
+{
+    let signature = envelope.signature();
+    let _algorithm = signature.algorithm();
+    byte_range(signature.bytes());
+}
+
+/// What is written of an envelope whose record its content bytes say reads back as the envelope. What
+/// is asked here of the bytes `ProtoEnvelope::to_protobuf` says of those it gives.
+pub fn envelopes_read_back<C: Record>()
+    ensures { (e : Held C) (bytes : List ℕ) → IsHonest C.read C.meaning e → IsEnvelope bytes (envelope_message e.sealed) →
+        signature_of (tag_text e.sealed.signature) ≡ Ok e.sealed.signature → envelope_of C.read bytes ≡ Ok e.sealed }
+{
+    decoding_computes();
+}
