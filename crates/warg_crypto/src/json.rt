@@ -47,6 +47,3 @@ pub trait JsonValue: Sized {
     // What was written reads back as an equal value.
     ghost reads_back: { (x : Self) (d : Data) → is_written x → writes x ≡ Ok d → ReadsBack reads same x d };
 }
-
-#[cfg(test)]
-mod tests;

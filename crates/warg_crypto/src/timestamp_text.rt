@@ -64,6 +64,3 @@ fn carried(seconds: u64, nanos: u32) -> Result<Timestamp, JsonError>
     }
     Ok(Timestamp::new((seconds + carry) as i64, nanos % NANOS))
 }
-
-#[cfg(test)]
-mod tests;

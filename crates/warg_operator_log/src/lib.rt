@@ -13,6 +13,3 @@ pub use error::{NamespaceError, ValidationError};
 pub use namespace::NamespaceState;
 pub use state::LogState;
 pub use warg_log::Head;
-
-#[cfg(test)]
-mod tests;

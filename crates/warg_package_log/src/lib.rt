@@ -16,6 +16,3 @@ pub use release::{Release, ReleaseState};
 pub use releases::Releases;
 pub use state::LogState;
 pub use warg_log::Head;
-
-#[cfg(test)]
-mod tests;

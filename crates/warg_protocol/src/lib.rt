@@ -16,6 +16,3 @@ pub use warg_records::{
     PublishedProtoEnvelope, PublishedProtoEnvelopeBody, Record, SerdeEnvelope, Version, VersionReq,
 };
 pub use warg_validator::{Effect, RunCause, RunError, Validator, run, run_from};
-
-#[cfg(test)]
-mod tests;

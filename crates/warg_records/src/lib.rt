@@ -68,6 +68,3 @@ pub trait Record: Decode + Drop {
     /// It is the one error that tells none.
     ghost memory_alone: { (e : DecodeError) → fault_of e ≡ None → e ≡ error.OutOfMemory };
 }
-
-#[cfg(test)]
-mod tests;

@@ -152,6 +152,3 @@ impl JsonValue for LogLeaf {
         Ok(LogLeaf { log_id, record_id })
     }
 }
-
-#[cfg(test)]
-mod tests;
