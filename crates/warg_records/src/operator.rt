@@ -97,3 +97,11 @@ impl Record for OperatorRecord {
         })
     }
 }
+
+impl Clone for OperatorRecord {
+    ghost is_clone = { λ a b. said b ≡ said a };
+
+    fn clone(&self) -> Result<OperatorRecord, AllocError> {
+        self.try_clone()
+    }
+}

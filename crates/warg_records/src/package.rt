@@ -99,6 +99,14 @@ impl Record for PackageRecord {
     }
 }
 
+impl Clone for PackageRecord {
+    ghost is_clone = { λ a b. said b ≡ said a };
+
+    fn clone(&self) -> Result<PackageRecord, AllocError> {
+        self.try_clone()
+    }
+}
+
 impl Mention for PackageEntry {
     type Item = AnyHash;
 

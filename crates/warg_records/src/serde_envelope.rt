@@ -5,7 +5,7 @@ ghost use Rattle.warg_crypto.specs.Signed.{signed_message};
 ghost use Rattle.warg_crypto.specs.Tags.{fingerprint_of};
 ghost use Rattle.warg_crypto.specs.declared.signing.error.SignatureError.TheVariants.{Refused};
 
-use std::alloc::Global;
+use std::alloc::{AllocError, Global};
 use warg_crypto::Signable;
 use warg_crypto::signing::{KeyID, Signature, SignatureError, Signer};
 
@@ -64,6 +64,21 @@ impl<C> SerdeEnvelope<C> {
             signature: _,
         } = self;
         contents
+    }
+}
+
+impl<C: Clone> SerdeEnvelope<C> {
+    /// The same envelope again.
+    pub fn try_clone(&self) -> Result<SerdeEnvelope<C>, AllocError>
+        ensures contents { IfOk result (λ e. C.is_clone self.now.contents e.contents) }
+        ensures key_id { IfOk result (λ e. e.key_id ≡ self.now.key_id) }
+        ensures signature { IfOk result (λ e. e.signature ≡ self.now.signature) }
+    {
+        Ok(SerdeEnvelope {
+            contents: self.contents.clone()?,
+            key_id: self.key_id.clone()?,
+            signature: self.signature.clone()?,
+        })
     }
 }
 

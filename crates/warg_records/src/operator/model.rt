@@ -1,6 +1,6 @@
 //! What a record of an operator log holds.
 
-ghost use Rattle.std.specs.Prelude.{◌≡◌};
+ghost use Rattle.std.specs.Prelude.{◌≡◌, IfOk};
 ghost use Rattle.warg_records.specs.OperatorEntries.{reading, required_permission_of};
 
 use crate::operator::permission::Permission;
@@ -74,6 +74,13 @@ impl OperatorEntry {
             OperatorEntry::DefineNamespace { .. } => Some(Permission::DefineNamespace),
             OperatorEntry::ImportNamespace { .. } => Some(Permission::ImportNamespace),
         }
+    }
+
+    /// The same entry again.
+    pub fn try_clone(&self) -> Result<OperatorEntry, AllocError>
+        ensures { IfOk result (λ e. reading e ≡ reading self.now) }
+    {
+        self.clone()
     }
 }
 

@@ -87,6 +87,13 @@ impl PackageEntry {
             _ => None,
         }
     }
+
+    /// The same entry again.
+    pub fn try_clone(&self) -> Result<PackageEntry, AllocError>
+        ensures { IfOk result (λ e. reading e ≡ reading self.now) }
+    {
+        self.clone()
+    }
 }
 
 fn clone_version(version: &Version) -> Result<Version, AllocError>
