@@ -1,0 +1,66 @@
+//! A record in few words.
+//!
+//! `alice 1.5 v7: init alice, grant bob release` is signed by alice, at one second and five nanoseconds, of
+//! version 7 of the protocol, and has two entries. Where nothing is said the version is 0, and the record
+//! names the one before it; an `unlinked` record names none, and a `mislinked` one another.
+use std::test::Fail;
+use warg_crypto::hash::HashAlgorithm;
+use warg_protocol::Timestamp;
+use warg_protocol::registry::RecordId;
+
+#[derive(Clone, Copy)]
+enum Link {
+    Right,
+    Missing,
+    Wrong,
+}
+
+/// A record to be made. Its entries are still text, which each kind of log reads for itself.
+#[derive(Clone, Copy)]
+pub struct Draft {
+    pub signer: &'static str,
+    pub timestamp: Timestamp,
+    pub version: u32,
+    pub entries: &'static str,
+    link: Link,
+}
+
+impl Draft {
+    /// The draft that a line says.
+    pub fn parse(line: &'static str) -> Result<Draft, Fail> {
+        let (head, entries) = line.split_once(':').ok_or("a line without a colon")?;
+        let mut words = head.split(' ');
+        let signer = words.next().ok_or("no signer")?;
+        let timestamp = Timestamp::parse_text(words.next().ok_or("no time")?)?;
+        let mut draft = Draft {
+            signer,
+            timestamp,
+            version: 0,
+            entries,
+            link: Link::Right,
+        };
+        for word in words {
+            draft.turn(word)?;
+        }
+        Ok(draft)
+    }
+
+    fn turn(&mut self, word: &str) -> Result<(), Fail> {
+        match word {
+            "unlinked" => self.link = Link::Missing,
+            "mislinked" => self.link = Link::Wrong,
+            "v7" => self.version = 7,
+            _ => return Err(Fail::new("a strange word before the colon")),
+        }
+        Ok(())
+    }
+
+    /// The record that the draft's names as the one before it, where `last` is the log's last one.
+    pub fn prev(&self, last: Option<RecordId>) -> Option<RecordId> {
+        match self.link {
+            Link::Right => last,
+            Link::Missing => None,
+            Link::Wrong => Some(RecordId::from(HashAlgorithm::Sha256.digest(b"another record"))),
+        }
+    }
+}

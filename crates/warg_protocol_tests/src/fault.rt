@@ -1,0 +1,30 @@
+//! The causes of refusals, in words.
+use crate::script::{Scripted, words_of};
+use std::alloc::Global;
+use std::test::Fail;
+use warg_crypto::WireFault;
+use warg_crypto::signing::SignatureParseError;
+use warg_protocol::{DecodeError, ParseEnvelopeError, RunCause, WireError};
+
+/// The cause that words say: `Parse` with the cases of the fault from the outside in, or a validation error.
+pub fn cause<L: Scripted>(alloc: Global, words: &str) -> Result<RunCause<L::Error>, Fail> {
+    let (case, subject, permission) = words_of(words);
+    if case == "Parse" {
+        return Ok(RunCause::Parse(fault(subject)?));
+    }
+    Ok(RunCause::Validation(L::error(alloc, case, subject, permission)?))
+}
+
+fn fault(name: &str) -> Result<ParseEnvelopeError, Fail> {
+    Ok(match name {
+        "ProtobufEnvelope.Group" => ParseEnvelopeError::ProtobufEnvelope(WireError::Group),
+        "Contents.Wire.Group" => {
+            ParseEnvelopeError::Contents(DecodeError::Wire(WireFault::Group))
+        }
+        "Contents.MissingTime" => ParseEnvelopeError::Contents(DecodeError::MissingTime),
+        "Signature.MissingColon" => ParseEnvelopeError::Signature(
+            SignatureParseError::MissingColon,
+        ),
+        _ => return Err(Fail::new("a strange fault")),
+    })
+}

@@ -1,0 +1,58 @@
+//! The errors of operator logs, in words.
+use crate::people::id;
+use std::alloc::Global;
+use std::test::Fail;
+use warg_crypto::hash::HashAlgorithm;
+use warg_crypto::signing::SignatureError;
+use warg_protocol::operator::{Permission, ValidationError};
+
+/// The error that words say: its case, a person or a namespace, and a permission.
+pub fn error(
+    alloc: Global,
+    case: &str,
+    subject: &str,
+    permission: &str,
+) -> Result<ValidationError, Fail> {
+    match case {
+        "KeyIDNotRecognized" => Ok(ValidationError::KeyIDNotRecognized {
+            key_id: id(alloc, subject)?,
+        }),
+        "UnauthorizedAction" => Ok(ValidationError::UnauthorizedAction {
+            key_id: id(alloc, subject)?,
+            needed_permission: permission.parse::<Permission>()?,
+        }),
+        "PermissionNotFoundToRevoke" => Ok(ValidationError::PermissionNotFoundToRevoke {
+            key_id: id(alloc, subject)?,
+            permission: permission.parse::<Permission>()?,
+        }),
+        "ProtocolVersionNotAllowed" => Ok(ValidationError::ProtocolVersionNotAllowed {
+            version: subject.parse::<u32>()?,
+        }),
+        "InvalidNamespace" => Ok(ValidationError::InvalidNamespace {
+            namespace: String::from_str(alloc, subject)?,
+        }),
+        "NamespaceAlreadyDefined" => Ok(ValidationError::NamespaceAlreadyDefined {
+            namespace: String::from_str(alloc, subject)?,
+        }),
+        _ => without_fields(case),
+    }
+}
+
+fn without_fields(case: &str) -> Result<ValidationError, Fail> {
+    Ok(match case {
+        "FirstEntryIsNotInit" => ValidationError::FirstEntryIsNotInit,
+        "InitialRecordDoesNotInit" => ValidationError::InitialRecordDoesNotInit,
+        "InitialEntryAfterBeginning" => ValidationError::InitialEntryAfterBeginning,
+        "SignatureError" => ValidationError::from(SignatureError::Refused),
+        "IncorrectHashAlgorithm" => ValidationError::IncorrectHashAlgorithm {
+            found: HashAlgorithm::Sha256,
+            expected: HashAlgorithm::Sha256,
+        },
+        "RecordHashDoesNotMatch" => ValidationError::RecordHashDoesNotMatch,
+        "PreviousHashOnFirstRecord" => ValidationError::PreviousHashOnFirstRecord,
+        "NoPreviousHashAfterInit" => ValidationError::NoPreviousHashAfterInit,
+        "TimestampLowerThanPrevious" => ValidationError::TimestampLowerThanPrevious,
+        "OutOfMemory" => ValidationError::from(SignatureError::OutOfMemory),
+        _ => return Err(Fail::new("a strange error")),
+    })
+}

@@ -1,0 +1,260 @@
+//! Operator logs.
+use crate::operator_errors::error;
+use crate::play::{log_of, play};
+use crate::script::words_of;
+use std::test::Fail;
+use warg_protocol::operator::LogState;
+
+#[test]
+fn a_log_begins(rt: HostRuntime) -> Result<(), Fail> {
+    let script = "
+        ? head digest = none
+        ? key alice = none
+        ? signs alice = false
+        ? namespace my-namespace = none
+        alice 1.0: init alice
+        ? head digest = sha256:a59d6ca96cab13bcfe416b3b3ed6b2ea12d2d69bfab35aaa1f7ba25392fcae41
+        ? head time = 1.0
+        ? key alice = toy:YWxpY2U=
+        ? signs alice = true
+        ? effect 0 alice commit = gives
+        ? effect 0 alice defineNamespace = gives
+        ? effect 0 alice importNamespace = gives
+        ? effect 0 bob commit = nothing
+        ? key bob = none
+        ? signs bob = false
+        ? namespace my-namespace = none
+        alice 1.0: define a, import b c
+        ? namespace a = defined
+        ? namespace b = imported from c
+    ";
+    play::<LogState>(&rt, rt.alloc(), script)
+}
+
+const NAMESPACES: &str = "
+    alice 1.0: init alice, define my-namespace, import imported-namespace registry.example.com
+    ? head digest = sha256:dc8207e51a62df54470d190abb9a5efe5447cc1ece8ee3414dac6784ccc88264
+    ? namespace my-namespace = defined
+    ? namespace imported-namespace = imported from registry.example.com
+    ? namespace my = none
+    ? effect 1 alice commit = nothing
+    alice 2.0: define other-namespace, import my-namespace registry.alternative.com
+    ! NamespaceAlreadyDefined my-namespace
+    ? namespace other-namespace = none
+    alice 2.0: define other-namespace, import my-NAMESPACE registry.alternative.com
+    ! InvalidNamespace my-NAMESPACE
+    alice 2.0: define my--namespace
+    ! InvalidNamespace my--namespace
+    alice 2.0: define imported-namespace
+    ! NamespaceAlreadyDefined imported-namespace
+    alice 2.0: import imported-namespace registry.example.com
+    ! NamespaceAlreadyDefined imported-namespace
+    ? namespace imported-namespace = imported from registry.example.com
+";
+
+#[test]
+fn namespaces_are_defined_and_imported(rt: HostRuntime) -> Result<(), Fail> {
+    play::<LogState>(&rt, rt.alloc(), NAMESPACES)
+}
+
+#[test]
+fn permissions_are_given_and_taken(rt: HostRuntime) -> Result<(), Fail> {
+    for script in [
+        // An init asks nothing of its signer, who then holds all.
+        "
+        carol 1.0: init alice, grant carol commit
+        ? signs carol = true
+        ? signs alice = false
+        ? key alice = toy:YWxpY2U=
+        ? key carol = toy:Y2Fyb2w=
+        ? effect 0 carol commit = gives
+        ? effect 0 alice commit = nothing
+        carol 1.0: define a, import b c
+        alice 1.0: define d
+        ! UnauthorizedAction alice defineNamespace
+        alice 1.0:
+        ",
+        // Who may commit may sign checkpoints, and hands on no more than that.
+        "
+        alice 1.0: init alice
+        alice 1.0: grant bob commit
+        ? signs bob = true
+        bob 1.0: grant carol defineNamespace
+        ! UnauthorizedAction bob defineNamespace
+        bob 1.0: grant carol commit importNamespace
+        ! UnauthorizedAction bob importNamespace
+        ? signs carol = false
+        bob 1.0: grant carol commit, revoke bob commit
+        ? signs carol = true
+        ? signs bob = false
+        ? effect 0 carol commit = gives
+        ? effect 1 bob commit = takes
+        ? effect 1 bob defineNamespace = nothing
+        bob 1.0: grant carol
+        ! UnauthorizedAction bob commit
+        bob 1.0: revoke carol
+        ! UnauthorizedAction bob commit
+        alice 1.0: grant bob defineNamespace
+        bob 1.0: define a
+        bob 1.0: import b c
+        ! UnauthorizedAction bob importNamespace
+        ",
+    ] {
+        play::<LogState>(&rt, rt.alloc(), script)?;
+    }
+    Ok(())
+}
+
+#[test]
+fn first_records_are_refused(rt: HostRuntime) -> Result<(), Fail> {
+    let script = "
+        alice 1.0: grant bob commit
+        ! UnauthorizedAction alice commit
+        alice 1.0: define a
+        ! UnauthorizedAction alice defineNamespace
+        alice 1.0: import A b
+        ! UnauthorizedAction alice importNamespace
+        alice 1.0:
+        ! InitialRecordDoesNotInit
+        alice 1.0: init alice, init alice
+        ! InitialEntryAfterBeginning
+        carol 1.0: init alice
+        ! KeyIDNotRecognized carol
+        carol 1.0: init alice, grant bob commit
+        ! KeyIDNotRecognized carol
+        alice 1.0 mislinked v7: init alice
+        ! PreviousHashOnFirstRecord
+        alice 1.0 v7: init alice
+        ! ProtocolVersionNotAllowed 7
+        ? head time = none
+        ? key alice = none
+    ";
+    play::<LogState>(&rt, rt.alloc(), script)
+}
+
+#[test]
+fn later_records_are_refused(rt: HostRuntime) -> Result<(), Fail> {
+    let script = "
+        alice 2.0: init alice
+        alice 2.0: grant bob commit, revoke not-valid commit, define example-namespace
+        ! PermissionNotFoundToRevoke not-valid commit
+        ? key bob = none
+        ? signs bob = false
+        ? namespace example-namespace = none
+        alice 2.0: grant bob commit
+        alice 2.0: revoke bob commit commit
+        ! PermissionNotFoundToRevoke bob commit
+        alice 2.0: revoke bob commit importNamespace
+        ! PermissionNotFoundToRevoke bob importNamespace
+        ? signs bob = true
+        bob 2.0: define a
+        ! UnauthorizedAction bob defineNamespace
+        carol 2.0: define A
+        ! UnauthorizedAction carol defineNamespace
+        carol 2.0:
+        ! KeyIDNotRecognized carol
+        bob 2.0: init bob
+        ! InitialEntryAfterBeginning
+        alice 2.0 v7:
+        ! ProtocolVersionNotAllowed 7
+        alice 2.0 v7 mislinked:
+        ! RecordHashDoesNotMatch
+        alice 2.0 unlinked:
+        ! NoPreviousHashAfterInit
+        alice 1.0 v7:
+        ! ProtocolVersionNotAllowed 7
+        alice 1.999999999: define A
+        ! TimestampLowerThanPrevious
+        alice 2.0:
+        alice 5.0:
+        ? head time = 5.0
+    ";
+    play::<LogState>(&rt, rt.alloc(), script)
+}
+
+#[test]
+fn copies_are_equal(rt: HostRuntime) -> Result<(), Fail> {
+    let alloc = rt.alloc();
+    let state = log_of::<LogState>(&rt, alloc, NAMESPACES)?.state;
+    assert!(rt; LogState::try_clone(&state)? == state);
+    assert!(rt; LogState::new(alloc)? != state);
+    for name in ["my-namespace", "imported-namespace"] {
+        let namespace = state.namespace_state(name).ok_or("no namespace")?;
+        assert!(rt; namespace.try_clone()? == *namespace);
+        assert!(rt; namespace.clone()? == *namespace);
+    }
+    assert!(rt;
+        state.namespace_state("my-namespace") != state.namespace_state("imported-namespace")
+    );
+    Ok(())
+}
+
+#[test]
+fn a_refusal_says_why(rt: HostRuntime) -> Result<(), Fail> {
+    let alloc = rt.alloc();
+    for (words, text) in [
+        (
+            "FirstEntryIsNotInit",
+            "the first entry of the log is not \"init\"",
+        ),
+        (
+            "InitialRecordDoesNotInit",
+            "the initial record is empty and does not \"init\"",
+        ),
+        (
+            "KeyIDNotRecognized x",
+            "the Key ID used to sign this envelope is not known to this operator log",
+        ),
+        (
+            "InitialEntryAfterBeginning",
+            "a second \"init\" entry was found",
+        ),
+        (
+            "UnauthorizedAction x defineNamespace",
+            "the key with ID x did not have required permission defineNamespace",
+        ),
+        (
+            "PermissionNotFoundToRevoke x commit",
+            "attempted to remove permission commit from key x which did not have it",
+        ),
+        ("SignatureError", "unable to verify signature: Refused"),
+        (
+            "IncorrectHashAlgorithm",
+            "record hash uses sha256 algorithm but sha256 was expected",
+        ),
+        (
+            "RecordHashDoesNotMatch",
+            "previous record hash does not match",
+        ),
+        (
+            "PreviousHashOnFirstRecord",
+            "the first record contained a previous hash value",
+        ),
+        (
+            "NoPreviousHashAfterInit",
+            "non-initial record contained no previous hash",
+        ),
+        (
+            "ProtocolVersionNotAllowed 7",
+            "protocol version 7 not allowed",
+        ),
+        (
+            "TimestampLowerThanPrevious",
+            "record has lower timestamp than previous",
+        ),
+        (
+            "InvalidNamespace A",
+            "the namespace `A` is invalid; namespace must be a lowercased kebab case string",
+        ),
+        (
+            "NamespaceAlreadyDefined a",
+            "the namespace `a` is already defined and cannot be redefined",
+        ),
+        ("OutOfMemory", "OutOfMemory"),
+    ] {
+        let (case, subject, permission) = words_of(words);
+        let shown = error(alloc, case, subject, permission)?.to_string(alloc)?;
+        assert_eq!(rt; shown.as_str(), text);
+    }
+    Ok(())
+}

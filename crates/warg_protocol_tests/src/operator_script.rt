@@ -1,0 +1,81 @@
+//! The words of operator logs.
+use crate::draft::Draft;
+use crate::operator_answers::answer;
+use crate::operator_errors::error;
+use crate::people::{id, key, signer};
+use crate::script::{Scripted, permissions_of};
+use std::alloc::Global;
+use std::test::Fail;
+use warg_crypto::hash::HashAlgorithm;
+use warg_protocol::ProtoEnvelope;
+use warg_protocol::operator::{
+    LogState, OperatorEntry, OperatorRecord, Permission, ValidationError,
+};
+use warg_protocol::registry::RecordId;
+
+// Reads `init alice`, `grant bob commit`, `revoke bob commit`, `define name` and `import name registry`.
+fn entry(alloc: Global, verb: &str, subject: &str, rest: &str) -> Result<OperatorEntry, Fail> {
+    match verb {
+        "init" => Ok(OperatorEntry::Init {
+            hash_algorithm: HashAlgorithm::Sha256,
+            key: key(alloc, subject)?,
+        }),
+        "grant" => Ok(OperatorEntry::GrantFlat {
+            key: key(alloc, subject)?,
+            permissions: permissions_of::<LogState>(alloc, rest)?,
+        }),
+        "revoke" => Ok(OperatorEntry::RevokeFlat {
+            key_id: id(alloc, subject)?,
+            permissions: permissions_of::<LogState>(alloc, rest)?,
+        }),
+        "define" => Ok(OperatorEntry::DefineNamespace {
+            namespace: String::from_str(alloc, subject)?,
+        }),
+        "import" => Ok(OperatorEntry::ImportNamespace {
+            namespace: String::from_str(alloc, subject)?,
+            registry: String::from_str(alloc, rest)?,
+        }),
+        _ => Err(Fail::new("a strange entry")),
+    }
+}
+
+impl Scripted for LogState {
+    type Entry = OperatorEntry;
+
+    fn permission(name: &str) -> Result<Permission, Fail> {
+        Ok(name.parse::<Permission>()?)
+    }
+
+    fn entry(alloc: Global, verb: &str, subject: &str, rest: &str) -> Result<OperatorEntry, Fail> {
+        entry(alloc, verb, subject, rest)
+    }
+
+    fn signed(
+        alloc: Global,
+        prev: Option<RecordId>,
+        draft: Draft,
+        entries: Vec<OperatorEntry>,
+    ) -> Result<ProtoEnvelope<OperatorRecord>, Fail> {
+        let signer = signer(alloc, draft.signer)?;
+        let record = OperatorRecord {
+            prev,
+            version: draft.version,
+            timestamp: draft.timestamp,
+            entries,
+        };
+        Ok(ProtoEnvelope::signed_contents(alloc, &signer, record)?)
+    }
+
+    fn error(
+        alloc: Global,
+        case: &str,
+        subject: &str,
+        permission: &str,
+    ) -> Result<ValidationError, Fail> {
+        error(alloc, case, subject, permission)
+    }
+
+    fn answer(&self, alloc: Global, look_up: &str, subject: &str) -> Result<String, Fail> {
+        answer(alloc, self, look_up, subject)
+    }
+}

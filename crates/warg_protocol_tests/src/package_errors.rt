@@ -1,0 +1,64 @@
+//! The errors of package logs, in words.
+use crate::people::id;
+use std::alloc::Global;
+use std::test::Fail;
+use warg_crypto::hash::HashAlgorithm;
+use warg_crypto::signing::SignatureError;
+use warg_protocol::Version;
+use warg_protocol::package::{Permission, ValidationError};
+
+/// The error that words say: its case, a person or a version, and a permission.
+pub fn error(
+    alloc: Global,
+    case: &str,
+    subject: &str,
+    permission: &str,
+) -> Result<ValidationError, Fail> {
+    match case {
+        "KeyIDNotRecognized" => Ok(ValidationError::KeyIDNotRecognized {
+            key_id: id(alloc, subject)?,
+        }),
+        "UnauthorizedAction" => Ok(ValidationError::UnauthorizedAction {
+            key_id: id(alloc, subject)?,
+            needed_permission: permission.parse::<Permission>()?,
+        }),
+        "PermissionNotFoundToRevoke" => Ok(ValidationError::PermissionNotFoundToRevoke {
+            key_id: id(alloc, subject)?,
+            permission: permission.parse::<Permission>()?,
+        }),
+        "ProtocolVersionNotAllowed" => Ok(ValidationError::ProtocolVersionNotAllowed {
+            version: subject.parse::<u32>()?,
+        }),
+        "ReleaseOfReleased" | "YankOfUnreleased" | "YankOfYanked" => {
+            of_version(case, Version::parse(alloc, subject)?)
+        }
+        _ => without_fields(case),
+    }
+}
+
+fn of_version(case: &str, version: Version) -> Result<ValidationError, Fail> {
+    Ok(match case {
+        "ReleaseOfReleased" => ValidationError::ReleaseOfReleased { version },
+        "YankOfUnreleased" => ValidationError::YankOfUnreleased { version },
+        _ => ValidationError::YankOfYanked { version },
+    })
+}
+
+fn without_fields(case: &str) -> Result<ValidationError, Fail> {
+    Ok(match case {
+        "FirstEntryIsNotInit" => ValidationError::FirstEntryIsNotInit,
+        "InitialRecordDoesNotInit" => ValidationError::InitialRecordDoesNotInit,
+        "InitialEntryAfterBeginning" => ValidationError::InitialEntryAfterBeginning,
+        "SignatureError" => ValidationError::from(SignatureError::Refused),
+        "IncorrectHashAlgorithm" => ValidationError::IncorrectHashAlgorithm {
+            found: HashAlgorithm::Sha256,
+            expected: HashAlgorithm::Sha256,
+        },
+        "RecordHashDoesNotMatch" => ValidationError::RecordHashDoesNotMatch,
+        "PreviousHashOnFirstRecord" => ValidationError::PreviousHashOnFirstRecord,
+        "NoPreviousHashAfterInit" => ValidationError::NoPreviousHashAfterInit,
+        "TimestampLowerThanPrevious" => ValidationError::TimestampLowerThanPrevious,
+        "OutOfMemory" => ValidationError::from(SignatureError::OutOfMemory),
+        _ => return Err(Fail::new("a strange error")),
+    })
+}

@@ -1,0 +1,377 @@
+//! Package logs.
+use crate::package_errors::error;
+use crate::play::{log_of, play};
+use crate::script::words_of;
+use std::test::Fail;
+use warg_protocol::package::LogState;
+
+#[test]
+fn a_log_begins(rt: HostRuntime) -> Result<(), Fail> {
+    let script = "
+        ? head digest = none
+        ? key alice = none
+        ? permissions alice = none
+        ? releases = only
+        ? latest * = none
+        ? release 1.0.0 = none
+        alice 1.0: init alice
+        ? head digest = sha256:bc312bcd1f8ed61ce4ac73c5de8ea64df97cc97c4ab579a7330f563d88266820
+        ? head time = 1.0
+        ? key alice = toy:YWxpY2U=
+        ? permissions alice = only release yank
+        ? effect 0 alice yank = gives
+        ? effect 0 bob yank = nothing
+        ? key bob = none
+        ? permissions bob = none
+        ? releases = only
+        ? latest * = none
+    ";
+    play::<LogState>(&rt, rt.alloc(), script)
+}
+
+// Bob releases, and alice takes his permissions and yanks it.
+const YANKED: &str = "
+    alice 1.0: init alice, grant bob release yank
+    ? head digest = sha256:a81d0fa3471ae2d21cbfdb301daf648089c44117ca34d9b3228989919cd5285a
+    ? permissions bob = only release yank
+    ? effect 0 alice release = gives
+    ? effect 1 bob yank = gives
+    ? effect 1 alice yank = nothing
+    bob 2.0: release 1.1.0 \0\x01\x02\x03
+    ? head digest = sha256:980dfd23c944eebfbcc477c24acde9b1c3838478faa48d4f9e13e947740a3482
+    ? latest ~1 = 1.1.0
+    ? latest ~1.2 = none
+    ? releases = only 1.1.0
+    ? release 1.1.0 = by bob at 2.0
+    ? record 1.1.0 = sha256:980dfd23c944eebfbcc477c24acde9b1c3838478faa48d4f9e13e947740a3482
+    ? content 1.1.0 = sha256:054edec1d0211f624fed0cbca9d4f9400b0e491c43742af2c5b0abebf0c990d8
+    alice 3.0: revoke bob release yank, yank 1.1.0
+    ? head digest = sha256:88e63a3e22d45d5304a601e1f3f96e4c8edb3772b5250b528a833bfbf3c3c718
+    ? head time = 3.0
+    ? latest ~1 = none
+    ? releases = only 1.1.0
+    ? release 1.1.0 = by bob at 2.0, yanked by alice at 3.0
+    ? record 1.1.0 = sha256:980dfd23c944eebfbcc477c24acde9b1c3838478faa48d4f9e13e947740a3482
+    ? content 1.1.0 = none
+    ? key bob = toy:Ym9i
+    ? permissions bob = only
+    ? permissions alice = only release yank
+    ? effect 0 bob yank = takes
+    ? effect 0 alice yank = nothing
+    ? effect 1 bob yank = nothing
+    ? effect 2 bob yank = past the end
+";
+
+#[test]
+fn a_release_stands_until_it_is_yanked(rt: HostRuntime) -> Result<(), Fail> {
+    play::<LogState>(&rt, rt.alloc(), YANKED)
+}
+
+#[test]
+fn the_latest_release_is_the_greatest(rt: HostRuntime) -> Result<(), Fail> {
+    for script in [
+        "
+        alice 1.0: init alice
+        alice 2.0: release 1.0.0, release 1.2.0, release 1.1.0
+        ? latest * = 1.2.0
+        ? latest <1.2 = 1.1.0
+        ? latest =1.0.0 = 1.0.0
+        ? latest ^2 = none
+        ? releases = only 1.0.0 1.2.0 1.1.0
+        alice 3.0: yank 1.2.0
+        ? latest * = 1.1.0
+        ? releases = only 1.0.0 1.2.0 1.1.0
+        ",
+        "
+        alice 1.0: init alice, release 1.0.0+b, release 1.0.0+a
+        ? latest * = 1.0.0+b
+        ? releases = only 1.0.0+b 1.0.0+a
+        ",
+        "
+        alice 1.0: init alice, release 1.0.0, release 1.0.0+a, release 1.0.0-rc.1
+        ? latest * = 1.0.0+a
+        ? release 1.0.0 = by alice at 1.0
+        ? release 1.0.0+b = none
+        ",
+    ] {
+        play::<LogState>(&rt, rt.alloc(), script)?;
+    }
+    Ok(())
+}
+
+#[test]
+fn permissions_are_given_and_taken(rt: HostRuntime) -> Result<(), Fail> {
+    for script in [
+        // A stranger may grant an own key nothing.
+        "
+        alice 1.0: init alice
+        mallory 1.0: grant mallory
+        ? key mallory = toy:bWFsbG9yeQ==
+        ? permissions mallory = only
+        mallory 1.0:
+        mallory 1.0: release 1.0.0
+        ! UnauthorizedAction mallory release
+        ",
+        // Nobody hands on what was taken from them.
+        "
+        alice 1.0: init alice
+        alice 1.0: revoke alice yank
+        ? permissions alice = only release
+        alice 1.0: grant bob yank
+        ! UnauthorizedAction alice yank
+        alice 1.0: revoke alice yank
+        ! UnauthorizedAction alice yank
+        alice 1.0: grant bob release, revoke alice release
+        ? permissions alice = only
+        ? permissions bob = only release
+        alice 1.0:
+        bob 1.0: grant alice release
+        ? permissions alice = only release
+        ",
+        // What comes again comes last, and what stood last takes the place of what goes.
+        "
+        alice 1.0: init alice
+        alice 1.0: grant bob yank release yank
+        ? permissions bob = only yank release
+        alice 1.0: revoke bob yank
+        ? permissions bob = only release
+        alice 1.0: grant bob release yank
+        ? permissions bob = only release yank
+        alice 1.0: revoke bob
+        ? permissions bob = only release yank
+        alice 1.0: revoke carol
+        ? permissions carol = none
+        ",
+    ] {
+        play::<LogState>(&rt, rt.alloc(), script)?;
+    }
+    Ok(())
+}
+
+#[test]
+fn first_records_are_refused(rt: HostRuntime) -> Result<(), Fail> {
+    let script = "
+        alice 1.0: release 1.0.0
+        ! UnauthorizedAction alice release
+        alice 1.0: yank 1.0.0
+        ! UnauthorizedAction alice yank
+        alice 1.0: grant bob release
+        ! FirstEntryIsNotInit
+        alice 1.0: revoke alice release
+        ! FirstEntryIsNotInit
+        alice 1.0:
+        ! InitialRecordDoesNotInit
+        carol 1.0:
+        ! InitialRecordDoesNotInit
+        alice 1.0: init alice, init alice
+        ! InitialEntryAfterBeginning
+        carol 1.0: init alice
+        ! KeyIDNotRecognized carol
+        carol 1.0: init alice, grant carol release
+        ! KeyIDNotRecognized carol
+        alice 1.0 mislinked: init alice
+        ! PreviousHashOnFirstRecord
+        alice 1.0 mislinked v7: init alice
+        ! PreviousHashOnFirstRecord
+        alice 1.0 v7: init alice
+        ! ProtocolVersionNotAllowed 7
+        ? head time = none
+        ? key alice = none
+        ? permissions alice = none
+    ";
+    play::<LogState>(&rt, rt.alloc(), script)
+}
+
+#[test]
+fn later_records_are_refused(rt: HostRuntime) -> Result<(), Fail> {
+    let script = "
+        alice 2.0: init alice
+        alice 2.0: init alice
+        ! InitialEntryAfterBeginning
+        alice 2.0: grant bob release, revoke not-valid release
+        ! PermissionNotFoundToRevoke not-valid release
+        ? key bob = none
+        ? permissions bob = none
+        alice 2.0: grant bob release, revoke bob release release
+        ! PermissionNotFoundToRevoke bob release
+        alice 2.0: grant bob release
+        alice 2.0: revoke bob release release
+        ! PermissionNotFoundToRevoke bob release
+        alice 2.0: revoke bob release yank
+        ! PermissionNotFoundToRevoke bob yank
+        ? permissions bob = only release
+        bob 2.0: grant carol release yank
+        ! UnauthorizedAction bob yank
+        bob 2.0: revoke carol yank
+        ! UnauthorizedAction bob yank
+        bob 2.0: yank 1.0.0
+        ! UnauthorizedAction bob yank
+        carol 2.0: release 1.0.0
+        ! UnauthorizedAction carol release
+        carol 2.0:
+        ! KeyIDNotRecognized carol
+        alice 2.0 v7:
+        ! ProtocolVersionNotAllowed 7
+        alice 2.0 v7 mislinked:
+        ! RecordHashDoesNotMatch
+        alice 2.0 mislinked:
+        ! RecordHashDoesNotMatch
+        alice 2.0 unlinked:
+        ! NoPreviousHashAfterInit
+        alice 1.0 v7:
+        ! ProtocolVersionNotAllowed 7
+        alice 1.999999999: yank 1.0.0
+        ! TimestampLowerThanPrevious
+        alice 2.0:
+        ? head time = 2.0
+        alice 5.0:
+        ? head time = 5.0
+        alice 4.999999999:
+        ! TimestampLowerThanPrevious
+    ";
+    play::<LogState>(&rt, rt.alloc(), script)
+}
+
+#[test]
+fn releases_and_yanks_are_refused(rt: HostRuntime) -> Result<(), Fail> {
+    let script = "
+        alice 1.0: init alice
+        alice 2.0: release 1.0.0, yank 1.0.0, release 1.0.0
+        ! ReleaseOfReleased 1.0.0
+        alice 2.0: release 1.0.0, release 1.0.0 other
+        ! ReleaseOfReleased 1.0.0
+        alice 2.0: release 1.0.0, yank 1.0.0, yank 1.0.0
+        ! YankOfYanked 1.0.0
+        alice 2.0: yank 2.0.0
+        ! YankOfUnreleased 2.0.0
+        ? releases = only
+        alice 2.0: release 1.0.0, release 1.0.0+a
+        ? releases = only 1.0.0 1.0.0+a
+        alice 3.0: yank 1.0.0
+        ? release 1.0.0 = by alice at 2.0, yanked by alice at 3.0
+        ? release 1.0.0+a = by alice at 2.0
+        alice 3.0: release 1.0.0
+        ! ReleaseOfReleased 1.0.0
+        alice 3.0: yank 1.0.0
+        ! YankOfYanked 1.0.0
+        alice 3.0: yank 1.0.0+b
+        ! YankOfUnreleased 1.0.0+b
+    ";
+    play::<LogState>(&rt, rt.alloc(), script)
+}
+
+const BY_BOB: &str = "
+    alice 1.0: init alice, grant bob release yank
+    bob 2.0: release 1.0.0
+    ? release 1.0.0 = by bob at 2.0
+    ? head digest = sha256:36d9d2050e9ef51051d1973d43569e0b8b4c9f1e7aaf0bff3ea88d5f5501b5ed
+";
+
+// The same contents, signed by another.
+const BY_ALICE: &str = "
+    alice 1.0: init alice, grant bob release yank
+    alice 2.0: release 1.0.0
+    ? release 1.0.0 = by alice at 2.0
+    ? head digest = sha256:36d9d2050e9ef51051d1973d43569e0b8b4c9f1e7aaf0bff3ea88d5f5501b5ed
+";
+
+#[test]
+fn a_state_knows_who_signed(rt: HostRuntime) -> Result<(), Fail> {
+    let alloc = rt.alloc();
+    let by_bob = log_of::<LogState>(&rt, alloc, BY_BOB)?.state;
+    let by_alice = log_of::<LogState>(&rt, alloc, BY_ALICE)?.state;
+    assert!(rt; by_bob.head() == by_alice.head());
+    assert!(rt; by_bob != by_alice);
+    let again = log_of::<LogState>(&rt, alloc, BY_BOB)?.state;
+    assert!(rt; by_bob == again);
+    Ok(())
+}
+
+#[test]
+fn copies_are_equal(rt: HostRuntime) -> Result<(), Fail> {
+    let alloc = rt.alloc();
+    for script in [BY_BOB, YANKED] {
+        let state = log_of::<LogState>(&rt, alloc, script)?.state;
+        assert!(rt; LogState::try_clone(&state)? == state);
+        for release in state.releases() {
+            assert!(rt; release.try_clone()? == *release);
+            assert!(rt; release.clone()? == *release);
+            assert!(rt; release.state.try_clone()? == release.state);
+        }
+    }
+    Ok(())
+}
+
+#[test]
+fn a_refusal_says_why(rt: HostRuntime) -> Result<(), Fail> {
+    let alloc = rt.alloc();
+    for (words, text) in [
+        (
+            "FirstEntryIsNotInit",
+            "the first entry of the log is not \"init\"",
+        ),
+        (
+            "InitialRecordDoesNotInit",
+            "the initial record is empty and does not \"init\"",
+        ),
+        (
+            "KeyIDNotRecognized x",
+            "the Key ID used to sign this envelope is not known to this package log",
+        ),
+        (
+            "InitialEntryAfterBeginning",
+            "a second \"init\" entry was found",
+        ),
+        (
+            "UnauthorizedAction x release",
+            "the key with ID x did not have required permission release",
+        ),
+        (
+            "PermissionNotFoundToRevoke x yank",
+            "attempted to remove permission yank from key x which did not have it",
+        ),
+        ("SignatureError", "unable to verify signature"),
+        (
+            "IncorrectHashAlgorithm",
+            "record hash uses sha256 algorithm but sha256 was expected",
+        ),
+        (
+            "RecordHashDoesNotMatch",
+            "previous record hash does not match",
+        ),
+        (
+            "PreviousHashOnFirstRecord",
+            "the first record contained a previous hash value",
+        ),
+        (
+            "NoPreviousHashAfterInit",
+            "non-initial record contained no previous hash",
+        ),
+        (
+            "ProtocolVersionNotAllowed 7",
+            "protocol version 7 not allowed",
+        ),
+        (
+            "TimestampLowerThanPrevious",
+            "record has lower timestamp than previous",
+        ),
+        (
+            "ReleaseOfReleased 1.0.0",
+            "an entry attempted to release version 1.0.0 which is already released",
+        ),
+        (
+            "YankOfUnreleased 1.0.0",
+            "an entry attempted to yank version 1.0.0 which had not yet been released",
+        ),
+        (
+            "YankOfYanked 1.0.0",
+            "an entry attempted to yank version 1.0.0 which is already yanked",
+        ),
+        ("OutOfMemory", "OutOfMemory"),
+    ] {
+        let (case, subject, permission) = words_of(words);
+        let shown = error(alloc, case, subject, permission)?.to_string(alloc)?;
+        assert_eq!(rt; shown.as_str(), text);
+    }
+    Ok(())
+}

@@ -1,0 +1,80 @@
+//! The words of package logs.
+use crate::draft::Draft;
+use crate::package_answers::answer;
+use crate::package_errors::error;
+use crate::people::{id, key, signer};
+use crate::script::{Scripted, permissions_of};
+use std::alloc::Global;
+use std::test::Fail;
+use warg_crypto::hash::HashAlgorithm;
+use warg_protocol::package::{LogState, PackageEntry, PackageRecord, Permission, ValidationError};
+use warg_protocol::registry::RecordId;
+use warg_protocol::{ProtoEnvelope, Version};
+
+// Reads `init alice`, `grant bob release yank`, `revoke bob yank`, `release 1.0.0 content` and `yank 1.0.0`.
+// A content is hashed; without one it is empty.
+fn entry(alloc: Global, verb: &str, subject: &str, rest: &str) -> Result<PackageEntry, Fail> {
+    match verb {
+        "init" => Ok(PackageEntry::Init {
+            hash_algorithm: HashAlgorithm::Sha256,
+            key: key(alloc, subject)?,
+        }),
+        "grant" => Ok(PackageEntry::GrantFlat {
+            key: key(alloc, subject)?,
+            permissions: permissions_of::<LogState>(alloc, rest)?,
+        }),
+        "revoke" => Ok(PackageEntry::RevokeFlat {
+            key_id: id(alloc, subject)?,
+            permissions: permissions_of::<LogState>(alloc, rest)?,
+        }),
+        "release" => Ok(PackageEntry::Release {
+            version: Version::parse(alloc, subject)?,
+            content: HashAlgorithm::Sha256.digest(rest.as_bytes()),
+        }),
+        "yank" => Ok(PackageEntry::Yank {
+            version: Version::parse(alloc, subject)?,
+        }),
+        _ => Err(Fail::new("a strange entry")),
+    }
+}
+
+impl Scripted for LogState {
+    type Entry = PackageEntry;
+
+    fn permission(name: &str) -> Result<Permission, Fail> {
+        Ok(name.parse::<Permission>()?)
+    }
+
+    fn entry(alloc: Global, verb: &str, subject: &str, rest: &str) -> Result<PackageEntry, Fail> {
+        entry(alloc, verb, subject, rest)
+    }
+
+    fn signed(
+        alloc: Global,
+        prev: Option<RecordId>,
+        draft: Draft,
+        entries: Vec<PackageEntry>,
+    ) -> Result<ProtoEnvelope<PackageRecord>, Fail> {
+        let signer = signer(alloc, draft.signer)?;
+        let record = PackageRecord {
+            prev,
+            version: draft.version,
+            timestamp: draft.timestamp,
+            entries,
+        };
+        Ok(ProtoEnvelope::signed_contents(alloc, &signer, record)?)
+    }
+
+    fn error(
+        alloc: Global,
+        case: &str,
+        subject: &str,
+        permission: &str,
+    ) -> Result<ValidationError, Fail> {
+        error(alloc, case, subject, permission)
+    }
+
+    fn answer(&self, alloc: Global, look_up: &str, subject: &str) -> Result<String, Fail> {
+        answer(alloc, self, look_up, subject)
+    }
+}

@@ -1,0 +1,149 @@
+//! Plays a script: a log that grows line by line, with what is asked of it on the way.
+//!
+//! - A line of hex digits is an envelope, and any other a record that `Draft` reads, signed. It is appended
+//!   unless it is refused; `validate` and `run_from` have to agree.
+//! - `! YankOfYanked 1.0.0`, after a line: that line was refused with this error. The log is as before it.
+//! - `? permissions bob = release yank`: the log's answer to a question.
+use crate::effect::effect_of;
+use crate::fault::cause;
+use crate::script::{Scripted, envelope_of, words_of};
+use std::alloc::Global;
+use std::fmt::Debug;
+use std::process::Abort;
+use std::test::Fail;
+use warg_crypto::toy::ToyVerifier;
+use warg_protocol::{ProtoEnvelope, RunCause, RunError, run, run_from};
+
+/// A log on the way.
+#[derive(Drop)]
+pub struct Player<L: Scripted> {
+    /// The state.
+    pub state: L,
+    /// The strings that made it.
+    pub strings: Vec<Vec<u8>>,
+    refusal: Option<RunCause<L::Error>>,
+}
+
+/// Plays a script from the empty log on.
+pub fn play<L: Scripted>(rt: &impl Abort, alloc: Global, script: &'static str) -> Result<(), Fail>
+where
+    L::Error: Debug + PartialEq,
+{
+    let _ = log_of::<L>(rt, alloc, script)?;
+    Ok(())
+}
+
+/// The log of a script. From its strings alone `run` makes the same state.
+pub fn log_of<L: Scripted>(
+    rt: &impl Abort,
+    alloc: Global,
+    script: &'static str,
+) -> Result<Player<L>, Fail>
+where
+    L::Error: Debug + PartialEq,
+{
+    let mut player = Player::<L> {
+        state: L::new(alloc)?,
+        strings: Vec::new(alloc),
+        refusal: None,
+    };
+    for line in script.trim().lines() {
+        player.play_line(rt, alloc, line.trim())?;
+    }
+    assert!(rt; player.refusal.is_none(), "the last record is refused");
+    let again = run::<L, ToyVerifier>(alloc, &ToyVerifier, player.strings.as_slice());
+    assert!(rt; again.is_ok_and(|state| state == player.state));
+    Ok(player)
+}
+
+/// The state and the cause, where a string comes next.
+fn judged<L: Scripted>(alloc: Global, state: L, string: &[u8]) -> Result<L, RunCause<L::Error>> {
+    let envelope = match ProtoEnvelope::<L::Record>::from_protobuf(alloc, string) {
+        Ok(envelope) => envelope,
+        Err(error) => return Err(RunCause::Parse(error)),
+    };
+    state
+        .validate(&envelope, &ToyVerifier)
+        .map_err(RunCause::Validation)
+}
+
+impl<L: Scripted> Player<L>
+where
+    L::Error: Debug + PartialEq,
+{
+    fn play_line(
+        &mut self,
+        rt: &impl Abort,
+        alloc: Global,
+        line: &'static str,
+    ) -> Result<(), Fail> {
+        if let Some(words) = line.strip_prefix("! ") {
+            let cause = cause::<L>(alloc, words)?;
+            assert_eq!(rt; self.refusal.take(), Some(cause), "{line}");
+            return Ok(());
+        }
+        assert!(rt; self.refusal.is_none(), "refused before {line}");
+        match line.strip_prefix("? ") {
+            Some(question) => self.ask(rt, alloc, question),
+            None => {
+                let string = self.string_of(alloc, line)?;
+                self.append(rt, alloc, string)
+            }
+        }
+    }
+
+    // The bytes of the envelope that a line says.
+    fn string_of(&self, alloc: Global, line: &'static str) -> Result<Vec<u8>, Fail> {
+        if !line.contains(':') {
+            return Ok(hex::decode(alloc, line)?);
+        }
+        let last = self.state.head_digest().copied();
+        let envelope = envelope_of::<L>(alloc, last, line)?;
+        Ok(envelope.to_protobuf(alloc)?)
+    }
+
+    fn append(&mut self, rt: &impl Abort, alloc: Global, string: Vec<u8>) -> Result<(), Fail> {
+        let judged = judged(alloc, self.state.try_clone()?, string.as_slice());
+        let strings = vec![in alloc; string]?;
+        let copy = self.state.try_clone()?;
+        let resumed = run_from(alloc, copy, &ToyVerifier, strings.as_slice());
+        match (judged, resumed) {
+            (Ok(state), Ok(again)) => {
+                assert!(rt; state == again);
+                self.state = state;
+                self.strings.extend(strings)?;
+            }
+            (
+                Err(cause),
+                Err(
+                    RunError {
+                        index,
+                        cause: again,
+                    },
+                ),
+            ) => {
+                assert_eq!(rt; index, 0);
+                assert_eq!(rt; cause, again);
+                self.refusal = Some(cause);
+            }
+            _ => return Err(Fail::new("validate and run_from differ")),
+        }
+        Ok(())
+    }
+
+    fn ask(&self, rt: &impl Abort, alloc: Global, line: &'static str) -> Result<(), Fail> {
+        let (question, answer) = line
+            .split_once(" = ")
+            .ok_or("a question without an answer")?;
+        if let Some(subject) = question.strip_prefix("effect ") {
+            let string = self.strings.last().ok_or("no record")?;
+            let effect = effect_of::<L>(alloc, string.as_slice(), subject)?;
+            assert_eq!(rt; effect, answer, "{line}");
+            return Ok(());
+        }
+        let (look_up, subject, _) = words_of(question);
+        let told = self.state.answer(alloc, look_up, subject)?;
+        assert_eq!(rt; told.as_str(), answer, "{line}");
+        Ok(())
+    }
+}

@@ -1,0 +1,76 @@
+//! What a kind of log adds to the script language, and the envelopes of scripted records.
+use crate::draft::Draft;
+use std::alloc::Global;
+use std::test::Fail;
+use warg_protocol::registry::RecordId;
+use warg_protocol::{ProtoEnvelope, Validator};
+
+/// A kind of log that scripts speak of.
+pub trait Scripted: Validator {
+    /// An entry of a record.
+    type Entry: Drop;
+
+    /// The permission of this name.
+    fn permission(name: &str) -> Result<Self::Permission, Fail>;
+
+    /// The entry that words say: what it does, to whom or what, and the rest.
+    fn entry(alloc: Global, verb: &str, subject: &str, rest: &str) -> Result<Self::Entry, Fail>;
+
+    /// The draft's record with these entries, after `prev`, in an envelope that the draft's signer signs.
+    fn signed(
+        alloc: Global,
+        prev: Option<RecordId>,
+        draft: Draft,
+        entries: Vec<Self::Entry>,
+    ) -> Result<ProtoEnvelope<Self::Record>, Fail>;
+
+    /// The error that words say: its case, whom or what it is about, and a permission.
+    fn error(
+        alloc: Global,
+        case: &str,
+        subject: &str,
+        permission: &str,
+    ) -> Result<Self::Error, Fail>;
+
+    /// What the state answers: to which look-up, of whom or what.
+    fn answer(&self, alloc: Global, look_up: &str, subject: &str) -> Result<String, Fail>;
+}
+
+/// The first word of a text, the second, and what follows; empty texts where they are missing.
+pub fn words_of(text: &str) -> (&str, &str, &str) {
+    let (first, rest) = text.split_once(' ').unwrap_or((text, ""));
+    let (second, rest) = rest.split_once(' ').unwrap_or((rest, ""));
+    (first, second, rest)
+}
+
+/// The permissions of these names.
+pub fn permissions_of<L: Scripted>(alloc: Global, names: &str) -> Result<Vec<L::Permission>, Fail> {
+    let mut permissions = Vec::new(alloc);
+    for name in names.split_whitespace() {
+        permissions.push(L::permission(name)?)?;
+    }
+    Ok(permissions)
+}
+
+// The entries, which stand between commas.
+fn entries_of<L: Scripted>(alloc: Global, texts: &str) -> Result<Vec<L::Entry>, Fail> {
+    let mut entries = Vec::new(alloc);
+    for text in texts.split(',') {
+        let (verb, subject, rest) = words_of(text.trim());
+        if verb != "" {
+            entries.push(L::entry(alloc, verb, subject, rest)?)?;
+        }
+    }
+    Ok(entries)
+}
+
+/// The envelope of the record that a line says, in a log whose last record is `last`.
+pub fn envelope_of<L: Scripted>(
+    alloc: Global,
+    last: Option<RecordId>,
+    line: &'static str,
+) -> Result<ProtoEnvelope<L::Record>, Fail> {
+    let draft = Draft::parse(line)?;
+    let entries = entries_of::<L>(alloc, draft.entries)?;
+    L::signed(alloc, draft.prev(last), draft, entries)
+}
