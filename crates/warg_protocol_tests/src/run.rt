@@ -1,12 +1,13 @@
 //! Whole logs, read as strings.
 use crate::fault::cause;
+use crate::play::log_of;
 use crate::script::{Scripted, envelope_of};
 use std::alloc::Global;
 use std::fmt::Debug;
 use std::process::Abort;
 use std::test::Fail;
 use warg_crypto::toy::ToyVerifier;
-use warg_protocol::{RunError, operator, package, run};
+use warg_protocol::{ProtoEnvelope, RunError, operator, package, run, run_from};
 
 // The strings of a script without answers. A record names the one before it, be that lawful or not.
 fn strings_of<L: Scripted>(alloc: Global, script: &'static str) -> Result<Vec<Vec<u8>>, Fail> {
@@ -147,5 +148,53 @@ fn an_operator_offends_too(rt: HostRuntime) -> Result<(), Fail> {
     ] {
         refuse::<operator::LogState>(&rt, rt.alloc(), script, index, cause)?;
     }
+    Ok(())
+}
+
+const BOB_RELEASES: &str = "
+    alice 1.0: init alice, grant bob release yank
+    bob 2.0: release 1.1.0
+";
+
+const ALICE_YANKS: &str = "
+    alice 1.0: init alice, grant bob release yank
+    bob 2.0: release 1.1.0
+    alice 3.0: revoke bob release yank, yank 1.1.0
+";
+
+#[test]
+fn a_log_goes_on(rt: HostRuntime) -> Result<(), Fail> {
+    let alloc = rt.alloc();
+    let before = log_of::<package::LogState>(&rt, alloc, BOB_RELEASES)?.state;
+    let mut after = log_of::<package::LogState>(&rt, alloc, ALICE_YANKS)?;
+    let last = after.strings.pop().ok_or("no strings")?;
+    let once = vec![in alloc; last.clone()?]?;
+    let resumed = run_from(alloc, before.try_clone()?, &ToyVerifier, once.as_slice());
+    assert!(rt; resumed.is_ok_and(|state| state == after.state));
+    let twice = vec![in alloc; last.clone()?, last]?;
+    let cause = cause::<package::LogState>(alloc, "RecordHashDoesNotMatch")?;
+    let resumed = run_from(alloc, before.try_clone()?, &ToyVerifier, twice.as_slice());
+    assert!(rt; resumed == Err(RunError { index: 1, cause }));
+    let resumed = run_from(alloc, before.try_clone()?, &ToyVerifier, &[]);
+    assert!(rt; resumed == Ok(before));
+    Ok(())
+}
+
+fn reads_back<L: Scripted>(alloc: Global, line: &'static str) -> Result<bool, Fail>
+where
+    L::Record: PartialEq,
+{
+    let envelope = envelope_of::<L>(alloc, None, line)?;
+    let bytes = envelope.to_protobuf(alloc)?;
+    Ok(ProtoEnvelope::<L::Record>::from_protobuf(alloc, bytes.as_slice())? == envelope)
+}
+
+#[test]
+fn envelopes_are_read_back(rt: HostRuntime) -> Result<(), Fail> {
+    let package =
+        "alice 1.0: init alice, grant bob release yank, revoke bob release, release 1.0.0 \0\x01\x02\x03";
+    assert!(rt; reads_back::<package::LogState>(rt.alloc(), package)?);
+    let operator = "alice 1.0: init alice, grant bob commit, revoke bob commit";
+    assert!(rt; reads_back::<operator::LogState>(rt.alloc(), operator)?);
     Ok(())
 }
