@@ -1,5 +1,5 @@
 -- What the program answers to its words and the bytes of its input.
-use Rattle.std.specs.Prelude.{◌≡◌, ℕ, ◌<◌, ◌≤◌, List, [], ◌∷◌, ◌++◌, length, codes, Option, Some, None, Result, Ok, Err, IsErr}
+use Rattle.std.specs.Prelude.{◌≡◌, ℕ, ◌<◌, ◌≤◌, nat_lt, if◌then◌else◌, List, [], ◌∷◌, ◌++◌, length, codes, Option, Some, None, Result, Ok, Err, IsErr}
 use Rattle.hex.specs.declared.error.FromHexError.{FromHexError}
 use Rattle.warg_crypto.specs.RecordIds.{package_record_id_of, operator_record_id_of}
 use Rattle.warg_crypto.specs.declared.hash.AnyHash.{AnyHash}
@@ -11,8 +11,8 @@ use Rattle.warg_audit.specs.declared.command.Kind.TheVariants.{Package, Operator
 use Rattle.warg_audit.specs.declared.command.Command.{Command}
 use Rattle.warg_audit.specs.declared.command.Command.TheVariants.{Id, Audit}
 use Rattle.warg_audit.specs.Commands.{command_of}
-use Rattle.warg_audit.specs.Kinds.{IsKindAnswer}
-use Rattle.warg_audit.specs.Lines.{AreLines, string_of}
+use Rattle.warg_audit.specs.Kinds.{IsKindAnswer, kind_answer}
+use Rattle.warg_audit.specs.Lines.{AreLines, string_of, lines_of}
 use Rattle.warg_audit.specs.Names.{wire_name}
 use Rattle.warg_audit.specs.Printed.{Printed, usage, too_long, bad_line, record_id, refused}
 
@@ -50,7 +50,7 @@ pub data IsAnswer (words : List (List ℕ)) (bytes : List ℕ) (printed : Printe
   of_lines : (command : Command) (lines : List (List ℕ)) → command_of words ≡ Some command → length bytes ≤ 16_777_216
       → AreLines bytes lines → IsCommandAnswer command lines printed → IsAnswer words bytes printed
 
--- ---- the same, computed: the only answer to lines of which an id is asked (`laws`)
+-- ---- the same, computed: the only answer (`laws`)
 
 abbrev pub envelope_answer : Kind → Result EnvelopeValue WireError → Printed
 envelope_answer kind (Ok envelope) = record_id (record_id_of kind envelope.contents)
@@ -65,3 +65,15 @@ string_answer kind (Ok bytes) (next ∷ more) = bad_line 1
 abbrev pub id_answer : Kind → List (List ℕ) → Printed
 id_answer kind [] = bad_line 0
 id_answer kind (line ∷ more) = string_answer kind (string_of line) more
+
+abbrev pub command_answer : Command → List (List ℕ) → Printed
+command_answer (Id kind) lines = id_answer kind lines
+command_answer (Audit kind) lines = kind_answer kind lines
+
+-- by what the words ask for
+abbrev pub asked_answer : Option Command → List ℕ → Printed
+asked_answer None bytes = usage
+asked_answer (Some command) bytes = if nat_lt 16_777_216 (length bytes) then too_long else command_answer command (lines_of bytes)
+
+abbrev pub answer_of : List (List ℕ) → List ℕ → Printed
+answer_of words bytes = asked_answer (command_of words) bytes

@@ -1,37 +1,55 @@
 -- Both kinds of log as the program shows them.
 use Rattle.std.specs.Prelude.{ℕ, List, []}
 use Rattle.warg_crypto.specs.Signed.{toy_belongs}
-use Rattle.warg_records.specs.Faults.{fault_of}
+use Rattle.warg_records.specs.Faults.{RecordFault}
+use Rattle.warg_records.specs.OperatorEntries.{OperatorAct}
 use Rattle.warg_records.specs.OperatorReading.{operator_record_of}
+use Rattle.warg_records.specs.PackageEntries.{PackageAct}
 use Rattle.warg_records.specs.PackageReading.{package_record_of}
-use Rattle.warg_operator_log.specs.State as operator
-use Rattle.warg_operator_log.specs.StateLaws as operator_rules
-use Rattle.warg_package_log.specs.State as in_package
-use Rattle.warg_package_log.specs.StateLaws as package_rules
+use Rattle.warg_records.specs.Readings.{Said}
+use Rattle.warg_records.specs.declared.operator.permission.Permission.{Permission as OperatorPermission}
+use Rattle.warg_records.specs.declared.package.permission.Permission.{Permission as PackagePermission}
+use Rattle.warg_log.specs.History.{Wrong}
+use Rattle.warg_operator_log.specs.Namespaces.{OwnOffence as NamespaceOffence}
+use Rattle.warg_operator_log.specs.State.{View as OperatorView}
+use Rattle.warg_operator_log.specs.StateLaws.{kind as operator_kind}
+use Rattle.warg_package_log.specs.Releases.{OwnOffence as ReleaseOffence}
+use Rattle.warg_package_log.specs.State.{View as PackageView}
+use Rattle.warg_package_log.specs.StateLaws.{kind as package_kind}
 use Rattle.warg_audit.specs.declared.command.Kind.{Kind}
 use Rattle.warg_audit.specs.declared.command.Kind.TheVariants.{Package, Operator}
-use Rattle.warg_audit.specs.ErrorNames.{package_error_name, operator_error_name}
-use Rattle.warg_audit.specs.LogAnswers.{IsAuditAnswer}
+use Rattle.warg_audit.specs.LogAnswers.{Shown, IsAuditAnswer, audit_answer}
+use Rattle.warg_audit.specs.Names.{record_fault_name}
+use Rattle.warg_audit.specs.OffenceNames.{wrong_name, release_offence_name, namespace_offence_name}
 use Rattle.warg_audit.specs.Printed.{Printed}
 use Rattle.warg_audit.specs.ReleaseLines.{release_lines}
 
+-- a package log shows its releases
+abbrev pub package_log : Shown (Said PackagePermission PackageAct) RecordFault PackageView (Wrong PackagePermission ReleaseOffence)
+package_log = record {
+  kind = package_kind;
+  read = package_record_of;
+  fault_name = record_fault_name;
+  offence_name = wrong_name release_offence_name;
+  shown = λ view. release_lines view.whole.matter;
+}
+
+-- an operator log shows nothing more
+abbrev pub operator_log : Shown (Said OperatorPermission OperatorAct) RecordFault OperatorView (Wrong OperatorPermission NamespaceOffence)
+operator_log = record {
+  kind = operator_kind;
+  read = operator_record_of;
+  fault_name = record_fault_name;
+  offence_name = wrong_name namespace_offence_name;
+  shown = λ view. [];
+}
+
 -- the answer to the lines of a log of this kind, whose signatures are of the toy scheme
 abbrev pub IsKindAnswer : Kind → List (List ℕ) → Printed → Type 0
-IsKindAnswer Package lines printed = IsAuditAnswer (record {
-  kind = package_rules.kind;
-  read = package_record_of;
-  fault_of = fault_of;
-  view = in_package.view_of;
-  offence_of = in_package.offence_of;
-  error_name = package_error_name;
-  state_lines = λ state. release_lines (in_package.view_of state).whole.matter;
-}) toy_belongs lines printed
-IsKindAnswer Operator lines printed = IsAuditAnswer (record {
-  kind = operator_rules.kind;
-  read = operator_record_of;
-  fault_of = fault_of;
-  view = operator.view_of;
-  offence_of = operator.offence_of;
-  error_name = operator_error_name;
-  state_lines = λ _. [];
-}) toy_belongs lines printed
+IsKindAnswer Package lines printed = IsAuditAnswer package_log toy_belongs lines printed
+IsKindAnswer Operator lines printed = IsAuditAnswer operator_log toy_belongs lines printed
+
+-- the same, computed: the only answer (`laws`)
+abbrev pub kind_answer : Kind → List (List ℕ) → Printed
+kind_answer Package lines = audit_answer package_log toy_belongs lines
+kind_answer Operator lines = audit_answer operator_log toy_belongs lines

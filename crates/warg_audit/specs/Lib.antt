@@ -3,7 +3,7 @@ pub mod Lines
 pub mod Names
 pub mod Printed
 pub mod LogAnswers
-pub mod ErrorNames
+pub mod OffenceNames
 pub mod ReleaseLines
 pub mod Kinds
 pub mod Answers

@@ -1,7 +1,5 @@
 -- The names of refusals: the names of their cases, from the outside in, joined by dots.
-use Rattle.std.specs.Prelude.{ℕ, List, ◌++◌, codes}
-use Rattle.warg_crypto.specs.declared.coding.DecodeError.{DecodeError}
-use Rattle.warg_crypto.specs.declared.coding.DecodeError.TheVariants as decode
+use Rattle.std.specs.Prelude.{ℕ, List, ◌++◌, codes, Option, unwrap_or}
 use Rattle.warg_crypto.specs.declared.coding.WireFault.{WireFault}
 use Rattle.warg_crypto.specs.declared.coding.WireFault.TheVariants as fault
 use Rattle.warg_crypto.specs.declared.hash.AnyHashError.{AnyHashError}
@@ -12,10 +10,10 @@ use Rattle.warg_crypto.specs.declared.signing.error.SignatureParseError.{Signatu
 use Rattle.warg_crypto.specs.declared.signing.error.SignatureParseError.TheVariants as signature
 use Rattle.warg_protobuf.specs.declared.error.WireError.{WireError}
 use Rattle.warg_protobuf.specs.declared.error.WireError.TheVariants as wire
-use Rattle.warg_records.specs.declared.proto_envelope.error.ParseEnvelopeError.{ParseEnvelopeError}
-use Rattle.warg_records.specs.declared.proto_envelope.error.ParseEnvelopeError.TheVariants as parse
-use Rattle.warg_validator.specs.declared.replay.RunCause.{RunCause}
-use Rattle.warg_validator.specs.declared.replay.RunCause.TheVariants.{Parse, Validation}
+use Rattle.warg_records.specs.Envelopes.{EnvelopeFault, ProtobufEnvelope, Contents, Signature, KeyID, ContentsOutOfMemory}
+use Rattle.warg_records.specs.Faults.{RecordFault}
+use Rattle.warg_records.specs.Faults as record_fault
+use Rattle.warg_validator.specs.Strings.{Cause, Unread, Unlawful}
 
 abbrev pub wire_name : WireError → List ℕ
 wire_name wire.Truncated = codes "Truncated"
@@ -53,27 +51,31 @@ signature_error_name signature.EmptyAlgorithm = codes "EmptyAlgorithm"
 signature_error_name signature.BadBase64 = codes "BadBase64"
 signature_error_name signature.OutOfMemory = codes "OutOfMemory"
 
-abbrev pub decode_error_name : DecodeError → List ℕ
-decode_error_name (decode.Wire e) = codes "Wire." ++ wire_fault_name e
-decode_error_name (decode.Prev e) = codes "Prev." ++ hash_error_name e
-decode_error_name decode.MissingTime = codes "MissingTime"
-decode_error_name decode.TimeOutOfRange = codes "TimeOutOfRange"
-decode_error_name decode.EmptyEntry = codes "EmptyEntry"
-decode_error_name decode.Algorithm = codes "Algorithm"
-decode_error_name (decode.Key e) = codes "Key." ++ key_error_name e
-decode_error_name (decode.Permission value) = codes "Permission"
-decode_error_name decode.Version = codes "Version"
-decode_error_name (decode.ContentHash e) = codes "ContentHash." ++ hash_error_name e
-decode_error_name decode.OutOfMemory = codes "OutOfMemory"
+abbrev pub record_fault_name : RecordFault → List ℕ
+record_fault_name (record_fault.Wire e) = codes "Wire." ++ wire_fault_name e
+record_fault_name (record_fault.Prev e) = codes "Prev." ++ hash_error_name e
+record_fault_name record_fault.MissingTime = codes "MissingTime"
+record_fault_name record_fault.TimeOutOfRange = codes "TimeOutOfRange"
+record_fault_name record_fault.EmptyEntry = codes "EmptyEntry"
+record_fault_name record_fault.Algorithm = codes "Algorithm"
+record_fault_name (record_fault.Key e) = codes "Key." ++ key_error_name e
+record_fault_name (record_fault.Permission value) = codes "Permission"
+record_fault_name record_fault.Version = codes "Version"
+record_fault_name (record_fault.ContentHash e) = codes "ContentHash." ++ hash_error_name e
 
-abbrev pub parse_error_name : ParseEnvelopeError → List ℕ
-parse_error_name (parse.ProtobufEnvelope e) = codes "ProtobufEnvelope." ++ wire_name e
-parse_error_name (parse.Contents e) = codes "Contents." ++ decode_error_name e
-parse_error_name (parse.KeyID e) = codes "KeyID." ++ hash_error_name e
-parse_error_name (parse.Signature e) = codes "Signature." ++ signature_error_name e
-parse_error_name parse.OutOfMemory = codes "OutOfMemory"
+-- the name of what is wrong with contents, where none is want of memory
+abbrev pub contents_name : Option (List ℕ) → List ℕ
+contents_name name = unwrap_or name (codes "OutOfMemory")
 
--- the name of the error of a refused string, over names of the errors of its record
-abbrev pub refusal_name : {E : Type 0} → (E → List ℕ) → RunCause E → List ℕ
-refusal_name name (Parse e) = parse_error_name e
-refusal_name name (Validation e) = name e
+module _ {F : Type 0} (fault_name : F → List ℕ) where
+  abbrev pub envelope_fault_name : EnvelopeFault F → List ℕ
+  envelope_fault_name (ProtobufEnvelope e) = codes "ProtobufEnvelope." ++ wire_name e
+  envelope_fault_name (Contents f) = codes "Contents." ++ fault_name f
+  envelope_fault_name (Signature e) = codes "Signature." ++ signature_error_name e
+  envelope_fault_name (KeyID e) = codes "KeyID." ++ hash_error_name e
+  envelope_fault_name ContentsOutOfMemory = codes "Contents." ++ codes "OutOfMemory"
+
+  -- the name of why a string can't come next
+  abbrev pub cause_name : {C : Type 0} → (C → List ℕ) → Cause (EnvelopeFault F) C → List ℕ
+  cause_name offence_name (Unread f) = envelope_fault_name f
+  cause_name offence_name (Unlawful c) = offence_name c

@@ -1,7 +1,8 @@
 //! Laws of the definitions, as functions that do nothing.
 
 ghost use Rattle.std.specs.Prelude.{◌≡◌, ℕ, List};
-ghost use Rattle.warg_audit.specs.Answers.{IsIdAnswer, id_answer};
+ghost use Rattle.warg_audit.specs.Answers.{IsIdAnswer, id_answer, IsAnswer, answer_of};
+ghost use Rattle.warg_audit.specs.Kinds.{IsKindAnswer, kind_answer};
 ghost use Rattle.warg_audit.specs.declared.command.Kind.{Kind};
 ghost use Rattle.warg_audit.specs.Printed.{Printed};
 ghost use Rattle.warg_audit.specs.Lines.{AreLines, lines_of};
@@ -20,4 +21,19 @@ pub fn one_id_answer()
     ensures only { (kind : Kind) (lines : List (List ℕ)) (printed : Printed) → IsIdAnswer kind lines printed → printed ≡ id_answer kind lines }
 {
     decoding_computes();
+}
+
+/// The lines of a log have an answer, and no other one.
+pub fn one_log_answer()
+    ensures some { (kind : Kind) (lines : List (List ℕ)) → IsKindAnswer kind lines (kind_answer kind lines) }
+    ensures only { (kind : Kind) (lines : List (List ℕ)) (printed : Printed) → IsKindAnswer kind lines printed → printed ≡ kind_answer kind lines }
+{}
+
+/// Words and bytes have an answer, and no other one: a text, printed whole, and a status.
+pub fn one_answer()
+    ensures some { (words : List (List ℕ)) (bytes : List ℕ) → IsAnswer words bytes (answer_of words bytes) }
+    ensures only { (words : List (List ℕ)) (bytes : List ℕ) (printed : Printed) → IsAnswer words bytes printed → printed ≡ answer_of words bytes }
+{
+    one_id_answer();
+    one_log_answer();
 }

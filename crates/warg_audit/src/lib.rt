@@ -23,6 +23,3 @@ pub use output::Output;
 pub use program::{OUT_OF_MEMORY, USAGE, audit, make_reply};
 pub use reading::MAX_INPUT;
 pub use reply::Reply;
-
-#[cfg(test)]
-mod tests;

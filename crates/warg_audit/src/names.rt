@@ -1,7 +1,10 @@
 //! The names of refusals, which take no memory.
 
 ghost use Rattle.std.specs.Prelude.{◌≡◌, ◌++◌};
-ghost use Rattle.warg_audit.specs.Names.{wire_name, wire_fault_name, hash_error_name, key_error_name, signature_error_name, decode_error_name, parse_error_name};
+ghost use Rattle.std.specs.Option.{option_map};
+ghost use Rattle.warg_records.specs.Envelopes.{envelope_fault_of};
+ghost use Rattle.warg_records.specs.Faults.{fault_of};
+ghost use Rattle.warg_audit.specs.Names.{wire_name, wire_fault_name, hash_error_name, key_error_name, signature_error_name, record_fault_name, contents_name, envelope_fault_name};
 ghost use Rattle.warg_audit.specs.Pieces.{name_text};
 
 use warg_crypto::hash::AnyHashError;
@@ -81,7 +84,7 @@ fn signature_error_name(error: SignatureParseError) -> &'static str
 }
 
 fn decode_error_name(error: DecodeError) -> (&'static str, &'static str)
-    ensures { result.0.now ++ result.1.now ≡ decode_error_name error }
+    ensures { result.0.now ++ result.1.now ≡ contents_name (option_map record_fault_name (fault_of error)) }
 {
     match error {
         DecodeError::Wire(fault) => ("Wire.", wire_fault_name(fault)),
@@ -98,38 +101,34 @@ fn decode_error_name(error: DecodeError) -> (&'static str, &'static str)
     }
 }
 
-/// The name of the error's case, from the outside in.
-pub(crate) fn parse_error_name(error: ParseEnvelopeError) -> Name
-    ensures { name_text result ≡ parse_error_name error }
+/// The name of the fault that the error tells, from the outside in; none for want of memory.
+pub(crate) fn parse_error_name(error: ParseEnvelopeError) -> Option<Name>
+    ensures { option_map name_text result ≡ option_map (envelope_fault_name record_fault_name) (envelope_fault_of fault_of error) }
 {
     match error {
-        ParseEnvelopeError::ProtobufEnvelope(fault) => Name {
+        ParseEnvelopeError::ProtobufEnvelope(fault) => Some(Name {
             outer: "ProtobufEnvelope.",
             middle: wire_name(fault),
             inner: "",
-        },
+        }),
         ParseEnvelopeError::Contents(fault) => {
             let (middle, inner) = decode_error_name(fault);
-            Name {
+            Some(Name {
                 outer: "Contents.",
                 middle,
                 inner,
-            }
+            })
         }
-        ParseEnvelopeError::KeyID(fault) => Name {
+        ParseEnvelopeError::KeyID(fault) => Some(Name {
             outer: "KeyID.",
             middle: hash_error_name(fault),
             inner: "",
-        },
-        ParseEnvelopeError::Signature(fault) => Name {
+        }),
+        ParseEnvelopeError::Signature(fault) => Some(Name {
             outer: "Signature.",
             middle: signature_error_name(fault),
             inner: "",
-        },
-        ParseEnvelopeError::OutOfMemory => Name {
-            outer: "OutOfMemory",
-            middle: "",
-            inner: "",
-        },
+        }),
+        ParseEnvelopeError::OutOfMemory => None,
     }
 }

@@ -1,40 +1,47 @@
 //! Operator logs as the program shows them.
 
-ghost use Rattle.std.specs.Prelude.{[]};
+ghost use Rattle.std.specs.Prelude.{[], refl};
 
 use crate::audited::Audited;
 use std::alloc::{AllocError, Global};
 use warg_operator_log::{LogState, ValidationError};
 
 impl Audited for LogState {
-    ghost use Rattle.warg_audit.specs.ErrorNames.{operator_error_name};
+    ghost use Rattle.warg_audit.specs.Names.{record_fault_name};
+    ghost use Rattle.warg_audit.specs.OffenceNames.{wrong_name, namespace_offence_name};
 
-    ghost name_of = { operator_error_name };
+    ghost fault_name = { record_fault_name };
+
+    ghost offence_name = { wrong_name namespace_offence_name };
 
     ghost lines_of = { λ _. [] };
 
-    fn error_name(error: &ValidationError) -> &'static str {
+    fn error_name(error: &ValidationError) -> Option<&'static str> {
         match error {
-            ValidationError::FirstEntryIsNotInit => "FirstEntryIsNotInit",
-            ValidationError::InitialRecordDoesNotInit => "InitialRecordDoesNotInit",
-            ValidationError::KeyIDNotRecognized { .. } => "KeyIDNotRecognized",
-            ValidationError::InitialEntryAfterBeginning => "InitialEntryAfterBeginning",
-            ValidationError::UnauthorizedAction { .. } => "UnauthorizedAction",
-            ValidationError::PermissionNotFoundToRevoke { .. } => { "PermissionNotFoundToRevoke" }
-            ValidationError::SignatureError(_) => "SignatureError",
-            ValidationError::IncorrectHashAlgorithm { .. } => "IncorrectHashAlgorithm",
-            ValidationError::RecordHashDoesNotMatch => "RecordHashDoesNotMatch",
-            ValidationError::PreviousHashOnFirstRecord => "PreviousHashOnFirstRecord",
-            ValidationError::NoPreviousHashAfterInit => "NoPreviousHashAfterInit",
-            ValidationError::ProtocolVersionNotAllowed { .. } => { "ProtocolVersionNotAllowed" }
-            ValidationError::TimestampLowerThanPrevious => "TimestampLowerThanPrevious",
-            ValidationError::InvalidNamespace { .. } => "InvalidNamespace",
-            ValidationError::NamespaceAlreadyDefined { .. } => "NamespaceAlreadyDefined",
-            ValidationError::OutOfMemory => "OutOfMemory",
+            ValidationError::FirstEntryIsNotInit => Some("FirstEntryIsNotInit"),
+            ValidationError::InitialRecordDoesNotInit => Some("InitialRecordDoesNotInit"),
+            ValidationError::KeyIDNotRecognized { .. } => Some("KeyIDNotRecognized"),
+            ValidationError::InitialEntryAfterBeginning => Some("InitialEntryAfterBeginning"),
+            ValidationError::UnauthorizedAction { .. } => Some("UnauthorizedAction"),
+            ValidationError::PermissionNotFoundToRevoke { .. } => Some(
+                "PermissionNotFoundToRevoke",
+            ),
+            ValidationError::SignatureError(_) => Some("SignatureError"),
+            ValidationError::IncorrectHashAlgorithm { .. } => Some("IncorrectHashAlgorithm"),
+            ValidationError::RecordHashDoesNotMatch => Some("RecordHashDoesNotMatch"),
+            ValidationError::PreviousHashOnFirstRecord => Some("PreviousHashOnFirstRecord"),
+            ValidationError::NoPreviousHashAfterInit => Some("NoPreviousHashAfterInit"),
+            ValidationError::ProtocolVersionNotAllowed { .. } => Some("ProtocolVersionNotAllowed"),
+            ValidationError::TimestampLowerThanPrevious => Some("TimestampLowerThanPrevious"),
+            ValidationError::InvalidNamespace { .. } => Some("InvalidNamespace"),
+            ValidationError::NamespaceAlreadyDefined { .. } => Some("NamespaceAlreadyDefined"),
+            ValidationError::OutOfMemory => None,
         }
     }
 
     fn append_lines(&self, _alloc: Global, _text: &mut String) -> Result<(), AllocError> {
         Ok(())
     }
+
+    ghost one_name = { λ e. refl };
 }

@@ -1,6 +1,6 @@
 //! Package logs as the program shows them.
 
-ghost use Rattle.std.specs.Prelude.{◌≡◌, IfOk, string_bytes};
+ghost use Rattle.std.specs.Prelude.{◌≡◌, IfOk, string_bytes, refl};
 ghost use Rattle.warg_package_log.specs.Catalog.{release_view};
 ghost use Rattle.warg_audit.specs.ReleaseLines.{release_line};
 
@@ -22,33 +22,37 @@ fn release_line(alloc: Global, release: &Release) -> Result<String, AllocError>
 }
 
 impl Audited for LogState {
-    ghost use Rattle.warg_package_log.specs.State.{view_of};
-    ghost use Rattle.warg_audit.specs.ErrorNames.{package_error_name};
+    ghost use Rattle.warg_audit.specs.Names.{record_fault_name};
+    ghost use Rattle.warg_audit.specs.OffenceNames.{wrong_name, release_offence_name};
     ghost use Rattle.warg_audit.specs.ReleaseLines.{release_lines};
 
-    ghost name_of = { package_error_name };
+    ghost fault_name = { record_fault_name };
 
-    ghost lines_of = { λ state. release_lines (view_of state).whole.matter };
+    ghost offence_name = { wrong_name release_offence_name };
 
-    fn error_name(error: &ValidationError) -> &'static str {
+    ghost lines_of = { λ view. release_lines view.whole.matter };
+
+    fn error_name(error: &ValidationError) -> Option<&'static str> {
         match error {
-            ValidationError::FirstEntryIsNotInit => "FirstEntryIsNotInit",
-            ValidationError::InitialRecordDoesNotInit => "InitialRecordDoesNotInit",
-            ValidationError::KeyIDNotRecognized { .. } => "KeyIDNotRecognized",
-            ValidationError::InitialEntryAfterBeginning => "InitialEntryAfterBeginning",
-            ValidationError::UnauthorizedAction { .. } => "UnauthorizedAction",
-            ValidationError::PermissionNotFoundToRevoke { .. } => { "PermissionNotFoundToRevoke" }
-            ValidationError::SignatureError(_) => "SignatureError",
-            ValidationError::IncorrectHashAlgorithm { .. } => "IncorrectHashAlgorithm",
-            ValidationError::RecordHashDoesNotMatch => "RecordHashDoesNotMatch",
-            ValidationError::PreviousHashOnFirstRecord => "PreviousHashOnFirstRecord",
-            ValidationError::NoPreviousHashAfterInit => "NoPreviousHashAfterInit",
-            ValidationError::ProtocolVersionNotAllowed { .. } => { "ProtocolVersionNotAllowed" }
-            ValidationError::TimestampLowerThanPrevious => "TimestampLowerThanPrevious",
-            ValidationError::ReleaseOfReleased { .. } => "ReleaseOfReleased",
-            ValidationError::YankOfUnreleased { .. } => "YankOfUnreleased",
-            ValidationError::YankOfYanked { .. } => "YankOfYanked",
-            ValidationError::OutOfMemory => "OutOfMemory",
+            ValidationError::FirstEntryIsNotInit => Some("FirstEntryIsNotInit"),
+            ValidationError::InitialRecordDoesNotInit => Some("InitialRecordDoesNotInit"),
+            ValidationError::KeyIDNotRecognized { .. } => Some("KeyIDNotRecognized"),
+            ValidationError::InitialEntryAfterBeginning => Some("InitialEntryAfterBeginning"),
+            ValidationError::UnauthorizedAction { .. } => Some("UnauthorizedAction"),
+            ValidationError::PermissionNotFoundToRevoke { .. } => Some(
+                "PermissionNotFoundToRevoke",
+            ),
+            ValidationError::SignatureError(_) => Some("SignatureError"),
+            ValidationError::IncorrectHashAlgorithm { .. } => Some("IncorrectHashAlgorithm"),
+            ValidationError::RecordHashDoesNotMatch => Some("RecordHashDoesNotMatch"),
+            ValidationError::PreviousHashOnFirstRecord => Some("PreviousHashOnFirstRecord"),
+            ValidationError::NoPreviousHashAfterInit => Some("NoPreviousHashAfterInit"),
+            ValidationError::ProtocolVersionNotAllowed { .. } => Some("ProtocolVersionNotAllowed"),
+            ValidationError::TimestampLowerThanPrevious => Some("TimestampLowerThanPrevious"),
+            ValidationError::ReleaseOfReleased { .. } => Some("ReleaseOfReleased"),
+            ValidationError::YankOfUnreleased { .. } => Some("YankOfUnreleased"),
+            ValidationError::YankOfYanked { .. } => Some("YankOfYanked"),
+            ValidationError::OutOfMemory => None,
         }
     }
 
@@ -58,4 +62,6 @@ impl Audited for LogState {
         }
         Ok(())
     }
+
+    ghost one_name = { λ e. refl };
 }

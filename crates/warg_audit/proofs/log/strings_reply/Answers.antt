@@ -2,6 +2,8 @@ use Rattle.std.proofs.Common.{◌≡◌, refl, sym, length, map}
 use Rattle.std.proofs.lemmas.List.{length-map}
 use Rattle.std.proofs.lemmas.Result.{IfOk-weaker}
 use Rattle.std.specs.Vec.{vec_items}
+use Rattle.warg_records.specs.Envelopes.{envelope_fault_of}
+use Rattle.warg_validator.specs.Outcomes.{told}
 use Rattle.warg_audit.specs.Pieces.{name_text}
 use Rattle.warg_audit.specs.Replies.{printed_of}
 use Rattle.warg_audit.proofs.LogLemmas.{state_answers, error_answers}
@@ -10,11 +12,13 @@ use Rattle.warg_audit.proofs.log.strings_reply.Goals as goal
 pub returns-in-Ok : goal.returns-in-Ok
 returns-in-Ok g c =
     IfOk-weaker c.accepted_reply.result _ _
-    (λ reply. state_answers _ _ (map vec_items c.args.strings.now) (printed_of reply) c.in-Ok.state c.in-Ok.ensures (length c.args.strings.now) (sym (length-map c.args.strings.now vec_items)))
+    (λ reply. state_answers _ _ (map vec_items c.args.strings.now) (printed_of reply) g.L.Validator.view (told (envelope_fault_of g.L.Record.Record.fault_of) g.L.Validator.offence_of)
+    c.in-Ok.state c.in-Ok.ensures (length c.args.strings.now) (sym (length-map c.args.strings.now vec_items)))
     c.accepted_reply.ensures
 
 pub returns-in-Some : goal.returns-in-Some
 returns-in-Some g c =
     IfOk-weaker c.refused_reply.result _ _
-    (λ reply. error_answers _ _ (map vec_items c.args.strings.now) (printed_of reply) c.in-Err.error c.in-Err.ensures (c.in-Some.ensures.told.0 refl) (name_text c.in-Some.name) c.in-Some.ensures.name)
+    (λ reply. error_answers _ _ (map vec_items c.args.strings.now) (printed_of reply) g.L.Validator.view (told (envelope_fault_of g.L.Record.Record.fault_of) g.L.Validator.offence_of)
+    c.in-Err.error c.in-Err.ensures refl (name_text c.in-Some.name) c.in-Some.ensures)
     c.refused_reply.ensures

@@ -1,0 +1,26 @@
+-- Names of faults, whichever type says them.
+use Rattle.std.proofs.Common.{◌≡◌, ℕ, List, ◌++◌, codes, refl, sym, ap, ◌∙◌, Option, Some, None}
+use Rattle.std.specs.Option.{option_map}
+use Rattle.warg_crypto.specs.declared.coding.DecodeError.{DecodeError}
+use Rattle.warg_records.specs.Envelopes.{EnvelopeFault, contents_fault_of, envelope_fault_of}
+use Rattle.warg_records.specs.declared.proto_envelope.error.ParseEnvelopeError.{ParseEnvelopeError}
+use Rattle.warg_records.specs.declared.proto_envelope.error.ParseEnvelopeError.TheVariants as error
+use Rattle.warg_validator.specs.Strings.{Cause, Unread}
+use Rattle.warg_audit.specs.Names.{contents_name, envelope_fault_name, cause_name}
+
+pub contents_named : {F : Type 0} (fault_name : F → List ℕ) (told : Option F)
+    → envelope_fault_name fault_name (contents_fault_of told) ≡ codes "Contents." ++ contents_name (option_map fault_name told)
+contents_named fault_name (Some f) = refl
+contents_named fault_name None = refl
+
+-- two types that name the faults of contents alike name those of envelopes alike
+module _ {F G C : Type 0} (fault_name : F → List ℕ) (other_name : G → List ℕ) (fault_of : DecodeError → Option F) (other_of : DecodeError → Option G)
+    (same : (e : DecodeError) → option_map other_name (other_of e) ≡ option_map fault_name (fault_of e)) (offence_name : C → List ℕ) where
+  pub parse_named : (e : ParseEnvelopeError) → option_map (envelope_fault_name fault_name) (envelope_fault_of fault_of e)
+      ≡ option_map (cause_name other_name offence_name) (option_map Unread (envelope_fault_of other_of e))
+  parse_named (error.ProtobufEnvelope w) = refl
+  parse_named (error.Contents e) =
+      ap Some (contents_named fault_name (fault_of e) ∙ ap (λ (n : Option (List ℕ)). codes "Contents." ++ contents_name n) (sym (same e)) ∙ sym (contents_named other_name (other_of e)))
+  parse_named (error.KeyID h) = refl
+  parse_named (error.Signature s) = refl
+  parse_named error.OutOfMemory = refl

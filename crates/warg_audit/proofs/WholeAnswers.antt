@@ -1,0 +1,104 @@
+-- The lines of a log have one answer, and so have words and bytes.
+use Rattle.std.proofs.Common.{◌≡◌, ◌<◌, ◌≤◌, ℕ, Bool, true, false, cond, nat_lt, List, length, refl, sym, ◌∙◌, ap, Option, Some, None, Result, Ok, Err}
+use Rattle.std.proofs.lemmas.Bool.{ltb-true, ltb-false, lt-ltb, le-ltb}
+use Rattle.warg_records.specs.Envelopes.{EnvelopeFault, envelope_of}
+use Rattle.warg_validator.specs.Kinds.{Belief, KindLaws}
+use Rattle.warg_validator.specs.Outcomes.{IsFoundBy, first_offence_from}
+use Rattle.warg_validator.specs.Strings.{Cause}
+use Rattle.warg_validator.proofs.LogLaws.{first-searched}
+use Rattle.warg_crypto.specs.Signed.{toy_belongs}
+use Rattle.warg_operator_log.specs.StateLaws as operator_rules
+use Rattle.warg_package_log.specs.StateLaws as package_rules
+use Rattle.warg_audit.specs.declared.command.Kind.{Kind}
+use Rattle.warg_audit.specs.declared.command.Kind.TheVariants.{Package, Operator}
+use Rattle.warg_audit.specs.declared.command.Command.{Command}
+use Rattle.warg_audit.specs.declared.command.Command.TheVariants.{Id, Audit}
+use Rattle.warg_audit.specs.declared.lines.LineError.{LineError}
+use Rattle.warg_audit.specs.declared.lines.LineError.TheVariants.{Bad, OutOfMemory}
+use Rattle.warg_audit.specs.Answers.{IsIdAnswer, id_answer, IsCommandAnswer, command_answer, IsAnswer, other_words, over_limit, of_lines, asked_answer, answer_of}
+use Rattle.warg_audit.specs.Commands.{command_of}
+use Rattle.warg_audit.specs.Kinds.{package_log, operator_log, IsKindAnswer, kind_answer}
+use Rattle.warg_audit.specs.Lines.{AreLines, lines_of, strings_of}
+use Rattle.warg_audit.specs.LogAnswers.{Shown, IsLogAnswer, all_lawful, first_refused, IsAuditAnswer, first_bad, all_spelled, found_answer, log_answer, spelled_answer, audit_answer}
+use Rattle.warg_audit.specs.Printed.{Printed, too_long}
+use Rattle.warg_audit.proofs.LineLemmas.{lines_of-are, lines_of-only}
+use Rattle.warg_audit.proofs.StringLemmas as spelled
+
+module _ {Meaning Fault View Offence : Type 0} (log : Shown Meaning Fault View Offence) (laws : KindLaws log.kind) (belief : Belief) where
+  found_is : (strings : List (List ℕ)) (found : Option (ℕ × Cause (EnvelopeFault Fault) Offence))
+      → IsFoundBy log.kind belief (envelope_of log.read) log.kind.view_of strings found → IsLogAnswer log belief strings (found_answer log belief strings found)
+  found_is strings None none = all_lawful none refl
+  found_is strings (Some p) first = first_refused p.0 p.1 first refl
+
+  log_is : (strings : List (List ℕ)) → IsLogAnswer log belief strings (log_answer log belief strings)
+  log_is strings =
+      let found = first_offence_from log.kind belief (envelope_of log.read) log.kind.start strings in
+      found_is strings found ((first-searched log.kind laws belief (envelope_of log.read) strings found).1 refl)
+
+  log_only : (strings : List (List ℕ)) (printed : Printed) → IsLogAnswer log belief strings printed → printed ≡ log_answer log belief strings
+  log_only strings printed (all_lawful none e) =
+      e ∙ ap (found_answer log belief strings) (sym ((first-searched log.kind laws belief (envelope_of log.read) strings None).0 none))
+  log_only strings printed (first_refused index cause first e) =
+      e ∙ ap (found_answer log belief strings) (sym ((first-searched log.kind laws belief (envelope_of log.read) strings (Some (index, cause))).0 first))
+
+  spelled_is : (lines : List (List ℕ)) (strings : Result (List (List ℕ)) LineError) → strings_of lines ≡ strings → IsAuditAnswer log belief lines (spelled_answer log belief strings)
+  spelled_is lines (Ok strings) e = all_spelled strings (spelled.spell_from 0 lines strings e) (log_is strings)
+  spelled_is lines (Err (Bad index)) e = first_bad index (spelled.first_bad lines index e) refl
+  spelled_is lines (Err OutOfMemory) e = absurd (spelled.memory_never lines e)
+
+  pub audit_is : (lines : List (List ℕ)) → IsAuditAnswer log belief lines (audit_answer log belief lines)
+  audit_is lines = spelled_is lines (strings_of lines) refl
+
+  pub audit_only : (lines : List (List ℕ)) (printed : Printed) → IsAuditAnswer log belief lines printed → printed ≡ audit_answer log belief lines
+  audit_only lines printed (first_bad index bad e) = e ∙ ap (spelled_answer log belief) (sym (spelled.from_first_bad lines index bad))
+  audit_only lines printed (all_spelled strings spell is) =
+      log_only strings printed is ∙ ap (spelled_answer log belief) (sym (spelled.from_spell 0 lines strings spell))
+
+pub kind_is : (kind : Kind) (lines : List (List ℕ)) → IsKindAnswer kind lines (kind_answer kind lines)
+kind_is Package lines = audit_is package_log package_rules.state_laws toy_belongs lines
+kind_is Operator lines = audit_is operator_log operator_rules.state_laws toy_belongs lines
+
+pub kind_only : (kind : Kind) (lines : List (List ℕ)) (printed : Printed) → IsKindAnswer kind lines printed → printed ≡ kind_answer kind lines
+kind_only Package lines printed is = audit_only package_log package_rules.state_laws toy_belongs lines printed is
+kind_only Operator lines printed is = audit_only operator_log operator_rules.state_laws toy_belongs lines printed is
+
+-- ---- words and bytes
+
+module _ (id_is : (kind : Kind) (lines : List (List ℕ)) → IsIdAnswer kind lines (id_answer kind lines))
+    (log_is : (kind : Kind) (lines : List (List ℕ)) → IsKindAnswer kind lines (kind_answer kind lines)) (words : List (List ℕ)) (bytes : List ℕ) where
+  command_is : (command : Command) (lines : List (List ℕ)) → IsCommandAnswer command lines (command_answer command lines)
+  command_is (Id kind) lines = id_is kind lines
+  command_is (Audit kind) lines = log_is kind lines
+
+  limited_is : (command : Command) → command_of words ≡ Some command → (long : Bool) → nat_lt 16_777_216 (length bytes) ≡ long
+      → IsAnswer words bytes (cond long too_long (command_answer command (lines_of bytes)))
+  limited_is command e true long = over_limit command e (ltb-true 16_777_216 (length bytes) long) refl
+  limited_is command e false short = of_lines command (lines_of bytes) e (ltb-false 16_777_216 (length bytes) short) (lines_of-are bytes) (command_is command (lines_of bytes))
+
+  asked_is : (asked : Option Command) → command_of words ≡ asked → IsAnswer words bytes (asked_answer asked bytes)
+  asked_is None e = other_words e refl
+  asked_is (Some command) e = limited_is command e (nat_lt 16_777_216 (length bytes)) refl
+
+  pub answer_is : IsAnswer words bytes (answer_of words bytes)
+  answer_is = asked_is (command_of words) refl
+
+module _ (id_only : (kind : Kind) (lines : List (List ℕ)) (printed : Printed) → IsIdAnswer kind lines printed → printed ≡ id_answer kind lines)
+    (log_only : (kind : Kind) (lines : List (List ℕ)) (printed : Printed) → IsKindAnswer kind lines printed → printed ≡ kind_answer kind lines)
+    (words : List (List ℕ)) (bytes : List ℕ) (printed : Printed) where
+  command_only : (command : Command) (lines : List (List ℕ)) → IsCommandAnswer command lines printed → printed ≡ command_answer command lines
+  command_only (Id kind) lines is = id_only kind lines printed is
+  command_only (Audit kind) lines is = log_only kind lines printed is
+
+  asked : (command : Option Command) → command_of words ≡ command → asked_answer command bytes ≡ answer_of words bytes
+  asked command e = ap (λ (o : Option Command). asked_answer o bytes) (sym e)
+
+  limited : (command : Command) (long : Bool) → nat_lt 16_777_216 (length bytes) ≡ long
+      → cond long too_long (command_answer command (lines_of bytes)) ≡ asked_answer (Some command) bytes
+  limited command long e = ap (λ (b : Bool). cond b too_long (command_answer command (lines_of bytes))) (sym e)
+
+  pub answer_only : IsAnswer words bytes printed → printed ≡ answer_of words bytes
+  answer_only (other_words e is) = is ∙ asked None e
+  answer_only (over_limit command e long is) = is ∙ limited command true (lt-ltb 16_777_216 (length bytes) long) ∙ asked (Some command) e
+  answer_only (of_lines command lines e short are is) =
+      command_only command lines is ∙ ap (command_answer command) (lines_of-only bytes lines are)
+      ∙ limited command false (le-ltb 16_777_216 (length bytes) short) ∙ asked (Some command) e

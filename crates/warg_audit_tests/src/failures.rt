@@ -1,0 +1,159 @@
+//! Readers and writers that fail.
+
+use crate::answering::{answer, answers, texts};
+use crate::lines::log_of;
+use std::alloc::Global;
+use std::io;
+use std::io::{ErrorKind, Read, Write};
+use std::test::Fail;
+use warg_audit::{Input, Output, audit};
+
+// Gives one byte a read, and fails once its reads are made.
+#[derive(Drop)]
+struct Drip<'b> {
+    rest: &'b [u8],
+    reads: usize,
+}
+
+impl Read for Drip<'_> {
+    fn read(&mut self, buf: &mut [u8]) -> io::Result<usize> {
+        if self.reads == 0 {
+            return Err(io::Error::from(ErrorKind::Other));
+        }
+        self.reads -= 1;
+        if self.rest.is_empty() || buf.is_empty() {
+            return Ok(0);
+        }
+        buf[0] = self.rest[0];
+        self.rest = &self.rest[1..];
+        Ok(1)
+    }
+}
+
+// Whether the input, byte by byte, is answered so as soon as as many reads as it has bytes and one more succeed, and
+// each reader that fails earlier is told.
+fn is_read_bytewise(
+    alloc: Global,
+    words: &[&str],
+    input: &[u8],
+    printed: &str,
+) -> Result<bool, Fail> {
+    for reads in 0..input.len() {
+        let drip = Drip { rest: input, reads };
+        if !answers(alloc, words, drip, "read fault\n", 3)? {
+            return Ok(false);
+        }
+    }
+    let short = Drip {
+        rest: input,
+        reads: input.len(),
+    };
+    let whole = Drip {
+        rest: input,
+        reads: input.len().saturating_add(1),
+    };
+    Ok(
+        answers(alloc, words, short, "read fault\n", 3)?
+            && answers(alloc, words, whole, printed, 0)?,
+    )
+}
+
+#[test]
+fn tells_failed_reads(rt: HostRuntime) -> Result<(), Fail> {
+    let id = "sha256:0dc9969d2a2f84e5467b2f6003184c25d0f354a251864e0646e97436da784001\n";
+    assert!(rt;
+        is_read_bytewise(
+            rt.alloc(),
+            ["id", "package"].as_slice(),
+            b"0a021a00\n".as_slice(),
+            id
+        )?
+    );
+    let log = log_of(rt.alloc(), "abc", "\n")?;
+    let verdict =
+        "ok 3 sha256:88e63a3e22d45d5304a601e1f3f96e4c8edb3772b5250b528a833bfbf3c3c718\n1.1.0 yanked\n";
+    assert!(rt; is_read_bytewise(rt.alloc(), ["package"].as_slice(), log.as_bytes(), verdict)?);
+    Ok(())
+}
+
+// Takes one byte a write, and fails once its writes are made.
+#[derive(Drop)]
+struct Drain {
+    writes: usize,
+}
+
+impl Write for Drain {
+    fn write(&mut self, buf: &[u8]) -> io::Result<usize> {
+        if self.writes == 0 {
+            return Err(io::Error::from(ErrorKind::Other));
+        }
+        self.writes -= 1;
+        Ok(buf.len().min(1))
+    }
+
+    fn flush(&mut self) -> io::Result<()> {
+        Ok(())
+    }
+}
+
+// Whether the status is 3 exactly where fewer writes succeed than the answer has bytes.
+fn is_written_bytewise(alloc: Global, words: &[&str], input: &[u8]) -> Result<bool, Fail> {
+    let (text, status) = answer(alloc, words, input)?;
+    let words = texts(alloc, words)?;
+    for writes in 0..text.len() {
+        let mut reader = Input::new(input);
+        let mut output = Output::new(Drain { writes });
+        let found = audit(alloc, words.as_slice(), &mut reader, &mut output);
+        if found != 3 || reader.has_failed() || !output.has_failed() {
+            return Ok(false);
+        }
+    }
+    let mut reader = Input::new(input);
+    let mut output = Output::new(Drain { writes: text.len() });
+    let found = audit(alloc, words.as_slice(), &mut reader, &mut output);
+    Ok(found == status && !output.has_failed())
+}
+
+#[test]
+fn tells_failed_writes(rt: HostRuntime) -> Result<(), Fail> {
+    assert!(rt;
+        is_written_bytewise(
+            rt.alloc(),
+            ["id", "package"].as_slice(),
+            b"0a021a00".as_slice()
+        )?
+    );
+    assert!(rt; is_written_bytewise(rt.alloc(), ["pkg"].as_slice(), b"".as_slice())?);
+    let log = log_of(rt.alloc(), "abc", "\n")?;
+    assert!(rt; is_written_bytewise(rt.alloc(), ["package"].as_slice(), log.as_bytes())?);
+    Ok(())
+}
+
+// Gives one byte 0 a read, without end.
+#[derive(Drop)]
+struct Zeros;
+
+impl Read for Zeros {
+    fn read(&mut self, buf: &mut [u8]) -> io::Result<usize> {
+        if buf.is_empty() {
+            return Ok(0);
+        }
+        buf[0] = b'0';
+        Ok(1)
+    }
+}
+
+#[test]
+fn ends_an_endless_input(rt: HostRuntime) -> Result<(), Fail> {
+    assert!(rt;
+        answers(
+            rt.alloc(),
+            ["id", "package"].as_slice(),
+            Zeros,
+            "too long\n",
+            2
+        )?
+    );
+    assert!(rt; answers(rt.alloc(), ["operator"].as_slice(), Zeros, "too long\n", 2)?);
+    Ok(())
+}

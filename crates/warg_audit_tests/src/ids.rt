@@ -1,0 +1,103 @@
+//! The id of one record.
+
+use crate::answering::answers;
+use std::test::Fail;
+
+// The ids of the package records of no bytes and of 1a00, and of the operator record of 1a00.
+const EMPTY: &str = "sha256:493f432a57d7e2aceb4505a3f184c5e969ce952b4a25fc1bcbc5b75a6a3ffd9f\n";
+
+const SMALL: &str = "sha256:0dc9969d2a2f84e5467b2f6003184c25d0f354a251864e0646e97436da784001\n";
+
+const OPERATOR: &str = "sha256:37cd0978f6e285ec60545645b2c596014036adca9b84d0507b2908c02aa12cdd\n";
+
+#[test]
+fn names_records(rt: HostRuntime) -> Result<(), Fail> {
+    for (kind, input, printed) in [
+        ("package", "\n", EMPTY),
+        ("package", "0a021a00\n", SMALL),
+        ("package", "0a021a000a00", EMPTY),
+        ("package", "7d01020304", EMPTY),
+        ("operator", "0a021a00", OPERATOR),
+    ] {
+        let words = ["id", kind];
+        assert!(rt;
+            answers(rt.alloc(), words.as_slice(), input.as_bytes(), printed, 0)?,
+            "{input}"
+        );
+    }
+    Ok(())
+}
+
+#[test]
+fn drops_one_return(rt: HostRuntime) -> Result<(), Fail> {
+    for (input, printed, status) in [
+        ("\r", EMPTY, 0u8),
+        ("\r\n", EMPTY, 0),
+        ("0A021A00\r", SMALL, 0),
+        ("0A021A00\r\n", SMALL, 0),
+        ("0a021a00\r\r", "bad line 0\n", 2),
+        ("\n\r", "bad line 1\n", 2),
+    ] {
+        let words = ["id", "package"];
+        assert!(rt;
+            answers(
+                rt.alloc(),
+                words.as_slice(),
+                input.as_bytes(),
+                printed,
+                status
+            )?,
+            "{input}"
+        );
+    }
+    Ok(())
+}
+
+#[test]
+fn wants_one_line(rt: HostRuntime) -> Result<(), Fail> {
+    for (input, printed) in [
+        ("", "bad line 0\n"),
+        ("0g", "bad line 0\n"),
+        ("0a0", "bad line 0\n"),
+        ("0 ", "bad line 0\n"),
+        ("0g\n00", "bad line 0\n"),
+        ("\n\n", "bad line 1\n"),
+        ("0a021a00\n\n", "bad line 1\n"),
+        ("0a021a00\n0a021a00\n", "bad line 1\n"),
+        ("0a021a00\n0g", "bad line 1\n"),
+    ] {
+        let words = ["id", "package"];
+        assert!(rt;
+            answers(rt.alloc(), words.as_slice(), input.as_bytes(), printed, 2)?,
+            "{input}"
+        );
+    }
+    Ok(())
+}
+
+#[test]
+fn names_faults(rt: HostRuntime) -> Result<(), Fail> {
+    for (input, printed) in [
+        ("0a021a", "refused 0 ProtobufEnvelope.Truncated\n"),
+        ("80", "refused 0 ProtobufEnvelope.Truncated\n"),
+        (
+            "ffffffffffffffffff02",
+            "refused 0 ProtobufEnvelope.VarintTooLong\n",
+        ),
+        ("0b", "refused 0 ProtobufEnvelope.Group\n"),
+        ("0e", "refused 0 ProtobufEnvelope.BadKey\n"),
+        ("00", "refused 0 ProtobufEnvelope.BadKey\n"),
+        ("0801", "refused 0 ProtobufEnvelope.WrongWireType\n"),
+        ("1201ff", "refused 0 ProtobufEnvelope.NotUtf8\n"),
+        ("1201ff120161", "refused 0 ProtobufEnvelope.NotUtf8\n"),
+    ] {
+        for kind in ["package", "operator"] {
+            let words = ["id", kind];
+            assert!(rt;
+                answers(rt.alloc(), words.as_slice(), input.as_bytes(), printed, 1)?,
+                "{input}"
+            );
+        }
+    }
+    Ok(())
+}
