@@ -20,6 +20,7 @@ use crate::refusal::Refusal;
 use crate::rights;
 use indexmap::{IndexMap, IndexSet};
 use std::alloc::{AllocError, Global};
+use std::fmt;
 use std::marker::Model;
 use warg_crypto::hash::HashAlgorithm;
 use warg_crypto::signing::{KeyID, PublicKey};
@@ -225,6 +226,16 @@ fn insert_key(
 {
     keys.insert(key_id, key)?;
     Ok(())
+}
+
+impl<P: LogPermission + fmt::Debug> fmt::Debug for Authority<P> {
+    fn fmt<W: fmt::Write>(&self, f: &mut fmt::Formatter<W>) -> fmt::Result {
+        f.debug_struct("Authority")
+            .field("algorithm", &self.algorithm)
+            .field("permissions", &self.permissions)
+            .field("keys", &self.keys)
+            .finish()
+    }
 }
 
 impl<P: LogPermission> PartialEq for Authority<P> {

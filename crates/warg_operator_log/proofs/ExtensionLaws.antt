@@ -4,12 +4,12 @@ use Rattle.std.specs.Prelude.{is_none}
 use Rattle.std.specs.Option.{option_or}
 use Rattle.std.specs.Str.{bytes_eq}
 use Rattle.std.proofs.lemmas.Slice.Eq.{bytes_eq-Decides}
+use Rattle.warg_records.specs.KebabNames.{is_kebab_name}
 use Rattle.warg_records.specs.OperatorEntries.{OperatorAct, DefineNamespace, ImportNamespace}
 use Rattle.warg_validator.specs.Walks.{view_after, AllLawful}
 use Rattle.warg_log.specs.History.{Event}
 use Rattle.warg_log.specs.Offences.{unless}
 use Rattle.warg_log.proofs.ActLaws.{latest-one}
-use Rattle.warg_operator_log.specs.Kebab.{is_kebab_name}
 use Rattle.warg_operator_log.specs.Namespaces.{OwnOffence, InvalidNamespace, NamespaceAlreadyDefined, Namespace, Defined, Imported, Names, name_offence, own_offence, names_after, own_after, own_wrong}
 
 new_name : (b : Bool) (o : Option Namespace) (x y : OwnOffence) → option_or (unless b x) (unless (is_none o) y) ≡ None → o ≡ None

@@ -1,4 +1,3 @@
 pub mod AcceptedLaws
 pub mod ExtensionLaws
-pub mod KebabLemmas
 pub mod NamespaceLemmas

@@ -1,6 +1,6 @@
 -- What a map from names to namespaces says as a list.
 use Rattle.std.proofs.Common.{◌≡◌, ℕ, List, [], ◌∷◌, ◌++◌, map, Bool, true, false, cond, ◌&&◌, Option, Some, None, refl, sym, ap, ◌∙◌, true≢false, if◌then◌else◌, is_some}
-use Rattle.std.specs.Prelude.{string_bytes, is_none}
+use Rattle.std.specs.Prelude.{string_bytes, is_none, IfSome}
 use Rattle.std.specs.declared.string.String.{String}
 use Rattle.std.specs.Option.{option_map, option_eq}
 use Rattle.std.specs.Str.{bytes_eq}
@@ -10,8 +10,9 @@ use Rattle.std.specs.Map.{lookup, lookup_entry, keys_of}
 use Rattle.std.specs.List.{AllZip, list_all}
 use Rattle.std.specs.Cmp.Lexicographic.{nat_list_eq_equiv}
 use Rattle.std.proofs.lemmas.Slice.Eq.{bytes_eq-Decides}
+use Rattle.warg_records.specs.KebabNames.{is_kebab_name}
 use Rattle.warg_operator_log.specs.Namespaces.{Namespace, names}
-use Rattle.warg_operator_log.specs.NamespaceMap.{namespace_view, named}
+use Rattle.warg_operator_log.specs.NamespaceMap.{namespace_view, named, HasKebabNames}
 use Rattle.warg_operator_log.specs.SameNamespaces.{same_namespace, same_namespaces}
 use Rattle.warg_operator_log.specs.declared.namespace.NamespaceState.{NamespaceState}
 
@@ -100,3 +101,22 @@ names-known n rs es is h = ap (λ rs. is_none (names rs n)) (sym is) ∙ ap is_n
     by : (o : Option NamespaceState) → is_some o ≡ true → is_none (option_map namespace_view o) ≡ false
     by None h = absurd (true≢false (sym h))
     by (Some x) h = refl
+
+-- one more kebab name
+pub kebabs-push : (es : List (List ℕ × Namespace)) (n : List ℕ) (s : Namespace) → HasKebabNames es → is_kebab_name n ≡ true → HasKebabNames (es ++ (n, s) ∷ [])
+kebabs-push [] n s all is = (is, tt)
+kebabs-push (e ∷ es) n s all is = (all.0, kebabs-push es n s all.1 is)
+
+-- a name that is known is a kebab name
+pub known-kebab : (k : List ℕ) (es : List (List ℕ × Namespace)) → HasKebabNames es → is_some (names es k) ≡ true → is_kebab_name k ≡ true
+known-kebab k [] all h = absurd (true≢false (sym h))
+known-kebab k (e ∷ es) all h = by (bytes_eq k e.0) refl h
+  where
+    by : (b : Bool) → bytes_eq k e.0 ≡ b → is_some (cond b (Some e.1) (names es k)) ≡ true → is_kebab_name k ≡ true
+    by true is g = ap is_kebab_name ((bytes_eq-Decides k e.0).0 is) ∙ all.0
+    by false is g = known-kebab k es all.1 g
+
+-- what holds of the name where a look-up finds something
+pub on_found : {A B C : Type 0} (P : Type 0) (f : A → B) (g : B → C) (o : Option A) (known : Option C) → option_map g (option_map f o) ≡ known → (is_some known ≡ true → P) → IfSome o (λ _. P)
+on_found P f g None known is holds = tt
+on_found P f g (Some x) known is holds = holds (ap is_some (sym is))

@@ -1,6 +1,5 @@
 pub mod Entries
 pub mod ErrorLaws
-pub mod Kebab
 pub mod NamespaceMap
 pub mod Namespaces
 pub mod SameNamespaceLaws

@@ -1,6 +1,8 @@
 -- What a map from names to namespaces says, as a list of names and what they are.
-use Rattle.std.specs.Prelude.{◌≡◌, ℕ, List, map, string_bytes, Option}
+use Rattle.std.specs.Prelude.{◌≡◌, ℕ, List, map, string_bytes, Option, true}
+use Rattle.std.specs.List.{AllByRecursion}
 use Rattle.std.specs.declared.string.String.{String}
+use Rattle.warg_records.specs.KebabNames.{is_kebab_name}
 use Rattle.warg_operator_log.specs.Namespaces.{Namespace, Defined, Imported}
 use Rattle.warg_operator_log.specs.declared.namespace.NamespaceState.{NamespaceState}
 use Rattle.warg_operator_log.specs.declared.namespace.NamespaceState.TheVariants as state
@@ -13,3 +15,7 @@ namespace_view (state.Imported registry) = Imported (string_bytes registry)
 -- the entries of a map, in order
 abbrev pub named : {Z : Type 0} → List (String Z × NamespaceState) → List (List ℕ × Namespace)
 named es = map (λ e. (string_bytes e.0, namespace_view e.1)) es
+
+-- each name is a kebab name
+abbrev pub HasKebabNames : List (List ℕ × Namespace) → Type 0
+HasKebabNames es = AllByRecursion (λ e. is_kebab_name e.0 ≡ true) es

@@ -9,7 +9,7 @@ use warg_log::{Fault, Refusal};
 use warg_records::operator::Permission;
 
 /// Why a namespace is refused.
-#[derive(Drop)]
+#[derive(Debug, Drop)]
 pub enum NamespaceError {
     InvalidNamespace { namespace: String },
     NamespaceAlreadyDefined { namespace: String },

@@ -3,7 +3,6 @@
 
 mod error;
 pub mod laws;
-mod name;
 mod namespace;
 mod namespace_map;
 mod state;

@@ -1,19 +1,19 @@
 //! The namespaces of a log, by name.
-ghost use Rattle.std.specs.Prelude.{◌≡◌, [], ◌∷◌, ◌++◌, ℕ, List, IfOk, OnOk, None, Some, if◌then◌else◌, string_bytes, refl};
+ghost use Rattle.std.specs.Prelude.{◌≡◌, [], ◌∷◌, ◌++◌, ℕ, List, IfOk, OnOk, OnSome, None, Some, if◌then◌else◌, string_bytes, refl, true};
 ghost use Rattle.std.specs.Str.{bytes_eq};
 ghost use Rattle.std.specs.Option.{option_copied, option_map};
 ghost use Rattle.std.specs.Cmp.{partial_equiv_from_equiv};
 ghost use Rattle.indexmap.specs.IndexMap.{get_by_text};
+ghost use Rattle.warg_records.specs.KebabNames.{IsKebabName, is_kebab_name};
 ghost use Rattle.warg_records.specs.OperatorEntries.{OperatorAct, reading, said};
 ghost use Rattle.warg_log.specs.Judging.{Judges};
 ghost use Rattle.warg_operator_log.specs.Namespaces.{OwnOffence, Names, Namespace, names, name_offence, rules, names-none, names-append, alike_offence, alike_after};
-ghost use Rattle.warg_operator_log.specs.NamespaceMap.{namespace_view, named};
+ghost use Rattle.warg_operator_log.specs.NamespaceMap.{namespace_view, named, HasKebabNames};
 ghost use Rattle.warg_operator_log.specs.SameNamespaces.{same_namespaces};
 ghost use Rattle.warg_operator_log.specs.SameNamespaceLaws.{namespaces_decide, namespaces_equiv};
 ghost use Rattle.warg_operator_log.specs.Entries.{told};
 
 use crate::error::NamespaceError;
-use crate::name::is_kebab_name;
 use crate::namespace::NamespaceState;
 use indexmap::IndexMap;
 use std::alloc::{AllocError, Global};
@@ -24,10 +24,10 @@ use warg_crypto::signing::KeyID;
 use warg_log::{Matter, Parts, Step};
 use warg_records::ProtoEnvelope;
 use warg_records::operator::{OperatorEntry, OperatorRecord, Permission};
-use warg_records::registry::RecordId;
+use warg_records::registry::{PackageName, RecordId};
 
 /// The namespaces of a log, by name.
-#[derive(Drop)]
+#[derive(Debug, Drop)]
 pub struct NamespaceMap {
     map: IndexMap<String, NamespaceState>,
 }
@@ -35,11 +35,13 @@ pub struct NamespaceMap {
 impl Model for NamespaceMap {
     ghost use Rattle.std.specs.Prelude.{List, ℕ};
     ghost use Rattle.warg_operator_log.specs.Namespaces.{Namespace};
-    ghost use Rattle.warg_operator_log.specs.NamespaceMap.{named};
+    ghost use Rattle.warg_operator_log.specs.NamespaceMap.{named, HasKebabNames};
 
     ghost Value = { List (List ℕ × Namespace) };
 
     ghost view = { λ a. named a.map.entries };
+
+    ghost invariant = { λ a. HasKebabNames (named a.map.entries) };
 }
 
 /// Adds a namespace of a new name.
@@ -48,8 +50,11 @@ fn add(
     name: String,
     state: NamespaceState,
 ) -> Result<(), AllocError>
-    requires { get_by_text map.old (string_bytes name) ≡ None }
-    ensures { OnOk result (named map.new.entries ≡ named map.old.entries ++ (string_bytes name, namespace_view state) ∷ []) }
+    requires new { get_by_text map.old (string_bytes name) ≡ None }
+    requires kebab { is_kebab_name (string_bytes name) ≡ true }
+    requires kebabs { HasKebabNames (named map.old.entries) }
+    ensures added { OnOk result (named map.new.entries ≡ named map.old.entries ++ (string_bytes name, namespace_view state) ∷ []) }
+    ensures kebabs { HasKebabNames (named map.new.entries) }
 {
     map.insert(name, state)?;
     Ok(())
@@ -58,7 +63,8 @@ fn add(
 impl NamespaceMap {
     /// What the namespace of this name is.
     pub fn get(&self, name: &str) -> Option<&NamespaceState>
-        ensures { option_map namespace_view (option_copied result) ≡ names self.now name.now }
+        ensures value { option_map namespace_view (option_copied result) ≡ names self.now name.now }
+        ensures kebab { OnSome result (IsKebabName name.now) }
     {
         self.map.get(name)
     }
@@ -67,7 +73,7 @@ impl NamespaceMap {
         ensures judges { Judges told (name_offence (names self.old) (string_bytes name.now)) result }
         ensures after { OnOk result ((k : List ℕ) → names self.new k ≡ (if bytes_eq (string_bytes name.now) k then Some (namespace_view state) else names self.old k)) }
     {
-        if !is_kebab_name(name.as_bytes()) {
+        if !PackageName::is_valid_namespace(name.as_str()) {
             return Err(NamespaceError::InvalidNamespace {
                 namespace: name.clone()?,
             });

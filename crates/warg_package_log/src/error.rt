@@ -10,7 +10,7 @@ use warg_log::{Fault, Refusal};
 use warg_records::package::Permission;
 
 /// Why a release or a yank is refused.
-#[derive(Drop)]
+#[derive(Debug, Drop)]
 pub enum ReleaseError {
     ReleaseOfReleased { version: Version },
     YankOfUnreleased { version: Version },

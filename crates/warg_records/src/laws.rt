@@ -1,10 +1,11 @@
 //! Laws of the definitions. None of these functions has an effect.
 
-ghost use Rattle.std.specs.Prelude.{List, ℕ, IfErr};
+ghost use Rattle.std.specs.Prelude.{List, ℕ, IfErr, IsTrue, ◌↔◌};
 ghost use Rattle.warg_protobuf.specs.OperatorRecord.{IsOperatorRecord, operator_record_table};
 ghost use Rattle.warg_protobuf.specs.PackageRecord.{IsPackageRecord, package_record_table};
 ghost use Rattle.warg_records.specs.EnvelopeRelations.{ReadsEnvelope};
 ghost use Rattle.warg_records.specs.Envelopes.{envelope_of};
+ghost use Rattle.warg_records.specs.KebabNames.{IsKebabName, is_kebab_name};
 ghost use Rattle.warg_records.specs.OfBytes.{IsOfContent, IsOfEnvelope};
 ghost use Rattle.warg_records.specs.OperatorReading.{operator_entry_of, operator_record_of};
 ghost use Rattle.warg_records.specs.PackageReading.{package_entry_of, package_record_of};
@@ -53,6 +54,12 @@ pub fn no_fault_of_memory()
     decoding_computes();
     exactly_one();
 }
+
+/// What is tested of a name is the grammar: words of a letter and then letters and digits, joined by
+/// single hyphens.
+pub fn kebab_names()
+    ensures { (name : List ℕ) → IsTrue (is_kebab_name name) ↔ IsKebabName name }
+{}
 
 /// No prefix encoding of a checkpoint, a timestamped checkpoint, a leaf of either tree or a package
 /// name is a proper beginning of another, and equal ones come from equal values of one kind.

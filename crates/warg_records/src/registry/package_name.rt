@@ -171,7 +171,8 @@ impl PackageName {
 
     /// Whether the text is words of a letter a to z and then letters a to z and digits, joined by single hyphens.
     pub fn is_valid_namespace(text: &str) -> bool
-        ensures { IsTrue result ↔ IsKebabName text.now }
+        ensures grammar { IsTrue result ↔ IsKebabName text.now }
+        ensures computed { result ≡ is_kebab_name text.now }
     {
         is_kebab_name(text.as_bytes())
     }

@@ -4,7 +4,7 @@ use Rattle.std.specs.Option.{option_or}
 use Rattle.std.specs.Str.{bytes_eq}
 use Rattle.std.specs.Map.{lookup}
 use Rattle.warg_log.specs.Offences.{unless}
-use Rattle.warg_operator_log.specs.Kebab.{is_kebab_name}
+use Rattle.warg_records.specs.KebabNames.{is_kebab_name}
 use Rattle.warg_operator_log.specs.Namespaces.{NamespaceAlreadyDefined, InvalidNamespace, names}
 use Rattle.warg_operator_log.specs.NamespaceMap.{namespace_view, named}
 use Rattle.warg_operator_log.proofs.NamespaceLemmas.{names-none, names-known, names-push}
@@ -33,6 +33,6 @@ returns-clause-after c =
     let es = c.self.inside.map.entries in
     let missing : is_some (lookup (λ k. bytes_eq n (string_bytes k)) es) ≡ false = search rules in
     λ k.
-    ap (λ rs. names rs k) c.in_ok-add.ensures
+    ap (λ rs. names rs k) c.in_ok-add.ensures.added
     ∙ names-push (string_bytes c.in_ok-clone-3.field-0) k (namespace_view c.args.state) (named es) (ap (names (named es)) c.in_ok-clone-3.ensures.cases ∙ names-none n (named es) es refl missing)
     ∙ (λ i. if bytes_eq (c.in_ok-clone-3.ensures.cases i) k then Some (namespace_view c.args.state) else names (c.self.view_is i) k)
