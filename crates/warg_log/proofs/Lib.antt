@@ -9,6 +9,7 @@ pub mod Coherence
 pub mod EqualLemmas
 pub mod SameStates
 pub mod RefusalLaws
+pub mod PossibleLaws
 pub mod HistoryViews
 pub mod KindLaws
 pub mod SameLaws

@@ -7,6 +7,7 @@ pub mod Offences
 pub mod Records
 pub mod History
 pub mod States
+pub mod Possible
 pub mod Refusals
 pub mod Histories
 pub mod LogKind

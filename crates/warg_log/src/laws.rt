@@ -1,18 +1,19 @@
 //! What holds of every log of every kind.
-ghost use Rattle.std.specs.Prelude.{◌≡◌, ◌↔◌, ℕ, List, Result, true};
+ghost use Rattle.std.specs.Prelude.{◌≡◌, ◌↔◌, ℕ, List, Result, true, IfSome};
 ghost use Rattle.warg_records.specs.Faults.{RecordFault};
 ghost use Rattle.warg_records.specs.Letters.{Letter};
 ghost use Rattle.warg_records.specs.Readings.{Reading};
 ghost use Rattle.warg_records.specs.Readings.{Said};
 ghost use Rattle.warg_validator.specs.Effects as effects;
 ghost use Rattle.warg_validator.specs.Effects.{GivesWhatIsHeld};
-ghost use Rattle.warg_validator.specs.Kinds.{KindLaws, view_after};
+ghost use Rattle.warg_validator.specs.Kinds.{Belief, KindLaws, view_after};
 ghost use Rattle.warg_log.specs.Contents.{Contents};
 ghost use Rattle.warg_log.specs.Equal.{IsSame, same_states};
 ghost use Rattle.warg_log.specs.Histories.{Placed, Holds, holds};
-ghost use Rattle.warg_log.specs.History.{start};
+ghost use Rattle.warg_log.specs.History.{View, SignedRecord, record_offence, start};
 ghost use Rattle.warg_log.specs.LogKind.{kind_of, effects_of};
 ghost use Rattle.warg_log.specs.Offences.{offence_of};
+ghost use Rattle.warg_log.specs.Possible.{IsPossible};
 ghost use Rattle.warg_log.specs.States.{State, view_of_state};
 ghost use Rattle.warg_log.specs.declared.refusal.Refusal.{Refusal};
 
@@ -37,6 +38,12 @@ pub fn equal_logs_answer_alike<M: Matter>()
 /// No two refusals tell the same offence.
 pub fn refusals_tell_apart<P>()
     ensures { (r s : Refusal P) → offence_of r ≡ offence_of s → r ≡ s }
+{}
+
+/// What is wrong with a record is never want of memory within another error, nor a second algorithm,
+/// nor that its bytes are no record: the record is held.
+pub fn offences_are_possible<M: Matter>()
+    ensures { (belongs : Belief) (v : View M.Permission M.View) (e : SignedRecord M.Permission M.Own) → IfSome (record_offence M.rules M.Permission.eq belongs v e) IsPossible }
 {}
 
 /// What the entries of records do to permissions, one after another, is what the view of those records holds.

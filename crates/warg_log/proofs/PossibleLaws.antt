@@ -1,0 +1,112 @@
+-- What is wrong with a record is an offence that a record may have.
+use Rattle.std.proofs.Common.{◌≡◌, ℕ, List, [], ◌∷◌, ◌++◌, Bool, true, false, Option, Some, None, refl}
+use Rattle.std.specs.Prelude.{IfSome, is_some, is_none, not, ◌||◌, find}
+use Rattle.std.specs.Option.{option_map, option_or, option_map_or}
+use Rattle.std.specs.Str.{bytes_eq}
+use Rattle.warg_crypto.specs.Tags.{Tag, fingerprint_of}
+use Rattle.warg_crypto.specs.Times.{Time}
+use Rattle.warg_crypto.specs.Signed.{signed_message}
+use Rattle.warg_crypto.specs.declared.signing.error.SignatureError.TheVariants.{Refused}
+use Rattle.warg_records.specs.Readings.{Reading, Act, Init, GrantFlat, RevokeFlat}
+use Rattle.warg_records.specs.declared.registry.record_id.RecordId.{RecordId}
+use Rattle.warg_log.specs.Acts.{Standing}
+use Rattle.warg_log.specs.History.{Rules, Wrong, Whole, View, SignedRecord, Event, whole_after, record_events, entry_fault, entry_offence, events_offence, unsigned_offence, record_offence}
+use Rattle.warg_log.specs.Offences.{Offence, unless, not_begun, lacks_required, unauthorized, act_offence, InitialRecordDoesNotInit, KeyIDNotRecognized, InitialEntryAfterBeginning, UnauthorizedAction, PermissionNotFoundToRevoke, WrongSignature}
+use Rattle.warg_log.specs.Records.{link_offence, version_offence, time_offence, signer_offence, same_id}
+use Rattle.warg_log.specs.Rights.{first_missing}
+use Rattle.warg_log.specs.Possible.{may_be_told, IsPossible}
+use Rattle.warg_log.specs.declared.head.Head.{Head}
+
+module _ {P : Type 0} where
+  abbrev MayBe : Option (Offence P) → Type 0
+  MayBe o = IfSome o (λ x. may_be_told x ≡ true)
+
+  either : (a b : Option (Offence P)) → MayBe a → MayBe b → MayBe (option_or a b)
+  either None b h g = g
+  either (Some x) b h g = h
+
+  tested : (b : Bool) (x : Offence P) → may_be_told x ≡ true → MayBe (unless b x)
+  tested true x h = tt
+  tested false x h = h
+
+  mapped : {A : Type 0} (f : A → Offence P) → ((a : A) → may_be_told (f a) ≡ true) → (o : Option A) → MayBe (option_map f o)
+  mapped f h None = tt
+  mapped f h (Some a) = h a
+
+  required : (s : Standing P) (k : List ℕ) (p : Option P) → MayBe (lacks_required s k p)
+  required s k None = tt
+  required s k (Some p) = tested (s.holds k p) _ refl
+
+  begun : (s : Standing P) → MayBe (not_begun s)
+  begun s = tested (is_some s.algorithm) _ refl
+
+  listed : (s : Standing P) (k : List ℕ) (ps : List P) → MayBe (unauthorized s k ps)
+  listed s k ps = mapped (UnauthorizedAction k) (λ p. refl) _
+
+  act : (by_own_key : Bool) (same : P → P → Bool) (s : Standing P) (signer : List ℕ) (a : Act P) → MayBe (act_offence by_own_key same s signer a)
+  act by_own_key same s signer (Init algorithm key) = either _ _ (tested (is_none s.algorithm) _ refl) (tested (not by_own_key || bytes_eq signer (fingerprint_of key)) _ refl)
+  act by_own_key same s signer (GrantFlat key ps) = either _ _ (begun s) (listed s signer ps)
+  act by_own_key same s signer (RevokeFlat id ps) =
+      either _ _ (begun s) (either _ _ (listed s signer ps) (mapped (λ p. PermissionNotFoundToRevoke p id) (λ p. refl) (first_missing same (s.holds id) [] ps)))
+
+-- of the checks that name no permission
+module _ (P : Type 0) where
+  link : (head : Option Head) (prev : Option RecordId) → MayBe {P = P} (link_offence head prev)
+  link None None = tt
+  link None (Some prev) = refl
+  link (Some head) None = refl
+  link (Some head) (Some prev) = tested (same_id prev head.digest) _ refl
+
+  version : (head : Option Head) (n : ℕ) → MayBe {P = P} (version_offence head n)
+  version head n = tested _ _ refl
+
+  time : (head : Option Head) (t : Time) → MayBe {P = P} (time_offence head t)
+  time None t = tt
+  time (Some head) t = tested _ _ refl
+
+  signed : (belongs : Tag → List ℕ → Tag → Bool) (message : List ℕ) (signature : Tag) (signer : List ℕ) (key : Option Tag)
+      → MayBe {P = P} (option_map_or (λ key. unless (belongs key message signature) (WrongSignature Refused)) key (Some (KeyIDNotRecognized signer)))
+  signed belongs message signature signer None = refl
+  signed belongs message signature signer (Some key) = tested (belongs key message signature) _ refl
+
+module _ {P O V F : Type 0} (rules : Rules P O V F) (same : P → P → Bool) where
+  abbrev Possible : Option (Wrong P F) → Type 0
+  Possible o = IfSome o IsPossible
+
+  first : (a b : Option (Wrong P F)) → Possible a → Possible b → Possible (option_or a b)
+  first None b h g = g
+  first (Some x) b h g = h
+
+  shared : (o : Option (Offence P)) → MayBe o → Possible (option_map Wrong.Shared o)
+  shared None h = tt
+  shared (Some x) h = h
+
+  own : (o : Option F) → Possible (option_map Wrong.Own o)
+  own None = tt
+  own (Some x) = tt
+
+  fault : (n : ℕ) (w : Whole P V) (signer : List ℕ) (r : Reading P O) → Possible (entry_fault rules same n w signer r)
+  fault n w signer (Reading.Shared a) = shared _ (act (rules.by_own_key n) same w.authority signer a)
+  fault n w signer (Reading.Own o) = first _ _ (shared _ (begun w.authority)) (own (rules.offence n w.matter o))
+
+  entry : (n : ℕ) (w : Whole P V) (signer : List ℕ) (r : Reading P O) → Possible (entry_offence rules same n w signer r)
+  entry n w signer r = first _ _ (shared _ (required w.authority signer (rules.required r))) (fault n w signer r)
+
+  events : (n : ℕ) (w : Whole P V) (before es : List (Event (Reading P O))) → Possible (events_offence rules same n w before es)
+  events n w before [] = tt
+  events n w before (e ∷ es) = first _ _ (entry n (whole_after rules same w before) e.signer e.entry) (events n w (before ++ e ∷ []) es)
+
+  unsigned : (v : View P V) (e : SignedRecord P O) → Possible (unsigned_offence rules same v e)
+  unsigned v e =
+      first _ _ (shared _ (link P v.head e.contents.prev))
+      (first _ _ (shared _ (version P v.head e.contents.version))
+      (first _ _ (shared _ (time P v.head e.contents.time))
+      (first _ _ (events e.contents.version v.whole [] (record_events rules.id_of e))
+      (shared _ (tested (is_some (whole_after rules same v.whole (record_events rules.id_of e)).authority.algorithm) InitialRecordDoesNotInit refl)))))
+
+  -- none is want of memory within another error, or a second algorithm, or a record that can't be read
+  pub record-possible : (belongs : Tag → List ℕ → Tag → Bool) (v : View P V) (e : SignedRecord P O) → IfSome (record_offence rules same belongs v e) IsPossible
+  record-possible belongs v e =
+      first _ _ (unsigned v e)
+      (shared _ (signed P belongs (signed_message rules.signing_prefix e.sealed.content) e.sealed.signature e.sealed.key_id
+      ((whole_after rules same v.whole (record_events rules.id_of e)).authority.key e.sealed.key_id)))
