@@ -110,11 +110,11 @@ kebabs-push (e ∷ es) n s all is = (all.0, kebabs-push es n s all.1 is)
 -- a name that is known is a kebab name
 pub known-kebab : (k : List ℕ) (es : List (List ℕ × Namespace)) → HasKebabNames es → is_some (names es k) ≡ true → is_kebab_name k ≡ true
 known-kebab k [] all h = absurd (true≢false (sym h))
-known-kebab k (e ∷ es) all h = by (bytes_eq k e.0) refl h
+known-kebab k (e ∷ es) all h = by (bytes_eq k e.0) refl h (known-kebab k es all.1)
   where
-    by : (b : Bool) → bytes_eq k e.0 ≡ b → is_some (cond b (Some e.1) (names es k)) ≡ true → is_kebab_name k ≡ true
-    by true is g = ap is_kebab_name ((bytes_eq-Decides k e.0).0 is) ∙ all.0
-    by false is g = known-kebab k es all.1 g
+    by : (b : Bool) → bytes_eq k e.0 ≡ b → is_some (cond b (Some e.1) (names es k)) ≡ true → (is_some (names es k) ≡ true → is_kebab_name k ≡ true) → is_kebab_name k ≡ true
+    by true is g rest = ap is_kebab_name ((bytes_eq-Decides k e.0).0 is) ∙ all.0
+    by false is g rest = rest g
 
 -- what holds of the name where a look-up finds something
 pub on_found : {A B C : Type 0} (P : Type 0) (f : A → B) (g : B → C) (o : Option A) (known : Option C) → option_map g (option_map f o) ≡ known → (is_some known ≡ true → P) → IfSome o (λ _. P)
