@@ -58,7 +58,7 @@ module _ {P O : Type 0} (id_of : List ℕ → RecordId) where
   event_in signer time id e = record { entry = e; signer = signer; time = time; record_id = id }
 
   -- the events of a record, without their places
-  record_flat : (n m : ℕ) (r : SignedRecord P O) (es : List (Reading P O)) → map (λ e. e.event) (map (placed_in id_of n r) (enumerate_from m es)) ≡ events_of r.sealed.key_id r.contents.time (id_of r.sealed.content) es
+  pub record_flat : (n m : ℕ) (r : SignedRecord P O) (es : List (Reading P O)) → map (λ e. e.event) (map (placed_in id_of n r) (enumerate_from m es)) ≡ events_of r.sealed.key_id r.contents.time (id_of r.sealed.content) es
   record_flat n m r [] = refl
   record_flat n m r (e ∷ es) = ap (λ l. record { entry = e; signer = r.sealed.key_id; time = r.contents.time; record_id = id_of r.sealed.content } ∷ l) (record_flat n (m + 1) r es)
 

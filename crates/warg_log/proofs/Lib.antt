@@ -13,3 +13,4 @@ pub mod PossibleLaws
 pub mod HistoryViews
 pub mod KindLaws
 pub mod SameLaws
+pub mod FormLaws

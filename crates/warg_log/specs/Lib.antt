@@ -10,6 +10,7 @@ pub mod States
 pub mod Possible
 pub mod Refusals
 pub mod Histories
+pub mod Forms
 pub mod LogKind
 pub mod Steps
 pub mod Equal

@@ -1,5 +1,6 @@
 //! What holds of every log of every kind.
 ghost use Rattle.std.specs.Prelude.{◌≡◌, ◌↔◌, ℕ, List, Result, true, IfSome};
+ghost use Rattle.std.specs.Prelude.{◌≡◌, ◌↔◌, ◌<◌, ℕ, List, Result, IsOk, All, length, map, true};
 ghost use Rattle.warg_records.specs.Faults.{RecordFault};
 ghost use Rattle.warg_records.specs.Letters.{Letter};
 ghost use Rattle.warg_records.specs.Readings.{Reading};
@@ -7,11 +8,15 @@ ghost use Rattle.warg_records.specs.Readings.{Said};
 ghost use Rattle.warg_validator.specs.Effects as effects;
 ghost use Rattle.warg_validator.specs.Effects.{GivesWhatIsHeld};
 ghost use Rattle.warg_validator.specs.Kinds.{Belief, KindLaws, view_after};
+ghost use Rattle.warg_validator.specs.Kinds.{Belief, IsAccepted, KindLaws, view_after};
 ghost use Rattle.warg_log.specs.Contents.{Contents};
 ghost use Rattle.warg_log.specs.Equal.{IsSame, same_states};
+ghost use Rattle.warg_log.specs.Forms.{HasForm};
 ghost use Rattle.warg_log.specs.Histories.{Placed, Holds, holds};
 ghost use Rattle.warg_log.specs.History.{View, SignedRecord, record_offence, start};
 ghost use Rattle.warg_log.specs.LogKind.{kind_of, effects_of};
+ghost use Rattle.warg_log.specs.History.{Event, start};
+ghost use Rattle.warg_log.specs.LogKind.{kind_of, effects_of, opened};
 ghost use Rattle.warg_log.specs.Offences.{offence_of};
 ghost use Rattle.warg_log.specs.Possible.{IsPossible};
 ghost use Rattle.warg_log.specs.States.{State, view_of_state};
@@ -54,4 +59,14 @@ pub fn effects_are_what_is_held<M: Matter>()
 /// A key holds a permission exactly if some entry speaks of both, and the last such entry gives.
 pub fn last_entry_decides<M: Matter>()
     ensures { (h : List (Placed (Reading M.Permission M.Own))) (k : List ℕ) (p : M.Permission) → (holds M.Permission.eq h k p ≡ true) ↔ Holds M.Permission.eq h k p }
+{}
+
+/// The contents of an accepted log are records. Where it has any, their times never fall, the first
+/// alone has no prev, one Init stands, as the first entry of the first, and each id with an entry has a
+/// key: whatever content bytes are read as, and whatever the kind says of its own entries.
+pub fn form<M: Matter>()
+    ensures records { (read : List ℕ → Result (Said M.Permission M.Own) RecordFault) (matter : List (Event M.Own) → M.View) → KindLaws (kind_of M.rules M.Permission.eq read matter) →
+        (b : Belief) (es : List Letter) → IsAccepted (kind_of M.rules M.Permission.eq read matter) b es → All (λ e. IsOk (read e.content)) es }
+    ensures form { (read : List ℕ → Result (Said M.Permission M.Own) RecordFault) (matter : List (Event M.Own) → M.View) → KindLaws (kind_of M.rules M.Permission.eq read matter) →
+        (b : Belief) (es : List Letter) → 0 < length es → IsAccepted (kind_of M.rules M.Permission.eq read matter) b es → HasForm M.rules.id_of (map (opened M.rules M.Permission.eq read) es) }
 {}

@@ -4,3 +4,4 @@ pub mod LoopLaws
 pub mod KindWalks
 pub mod OutcomeLaws
 pub mod LogLaws
+pub mod RunLaws
