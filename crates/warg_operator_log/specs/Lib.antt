@@ -5,4 +5,5 @@ pub mod Namespaces
 pub mod SameNamespaceLaws
 pub mod SameNamespaces
 pub mod State
+pub mod StateHistory
 pub mod StateLaws

@@ -11,5 +11,6 @@ pub mod Releases
 pub mod SameReleaseLaws
 pub mod SameReleases
 pub mod State
+pub mod StateHistory
 pub mod StateLaws
 pub mod Versions

@@ -1,7 +1,18 @@
 //! Laws over all package logs. They have no effect.
 ghost use Rattle.std.specs.Prelude.{◌≡◌, ◌↔◌, List, ◌++◌, None, true};
+ghost use Rattle.std.specs.Prelude.{◌≡◌, ◌<◌, ℕ, List, ◌++◌, length, Result, IfOk, IsOk, All};
+ghost use Rattle.warg_records.specs.Envelopes.{envelope_of, envelope_fault_of};
+ghost use Rattle.warg_records.specs.Faults.{fault_of};
 ghost use Rattle.warg_records.specs.Letters.{Letter};
-ghost use Rattle.warg_validator.specs.Kinds.{Belief, IsAccepted};
+ghost use Rattle.warg_records.specs.PackageReading.{package_record_of};
+ghost use Rattle.warg_records.specs.declared.package.permission.Permission.{Permission};
+ghost use Rattle.warg_validator.specs.Kinds.{Belief, IsAccepted, StandsFor};
+ghost use Rattle.warg_validator.specs.Outcomes.{IsRun, IfStarted, told};
+ghost use Rattle.warg_validator.specs.Strings.{read_all};
+ghost use Rattle.warg_validator.specs.declared.replay.RunError.{RunError};
+ghost use Rattle.warg_log.specs.Contents.{Contents};
+ghost use Rattle.warg_log.specs.Forms.{HasForm};
+ghost use Rattle.warg_log.specs.States.{State};
 ghost use Rattle.warg_package_log.specs.Catalog.{AreDistinct};
 ghost use Rattle.warg_package_log.specs.Extensions.{IsExtension};
 ghost use Rattle.warg_package_log.specs.Releases.{versions};
@@ -9,6 +20,11 @@ ghost use Rattle.warg_package_log.specs.State.{offence_of};
 ghost use Rattle.warg_package_log.specs.StateLaws.{kind};
 ghost use Rattle.warg_package_log.specs.declared.error.ValidationError.{ValidationError};
 ghost use Rattle.warg_package_log.specs.declared.error.ValidationError.TheVariants.{OutOfMemory};
+ghost use Rattle.warg_package_log.specs.Releases.{ReleaseView, record_id_of, versions};
+ghost use Rattle.warg_package_log.specs.State.{view_of, offence_of};
+ghost use Rattle.warg_package_log.specs.StateHistory.{TellsHistory, records_of};
+ghost use Rattle.warg_package_log.specs.StateLaws.{kind};
+ghost use Rattle.warg_package_log.specs.declared.error.ValidationError.{ValidationError};
 
 /// The releases of an accepted log are the front of those of each accepted log that goes on from
 /// it: none is lost, moved or changed, but that one that stood may have been yanked.
@@ -25,4 +41,21 @@ pub fn distinct_versions()
 pub fn errors_tell_apart()
     ensures apart { (e f : ValidationError) → (⟦<crate::error::ValidationError as PartialEq>⟧.eq e f ≡ true) ↔ (offence_of e ≡ offence_of f) }
     ensures memory { (e : ValidationError) → (offence_of e ≡ None) ↔ (e ≡ OutOfMemory) }
+/// The contents of an accepted log are records. Where it has any, their times never fall, the first
+/// alone has no prev, one Init stands, as the first entry of the first, and each id with an entry has a
+/// key.
+pub fn form()
+    ensures records { (b : Belief) (es : List Letter) → IsAccepted kind b es → All (λ e. IsOk (package_record_of e.content)) es }
+    ensures form { (b : Belief) (es : List Letter) → 0 < length es → IsAccepted kind b es → HasForm record_id_of (records_of es) }
+{}
+
+/// A state that stands for a log tells what the log's history says: who holds what, who has
+/// an entry, whose key is which, the releases in order and the head, from which the look-ups answer.
+/// What `run` answers as a state is one for an accepted log, the letters of the strings.
+pub fn states_tell_history()
+    ensures stands { (s : State (Contents Permission) (List ReleaseView)) (es : List Letter) → StandsFor kind view_of s es → TellsHistory s es }
+    ensures run { let read = envelope_of package_record_of in let told_by = told (envelope_fault_of fault_of) offence_of in
+        (b : Belief) (strings : List (List ℕ)) (answer : Result (State (Contents Permission) (List ReleaseView)) (RunError ValidationError)) →
+        IfStarted (IsRun kind b read kind.view_of view_of told_by ◌≡◌ strings) answer →
+        IfOk answer (λ s. IsAccepted kind b (read_all read strings) × TellsHistory s (read_all read strings)) }
 {}

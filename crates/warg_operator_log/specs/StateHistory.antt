@@ -1,0 +1,45 @@
+-- What the letters of an operator log say, by the one list of all their entries, and a state that tells it.
+use Rattle.std.specs.Prelude.{◌≡◌, ℕ, List, map, Option, None}
+use Rattle.std.specs.List.{last_or}
+use Rattle.std.specs.Option.{option_map}
+use Rattle.warg_records.specs.Letters.{Letter}
+use Rattle.warg_records.specs.OperatorEntries.{OperatorAct}
+use Rattle.warg_records.specs.OperatorPermissions.{same_permission}
+use Rattle.warg_records.specs.OperatorReading.{operator_record_of}
+use Rattle.warg_records.specs.Readings.{Reading}
+use Rattle.warg_records.specs.declared.operator.permission.Permission.{Permission}
+use Rattle.warg_log.specs.Contents.{Contents}
+use Rattle.warg_log.specs.Histories.{Placed, history_of, holds, has_entry, key_of, algorithm_of, owns}
+use Rattle.warg_log.specs.History.{SignedRecord, head_of}
+use Rattle.warg_log.specs.LogKind.{opened}
+use Rattle.warg_log.specs.States.{State}
+use Rattle.warg_operator_log.specs.Namespaces.{Namespace, Names, rules, record_id_of}
+use Rattle.warg_operator_log.specs.State.{view_of}
+use Rattle.warg_operator_log.specs.StateLaws.{listed_namespaces}
+
+-- the letters as records
+abbrev pub records_of : List Letter → List (SignedRecord Permission OperatorAct)
+records_of es = map (opened rules same_permission operator_record_of) es
+
+-- all entries in one list, each with its signer, its record's time and id, and its places
+abbrev pub history : List Letter → List (Placed (Reading Permission OperatorAct))
+history es = history_of record_id_of (records_of es)
+
+-- the namespaces of a history by name: what the entry of that name makes of it
+abbrev pub namespaces_of : List (Placed (Reading Permission OperatorAct)) → Names
+namespaces_of h = listed_namespaces (owns h)
+
+-- all that the state tells is what the history says; above each line the look-up of `LogState` that answers it
+pub record TellsHistory (s : State (Contents Permission) (List (List ℕ × Namespace))) (es : List Letter) : Type 0 where
+  -- `key_has_permission_to_sign_checkpoints`, for the permission to commit
+  pub permissions : (k : List ℕ) (p : Permission) → (view_of s).whole.authority.holds k p ≡ holds same_permission (history es) k p
+  -- none
+  pub entries : (k : List ℕ) → (view_of s).whole.authority.has_entry k ≡ has_entry (history es) k
+  -- `public_key`
+  pub keys : (k : List ℕ) → (view_of s).whole.authority.key k ≡ key_of (history es) k
+  -- none
+  pub algorithm : (view_of s).whole.authority.algorithm ≡ algorithm_of (history es)
+  -- `namespace_state`
+  pub namespaces : (name : List ℕ) → (view_of s).whole.matter name ≡ namespaces_of (history es) name
+  -- `head`: the id and the time of the last record, if there is one
+  pub head : (view_of s).head ≡ option_map (head_of record_id_of) (last_or None (records_of es))

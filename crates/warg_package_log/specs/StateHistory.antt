@@ -1,0 +1,44 @@
+-- What the letters of a package log say, by the one list of all their entries, and a state that tells it.
+use Rattle.std.specs.Prelude.{◌≡◌, ℕ, List, map, None}
+use Rattle.std.specs.List.{last_or}
+use Rattle.std.specs.Option.{option_map}
+use Rattle.warg_records.specs.Letters.{Letter}
+use Rattle.warg_records.specs.PackageEntries.{PackageAct}
+use Rattle.warg_records.specs.PackagePermissions.{same_permission}
+use Rattle.warg_records.specs.PackageReading.{package_record_of}
+use Rattle.warg_records.specs.Readings.{Reading}
+use Rattle.warg_records.specs.declared.package.permission.Permission.{Permission}
+use Rattle.warg_log.specs.Contents.{Contents}
+use Rattle.warg_log.specs.Histories.{Placed, history_of, holds, has_entry, key_of, algorithm_of, owns}
+use Rattle.warg_log.specs.History.{SignedRecord, head_of}
+use Rattle.warg_log.specs.LogKind.{opened}
+use Rattle.warg_log.specs.States.{State}
+use Rattle.warg_package_log.specs.ListedReleases.{listed_releases}
+use Rattle.warg_package_log.specs.Releases.{ReleaseView, rules, record_id_of}
+use Rattle.warg_package_log.specs.State.{view_of}
+
+-- the letters as records
+abbrev pub records_of : List Letter → List (SignedRecord Permission PackageAct)
+records_of es = map (opened rules same_permission package_record_of) es
+
+-- all entries in one list, each with its signer, its record's time and id, and its places
+abbrev pub history : List Letter → List (Placed (Reading Permission PackageAct))
+history es = history_of record_id_of (records_of es)
+
+-- the Release entries of a history, in order, each Yanked if a Yank of its version stands in the history
+abbrev pub releases_of : List (Placed (Reading Permission PackageAct)) → List ReleaseView
+releases_of h = listed_releases (owns h)
+
+-- all that the state tells is what the history says; above each line the look-ups of `LogState` that answer it
+pub record TellsHistory (s : State (Contents Permission) (List ReleaseView)) (es : List Letter) : Type 0 where
+  -- `key_permissions`: what the set has, and whether there is a set
+  pub permissions : (k : List ℕ) (p : Permission) → (view_of s).whole.authority.holds k p ≡ holds same_permission (history es) k p
+  pub entries : (k : List ℕ) → (view_of s).whole.authority.has_entry k ≡ has_entry (history es) k
+  -- `public_key`
+  pub keys : (k : List ℕ) → (view_of s).whole.authority.key k ≡ key_of (history es) k
+  -- none
+  pub algorithm : (view_of s).whole.authority.algorithm ≡ algorithm_of (history es)
+  -- `releases`; `release` and `find_latest_release` choose among these
+  pub releases : (view_of s).whole.matter ≡ releases_of (history es)
+  -- `head`: the id and the time of the last record, if there is one
+  pub head : (view_of s).head ≡ option_map (head_of record_id_of) (last_or None (records_of es))
