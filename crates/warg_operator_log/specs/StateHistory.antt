@@ -1,6 +1,6 @@
 -- What the letters of an operator log say, by the one list of all their entries, and a state that tells it.
-use Rattle.std.specs.Prelude.{◌≡◌, ℕ, List, map, Option, None}
-use Rattle.std.specs.List.{last_or}
+use Rattle.std.specs.Prelude.{◌≡◌, ◌≤◌, ℕ, List, length, map, None}
+use Rattle.std.specs.List.{filter_map, last_or}
 use Rattle.std.specs.Option.{option_map}
 use Rattle.warg_records.specs.Letters.{Letter}
 use Rattle.warg_records.specs.OperatorEntries.{OperatorAct}
@@ -13,7 +13,7 @@ use Rattle.warg_log.specs.Histories.{Placed, history_of, holds, has_entry, key_o
 use Rattle.warg_log.specs.History.{SignedRecord, head_of}
 use Rattle.warg_log.specs.LogKind.{opened}
 use Rattle.warg_log.specs.States.{State}
-use Rattle.warg_operator_log.specs.Namespaces.{Namespace, Names, rules, record_id_of}
+use Rattle.warg_operator_log.specs.Namespaces.{Namespace, Names, defines, rules, record_id_of}
 use Rattle.warg_operator_log.specs.State.{view_of}
 use Rattle.warg_operator_log.specs.StateLaws.{listed_namespaces}
 
@@ -24,6 +24,10 @@ records_of es = map (opened rules same_permission operator_record_of) es
 -- all entries in one list, each with its signer, its record's time and id, and its places
 abbrev pub history : List Letter → List (Placed (Reading Permission OperatorAct))
 history es = history_of record_id_of (records_of es)
+
+-- each name has one entry at most
+abbrev pub OneEntryEach : List (Placed (Reading Permission OperatorAct)) → Type 0
+OneEntryEach h = (name : List ℕ) → length (filter_map (defines name) (owns h)) ≤ 1
 
 -- the namespaces of a history by name: what the entry of that name makes of it
 abbrev pub namespaces_of : List (Placed (Reading Permission OperatorAct)) → Names

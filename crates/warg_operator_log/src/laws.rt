@@ -23,7 +23,7 @@ ghost use Rattle.warg_log.specs.States.{State};
 ghost use Rattle.warg_operator_log.specs.Kebab.{IsKebabName, is_kebab_name};
 ghost use Rattle.warg_operator_log.specs.Namespaces.{Namespace, record_id_of};
 ghost use Rattle.warg_operator_log.specs.State.{view_of, offence_of};
-ghost use Rattle.warg_operator_log.specs.StateHistory.{TellsHistory, records_of};
+ghost use Rattle.warg_operator_log.specs.StateHistory.{TellsHistory, OneEntryEach, records_of, history};
 ghost use Rattle.warg_operator_log.specs.StateLaws.{kind};
 ghost use Rattle.warg_operator_log.specs.declared.error.ValidationError.{ValidationError};
 
@@ -37,6 +37,15 @@ pub fn extension()
 pub fn errors_tell_apart()
     ensures apart { (e f : ValidationError) → (⟦<crate::error::ValidationError as PartialEq>⟧.eq e f ≡ true) ↔ (offence_of e ≡ offence_of f) }
     ensures memory { (e : ValidationError) → (offence_of e ≡ None) ↔ (e ≡ OutOfMemory) }
+/// Each namespace of an accepted log has one entry, which says what it is.
+pub fn one_entry_each()
+    ensures { (b : Belief) (es : List Letter) → IsAccepted kind b es → OneEntryEach (history es) }
+{}
+
+/// What is tested of a name is the grammar: words of a letter and then letters and digits, joined by
+/// single hyphens.
+pub fn kebab_names()
+    ensures { (name : List ℕ) → IsTrue (is_kebab_name name) ↔ IsKebabName name }
 {}
 
 /// The contents of an accepted log are records. Where it has any, their times never fall, the first

@@ -5,3 +5,4 @@ pub mod Greatest
 pub mod HistoryLaws
 pub mod Judging
 pub mod SameLemmas
+pub mod YankLaws

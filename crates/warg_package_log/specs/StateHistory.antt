@@ -1,9 +1,9 @@
 -- What the letters of a package log say, by the one list of all their entries, and a state that tells it.
-use Rattle.std.specs.Prelude.{◌≡◌, ℕ, List, map, None}
-use Rattle.std.specs.List.{last_or}
+use Rattle.std.specs.Prelude.{◌≡◌, ◌≤◌, ℕ, List, length, map, None}
+use Rattle.std.specs.List.{filter_map, last_or}
 use Rattle.std.specs.Option.{option_map}
 use Rattle.warg_records.specs.Letters.{Letter}
-use Rattle.warg_records.specs.PackageEntries.{PackageAct}
+use Rattle.warg_records.specs.PackageEntries.{Parts, PackageAct}
 use Rattle.warg_records.specs.PackagePermissions.{same_permission}
 use Rattle.warg_records.specs.PackageReading.{package_record_of}
 use Rattle.warg_records.specs.Readings.{Reading}
@@ -14,7 +14,7 @@ use Rattle.warg_log.specs.History.{SignedRecord, head_of}
 use Rattle.warg_log.specs.LogKind.{opened}
 use Rattle.warg_log.specs.States.{State}
 use Rattle.warg_package_log.specs.ListedReleases.{listed_releases}
-use Rattle.warg_package_log.specs.Releases.{ReleaseView, rules, record_id_of}
+use Rattle.warg_package_log.specs.Releases.{ReleaseView, yanks, rules, record_id_of}
 use Rattle.warg_package_log.specs.State.{view_of}
 
 -- the letters as records
@@ -24,6 +24,10 @@ records_of es = map (opened rules same_permission package_record_of) es
 -- all entries in one list, each with its signer, its record's time and id, and its places
 abbrev pub history : List Letter → List (Placed (Reading Permission PackageAct))
 history es = history_of record_id_of (records_of es)
+
+-- each version has one Yank at most
+abbrev pub OneYankEach : List (Placed (Reading Permission PackageAct)) → Type 0
+OneYankEach h = (v : Parts) → length (filter_map (yanks v) (owns h)) ≤ 1
 
 -- the Release entries of a history, in order, each Yanked if a Yank of its version stands in the history
 abbrev pub releases_of : List (Placed (Reading Permission PackageAct)) → List ReleaseView

@@ -22,7 +22,7 @@ ghost use Rattle.warg_package_log.specs.declared.error.ValidationError.{Validati
 ghost use Rattle.warg_package_log.specs.declared.error.ValidationError.TheVariants.{OutOfMemory};
 ghost use Rattle.warg_package_log.specs.Releases.{ReleaseView, record_id_of, versions};
 ghost use Rattle.warg_package_log.specs.State.{view_of, offence_of};
-ghost use Rattle.warg_package_log.specs.StateHistory.{TellsHistory, records_of};
+ghost use Rattle.warg_package_log.specs.StateHistory.{TellsHistory, OneYankEach, records_of, history};
 ghost use Rattle.warg_package_log.specs.StateLaws.{kind};
 ghost use Rattle.warg_package_log.specs.declared.error.ValidationError.{ValidationError};
 
@@ -41,6 +41,11 @@ pub fn distinct_versions()
 pub fn errors_tell_apart()
     ensures apart { (e f : ValidationError) → (⟦<crate::error::ValidationError as PartialEq>⟧.eq e f ≡ true) ↔ (offence_of e ≡ offence_of f) }
     ensures memory { (e : ValidationError) → (offence_of e ≡ None) ↔ (e ≡ OutOfMemory) }
+/// No version is yanked twice in an accepted log, so the Yank of a release is one.
+pub fn one_yank_each()
+    ensures { (b : Belief) (es : List Letter) → IsAccepted kind b es → OneYankEach (history es) }
+{}
+
 /// The contents of an accepted log are records. Where it has any, their times never fall, the first
 /// alone has no prev, one Init stands, as the first entry of the first, and each id with an entry has a
 /// key.
