@@ -1,5 +1,5 @@
 -- Lawful events make no namespace twice.
-use Rattle.std.proofs.Common.{◌≡◌, ℕ, ◌≤◌, List, [], ◌∷◌, Bool, true, false, length, Option, Some, None, refl, sym, ap, ◌∙◌, if◌then◌else◌, arith}
+use Rattle.std.proofs.Common.{◌≡◌, ℕ, ◌≤◌, List, [], ◌∷◌, Bool, true, false, length, Option, Some, None, refl, ap, ◌∙◌, if◌then◌else◌, arith}
 use Rattle.std.specs.Prelude.{unwrap_or, is_none}
 use Rattle.std.specs.List.{filter_map, cons_option, last_or}
 use Rattle.std.specs.Str.{bytes_eq}
@@ -8,7 +8,7 @@ use Rattle.warg_records.specs.OperatorEntries.{OperatorAct, DefineNamespace, Imp
 use Rattle.warg_validator.specs.Walks.{AllLawful}
 use Rattle.warg_log.specs.History.{Event}
 use Rattle.warg_log.proofs.Firsts.{or_second, unless_holds}
-use Rattle.warg_operator_log.specs.Namespaces.{OwnOffence, NamespaceAlreadyDefined, Namespace, Defined, Imported, Names, name_offence, own_offence, own_defines, defines, names_after, own_after, own_wrong}
+use Rattle.warg_operator_log.specs.Namespaces.{NamespaceAlreadyDefined, Namespace, Defined, Imported, Names, name_offence, own_offence, own_defines, defines, names_after, own_after, own_wrong}
 use Rattle.warg_operator_log.proofs.ExtensionLaws.{lawful-kept}
 
 taken : (o : Option Namespace) (s : Namespace) → o ≡ Some s → is_none o ≡ true → ⊥
