@@ -1,21 +1,16 @@
 //! What holds of every log of every kind.
-ghost use Rattle.std.specs.Prelude.{◌≡◌, ◌↔◌, ℕ, List, Result, true, IfSome};
-ghost use Rattle.std.specs.Prelude.{◌≡◌, ◌↔◌, ◌<◌, ℕ, List, Result, IsOk, All, length, map, true};
+ghost use Rattle.std.specs.Prelude.{◌≡◌, ◌↔◌, ℕ, List, Result, true, IfSome, ◌<◌, IsOk, All, length, map};
 ghost use Rattle.warg_records.specs.Faults.{RecordFault};
 ghost use Rattle.warg_records.specs.Letters.{Letter};
-ghost use Rattle.warg_records.specs.Readings.{Reading};
-ghost use Rattle.warg_records.specs.Readings.{Said};
+ghost use Rattle.warg_records.specs.Readings.{Reading, Said};
 ghost use Rattle.warg_validator.specs.Effects as effects;
 ghost use Rattle.warg_validator.specs.Effects.{GivesWhatIsHeld};
-ghost use Rattle.warg_validator.specs.Kinds.{Belief, KindLaws, view_after};
-ghost use Rattle.warg_validator.specs.Kinds.{Belief, IsAccepted, KindLaws, view_after};
+ghost use Rattle.warg_validator.specs.Kinds.{Belief, KindLaws, view_after, IsAccepted};
 ghost use Rattle.warg_log.specs.Contents.{Contents};
 ghost use Rattle.warg_log.specs.Equal.{IsSame, same_states};
 ghost use Rattle.warg_log.specs.Forms.{HasForm};
 ghost use Rattle.warg_log.specs.Histories.{Placed, Holds, holds};
-ghost use Rattle.warg_log.specs.History.{View, SignedRecord, record_offence, start};
-ghost use Rattle.warg_log.specs.LogKind.{kind_of, effects_of};
-ghost use Rattle.warg_log.specs.History.{Event, start};
+ghost use Rattle.warg_log.specs.History.{View, SignedRecord, record_offence, start, Event};
 ghost use Rattle.warg_log.specs.LogKind.{kind_of, effects_of, opened};
 ghost use Rattle.warg_log.specs.Offences.{offence_of};
 ghost use Rattle.warg_log.specs.Possible.{IsPossible};

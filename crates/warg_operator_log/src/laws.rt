@@ -1,31 +1,23 @@
 //! Laws over all operator logs. They have no effect.
-ghost use Rattle.std.specs.Prelude.{◌≡◌, ◌↔◌, ℕ, List, ◌++◌, None, Some, true};
+ghost use Rattle.std.specs.Prelude.{◌≡◌, ◌↔◌, ℕ, List, ◌++◌, None, Some, true, ◌<◌, length, Result, IfOk, IsOk, All};
 ghost use Rattle.warg_records.specs.Letters.{Letter};
-ghost use Rattle.warg_validator.specs.Kinds.{Belief, IsAccepted};
-ghost use Rattle.warg_operator_log.specs.Namespaces.{Namespace};
-ghost use Rattle.warg_operator_log.specs.State.{offence_of};
+ghost use Rattle.warg_validator.specs.Kinds.{Belief, IsAccepted, StandsFor};
+ghost use Rattle.warg_operator_log.specs.Namespaces.{Namespace, record_id_of};
+ghost use Rattle.warg_operator_log.specs.State.{offence_of, view_of};
 ghost use Rattle.warg_operator_log.specs.StateLaws.{kind};
 ghost use Rattle.warg_operator_log.specs.declared.error.ValidationError.{ValidationError};
 ghost use Rattle.warg_operator_log.specs.declared.error.ValidationError.TheVariants.{OutOfMemory};
-ghost use Rattle.std.specs.Prelude.{◌≡◌, ◌↔◌, ◌<◌, ℕ, List, ◌++◌, length, Some, Result, IfOk, IsOk, All, IsTrue};
 ghost use Rattle.warg_records.specs.Envelopes.{envelope_of, envelope_fault_of};
 ghost use Rattle.warg_records.specs.Faults.{fault_of};
-ghost use Rattle.warg_records.specs.Letters.{Letter};
 ghost use Rattle.warg_records.specs.OperatorReading.{operator_record_of};
 ghost use Rattle.warg_records.specs.declared.operator.permission.Permission.{Permission};
-ghost use Rattle.warg_validator.specs.Kinds.{Belief, IsAccepted, StandsFor};
 ghost use Rattle.warg_validator.specs.Outcomes.{IsRun, IfStarted, told};
 ghost use Rattle.warg_validator.specs.Strings.{read_all};
 ghost use Rattle.warg_validator.specs.declared.replay.RunError.{RunError};
 ghost use Rattle.warg_log.specs.Contents.{Contents};
 ghost use Rattle.warg_log.specs.Forms.{HasForm};
 ghost use Rattle.warg_log.specs.States.{State};
-ghost use Rattle.warg_operator_log.specs.Kebab.{IsKebabName, is_kebab_name};
-ghost use Rattle.warg_operator_log.specs.Namespaces.{Namespace, record_id_of};
-ghost use Rattle.warg_operator_log.specs.State.{view_of, offence_of};
 ghost use Rattle.warg_operator_log.specs.StateHistory.{TellsHistory, OneEntryEach, records_of, history};
-ghost use Rattle.warg_operator_log.specs.StateLaws.{kind};
-ghost use Rattle.warg_operator_log.specs.declared.error.ValidationError.{ValidationError};
 
 /// Each namespace of an accepted log keeps its state in each accepted log that goes on from it.
 pub fn extension()
@@ -37,15 +29,11 @@ pub fn extension()
 pub fn errors_tell_apart()
     ensures apart { (e f : ValidationError) → (⟦<crate::error::ValidationError as PartialEq>⟧.eq e f ≡ true) ↔ (offence_of e ≡ offence_of f) }
     ensures memory { (e : ValidationError) → (offence_of e ≡ None) ↔ (e ≡ OutOfMemory) }
+{}
+
 /// Each namespace of an accepted log has one entry, which says what it is.
 pub fn one_entry_each()
     ensures { (b : Belief) (es : List Letter) → IsAccepted kind b es → OneEntryEach (history es) }
-{}
-
-/// What is tested of a name is the grammar: words of a letter and then letters and digits, joined by
-/// single hyphens.
-pub fn kebab_names()
-    ensures { (name : List ℕ) → IsTrue (is_kebab_name name) ↔ IsKebabName name }
 {}
 
 /// The contents of an accepted log are records. Where it has any, their times never fall, the first

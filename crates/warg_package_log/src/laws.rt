@@ -1,6 +1,5 @@
 //! Laws over all package logs. They have no effect.
-ghost use Rattle.std.specs.Prelude.{◌≡◌, ◌↔◌, List, ◌++◌, None, true};
-ghost use Rattle.std.specs.Prelude.{◌≡◌, ◌<◌, ℕ, List, ◌++◌, length, Result, IfOk, IsOk, All};
+ghost use Rattle.std.specs.Prelude.{◌≡◌, ◌↔◌, List, ◌++◌, None, true, ◌<◌, ℕ, length, Result, IfOk, IsOk, All};
 ghost use Rattle.warg_records.specs.Envelopes.{envelope_of, envelope_fault_of};
 ghost use Rattle.warg_records.specs.Faults.{fault_of};
 ghost use Rattle.warg_records.specs.Letters.{Letter};
@@ -15,16 +14,12 @@ ghost use Rattle.warg_log.specs.Forms.{HasForm};
 ghost use Rattle.warg_log.specs.States.{State};
 ghost use Rattle.warg_package_log.specs.Catalog.{AreDistinct};
 ghost use Rattle.warg_package_log.specs.Extensions.{IsExtension};
-ghost use Rattle.warg_package_log.specs.Releases.{versions};
-ghost use Rattle.warg_package_log.specs.State.{offence_of};
+ghost use Rattle.warg_package_log.specs.Releases.{versions, ReleaseView, record_id_of};
+ghost use Rattle.warg_package_log.specs.State.{offence_of, view_of};
 ghost use Rattle.warg_package_log.specs.StateLaws.{kind};
 ghost use Rattle.warg_package_log.specs.declared.error.ValidationError.{ValidationError};
 ghost use Rattle.warg_package_log.specs.declared.error.ValidationError.TheVariants.{OutOfMemory};
-ghost use Rattle.warg_package_log.specs.Releases.{ReleaseView, record_id_of, versions};
-ghost use Rattle.warg_package_log.specs.State.{view_of, offence_of};
 ghost use Rattle.warg_package_log.specs.StateHistory.{TellsHistory, OneYankEach, records_of, history};
-ghost use Rattle.warg_package_log.specs.StateLaws.{kind};
-ghost use Rattle.warg_package_log.specs.declared.error.ValidationError.{ValidationError};
 
 /// The releases of an accepted log are the front of those of each accepted log that goes on from
 /// it: none is lost, moved or changed, but that one that stood may have been yanked.
@@ -41,6 +36,8 @@ pub fn distinct_versions()
 pub fn errors_tell_apart()
     ensures apart { (e f : ValidationError) → (⟦<crate::error::ValidationError as PartialEq>⟧.eq e f ≡ true) ↔ (offence_of e ≡ offence_of f) }
     ensures memory { (e : ValidationError) → (offence_of e ≡ None) ↔ (e ≡ OutOfMemory) }
+{}
+
 /// No version is yanked twice in an accepted log, so the Yank of a release is one.
 pub fn one_yank_each()
     ensures { (b : Belief) (es : List Letter) → IsAccepted kind b es → OneYankEach (history es) }
