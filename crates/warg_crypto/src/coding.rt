@@ -136,6 +136,3 @@ impl<T: Drop> From<AllocFailed<T>> for DecodeError {
         DecodeError::OutOfMemory
     }
 }
-
-#[cfg(test)]
-mod tests;

@@ -185,6 +185,3 @@ fn hash_of_digits(digits: &[u8]) -> Result<AnyHash, AnyHashError>
         Err(_) => Err(AnyHashError::BadLength),
     }
 }
-
-#[cfg(test)]
-mod tests;

@@ -99,6 +99,3 @@ pub trait VisitPrefixEncode {
         self.visit_pe(&mut encoder)
     }
 }
-
-#[cfg(test)]
-mod tests;

@@ -103,6 +103,3 @@ pub trait Signable: Encode {
         verifier.verify(alloc, key, message.as_slice(), signature)
     }
 }
-
-#[cfg(test)]
-mod tests;

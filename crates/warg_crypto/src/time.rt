@@ -124,6 +124,3 @@ pub trait Clock {
     fn now(&mut self) -> Timestamp
         ensures { tells self.old result self.new };
 }
-
-#[cfg(test)]
-mod tests;

@@ -92,6 +92,3 @@ impl Verifier for ToyVerifier {
         }
     }
 }
-
-#[cfg(test)]
-mod tests;

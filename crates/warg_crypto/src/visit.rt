@@ -72,6 +72,3 @@ impl<A: VisitBytes, B: VisitBytes> VisitBytes for (A, B) {
         self.1.visit(visitor)
     }
 }
-
-#[cfg(test)]
-mod tests;

@@ -41,6 +41,3 @@ pub use release::PackageRelease;
 pub use revoke_flat::{OperatorRevokeFlat, PackageRevokeFlat};
 pub use timestamp::TimestampPair;
 pub use yank::PackageYank;
-
-#[cfg(test)]
-mod tests;

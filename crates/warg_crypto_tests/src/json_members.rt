@@ -1,0 +1,75 @@
+//! Members of objects.
+
+use crate::json::{is_json, json};
+use serde_json::Map;
+use std::alloc::Global;
+use std::process::Abort;
+use warg_crypto::json::members::{
+    member_in, object_value, optional, optional_member, put_member, put_optional, put_value,
+    text_value,
+};
+use warg_crypto::{JsonError, JsonValue};
+
+fn has_member(
+    rt: &impl Abort,
+    alloc: Global,
+    text: &str,
+    name: &str,
+    want: Result<u32, JsonError>,
+) {
+    let object = json(rt, alloc, text);
+    let read = match member_in(&object, name) {
+        Ok(value) => u32::from_value(alloc, value),
+        Err(fault) => Err(fault),
+    };
+    assert_eq!(rt; read, want, "{name} in {text}");
+}
+
+#[test]
+fn members(rt: HostRuntime) {
+    let alloc = rt.alloc();
+    has_member(&rt, alloc, "{\"a\":1}", "a", Ok(1));
+    has_member(&rt, alloc, "{\"a\":1}", "b", Err(JsonError::Missing));
+    has_member(&rt, alloc, "{\"n\":null}", "n", Err(JsonError::WrongType));
+    has_member(&rt, alloc, "[1]", "a", Err(JsonError::WrongType));
+}
+
+fn may_have_member(
+    rt: &impl Abort,
+    alloc: Global,
+    text: &str,
+    name: &str,
+    want: Result<Option<u32>, JsonError>,
+) {
+    let object = json(rt, alloc, text);
+    let read = optional_member::<u32>(alloc, &object, name);
+    assert_eq!(rt; read, want, "{name} in {text}");
+}
+
+#[test]
+fn members_that_may_be_missing(rt: HostRuntime) {
+    let alloc = rt.alloc();
+    may_have_member(&rt, alloc, "{\"a\":1}", "a", Ok(Some(1)));
+    may_have_member(&rt, alloc, "{\"a\":1}", "b", Ok(None));
+    may_have_member(&rt, alloc, "{\"n\":null}", "n", Ok(None));
+    may_have_member(&rt, alloc, "{\"t\":\"1\"}", "t", Err(JsonError::WrongType));
+    may_have_member(&rt, alloc, "[1]", "a", Err(JsonError::WrongType));
+    assert_eq!(rt; optional::<u32>(alloc, None), Ok(None));
+}
+
+#[test]
+fn put_members(rt: HostRuntime) {
+    let alloc = rt.alloc();
+    let mut map = Map::new(alloc);
+    let text = text_value(alloc, "x").expect(&rt, "memory");
+    assert_eq!(rt; put_value(&mut map, alloc, "b", &1u32), Ok(()));
+    assert_eq!(rt; put_optional(&mut map, alloc, "c", &Some(2u32)), Ok(()));
+    assert_eq!(rt; put_optional::<u32>(&mut map, alloc, "d", &None), Ok(()));
+    assert_eq!(rt; put_member(&mut map, alloc, "a", text), Ok(()));
+    is_json(
+        &rt,
+        alloc,
+        &object_value(map),
+        "{\"a\":\"x\",\"b\":1,\"c\":2}",
+    );
+}

@@ -1,0 +1,106 @@
+//! Keys, signatures and key ids, and their texts.
+
+use crate::values::{bytes, id, is_shown, key, signature, text};
+use std::alloc::Global;
+use std::process::Abort;
+use warg_crypto::signing::{KeyParseError, PublicKey, Signature, SignatureParseError};
+
+fn is_key(rt: &impl Abort, alloc: Global, text: &str, name: &str, bytes: &[u8]) {
+    let key = key(rt, alloc, text);
+    assert_eq!(rt; key.algorithm(), name);
+    assert_eq!(rt; key.bytes(), bytes);
+    is_shown(rt, alloc, &key, text);
+}
+
+#[test]
+fn keys(rt: HostRuntime) {
+    let alloc = rt.alloc();
+    is_key(&rt, alloc, "ecdsa-p256:AAEC", "ecdsa-p256", &[0, 1, 2]);
+    is_key(&rt, alloc, "toy:", "toy", &[]);
+    is_key(&rt, alloc, "toy:YWxpY2U=", "toy", b"alice");
+}
+
+fn is_signature(rt: &impl Abort, alloc: Global, text: &str, name: &str, bytes: &[u8]) {
+    let signature = signature(rt, alloc, text);
+    assert_eq!(rt; signature.algorithm(), name);
+    assert_eq!(rt; signature.bytes(), bytes);
+    is_shown(rt, alloc, &signature, text);
+}
+
+#[test]
+fn signatures(rt: HostRuntime) {
+    let alloc = rt.alloc();
+    is_signature(&rt, alloc, "toy:AAEC", "toy", &[0, 1, 2]);
+    is_signature(&rt, alloc, "toy:", "toy", &[]);
+}
+
+#[test]
+fn made_and_copied(rt: HostRuntime) {
+    let alloc = rt.alloc();
+    let alice = key(&rt, alloc, "toy:YWxpY2U=");
+    let made = PublicKey::new(text(&rt, alloc, "toy"), bytes(&rt, alloc, b"alice"));
+    assert_eq!(rt; made, alice);
+    assert_eq!(rt; alice.try_clone().expect(&rt, "memory"), alice);
+    assert_ne!(rt; key(&rt, alloc, "toy:"), alice);
+}
+
+#[test]
+fn signatures_made_and_copied(rt: HostRuntime) {
+    let alloc = rt.alloc();
+    let read = signature(&rt, alloc, "toy:AAEC");
+    let made = Signature::new(text(&rt, alloc, "toy"), bytes(&rt, alloc, &[0, 1, 2]));
+    assert_eq!(rt; made, read);
+    assert_eq!(rt; read.try_clone().expect(&rt, "memory"), read);
+    assert_ne!(rt; signature(&rt, alloc, "toz:AAEC"), read);
+}
+
+fn is_no_key(rt: &impl Abort, alloc: Global, text: &str, want: KeyParseError) {
+    assert_eq!(rt; PublicKey::parse(alloc, text).err(), Some(want), "{text}");
+}
+
+#[test]
+fn refused_keys(rt: HostRuntime) {
+    let alloc = rt.alloc();
+    is_no_key(&rt, alloc, "toy", KeyParseError::MissingColon);
+    is_no_key(&rt, alloc, "", KeyParseError::MissingColon);
+    is_no_key(&rt, alloc, ":AAEC", KeyParseError::EmptyAlgorithm);
+    is_no_key(&rt, alloc, ":", KeyParseError::EmptyAlgorithm);
+    is_no_key(&rt, alloc, "toy:AAE", KeyParseError::BadBase64);
+    is_no_key(&rt, alloc, "toy:AAEC:", KeyParseError::BadBase64);
+}
+
+fn is_no_signature(rt: &impl Abort, alloc: Global, text: &str, want: SignatureParseError) {
+    assert_eq!(rt; Signature::parse(alloc, text).err(), Some(want), "{text}");
+}
+
+#[test]
+fn refused_signatures(rt: HostRuntime) {
+    let alloc = rt.alloc();
+    is_no_signature(&rt, alloc, "", SignatureParseError::MissingColon);
+    is_no_signature(&rt, alloc, ":AAEC", SignatureParseError::EmptyAlgorithm);
+    is_no_signature(&rt, alloc, "toy:AAE", SignatureParseError::BadBase64);
+    is_no_signature(&rt, alloc, "toy:AAEC:", SignatureParseError::BadBase64);
+}
+
+#[test]
+fn ids(rt: HostRuntime) {
+    let alloc = rt.alloc();
+    let any = id(&rt, alloc, "any text: at all");
+    assert_eq!(rt; any.as_str(), "any text: at all");
+    is_shown(&rt, alloc, &any, "any text: at all");
+    assert_eq!(rt; any.try_clone().expect(&rt, "memory"), any);
+    assert_ne!(rt; id(&rt, alloc, ""), any);
+}
+
+#[test]
+fn fingerprints(rt: HostRuntime) {
+    let alloc = rt.alloc();
+    let alice = key(&rt, alloc, "toy:YWxpY2U=");
+    let fingerprint = alice.fingerprint(alloc).expect(&rt, "memory");
+    is_shown(
+        &rt,
+        alloc,
+        &fingerprint,
+        "sha256:6f03ae61d0fd3df261d400afe99bdcd613f266104552b6ad5281c7666633c6e2",
+    );
+}
