@@ -2,12 +2,13 @@
 use Rattle.std.specs.Prelude.{◌≡◌, ℕ, List, Result, Ok, string_bytes, IsUtf8, [], ◌∷◌}
 use Rattle.warg_protobuf.specs.declared.error.WireError.{WireError}
 use Rattle.warg_protobuf.specs.declared.envelope.Envelope.{Envelope}
+use Rattle.warg_protobuf.specs.declared.envelope.EnvelopeParts.{EnvelopeParts}
 use Rattle.warg_protobuf.specs.Field.{Field}
 use Rattle.warg_protobuf.specs.Table.{Table, End, BytesAt, TextAt}
-use Rattle.warg_protobuf.specs.Reading.{◌>>=◌}
-use Rattle.warg_protobuf.specs.Values.{last_bytes, text_of, message_of}
+use Rattle.warg_protobuf.specs.Reading.{◌>>=◌, fields_of}
+use Rattle.warg_protobuf.specs.Values.{held, last_from, last_bytes, text_of, message_of}
 use Rattle.warg_protobuf.specs.Meaning.{IsMessage}
-use Rattle.warg_protobuf.specs.Writing.{bytes_field, in_order, bytes_of}
+use Rattle.warg_protobuf.specs.Writing.{content_field, bytes_field, in_order, bytes_of}
 
 abbrev pub envelope_table : Table
 envelope_table = BytesAt 1 (TextAt 2 (TextAt 3 End))
@@ -41,6 +42,26 @@ envelope_from fs = do
 -- the envelope that the bytes say, or their first fault
 abbrev pub envelope_of : List ℕ → Result EnvelopeValue WireError
 envelope_of bytes = message_of envelope_table envelope_from bytes
+
+-- the parts as they stand in the bytes
+abbrev pub parts_seen : EnvelopeParts → EnvelopeValue
+parts_seen p = record { contents = p.contents.now; key_id = p.key_id.now; signature = p.signature.now }
+
+-- the last content of each number, or the one before where there is none
+abbrev pub last_parts : EnvelopeValue → List Field → EnvelopeValue
+last_parts v fs = record { contents = last_from v.contents (held 1 fs); key_id = last_from v.key_id (held 2 fs); signature = last_from v.signature (held 3 fs) }
+
+-- before the first field
+abbrev pub no_parts : EnvelopeValue
+no_parts = record { contents = []; key_id = []; signature = [] }
+
+-- the parts that the bytes say, or their first fault
+abbrev pub parts_of : List ℕ → Result EnvelopeValue WireError
+parts_of bytes = fields_of envelope_table bytes >>= λ fs. Ok (last_parts no_parts fs)
+
+-- a field for each part
+abbrev pub part_fields : EnvelopeValue → List Field
+part_fields v = content_field 1 v.contents ∷ content_field 2 v.key_id ∷ content_field 3 v.signature ∷ []
 
 -- what is written
 abbrev pub envelope_fields : EnvelopeValue → List Field

@@ -1,15 +1,17 @@
 //! The outer message.
 
-ghost use Rattle.std.specs.Prelude.{◌≡◌, ◌≢◌, IfOk, IfErr, Ok, Err};
+ghost use Rattle.std.specs.Prelude.{◌≡◌, ◌≢◌, [], ◌∷◌, map, IfOk, IfErr, Ok, Err};
 ghost use Rattle.warg_protobuf.specs.declared.error.WireError.{WireError};
 ghost use Rattle.warg_protobuf.specs.declared.error.WireError.TheVariants.{OutOfMemory};
-ghost use Rattle.warg_protobuf.specs.Envelope.{envelope_table, EnvelopeValue, envelope_seen, envelope_from, IsEnvelope, envelope_of, envelope_fields, envelope_bytes, IsSoundEnvelope};
+ghost use Rattle.warg_protobuf.specs.Envelope.{envelope_table, EnvelopeValue, envelope_seen, envelope_from, IsEnvelope, envelope_of, envelope_fields, envelope_bytes, IsSoundEnvelope, parts_seen, last_parts, parts_of, part_fields};
 ghost use Rattle.warg_protobuf.specs.Table.{HasFault};
-ghost use Rattle.warg_protobuf.specs.Views.{Gives};
+ghost use Rattle.warg_protobuf.specs.Reading.{Is};
+ghost use Rattle.warg_protobuf.specs.Views.{field_view, Gives};
 
 use crate::error::WireError;
 use crate::field::{RawField, RawPayload};
-use crate::message::{Message, Value, read_message, write_message};
+use crate::keep::{Keep, keep_fields};
+use crate::message::{Message, Value, write_message};
 use crate::text::{check_text, last_bytes, read_text};
 use crate::writing::{push_bytes, push_text};
 use std::alloc::{AllocError, Global};
@@ -74,6 +76,75 @@ impl Value for Envelope {
     }
 }
 
+/// An envelope's parts as they stand in the bytes.
+#[derive(Drop)]
+struct EnvelopeParts<'a> {
+    contents: &'a [u8],
+    key_id: &'a [u8],
+    signature: &'a [u8],
+}
+
+impl<'a> Keep<'a> for EnvelopeParts<'a> {
+    ghost Kept = { EnvelopeValue };
+
+    ghost kept = { parts_seen };
+
+    ghost with_field = { λ v f. last_parts v (f ∷ []) };
+
+    fn keep(&mut self, field: RawField<'a>) {
+        if let RawPayload::Bytes(content) = field.payload {
+            match field.number {
+                1 => self.contents = content,
+                2 => self.key_id = content,
+                3 => self.signature = content,
+                _ => {}
+            }
+        }
+    }
+}
+
+impl<'a> EnvelopeParts<'a> {
+    /// Reads the parts, all of the bytes. This takes no memory.
+    fn read(bytes: &'a [u8]) -> Result<Self, WireError>
+        ensures { Is parts_seen result (parts_of bytes.now) }
+    {
+        let mut parts = EnvelopeParts {
+            contents: &[],
+            key_id: &[],
+            signature: &[],
+        };
+        keep_fields::<Envelope, EnvelopeParts<'a>>(&mut parts, bytes)?;
+        Ok(parts)
+    }
+
+    /// A field for each part.
+    fn fields(&self) -> [RawField<'a>; 3]
+        ensures { map field_view result ≡ part_fields (parts_seen self.now) }
+    {
+        [
+            RawField {
+                number: 1,
+                payload: RawPayload::Bytes(self.contents),
+            },
+            RawField {
+                number: 2,
+                payload: RawPayload::Bytes(self.key_id),
+            },
+            RawField {
+                number: 3,
+                payload: RawPayload::Bytes(self.signature),
+            },
+        ]
+    }
+}
+
+fn read_envelope(alloc: Global, bytes: &[u8]) -> Result<Envelope, WireError>
+    ensures { Gives envelope_seen result (envelope_of bytes.now) }
+{
+    let parts = EnvelopeParts::read(bytes)?;
+    Envelope::from_fields(alloc, &parts.fields())
+}
+
 impl Envelope {
     /// Reads an envelope, all of the bytes: of repeated fields the last counts, unknown numbers are skipped.
     pub fn decode(alloc: Global, bytes: &[u8]) -> Result<Self, WireError>
@@ -86,7 +157,7 @@ impl Envelope {
         ensures only_fault { (e : WireError) → HasFault envelope_table bytes.now e → Gives envelope_seen result (Err e) }
         ensures computed { Gives envelope_seen result (envelope_of bytes.now) }
     {
-        read_message::<Envelope>(alloc, bytes)
+        read_envelope(alloc, bytes)
     }
 
     /// The message's bytes, by rising number; a part at its default is left out.

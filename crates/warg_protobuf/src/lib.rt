@@ -8,6 +8,7 @@ mod field;
 mod grant_flat;
 mod import_namespace;
 mod init;
+mod keep;
 pub mod laws;
 mod message;
 mod nested;

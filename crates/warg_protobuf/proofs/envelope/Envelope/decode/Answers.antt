@@ -4,13 +4,13 @@ use Rattle.warg_protobuf.proofs.EnvelopeLaws.{envelope_agrees}
 use Rattle.warg_protobuf.proofs.envelope.Envelope.decode.Goals as goal
 
 pub returns-clause-found : goal.returns-clause-found
-returns-clause-found c = decode_found envelope_table envelope_from IsEnvelopeOf envelope_agrees c.args.bytes.now envelope_seen c.read_message.result c.read_message.ensures
+returns-clause-found c = decode_found envelope_table envelope_from IsEnvelopeOf envelope_agrees c.args.bytes.now envelope_seen c.read_envelope.result c.read_envelope.ensures
 
 pub returns-clause-fault : goal.returns-clause-fault
-returns-clause-fault c = decode_fault envelope_table envelope_from IsEnvelopeOf envelope_agrees c.args.bytes.now envelope_seen c.read_message.result c.read_message.ensures
+returns-clause-fault c = decode_fault envelope_table envelope_from IsEnvelopeOf envelope_agrees c.args.bytes.now envelope_seen c.read_envelope.result c.read_envelope.ensures
 
 pub returns-clause-only : goal.returns-clause-only
-returns-clause-only c = decode_only envelope_table envelope_from IsEnvelopeOf envelope_agrees c.args.bytes.now envelope_seen c.read_message.result c.read_message.ensures
+returns-clause-only c = decode_only envelope_table envelope_from IsEnvelopeOf envelope_agrees c.args.bytes.now envelope_seen c.read_envelope.result c.read_envelope.ensures
 
 pub returns-clause-only_fault : goal.returns-clause-only_fault
-returns-clause-only_fault c = decode_only_fault envelope_table envelope_from IsEnvelopeOf envelope_agrees c.args.bytes.now envelope_seen c.read_message.result c.read_message.ensures
+returns-clause-only_fault c = decode_only_fault envelope_table envelope_from IsEnvelopeOf envelope_agrees c.args.bytes.now envelope_seen c.read_envelope.result c.read_envelope.ensures
