@@ -76,7 +76,7 @@ impl Value for Envelope {
     }
 }
 
-/// An envelope's parts as they stand in the bytes.
+/// The parts of an envelope where they stand in the bytes.
 #[derive(Drop)]
 struct EnvelopeParts<'a> {
     contents: &'a [u8],
@@ -113,11 +113,11 @@ impl<'a> EnvelopeParts<'a> {
             key_id: &[],
             signature: &[],
         };
-        keep_fields::<Envelope, EnvelopeParts<'a>>(&mut parts, bytes)?;
+        keep_fields::<Envelope, _>(&mut parts, bytes)?;
         Ok(parts)
     }
 
-    /// A field for each part.
+    /// A field for each part: they say the same envelope.
     fn fields(&self) -> [RawField<'a>; 3]
         ensures { map field_view result ≡ part_fields (parts_seen self.now) }
     {
@@ -138,6 +138,7 @@ impl<'a> EnvelopeParts<'a> {
     }
 }
 
+/// Reads an envelope with no list of its fields: only the three parts are copied.
 fn read_envelope(alloc: Global, bytes: &[u8]) -> Result<Envelope, WireError>
     ensures { Gives envelope_seen result (envelope_of bytes.now) }
 {
