@@ -5,7 +5,7 @@ use Rattle.warg_crypto.specs.declared.coding.DecodeError.{DecodeError}
 use Rattle.warg_records.specs.Envelopes.{EnvelopeFault, contents_fault_of, envelope_fault_of}
 use Rattle.warg_records.specs.declared.proto_envelope.error.ParseEnvelopeError.{ParseEnvelopeError}
 use Rattle.warg_records.specs.declared.proto_envelope.error.ParseEnvelopeError.TheVariants as error
-use Rattle.warg_validator.specs.Strings.{Cause, Unread}
+use Rattle.warg_validator.specs.Strings.{Cause, Unread, Unlawful}
 use Rattle.warg_audit.specs.Names.{contents_name, envelope_fault_name, cause_name}
 
 pub contents_named : {F : Type 0} (fault_name : F → List ℕ) (told : Option F)
@@ -24,3 +24,9 @@ module _ {F G C : Type 0} (fault_name : F → List ℕ) (other_name : G → List
   parse_named (error.KeyID h) = refl
   parse_named (error.Signature s) = refl
   parse_named error.OutOfMemory = refl
+
+-- the name of an offence that is told is that of the cause
+pub offence_named : {F C : Type 0} (fault_name : F → List ℕ) (offence_name : C → List ℕ) (told : Option C)
+    → option_map offence_name told ≡ option_map (cause_name fault_name offence_name) (option_map Unlawful told)
+offence_named fault_name offence_name None = refl
+offence_named fault_name offence_name (Some c) = refl

@@ -1,5 +1,5 @@
 -- What the wrappers of the reader and the writer tell.
-use Rattle.std.specs.Prelude.{◌≡◌, ℕ, ◌+◌, ◌≤◌, true, false, List, Option}
+use Rattle.std.specs.Prelude.{ℕ, ◌+◌, ◌-◌, ◌^◌, ◌<◌, ◌≤◌, List, Option}
 use Rattle.warg_audit.specs.declared.input.Input.{Input}
 use Rattle.warg_audit.specs.declared.output.Output.{Output}
 
@@ -15,10 +15,10 @@ held contents output = contents output.writer
 abbrev pub ReadsWithin : {R : Type 0} → Input R → Input R → ℕ → Type 0
 ReadsWithin before after count = after.reads ≤ before.reads + count
 
--- a read failed meanwhile, if none had before
+-- a read failed meanwhile; no more can be told where the count of failed ones was full
 abbrev pub ReadFailed : {R : Type 0} → Input R → Input R → Type 0
-ReadFailed before after = before.failed ≡ false → after.failed ≡ true
+ReadFailed before after = before.failures < 2 ^ 64 - 1 → before.failures < after.failures
 
--- a write failed meanwhile, if none had before
+-- a write failed meanwhile; no more can be told where the count of failed ones was full
 abbrev pub WriteFailed : {W : Type 0} → Output W → Output W → Type 0
-WriteFailed before after = before.failed ≡ false → after.failed ≡ true
+WriteFailed before after = before.failures < 2 ^ 64 - 1 → before.failures < after.failures

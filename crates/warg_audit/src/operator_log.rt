@@ -1,18 +1,17 @@
 //! Operator logs as the program shows them.
 
-ghost use Rattle.std.specs.Prelude.{[], refl};
+ghost use Rattle.std.specs.Prelude.{[]};
 
 use crate::audited::Audited;
 use std::alloc::{AllocError, Global};
 use warg_operator_log::{LogState, ValidationError};
 
 impl Audited for LogState {
-    ghost use Rattle.warg_audit.specs.Names.{record_fault_name};
+    ghost use Rattle.std.specs.Option.{option_map};
+    ghost use Rattle.warg_operator_log.specs.State.{offence_of};
     ghost use Rattle.warg_audit.specs.OffenceNames.{wrong_name, namespace_offence_name};
 
-    ghost fault_name = { record_fault_name };
-
-    ghost offence_name = { wrong_name namespace_offence_name };
+    ghost name_of = { λ e. option_map (wrong_name namespace_offence_name) (offence_of e) };
 
     ghost lines_of = { λ _. [] };
 
@@ -42,6 +41,4 @@ impl Audited for LogState {
     fn append_lines(&self, _alloc: Global, _text: &mut String) -> Result<(), AllocError> {
         Ok(())
     }
-
-    ghost one_name = { λ e. refl };
 }

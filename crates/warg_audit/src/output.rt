@@ -1,27 +1,27 @@
 //! Writing one text.
 
-ghost use Rattle.std.specs.Prelude.{◌≡◌, ◌||◌, false, is_err, OnOk};
+ghost use Rattle.std.specs.Prelude.{◌≡◌, ◌+◌, ◌-◌, ◌^◌, min, if◌then◌else◌, is_err, OnOk};
 ghost use Rattle.std.specs.Io.KnownBytes.{Appends};
 
 use std::io;
 use std::io::Write;
 
-/// A writer that remembers a failed write.
+/// A writer that counts the texts that it failed to write, up to the greatest `u64`.
 #[derive(Drop)]
 pub struct Output<W> {
     writer: W,
-    failed: bool,
+    failures: u64,
 }
 
 impl<W: Write> Output<W> {
     /// No write is made yet.
     pub fn new(writer: W) -> Output<W>
         ensures writer { result.writer ≡ writer }
-        ensures failed { result.failed ≡ false }
+        ensures failures { result.failures ≡ 0 }
     {
         Output {
             writer,
-            failed: false,
+            failures: 0,
         }
     }
 
@@ -29,25 +29,29 @@ impl<W: Write> Output<W> {
     pub fn into_inner(self) -> W
         ensures { result ≡ self.writer }
     {
-        let Output { writer, failed: _ } = self;
+        let Output {
+            writer,
+            failures: _,
+        } = self;
         writer
     }
 
-    /// Whether a write failed.
-    pub fn has_failed(&self) -> bool
-        ensures { result ≡ self.now.failed }
+    /// How many texts it failed to write.
+    pub fn failures(&self) -> u64
+        ensures { result ≡ self.now.failures }
     {
-        self.failed
+        self.failures
     }
 
     /// Writes all of the bytes.
     pub fn write_all(&mut self, bytes: &[u8]) -> io::Result<()>
-        ensures failed { self.new.failed ≡ self.old.failed || is_err result }
+        ensures failures { self.new.failures ≡ min (self.old.failures + (if is_err result then 1 else 0)) (2 ^ 64 - 1) }
         ensures bytes { OnOk result (Appends (W.contents self.old.writer) (W.contents self.new.writer) bytes.now) }
     {
+        let failures = self.failures;
         let outcome = self.writer.write_all(bytes);
         if outcome.is_err() {
-            self.failed = true;
+            self.failures = failures.saturating_add(1);
         }
         outcome
     }

@@ -1,6 +1,6 @@
 //! Package logs as the program shows them.
 
-ghost use Rattle.std.specs.Prelude.{◌≡◌, IfOk, string_bytes, refl};
+ghost use Rattle.std.specs.Prelude.{◌≡◌, IfOk, string_bytes};
 ghost use Rattle.warg_package_log.specs.Catalog.{release_view};
 ghost use Rattle.warg_audit.specs.ReleaseLines.{release_line};
 
@@ -22,15 +22,14 @@ fn release_line(alloc: Global, release: &Release) -> Result<String, AllocError>
 }
 
 impl Audited for LogState {
-    ghost use Rattle.warg_audit.specs.Names.{record_fault_name};
+    ghost use Rattle.std.specs.Option.{option_map};
+    ghost use Rattle.warg_package_log.specs.State.{view_of, offence_of};
     ghost use Rattle.warg_audit.specs.OffenceNames.{wrong_name, release_offence_name};
     ghost use Rattle.warg_audit.specs.ReleaseLines.{release_lines};
 
-    ghost fault_name = { record_fault_name };
+    ghost name_of = { λ e. option_map (wrong_name release_offence_name) (offence_of e) };
 
-    ghost offence_name = { wrong_name release_offence_name };
-
-    ghost lines_of = { λ view. release_lines view.whole.matter };
+    ghost lines_of = { λ state. release_lines (view_of state).whole.matter };
 
     fn error_name(error: &ValidationError) -> Option<&'static str> {
         match error {
@@ -62,6 +61,4 @@ impl Audited for LogState {
         }
         Ok(())
     }
-
-    ghost one_name = { λ e. refl };
 }

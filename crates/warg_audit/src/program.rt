@@ -5,6 +5,7 @@ ghost use Rattle.std.specs.Io.KnownBytes.{Appends};
 ghost use Rattle.warg_audit.specs.Answers.{IsCommandAnswer};
 ghost use Rattle.warg_audit.specs.Printed.{usage};
 ghost use Rattle.warg_audit.specs.Commands.{command_of};
+ghost use Rattle.warg_audit.specs.Kinds.{IsKindAnswer};
 ghost use Rattle.warg_audit.specs.Lines.{lines_of};
 ghost use Rattle.warg_audit.specs.Meters.{left, held, ReadsWithin, ReadFailed, WriteFailed};
 ghost use Rattle.warg_audit.specs.Replies.{printed_of, IsReply, IsPrinted, IsAnswered, IsTrouble};
@@ -25,14 +26,23 @@ pub const USAGE: &str = "usage: warg_audit [id] package|operator\n";
 /// What is printed where memory is refused.
 pub const OUT_OF_MEMORY: &str = "out of memory\n";
 
+// The answer to the text of a log of this kind.
+fn kind_reply(alloc: Global, kind: Kind, text: &[u8]) -> Result<Reply, AllocError>
+    ensures { IfOk result (λ reply. IsKindAnswer kind (lines_of text.now) (printed_of reply)) }
+{
+    match kind {
+        Kind::Package => log_reply::<warg_package_log::LogState>(alloc, text),
+        Kind::Operator => log_reply::<warg_operator_log::LogState>(alloc, text),
+    }
+}
+
 // The answer to an input of no more than the limit.
 fn command_reply(alloc: Global, command: Command, bytes: &[u8]) -> Result<Reply, AllocError>
     ensures { IfOk result (λ reply. IsCommandAnswer command (lines_of bytes.now) (printed_of reply)) }
 {
     match command {
         Command::Id(kind) => id_reply(alloc, kind, bytes),
-        Command::Audit(Kind::Package) => log_reply::<warg_package_log::LogState>(alloc, bytes),
-        Command::Audit(Kind::Operator) => log_reply::<warg_operator_log::LogState>(alloc, bytes),
+        Command::Audit(kind) => kind_reply(alloc, kind, bytes),
     }
 }
 

@@ -104,14 +104,14 @@ fn is_written_bytewise(alloc: Global, words: &[&str], input: &[u8]) -> Result<bo
         let mut reader = Input::new(input);
         let mut output = Output::new(Drain { writes });
         let found = audit(alloc, words.as_slice(), &mut reader, &mut output);
-        if found != 3 || reader.has_failed() || !output.has_failed() {
+        if found != 3 || reader.failures() != 0 || output.failures() != 1 {
             return Ok(false);
         }
     }
     let mut reader = Input::new(input);
     let mut output = Output::new(Drain { writes: text.len() });
     let found = audit(alloc, words.as_slice(), &mut reader, &mut output);
-    Ok(found == status && !output.has_failed())
+    Ok(found == status && output.failures() == 0)
 }
 
 #[test]

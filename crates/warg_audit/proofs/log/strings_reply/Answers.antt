@@ -12,13 +12,15 @@ use Rattle.warg_audit.proofs.log.strings_reply.Goals as goal
 pub returns-in-Ok : goal.returns-in-Ok
 returns-in-Ok g c =
     IfOk-weaker c.accepted_reply.result _ _
-    (λ reply. state_answers _ _ (map vec_items c.args.strings.now) (printed_of reply) g.L.Validator.view (told (envelope_fault_of g.L.Record.Record.fault_of) g.L.Validator.offence_of)
-    c.in-Ok.state c.in-Ok.ensures (length c.args.strings.now) (sym (length-map c.args.strings.now vec_items)))
+    (λ reply is fault_name offence_name shown tells.
+    state_answers _ _ (map vec_items c.args.strings.now) (printed_of reply) g.L.Validator.view (told (envelope_fault_of g.L.Record.Record.fault_of) g.L.Validator.offence_of)
+    c.in-Ok.state c.in-Ok.ensures (length c.args.strings.now) (sym (length-map c.args.strings.now vec_items)) (g.L.Audited.lines_of c.in-Ok.state) (tells.lines c.in-Ok.state) is)
     c.accepted_reply.ensures
 
 pub returns-in-Some : goal.returns-in-Some
 returns-in-Some g c =
     IfOk-weaker c.refused_reply.result _ _
-    (λ reply. error_answers _ _ (map vec_items c.args.strings.now) (printed_of reply) g.L.Validator.view (told (envelope_fault_of g.L.Record.Record.fault_of) g.L.Validator.offence_of)
-    c.in-Err.error c.in-Err.ensures refl (name_text c.in-Some.name) c.in-Some.ensures)
+    (λ reply is fault_name offence_name shown tells.
+    error_answers _ _ (map vec_items c.args.strings.now) (printed_of reply) g.L.Validator.view (told (envelope_fault_of g.L.Record.Record.fault_of) g.L.Validator.offence_of)
+    c.in-Err.error c.in-Err.ensures refl (name_text c.in-Some.name) (c.in-Some.ensures fault_name offence_name shown tells) is)
     c.refused_reply.ensures
