@@ -60,14 +60,6 @@ fn texts(rt: HostRuntime) {
 }
 
 #[test]
-fn parts(rt: HostRuntime) {
-    let hash = AnyHash::new(HashAlgorithm::Sha256, [7; 32]);
-    assert_eq!(rt; hash.algorithm(), HashAlgorithm::Sha256);
-    assert_eq!(rt; hash.bytes(), [7; 32].as_slice());
-    assert_ne!(rt; hash, AnyHash::new(HashAlgorithm::Sha256, [8; 32]));
-}
-
-#[test]
 fn hashes_of_pairs(rt: HostRuntime) {
     let content = [0x1a, 0x00];
     let prefix = bytes(&rt, rt.alloc(), b"WARG-PACKAGE-LOG-RECORD-V0:");

@@ -40,6 +40,10 @@ fn says(rt: &impl Abort, text: &str, want: Result<Timestamp, JsonError>) {
     assert_eq!(rt; Timestamp::parse_text(text), want, "{text}");
 }
 
+fn says_a_late_time(rt: &impl Abort, text: &str) {
+    says(rt, text, Err(JsonError::TimeOutOfRange));
+}
+
 #[test]
 fn read_texts(rt: HostRuntime) {
     says(&rt, "1.4000000000", Ok(Timestamp::new(5, 0)));
@@ -48,9 +52,8 @@ fn read_texts(rt: HostRuntime) {
     says(&rt, "1.05", Ok(Timestamp::new(1, 5)));
     let last = Timestamp::new(i64::MAX, 294_967_295);
     says(&rt, "9223372036854775803.4294967295", Ok(last));
-    let late = Err(JsonError::TimeOutOfRange);
-    says(&rt, "9223372036854775807.1000000000", late);
-    says(&rt, "18446744073709551615.0", late);
+    says_a_late_time(&rt, "9223372036854775807.1000000000");
+    says_a_late_time(&rt, "18446744073709551615.0");
 }
 
 fn says_no_time(rt: &impl Abort, text: &str) {
