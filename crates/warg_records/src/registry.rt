@@ -15,9 +15,6 @@ pub use log_id::LogId;
 pub use package_name::{PackageName, PackageNameError};
 pub use record_id::RecordId;
 
-#[cfg(test)]
-mod tests;
-
 /// A place in a registry's log of all records.
 pub type RegistryIndex = usize;
 

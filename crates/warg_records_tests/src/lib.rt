@@ -1,0 +1,31 @@
+//! Tests of `warg_records`, by its public paths.
+#![tactic(auto)]
+
+#[cfg(test)]
+mod bodies;
+#[cfg(test)]
+mod checkpoints;
+#[cfg(test)]
+mod contents;
+#[cfg(test)]
+mod entries;
+#[cfg(test)]
+mod envelopes;
+#[cfg(test)]
+mod json;
+#[cfg(test)]
+mod leaves;
+#[cfg(test)]
+mod log_ids;
+#[cfg(test)]
+mod names;
+#[cfg(test)]
+mod permissions;
+#[cfg(test)]
+mod record_ids;
+#[cfg(test)]
+mod samples;
+#[cfg(test)]
+mod signed;
+#[cfg(test)]
+mod written;
