@@ -17,24 +17,24 @@ enum Link {
 
 /// A record to be made. Its entries are still text, which each kind of log reads for itself.
 #[derive(Clone, Copy)]
-pub struct Draft {
-    pub signer: &'static str,
-    pub timestamp: Timestamp,
+pub struct Draft<'a> {
+    pub signer: &'a str,
+    time: &'a str,
     pub version: u32,
-    pub entries: &'static str,
+    pub entries: &'a str,
     link: Link,
 }
 
-impl Draft {
+impl<'a> Draft<'a> {
     /// The draft that a line says.
-    pub fn parse(line: &'static str) -> Result<Draft, Fail> {
+    pub fn parse(line: &'a str) -> Result<Draft<'a>, Fail> {
         let (head, entries) = line.split_once(':').ok_or("a line without a colon")?;
         let mut words = head.split(' ');
         let signer = words.next().ok_or("no signer")?;
-        let timestamp = Timestamp::parse_text(words.next().ok_or("no time")?)?;
+        let time = words.next().ok_or("no time")?;
         let mut draft = Draft {
             signer,
-            timestamp,
+            time,
             version: 0,
             entries,
             link: Link::Right,
@@ -53,6 +53,11 @@ impl Draft {
             _ => return Err(Fail::new("a strange word before the colon")),
         }
         Ok(())
+    }
+
+    /// When the record is made.
+    pub fn timestamp(&self) -> Result<Timestamp, Fail> {
+        Ok(Timestamp::parse_text(self.time)?)
     }
 
     /// The record that the draft's names as the one before it, where `last` is the log's last one.

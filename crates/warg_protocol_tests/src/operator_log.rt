@@ -2,6 +2,8 @@
 use crate::operator_errors::error;
 use crate::play::{log_of, play};
 use crate::script::words_of;
+use std::alloc::Global;
+use std::process::Abort;
 use std::test::Fail;
 use warg_protocol::operator::LogState;
 
@@ -172,26 +174,35 @@ fn later_records_are_refused(rt: HostRuntime) -> Result<(), Fail> {
     play::<LogState>(&rt, rt.alloc(), script)
 }
 
-#[test]
-fn copies_are_equal(rt: HostRuntime) -> Result<(), Fail> {
-    let alloc = rt.alloc();
-    let state = log_of::<LogState>(&rt, alloc, NAMESPACES)?.state;
-    assert!(rt; LogState::try_clone(&state)? == state);
-    assert!(rt; LogState::new(alloc)? != state);
-    for name in ["my-namespace", "imported-namespace"] {
-        let namespace = state.namespace_state(name).ok_or("no namespace")?;
-        assert!(rt; namespace.try_clone()? == *namespace);
-        assert!(rt; namespace.clone()? == *namespace);
-    }
-    assert!(rt;
-        state.namespace_state("my-namespace") != state.namespace_state("imported-namespace")
-    );
+fn is_copied(state: &LogState) -> Result<bool, Fail> {
+    Ok(state.try_clone()? == *state)
+}
+
+fn is_namespace_copied(state: &LogState, name: &str) -> Result<bool, Fail> {
+    let namespace = state.namespace_state(name).ok_or("no namespace")?;
+    Ok(namespace.try_clone()? == *namespace)
+}
+
+fn copy(rt: &impl Abort, state: &LogState) -> Result<(), Fail> {
+    assert!(rt; is_copied(state)?);
+    assert!(rt; is_namespace_copied(state, "my-namespace")?);
+    assert!(rt; is_namespace_copied(state, "imported-namespace")?);
     Ok(())
 }
 
 #[test]
+fn copies_are_equal(rt: HostRuntime) -> Result<(), Fail> {
+    let log = log_of::<LogState>(&rt, rt.alloc(), NAMESPACES)?;
+    copy(&rt, &log.state)
+}
+
+fn shown(alloc: Global, words: &str) -> Result<String, Fail> {
+    let (case, subject, permission) = words_of(words);
+    Ok(error(alloc, case, subject, permission)?.to_string(alloc)?)
+}
+
+#[test]
 fn a_refusal_says_why(rt: HostRuntime) -> Result<(), Fail> {
-    let alloc = rt.alloc();
     for (words, text) in [
         (
             "FirstEntryIsNotInit",
@@ -252,8 +263,7 @@ fn a_refusal_says_why(rt: HostRuntime) -> Result<(), Fail> {
         ),
         ("OutOfMemory", "OutOfMemory"),
     ] {
-        let (case, subject, permission) = words_of(words);
-        let shown = error(alloc, case, subject, permission)?.to_string(alloc)?;
+        let shown = shown(rt.alloc(), words)?;
         assert_eq!(rt; shown.as_str(), text);
     }
     Ok(())

@@ -22,11 +22,11 @@ fn entry(alloc: Global, verb: &str, subject: &str, rest: &str) -> Result<Operato
         }),
         "grant" => Ok(OperatorEntry::GrantFlat {
             key: key(alloc, subject)?,
-            permissions: permissions_of::<LogState>(alloc, rest)?,
+            permissions: permissions_of(alloc, rest)?,
         }),
         "revoke" => Ok(OperatorEntry::RevokeFlat {
             key_id: id(alloc, subject)?,
-            permissions: permissions_of::<LogState>(alloc, rest)?,
+            permissions: permissions_of(alloc, rest)?,
         }),
         "define" => Ok(OperatorEntry::DefineNamespace {
             namespace: String::from_str(alloc, subject)?,
@@ -53,14 +53,14 @@ impl Scripted for LogState {
     fn signed(
         alloc: Global,
         prev: Option<RecordId>,
-        draft: Draft,
+        draft: &Draft<'_>,
         entries: Vec<OperatorEntry>,
     ) -> Result<ProtoEnvelope<OperatorRecord>, Fail> {
         let signer = signer(alloc, draft.signer)?;
         let record = OperatorRecord {
             prev,
             version: draft.version,
-            timestamp: draft.timestamp,
+            timestamp: draft.timestamp()?,
             entries,
         };
         Ok(ProtoEnvelope::signed_contents(alloc, &signer, record)?)

@@ -2,8 +2,10 @@
 use crate::package_errors::error;
 use crate::play::{log_of, play};
 use crate::script::words_of;
+use std::alloc::Global;
+use std::process::Abort;
 use std::test::Fail;
-use warg_protocol::package::LogState;
+use warg_protocol::package::{LogState, Release, ReleaseState};
 
 #[test]
 fn a_log_begins(rt: HostRuntime) -> Result<(), Fail> {
@@ -275,36 +277,55 @@ const BY_ALICE: &str = "
     ? head digest = sha256:36d9d2050e9ef51051d1973d43569e0b8b4c9f1e7aaf0bff3ea88d5f5501b5ed
 ";
 
-#[test]
-fn a_state_knows_who_signed(rt: HostRuntime) -> Result<(), Fail> {
-    let alloc = rt.alloc();
-    let by_bob = log_of::<LogState>(&rt, alloc, BY_BOB)?.state;
-    let by_alice = log_of::<LogState>(&rt, alloc, BY_ALICE)?.state;
-    assert!(rt; by_bob.head() == by_alice.head());
-    assert!(rt; by_bob != by_alice);
-    let again = log_of::<LogState>(&rt, alloc, BY_BOB)?.state;
-    assert!(rt; by_bob == again);
-    Ok(())
+fn differ(rt: &impl Abort, left: &LogState, right: &LogState) {
+    assert!(rt; left.head() == right.head());
+    assert!(rt; left != right);
 }
 
 #[test]
-fn copies_are_equal(rt: HostRuntime) -> Result<(), Fail> {
-    let alloc = rt.alloc();
-    for script in [BY_BOB, YANKED] {
-        let state = log_of::<LogState>(&rt, alloc, script)?.state;
-        assert!(rt; LogState::try_clone(&state)? == state);
-        for release in state.releases() {
-            assert!(rt; release.try_clone()? == *release);
-            assert!(rt; release.clone()? == *release);
-            assert!(rt; release.state.try_clone()? == release.state);
-        }
+fn a_state_knows_who_signed(rt: HostRuntime) -> Result<(), Fail> {
+    let by_bob = log_of::<LogState>(&rt, rt.alloc(), BY_BOB)?;
+    let by_alice = log_of::<LogState>(&rt, rt.alloc(), BY_ALICE)?;
+    differ(&rt, &by_bob.state, &by_alice.state);
+    Ok(())
+}
+
+fn is_copied(state: &LogState) -> Result<bool, Fail> {
+    Ok(state.try_clone()? == *state)
+}
+
+fn is_release_copied(release: &Release) -> Result<bool, Fail> {
+    Ok(release.try_clone()? == *release)
+}
+
+fn is_fate_copied(fate: &ReleaseState) -> Result<bool, Fail> {
+    Ok(fate.try_clone()? == *fate)
+}
+
+fn copy(rt: &impl Abort, state: &LogState) -> Result<(), Fail> {
+    assert!(rt; is_copied(state)?);
+    for release in state.releases() {
+        assert!(rt; is_release_copied(release)?);
+        assert!(rt; is_fate_copied(&release.state)?);
     }
     Ok(())
 }
 
 #[test]
+fn copies_are_equal(rt: HostRuntime) -> Result<(), Fail> {
+    let released = log_of::<LogState>(&rt, rt.alloc(), BY_BOB)?;
+    copy(&rt, &released.state)?;
+    let yanked = log_of::<LogState>(&rt, rt.alloc(), YANKED)?;
+    copy(&rt, &yanked.state)
+}
+
+fn shown(alloc: Global, words: &str) -> Result<String, Fail> {
+    let (case, subject, permission) = words_of(words);
+    Ok(error(alloc, case, subject, permission)?.to_string(alloc)?)
+}
+
+#[test]
 fn a_refusal_says_why(rt: HostRuntime) -> Result<(), Fail> {
-    let alloc = rt.alloc();
     for (words, text) in [
         (
             "FirstEntryIsNotInit",
@@ -369,8 +390,7 @@ fn a_refusal_says_why(rt: HostRuntime) -> Result<(), Fail> {
         ),
         ("OutOfMemory", "OutOfMemory"),
     ] {
-        let (case, subject, permission) = words_of(words);
-        let shown = error(alloc, case, subject, permission)?.to_string(alloc)?;
+        let shown = shown(rt.alloc(), words)?;
         assert_eq!(rt; shown.as_str(), text);
     }
     Ok(())

@@ -21,11 +21,11 @@ fn entry(alloc: Global, verb: &str, subject: &str, rest: &str) -> Result<Package
         }),
         "grant" => Ok(PackageEntry::GrantFlat {
             key: key(alloc, subject)?,
-            permissions: permissions_of::<LogState>(alloc, rest)?,
+            permissions: permissions_of(alloc, rest)?,
         }),
         "revoke" => Ok(PackageEntry::RevokeFlat {
             key_id: id(alloc, subject)?,
-            permissions: permissions_of::<LogState>(alloc, rest)?,
+            permissions: permissions_of(alloc, rest)?,
         }),
         "release" => Ok(PackageEntry::Release {
             version: Version::parse(alloc, subject)?,
@@ -52,14 +52,14 @@ impl Scripted for LogState {
     fn signed(
         alloc: Global,
         prev: Option<RecordId>,
-        draft: Draft,
+        draft: &Draft<'_>,
         entries: Vec<PackageEntry>,
     ) -> Result<ProtoEnvelope<PackageRecord>, Fail> {
         let signer = signer(alloc, draft.signer)?;
         let record = PackageRecord {
             prev,
             version: draft.version,
-            timestamp: draft.timestamp,
+            timestamp: draft.timestamp()?,
             entries,
         };
         Ok(ProtoEnvelope::signed_contents(alloc, &signer, record)?)

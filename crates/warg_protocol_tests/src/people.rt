@@ -34,15 +34,18 @@ pub fn key(alloc: Global, name: &str) -> Result<PublicKey, AllocError> {
     signer(alloc, name)?.public_key().try_clone()
 }
 
-/// The id of the person's key. A name of no person is an id that no key has.
-pub fn id(alloc: Global, name: &str) -> Result<KeyID, AllocError> {
-    let mut text = name;
+fn id_text<'a>(name: &'a str) -> &'a str {
     for (person, id) in PEOPLE {
         if person == name {
-            text = id;
+            return id;
         }
     }
-    Ok(KeyID::from(String::from_str(alloc, text)?))
+    name
+}
+
+/// The id of the person's key. A name of no person is an id that no key has.
+pub fn id(alloc: Global, name: &str) -> Result<KeyID, AllocError> {
+    Ok(KeyID::from(String::from_str(alloc, id_text(name))?))
 }
 
 /// Whose key the id names.

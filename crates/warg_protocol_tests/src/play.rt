@@ -25,7 +25,7 @@ pub struct Player<L: Scripted> {
 }
 
 /// Plays a script from the empty log on.
-pub fn play<L: Scripted>(rt: &impl Abort, alloc: Global, script: &'static str) -> Result<(), Fail>
+pub fn play<L: Scripted>(rt: &impl Abort, alloc: Global, script: &str) -> Result<(), Fail>
 where
     L::Error: Debug + PartialEq,
 {
@@ -34,11 +34,7 @@ where
 }
 
 /// The log of a script. From its strings alone `run` makes the same state.
-pub fn log_of<L: Scripted>(
-    rt: &impl Abort,
-    alloc: Global,
-    script: &'static str,
-) -> Result<Player<L>, Fail>
+pub fn log_of<L: Scripted>(rt: &impl Abort, alloc: Global, script: &str) -> Result<Player<L>, Fail>
 where
     L::Error: Debug + PartialEq,
 {
@@ -71,12 +67,7 @@ impl<L: Scripted> Player<L>
 where
     L::Error: Debug + PartialEq,
 {
-    fn play_line(
-        &mut self,
-        rt: &impl Abort,
-        alloc: Global,
-        line: &'static str,
-    ) -> Result<(), Fail> {
+    fn play_line(&mut self, rt: &impl Abort, alloc: Global, line: &str) -> Result<(), Fail> {
         if let Some(words) = line.strip_prefix("! ") {
             let cause = cause::<L>(alloc, words)?;
             assert_eq!(rt; self.refusal.take(), Some(cause), "{line}");
@@ -93,7 +84,7 @@ where
     }
 
     // The bytes of the envelope that a line says.
-    fn string_of(&self, alloc: Global, line: &'static str) -> Result<Vec<u8>, Fail> {
+    fn string_of(&self, alloc: Global, line: &str) -> Result<Vec<u8>, Fail> {
         if !line.contains(':') {
             return Ok(hex::decode(alloc, line)?);
         }
@@ -131,7 +122,7 @@ where
         Ok(())
     }
 
-    fn ask(&self, rt: &impl Abort, alloc: Global, line: &'static str) -> Result<(), Fail> {
+    fn ask(&self, rt: &impl Abort, alloc: Global, line: &str) -> Result<(), Fail> {
         let (question, answer) = line
             .split_once(" = ")
             .ok_or("a question without an answer")?;

@@ -1,16 +1,17 @@
 //! Whole logs, read as strings.
 use crate::fault::cause;
-use crate::play::log_of;
+use crate::play::{Player, log_of};
 use crate::script::{Scripted, envelope_of};
 use std::alloc::Global;
 use std::fmt::Debug;
 use std::process::Abort;
+use std::slice;
 use std::test::Fail;
 use warg_crypto::toy::ToyVerifier;
-use warg_protocol::{ProtoEnvelope, RunError, operator, package, run, run_from};
+use warg_protocol::{ProtoEnvelope, RunCause, RunError, operator, package, run, run_from};
 
 // The strings of a script without answers. A record names the one before it, be that lawful or not.
-fn strings_of<L: Scripted>(alloc: Global, script: &'static str) -> Result<Vec<Vec<u8>>, Fail> {
+fn strings_of<L: Scripted>(alloc: Global, script: &str) -> Result<Vec<Vec<u8>>, Fail> {
     let mut strings = Vec::new(alloc);
     let mut last = None;
     for line in script.trim().lines() {
@@ -30,9 +31,9 @@ fn strings_of<L: Scripted>(alloc: Global, script: &'static str) -> Result<Vec<Ve
 fn refuse<L: Scripted>(
     rt: &impl Abort,
     alloc: Global,
-    script: &'static str,
+    script: &str,
     index: usize,
-    words: &'static str,
+    words: &str,
 ) -> Result<(), Fail>
 where
     L::Error: Debug + PartialEq,
@@ -162,25 +163,64 @@ const ALICE_YANKS: &str = "
     alice 3.0: revoke bob release yank, yank 1.1.0
 ";
 
-#[test]
-fn a_log_goes_on(rt: HostRuntime) -> Result<(), Fail> {
-    let alloc = rt.alloc();
-    let before = log_of::<package::LogState>(&rt, alloc, BOB_RELEASES)?.state;
-    let mut after = log_of::<package::LogState>(&rt, alloc, ALICE_YANKS)?;
-    let last = after.strings.pop().ok_or("no strings")?;
-    let once = vec![in alloc; last.clone()?]?;
-    let resumed = run_from(alloc, before.try_clone()?, &ToyVerifier, once.as_slice());
-    assert!(rt; resumed.is_ok_and(|state| state == after.state));
-    let twice = vec![in alloc; last.clone()?, last]?;
-    let cause = cause::<package::LogState>(alloc, "RecordHashDoesNotMatch")?;
-    let resumed = run_from(alloc, before.try_clone()?, &ToyVerifier, twice.as_slice());
-    assert!(rt; resumed == Err(RunError { index: 1, cause }));
-    let resumed = run_from(alloc, before.try_clone()?, &ToyVerifier, &[]);
-    assert!(rt; resumed == Ok(before));
+// Whether the strings make the one state of the other.
+fn makes(
+    alloc: Global,
+    before: &package::LogState,
+    strings: &[Vec<u8>],
+    after: &package::LogState,
+) -> Result<bool, Fail> {
+    let resumed = run_from(alloc, before.try_clone()?, &ToyVerifier, strings);
+    Ok(match resumed {
+        Ok(state) => state == *after,
+        Err(_) => false,
+    })
+}
+
+// Whether the second string names another record than the one before it.
+fn is_second_mislinked(
+    alloc: Global,
+    before: &package::LogState,
+    strings: &[Vec<u8>],
+) -> Result<bool, Fail> {
+    let resumed = run_from(alloc, before.try_clone()?, &ToyVerifier, strings);
+    Ok(match resumed {
+        Err(
+            RunError {
+                index: 1,
+                cause: RunCause::Validation(package::ValidationError::RecordHashDoesNotMatch),
+            },
+        ) => true,
+        _ => false,
+    })
+}
+
+fn twice(alloc: Global, string: &Vec<u8>) -> Result<Vec<Vec<u8>>, Fail> {
+    Ok(vec![in alloc; string.clone()?, string.clone()?]?)
+}
+
+fn goes_on(
+    rt: &impl Abort,
+    alloc: Global,
+    before: &package::LogState,
+    after: &Player<package::LogState>,
+) -> Result<(), Fail> {
+    let last = after.strings.last().ok_or("no strings")?;
+    assert!(rt; makes(alloc, before, slice::from_ref(last), &after.state)?);
+    assert!(rt; makes(alloc, before, &[], before)?);
+    let twice = twice(alloc, last)?;
+    assert!(rt; is_second_mislinked(alloc, before, twice.as_slice())?);
     Ok(())
 }
 
-fn reads_back<L: Scripted>(alloc: Global, line: &'static str) -> Result<bool, Fail>
+#[test]
+fn a_log_goes_on(rt: HostRuntime) -> Result<(), Fail> {
+    let before = log_of::<package::LogState>(&rt, rt.alloc(), BOB_RELEASES)?;
+    let after = log_of::<package::LogState>(&rt, rt.alloc(), ALICE_YANKS)?;
+    goes_on(&rt, rt.alloc(), &before.state, &after)
+}
+
+fn reads_back<L: Scripted>(alloc: Global, line: &str) -> Result<bool, Fail>
 where
     L::Record: PartialEq,
 {

@@ -1,6 +1,8 @@
 //! What a kind of log adds to the script language, and the envelopes of scripted records.
 use crate::draft::Draft;
 use std::alloc::Global;
+use std::fmt::Debug;
+use std::str::FromStr;
 use std::test::Fail;
 use warg_protocol::registry::RecordId;
 use warg_protocol::{ProtoEnvelope, Validator};
@@ -20,7 +22,7 @@ pub trait Scripted: Validator {
     fn signed(
         alloc: Global,
         prev: Option<RecordId>,
-        draft: Draft,
+        draft: &Draft<'_>,
         entries: Vec<Self::Entry>,
     ) -> Result<ProtoEnvelope<Self::Record>, Fail>;
 
@@ -44,10 +46,13 @@ pub fn words_of(text: &str) -> (&str, &str, &str) {
 }
 
 /// The permissions of these names.
-pub fn permissions_of<L: Scripted>(alloc: Global, names: &str) -> Result<Vec<L::Permission>, Fail> {
+pub fn permissions_of<P: FromStr + Drop>(alloc: Global, names: &str) -> Result<Vec<P>, Fail>
+where
+    P::Err: Debug + Drop,
+{
     let mut permissions = Vec::new(alloc);
     for name in names.split_whitespace() {
-        permissions.push(L::permission(name)?)?;
+        permissions.push(name.parse::<P>()?)?;
     }
     Ok(permissions)
 }
@@ -68,9 +73,9 @@ fn entries_of<L: Scripted>(alloc: Global, texts: &str) -> Result<Vec<L::Entry>, 
 pub fn envelope_of<L: Scripted>(
     alloc: Global,
     last: Option<RecordId>,
-    line: &'static str,
+    line: &str,
 ) -> Result<ProtoEnvelope<L::Record>, Fail> {
     let draft = Draft::parse(line)?;
     let entries = entries_of::<L>(alloc, draft.entries)?;
-    L::signed(alloc, draft.prev(last), draft, entries)
+    L::signed(alloc, draft.prev(last), &draft, entries)
 }
