@@ -282,12 +282,16 @@ fn differ(rt: &impl Abort, left: &LogState, right: &LogState) {
     assert!(rt; left != right);
 }
 
+fn differ_from(rt: &impl Abort, alloc: Global, left: &LogState, script: &str) -> Result<(), Fail> {
+    let right = log_of::<LogState>(rt, alloc, script)?;
+    differ(rt, left, &right.state);
+    Ok(())
+}
+
 #[test]
 fn a_state_knows_who_signed(rt: HostRuntime) -> Result<(), Fail> {
     let by_bob = log_of::<LogState>(&rt, rt.alloc(), BY_BOB)?;
-    let by_alice = log_of::<LogState>(&rt, rt.alloc(), BY_ALICE)?;
-    differ(&rt, &by_bob.state, &by_alice.state);
-    Ok(())
+    differ_from(&rt, rt.alloc(), &by_bob.state, BY_ALICE)
 }
 
 fn is_copied(state: &LogState) -> Result<bool, Fail> {
@@ -311,12 +315,15 @@ fn copy(rt: &impl Abort, state: &LogState) -> Result<(), Fail> {
     Ok(())
 }
 
+fn copy_log(rt: &impl Abort, alloc: Global, script: &str) -> Result<(), Fail> {
+    let log = log_of::<LogState>(rt, alloc, script)?;
+    copy(rt, &log.state)
+}
+
 #[test]
 fn copies_are_equal(rt: HostRuntime) -> Result<(), Fail> {
-    let released = log_of::<LogState>(&rt, rt.alloc(), BY_BOB)?;
-    copy(&rt, &released.state)?;
-    let yanked = log_of::<LogState>(&rt, rt.alloc(), YANKED)?;
-    copy(&rt, &yanked.state)
+    copy_log(&rt, rt.alloc(), BY_BOB)?;
+    copy_log(&rt, rt.alloc(), YANKED)
 }
 
 fn shown(alloc: Global, words: &str) -> Result<String, Fail> {

@@ -199,7 +199,8 @@ fn twice(alloc: Global, string: &Vec<u8>) -> Result<Vec<Vec<u8>>, Fail> {
     Ok(vec![in alloc; string.clone()?, string.clone()?]?)
 }
 
-fn goes_on(
+// The last of the strings goes on from `before` to `after`, and can't come twice.
+fn resume(
     rt: &impl Abort,
     alloc: Global,
     before: &package::LogState,
@@ -213,11 +214,20 @@ fn goes_on(
     Ok(())
 }
 
+fn resume_script(
+    rt: &impl Abort,
+    alloc: Global,
+    before: &package::LogState,
+    script: &str,
+) -> Result<(), Fail> {
+    let after = log_of::<package::LogState>(rt, alloc, script)?;
+    resume(rt, alloc, before, &after)
+}
+
 #[test]
 fn a_log_goes_on(rt: HostRuntime) -> Result<(), Fail> {
     let before = log_of::<package::LogState>(&rt, rt.alloc(), BOB_RELEASES)?;
-    let after = log_of::<package::LogState>(&rt, rt.alloc(), ALICE_YANKS)?;
-    goes_on(&rt, rt.alloc(), &before.state, &after)
+    resume_script(&rt, rt.alloc(), &before.state, ALICE_YANKS)
 }
 
 fn reads_back<L: Scripted>(alloc: Global, line: &str) -> Result<bool, Fail>
