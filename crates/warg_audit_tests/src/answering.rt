@@ -37,3 +37,18 @@ pub(crate) fn answers<R: Read + Drop>(
     let (text, found) = answer(alloc, words, reader)?;
     Ok(found == status && text.as_slice() == printed.as_bytes())
 }
+
+/// The first input that is answered otherwise. A row is an input and what is printed of it.
+pub(crate) fn first_wrong(
+    alloc: Global,
+    words: &[&str],
+    rows: &[(&'static str, &'static str)],
+    status: u8,
+) -> Result<Option<&'static str>, Fail> {
+    for (input, printed) in rows {
+        if !answers(alloc, words, input.as_bytes(), *printed, status)? {
+            return Ok(Some(*input));
+        }
+    }
+    Ok(None)
+}

@@ -1,6 +1,6 @@
 //! The id of one record.
 
-use crate::answering::answers;
+use crate::answering::first_wrong;
 use std::test::Fail;
 
 // The ids of the package records of no bytes and of 1a00, and of the operator record of 1a00.
@@ -12,72 +12,58 @@ const OPERATOR: &str = "sha256:37cd0978f6e285ec60545645b2c596014036adca9b84d0507
 
 #[test]
 fn names_records(rt: HostRuntime) -> Result<(), Fail> {
-    for (kind, input, printed) in [
-        ("package", "\n", EMPTY),
-        ("package", "0a021a00\n", SMALL),
-        ("package", "0a021a000a00", EMPTY),
-        ("package", "7d01020304", EMPTY),
-        ("operator", "0a021a00", OPERATOR),
-    ] {
-        let words = ["id", kind];
-        assert!(rt;
-            answers(rt.alloc(), words.as_slice(), input.as_bytes(), printed, 0)?,
-            "{input}"
-        );
-    }
+    let rows = [
+        ("\n", EMPTY),
+        ("0a021a00", SMALL),
+        ("0a021a00\n", SMALL),
+        ("0a021a000a00", EMPTY),
+        ("7d01020304", EMPTY),
+        ("\r", EMPTY),
+        ("\r\n", EMPTY),
+        ("0A021A00\r", SMALL),
+        ("0A021A00\r\n", SMALL),
+    ];
+    let wrong = first_wrong(rt.alloc(), ["id", "package"].as_slice(), rows.as_slice(), 0)?;
+    assert!(rt; wrong.is_none(), "{wrong:?}");
     Ok(())
 }
 
 #[test]
-fn drops_one_return(rt: HostRuntime) -> Result<(), Fail> {
-    for (input, printed, status) in [
-        ("\r", EMPTY, 0u8),
-        ("\r\n", EMPTY, 0),
-        ("0A021A00\r", SMALL, 0),
-        ("0A021A00\r\n", SMALL, 0),
-        ("0a021a00\r\r", "bad line 0\n", 2),
-        ("\n\r", "bad line 1\n", 2),
-    ] {
-        let words = ["id", "package"];
-        assert!(rt;
-            answers(
-                rt.alloc(),
-                words.as_slice(),
-                input.as_bytes(),
-                printed,
-                status
-            )?,
-            "{input}"
-        );
-    }
+fn names_operator_records(rt: HostRuntime) -> Result<(), Fail> {
+    let rows = [("0a021a00", OPERATOR)];
+    let wrong = first_wrong(
+        rt.alloc(),
+        ["id", "operator"].as_slice(),
+        rows.as_slice(),
+        0,
+    )?;
+    assert!(rt; wrong.is_none(), "{wrong:?}");
     Ok(())
 }
 
 #[test]
 fn wants_one_line(rt: HostRuntime) -> Result<(), Fail> {
-    for (input, printed) in [
+    let rows = [
         ("", "bad line 0\n"),
         ("0g", "bad line 0\n"),
         ("0a0", "bad line 0\n"),
         ("0 ", "bad line 0\n"),
         ("0g\n00", "bad line 0\n"),
+        ("0a021a00\r\r", "bad line 0\n"),
+        ("\n\r", "bad line 1\n"),
         ("\n\n", "bad line 1\n"),
         ("0a021a00\n\n", "bad line 1\n"),
         ("0a021a00\n0a021a00\n", "bad line 1\n"),
         ("0a021a00\n0g", "bad line 1\n"),
-    ] {
-        let words = ["id", "package"];
-        assert!(rt;
-            answers(rt.alloc(), words.as_slice(), input.as_bytes(), printed, 2)?,
-            "{input}"
-        );
-    }
+    ];
+    let wrong = first_wrong(rt.alloc(), ["id", "package"].as_slice(), rows.as_slice(), 2)?;
+    assert!(rt; wrong.is_none(), "{wrong:?}");
     Ok(())
 }
 
 #[test]
 fn names_faults(rt: HostRuntime) -> Result<(), Fail> {
-    for (input, printed) in [
+    let rows = [
         ("0a021a", "refused 0 ProtobufEnvelope.Truncated\n"),
         ("80", "refused 0 ProtobufEnvelope.Truncated\n"),
         (
@@ -90,14 +76,15 @@ fn names_faults(rt: HostRuntime) -> Result<(), Fail> {
         ("0801", "refused 0 ProtobufEnvelope.WrongWireType\n"),
         ("1201ff", "refused 0 ProtobufEnvelope.NotUtf8\n"),
         ("1201ff120161", "refused 0 ProtobufEnvelope.NotUtf8\n"),
-    ] {
-        for kind in ["package", "operator"] {
-            let words = ["id", kind];
-            assert!(rt;
-                answers(rt.alloc(), words.as_slice(), input.as_bytes(), printed, 1)?,
-                "{input}"
-            );
-        }
-    }
+    ];
+    let wrong = first_wrong(rt.alloc(), ["id", "package"].as_slice(), rows.as_slice(), 1)?;
+    assert!(rt; wrong.is_none(), "{wrong:?}");
+    let wrong = first_wrong(
+        rt.alloc(),
+        ["id", "operator"].as_slice(),
+        rows.as_slice(),
+        1,
+    )?;
+    assert!(rt; wrong.is_none(), "{wrong:?}");
     Ok(())
 }

@@ -2,6 +2,7 @@
 
 use crate::answering::answers;
 use crate::lines::log_of;
+use std::alloc::Global;
 use std::test::Fail;
 
 const PACKAGE: &str =
@@ -15,79 +16,100 @@ const ONE: &str = "ok 1 sha256:a81d0fa3471ae2d21cbfdb301daf648089c44117ca34d9b32
 const OPERATOR: &str =
     "ok 2 sha256:830514606a060a92a56e67edd1f57742cd36218908150d8de15650a8edebaf84\n";
 
-#[test]
-fn shows_logs(rt: HostRuntime) -> Result<(), Fail> {
-    for (kind, letters, printed) in [
-        ("package", "", "ok 0 none\n"),
-        ("operator", "", "ok 0 none\n"),
-        ("package", "a", ONE),
-        ("package", "ab", TWO),
-        ("package", "abc", PACKAGE),
-        ("operator", "id", OPERATOR),
-    ] {
-        for end in ["\n", "\r\n"] {
-            let log = log_of(rt.alloc(), letters, end)?;
-            assert!(rt;
-                answers(rt.alloc(), [kind].as_slice(), log.as_bytes(), printed, 0)?,
-                "{letters}"
-            );
+// The first log that is answered otherwise. A row is the letters of its lines and what is printed of it.
+fn first_wrong_log(
+    alloc: Global,
+    kind: &str,
+    end: &str,
+    rows: &[(&'static str, &'static str)],
+    status: u8,
+) -> Result<Option<&'static str>, Fail> {
+    for (letters, printed) in rows {
+        let log = log_of(alloc, *letters, end)?;
+        if !answers(alloc, [kind].as_slice(), log.as_bytes(), *printed, status)? {
+            return Ok(Some(*letters));
         }
     }
+    Ok(None)
+}
+
+#[test]
+fn shows_package_logs(rt: HostRuntime) -> Result<(), Fail> {
+    let rows = [
+        ("", "ok 0 none\n"),
+        ("a", ONE),
+        ("ab", TWO),
+        ("abc", PACKAGE),
+    ];
+    let wrong = first_wrong_log(rt.alloc(), "package", "\n", rows.as_slice(), 0)?;
+    assert!(rt; wrong.is_none(), "{wrong:?}");
+    let wrong = first_wrong_log(rt.alloc(), "package", "\r\n", rows.as_slice(), 0)?;
+    assert!(rt; wrong.is_none(), "{wrong:?}");
+    Ok(())
+}
+
+#[test]
+fn shows_operator_logs(rt: HostRuntime) -> Result<(), Fail> {
+    let rows = [("", "ok 0 none\n"), ("id", OPERATOR)];
+    let wrong = first_wrong_log(rt.alloc(), "operator", "\n", rows.as_slice(), 0)?;
+    assert!(rt; wrong.is_none(), "{wrong:?}");
     Ok(())
 }
 
 #[test]
 fn last_line_may_end_early(rt: HostRuntime) -> Result<(), Fail> {
     let log = log_of(rt.alloc(), "abc", "\n")?;
-    let Some(open) = log.as_bytes().strip_suffix(b"\n".as_slice()) else {
-        return Ok(());
-    };
+    let open = log
+        .as_bytes()
+        .strip_suffix(b"\n".as_slice())
+        .ok_or("no line feed")?;
     assert!(rt; answers(rt.alloc(), ["package"].as_slice(), open, PACKAGE, 0)?);
     Ok(())
 }
 
 #[test]
 fn refuses_the_first_wrong_line(rt: HostRuntime) -> Result<(), Fail> {
-    for (kind, letters, printed) in [
-        ("package", "bac", "refused 0 PreviousHashOnFirstRecord\n"),
-        ("package", "acb", "refused 1 RecordHashDoesNotMatch\n"),
-        ("package", "abb", "refused 2 RecordHashDoesNotMatch\n"),
-        ("package", "gbc", "refused 0 ProtobufEnvelope.Group\n"),
-        ("package", "agc", "refused 1 ProtobufEnvelope.Group\n"),
-        ("package", "abg", "refused 2 ProtobufEnvelope.Group\n"),
-        ("package", "a-c", "refused 1 Contents.MissingTime\n"),
-        ("package", "aa", "refused 1 NoPreviousHashAfterInit\n"),
-        ("operator", "ii", "refused 1 NoPreviousHashAfterInit\n"),
-        ("operator", "di", "refused 0 PreviousHashOnFirstRecord\n"),
-        ("operator", "idd", "refused 2 RecordHashDoesNotMatch\n"),
-        ("operator", "idg", "refused 2 ProtobufEnvelope.Group\n"),
-    ] {
-        let log = log_of(rt.alloc(), letters, "\n")?;
-        assert!(rt;
-            answers(rt.alloc(), [kind].as_slice(), log.as_bytes(), printed, 1)?,
-            "{letters}"
-        );
-    }
+    let rows = [
+        ("bac", "refused 0 PreviousHashOnFirstRecord\n"),
+        ("acb", "refused 1 RecordHashDoesNotMatch\n"),
+        ("abb", "refused 2 RecordHashDoesNotMatch\n"),
+        ("gbc", "refused 0 ProtobufEnvelope.Group\n"),
+        ("agc", "refused 1 ProtobufEnvelope.Group\n"),
+        ("abg", "refused 2 ProtobufEnvelope.Group\n"),
+        ("a-c", "refused 1 Contents.MissingTime\n"),
+        ("aa", "refused 1 NoPreviousHashAfterInit\n"),
+    ];
+    let wrong = first_wrong_log(rt.alloc(), "package", "\n", rows.as_slice(), 1)?;
+    assert!(rt; wrong.is_none(), "{wrong:?}");
+    Ok(())
+}
+
+#[test]
+fn refuses_operator_lines(rt: HostRuntime) -> Result<(), Fail> {
+    let rows = [
+        ("di", "refused 0 PreviousHashOnFirstRecord\n"),
+        ("ii", "refused 1 NoPreviousHashAfterInit\n"),
+        ("idd", "refused 2 RecordHashDoesNotMatch\n"),
+        ("idg", "refused 2 ProtobufEnvelope.Group\n"),
+    ];
+    let wrong = first_wrong_log(rt.alloc(), "operator", "\n", rows.as_slice(), 1)?;
+    assert!(rt; wrong.is_none(), "{wrong:?}");
     Ok(())
 }
 
 #[test]
 fn reads_all_lines_first(rt: HostRuntime) -> Result<(), Fail> {
-    for (letters, printed) in [
+    let rows = [
         ("x", "bad line 0\n"),
         ("xbc", "bad line 0\n"),
         ("axc", "bad line 1\n"),
         ("abx", "bad line 2\n"),
         ("gx", "bad line 1\n"),
         ("xx", "bad line 0\n"),
-    ] {
-        for kind in ["package", "operator"] {
-            let log = log_of(rt.alloc(), letters, "\n")?;
-            assert!(rt;
-                answers(rt.alloc(), [kind].as_slice(), log.as_bytes(), printed, 2)?,
-                "{letters}"
-            );
-        }
-    }
+    ];
+    let wrong = first_wrong_log(rt.alloc(), "package", "\n", rows.as_slice(), 2)?;
+    assert!(rt; wrong.is_none(), "{wrong:?}");
+    let wrong = first_wrong_log(rt.alloc(), "operator", "\n", rows.as_slice(), 2)?;
+    assert!(rt; wrong.is_none(), "{wrong:?}");
     Ok(())
 }
