@@ -1,25 +1,19 @@
 //! Laws over all operator logs. They have no effect.
-ghost use Rattle.std.specs.Prelude.{◌≡◌, ◌↔◌, ℕ, List, ◌++◌, None, Some, true, ◌<◌, length, Result, IfOk, IsOk, All};
+ghost use Rattle.std.specs.Prelude.{◌≡◌, ◌↔◌, ℕ, List, ◌++◌, None, Some, true, ◌<◌, length, Result, IfOk, IsOk, All, IfSome};
 ghost use Rattle.warg_records.specs.Letters.{Letter};
 ghost use Rattle.warg_validator.specs.Kinds.{Belief, IsAccepted, StandsFor};
 ghost use Rattle.warg_operator_log.specs.Namespaces.{Namespace, record_id_of};
-ghost use Rattle.warg_operator_log.specs.State.{offence_of, view_of};
-ghost use Rattle.std.specs.Prelude.{◌≡◌, ◌↔◌, ℕ, List, ◌++◌, IfSome, None, Some, true};
-ghost use Rattle.warg_records.specs.Letters.{Letter};
+ghost use Rattle.warg_operator_log.specs.State.{offence_of, view_of, View, record_offence};
 ghost use Rattle.warg_records.specs.OperatorEntries.{OperatorAct};
 ghost use Rattle.warg_records.specs.declared.operator.permission.Permission.{Permission};
-ghost use Rattle.warg_validator.specs.Kinds.{Belief, IsAccepted};
 ghost use Rattle.warg_log.specs.History.{SignedRecord};
 ghost use Rattle.warg_log.specs.Possible.{IsPossible};
-ghost use Rattle.warg_operator_log.specs.Namespaces.{Namespace};
-ghost use Rattle.warg_operator_log.specs.State.{View, offence_of, record_offence};
 ghost use Rattle.warg_operator_log.specs.StateLaws.{kind};
 ghost use Rattle.warg_operator_log.specs.declared.error.ValidationError.{ValidationError};
 ghost use Rattle.warg_operator_log.specs.declared.error.ValidationError.TheVariants.{OutOfMemory};
 ghost use Rattle.warg_records.specs.Envelopes.{envelope_of, envelope_fault_of};
 ghost use Rattle.warg_records.specs.Faults.{fault_of};
 ghost use Rattle.warg_records.specs.OperatorReading.{operator_record_of};
-ghost use Rattle.warg_records.specs.declared.operator.permission.Permission.{Permission};
 ghost use Rattle.warg_validator.specs.Outcomes.{IsRun, IfStarted, told};
 ghost use Rattle.warg_validator.specs.Strings.{read_all};
 ghost use Rattle.warg_validator.specs.declared.replay.RunError.{RunError};
@@ -62,6 +56,8 @@ pub fn states_tell_history()
         (b : Belief) (strings : List (List ℕ)) (answer : Result (State (Contents Permission) (List (List ℕ × Namespace))) (RunError ValidationError)) →
         IfStarted (IsRun kind b read kind.view_of view_of told_by ◌≡◌ strings) answer →
         IfOk answer (λ s. IsAccepted kind b (read_all read strings) × TellsHistory s (read_all read strings)) }
+{}
+
 /// What is wrong with a record is never want of memory within another error, nor a second algorithm:
 /// no record is refused by `IncorrectHashAlgorithm`, or by a `SignatureError` but `Refused`.
 pub fn offences_are_possible()

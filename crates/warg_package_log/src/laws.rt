@@ -1,5 +1,5 @@
 //! Laws over all package logs. They have no effect.
-ghost use Rattle.std.specs.Prelude.{◌≡◌, ◌↔◌, List, ◌++◌, None, true, ◌<◌, ℕ, length, Result, IfOk, IsOk, All};
+ghost use Rattle.std.specs.Prelude.{◌≡◌, ◌↔◌, List, ◌++◌, None, true, ◌<◌, ℕ, length, Result, IfOk, IsOk, All, IfSome};
 ghost use Rattle.warg_records.specs.Envelopes.{envelope_of, envelope_fault_of};
 ghost use Rattle.warg_records.specs.Faults.{fault_of};
 ghost use Rattle.warg_records.specs.Letters.{Letter};
@@ -15,18 +15,10 @@ ghost use Rattle.warg_log.specs.States.{State};
 ghost use Rattle.warg_package_log.specs.Catalog.{AreDistinct};
 ghost use Rattle.warg_package_log.specs.Extensions.{IsExtension};
 ghost use Rattle.warg_package_log.specs.Releases.{versions, ReleaseView, record_id_of};
-ghost use Rattle.warg_package_log.specs.State.{offence_of, view_of};
-ghost use Rattle.std.specs.Prelude.{◌≡◌, ◌↔◌, List, ◌++◌, IfSome, None, true};
-ghost use Rattle.warg_records.specs.Letters.{Letter};
+ghost use Rattle.warg_package_log.specs.State.{offence_of, view_of, View, record_offence};
 ghost use Rattle.warg_records.specs.PackageEntries.{PackageAct};
-ghost use Rattle.warg_records.specs.declared.package.permission.Permission.{Permission};
-ghost use Rattle.warg_validator.specs.Kinds.{Belief, IsAccepted};
 ghost use Rattle.warg_log.specs.History.{SignedRecord};
 ghost use Rattle.warg_log.specs.Possible.{IsPossible};
-ghost use Rattle.warg_package_log.specs.Catalog.{AreDistinct};
-ghost use Rattle.warg_package_log.specs.Extensions.{IsExtension};
-ghost use Rattle.warg_package_log.specs.Releases.{versions};
-ghost use Rattle.warg_package_log.specs.State.{View, offence_of, record_offence};
 ghost use Rattle.warg_package_log.specs.StateLaws.{kind};
 ghost use Rattle.warg_package_log.specs.declared.error.ValidationError.{ValidationError};
 ghost use Rattle.warg_package_log.specs.declared.error.ValidationError.TheVariants.{OutOfMemory};
@@ -71,6 +63,8 @@ pub fn states_tell_history()
         (b : Belief) (strings : List (List ℕ)) (answer : Result (State (Contents Permission) (List ReleaseView)) (RunError ValidationError)) →
         IfStarted (IsRun kind b read kind.view_of view_of told_by ◌≡◌ strings) answer →
         IfOk answer (λ s. IsAccepted kind b (read_all read strings) × TellsHistory s (read_all read strings)) }
+{}
+
 /// What is wrong with a record is never want of memory within another error, nor a second algorithm:
 /// no record is refused by `IncorrectHashAlgorithm`, or by a `SignatureError` but `Refused`.
 pub fn offences_are_possible()

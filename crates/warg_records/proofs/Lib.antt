@@ -4,6 +4,7 @@ pub mod Wire
 pub mod Distinct
 pub mod Relations
 pub mod WriteBack
+pub mod Wholes
 pub mod OfBytes
 pub mod KebabLemmas
 pub mod PackageNames

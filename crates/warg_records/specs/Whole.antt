@@ -56,3 +56,9 @@ IsWholePackageAct (Yank version) = ReadsBack version
 
 abbrev pub IsWholeOperatorAct : OperatorAct → Type 0
 IsWholeOperatorAct own = Unit {0}
+
+-- the text of the entry's version, if it has one, reads back
+abbrev pub IsReadable : {P : Type 0} → Reading P PackageAct → Type 0
+IsReadable (Shared act) = Unit {0}
+IsReadable (Own (Release version content)) = ReadsBack version
+IsReadable (Own (Yank version)) = ReadsBack version

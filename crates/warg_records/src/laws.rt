@@ -18,8 +18,11 @@ ghost use Rattle.warg_protobuf.specs.Envelope.{IsEnvelope};
 ghost use Rattle.warg_records.specs.Envelopes.{IsHonest, envelope_message};
 ghost use Rattle.warg_records.specs.Letters.{Held};
 
+mod whole;
+
 use crate::{ProtoEnvelope, Record};
 use warg_protobuf::laws::{decoding_computes, exactly_one};
+pub use whole::{operator_records_are_whole, package_records_are_whole};
 
 /// What is computed of content bytes is the record that they are, or their first fault.
 pub fn record_reading_computes()

@@ -6,7 +6,6 @@ ghost use Rattle.warg_records.specs.FaultLaws.{fault_of-memory};
 ghost use Rattle.warg_records.specs.Readings.{Said};
 ghost use Rattle.warg_protobuf.specs.OperatorRecord.{IsOperatorRecord};
 ghost use Rattle.warg_records.specs.OperatorWriting.{operator_content_of, operator_record_message};
-ghost use Rattle.warg_records.specs.Whole.{IsWhole, IsWholeOperatorAct};
 ghost use Rattle.warg_records.specs.Faults.{RecordFault};
 ghost use Rattle.warg_records.specs.OperatorEntries.{OperatorAct, said};
 ghost use Rattle.warg_records.specs.OperatorReading.{operator_record_of};
@@ -19,7 +18,7 @@ mod reading;
 mod writing;
 
 use crate::Record;
-use crate::laws::record_reading_computes;
+use crate::laws::{operator_records_are_whole, record_reading_computes};
 use indexmap::IndexSet;
 pub use model::{OperatorEntry, OperatorRecord};
 pub use permission::Permission;
@@ -47,9 +46,10 @@ impl Encode for OperatorRecord {
 
         // What is written is the message of the record, and reads back as the record.
         ensures read_again { IfOk result (λ v. IsOperatorRecord v.items (operator_record_message (said self.now))) }
-        ensures same { IsWhole IsWholeOperatorAct (said self.now) → IfOk result (λ v. operator_record_of v.items ≡ Ok (said self.now)) }
+        ensures same { IfOk result (λ v. operator_record_of v.items ≡ Ok (said self.now)) }
     {
         record_reading_computes();
+        operator_records_are_whole(self);
         let message = self.to_proto(alloc)?;
         message.encode(alloc)
     }

@@ -6,7 +6,8 @@ ghost use Rattle.warg_records.specs.FaultLaws.{fault_of-memory};
 ghost use Rattle.warg_records.specs.Readings.{Said};
 ghost use Rattle.warg_protobuf.specs.PackageRecord.{IsPackageRecord};
 ghost use Rattle.warg_records.specs.PackageWriting.{package_content_of, package_record_message};
-ghost use Rattle.warg_records.specs.Whole.{IsWhole, IsWholePackageAct};
+ghost use Rattle.warg_records.specs.Whole.{IsReadable};
+ghost use Rattle.std.specs.List.{AllByRecursion};
 ghost use Rattle.warg_records.specs.Faults.{RecordFault};
 ghost use Rattle.warg_records.specs.PackageEntries.{PackageAct, content_of, mentions, reading, said};
 ghost use Rattle.warg_records.specs.PackageReading.{package_record_of};
@@ -19,7 +20,7 @@ mod reading;
 mod writing;
 
 use crate::Record;
-use crate::laws::record_reading_computes;
+use crate::laws::{package_records_are_whole, record_reading_computes};
 use crate::mention::{self, Mention};
 use indexmap::IndexSet;
 pub use model::{PackageEntry, PackageRecord};
@@ -48,9 +49,10 @@ impl Encode for PackageRecord {
 
         // What is written is the message of the record, and reads back as the record.
         ensures read_again { IfOk result (λ v. IsPackageRecord v.items (package_record_message (said self.now))) }
-        ensures same { IsWhole IsWholePackageAct (said self.now) → IfOk result (λ v. package_record_of v.items ≡ Ok (said self.now)) }
+        ensures same { AllByRecursion IsReadable (said self.now).entries → IfOk result (λ v. package_record_of v.items ≡ Ok (said self.now)) }
     {
         record_reading_computes();
+        package_records_are_whole(self);
         let message = self.to_proto(alloc)?;
         message.encode(alloc)
     }

@@ -9,6 +9,6 @@ pub returns-clause-read_again : goal.returns-clause-read_again
 returns-clause-read_again c = rw c.in_ok-message.ensures at c.encode.ensures.read_again
 
 pub returns-clause-same : goal.returns-clause-same
-returns-clause-same c = λ whole. encoded_back operator_record_table IsOperatorRecord operator_entry_of operator_record_of c.record_reading_computes.ensures.of_operator
-    (said c.args.self.now) (operator_record_message (said c.args.self.now)) (operator_back (said c.args.self.now) whole)
+returns-clause-same c = encoded_back operator_record_table IsOperatorRecord operator_entry_of operator_record_of c.record_reading_computes.ensures.of_operator
+    (said c.args.self.now) (operator_record_message (said c.args.self.now)) (operator_back (said c.args.self.now) c.operator_records_are_whole.ensures)
     (λ v. v.items) c.encode.result (rw c.in_ok-message.ensures at c.encode.ensures.read_again)

@@ -9,6 +9,6 @@ pub returns-clause-read_again : goal.returns-clause-read_again
 returns-clause-read_again c = rw c.in_ok-message.ensures at c.encode.ensures.read_again
 
 pub returns-clause-same : goal.returns-clause-same
-returns-clause-same c = λ whole. encoded_back package_record_table IsPackageRecord package_entry_of package_record_of c.record_reading_computes.ensures.of_package
-    (said c.args.self.now) (package_record_message (said c.args.self.now)) (package_back (said c.args.self.now) whole)
+returns-clause-same c = λ readable. encoded_back package_record_table IsPackageRecord package_entry_of package_record_of c.record_reading_computes.ensures.of_package
+    (said c.args.self.now) (package_record_message (said c.args.self.now)) (package_back (said c.args.self.now) (c.package_records_are_whole.ensures readable))
     (λ v. v.items) c.encode.result (rw c.in_ok-message.ensures at c.encode.ensures.read_again)

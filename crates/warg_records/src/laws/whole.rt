@@ -1,0 +1,87 @@
+//! What is true of every record of the program, whatever made it, so that it reads back as it is written.
+
+ghost use Rattle.std.specs.List.{AllByRecursion};
+ghost use Rattle.warg_records.specs.OperatorEntries as in_operator;
+ghost use Rattle.warg_records.specs.PackageEntries as in_package;
+ghost use Rattle.warg_records.specs.Whole.{IsReadable, IsWhole, IsWholeEntry, IsWholeHash, IsWholeLink, IsWholeOperatorAct, IsWholePackageAct, IsWholeTag, IsWholeTime};
+
+use super::byte_range;
+use crate::operator::{OperatorEntry, OperatorRecord};
+use crate::package::{PackageEntry, PackageRecord};
+use crate::registry::RecordId;
+use warg_crypto::Timestamp;
+use warg_crypto::hash::AnyHash;
+use warg_crypto::signing::PublicKey;
+
+fn hash_is_whole(hash: &AnyHash)
+    ensures { IsWholeHash hash.now }
+{
+    byte_range(hash.bytes());
+}
+
+fn link_is_whole(link: &Option<RecordId>)
+    ensures { IsWholeLink link.now }
+{
+    if let Some(id) = link {
+        hash_is_whole(&AnyHash::from(*id));
+    }
+}
+
+fn key_is_whole(key: &PublicKey)
+    ensures { IsWholeTag key.now }
+{
+    let _name = key.algorithm();
+    byte_range(key.bytes());
+}
+
+fn time_is_whole(time: Timestamp)
+    ensures { IsWholeTime time }
+{
+    let _seconds = time.seconds();
+    let _nanos = time.nanos();
+}
+
+fn package_entry_is_whole(entry: &PackageEntry)
+    ensures { IsReadable (in_package.reading entry.now) → IsWholeEntry IsWholePackageAct (in_package.reading entry.now) }
+{
+    match entry {
+        PackageEntry::Init { key, .. } => key_is_whole(key),
+        PackageEntry::GrantFlat { key, .. } => key_is_whole(key),
+        PackageEntry::Release { content, .. } => hash_is_whole(content),
+        PackageEntry::RevokeFlat { .. } | PackageEntry::Yank { .. } => {}
+    }
+}
+
+fn operator_entry_is_whole(entry: &OperatorEntry)
+    ensures { IsWholeEntry IsWholeOperatorAct (in_operator.reading entry.now) }
+{
+    match entry {
+        OperatorEntry::Init { key, .. } => key_is_whole(key),
+        OperatorEntry::GrantFlat { key, .. } => key_is_whole(key),
+        OperatorEntry::RevokeFlat { .. }
+        | OperatorEntry::DefineNamespace { .. }
+        | OperatorEntry::ImportNamespace { .. } => {}
+    }
+}
+
+/// A package record reads back as it is written wherever the texts of its versions do.
+pub fn package_records_are_whole(record: &PackageRecord)
+    ensures { AllByRecursion IsReadable (in_package.said record.now).entries → IsWhole IsWholePackageAct (in_package.said record.now) }
+{
+    link_is_whole(&record.prev);
+    time_is_whole(record.timestamp);
+    for entry in &record.entries {
+        package_entry_is_whole(entry);
+    }
+}
+
+/// Every operator record reads back as it is written.
+pub fn operator_records_are_whole(record: &OperatorRecord)
+    ensures { IsWhole IsWholeOperatorAct (in_operator.said record.now) }
+{
+    link_is_whole(&record.prev);
+    time_is_whole(record.timestamp);
+    for entry in &record.entries {
+        operator_entry_is_whole(entry);
+    }
+}
