@@ -61,7 +61,6 @@ impl<'a> Draft<'a> {
     }
 
     /// What the record names as the one before it, where `last` is the log's last one.
-    /// The record that the draft's names as the one before it, where `last` is the log's last one.
     pub fn prev(&self, last: Option<RecordId>) -> Option<RecordId> {
         match self.link {
             Link::Right => last,

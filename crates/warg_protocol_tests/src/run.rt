@@ -201,7 +201,6 @@ fn twice(alloc: Global, string: &Vec<u8>) -> Result<Vec<Vec<u8>>, Fail> {
 
 // The last of the strings goes on from `before` to `after`, and can't come twice.
 fn resume(
-fn goes_on(
     rt: &impl Abort,
     alloc: Global,
     before: &package::LogState,
@@ -229,11 +228,6 @@ fn resume_script(
 fn a_log_goes_on(rt: HostRuntime) -> Result<(), Fail> {
     let before = log_of::<package::LogState>(&rt, rt.alloc(), BOB_RELEASES)?;
     resume_script(&rt, rt.alloc(), &before.state, ALICE_YANKS)
-#[test]
-fn a_log_goes_on(rt: HostRuntime) -> Result<(), Fail> {
-    let before = log_of::<package::LogState>(&rt, rt.alloc(), BOB_RELEASES)?;
-    let after = log_of::<package::LogState>(&rt, rt.alloc(), ALICE_YANKS)?;
-    goes_on(&rt, rt.alloc(), &before.state, &after)
 }
 
 fn reads_back<L: Scripted>(alloc: Global, line: &str) -> Result<bool, Fail>
