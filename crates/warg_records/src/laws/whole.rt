@@ -65,23 +65,23 @@ fn operator_entry_is_whole(entry: &OperatorEntry)
 }
 
 /// A package record reads back as it is written wherever the texts of its versions do.
-pub fn package_records_are_whole(record: &PackageRecord)
-    ensures { AllByRecursion IsReadable (in_package.said record.now).entries → IsWhole IsWholePackageAct (in_package.said record.now) }
+pub fn package_records_are_whole(package_record: &PackageRecord)
+    ensures { AllByRecursion IsReadable (in_package.said package_record.now).entries → IsWhole IsWholePackageAct (in_package.said package_record.now) }
 {
-    link_is_whole(&record.prev);
-    time_is_whole(record.timestamp);
-    for entry in &record.entries {
+    link_is_whole(&package_record.prev);
+    time_is_whole(package_record.timestamp);
+    for entry in &package_record.entries {
         package_entry_is_whole(entry);
     }
 }
 
 /// Every operator record reads back as it is written.
-pub fn operator_records_are_whole(record: &OperatorRecord)
-    ensures { IsWhole IsWholeOperatorAct (in_operator.said record.now) }
+pub fn operator_records_are_whole(operator_record: &OperatorRecord)
+    ensures { IsWhole IsWholeOperatorAct (in_operator.said operator_record.now) }
 {
-    link_is_whole(&record.prev);
-    time_is_whole(record.timestamp);
-    for entry in &record.entries {
+    link_is_whole(&operator_record.prev);
+    time_is_whole(operator_record.timestamp);
+    for entry in &operator_record.entries {
         operator_entry_is_whole(entry);
     }
 }

@@ -17,6 +17,6 @@ pub returns : goal.returns
 returns c = record {
   prev = c.link_is_whole.ensures;
   time = c.time_is_whole.ensures;
-  entries = all-map reading (IsWholeEntry IsWholeOperatorAct) c.args.record.now.entries.items
+  entries = all-map reading (IsWholeEntry IsWholeOperatorAct) c.args.operator_record.now.entries.items
       (subst (AllByRecursion IsGood) (take_all c.loop-entry.entry-index c.deref-entry-items.result.now c.loop-entry-test.false ∙ c.deref-entry-items.ensures.value) c.loop-entry.invariant);
 }

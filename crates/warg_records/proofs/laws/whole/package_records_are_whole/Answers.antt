@@ -17,6 +17,6 @@ pub returns : goal.returns
 returns c = λ readable. record {
   prev = c.link_is_whole.ensures;
   time = c.time_is_whole.ensures;
-  entries = all-seen reading IsReadable (IsWholeEntry IsWholePackageAct) c.args.record.now.entries.items
+  entries = all-seen reading IsReadable (IsWholeEntry IsWholePackageAct) c.args.package_record.now.entries.items
       (subst (AllByRecursion IsGood) (take_all c.loop-entry.entry-index c.deref-entry-items.result.now c.loop-entry-test.false ∙ c.deref-entry-items.ensures.value) c.loop-entry.invariant) readable;
 }
