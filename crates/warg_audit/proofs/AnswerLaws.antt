@@ -1,18 +1,14 @@
 -- Lines of which an id is asked have one answer.
-use Rattle.std.proofs.Common.{◌≡◌, ◌<◌, ◌≤◌, ℕ, Bool, true, false, cond, nat_lt, List, [], ◌∷◌, length, refl, sym, ◌∙◌, ap, arith, Option, Some, None, Result, Ok, Err, IsErr}
-use Rattle.std.proofs.lemmas.Bool.{ltb-true, ltb-false, false≢true}
+use Rattle.std.proofs.Common.{◌≡◌, ℕ, List, [], ◌∷◌, refl, sym, ◌∙◌, ap, Result, Ok, Err, IsErr}
+use Rattle.std.proofs.lemmas.Bool.{false≢true}
 use Rattle.hex.specs.declared.error.FromHexError.{FromHexError}
 use Rattle.warg_protobuf.specs.Envelope.{envelope_table, EnvelopeValue, IsEnvelope, envelope_of}
 use Rattle.warg_protobuf.specs.Meaning.{Computes}
 use Rattle.warg_protobuf.specs.declared.error.WireError.{WireError}
 use Rattle.warg_audit.specs.declared.command.Kind.{Kind}
-use Rattle.warg_audit.specs.declared.command.Command.{Command}
-use Rattle.warg_audit.specs.declared.command.Command.TheVariants.{Id}
-use Rattle.warg_audit.specs.Commands.{command_of}
-use Rattle.warg_audit.specs.Lines.{AreLines, string_of, lines_of}
+use Rattle.warg_audit.specs.Lines.{string_of}
 use Rattle.warg_audit.specs.Answers.{IsEnvelopeAnswer, is_read, has_fault, IsIdAnswer, no_line, bad_digits, second_line, one_line, envelope_answer, string_answer, id_answer}
 use Rattle.warg_audit.specs.Printed.{Printed}
-use Rattle.warg_audit.proofs.LineLemmas.{lines_of-are, lines_of-only}
 
 module _ (computes : (bytes : List ℕ) → Computes envelope_table envelope_of IsEnvelope bytes) where
   -- ---- the computed answer is one

@@ -1,18 +1,18 @@
 -- The answers to an input, by what was found of its lines.
-use Rattle.std.proofs.Common.{◌≡◌, ◌≢◌, ◌<◌, ◌≤◌, ◌⊎◌, ℕ, Bool, true, false, cond, List, [], ◌∷◌, ◌++◌, length, codes, refl, sym, ◌∙◌, ap, arith, append_assoc, zero, suc, inl, inr, Option, Some, None, IfSome, IfOk, Result, Ok, IsErr}
+use Rattle.std.proofs.Common.{◌≡◌, ◌≢◌, ◌<◌, ◌≤◌, ℕ, Bool, true, false, cond, List, [], ◌∷◌, ◌++◌, length, codes, refl, sym, ◌∙◌, ap, arith, append_assoc, zero, suc, Option, Some, None, IfSome, Ok, IsErr}
 use Rattle.std.specs.Io.KnownBytes.{Appends}
 use Rattle.warg_audit.specs.declared.command.Kind.{Kind}
 use Rattle.warg_audit.specs.declared.command.Command.{Command}
 use Rattle.warg_audit.specs.Commands.{command_of}
-use Rattle.warg_audit.specs.Lines.{lines_of, string_of, AreLines, is_line_feed, onto}
-use Rattle.warg_audit.specs.Answers.{IsEnvelopeAnswer, has_fault, IsIdAnswer, no_line, bad_digits, second_line, one_line, IsCommandAnswer, IsAnswer, other_words, over_limit, of_lines}
-use Rattle.warg_audit.specs.Printed.{Printed, usage, too_long, bad_line, refused, read_fault, out_of_memory}
+use Rattle.warg_audit.specs.Lines.{lines_of, string_of, is_line_feed, onto}
+use Rattle.warg_audit.specs.Answers.{IsEnvelopeAnswer, has_fault, IsIdAnswer, no_line, bad_digits, second_line, one_line, IsCommandAnswer, other_words, over_limit, of_lines}
+use Rattle.warg_audit.specs.Printed.{Printed, usage, too_long, bad_line, refused}
 use Rattle.warg_audit.specs.Names.{wire_name}
 use Rattle.warg_protobuf.specs.Envelope.{envelope_table}
 use Rattle.warg_protobuf.specs.Table.{HasFault}
 use Rattle.warg_protobuf.specs.declared.error.WireError.{WireError}
 use Rattle.warg_protobuf.specs.declared.error.WireError.TheVariants.{OutOfMemory}
-use Rattle.warg_audit.specs.Replies.{IsReply, answer, unread, starved, IsPrinted, IsAnswered, IsTrouble}
+use Rattle.warg_audit.specs.Replies.{IsReply, answer, unread, starved, IsAnswered}
 use Rattle.warg_audit.proofs.LineLemmas.{lines_of-are}
 
 -- ---- the lines behind the first one

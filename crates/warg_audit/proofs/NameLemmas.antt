@@ -2,10 +2,10 @@
 use Rattle.std.proofs.Common.{◌≡◌, ℕ, List, ◌++◌, codes, refl, sym, ap, ◌∙◌, Option, Some, None}
 use Rattle.std.specs.Option.{option_map}
 use Rattle.warg_crypto.specs.declared.coding.DecodeError.{DecodeError}
-use Rattle.warg_records.specs.Envelopes.{EnvelopeFault, contents_fault_of, envelope_fault_of}
+use Rattle.warg_records.specs.Envelopes.{contents_fault_of, envelope_fault_of}
 use Rattle.warg_records.specs.declared.proto_envelope.error.ParseEnvelopeError.{ParseEnvelopeError}
 use Rattle.warg_records.specs.declared.proto_envelope.error.ParseEnvelopeError.TheVariants as error
-use Rattle.warg_validator.specs.Strings.{Cause, Unread, Unlawful}
+use Rattle.warg_validator.specs.Strings.{Unread, Unlawful}
 use Rattle.warg_audit.specs.Names.{contents_name, envelope_fault_name, cause_name}
 
 pub contents_named : {F : Type 0} (fault_name : F → List ℕ) (told : Option F)

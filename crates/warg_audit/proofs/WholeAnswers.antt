@@ -1,5 +1,5 @@
 -- The lines of a log have one answer, and so have words and bytes.
-use Rattle.std.proofs.Common.{◌≡◌, ◌<◌, ◌≤◌, ℕ, Bool, true, false, cond, nat_lt, List, length, refl, sym, ◌∙◌, ap, Option, Some, None, Result, Ok, Err}
+use Rattle.std.proofs.Common.{◌≡◌, ℕ, Bool, true, false, cond, nat_lt, List, length, refl, sym, ◌∙◌, ap, Option, Some, None, Result, Ok, Err}
 use Rattle.std.proofs.lemmas.Bool.{ltb-true, ltb-false, lt-ltb, le-ltb}
 use Rattle.warg_records.specs.Envelopes.{EnvelopeFault, envelope_of}
 use Rattle.warg_validator.specs.Kinds.{Belief, KindLaws}
@@ -18,7 +18,7 @@ use Rattle.warg_audit.specs.declared.lines.LineError.TheVariants.{Bad, OutOfMemo
 use Rattle.warg_audit.specs.Answers.{IsIdAnswer, id_answer, IsCommandAnswer, command_answer, IsAnswer, other_words, over_limit, of_lines, asked_answer, answer_of}
 use Rattle.warg_audit.specs.Commands.{command_of}
 use Rattle.warg_audit.specs.Kinds.{package_log, operator_log, IsKindAnswer, kind_answer}
-use Rattle.warg_audit.specs.Lines.{AreLines, lines_of, strings_of}
+use Rattle.warg_audit.specs.Lines.{lines_of, strings_of}
 use Rattle.warg_audit.specs.LogAnswers.{Shown, IsLogAnswer, all_lawful, first_refused, IsAuditAnswer, first_bad, all_spelled, found_answer, log_answer, spelled_answer, audit_answer}
 use Rattle.warg_audit.specs.Printed.{Printed, too_long}
 use Rattle.warg_audit.proofs.LineLemmas.{lines_of-are, lines_of-only}

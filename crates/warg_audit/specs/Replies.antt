@@ -1,5 +1,5 @@
 -- What is printed by a reader and a writer that may fail.
-use Rattle.std.specs.Prelude.{◌≡◌, ◌⊎◌, ℕ, Bool, true, false, List, Option, IfSome, string_bytes}
+use Rattle.std.specs.Prelude.{◌≡◌, ℕ, List, Option, IfSome, string_bytes}
 use Rattle.std.specs.Io.KnownBytes.{Appends}
 use Rattle.warg_audit.specs.declared.reply.Text.{Text}
 use Rattle.warg_audit.specs.declared.reply.Text.TheVariants.{Made, Fixed}

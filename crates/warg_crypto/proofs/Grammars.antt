@@ -1,6 +1,6 @@
 -- A text is read exactly if it is one of the grammar.
-use Rattle.std.proofs.Common.{◌≡◌, ◌<◌, ◌≤◌, ◌==◌, ◌↔◌, Bool, ℕ, List, length, true, false, arith, [], ◌∷◌, ◌++◌, codes, Ok, Err, Result, refl, sym, ap, ◌∙◌, get_or, not, subst, if◌then◌else◌}
-use Rattle.std.specs.List.{list_any, before_first, after_first, position_or_len}
+use Rattle.std.proofs.Common.{◌≡◌, ◌<◌, ◌≤◌, ◌==◌, ◌↔◌, Bool, ℕ, List, length, true, false, arith, [], ◌∷◌, ◌++◌, codes, Ok, Err, Result, refl, ap, ◌∙◌, get_or, not, subst, if◌then◌else◌}
+use Rattle.std.specs.List.{before_first, after_first, position_or_len}
 use Rattle.std.specs.Str.{bytes_eq}
 use Rattle.std.proofs.lemmas.List.Sums.{split_at_first, passes_at_first, prefix_len-le-length}
 use Rattle.std.proofs.lemmas.Slice.Eq.{bytes_eq-Decides}
@@ -12,14 +12,12 @@ use Rattle.hex.specs.declared.error.FromHexError.{FromHexError}
 use Rattle.warg_crypto.specs.HashText.{hash_of, hash_of_bytes, hash_of_digits, is_colon, IsHashText}
 use Rattle.warg_crypto.specs.Keys.{key_fault, public_key_of, signature_fault, signature_of, with_fault}
 use Rattle.warg_crypto.specs.Names.{no_colon-before_first, some_bytes, tag_of-parts}
-use Rattle.warg_crypto.specs.Tags.{IsKeyText, IsName, Tag, tag_of, tag_of_parts, tag_or_bad}
+use Rattle.warg_crypto.specs.Tags.{IsKeyText, IsName, Tag, tag_of, tag_or_bad}
 use Rattle.warg_crypto.specs.declared.hash.AnyHash.{AnyHash}
 use Rattle.warg_crypto.specs.declared.hash.AnyHashError.{AnyHashError}
 use Rattle.warg_crypto.specs.declared.hash.AnyHashError.TheVariants as fault
 use Rattle.warg_crypto.specs.declared.hash.HashAlgorithm.{HashAlgorithm}
 use Rattle.warg_crypto.specs.declared.hash.HashAlgorithm.TheVariants.{Sha256}
-use Rattle.warg_crypto.specs.declared.signing.error.KeyParseError.{KeyParseError}
-use Rattle.warg_crypto.specs.declared.signing.error.SignatureParseError.{SignatureParseError}
 use Rattle.warg_crypto.specs.declared.signing.tagged.TagError.{TagError}
 use Rattle.warg_crypto.specs.declared.signing.tagged.TagError.TheVariants as no_key
 

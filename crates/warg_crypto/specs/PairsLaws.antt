@@ -11,7 +11,7 @@ use Rattle.std.specs.Str.{bytes_eq}
 use Rattle.std.proofs.Common.{sym, ap, ◌∙◌, subst, true≢false}
 use Rattle.std.proofs.lemmas.Map.Text.{is_eq-slice_cmp}
 use Rattle.std.proofs.lemmas.Slice.Eq.{bytes_eq-Decides}
-use Rattle.serde_json.specs.Data.{Data, Members, no_members, member, object, put}
+use Rattle.serde_json.specs.Data.{Data, Members, no_members, member, put}
 use Rattle.warg_crypto.specs.declared.json.error.JsonError.{JsonError}
 use Rattle.warg_crypto.specs.Pairs.{AreAscending, ArePairsInOrder, names_of, pairs_in, pairs_json, pairs_of, pairs_onto}
 use Rattle.warg_crypto.specs.Steps.{ok_same, bind_ok}

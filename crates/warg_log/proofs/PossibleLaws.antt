@@ -1,6 +1,6 @@
 -- What is wrong with a record is an offence that a record may have.
 use Rattle.std.proofs.Common.{◌≡◌, ℕ, List, [], ◌∷◌, ◌++◌, Bool, true, false, Option, Some, None, refl}
-use Rattle.std.specs.Prelude.{IfSome, is_some, is_none, not, ◌||◌, find}
+use Rattle.std.specs.Prelude.{IfSome, is_some, is_none, not, ◌||◌}
 use Rattle.std.specs.Option.{option_map, option_or, option_map_or}
 use Rattle.std.specs.Str.{bytes_eq}
 use Rattle.warg_crypto.specs.Tags.{Tag, fingerprint_of}
@@ -11,8 +11,8 @@ use Rattle.warg_records.specs.Readings.{Reading, Act, Init, GrantFlat, RevokeFla
 use Rattle.warg_records.specs.declared.registry.record_id.RecordId.{RecordId}
 use Rattle.warg_log.specs.Acts.{Standing}
 use Rattle.warg_log.specs.History.{Rules, Wrong, Whole, View, SignedRecord, Event, whole_after, record_events, entry_fault, entry_offence, events_offence, unsigned_offence, record_offence}
-use Rattle.warg_log.specs.Offences.{Offence, unless, not_begun, lacks_required, unauthorized, act_offence, InitialRecordDoesNotInit, KeyIDNotRecognized, InitialEntryAfterBeginning, UnauthorizedAction, PermissionNotFoundToRevoke, WrongSignature}
-use Rattle.warg_log.specs.Records.{link_offence, version_offence, time_offence, signer_offence, same_id}
+use Rattle.warg_log.specs.Offences.{Offence, unless, not_begun, lacks_required, unauthorized, act_offence, InitialRecordDoesNotInit, KeyIDNotRecognized, UnauthorizedAction, PermissionNotFoundToRevoke, WrongSignature}
+use Rattle.warg_log.specs.Records.{link_offence, version_offence, time_offence, same_id}
 use Rattle.warg_log.specs.Rights.{first_missing}
 use Rattle.warg_log.specs.Possible.{may_be_told, IsPossible}
 use Rattle.warg_log.specs.declared.head.Head.{Head}

@@ -1,5 +1,5 @@
 -- What a map from names to namespaces says as a list.
-use Rattle.std.proofs.Common.{◌≡◌, ℕ, List, [], ◌∷◌, ◌++◌, map, Bool, true, false, cond, ◌&&◌, Option, Some, None, refl, sym, ap, ◌∙◌, true≢false, if◌then◌else◌, is_some}
+use Rattle.std.proofs.Common.{◌≡◌, ℕ, List, [], ◌∷◌, ◌++◌, Bool, true, false, cond, ◌&&◌, Option, Some, None, refl, sym, ap, ◌∙◌, true≢false, if◌then◌else◌, is_some}
 use Rattle.std.specs.Prelude.{string_bytes, is_none, IfSome}
 use Rattle.std.specs.declared.string.String.{String}
 use Rattle.std.specs.Option.{option_map, option_eq}

@@ -1,5 +1,5 @@
 -- What a map from names to namespaces says, as a list of names and what they are.
-use Rattle.std.specs.Prelude.{◌≡◌, ℕ, List, map, string_bytes, Option, true}
+use Rattle.std.specs.Prelude.{◌≡◌, ℕ, List, map, string_bytes, true}
 use Rattle.std.specs.List.{AllByRecursion}
 use Rattle.std.specs.declared.string.String.{String}
 use Rattle.warg_records.specs.KebabNames.{is_kebab_name}

@@ -1,5 +1,5 @@
 -- Lawful events keep the releases that stand before them.
-use Rattle.std.proofs.Common.{◌≡◌, ◌⊎◌, inl, inr, ℕ, List, [], ◌∷◌, ◌++◌, map, Bool, true, false, cond, Option, Some, None, refl, sym, ap, ◌∙◌, subst, true≢false, if◌then◌else◌}
+use Rattle.std.proofs.Common.{◌≡◌, inl, inr, ℕ, List, [], ◌∷◌, ◌++◌, map, Bool, true, false, cond, Some, None, refl, sym, ap, ◌∙◌, subst, true≢false, if◌then◌else◌}
 use Rattle.std.specs.List.{AllByRecursion}
 use Rattle.std.specs.Option.{option_map}
 use Rattle.warg_crypto.specs.Times.{Time}
@@ -10,7 +10,7 @@ use Rattle.warg_log.specs.Acts.{latest}
 use Rattle.warg_log.specs.History.{Event}
 use Rattle.warg_log.proofs.ActLaws.{latest-one}
 use Rattle.warg_package_log.specs.Versions.{same_parts}
-use Rattle.warg_package_log.specs.Releases.{OwnOffence, ReleaseView, yanks, turned, released, releases_after, find_parts, own_offence, unyankable, is_yanked, versions}
+use Rattle.warg_package_log.specs.Releases.{ReleaseView, yanks, turned, released, releases_after, find_parts, own_offence, unyankable, is_yanked, versions}
 use Rattle.warg_package_log.specs.Catalog.{AreDistinct}
 use Rattle.warg_package_log.specs.Extensions.{IsKeptState, IsKept, IsExtension}
 use Rattle.warg_package_log.specs.ListedReleases.{own_after, own_wrong}

@@ -1,13 +1,12 @@
 -- Of lawful events, the releases by filters are the releases made event by event.
-use Rattle.std.proofs.Common.{◌≡◌, ◌⊎◌, inl, inr, ℕ, List, [], ◌∷◌, ◌++◌, map, Bool, true, false, cond, Option, Some, None, refl, sym, ap, ◌∙◌, subst, find, true≢false, is_some}
-use Rattle.std.specs.Prelude.{unwrap_or, is_none}
-use Rattle.std.specs.List.{filter_map, last_or, cons_option}
+use Rattle.std.proofs.Common.{◌≡◌, inl, inr, ℕ, List, [], ◌∷◌, ◌++◌, map, false, cond, Option, Some, None, refl, sym, ap, ◌∙◌, true≢false, is_some}
+use Rattle.std.specs.Prelude.{is_none}
+use Rattle.std.specs.List.{filter_map, cons_option}
 use Rattle.std.specs.Option.{option_map, option_or}
 use Rattle.std.proofs.lemmas.Bool.{cases_Bool}
 use Rattle.std.proofs.lemmas.List.Folds.{find-append}
 use Rattle.std.proofs.lemmas.List.Elements.{filter_map-append}
 use Rattle.warg_crypto.specs.Times.{Time}
-use Rattle.warg_crypto.specs.declared.hash.AnyHash.{AnyHash}
 use Rattle.warg_records.specs.PackageEntries.{Parts, PackageAct, Release, Yank}
 use Rattle.warg_records.specs.declared.registry.record_id.RecordId.{RecordId}
 use Rattle.warg_validator.specs.Walks.{view_after, AllLawful, IsStepwise}

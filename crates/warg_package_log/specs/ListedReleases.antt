@@ -1,5 +1,5 @@
 -- The releases of a list of own events, by filters.
-use Rattle.std.specs.Prelude.{◌≡◌, List, [], ◌∷◌, Option, Some, None, unwrap_or}
+use Rattle.std.specs.Prelude.{List, [], ◌∷◌, Option, None, unwrap_or}
 use Rattle.std.specs.List.{filter_map, last_or}
 use Rattle.std.specs.Option.{option_map}
 use Rattle.warg_records.specs.PackageEntries.{PackageAct}

@@ -1,5 +1,5 @@
 -- When two releases are the same, and when two lists of releases are: by what they answer for each version.
-use Rattle.std.specs.Prelude.{◌≡◌, ℕ, List, Bool, ◌&&◌, false, nat_eq}
+use Rattle.std.specs.Prelude.{◌≡◌, List, Bool, ◌&&◌, false}
 use Rattle.std.specs.List.{list_all}
 use Rattle.std.specs.Option.{option_eq}
 use Rattle.std.specs.Str.{bytes_eq}

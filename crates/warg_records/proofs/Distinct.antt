@@ -1,6 +1,6 @@
 -- Inserting the items of a list in turn keeps each where it stands first.
-use Rattle.std.proofs.Common.{ℕ, ◌+◌, ◌<◌, length, take, get_or, add-one, Option, ◌≡◌, List, [], ◌∷◌, ◌++◌, Bool, true, false, cond, refl, sym, ap, subst, ◌∙◌, append_assoc, inl, inr, true≢false}
-use Rattle.std.specs.Prelude.{not, filter, ◌||◌, ◌&&◌, fold}
+use Rattle.std.proofs.Common.{ℕ, ◌+◌, ◌<◌, length, take, get_or, add-one, Option, ◌≡◌, List, [], ◌∷◌, ◌++◌, Bool, true, false, cond, refl, sym, ap, ◌∙◌, append_assoc, inl, inr}
+use Rattle.std.specs.Prelude.{not, filter, ◌||◌}
 use Rattle.std.specs.List.{list_any, filter_map}
 use Rattle.std.proofs.Math.Seq.{take-suc}
 use Rattle.std.proofs.lemmas.List.Elements.{filter_map-append}

@@ -1,5 +1,5 @@
 -- The test of kebab names and their grammar are one.
-use Rattle.std.proofs.Common.{◌≡◌, ◌<◌, ◌==◌, ◌&&◌, ◌↔◌, IsTrue, ℕ, Bool, true, false, List, [], ◌∷◌, ◌++◌, length, arith, rules, refl, sym, ◌∙◌, ap, append-nil, if◌then◌else◌}
+use Rattle.std.proofs.Common.{◌≡◌, ◌<◌, ◌==◌, ◌&&◌, ℕ, Bool, true, false, List, [], ◌∷◌, ◌++◌, length, arith, refl, sym, ◌∙◌, ap, append-nil, if◌then◌else◌}
 use Rattle.std.specs.List.{list_all, join_with_byte}
 use Rattle.std.proofs.lemmas.Grind.{common_steps}
 use Rattle.warg_records.specs.KebabNames.{is_letter, is_letter_or_digit, IsWord, AreWords, IsKebabName, ends_kebab, is_kebab_name}

@@ -31,12 +31,12 @@ use Rattle.warg_protobuf.specs.Table.{Table, HasFault}
 use Rattle.warg_protobuf.specs.Timestamp.{TimestampValue}
 use Rattle.warg_protobuf.specs.declared.error.WireError.{WireError}
 use Rattle.warg_protobuf.specs.declared.error.WireError.TheVariants as error
-use Rattle.warg_records.specs.Envelopes.{EnvelopeFault, ProtobufEnvelope, Contents, Signature, signed_letter, enclosed_letter, opened_letter, envelope_of}
-use Rattle.warg_records.specs.Faults.{RecordFault, Wire, Prev, MissingTime, TimeOutOfRange, EmptyEntry, Algorithm, Key, Permission, Version, ContentHash}
+use Rattle.warg_records.specs.Envelopes.{signed_letter, enclosed_letter, opened_letter, envelope_of}
+use Rattle.warg_records.specs.Faults.{RecordFault, Prev, TimeOutOfRange, Algorithm, Key, Version, ContentHash}
 use Rattle.warg_records.specs.OfBytes.{IsOfContent, IsOfEnvelope}
 use Rattle.warg_records.specs.OperatorReading.{operator_entry_of}
 use Rattle.warg_records.specs.PackageReading.{package_entry_of, release_of, version_of, yank_of}
-use Rattle.warg_records.specs.Readings.{Reading, Said}
+use Rattle.warg_records.specs.Readings.{Reading}
 use Rattle.warg_records.specs.Steps.{◌>>=◌, named, each, prev_of, time_of, hash_algorithm_of, key_of, beginning_of, init_of, known_permission, permission_in, grant_of, revoke_of, message_of, record_of}
 use Rattle.warg_records.specs.OperatorPermissions as operator_permission
 use Rattle.warg_records.specs.PackagePermissions as package_permission

@@ -1,19 +1,17 @@
 -- No prefix encoding is a proper beginning of another.
-use Rattle.std.proofs.Common.{◌≡◌, ◌<◌, ℕ, List, [], ◌∷◌, ◌++◌, length, Option, Some, Result, Ok, Err, refl, sym, ap, ◌∙◌, append_assoc, append-nil, arith}
+use Rattle.std.proofs.Common.{◌≡◌, ℕ, List, [], ◌++◌, Some, refl, sym, ap, ◌∙◌, append_assoc, append-nil, arith}
 use Rattle.std.specs.Prelude.{codes, slice_get}
 use Rattle.std.proofs.lemmas.List.{append_cancel_left}
-use Rattle.hex.specs.Hex.{IsBytes}
 use Rattle.warg_crypto.specs.HashText.{hash_text, hash_of}
 use Rattle.warg_crypto.specs.Prefix.{unsigned_of, str_of}
 use Rattle.warg_crypto.specs.HashLemmas.{hash_of-hash_text}
 use Rattle.warg_crypto.proofs.PrefixLemmas.{unsigned_of-same, str_of-same}
 use Rattle.warg_crypto.specs.declared.hash.AnyHash.{AnyHash}
-use Rattle.warg_crypto.specs.declared.hash.AnyHashError.{AnyHashError}
 use Rattle.warg_records.specs.declared.registry.checkpoint.Checkpoint.{Checkpoint}
 use Rattle.warg_records.specs.declared.registry.checkpoint.TimestampedCheckpoint.{TimestampedCheckpoint}
 use Rattle.warg_records.specs.declared.registry.leaf.MapLeaf.{MapLeaf}
 use Rattle.warg_records.specs.declared.registry.leaf.LogLeaf.{LogLeaf}
-use Rattle.warg_records.specs.PrefixEncodings.{hash_encoding_of, checkpoint_encoding_of, timestamped_checkpoint_encoding_of, map_leaf_encoding_of, log_leaf_encoding_of, package_name_encoding_of, Encoded, CheckpointValue, TimestampedCheckpointValue, MapLeafValue, LogLeafValue, PackageNameValue, prefix_encoding_of, IsHash, HoldsHashes, IsPrefixCode}
+use Rattle.warg_records.specs.PrefixEncodings.{hash_encoding_of, checkpoint_encoding_of, timestamped_checkpoint_encoding_of, map_leaf_encoding_of, log_leaf_encoding_of, package_name_encoding_of, Encoded, CheckpointValue, TimestampedCheckpointValue, MapLeafValue, LogLeafValue, PackageNameValue, prefix_encoding_of, IsHash, IsPrefixCode}
 
 -- equal texts are texts of one hash
 one_hash : (g h : AnyHash) → IsHash g → IsHash h → hash_text g ≡ hash_text h → g ≡ h

@@ -1,5 +1,5 @@
 -- Faults of messages as faults of records, and the errors that tell them.
-use Rattle.std.proofs.Common.{◌≡◌, Result, Ok, Err, ap, refl}
+use Rattle.std.proofs.Common.{Result, ap}
 use Rattle.warg_protobuf.specs.declared.error.WireError.{WireError}
 use Rattle.warg_protobuf.specs.declared.error.WireError.TheVariants as error
 use Rattle.warg_protobuf.specs.Views.{Fails}

@@ -1,6 +1,6 @@
 -- What is written of a record reads back as the record.
-use Rattle.std.proofs.Common.{◌≡◌, ℕ, List, [], ◌∷◌, map, Option, Some, None, Result, Ok, Err, refl, sym, ap, subst, ◌∙◌}
-use Rattle.std.specs.Prelude.{ℤ, pos, IfOk}
+use Rattle.std.proofs.Common.{◌≡◌, ℕ, List, [], ◌∷◌, map, Option, Some, None, Result, Ok, Err, refl, ap}
+use Rattle.std.specs.Prelude.{ℤ, IfOk}
 use Rattle.std.specs.List.{AllByRecursion}
 use Rattle.std.specs.Option.{option_map}
 use Rattle.warg_crypto.specs.HashLemmas.{hash_of-hash_text}
@@ -12,7 +12,7 @@ use Rattle.warg_crypto.specs.declared.hash.HashAlgorithm.TheVariants.{Sha256}
 use Rattle.warg_protobuf.specs.Record.{RecordValue}
 use Rattle.warg_protobuf.specs.Table.{Table}
 use Rattle.warg_records.specs.Faults.{RecordFault, Prev, TimeOutOfRange, Key, Version, ContentHash}
-use Rattle.warg_records.specs.Readings.{Act, Init, GrantFlat, RevokeFlat, Reading, Shared, Own, Said}
+use Rattle.warg_records.specs.Readings.{Init, GrantFlat, RevokeFlat, Reading, Shared, Own, Said}
 use Rattle.warg_records.specs.Relations.{ReadsRecord}
 use Rattle.warg_records.specs.Steps.{◌>>=◌, named, each, prev_of, time_of, key_of, init_of, known_permission, permission_in, grant_of, revoke_of, shared, own, record_of}
 use Rattle.warg_records.specs.Whole.{IsWholeTag, IsWholeTime, IsWholeLink, IsWholeEntry, IsWhole, IsWholePackageAct, IsWholeOperatorAct}

@@ -1,5 +1,5 @@
 -- A checkpoint at a time.
-use Rattle.std.specs.Prelude.{ℕ, ℤ, pos, negsuc, Result, Ok, Err}
+use Rattle.std.specs.Prelude.{ℤ, pos, negsuc, Result, Ok, Err}
 use Rattle.warg_crypto.specs.Times.{Time}
 use Rattle.warg_crypto.specs.declared.time.TimeError.{TimeError}
 use Rattle.warg_crypto.specs.declared.time.TimeError.TheVariants.{TimeBeforeEpoch}

@@ -1,5 +1,5 @@
 -- The permissions of a package log.
-use Rattle.std.specs.Prelude.{◌≡◌, ℕ, ℤ, pos, ◌==◌, Bool, true, List, Option, Some, None, Result, Ok, Err, codes, if◌then◌else◌}
+use Rattle.std.specs.Prelude.{◌≡◌, ℕ, ℤ, pos, ◌==◌, Bool, true, List, Option, Some, None, codes, if◌then◌else◌}
 use Rattle.std.specs.Cmp.{IsEquivalence, on_equiv}
 use Rattle.std.specs.Hash as fed
 use Rattle.std.specs.Str.{bytes_eq}

@@ -1,5 +1,5 @@
 -- The JSON of what a registry names things by.
-use Rattle.std.specs.Prelude.{◌≡◌, ◌<◌, ◌^◌, ℕ, List, ⊤, true, codes, if◌then◌else◌, Result, Ok, Err}
+use Rattle.std.specs.Prelude.{◌<◌, ◌^◌, ℕ, List, codes, if◌then◌else◌, Result, Ok, Err}
 use Rattle.serde_json.specs.Data.{Data, Members, no_members, number, object, string, unsigned}
 use Rattle.warg_crypto.specs.Json.{◌>>=◌, member_in, text_in, wrote}
 use Rattle.warg_crypto.specs.JsonTexts.{IsHash, hash_in, hash_json}

@@ -1,11 +1,10 @@
 -- What was written of them reads back.
-use Rattle.std.specs.Prelude.{◌≡◌, ◌<◌, ◌^◌, ℕ, List, true, codes, Result, Ok, refl}
-use Rattle.std.proofs.Common.{subst, ap, ◌∙◌}
-use Rattle.serde_json.specs.Data.{Data, Members, no_members, object, put}
-use Rattle.warg_crypto.specs.Json.{◌>>=◌, ReadsBack, member_in, wrote}
+use Rattle.std.specs.Prelude.{◌≡◌, ◌^◌, ℕ, List, true, codes, Result, Ok, refl}
+use Rattle.std.proofs.Common.{subst}
+use Rattle.serde_json.specs.Data.{Data, no_members, object, put}
+use Rattle.warg_crypto.specs.Json.{ReadsBack, wrote}
 use Rattle.warg_crypto.specs.JsonTexts.{IsHash, hash_in, hash_json}
 use Rattle.warg_crypto.specs.JsonTextLaws.{hash_reads_back}
-use Rattle.warg_crypto.specs.Members.{put_json}
 use Rattle.warg_crypto.specs.MemberLaws.{put_then, read_again}
 use Rattle.warg_crypto.specs.NumberLaws.{number_reads_back}
 use Rattle.warg_crypto.specs.Steps.{ok_same}

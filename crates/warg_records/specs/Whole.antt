@@ -1,6 +1,6 @@
 -- Which records read back as they are written. All of these facts but that on versions hold of every value of the
 -- code's types; a version that was parsed reads back too.
-use Rattle.std.specs.Prelude.{◌≡◌, ℕ, pos, List, length, Option, Some, None, Ok}
+use Rattle.std.specs.Prelude.{◌≡◌, pos, length, Option, Some, None, Ok}
 use Rattle.std.specs.List.{AllByRecursion}
 use Rattle.hex.specs.Hex.{IsBytes}
 use Rattle.semver.specs.Identifiers.{parts_text}

@@ -1,5 +1,5 @@
 -- What both kinds of record share in writing: records as messages.
-use Rattle.std.specs.Prelude.{ℕ, ℤ, pos, List, map, Option, Some, codes}
+use Rattle.std.specs.Prelude.{ℕ, ℤ, pos, List, map, Some, codes}
 use Rattle.std.specs.Option.{option_map}
 use Rattle.warg_crypto.specs.HashText.{hash_text}
 use Rattle.warg_crypto.specs.Tags.{Tag, tag_text}

@@ -1,7 +1,6 @@
-use Rattle.std.proofs.Common.{◌≡◌, ap, ◌∙◌, refl, ℕ, List}
+use Rattle.std.proofs.Common.{ap, ◌∙◌, refl, ℕ, List}
 use Rattle.warg_protobuf.specs.Envelope.{envelope_seen}
 use Rattle.warg_audit.specs.Answers.{is_read}
-use Rattle.warg_audit.specs.Printed.{Printed}
 use Rattle.std.proofs.lemmas.Result.{IfOk-weaker}
 use Rattle.warg_audit.specs.Replies.{printed_of}
 use Rattle.warg_audit.proofs.IdAnswers.{of_fault}

@@ -1,6 +1,5 @@
-use Rattle.std.proofs.Common.{◌≡◌, ap, ◌∙◌, ℕ, List}
+use Rattle.std.proofs.Common.{ap, ◌∙◌, ℕ, List}
 use Rattle.std.specs.Fmt.{decimal}
-use Rattle.warg_audit.specs.Printed.{Printed}
 use Rattle.warg_audit.specs.Names.{wire_name}
 use Rattle.warg_audit.proofs.IdAnswers.{refusal_text}
 use Rattle.warg_audit.proofs.identify.fault_reply.Goals as goal

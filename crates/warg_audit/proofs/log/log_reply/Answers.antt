@@ -1,4 +1,4 @@
-use Rattle.std.proofs.Common.{◌≡◌, refl, map}
+use Rattle.std.proofs.Common.{map}
 use Rattle.std.proofs.lemmas.Result.{IfOk-weaker}
 use Rattle.std.specs.Vec.{vec_items}
 use Rattle.warg_audit.specs.Lines.{lines_of}

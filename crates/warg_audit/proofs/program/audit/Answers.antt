@@ -1,4 +1,4 @@
-use Rattle.std.proofs.Common.{◌≡◌, ap, ◌∙◌, refl, map, string_bytes}
+use Rattle.std.proofs.Common.{map, string_bytes}
 use Rattle.warg_audit.specs.Replies.{printed_of}
 use Rattle.warg_audit.proofs.IdAnswers.{answered_by}
 use Rattle.warg_audit.proofs.program.audit.Goals as goal

@@ -1,4 +1,4 @@
-use Rattle.std.proofs.Common.{◌≡◌, ap, ◌∙◌, sym, refl, map, string_bytes}
+use Rattle.std.proofs.Common.{sym, refl, map, string_bytes}
 use Rattle.warg_audit.proofs.IdAnswers.{usage_reply, long_reply, lines_reply}
 use Rattle.warg_audit.proofs.program.make_reply.Goals as goal
 

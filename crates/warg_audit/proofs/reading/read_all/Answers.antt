@@ -1,4 +1,4 @@
-use Rattle.std.proofs.Common.{◌≡◌, ◌<◌, ℕ, length, take, ap, arith, length-take}
+use Rattle.std.proofs.Common.{ℕ, take, ap, arith, length-take}
 use Rattle.warg_audit.proofs.InputLemmas.{at_end}
 use Rattle.warg_audit.proofs.reading.read_all.Goals as goal
 

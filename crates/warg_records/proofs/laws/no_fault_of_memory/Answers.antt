@@ -1,9 +1,6 @@
-use Rattle.std.proofs.Common.{ℕ, List}
-use Rattle.std.specs.Prelude.{IfErr}
 use Rattle.warg_protobuf.specs.Envelope.{envelope_table}
 use Rattle.warg_protobuf.specs.OperatorRecord.{operator_record_table}
 use Rattle.warg_protobuf.specs.PackageRecord.{package_record_table}
-use Rattle.warg_records.specs.OfBytes.{IsOfContent}
 use Rattle.warg_records.specs.OperatorReading.{operator_record_of}
 use Rattle.warg_records.specs.PackageReading.{package_record_of}
 use Rattle.warg_records.proofs.OfBytes.{envelope_within, operator_within, package_within}

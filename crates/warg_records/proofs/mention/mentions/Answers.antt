@@ -1,4 +1,4 @@
-use Rattle.std.proofs.Common.{◌≡◌, [], ◌∷◌, ◌++◌, take, length, refl, sym, ap, ◌∙◌}
+use Rattle.std.proofs.Common.{[], ◌∷◌, ap, ◌∙◌}
 use Rattle.std.specs.List.{filter_map}
 use Rattle.indexmap.specs.IndexSet.{insert_all}
 use Rattle.warg_records.proofs.Distinct.{insert_all-nil, insert_all-next}

@@ -1,5 +1,5 @@
 use Rattle.std.proofs.Common.{◌≡◌, sym, ap, ◌∙◌, refl, rules, true, false, is_some, if◌then◌else◌}
-use Rattle.std.specs.Prelude.{string_bytes, Some, None, is_none}
+use Rattle.std.specs.Prelude.{string_bytes, Some, is_none}
 use Rattle.std.specs.Option.{option_or}
 use Rattle.std.specs.Str.{bytes_eq}
 use Rattle.std.specs.Map.{lookup}

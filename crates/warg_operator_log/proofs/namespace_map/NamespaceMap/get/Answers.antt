@@ -1,4 +1,4 @@
-use Rattle.std.proofs.Common.{◌≡◌, sym, ap, ◌∙◌, subst, Option}
+use Rattle.std.proofs.Common.{sym, ap, ◌∙◌, subst}
 use Rattle.std.specs.Option.{option_map}
 use Rattle.warg_records.specs.KebabNames.{IsKebabName}
 use Rattle.warg_records.proofs.KebabLemmas.{kebab_from}

@@ -1,4 +1,4 @@
-use Rattle.std.proofs.Common.{◌≡◌, Ok, Err, inr, rules, false, refl}
+use Rattle.std.proofs.Common.{◌≡◌, Ok, inr, rules, false, refl}
 use Rattle.serde_json.specs.View.{view}
 use Rattle.warg_crypto.specs.Json.{text_in}
 use Rattle.warg_records.specs.KebabNames.{is_package_name}

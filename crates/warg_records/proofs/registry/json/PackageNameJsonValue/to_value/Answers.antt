@@ -1,5 +1,5 @@
-use Rattle.std.proofs.Common.{◌≡◌, Ok, IfOk, Result, Err, rules, true, subst}
-use Rattle.warg_records.specs.KebabNames.{IsPackageText, is_package_name}
+use Rattle.std.proofs.Common.{◌≡◌, true}
+use Rattle.warg_records.specs.KebabNames.{is_package_name}
 use Rattle.warg_records.proofs.PackageNames.{package_text}
 use Rattle.warg_records.proofs.JsonLemmas.{name_back}
 use Rattle.warg_records.proofs.registry.json.PackageNameJsonValue.to_value.Goals as goal

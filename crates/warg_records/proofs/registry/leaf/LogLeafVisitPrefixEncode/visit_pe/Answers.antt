@@ -1,7 +1,6 @@
-use Rattle.std.proofs.Common.{rules, ◌≡◌, ◌++◌, ◌∙◌, List, ℕ, subst, sym, ap, OnOk, append_assoc}
-use Rattle.warg_crypto.proofs.Visits.{on_err, on_err-map, stops_first, stops_second, stops_at_once}
+use Rattle.std.proofs.Common.{List, ℕ, subst, OnOk}
+use Rattle.warg_crypto.proofs.Visits.{on_err, on_err-map, stops_first, stops_second}
 use Rattle.std.specs.Prelude.{codes}
-use Rattle.warg_crypto.specs.Prefix.{unsigned_of, str_of}
 use Rattle.warg_records.specs.PrefixEncodings.{hash_encoding_of}
 use Rattle.warg_records.proofs.Pieces.{pieces_3}
 use Rattle.warg_records.proofs.registry.leaf.LogLeafVisitPrefixEncode.visit_pe.Goals as goal

@@ -1,5 +1,5 @@
-use Rattle.std.proofs.Common.{◌≡◌, rules, true, IsTrue, ◌∙◌, sym}
-use Rattle.warg_records.specs.KebabNames.{IsKebabName, is_kebab_name}
+use Rattle.std.proofs.Common.{◌≡◌, rules}
+use Rattle.warg_records.specs.KebabNames.{is_kebab_name}
 use Rattle.warg_records.proofs.KebabLemmas.{kebab_from, kebab_passes}
 use Rattle.warg_records.proofs.registry.package_name.PackageName.is_valid_namespace.Goals as goal
 

@@ -1,5 +1,5 @@
-use Rattle.std.proofs.Common.{◌≡◌, rules, subst, List, ℕ, true, sym}
-use Rattle.warg_records.specs.KebabNames.{IsPackageName, namespace_of, name_of, is_package_name}
+use Rattle.std.proofs.Common.{◌≡◌, rules, true}
+use Rattle.warg_records.specs.KebabNames.{namespace_of, is_package_name}
 use Rattle.warg_records.proofs.PackageNames.{package_parts}
 use Rattle.warg_records.proofs.registry.package_name.PackageName.namespace.Goals as goal
 

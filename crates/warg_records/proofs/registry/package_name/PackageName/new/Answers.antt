@@ -1,4 +1,4 @@
-use Rattle.std.proofs.Common.{◌≡◌, rules, true, false, ◌∙◌, sym, string_bytes}
+use Rattle.std.proofs.Common.{◌≡◌, rules, true, false}
 use Rattle.warg_records.specs.KebabNames.{is_package_name}
 use Rattle.warg_records.proofs.PackageNames.{package_is, package_is_not}
 use Rattle.warg_records.proofs.registry.package_name.PackageName.new.Goals as goal

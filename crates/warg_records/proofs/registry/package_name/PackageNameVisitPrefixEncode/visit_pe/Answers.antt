@@ -1,5 +1,5 @@
-use Rattle.std.proofs.Common.{rules, ◌≡◌, ◌++◌, ◌∙◌, List, ℕ, subst, sym, ap, OnOk, append_assoc}
-use Rattle.warg_crypto.proofs.Visits.{on_err, on_err-map, stops_first, stops_second, stops_at_once}
+use Rattle.std.proofs.Common.{rules, ◌≡◌}
+use Rattle.warg_crypto.proofs.Visits.{on_err, on_err-map, stops_first, stops_second}
 use Rattle.warg_records.proofs.registry.package_name.PackageNameVisitPrefixEncode.visit_pe.Goals as goal
 
 pub returns-in_err-visit_str_raw-clause-err : goal.returns-in_err-visit_str_raw-clause-err
