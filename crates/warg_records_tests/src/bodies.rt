@@ -1,7 +1,7 @@
 //! Envelopes whose contents are not read.
 
 use std::alloc::Global;
-use std::test::Fail;
+use std::process::Abort;
 use warg_crypto::{Decode, DecodeError};
 use warg_records::operator::OperatorRecord;
 use warg_records::package::PackageRecord;
@@ -11,61 +11,86 @@ use warg_records::{
 
 const SMALLEST: &[u8] = b"\x0a\x02\x1a\x00\x12\x01k\x1a\x04toy:";
 
-fn opened(alloc: Global, bytes: &[u8]) -> Result<ProtoEnvelope<OperatorRecord>, Fail> {
-    Ok(ProtoEnvelope::<OperatorRecord>::from_protobuf(alloc, bytes)?)
+fn opened(rt: &impl Abort, alloc: Global, bytes: &[u8]) -> ProtoEnvelope<OperatorRecord> {
+    ProtoEnvelope::<OperatorRecord>::from_protobuf(alloc, bytes).expect(rt, "an envelope")
 }
 
-fn body(alloc: Global, bytes: &[u8]) -> Result<ProtoEnvelopeBody, Fail> {
-    Ok(ProtoEnvelopeBody::from(opened(alloc, bytes)?))
+fn body(rt: &impl Abort, alloc: Global, bytes: &[u8]) -> ProtoEnvelopeBody {
+    ProtoEnvelopeBody::from(opened(rt, alloc, bytes))
 }
 
-fn published(alloc: Global) -> Result<PublishedProtoEnvelope<OperatorRecord>, Fail> {
-    Ok(PublishedProtoEnvelope {
-        envelope: opened(alloc, SMALLEST)?,
+fn copied(rt: &impl Abort, body: &ProtoEnvelopeBody) -> ProtoEnvelopeBody {
+    body.try_clone().expect(rt, "memory")
+}
+
+// The envelope of the body; its own body is the same again.
+fn is_opened(rt: &impl Abort, alloc: Global, body: &ProtoEnvelopeBody) {
+    let read = ProtoEnvelope::<OperatorRecord>::from_body(alloc, copied(rt, body));
+    let envelope = read.expect(rt, "an envelope");
+    assert!(rt; envelope == opened(rt, alloc, SMALLEST));
+    assert!(rt; ProtoEnvelopeBody::from(envelope) == *body);
+}
+
+#[test]
+fn bodies_read_back(rt: HostRuntime) {
+    let body = body(&rt, rt.alloc(), SMALLEST);
+    assert!(rt; copied(&rt, &body) == body);
+    is_opened(&rt, rt.alloc(), &body);
+}
+
+fn published(rt: &impl Abort, alloc: Global) -> PublishedProtoEnvelope<OperatorRecord> {
+    PublishedProtoEnvelope {
+        envelope: opened(rt, alloc, SMALLEST),
         registry_index: 7,
-    })
+    }
+}
+
+fn published_body(rt: &impl Abort, alloc: Global) -> PublishedProtoEnvelopeBody {
+    PublishedProtoEnvelopeBody::from(published(rt, alloc))
 }
 
 #[test]
-fn bodies_read_back(rt: HostRuntime) -> Result<(), Fail> {
-    let body = body(rt.alloc(), SMALLEST)?;
-    let copy = body.try_clone()?;
-    assert!(rt; copy == body);
-    let envelope = ProtoEnvelope::<OperatorRecord>::from_body(rt.alloc(), copy)?;
-    assert!(rt; envelope == opened(rt.alloc(), SMALLEST)?);
-    assert!(rt; ProtoEnvelopeBody::from(envelope) == body);
-    Ok(())
-}
-
-#[test]
-fn published_bodies_read_back(rt: HostRuntime) -> Result<(), Fail> {
-    let published = published(rt.alloc())?;
-    let copy = published.try_clone()?;
+fn published_copies(rt: HostRuntime) {
+    let published = published(&rt, rt.alloc());
+    let copy = published.try_clone().expect(&rt, "memory");
     assert!(rt; copy == published);
-    let body = PublishedProtoEnvelopeBody::from(copy);
+}
+
+#[test]
+fn published_bodies(rt: HostRuntime) {
+    let body = published_body(&rt, rt.alloc());
     assert_eq!(rt; body.registry_index, 7);
-    let copy = body.try_clone()?;
+    let copy = body.try_clone().expect(&rt, "memory");
     assert!(rt; copy == body);
-    let again = PublishedProtoEnvelope::<OperatorRecord>::from_body(rt.alloc(), copy)?;
-    assert!(rt; again == published);
-    Ok(())
+}
+
+#[test]
+fn published_bodies_read_back(rt: HostRuntime) {
+    let alloc = rt.alloc();
+    let body = published_body(&rt, alloc);
+    let read = PublishedProtoEnvelope::<OperatorRecord>::from_body(alloc, body);
+    let again = read.expect(&rt, "an envelope");
+    assert!(rt; again == published(&rt, alloc));
 }
 
 // An operator's entry that is none of a package's, in an operator's body.
-fn foreign_body(alloc: Global) -> Result<ProtoEnvelopeBody, Fail> {
-    body(alloc, b"\x0a\x06\x1a\x00\x22\x02\x22\x00\x1a\x04toy:")
+fn foreign_body(rt: &impl Abort, alloc: Global) -> ProtoEnvelopeBody {
+    body(rt, alloc, b"\x0a\x06\x1a\x00\x22\x02\x22\x00\x1a\x04toy:")
 }
 
 #[test]
-fn refused_bodies(rt: HostRuntime) -> Result<(), Fail> {
-    let body = foreign_body(rt.alloc())?;
-    let copy = PublishedProtoEnvelopeBody {
-        envelope: body.try_clone()?,
-        registry_index: 0,
-    };
+fn refused_bodies(rt: HostRuntime) {
+    let body = foreign_body(&rt, rt.alloc());
     let fault = ProtoEnvelope::<PackageRecord>::from_body(rt.alloc(), body).err();
     assert_eq!(rt; fault, Some(DecodeError::Version));
-    let fault = PublishedProtoEnvelope::<PackageRecord>::from_body(rt.alloc(), copy).err();
+}
+
+#[test]
+fn refused_published_bodies(rt: HostRuntime) {
+    let body = PublishedProtoEnvelopeBody {
+        envelope: foreign_body(&rt, rt.alloc()),
+        registry_index: 0,
+    };
+    let fault = PublishedProtoEnvelope::<PackageRecord>::from_body(rt.alloc(), body).err();
     assert_eq!(rt; fault, Some(DecodeError::Version));
-    Ok(())
 }

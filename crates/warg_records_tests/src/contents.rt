@@ -2,66 +2,54 @@
 
 use crate::samples::{EMPTY, package_init};
 use std::alloc::Global;
-use std::str::FromStr;
-use std::test::Fail;
+use std::process::Abort;
 use warg_crypto::hash::{AnyHash, AnyHashError};
 use warg_crypto::signing::KeyParseError;
 use warg_crypto::{Decode, DecodeError, WireFault};
 use warg_records::operator::OperatorRecord;
-use warg_records::package::{PackageEntry, PackageRecord};
+use warg_records::package::PackageRecord;
 use warg_records::registry::RecordId;
 
-const WHOLE_TIME: &[u8] = b"\x1a\x02\x08\x01\x1a\x02\x10\x05";
-
-fn time_of(alloc: Global, content: &[u8]) -> Result<(i64, u32), DecodeError> {
-    let time = PackageRecord::decode(alloc, content)?.timestamp;
-    Ok((time.seconds(), time.nanos()))
+fn package(rt: &impl Abort, alloc: Global, content: &[u8]) -> PackageRecord {
+    PackageRecord::decode(alloc, content).expect(rt, "a record")
 }
 
-fn version_of(alloc: Global, content: &[u8]) -> Result<u32, DecodeError> {
-    Ok(PackageRecord::decode(alloc, content)?.version)
-}
-
-fn prev_of(alloc: Global, content: &[u8]) -> Result<Option<RecordId>, DecodeError> {
-    Ok(PackageRecord::decode(alloc, content)?.prev)
-}
-
-fn entries_of(alloc: Global, content: &[u8]) -> Result<Vec<PackageEntry>, DecodeError> {
-    Ok(PackageRecord::decode(alloc, content)?.entries)
-}
-
-fn package_fault(alloc: Global, content: &[u8]) -> Option<DecodeError> {
-    PackageRecord::decode(alloc, content).err()
-}
-
-fn operator_fault(alloc: Global, content: &[u8]) -> Option<DecodeError> {
-    OperatorRecord::decode(alloc, content).err()
+fn has_time(rt: &impl Abort, alloc: Global, content: &[u8], seconds: i64, nanos: u32) {
+    let time = package(rt, alloc, content).timestamp;
+    assert_eq!(rt; time.seconds(), seconds, "{content:?}");
+    assert_eq!(rt; time.nanos(), nanos, "{content:?}");
 }
 
 #[test]
 fn times(rt: HostRuntime) {
-    let rows: [(&[u8], (i64, u32)); 5] = [
-        (b"\x1a\x00", (0, 0)),
-        (WHOLE_TIME, (1, 5)),
-        (b"\x1a\x02\x08\x01", (1, 0)),
-        (
-            b"\x1a\x0b\x10\xff\xff\xff\xff\xff\xff\xff\xff\xff\x01",
-            (-1, 999_999_999),
-        ),
-        (
-            b"\x1a\x0c\x08\xff\xff\xff\xff\xff\xff\xff\xff\x7f\x10\x01",
-            (9_223_372_036_854_775_807, 1),
-        ),
-    ];
-    for (content, want) in rows {
-        assert_eq!(rt; time_of(rt.alloc(), content), Ok(want), "{content:?}");
-    }
+    let alloc = rt.alloc();
+    has_time(&rt, alloc, b"\x1a\x00", 0, 0);
+    let whole = b"\x1a\x02\x08\x01\x1a\x02\x10\x05";
+    has_time(&rt, alloc, whole, 1, 5);
+    has_time(&rt, alloc, b"\x1a\x02\x08\x01", 1, 0);
+    let carried = b"\x1a\x0b\x10\xff\xff\xff\xff\xff\xff\xff\xff\xff\x01";
+    has_time(&rt, alloc, carried, -1, 999_999_999);
+    let last = b"\x1a\x0c\x08\xff\xff\xff\xff\xff\xff\xff\xff\x7f\x10\x01";
+    has_time(&rt, alloc, last, 9_223_372_036_854_775_807, 1);
+}
+
+fn is_no_package(rt: &impl Abort, alloc: Global, content: &[u8], want: DecodeError) {
+    let fault = PackageRecord::decode(alloc, content).err();
+    assert_eq!(rt; fault, Some(want), "{content:?}");
+}
+
+fn is_no_operator(rt: &impl Abort, alloc: Global, content: &[u8], want: DecodeError) {
+    let fault = OperatorRecord::decode(alloc, content).err();
+    assert_eq!(rt; fault, Some(want), "{content:?}");
+}
+
+fn is_no_wire(rt: &impl Abort, alloc: Global, content: &[u8], want: WireFault) {
+    is_no_package(rt, alloc, content, DecodeError::Wire(want));
 }
 
 // A time in two pieces, cut short.
 #[test]
 fn cut_times(rt: HostRuntime) {
-    let truncated = DecodeError::Wire(WireFault::Truncated);
     let cuts: [&[u8]; 6] = [
         b"\x1a",
         b"\x1a\x02",
@@ -71,156 +59,148 @@ fn cut_times(rt: HostRuntime) {
         b"\x1a\x02\x08\x01\x1a\x02\x10",
     ];
     for content in cuts {
-        assert_eq!(rt;
-            package_fault(rt.alloc(), content),
-            Some(truncated),
-            "{content:?}"
-        );
+        is_no_wire(&rt, rt.alloc(), content, WireFault::Truncated);
     }
+}
+
+fn has_version(rt: &impl Abort, alloc: Global, content: &[u8], want: u32) {
+    let version = package(rt, alloc, content).version;
+    assert_eq!(rt; version, want, "{content:?}");
 }
 
 #[test]
 fn versions(rt: HostRuntime) {
-    let rows: [(&[u8], u32); 4] = [
-        (b"\x1a\x00", 0),
-        (b"\x1a\x00\x10\x07", 7),
-        (b"\x1a\x00\x10\x80\x80\x80\x00", 0),
-        (b"\x1a\x00\x10\x80\x80\x80\x80\x80\x80\x80\x80\x80\x01", 0),
-    ];
-    for (content, want) in rows {
-        assert_eq!(rt; version_of(rt.alloc(), content), Ok(want), "{content:?}");
-    }
+    let alloc = rt.alloc();
+    has_version(&rt, alloc, b"\x1a\x00", 0);
+    has_version(&rt, alloc, b"\x1a\x00\x10\x07", 7);
+    has_version(&rt, alloc, b"\x1a\x00\x10\x80\x80\x80\x00", 0);
+    let long = b"\x1a\x00\x10\x80\x80\x80\x80\x80\x80\x80\x80\x80\x01";
+    has_version(&rt, alloc, long, 0);
 }
 
 #[test]
 fn wire_faults(rt: HostRuntime) {
-    let rows: [(&[u8], WireFault); 8] = [
-        (
-            b"\x1a\x00\x10\x80\x80\x80\x80\x80\x80\x80\x80\x80\x02",
-            WireFault::VarintTooLong,
-        ),
-        (b"\x1a\x00\x80", WireFault::Truncated),
-        (b"\x1a\x00\x0b\x80", WireFault::Group),
-        (b"\x1a\x00\x00", WireFault::BadKey),
-        (b"\x1a\x00\x11", WireFault::WrongWireType),
-        (b"\x0a\x01\xff\x1a\x00", WireFault::NotUtf8),
-        (b"\x1a\x00\x22\x05\x2a\x03\x0a\x01\xff", WireFault::NotUtf8),
-        (
-            b"\x1a\x00\x22\x07\x2a\x03\x0a\x01\xff\x0a\x00",
-            WireFault::NotUtf8,
-        ),
-    ];
-    for (content, want) in rows {
-        let want = Some(DecodeError::Wire(want));
-        assert_eq!(rt; package_fault(rt.alloc(), content), want, "{content:?}");
-    }
+    let alloc = rt.alloc();
+    let long = b"\x1a\x00\x10\x80\x80\x80\x80\x80\x80\x80\x80\x80\x02";
+    is_no_wire(&rt, alloc, long, WireFault::VarintTooLong);
+    is_no_wire(&rt, alloc, b"\x1a\x00\x80", WireFault::Truncated);
+    is_no_wire(&rt, alloc, b"\x1a\x00\x0b\x80", WireFault::Group);
+    is_no_wire(&rt, alloc, b"\x1a\x00\x00", WireFault::BadKey);
+    is_no_wire(&rt, alloc, b"\x1a\x00\x11", WireFault::WrongWireType);
 }
 
 #[test]
-fn links(rt: HostRuntime) -> Result<(), Fail> {
-    let rows: [&[u8]; 2] = [
-        b"\x0a\x47sha256:e3b0c44298fc1c149afbf4c8996fb92427ae41e4649b934ca495991b7852b855\x1a\x00",
-        b"\x0a\x47sha256:E3B0C44298FC1C149AFBF4C8996FB92427AE41E4649B934CA495991B7852B855\x1a\x00",
+fn texts_that_are_not_utf8(rt: HostRuntime) {
+    let rows: [&[u8]; 3] = [
+        b"\x0a\x01\xff\x1a\x00",
+        b"\x1a\x00\x22\x05\x2a\x03\x0a\x01\xff",
+        b"\x1a\x00\x22\x07\x2a\x03\x0a\x01\xff\x0a\x00",
     ];
-    let want = Some(RecordId::from(AnyHash::from_str(EMPTY)?));
     for content in rows {
-        assert_eq!(rt; prev_of(rt.alloc(), content), Ok(want), "{content:?}");
+        is_no_wire(&rt, rt.alloc(), content, WireFault::NotUtf8);
     }
-    assert_eq!(rt; prev_of(rt.alloc(), b"\x1a\x00"), Ok(None));
-    Ok(())
 }
 
-// The first faults of records and entries of both kinds.
+fn has_prev(rt: &impl Abort, alloc: Global, content: &[u8], want: Option<RecordId>) {
+    let prev = package(rt, alloc, content).prev;
+    assert_eq!(rt; prev, want, "{content:?}");
+}
+
 #[test]
-fn first_faults(rt: HostRuntime) {
-    let rows: [(&[u8], DecodeError); 15] = [
-        (b"", DecodeError::MissingTime),
-        (b"\x0a\x00\x0b", DecodeError::Wire(WireFault::Group)),
-        (
-            b"\x0a\x00",
-            DecodeError::Prev(AnyHashError::MissingAlgorithm),
-        ),
-        (
-            b"\x0a\x09sha256:00\x22\x00",
-            DecodeError::Prev(AnyHashError::BadLength),
-        ),
-        (b"\x22\x00", DecodeError::MissingTime),
-        (
-            b"\x1a\x10\x08\xff\xff\xff\xff\xff\xff\xff\xff\x7f\x10\x80\x94\xeb\xdc\x03\x22\x00",
-            DecodeError::TimeOutOfRange,
-        ),
-        (b"\x1a\x00\x22\x00", DecodeError::EmptyEntry),
-        (b"\x1a\x00\x22\x00\x22\x02\x0a\x00", DecodeError::EmptyEntry),
-        (b"\x1a\x00\x22\x02\x0a\x00\x22\x00", DecodeError::Algorithm),
-        (b"\x1a\x00\x22\x02\x0a\x00", DecodeError::Algorithm),
-        (
-            b"\x1a\x00\x22\x07\x0a\x05\x0a\x03toy",
-            DecodeError::Algorithm,
-        ),
-        (
-            b"\x1a\x00\x22\x0a\x0a\x08\x12\x06sha256",
-            DecodeError::Key(KeyParseError::MissingColon),
-        ),
-        (
-            b"\x1a\x00\x22\x08\x12\x06\x0a\x02:A\x10\x09",
-            DecodeError::Key(KeyParseError::EmptyAlgorithm),
-        ),
-        (
-            b"\x1a\x00\x22\x0c\x12\x0a\x0a\x04toy:\x12\x02\x01\x09",
-            DecodeError::Permission { value: 9 },
-        ),
-        (
-            b"\x1a\x00\x22\x06\x1a\x04\x12\x02\x00\x09",
-            DecodeError::Permission { value: 0 },
-        ),
-    ];
-    for (content, want) in rows {
-        assert_eq!(rt;
-            package_fault(rt.alloc(), content),
-            Some(want),
-            "{content:?}"
-        );
-        assert_eq!(rt;
-            operator_fault(rt.alloc(), content),
-            Some(want),
-            "{content:?}"
-        );
+fn links(rt: HostRuntime) {
+    let alloc = rt.alloc();
+    let empty = EMPTY.parse::<AnyHash>().expect(&rt, "a hash");
+    let linked = Some(RecordId::from(empty));
+    let lower =
+        b"\x0a\x47sha256:e3b0c44298fc1c149afbf4c8996fb92427ae41e4649b934ca495991b7852b855\x1a\x00";
+    has_prev(&rt, alloc, lower, linked);
+    let upper =
+        b"\x0a\x47sha256:E3B0C44298FC1C149AFBF4C8996FB92427AE41E4649B934CA495991B7852B855\x1a\x00";
+    has_prev(&rt, alloc, upper, linked);
+    has_prev(&rt, alloc, b"\x1a\x00", None);
+}
+
+// The bytes are no record of either kind, for one reason.
+fn is_neither(rt: &impl Abort, alloc: Global, content: &[u8], want: DecodeError) {
+    is_no_package(rt, alloc, content, want);
+    is_no_operator(rt, alloc, content, want);
+}
+
+#[test]
+fn first_faults_of_records(rt: HostRuntime) {
+    let alloc = rt.alloc();
+    is_neither(&rt, alloc, b"", DecodeError::MissingTime);
+    let group = DecodeError::Wire(WireFault::Group);
+    is_neither(&rt, alloc, b"\x0a\x00\x0b", group);
+    let algorithm = DecodeError::Prev(AnyHashError::MissingAlgorithm);
+    is_neither(&rt, alloc, b"\x0a\x00", algorithm);
+    let length = DecodeError::Prev(AnyHashError::BadLength);
+    is_neither(&rt, alloc, b"\x0a\x09sha256:00\x22\x00", length);
+    is_neither(&rt, alloc, b"\x22\x00", DecodeError::MissingTime);
+    let late = b"\x1a\x10\x08\xff\xff\xff\xff\xff\xff\xff\xff\x7f\x10\x80\x94\xeb\xdc\x03\x22\x00";
+    is_neither(&rt, alloc, late, DecodeError::TimeOutOfRange);
+}
+
+#[test]
+fn empty_entries(rt: HostRuntime) {
+    let rows: [&[u8]; 2] = [b"\x1a\x00\x22\x00", b"\x1a\x00\x22\x00\x22\x02\x0a\x00"];
+    for content in rows {
+        is_neither(&rt, rt.alloc(), content, DecodeError::EmptyEntry);
     }
+}
+
+#[test]
+fn unknown_algorithms(rt: HostRuntime) {
+    let rows: [&[u8]; 3] = [
+        b"\x1a\x00\x22\x02\x0a\x00\x22\x00",
+        b"\x1a\x00\x22\x02\x0a\x00",
+        b"\x1a\x00\x22\x07\x0a\x05\x0a\x03toy",
+    ];
+    for content in rows {
+        is_neither(&rt, rt.alloc(), content, DecodeError::Algorithm);
+    }
+}
+
+#[test]
+fn first_faults_of_entries(rt: HostRuntime) {
+    let alloc = rt.alloc();
+    let colon = DecodeError::Key(KeyParseError::MissingColon);
+    is_neither(&rt, alloc, b"\x1a\x00\x22\x0a\x0a\x08\x12\x06sha256", colon);
+    let empty = DecodeError::Key(KeyParseError::EmptyAlgorithm);
+    is_neither(
+        &rt,
+        alloc,
+        b"\x1a\x00\x22\x08\x12\x06\x0a\x02:A\x10\x09",
+        empty,
+    );
+    let grant = b"\x1a\x00\x22\x0c\x12\x0a\x0a\x04toy:\x12\x02\x01\x09";
+    is_neither(&rt, alloc, grant, DecodeError::Permission { value: 9 });
+    let revoke = b"\x1a\x00\x22\x06\x1a\x04\x12\x02\x00\x09";
+    is_neither(&rt, alloc, revoke, DecodeError::Permission { value: 0 });
 }
 
 #[test]
 fn package_entry_faults(rt: HostRuntime) {
-    let rows: [(&[u8], DecodeError); 5] = [
-        (b"\x1a\x00\x22\x02\x22\x00", DecodeError::Version),
-        (b"\x1a\x00\x22\x02\x2a\x00", DecodeError::Version),
-        (
-            b"\x1a\x00\x22\x0b\x22\x09\x0a\x05\x31\x2e\x30\x2e\x30\x12\x00",
-            DecodeError::ContentHash(AnyHashError::MissingAlgorithm),
-        ),
-        (
-            b"\x1a\x00\x22\x11\x22\x0f\x0a\x05\x31\x2e\x30\x2e\x30\x12\x06md5:00",
-            DecodeError::ContentHash(AnyHashError::UnknownAlgorithm),
-        ),
-        (
-            b"\x1a\x00\x22\x2a\x0a\x16\x0a\x0ctoy:YWxpY2U=\x12\x06sha256\x2a\x00\x0a\x0e\x0a\x0ctoy:YWxpY2U=",
-            DecodeError::Algorithm,
-        ),
-    ];
-    for (content, want) in rows {
-        assert_eq!(rt;
-            package_fault(rt.alloc(), content),
-            Some(want),
-            "{content:?}"
-        );
-    }
+    let alloc = rt.alloc();
+    let version = DecodeError::Version;
+    is_no_package(&rt, alloc, b"\x1a\x00\x22\x02\x22\x00", version);
+    is_no_package(&rt, alloc, b"\x1a\x00\x22\x02\x2a\x00", version);
+    let missing = DecodeError::ContentHash(AnyHashError::MissingAlgorithm);
+    let none = b"\x1a\x00\x22\x0b\x22\x09\x0a\x05\x31\x2e\x30\x2e\x30\x12\x00";
+    is_no_package(&rt, alloc, none, missing);
+    let unknown = DecodeError::ContentHash(AnyHashError::UnknownAlgorithm);
+    let md5 = b"\x1a\x00\x22\x11\x22\x0f\x0a\x05\x31\x2e\x30\x2e\x30\x12\x06md5:00";
+    is_no_package(&rt, alloc, md5, unknown);
+    let init =
+        b"\x1a\x00\x22\x2a\x0a\x16\x0a\x0ctoy:YWxpY2U=\x12\x06sha256\x2a\x00\x0a\x0e\x0a\x0ctoy:YWxpY2U=";
+    is_no_package(&rt, alloc, init, DecodeError::Algorithm);
 }
 
 #[test]
-fn joined_pieces_of_an_init(rt: HostRuntime) -> Result<(), Fail> {
+fn joined_pieces_of_an_init(rt: HostRuntime) {
     let content =
         b"\x1a\x00\x22\x28\x0a\x16\x0a\x0ctoy:YWxpY2U=\x12\x06sha256\x0a\x0e\x0a\x0ctoy:YWxpY2U=";
-    let entries = entries_of(rt.alloc(), content)?;
-    let init = package_init(rt.alloc())?;
-    assert_eq!(rt; entries.as_slice(), [init].as_slice());
-    Ok(())
+    let record = package(&rt, rt.alloc(), content);
+    let init = package_init(&rt, rt.alloc());
+    assert_eq!(rt; record.entries.as_slice(), [init].as_slice());
 }

@@ -1,87 +1,90 @@
 //! Entries and their messages.
 
 use crate::samples::{ALICE, operator_entries, package_entries, package_grant};
+use crate::values::string;
 use std::alloc::Global;
-use std::test::Fail;
+use std::process::Abort;
 use warg_crypto::DecodeError;
 use warg_protobuf as message;
 use warg_records::operator::OperatorEntry;
 use warg_records::package::{PackageEntry, Permission};
 
-// The permissions of a grant's message, as they are written again.
-fn written_again(alloc: Global, bytes: &[u8]) -> Result<Vec<u8>, Fail> {
-    let grant = message::PackageGrantFlat::decode(alloc, bytes)?;
-    Ok(grant.encode(alloc)?)
+fn grant(rt: &impl Abort, alloc: Global, bytes: &[u8]) -> message::PackageGrantFlat {
+    message::PackageGrantFlat::decode(alloc, bytes).expect(rt, "a grant")
 }
 
-// What a grant's message says, with alice's key put in.
-fn granted(alloc: Global, bytes: &[u8]) -> Result<PackageEntry, DecodeError> {
-    let Ok(mut grant) = message::PackageGrantFlat::decode(alloc, bytes) else {
-        return Err(DecodeError::MissingTime);
-    };
-    grant.key = String::from_str(alloc, ALICE)?;
-    let contents = message::package_entry::Contents::GrantFlat(Box::new(alloc, grant)?);
-    let entry = message::PackageEntry {
-        contents: Some(contents),
-    };
-    PackageEntry::from_proto(alloc, entry)
+// The permissions of a grant's message are written again in the shorter form.
+fn is_packed(rt: &impl Abort, alloc: Global, bytes: &[u8]) {
+    let packed = grant(rt, alloc, bytes).encode(alloc).expect(rt, "memory");
+    assert_eq!(rt; packed.as_slice(), b"\x12\x02\x01\x02".as_slice());
+}
+
+// The message of an entry that grants what these bytes say to alice's key.
+fn granting(rt: &impl Abort, alloc: Global, bytes: &[u8]) -> message::PackageEntry {
+    let mut grant = grant(rt, alloc, bytes);
+    grant.key = string(rt, alloc, ALICE);
+    let boxed = Box::new(alloc, grant).expect(rt, "memory");
+    message::PackageEntry {
+        contents: Some(message::package_entry::Contents::GrantFlat(boxed)),
+    }
+}
+
+fn is_granted(rt: &impl Abort, alloc: Global, bytes: &[u8]) {
+    let read = PackageEntry::from_proto(alloc, granting(rt, alloc, bytes));
+    let entry = read.expect(rt, "an entry");
+    let permissions = [Permission::Release, Permission::Yank];
+    assert_eq!(rt; entry, package_grant(rt, alloc, ALICE, &permissions));
 }
 
 #[test]
-fn read_permissions(rt: HostRuntime) -> Result<(), Fail> {
+fn read_permissions(rt: HostRuntime) {
     let rows: [&[u8]; 2] = [b"\x12\x02\x01\x02", b"\x10\x01\x12\x01\x02"];
-    let want = package_grant(rt.alloc(), ALICE, &[Permission::Release, Permission::Yank])?;
     for bytes in rows {
-        assert_eq!(rt; granted(rt.alloc(), bytes)?, want);
-        assert_eq!(rt;
-            written_again(rt.alloc(), bytes)?.as_slice(),
-            b"\x12\x02\x01\x02".as_slice()
-        );
+        is_granted(&rt, rt.alloc(), bytes);
+        is_packed(&rt, rt.alloc(), bytes);
     }
-    Ok(())
+}
+
+fn is_refused(rt: &impl Abort, alloc: Global, bytes: &[u8], value: i32) {
+    let fault = PackageEntry::from_proto(alloc, granting(rt, alloc, bytes)).err();
+    assert_eq!(rt; fault, Some(DecodeError::Permission { value }));
 }
 
 #[test]
 fn refused_permissions(rt: HostRuntime) {
-    let rows: [(&[u8], i32); 3] = [
-        (b"\x12\x01\x03", 3),
-        (b"\x10\x00", 0),
-        (b"\x12\x0a\xff\xff\xff\xff\xff\xff\xff\xff\xff\x01", -1),
-    ];
-    for (bytes, value) in rows {
-        let refused = DecodeError::Permission { value };
-        assert_eq!(rt; granted(rt.alloc(), bytes).err(), Some(refused));
-    }
+    let alloc = rt.alloc();
+    is_refused(&rt, alloc, b"\x12\x01\x03", 3);
+    is_refused(&rt, alloc, b"\x10\x00", 0);
+    let ones = b"\x12\x0a\xff\xff\xff\xff\xff\xff\xff\xff\xff\x01";
+    is_refused(&rt, alloc, ones, -1);
 }
 
-fn package_entry_read_back(alloc: Global, entry: &PackageEntry) -> Result<PackageEntry, Fail> {
-    let message = entry.to_proto(alloc)?;
-    Ok(PackageEntry::from_proto(alloc, message)?)
-}
-
-fn operator_entry_read_back(alloc: Global, entry: &OperatorEntry) -> Result<OperatorEntry, Fail> {
-    let message = entry.to_proto(alloc)?;
-    Ok(OperatorEntry::from_proto(alloc, message)?)
+fn package_entry_reads_back(rt: &impl Abort, alloc: Global, entry: &PackageEntry) {
+    let message = entry.to_proto(alloc).expect(rt, "memory");
+    let read = PackageEntry::from_proto(alloc, message);
+    assert!(rt; read.expect(rt, "an entry") == *entry);
+    let copy = entry.try_clone().expect(rt, "memory");
+    assert!(rt; copy == *entry);
 }
 
 #[test]
-fn package_entries_read_back(rt: HostRuntime) -> Result<(), Fail> {
-    for entry in &package_entries(rt.alloc())? {
-        let again = package_entry_read_back(rt.alloc(), entry)?;
-        assert!(rt; again == *entry);
-        let copy = entry.try_clone()?;
-        assert!(rt; copy == *entry);
+fn package_entries_read_back(rt: HostRuntime) {
+    for entry in &package_entries(&rt, rt.alloc()) {
+        package_entry_reads_back(&rt, rt.alloc(), entry);
     }
-    Ok(())
+}
+
+fn operator_entry_reads_back(rt: &impl Abort, alloc: Global, entry: &OperatorEntry) {
+    let message = entry.to_proto(alloc).expect(rt, "memory");
+    let read = OperatorEntry::from_proto(alloc, message);
+    assert!(rt; read.expect(rt, "an entry") == *entry);
+    let copy = entry.try_clone().expect(rt, "memory");
+    assert!(rt; copy == *entry);
 }
 
 #[test]
-fn operator_entries_read_back(rt: HostRuntime) -> Result<(), Fail> {
-    for entry in &operator_entries(rt.alloc())? {
-        let again = operator_entry_read_back(rt.alloc(), entry)?;
-        assert!(rt; again == *entry);
-        let copy = entry.try_clone()?;
-        assert!(rt; copy == *entry);
+fn operator_entries_read_back(rt: HostRuntime) {
+    for entry in &operator_entries(&rt, rt.alloc()) {
+        operator_entry_reads_back(&rt, rt.alloc(), entry);
     }
-    Ok(())
 }

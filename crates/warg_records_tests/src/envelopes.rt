@@ -1,8 +1,8 @@
 //! What bytes say as an envelope, and their first fault.
 
-use std::alloc::{AllocError, Global};
-use std::fmt;
-use std::test::Fail;
+use crate::values::is_shown;
+use std::alloc::Global;
+use std::process::Abort;
 use warg_crypto::DecodeError;
 use warg_crypto::hash::AnyHashError;
 use warg_crypto::signing::SignatureParseError;
@@ -13,109 +13,111 @@ use warg_records::{ParseEnvelopeError, ProtoEnvelope};
 
 const SMALLEST: &[u8] = b"\x0a\x02\x1a\x00\x12\x01k\x1a\x04toy:";
 
-fn opened(alloc: Global, bytes: &[u8]) -> Result<ProtoEnvelope<PackageRecord>, Fail> {
-    Ok(ProtoEnvelope::<PackageRecord>::from_protobuf(alloc, bytes)?)
+// The same record in more bytes.
+const LONG: &[u8] = b"\x0a\x05\x1a\x00\x10\x80\x00\x12\x01k\x1a\x04toy:";
+
+fn is_refused(rt: &impl Abort, alloc: Global, bytes: &[u8], want: ParseEnvelopeError) {
+    let package = ProtoEnvelope::<PackageRecord>::from_protobuf(alloc, bytes).err();
+    assert_eq!(rt; package, Some(want), "{bytes:?}");
+    let operator = ProtoEnvelope::<OperatorRecord>::from_protobuf(alloc, bytes).err();
+    assert_eq!(rt; operator, Some(want), "{bytes:?}");
 }
 
-fn package_fault(alloc: Global, bytes: &[u8]) -> Option<ParseEnvelopeError> {
-    ProtoEnvelope::<PackageRecord>::from_protobuf(alloc, bytes).err()
-}
-
-fn operator_fault(alloc: Global, bytes: &[u8]) -> Option<ParseEnvelopeError> {
-    ProtoEnvelope::<OperatorRecord>::from_protobuf(alloc, bytes).err()
-}
-
-// Of several faults the outer message's is the first, then the contents', then the signature's.
+// A fault of the outer message is the first.
 #[test]
-fn first_faults(rt: HostRuntime) {
-    let rows: [(&[u8], ParseEnvelopeError); 6] = [
-        (b"", ParseEnvelopeError::Contents(DecodeError::MissingTime)),
-        (
-            b"\x0b",
-            ParseEnvelopeError::ProtobufEnvelope(WireError::Group),
-        ),
-        (
-            b"\x0a\x00\x0b",
-            ParseEnvelopeError::ProtobufEnvelope(WireError::Group),
-        ),
-        (
-            b"\x0a\x02\x1a\x00",
-            ParseEnvelopeError::Signature(SignatureParseError::MissingColon),
-        ),
-        (
-            b"\x0a\x02\x1a\x00\x1a\x06toy:AA",
-            ParseEnvelopeError::Signature(SignatureParseError::BadBase64),
-        ),
-        (
-            b"\x0a\x04\x1a\x00\x22\x00\x1a\x01:",
-            ParseEnvelopeError::Contents(DecodeError::EmptyEntry),
-        ),
-    ];
-    for (bytes, want) in rows {
-        assert_eq!(rt; package_fault(rt.alloc(), bytes), Some(want), "{bytes:?}");
-        assert_eq!(rt; operator_fault(rt.alloc(), bytes), Some(want), "{bytes:?}");
-    }
+fn outer_faults(rt: HostRuntime) {
+    let alloc = rt.alloc();
+    let group = ParseEnvelopeError::ProtobufEnvelope(WireError::Group);
+    is_refused(&rt, alloc, b"\x0b", group);
+    is_refused(&rt, alloc, b"\x0a\x00\x0b", group);
 }
 
+// Then comes a fault of the contents, and then one of the signature.
 #[test]
-fn parts(rt: HostRuntime) -> Result<(), Fail> {
-    let envelope = opened(rt.alloc(), SMALLEST)?;
+fn inner_faults(rt: HostRuntime) {
+    let alloc = rt.alloc();
+    let time = ParseEnvelopeError::Contents(DecodeError::MissingTime);
+    is_refused(&rt, alloc, b"", time);
+    let colon = ParseEnvelopeError::Signature(SignatureParseError::MissingColon);
+    is_refused(&rt, alloc, b"\x0a\x02\x1a\x00", colon);
+    let base64 = ParseEnvelopeError::Signature(SignatureParseError::BadBase64);
+    is_refused(&rt, alloc, b"\x0a\x02\x1a\x00\x1a\x06toy:AA", base64);
+    let entry = ParseEnvelopeError::Contents(DecodeError::EmptyEntry);
+    is_refused(&rt, alloc, b"\x0a\x04\x1a\x00\x22\x00\x1a\x01:", entry);
+}
+
+fn opened(rt: &impl Abort, alloc: Global, bytes: &[u8]) -> ProtoEnvelope<PackageRecord> {
+    ProtoEnvelope::<PackageRecord>::from_protobuf(alloc, bytes).expect(rt, "an envelope")
+}
+
+fn is_smallest(rt: &impl Abort, envelope: &ProtoEnvelope<PackageRecord>) {
     assert_eq!(rt; envelope.content_bytes(), b"\x1a\x00".as_slice());
     assert_eq!(rt; envelope.key_id().as_str(), "k");
     assert_eq!(rt; envelope.signature().algorithm(), "toy");
     assert!(rt; envelope.signature().bytes().is_empty());
-    assert_eq!(rt; envelope.contents().timestamp.seconds(), 0);
-    assert_eq!(rt; envelope.contents().version, 0);
-    assert_eq!(rt; envelope.contents().prev, None);
-    assert!(rt; envelope.contents().entries.is_empty());
-    let copy = envelope.try_clone()?;
-    assert!(rt; copy == envelope);
-    Ok(())
+}
+
+fn says_nothing(rt: &impl Abort, record: &PackageRecord) {
+    assert_eq!(rt; record.timestamp.seconds(), 0);
+    assert_eq!(rt; record.version, 0);
+    assert_eq!(rt; record.prev, None);
+    assert!(rt; record.entries.is_empty());
+}
+
+fn is_copied(rt: &impl Abort, envelope: &ProtoEnvelope<PackageRecord>) {
+    let copy = envelope.try_clone().expect(rt, "memory");
+    assert!(rt; copy == *envelope);
+}
+
+#[test]
+fn parts(rt: HostRuntime) {
+    let envelope = opened(&rt, rt.alloc(), SMALLEST);
+    is_smallest(&rt, &envelope);
+    says_nothing(&rt, envelope.contents());
+    is_copied(&rt, &envelope);
 }
 
 // The content bytes are kept also where a shorter form says the same record.
 #[test]
-fn kept_bytes(rt: HostRuntime) -> Result<(), Fail> {
-    let long = b"\x0a\x05\x1a\x00\x10\x80\x00\x12\x01k\x1a\x04toy:";
-    let envelope = opened(rt.alloc(), long)?;
+fn kept_bytes(rt: HostRuntime) {
+    let alloc = rt.alloc();
+    let envelope = opened(&rt, alloc, LONG);
     assert_eq!(rt;
         envelope.content_bytes(),
         b"\x1a\x00\x10\x80\x00".as_slice()
     );
-    let written = envelope.to_protobuf(rt.alloc())?;
-    assert_eq!(rt; written.as_slice(), long.as_slice());
-    let short = opened(rt.alloc(), SMALLEST)?;
-    assert!(rt; *envelope.contents() == *short.contents());
-    assert!(rt; envelope != short);
-    Ok(())
-}
-
-fn text_of<T: fmt::Display + Drop>(alloc: Global, value: T) -> Result<String, AllocError> {
-    value.to_string(alloc)
+    let written = envelope.to_protobuf(alloc).expect(&rt, "memory");
+    assert_eq!(rt; written.as_slice(), LONG);
 }
 
 #[test]
-fn texts_of_faults(rt: HostRuntime) -> Result<(), Fail> {
-    for (error, text) in [
-        (
-            ParseEnvelopeError::ProtobufEnvelope(WireError::Group),
-            "failed to parse the outer envelope protobuf message",
-        ),
-        (
-            ParseEnvelopeError::Contents(DecodeError::MissingTime),
-            "failed to parse envelope contents from bytes",
-        ),
-        (
-            ParseEnvelopeError::KeyID(AnyHashError::BadHex),
-            "failed to parse envelope key id",
-        ),
-        (
-            ParseEnvelopeError::Signature(SignatureParseError::MissingColon),
-            "failed to parse envelope signature",
-        ),
-        (ParseEnvelopeError::OutOfMemory, "OutOfMemory"),
-    ] {
-        assert_eq!(rt; text_of(rt.alloc(), error)?.as_str(), text);
-    }
-    Ok(())
+fn envelopes_of_one_record(rt: HostRuntime) {
+    let long = opened(&rt, rt.alloc(), LONG);
+    let short = opened(&rt, rt.alloc(), SMALLEST);
+    assert!(rt; *long.contents() == *short.contents());
+    assert!(rt; long != short);
+}
+
+#[test]
+fn texts_of_faults(rt: HostRuntime) {
+    let alloc = rt.alloc();
+    let outer = ParseEnvelopeError::ProtobufEnvelope(WireError::Group);
+    is_shown(
+        &rt,
+        alloc,
+        &outer,
+        "failed to parse the outer envelope protobuf message",
+    );
+    let contents = ParseEnvelopeError::Contents(DecodeError::MissingTime);
+    is_shown(
+        &rt,
+        alloc,
+        &contents,
+        "failed to parse envelope contents from bytes",
+    );
+    let key_id = ParseEnvelopeError::KeyID(AnyHashError::BadHex);
+    is_shown(&rt, alloc, &key_id, "failed to parse envelope key id");
+    let signature = ParseEnvelopeError::Signature(SignatureParseError::MissingColon);
+    is_shown(&rt, alloc, &signature, "failed to parse envelope signature");
+    is_shown(&rt, alloc, &ParseEnvelopeError::OutOfMemory, "OutOfMemory");
 }

@@ -3,74 +3,63 @@
 use crate::samples::{EMPTY, empty_hash};
 use serde_json::Value;
 use std::alloc::Global;
-use std::str::FromStr;
-use std::test::Fail;
+use std::fmt::Debug;
+use std::process::Abort;
 use warg_crypto::{JsonError, JsonValue};
 use warg_records::registry::{
     Checkpoint, LogId, LogLeaf, PackageName, RecordId, TimestampedCheckpoint,
 };
 
 // What the JSON text is read as.
-fn read<T: JsonValue + Drop>(alloc: Global, json: &str) -> Result<Result<T, JsonError>, Fail> {
-    let value = Value::from_str(alloc, json)?;
-    Ok(T::from_value(alloc, &value))
+fn read<T: JsonValue + Drop>(rt: &impl Abort, alloc: Global, json: &str) -> Result<T, JsonError> {
+    let value = Value::from_str(alloc, json).expect(rt, json);
+    T::from_value(alloc, &value)
 }
 
-// Why the JSON text is not read.
-fn fault<T: JsonValue + Drop>(alloc: Global, json: &str) -> Result<Option<JsonError>, Fail> {
-    Ok(read::<T>(alloc, json)?.err())
+// The JSON is written of the value, and read as it.
+fn goes_both_ways<T: JsonValue + PartialEq + Debug + Drop>(
+    rt: &impl Abort,
+    alloc: Global,
+    json: &str,
+    value: T,
+) {
+    let written = value.to_value(alloc).expect(rt, json);
+    let text = written.to_string(alloc).expect(rt, json);
+    assert_eq!(rt; text.as_str(), json);
+    assert_eq!(rt; read::<T>(rt, alloc, json), Ok(value));
 }
 
-// The JSON text of a value.
-fn written<T: JsonValue>(alloc: Global, value: &T) -> Result<String, Fail> {
-    let json = value.to_value(alloc)?;
-    Ok(json.to_string(alloc)?)
+fn is_refused<T: JsonValue + Drop>(rt: &impl Abort, alloc: Global, json: &str, want: JsonError) {
+    assert_eq!(rt; read::<T>(rt, alloc, json).err(), Some(want), "{json}");
 }
 
 const EMPTY_JSON: &str =
     "\"sha256:e3b0c44298fc1c149afbf4c8996fb92427ae41e4649b934ca495991b7852b855\"";
 
 #[test]
-fn log_ids(rt: HostRuntime) -> Result<(), Fail> {
-    let id = LogId::from(empty_hash());
-    assert_eq!(rt; written(rt.alloc(), &id)?.as_str(), EMPTY_JSON);
-    assert_eq!(rt; read::<LogId>(rt.alloc(), EMPTY_JSON)?, Ok(id));
-    for (json, want) in [
-        ("\"md5:\"", JsonError::BadText),
-        ("[]", JsonError::WrongType),
-    ] {
-        assert_eq!(rt; fault::<LogId>(rt.alloc(), json)?, Some(want));
-    }
-    Ok(())
+fn log_ids(rt: HostRuntime) {
+    let alloc = rt.alloc();
+    goes_both_ways(&rt, alloc, EMPTY_JSON, LogId::from(empty_hash()));
+    is_refused::<LogId>(&rt, alloc, "\"md5:\"", JsonError::BadText);
+    is_refused::<LogId>(&rt, alloc, "[]", JsonError::WrongType);
 }
 
 #[test]
-fn record_ids(rt: HostRuntime) -> Result<(), Fail> {
-    let id = RecordId::from(empty_hash());
-    assert_eq!(rt; written(rt.alloc(), &id)?.as_str(), EMPTY_JSON);
-    assert_eq!(rt; read::<RecordId>(rt.alloc(), EMPTY_JSON)?, Ok(id));
-    for (json, want) in [
-        ("\"sha256:00\"", JsonError::BadText),
-        ("7", JsonError::WrongType),
-    ] {
-        assert_eq!(rt; fault::<RecordId>(rt.alloc(), json)?, Some(want));
-    }
-    Ok(())
+fn record_ids(rt: HostRuntime) {
+    let alloc = rt.alloc();
+    goes_both_ways(&rt, alloc, EMPTY_JSON, RecordId::from(empty_hash()));
+    is_refused::<RecordId>(&rt, alloc, "\"sha256:00\"", JsonError::BadText);
+    is_refused::<RecordId>(&rt, alloc, "7", JsonError::WrongType);
 }
 
 #[test]
-fn package_names(rt: HostRuntime) -> Result<(), Fail> {
-    let name = PackageName::new(rt.alloc(), "foo:bar")?;
-    assert_eq!(rt; written(rt.alloc(), &name)?.as_str(), "\"foo:bar\"");
-    assert_eq!(rt; read::<PackageName>(rt.alloc(), "\"foo:bar\"")?, Ok(name));
-    for (json, want) in [
-        ("\"foo\"", JsonError::BadText),
-        ("1", JsonError::WrongType),
-        ("null", JsonError::WrongType),
-    ] {
-        assert_eq!(rt; fault::<PackageName>(rt.alloc(), json)?, Some(want));
-    }
-    Ok(())
+fn package_names(rt: HostRuntime) {
+    let alloc = rt.alloc();
+    let name = PackageName::new(alloc, "foo:bar").expect(&rt, "a name");
+    goes_both_ways(&rt, alloc, "\"foo:bar\"", name);
+    is_refused::<PackageName>(&rt, alloc, "\"foo\"", JsonError::BadText);
+    is_refused::<PackageName>(&rt, alloc, "1", JsonError::WrongType);
+    is_refused::<PackageName>(&rt, alloc, "null", JsonError::WrongType);
 }
 
 fn checkpoint(log_length: usize) -> Checkpoint {
@@ -82,76 +71,68 @@ fn checkpoint(log_length: usize) -> Checkpoint {
 }
 
 #[test]
-fn checkpoints(rt: HostRuntime) -> Result<(), Fail> {
-    let json = format!(in rt.alloc();
+fn checkpoints(rt: HostRuntime) {
+    let alloc = rt.alloc();
+    let json = format!(in alloc;
         "{{\"logLength\":300,\"logRoot\":\"{EMPTY}\",\"mapRoot\":\"{EMPTY}\"}}"
-    )?;
-    assert_eq!(rt; written(rt.alloc(), &checkpoint(300))?, json);
-    let again = read::<Checkpoint>(rt.alloc(), json.as_str())?;
-    assert_eq!(rt; again, Ok(checkpoint(300)));
-    Ok(())
+    ).expect(&rt, "memory");
+    goes_both_ways(&rt, alloc, json.as_str(), checkpoint(300));
 }
 
 #[test]
-fn refused_checkpoints(rt: HostRuntime) -> Result<(), Fail> {
-    for (json, want) in [
-        ("[]", JsonError::WrongType),
-        ("{}", JsonError::Missing),
-        ("{\"logRoot\":7}", JsonError::WrongType),
-        (
-            "{\"logRoot\":\"md5:\",\"logLength\":-1}",
-            JsonError::BadText,
-        ),
-    ] {
-        assert_eq!(rt; fault::<Checkpoint>(rt.alloc(), json)?, Some(want));
-    }
-    Ok(())
+fn refused_checkpoints(rt: HostRuntime) {
+    let alloc = rt.alloc();
+    is_refused::<Checkpoint>(&rt, alloc, "[]", JsonError::WrongType);
+    is_refused::<Checkpoint>(&rt, alloc, "{}", JsonError::Missing);
+    let root = "{\"logRoot\":7}";
+    is_refused::<Checkpoint>(&rt, alloc, root, JsonError::WrongType);
+    let text = "{\"logRoot\":\"md5:\",\"logLength\":-1}";
+    is_refused::<Checkpoint>(&rt, alloc, text, JsonError::BadText);
 }
 
 // Lengths that are no whole number of 64 bits, before the fault of the map's root.
 #[test]
-fn refused_lengths(rt: HostRuntime) -> Result<(), Fail> {
+fn refused_lengths(rt: HostRuntime) {
+    let alloc = rt.alloc();
     for length in ["-1", "1.5", "18446744073709551616", "\"1\"", "null"] {
-        let json = format!(in rt.alloc();
+        let json = format!(in alloc;
             "{{\"logRoot\":\"{EMPTY}\",\"logLength\":{length},\"mapRoot\":\"md5:\"}}"
-        )?;
-        let fault = fault::<Checkpoint>(rt.alloc(), json.as_str())?;
-        assert_eq!(rt; fault, Some(JsonError::WrongType), "{length}");
+        ).expect(&rt, "memory");
+        is_refused::<Checkpoint>(&rt, alloc, json.as_str(), JsonError::WrongType);
     }
-    Ok(())
 }
 
 #[test]
-fn timestamped_checkpoints(rt: HostRuntime) -> Result<(), Fail> {
+fn timestamped_checkpoints(rt: HostRuntime) {
+    let alloc = rt.alloc();
     let timestamped = TimestampedCheckpoint {
         checkpoint: checkpoint(0),
         timestamp: 1,
     };
-    let json = format!(in rt.alloc();
+    let json = format!(in alloc;
         "{{\"logLength\":0,\"logRoot\":\"{EMPTY}\",\"mapRoot\":\"{EMPTY}\",\"timestamp\":1}}"
-    )?;
-    assert_eq!(rt; written(rt.alloc(), &timestamped)?, json);
-    let again = read::<TimestampedCheckpoint>(rt.alloc(), json.as_str())?;
-    assert_eq!(rt; again, Ok(timestamped));
-    let json = format!(in rt.alloc();
-        "{{\"logLength\":0,\"logRoot\":\"{EMPTY}\",\"mapRoot\":\"{EMPTY}\"}}"
-    )?;
-    let fault = fault::<TimestampedCheckpoint>(rt.alloc(), json.as_str())?;
-    assert_eq!(rt; fault, Some(JsonError::Missing));
-    Ok(())
+    ).expect(&rt, "memory");
+    goes_both_ways(&rt, alloc, json.as_str(), timestamped);
 }
 
 #[test]
-fn log_leaves(rt: HostRuntime) -> Result<(), Fail> {
+fn checkpoints_without_a_time(rt: HostRuntime) {
+    let alloc = rt.alloc();
+    let json = format!(in alloc;
+        "{{\"logLength\":0,\"logRoot\":\"{EMPTY}\",\"mapRoot\":\"{EMPTY}\"}}"
+    ).expect(&rt, "memory");
+    is_refused::<TimestampedCheckpoint>(&rt, alloc, json.as_str(), JsonError::Missing);
+}
+
+#[test]
+fn log_leaves(rt: HostRuntime) {
+    let alloc = rt.alloc();
     let leaf = LogLeaf {
         log_id: LogId::from(empty_hash()),
         record_id: RecordId::from(empty_hash()),
     };
-    let json = format!(in rt.alloc(); "{{\"logId\":\"{EMPTY}\",\"recordId\":\"{EMPTY}\"}}")?;
-    assert_eq!(rt; written(rt.alloc(), &leaf)?, json);
-    assert_eq!(rt; read::<LogLeaf>(rt.alloc(), json.as_str())?, Ok(leaf));
-    let json = format!(in rt.alloc(); "{{\"logId\":\"{EMPTY}\",\"other\":1}}")?;
-    let fault = fault::<LogLeaf>(rt.alloc(), json.as_str())?;
-    assert_eq!(rt; fault, Some(JsonError::Missing));
-    Ok(())
+    let json = format!(in alloc; "{{\"logId\":\"{EMPTY}\",\"recordId\":\"{EMPTY}\"}}");
+    goes_both_ways(&rt, alloc, json.expect(&rt, "memory").as_str(), leaf);
+    let json = format!(in alloc; "{{\"logId\":\"{EMPTY}\",\"other\":1}}").expect(&rt, "memory");
+    is_refused::<LogLeaf>(&rt, alloc, json.as_str(), JsonError::Missing);
 }

@@ -28,4 +28,6 @@ mod samples;
 #[cfg(test)]
 mod signed;
 #[cfg(test)]
+mod values;
+#[cfg(test)]
 mod written;

@@ -1,40 +1,38 @@
 //! The names of packages.
 
+use crate::values::{is_encoded, is_shown, string};
 use std::alloc::Global;
-use std::test::Fail;
-use warg_crypto::VisitBytes;
+use std::process::Abort;
 use warg_records::registry::{PackageName, PackageNameError};
 
-fn named(alloc: Global, text: &str) -> Result<PackageName, Fail> {
-    Ok(PackageName::new(alloc, text)?)
+fn named(rt: &impl Abort, alloc: Global, text: &str) -> PackageName {
+    PackageName::new(alloc, text).expect(rt, text)
+}
+
+fn has_parts(rt: &impl Abort, alloc: Global, text: &str, namespace: &str, name: &str) {
+    let parsed = named(rt, alloc, text);
+    assert_eq!(rt; parsed.namespace(), namespace);
+    assert_eq!(rt; parsed.name(), name);
+    assert_eq!(rt; parsed.as_str(), text);
 }
 
 #[test]
-fn parts(rt: HostRuntime) -> Result<(), Fail> {
-    for (text, namespace, name) in [
-        ("foo:bar", "foo", "bar"),
-        ("a:b", "a", "b"),
-        ("a-b2:c", "a-b2", "c"),
-        ("a1-b2-c3:d-e4", "a1-b2-c3", "d-e4"),
-    ] {
-        let parsed = named(rt.alloc(), text)?;
-        assert_eq!(rt; parsed.namespace(), namespace);
-        assert_eq!(rt; parsed.name(), name);
-        assert_eq!(rt; parsed.as_str(), text);
-    }
-    Ok(())
+fn parts(rt: HostRuntime) {
+    let alloc = rt.alloc();
+    has_parts(&rt, alloc, "foo:bar", "foo", "bar");
+    has_parts(&rt, alloc, "a:b", "a", "b");
+    has_parts(&rt, alloc, "a-b2:c", "a-b2", "c");
+    has_parts(&rt, alloc, "a1-b2-c3:d-e4", "a1-b2-c3", "d-e4");
 }
 
 #[test]
-fn copies(rt: HostRuntime) -> Result<(), Fail> {
-    let name = named(rt.alloc(), "foo:bar")?;
-    let copy = name.try_clone()?;
-    assert_eq!(rt; copy, name);
-    let parsed = PackageName::parse(rt.alloc(), "foo:bar")?;
+fn copies(rt: HostRuntime) {
+    let alloc = rt.alloc();
+    let name = named(&rt, alloc, "foo:bar");
+    assert_eq!(rt; name.try_clone().expect(&rt, "memory"), name);
+    let parsed = PackageName::parse(alloc, "foo:bar").expect(&rt, "a name");
     assert_eq!(rt; parsed, name);
-    let text = name.to_string(rt.alloc())?;
-    assert_eq!(rt; text.as_str(), "foo:bar");
-    Ok(())
+    is_shown(&rt, alloc, &name, "foo:bar");
 }
 
 // The text that a refusal carries; none where the text is a name.
@@ -45,42 +43,46 @@ fn refused_text(refused: Result<PackageName, PackageNameError>) -> Option<String
     }
 }
 
+fn is_refused(rt: &impl Abort, alloc: Global, text: &str) {
+    let refused = refused_text(PackageName::new(alloc, text)).expect(rt, text);
+    assert_eq!(rt; refused.as_str(), text);
+    let refused = refused_text(PackageName::parse(alloc, text)).expect(rt, text);
+    assert_eq!(rt; refused.as_str(), text);
+}
+
 #[test]
-fn refused_names(rt: HostRuntime) -> Result<(), Fail> {
+fn refused_names(rt: HostRuntime) {
     for text in [
         "", ":", "foo", "a:b:c", "foo:2x", "foo:a--b", "foo:", ":bar", "Foo:bar", "foo:Bar",
         "a-2b:c", "a:b-", "a:-b", "é:b", "a:é", "a_b:c", "a: b", "a:b\n",
     ] {
-        let want = Some(String::from_str(rt.alloc(), text)?);
-        assert_eq!(rt; refused_text(PackageName::new(rt.alloc(), text)), want);
-        assert_eq!(rt; refused_text(PackageName::parse(rt.alloc(), text)), want);
+        is_refused(&rt, rt.alloc(), text);
     }
-    Ok(())
 }
 
 #[test]
-fn texts_of_refusals(rt: HostRuntime) -> Result<(), Fail> {
+fn texts_of_refusals(rt: HostRuntime) {
     let refused = PackageNameError::InvalidPackageName {
-        name: String::from_str(rt.alloc(), "foo")?,
+        name: string(&rt, rt.alloc(), "foo"),
     };
-    assert_eq!(rt;
-        refused.to_string(rt.alloc())?.as_str(),
-        "invalid package name `foo`: expected format is `<namespace>:<name>` using lowercased characters"
+    is_shown(
+        &rt,
+        rt.alloc(),
+        &refused,
+        "invalid package name `foo`: expected format is `<namespace>:<name>` using lowercased characters",
     );
-    let memory = PackageNameError::OutOfMemory.to_string(rt.alloc())?;
-    assert_eq!(rt; memory.as_str(), "OutOfMemory");
-    Ok(())
+    is_shown(
+        &rt,
+        rt.alloc(),
+        &PackageNameError::OutOfMemory,
+        "OutOfMemory",
+    );
 }
 
 #[test]
-fn encoding(rt: HostRuntime) -> Result<(), Fail> {
-    let name = named(rt.alloc(), "foo:bar")?;
-    let mut bytes = Vec::new(rt.alloc());
-    name.visit(&mut bytes)?;
-    assert_eq!(rt; bytes.len(), 26);
-    assert_eq!(rt;
-        bytes.as_slice(),
-        b"WARG-PACKAGE-ID-V0\x07foo:bar".as_slice()
-    );
-    Ok(())
+fn encoding(rt: HostRuntime) {
+    let name = named(&rt, rt.alloc(), "foo:bar");
+    let want = b"WARG-PACKAGE-ID-V0\x07foo:bar";
+    assert_eq!(rt; want.len(), 26);
+    is_encoded(&rt, rt.alloc(), &name, want.as_slice());
 }

@@ -1,57 +1,72 @@
 //! Permissions, as texts and as the numbers of messages.
 
-use std::alloc::{AllocError, Global};
-use std::fmt;
+use crate::values::is_shown;
+use std::alloc::Global;
+use std::process::Abort;
 use std::str::FromStr;
-use std::test::Fail;
 use warg_records::{InvalidPermission, PermissionParseError, operator, package};
 
-fn text_of<T: fmt::Display + Drop>(alloc: Global, value: T) -> Result<String, AllocError> {
-    value.to_string(alloc)
+fn of_package(
+    rt: &impl Abort,
+    alloc: Global,
+    permission: package::Permission,
+    text: &str,
+    number: i32,
+) {
+    is_shown(rt, alloc, &permission, text);
+    assert_eq!(rt; package::Permission::from_str(text), Ok(permission));
+    assert_eq!(rt; i32::from(&permission), number);
+    assert_eq!(rt; package::Permission::try_from(number), Ok(permission));
 }
 
 #[test]
-fn package_permissions(rt: HostRuntime) -> Result<(), Fail> {
-    for (permission, text, number) in [
-        (package::Permission::Release, "release", 1),
-        (package::Permission::Yank, "yank", 2),
-    ] {
-        assert_eq!(rt; text_of(rt.alloc(), permission)?.as_str(), text);
-        assert_eq!(rt; package::Permission::from_str(text), Ok(permission));
-        assert_eq!(rt; i32::from(&permission), number);
-        assert_eq!(rt; package::Permission::try_from(number), Ok(permission));
-    }
-    Ok(())
+fn package_permissions(rt: HostRuntime) {
+    let alloc = rt.alloc();
+    of_package(&rt, alloc, package::Permission::Release, "release", 1);
+    of_package(&rt, alloc, package::Permission::Yank, "yank", 2);
+}
+
+fn of_operator(
+    rt: &impl Abort,
+    alloc: Global,
+    permission: operator::Permission,
+    text: &str,
+    number: i32,
+) {
+    is_shown(rt, alloc, &permission, text);
+    assert_eq!(rt; operator::Permission::from_str(text), Ok(permission));
+    assert_eq!(rt; i32::from(&permission), number);
+    assert_eq!(rt; operator::Permission::try_from(number), Ok(permission));
 }
 
 #[test]
-fn operator_permissions(rt: HostRuntime) -> Result<(), Fail> {
-    for (permission, text, number) in [
-        (operator::Permission::Commit, "commit", 1),
-        (operator::Permission::DefineNamespace, "defineNamespace", 2),
-        (operator::Permission::ImportNamespace, "importNamespace", 3),
-    ] {
-        assert_eq!(rt; text_of(rt.alloc(), permission)?.as_str(), text);
-        assert_eq!(rt; operator::Permission::from_str(text), Ok(permission));
-        assert_eq!(rt; i32::from(&permission), number);
-        assert_eq!(rt; operator::Permission::try_from(number), Ok(permission));
-    }
-    Ok(())
+fn operator_permissions(rt: HostRuntime) {
+    let alloc = rt.alloc();
+    of_operator(&rt, alloc, operator::Permission::Commit, "commit", 1);
+    let define = operator::Permission::DefineNamespace;
+    of_operator(&rt, alloc, define, "defineNamespace", 2);
+    let import = operator::Permission::ImportNamespace;
+    of_operator(&rt, alloc, import, "importNamespace", 3);
+}
+
+fn is_told(rt: &impl Abort, alloc: Global, value: i32, text: &str) {
+    is_shown(rt, alloc, &PermissionParseError { value }, text);
 }
 
 #[test]
-fn texts_of_refusals(rt: HostRuntime) -> Result<(), Fail> {
-    assert_eq!(rt;
-        text_of(rt.alloc(), PermissionParseError { value: 0 })?.as_str(),
-        "the value 0 could not be parsed as a permission"
+fn texts_of_refusals(rt: HostRuntime) {
+    let alloc = rt.alloc();
+    is_told(
+        &rt,
+        alloc,
+        0,
+        "the value 0 could not be parsed as a permission",
     );
-    assert_eq!(rt;
-        text_of(rt.alloc(), PermissionParseError { value: -1 })?.as_str(),
-        "the value -1 could not be parsed as a permission"
+    is_told(
+        &rt,
+        alloc,
+        -1,
+        "the value -1 could not be parsed as a permission",
     );
-    assert_eq!(rt;
-        text_of(rt.alloc(), InvalidPermission)?.as_str(),
-        "InvalidPermission"
-    );
-    Ok(())
+    is_shown(&rt, alloc, &InvalidPermission, "InvalidPermission");
 }

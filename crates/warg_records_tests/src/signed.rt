@@ -4,8 +4,9 @@ use crate::samples::{
     ALICE_ID, empty_hash, key_id, operator_entries, operator_record, package_entries, package_init,
     package_record,
 };
+use crate::values::is_shown;
 use std::alloc::Global;
-use std::test::Fail;
+use std::process::Abort;
 use warg_crypto::Signable;
 use warg_crypto::signing::Signature;
 use warg_crypto::toy::ToySigner;
@@ -14,52 +15,55 @@ use warg_records::package::PackageRecord;
 use warg_records::registry::{Checkpoint, TimestampedCheckpoint};
 use warg_records::{ProtoEnvelope, Record, SerdeEnvelope};
 
-fn sealed<C: Signable + Drop>(alloc: Global, contents: C) -> Result<ProtoEnvelope<C>, Fail> {
-    let alice = ToySigner::new(alloc, b"alice")?;
-    Ok(ProtoEnvelope::signed_contents(alloc, &alice, contents)?)
+fn alice(rt: &impl Abort, alloc: Global) -> ToySigner {
+    ToySigner::new(alloc, b"alice").expect(rt, "memory")
 }
 
-fn read_back<C: Record>(
-    alloc: Global,
-    envelope: &ProtoEnvelope<C>,
-) -> Result<ProtoEnvelope<C>, Fail> {
-    let bytes = envelope.to_protobuf(alloc)?;
-    Ok(ProtoEnvelope::<C>::from_protobuf(alloc, bytes.as_slice())?)
+fn sealed<C: Signable + Drop>(rt: &impl Abort, alloc: Global, contents: C) -> ProtoEnvelope<C> {
+    let signed = ProtoEnvelope::signed_contents(alloc, &alice(rt, alloc), contents);
+    signed.expect(rt, "an envelope")
 }
 
-fn init_alone(alloc: Global) -> Result<PackageRecord, Fail> {
+fn bytes_of<C: Signable + Drop>(rt: &impl Abort, alloc: Global, contents: C) -> Vec<u8> {
+    let envelope = sealed(rt, alloc, contents);
+    envelope.to_protobuf(alloc).expect(rt, "memory")
+}
+
+// The envelope's bytes say it again.
+fn reads_back<C: Record + PartialEq>(rt: &impl Abort, alloc: Global, envelope: &ProtoEnvelope<C>) {
+    let bytes = envelope.to_protobuf(alloc).expect(rt, "memory");
+    let read = ProtoEnvelope::<C>::from_protobuf(alloc, bytes.as_slice());
+    let again = read.expect(rt, "an envelope");
+    assert!(rt; again == *envelope);
+}
+
+#[test]
+fn package_envelopes_read_back(rt: HostRuntime) {
+    let alloc = rt.alloc();
+    let record = package_record(package_entries(&rt, alloc));
+    reads_back(&rt, alloc, &sealed(&rt, alloc, record));
+}
+
+#[test]
+fn operator_envelopes_read_back(rt: HostRuntime) {
+    let alloc = rt.alloc();
+    let record = operator_record(operator_entries(&rt, alloc));
+    reads_back(&rt, alloc, &sealed(&rt, alloc, record));
+}
+
+fn init_alone(rt: &impl Abort, alloc: Global) -> PackageRecord {
     let mut entries = Vec::new(alloc);
-    entries.push(package_init(alloc)?)?;
-    Ok(package_record(entries))
-}
-
-#[test]
-fn package_envelopes_read_back(rt: HostRuntime) -> Result<(), Fail> {
-    let record = package_record(package_entries(rt.alloc())?);
-    let envelope = sealed(rt.alloc(), record)?;
-    let again = read_back(rt.alloc(), &envelope)?;
-    assert!(rt; again == envelope);
-    Ok(())
-}
-
-#[test]
-fn operator_envelopes_read_back(rt: HostRuntime) -> Result<(), Fail> {
-    let record = operator_record(operator_entries(rt.alloc())?);
-    let envelope = sealed(rt.alloc(), record)?;
-    let again = read_back(rt.alloc(), &envelope)?;
-    assert!(rt; again == envelope);
-    Ok(())
+    entries.push(package_init(rt, alloc)).expect(rt, "memory");
+    package_record(entries)
 }
 
 // The expected signature was computed by another program.
 #[test]
-fn bytes(rt: HostRuntime) -> Result<(), Fail> {
-    let envelope = sealed(rt.alloc(), init_alone(rt.alloc())?)?;
-    let bytes = envelope.to_protobuf(rt.alloc())?;
+fn bytes(rt: HostRuntime) {
+    let bytes = bytes_of(&rt, rt.alloc(), init_alone(&rt, rt.alloc()));
     let want =
         b"\x0a\x1e\x1a\x02\x08\x01\x22\x18\x0a\x16\x0a\x0ctoy:YWxpY2U=\x12\x06sha256\x12\x47sha256:6f03ae61d0fd3df261d400afe99bdcd613f266104552b6ad5281c7666633c6e2\x1a\x30toy:ElfFoRBk9PH+CmfrCH4x4/nJzA4J0pyDwUf8oZIHbnE=";
     assert_eq!(rt; bytes.as_slice(), want.as_slice());
-    Ok(())
 }
 
 // The prefix of each kind keeps its signatures apart from the other's.
@@ -69,24 +73,44 @@ fn prefixes(rt: HostRuntime) {
     assert_eq!(rt; OperatorRecord::PREFIX, "WARG-OPERATOR-RECORD-SIGNATURE-V0");
 }
 
-fn without_bytes<C: Signable + Drop>(alloc: Global, contents: C) -> Result<SerdeEnvelope<C>, Fail> {
-    let alice = ToySigner::new(alloc, b"alice")?;
-    Ok(SerdeEnvelope::signed_contents(alloc, &alice, contents)?)
+fn without_bytes<C: Signable + Drop>(
+    rt: &impl Abort,
+    alloc: Global,
+    contents: C,
+) -> SerdeEnvelope<C> {
+    let signed = SerdeEnvelope::signed_contents(alloc, &alice(rt, alloc), contents);
+    signed.expect(rt, "an envelope")
+}
+
+fn record_without_bytes(rt: &impl Abort, alloc: Global) -> SerdeEnvelope<PackageRecord> {
+    without_bytes(rt, alloc, init_alone(rt, alloc))
+}
+
+fn is_init_alone(rt: &impl Abort, alloc: Global, record: &PackageRecord) {
+    assert!(rt; *record == init_alone(rt, alloc));
 }
 
 #[test]
-fn records_without_bytes(rt: HostRuntime) -> Result<(), Fail> {
-    let envelope = without_bytes(rt.alloc(), init_alone(rt.alloc())?)?;
-    assert!(rt; *envelope.contents() == init_alone(rt.alloc())?);
+fn records_without_bytes(rt: HostRuntime) {
+    let alloc = rt.alloc();
+    let envelope = record_without_bytes(&rt, alloc);
+    is_init_alone(&rt, alloc, envelope.contents());
     assert_eq!(rt; envelope.key_id().as_str(), ALICE_ID);
-    assert_eq!(rt;
-        envelope.signature().to_string(rt.alloc())?.as_str(),
-        "toy:ElfFoRBk9PH+CmfrCH4x4/nJzA4J0pyDwUf8oZIHbnE="
+    is_shown(
+        &rt,
+        alloc,
+        envelope.signature(),
+        "toy:ElfFoRBk9PH+CmfrCH4x4/nJzA4J0pyDwUf8oZIHbnE=",
     );
-    let copy = envelope.try_clone()?;
+}
+
+#[test]
+fn copied_records_without_bytes(rt: HostRuntime) {
+    let alloc = rt.alloc();
+    let envelope = record_without_bytes(&rt, alloc);
+    let copy = envelope.try_clone().expect(&rt, "memory");
     assert!(rt; copy == envelope);
-    assert!(rt; copy.into_contents() == init_alone(rt.alloc())?);
-    Ok(())
+    is_init_alone(&rt, alloc, &copy.into_contents());
 }
 
 fn timestamped() -> TimestampedCheckpoint {
@@ -100,24 +124,41 @@ fn timestamped() -> TimestampedCheckpoint {
     }
 }
 
-fn unsigned(alloc: Global, key_text: &str) -> Result<SerdeEnvelope<TimestampedCheckpoint>, Fail> {
-    let key_id = key_id(alloc, key_text)?;
-    let signature = Signature::parse(alloc, "toy:")?;
-    Ok(SerdeEnvelope::from_parts_unchecked(timestamped(), key_id, signature))
+fn checkpoint_without_bytes(
+    rt: &impl Abort,
+    alloc: Global,
+) -> SerdeEnvelope<TimestampedCheckpoint> {
+    without_bytes(rt, alloc, timestamped())
 }
 
 #[test]
-fn checkpoints_without_bytes(rt: HostRuntime) -> Result<(), Fail> {
-    let envelope = without_bytes(rt.alloc(), timestamped())?;
+fn checkpoints_without_bytes(rt: HostRuntime) {
+    let envelope = checkpoint_without_bytes(&rt, rt.alloc());
     assert_eq!(rt; *envelope.contents(), timestamped());
-    assert_eq!(rt;
-        envelope.signature().to_string(rt.alloc())?.as_str(),
-        "toy:dXPor13RfZMcW3SzKV/yofD1ueQgH1DXjOwgKfXHzO4="
+    is_shown(
+        &rt,
+        rt.alloc(),
+        envelope.signature(),
+        "toy:dXPor13RfZMcW3SzKV/yofD1ueQgH1DXjOwgKfXHzO4=",
     );
-    let other = unsigned(rt.alloc(), ALICE_ID)?;
-    assert!(rt; other != envelope);
-    let copy = other.try_clone()?;
-    assert!(rt; copy == other);
-    assert!(rt; other != unsigned(rt.alloc(), "k")?);
-    Ok(())
+}
+
+fn unsigned(
+    rt: &impl Abort,
+    alloc: Global,
+    key_text: &str,
+) -> SerdeEnvelope<TimestampedCheckpoint> {
+    let signature = Signature::parse(alloc, "toy:").expect(rt, "a signature");
+    let key_id = key_id(rt, alloc, key_text);
+    SerdeEnvelope::from_parts_unchecked(timestamped(), key_id, signature)
+}
+
+#[test]
+fn unsigned_checkpoints(rt: HostRuntime) {
+    let alloc = rt.alloc();
+    let envelope = unsigned(&rt, alloc, ALICE_ID);
+    assert!(rt; envelope != checkpoint_without_bytes(&rt, alloc));
+    assert!(rt; envelope != unsigned(&rt, alloc, "k"));
+    let copy = envelope.try_clone().expect(&rt, "memory");
+    assert!(rt; copy == envelope);
 }
