@@ -1,5 +1,6 @@
 //! Envelopes whose contents are not read.
 
+use crate::values::is;
 use std::alloc::Global;
 use std::process::Abort;
 use warg_crypto::{Decode, DecodeError};
@@ -59,7 +60,7 @@ fn published_copies(rt: HostRuntime) {
 #[test]
 fn published_bodies(rt: HostRuntime) {
     let body = published_body(&rt, rt.alloc());
-    assert_eq!(rt; body.registry_index, 7);
+    is(&rt, body.registry_index, 7);
     let copy = body.try_clone().expect(&rt, "memory");
     assert!(rt; copy == body);
 }
@@ -82,7 +83,7 @@ fn foreign_body(rt: &impl Abort, alloc: Global) -> ProtoEnvelopeBody {
 fn refused_bodies(rt: HostRuntime) {
     let body = foreign_body(&rt, rt.alloc());
     let fault = ProtoEnvelope::<PackageRecord>::from_body(rt.alloc(), body).err();
-    assert_eq!(rt; fault, Some(DecodeError::Version));
+    is(&rt, fault, Some(DecodeError::Version));
 }
 
 #[test]
@@ -92,5 +93,5 @@ fn refused_published_bodies(rt: HostRuntime) {
         registry_index: 0,
     };
     let fault = PublishedProtoEnvelope::<PackageRecord>::from_body(rt.alloc(), body).err();
-    assert_eq!(rt; fault, Some(DecodeError::Version));
+    is(&rt, fault, Some(DecodeError::Version));
 }

@@ -1,7 +1,7 @@
 //! Checkpoints.
 
 use crate::samples::empty_hash;
-use crate::values::{is_encoded, is_shown};
+use crate::values::{is, is_encoded, is_shown};
 use std::alloc::Global;
 use std::process::Abort;
 use warg_crypto::hash::HashAlgorithm;
@@ -29,7 +29,7 @@ fn timestamped(timestamp: u64) -> TimestampedCheckpoint {
 fn encoding(rt: HostRuntime) {
     let want =
         b"WARG-CHECKPOINT-V0\xac\x02Gsha256:e3b0c44298fc1c149afbf4c8996fb92427ae41e4649b934ca495991b7852b855Gsha256:e3b0c44298fc1c149afbf4c8996fb92427ae41e4649b934ca495991b7852b855";
-    assert_eq!(rt; want.len(), 164);
+    is(&rt, want.len(), 164);
     is_encoded(&rt, rt.alloc(), &checkpoint(300), want.as_slice());
 }
 
@@ -47,10 +47,10 @@ fn order_of_roots(rt: HostRuntime) {
 fn timestamped_encoding(rt: HostRuntime) {
     let want =
         b"WARG-TIMESTAMPED-CHECKPOINT-V0\x00Gsha256:e3b0c44298fc1c149afbf4c8996fb92427ae41e4649b934ca495991b7852b855Gsha256:e3b0c44298fc1c149afbf4c8996fb92427ae41e4649b934ca495991b7852b855\x01";
-    assert_eq!(rt; want.len(), 176);
+    is(&rt, want.len(), 176);
     is_encoded(&rt, rt.alloc(), &timestamped(1), want.as_slice());
     let bytes = encoding_of(&rt, rt.alloc(), 1);
-    assert_eq!(rt; bytes.as_slice(), want.as_slice());
+    is(&rt, bytes.as_slice(), want.as_slice());
 }
 
 fn encoding_of(rt: &impl Abort, alloc: Global, timestamp: u64) -> Vec<u8> {
@@ -72,7 +72,7 @@ impl Clock for Five {
 }
 
 fn is_timed(rt: &impl Abort, time: Timestamp, want: Result<TimestampedCheckpoint, TimeError>) {
-    assert_eq!(rt; TimestampedCheckpoint::new(checkpoint(0), time), want);
+    is(rt, TimestampedCheckpoint::new(checkpoint(0), time), want);
 }
 
 #[test]
@@ -81,10 +81,8 @@ fn times(rt: HostRuntime) {
     is_timed(&rt, before, Err(TimeError::TimeBeforeEpoch));
     is_timed(&rt, Timestamp::new(0, 0), Ok(timestamped(0)));
     is_timed(&rt, Timestamp::new(1, 999_999_999), Ok(timestamped(1)));
-    assert_eq!(rt;
-        TimestampedCheckpoint::now(checkpoint(0), &mut Five),
-        Ok(timestamped(5))
-    );
+    let now = TimestampedCheckpoint::now(checkpoint(0), &mut Five);
+    is(&rt, now, Ok(timestamped(5)));
 }
 
 fn alice(rt: &impl Abort, alloc: Global) -> ToySigner {
@@ -105,10 +103,8 @@ fn is_signed(rt: &impl Abort, alloc: Global, content: &[u8], signature: &Signatu
 
 #[test]
 fn prefix(rt: HostRuntime) {
-    assert_eq!(rt;
-        TimestampedCheckpoint::PREFIX,
-        "WARG-CHECKPOINT-SIGNATURE-V0"
-    );
+    let prefix = TimestampedCheckpoint::PREFIX;
+    is(&rt, prefix, "WARG-CHECKPOINT-SIGNATURE-V0");
 }
 
 // The expected signature was computed by another program.

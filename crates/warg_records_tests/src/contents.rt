@@ -1,6 +1,7 @@
 //! What content bytes say as a record, and their first fault.
 
 use crate::samples::{EMPTY, package_init};
+use crate::values::is_of;
 use std::alloc::Global;
 use std::process::Abort;
 use warg_crypto::hash::{AnyHash, AnyHashError};
@@ -16,8 +17,8 @@ fn package(rt: &impl Abort, alloc: Global, content: &[u8]) -> PackageRecord {
 
 fn has_time(rt: &impl Abort, alloc: Global, content: &[u8], seconds: i64, nanos: u32) {
     let time = package(rt, alloc, content).timestamp;
-    assert_eq!(rt; time.seconds(), seconds, "{content:?}");
-    assert_eq!(rt; time.nanos(), nanos, "{content:?}");
+    is_of(rt, content, time.seconds(), seconds);
+    is_of(rt, content, time.nanos(), nanos);
 }
 
 #[test]
@@ -35,12 +36,12 @@ fn times(rt: HostRuntime) {
 
 fn is_no_package(rt: &impl Abort, alloc: Global, content: &[u8], want: DecodeError) {
     let fault = PackageRecord::decode(alloc, content).err();
-    assert_eq!(rt; fault, Some(want), "{content:?}");
+    is_of(rt, content, fault, Some(want));
 }
 
 fn is_no_operator(rt: &impl Abort, alloc: Global, content: &[u8], want: DecodeError) {
     let fault = OperatorRecord::decode(alloc, content).err();
-    assert_eq!(rt; fault, Some(want), "{content:?}");
+    is_of(rt, content, fault, Some(want));
 }
 
 fn is_no_wire(rt: &impl Abort, alloc: Global, content: &[u8], want: WireFault) {
@@ -65,7 +66,7 @@ fn cut_times(rt: HostRuntime) {
 
 fn has_version(rt: &impl Abort, alloc: Global, content: &[u8], want: u32) {
     let version = package(rt, alloc, content).version;
-    assert_eq!(rt; version, want, "{content:?}");
+    is_of(rt, content, version, want);
 }
 
 #[test]
@@ -103,7 +104,7 @@ fn texts_that_are_not_utf8(rt: HostRuntime) {
 
 fn has_prev(rt: &impl Abort, alloc: Global, content: &[u8], want: Option<RecordId>) {
     let prev = package(rt, alloc, content).prev;
-    assert_eq!(rt; prev, want, "{content:?}");
+    is_of(rt, content, prev, want);
 }
 
 #[test]

@@ -1,7 +1,7 @@
 //! Entries and their messages.
 
 use crate::samples::{ALICE, operator_entries, package_entries, package_grant};
-use crate::values::string;
+use crate::values::{is, string};
 use std::alloc::Global;
 use std::process::Abort;
 use warg_crypto::DecodeError;
@@ -16,7 +16,7 @@ fn grant(rt: &impl Abort, alloc: Global, bytes: &[u8]) -> message::PackageGrantF
 // The permissions of a grant's message are written again in the shorter form.
 fn is_packed(rt: &impl Abort, alloc: Global, bytes: &[u8]) {
     let packed = grant(rt, alloc, bytes).encode(alloc).expect(rt, "memory");
-    assert_eq!(rt; packed.as_slice(), b"\x12\x02\x01\x02".as_slice());
+    is(rt, packed.as_slice(), b"\x12\x02\x01\x02".as_slice());
 }
 
 // The message of an entry that grants what these bytes say to alice's key.
@@ -33,7 +33,7 @@ fn is_granted(rt: &impl Abort, alloc: Global, bytes: &[u8]) {
     let read = PackageEntry::from_proto(alloc, granting(rt, alloc, bytes));
     let entry = read.expect(rt, "an entry");
     let permissions = [Permission::Release, Permission::Yank];
-    assert_eq!(rt; entry, package_grant(rt, alloc, ALICE, &permissions));
+    is(rt, entry, package_grant(rt, alloc, ALICE, &permissions));
 }
 
 #[test]
@@ -47,7 +47,7 @@ fn read_permissions(rt: HostRuntime) {
 
 fn is_refused(rt: &impl Abort, alloc: Global, bytes: &[u8], value: i32) {
     let fault = PackageEntry::from_proto(alloc, granting(rt, alloc, bytes)).err();
-    assert_eq!(rt; fault, Some(DecodeError::Permission { value }));
+    is(rt, fault, Some(DecodeError::Permission { value }));
 }
 
 #[test]

@@ -1,6 +1,6 @@
 //! What bytes say as an envelope, and their first fault.
 
-use crate::values::is_shown;
+use crate::values::{is, is_of, is_shown};
 use std::alloc::Global;
 use std::process::Abort;
 use warg_crypto::DecodeError;
@@ -18,9 +18,9 @@ const LONG: &[u8] = b"\x0a\x05\x1a\x00\x10\x80\x00\x12\x01k\x1a\x04toy:";
 
 fn is_refused(rt: &impl Abort, alloc: Global, bytes: &[u8], want: ParseEnvelopeError) {
     let package = ProtoEnvelope::<PackageRecord>::from_protobuf(alloc, bytes).err();
-    assert_eq!(rt; package, Some(want), "{bytes:?}");
+    is_of(rt, bytes, package, Some(want));
     let operator = ProtoEnvelope::<OperatorRecord>::from_protobuf(alloc, bytes).err();
-    assert_eq!(rt; operator, Some(want), "{bytes:?}");
+    is_of(rt, bytes, operator, Some(want));
 }
 
 // A fault of the outer message is the first.
@@ -51,17 +51,17 @@ fn opened(rt: &impl Abort, alloc: Global, bytes: &[u8]) -> ProtoEnvelope<Package
 }
 
 fn is_smallest(rt: &impl Abort, envelope: &ProtoEnvelope<PackageRecord>) {
-    assert_eq!(rt; envelope.content_bytes(), b"\x1a\x00".as_slice());
-    assert_eq!(rt; envelope.key_id().as_str(), "k");
-    assert_eq!(rt; envelope.signature().algorithm(), "toy");
-    assert!(rt; envelope.signature().bytes().is_empty());
+    is(rt, envelope.content_bytes(), b"\x1a\x00".as_slice());
+    is(rt, envelope.key_id().as_str(), "k");
+    is(rt, envelope.signature().algorithm(), "toy");
+    is(rt, envelope.signature().bytes(), b"".as_slice());
 }
 
 fn says_nothing(rt: &impl Abort, record: &PackageRecord) {
-    assert_eq!(rt; record.timestamp.seconds(), 0);
-    assert_eq!(rt; record.version, 0);
-    assert_eq!(rt; record.prev, None);
-    assert!(rt; record.entries.is_empty());
+    is(rt, record.timestamp.seconds(), 0);
+    is(rt, record.version, 0);
+    is(rt, record.prev, None);
+    is(rt, record.entries.is_empty(), true);
 }
 
 fn is_copied(rt: &impl Abort, envelope: &ProtoEnvelope<PackageRecord>) {
@@ -82,12 +82,10 @@ fn parts(rt: HostRuntime) {
 fn kept_bytes(rt: HostRuntime) {
     let alloc = rt.alloc();
     let envelope = opened(&rt, alloc, LONG);
-    assert_eq!(rt;
-        envelope.content_bytes(),
-        b"\x1a\x00\x10\x80\x00".as_slice()
-    );
+    let content = b"\x1a\x00\x10\x80\x00";
+    is(&rt, envelope.content_bytes(), content.as_slice());
     let written = envelope.to_protobuf(alloc).expect(&rt, "memory");
-    assert_eq!(rt; written.as_slice(), LONG);
+    is(&rt, written.as_slice(), LONG);
 }
 
 #[test]

@@ -1,6 +1,7 @@
 //! JSON of what a registry names things by.
 
 use crate::samples::{EMPTY, empty_hash};
+use crate::values::is;
 use serde_json::Value;
 use std::alloc::Global;
 use std::fmt::Debug;
@@ -25,8 +26,8 @@ fn goes_both_ways<T: JsonValue + PartialEq + Debug + Drop>(
 ) {
     let written = value.to_value(alloc).expect(rt, json);
     let text = written.to_string(alloc).expect(rt, json);
-    assert_eq!(rt; text.as_str(), json);
-    assert_eq!(rt; read::<T>(rt, alloc, json), Ok(value));
+    is(rt, text.as_str(), json);
+    is(rt, read::<T>(rt, alloc, json), Ok(value));
 }
 
 fn is_refused<T: JsonValue + Drop>(rt: &impl Abort, alloc: Global, json: &str, want: JsonError) {

@@ -1,7 +1,7 @@
 //! The leaves of both trees.
 
 use crate::samples::empty_hash;
-use crate::values::is_encoded;
+use crate::values::{is, is_encoded};
 use std::alloc::Global;
 use std::process::Abort;
 use warg_crypto::VisitBytes;
@@ -13,7 +13,7 @@ fn shows<T: VisitBytes + VisitPrefixEncode>(rt: &impl Abort, alloc: Global, leaf
     is_encoded(rt, alloc, leaf, want);
     let mut bytes = Vec::new(alloc);
     leaf.visit_bv(&mut bytes).expect(rt, "memory");
-    assert_eq!(rt; bytes.as_slice(), want);
+    is(rt, bytes.as_slice(), want);
 }
 
 #[test]
@@ -23,7 +23,7 @@ fn map_leaf(rt: HostRuntime) {
     };
     let want =
         b"WARG-MAP-LEAF-V0Gsha256:e3b0c44298fc1c149afbf4c8996fb92427ae41e4649b934ca495991b7852b855";
-    assert_eq!(rt; want.len(), 88);
+    is(&rt, want.len(), 88);
     shows(&rt, rt.alloc(), &leaf, want.as_slice());
 }
 
@@ -35,6 +35,6 @@ fn log_leaf(rt: HostRuntime) {
     };
     let want =
         b"WARG-LOG-LEAF-V0Gsha256:e3b0c44298fc1c149afbf4c8996fb92427ae41e4649b934ca495991b7852b855Gsha256:e3b0c44298fc1c149afbf4c8996fb92427ae41e4649b934ca495991b7852b855";
-    assert_eq!(rt; want.len(), 160);
+    is(&rt, want.len(), 160);
     shows(&rt, rt.alloc(), &leaf, want.as_slice());
 }

@@ -1,6 +1,6 @@
 //! The ids of logs.
 
-use crate::values::{is_encoded, is_shown};
+use crate::values::{is, is_encoded, is_shown};
 use std::alloc::Global;
 use std::process::Abort;
 use warg_crypto::hash::{AnyHash, HashAlgorithm, Sha256};
@@ -39,7 +39,7 @@ fn ids(rt: HostRuntime) {
 fn hashes(rt: HostRuntime) {
     let hash = HashAlgorithm::Sha256.digest(b"");
     let id = LogId::from(hash);
-    assert_eq!(rt; AnyHash::from(id), hash);
-    assert_eq!(rt; id.as_bytes(), hash.bytes());
+    is(&rt, AnyHash::from(id), hash);
+    is(&rt, id.as_bytes(), hash.bytes());
     is_encoded(&rt, rt.alloc(), &id, hash.bytes());
 }

@@ -1,6 +1,6 @@
 //! The names of packages.
 
-use crate::values::{is_encoded, is_shown, string};
+use crate::values::{is, is_encoded, is_shown, string};
 use std::alloc::Global;
 use std::process::Abort;
 use warg_records::registry::{PackageName, PackageNameError};
@@ -11,9 +11,9 @@ fn named(rt: &impl Abort, alloc: Global, text: &str) -> PackageName {
 
 fn has_parts(rt: &impl Abort, alloc: Global, text: &str, namespace: &str, name: &str) {
     let parsed = named(rt, alloc, text);
-    assert_eq!(rt; parsed.namespace(), namespace);
-    assert_eq!(rt; parsed.name(), name);
-    assert_eq!(rt; parsed.as_str(), text);
+    is(rt, parsed.namespace(), namespace);
+    is(rt, parsed.name(), name);
+    is(rt, parsed.as_str(), text);
 }
 
 #[test]
@@ -45,9 +45,9 @@ fn refused_text(refused: Result<PackageName, PackageNameError>) -> Option<String
 
 fn is_refused(rt: &impl Abort, alloc: Global, text: &str) {
     let refused = refused_text(PackageName::new(alloc, text)).expect(rt, text);
-    assert_eq!(rt; refused.as_str(), text);
+    is(rt, refused.as_str(), text);
     let refused = refused_text(PackageName::parse(alloc, text)).expect(rt, text);
-    assert_eq!(rt; refused.as_str(), text);
+    is(rt, refused.as_str(), text);
 }
 
 #[test]
@@ -83,6 +83,6 @@ fn texts_of_refusals(rt: HostRuntime) {
 fn encoding(rt: HostRuntime) {
     let name = named(&rt, rt.alloc(), "foo:bar");
     let want = b"WARG-PACKAGE-ID-V0\x07foo:bar";
-    assert_eq!(rt; want.len(), 26);
+    is(&rt, want.len(), 26);
     is_encoded(&rt, rt.alloc(), &name, want.as_slice());
 }

@@ -1,6 +1,6 @@
 //! Permissions, as texts and as the numbers of messages.
 
-use crate::values::is_shown;
+use crate::values::{is, is_shown};
 use std::alloc::Global;
 use std::process::Abort;
 use std::str::FromStr;
@@ -14,9 +14,9 @@ fn of_package(
     number: i32,
 ) {
     is_shown(rt, alloc, &permission, text);
-    assert_eq!(rt; package::Permission::from_str(text), Ok(permission));
-    assert_eq!(rt; i32::from(&permission), number);
-    assert_eq!(rt; package::Permission::try_from(number), Ok(permission));
+    is(rt, package::Permission::from_str(text), Ok(permission));
+    is(rt, i32::from(&permission), number);
+    is(rt, package::Permission::try_from(number), Ok(permission));
 }
 
 #[test]
@@ -34,9 +34,9 @@ fn of_operator(
     number: i32,
 ) {
     is_shown(rt, alloc, &permission, text);
-    assert_eq!(rt; operator::Permission::from_str(text), Ok(permission));
-    assert_eq!(rt; i32::from(&permission), number);
-    assert_eq!(rt; operator::Permission::try_from(number), Ok(permission));
+    is(rt, operator::Permission::from_str(text), Ok(permission));
+    is(rt, i32::from(&permission), number);
+    is(rt, operator::Permission::try_from(number), Ok(permission));
 }
 
 #[test]

@@ -4,7 +4,7 @@ use crate::samples::{
     ALICE_ID, empty_hash, key_id, operator_entries, operator_record, package_entries, package_init,
     package_record,
 };
-use crate::values::is_shown;
+use crate::values::{is, is_shown};
 use std::alloc::Global;
 use std::process::Abort;
 use warg_crypto::Signable;
@@ -63,14 +63,22 @@ fn bytes(rt: HostRuntime) {
     let bytes = bytes_of(&rt, rt.alloc(), init_alone(&rt, rt.alloc()));
     let want =
         b"\x0a\x1e\x1a\x02\x08\x01\x22\x18\x0a\x16\x0a\x0ctoy:YWxpY2U=\x12\x06sha256\x12\x47sha256:6f03ae61d0fd3df261d400afe99bdcd613f266104552b6ad5281c7666633c6e2\x1a\x30toy:ElfFoRBk9PH+CmfrCH4x4/nJzA4J0pyDwUf8oZIHbnE=";
-    assert_eq!(rt; bytes.as_slice(), want.as_slice());
+    is(&rt, bytes.as_slice(), want.as_slice());
 }
 
 // The prefix of each kind keeps its signatures apart from the other's.
 #[test]
 fn prefixes(rt: HostRuntime) {
-    assert_eq!(rt; PackageRecord::PREFIX, "WARG-PACKAGE-RECORD-SIGNATURE-V0");
-    assert_eq!(rt; OperatorRecord::PREFIX, "WARG-OPERATOR-RECORD-SIGNATURE-V0");
+    is(
+        &rt,
+        PackageRecord::PREFIX,
+        "WARG-PACKAGE-RECORD-SIGNATURE-V0",
+    );
+    is(
+        &rt,
+        OperatorRecord::PREFIX,
+        "WARG-OPERATOR-RECORD-SIGNATURE-V0",
+    );
 }
 
 fn without_bytes<C: Signable + Drop>(
@@ -95,7 +103,7 @@ fn records_without_bytes(rt: HostRuntime) {
     let alloc = rt.alloc();
     let envelope = record_without_bytes(&rt, alloc);
     is_init_alone(&rt, alloc, envelope.contents());
-    assert_eq!(rt; envelope.key_id().as_str(), ALICE_ID);
+    is(&rt, envelope.key_id().as_str(), ALICE_ID);
     is_shown(
         &rt,
         alloc,
@@ -134,7 +142,7 @@ fn checkpoint_without_bytes(
 #[test]
 fn checkpoints_without_bytes(rt: HostRuntime) {
     let envelope = checkpoint_without_bytes(&rt, rt.alloc());
-    assert_eq!(rt; *envelope.contents(), timestamped());
+    is(&rt, *envelope.contents(), timestamped());
     is_shown(
         &rt,
         rt.alloc(),

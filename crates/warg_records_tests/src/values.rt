@@ -1,7 +1,7 @@
 //! What is checked of any value.
 
 use std::alloc::Global;
-use std::fmt::Display;
+use std::fmt::{Debug, Display};
 use std::process::Abort;
 use warg_crypto::VisitBytes;
 
@@ -9,15 +9,25 @@ pub(crate) fn string(rt: &impl Abort, alloc: Global, text: &str) -> String {
     String::from_str(alloc, text).expect(rt, "memory")
 }
 
+// The value is this one.
+pub(crate) fn is<T: PartialEq + Debug + Drop>(rt: &impl Abort, value: T, want: T) {
+    assert_eq!(rt; value, want);
+}
+
+// It is what was found of these bytes.
+pub(crate) fn is_of<T: PartialEq + Debug + Drop>(rt: &impl Abort, bytes: &[u8], found: T, want: T) {
+    assert_eq!(rt; found, want, "{bytes:?}");
+}
+
 // The value's text is this one.
 pub(crate) fn is_shown(rt: &impl Abort, alloc: Global, value: &impl Display, want: &str) {
     let shown = value.to_string(alloc).expect(rt, want);
-    assert_eq!(rt; shown.as_str(), want);
+    is(rt, shown.as_str(), want);
 }
 
 // The bytes are what a visitor sees of the value.
 pub(crate) fn is_encoded<T: VisitBytes>(rt: &impl Abort, alloc: Global, value: &T, want: &[u8]) {
     let mut bytes = Vec::new(alloc);
     value.visit(&mut bytes).expect(rt, "memory");
-    assert_eq!(rt; bytes.as_slice(), want);
+    is(rt, bytes.as_slice(), want);
 }

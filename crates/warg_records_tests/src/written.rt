@@ -1,7 +1,7 @@
 //! Records as content bytes, and what they mention.
 
 use crate::samples::{operator_entries, operator_record, package_entries, package_record, release};
-use crate::values::is_shown;
+use crate::values::{is, is_shown};
 use std::alloc::Global;
 use std::process::Abort;
 use warg_crypto::hash::{AnyHash, HashAlgorithm};
@@ -96,7 +96,7 @@ fn mentions<C: Record>(rt: &impl Abort, alloc: Global, record: &C, want: &[AnyHa
     for hash in &record.contents(alloc).expect(rt, "memory") {
         hashes.push(*hash).expect(rt, "memory");
     }
-    assert_eq!(rt; hashes.as_slice(), want);
+    is(rt, hashes.as_slice(), want);
 }
 
 fn releases(rt: &impl Abort, alloc: Global, contents: &[&[u8]]) -> PackageRecord {
