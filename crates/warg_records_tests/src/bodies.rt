@@ -1,6 +1,6 @@
 //! Envelopes whose contents are not read.
 
-use crate::values::is;
+use crate::values::{is, same};
 use std::alloc::Global;
 use std::process::Abort;
 use warg_crypto::{Decode, DecodeError};
@@ -28,14 +28,14 @@ fn copied(rt: &impl Abort, body: &ProtoEnvelopeBody) -> ProtoEnvelopeBody {
 fn is_opened(rt: &impl Abort, alloc: Global, body: &ProtoEnvelopeBody) {
     let read = ProtoEnvelope::<OperatorRecord>::from_body(alloc, copied(rt, body));
     let envelope = read.expect(rt, "an envelope");
-    assert!(rt; envelope == opened(rt, alloc, SMALLEST));
-    assert!(rt; ProtoEnvelopeBody::from(envelope) == *body);
+    same(rt, &envelope, &opened(rt, alloc, SMALLEST));
+    same(rt, &ProtoEnvelopeBody::from(envelope), body);
 }
 
 #[test]
 fn bodies_read_back(rt: HostRuntime) {
     let body = body(&rt, rt.alloc(), SMALLEST);
-    assert!(rt; copied(&rt, &body) == body);
+    same(&rt, &copied(&rt, &body), &body);
     is_opened(&rt, rt.alloc(), &body);
 }
 
@@ -54,7 +54,7 @@ fn published_body(rt: &impl Abort, alloc: Global) -> PublishedProtoEnvelopeBody 
 fn published_copies(rt: HostRuntime) {
     let published = published(&rt, rt.alloc());
     let copy = published.try_clone().expect(&rt, "memory");
-    assert!(rt; copy == published);
+    same(&rt, &copy, &published);
 }
 
 #[test]
@@ -62,7 +62,7 @@ fn published_bodies(rt: HostRuntime) {
     let body = published_body(&rt, rt.alloc());
     is(&rt, body.registry_index, 7);
     let copy = body.try_clone().expect(&rt, "memory");
-    assert!(rt; copy == body);
+    same(&rt, &copy, &body);
 }
 
 #[test]
@@ -71,7 +71,7 @@ fn published_bodies_read_back(rt: HostRuntime) {
     let body = published_body(&rt, alloc);
     let read = PublishedProtoEnvelope::<OperatorRecord>::from_body(alloc, body);
     let again = read.expect(&rt, "an envelope");
-    assert!(rt; again == published(&rt, alloc));
+    same(&rt, &again, &published(&rt, alloc));
 }
 
 // An operator's entry that is none of a package's, in an operator's body.

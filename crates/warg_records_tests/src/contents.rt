@@ -1,7 +1,7 @@
 //! What content bytes say as a record, and their first fault.
 
 use crate::samples::{EMPTY, package_init};
-use crate::values::is_of;
+use crate::values::{is, is_of};
 use std::alloc::Global;
 use std::process::Abort;
 use warg_crypto::hash::{AnyHash, AnyHashError};
@@ -203,5 +203,5 @@ fn joined_pieces_of_an_init(rt: HostRuntime) {
         b"\x1a\x00\x22\x28\x0a\x16\x0a\x0ctoy:YWxpY2U=\x12\x06sha256\x0a\x0e\x0a\x0ctoy:YWxpY2U=";
     let record = package(&rt, rt.alloc(), content);
     let init = package_init(&rt, rt.alloc());
-    assert_eq!(rt; record.entries.as_slice(), [init].as_slice());
+    is(&rt, record.entries.as_slice(), [init].as_slice());
 }

@@ -1,7 +1,7 @@
 //! Entries and their messages.
 
 use crate::samples::{ALICE, operator_entries, package_entries, package_grant};
-use crate::values::{is, string};
+use crate::values::{is, same, string};
 use std::alloc::Global;
 use std::process::Abort;
 use warg_crypto::DecodeError;
@@ -62,9 +62,8 @@ fn refused_permissions(rt: HostRuntime) {
 fn package_entry_reads_back(rt: &impl Abort, alloc: Global, entry: &PackageEntry) {
     let message = entry.to_proto(alloc).expect(rt, "memory");
     let read = PackageEntry::from_proto(alloc, message);
-    assert!(rt; read.expect(rt, "an entry") == *entry);
-    let copy = entry.try_clone().expect(rt, "memory");
-    assert!(rt; copy == *entry);
+    same(rt, &read.expect(rt, "an entry"), entry);
+    same(rt, &entry.try_clone().expect(rt, "memory"), entry);
 }
 
 #[test]
@@ -77,9 +76,8 @@ fn package_entries_read_back(rt: HostRuntime) {
 fn operator_entry_reads_back(rt: &impl Abort, alloc: Global, entry: &OperatorEntry) {
     let message = entry.to_proto(alloc).expect(rt, "memory");
     let read = OperatorEntry::from_proto(alloc, message);
-    assert!(rt; read.expect(rt, "an entry") == *entry);
-    let copy = entry.try_clone().expect(rt, "memory");
-    assert!(rt; copy == *entry);
+    same(rt, &read.expect(rt, "an entry"), entry);
+    same(rt, &entry.try_clone().expect(rt, "memory"), entry);
 }
 
 #[test]

@@ -1,6 +1,6 @@
 //! What bytes say as an envelope, and their first fault.
 
-use crate::values::{is, is_of, is_shown};
+use crate::values::{differ, is, is_of, is_shown, same};
 use std::alloc::Global;
 use std::process::Abort;
 use warg_crypto::DecodeError;
@@ -65,8 +65,7 @@ fn says_nothing(rt: &impl Abort, record: &PackageRecord) {
 }
 
 fn is_copied(rt: &impl Abort, envelope: &ProtoEnvelope<PackageRecord>) {
-    let copy = envelope.try_clone().expect(rt, "memory");
-    assert!(rt; copy == *envelope);
+    same(rt, &envelope.try_clone().expect(rt, "memory"), envelope);
 }
 
 #[test]
@@ -92,8 +91,8 @@ fn kept_bytes(rt: HostRuntime) {
 fn envelopes_of_one_record(rt: HostRuntime) {
     let long = opened(&rt, rt.alloc(), LONG);
     let short = opened(&rt, rt.alloc(), SMALLEST);
-    assert!(rt; *long.contents() == *short.contents());
-    assert!(rt; long != short);
+    same(&rt, long.contents(), short.contents());
+    differ(&rt, &long, &short);
 }
 
 #[test]

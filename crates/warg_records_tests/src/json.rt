@@ -1,7 +1,7 @@
 //! JSON of what a registry names things by.
 
 use crate::samples::{EMPTY, empty_hash};
-use crate::values::is;
+use crate::values::{is, is_of_text};
 use serde_json::Value;
 use std::alloc::Global;
 use std::fmt::Debug;
@@ -31,7 +31,7 @@ fn goes_both_ways<T: JsonValue + PartialEq + Debug + Drop>(
 }
 
 fn is_refused<T: JsonValue + Drop>(rt: &impl Abort, alloc: Global, json: &str, want: JsonError) {
-    assert_eq!(rt; read::<T>(rt, alloc, json).err(), Some(want), "{json}");
+    is_of_text(rt, json, read::<T>(rt, alloc, json).err(), Some(want));
 }
 
 const EMPTY_JSON: &str =

@@ -1,6 +1,6 @@
 //! The names of packages.
 
-use crate::values::{is, is_encoded, is_shown, string};
+use crate::values::{is, is_encoded, is_shown, same, string};
 use std::alloc::Global;
 use std::process::Abort;
 use warg_records::registry::{PackageName, PackageNameError};
@@ -29,9 +29,9 @@ fn parts(rt: HostRuntime) {
 fn copies(rt: HostRuntime) {
     let alloc = rt.alloc();
     let name = named(&rt, alloc, "foo:bar");
-    assert_eq!(rt; name.try_clone().expect(&rt, "memory"), name);
+    same(&rt, &name.try_clone().expect(&rt, "memory"), &name);
     let parsed = PackageName::parse(alloc, "foo:bar").expect(&rt, "a name");
-    assert_eq!(rt; parsed, name);
+    same(&rt, &parsed, &name);
     is_shown(&rt, alloc, &name, "foo:bar");
 }
 

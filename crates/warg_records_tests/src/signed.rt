@@ -4,7 +4,7 @@ use crate::samples::{
     ALICE_ID, empty_hash, key_id, operator_entries, operator_record, package_entries, package_init,
     package_record,
 };
-use crate::values::{is, is_shown};
+use crate::values::{differ, is, is_shown, same};
 use std::alloc::Global;
 use std::process::Abort;
 use warg_crypto::Signable;
@@ -34,7 +34,7 @@ fn reads_back<C: Record + PartialEq>(rt: &impl Abort, alloc: Global, envelope: &
     let bytes = envelope.to_protobuf(alloc).expect(rt, "memory");
     let read = ProtoEnvelope::<C>::from_protobuf(alloc, bytes.as_slice());
     let again = read.expect(rt, "an envelope");
-    assert!(rt; again == *envelope);
+    same(rt, &again, envelope);
 }
 
 #[test]
@@ -95,7 +95,7 @@ fn record_without_bytes(rt: &impl Abort, alloc: Global) -> SerdeEnvelope<Package
 }
 
 fn is_init_alone(rt: &impl Abort, alloc: Global, record: &PackageRecord) {
-    assert!(rt; *record == init_alone(rt, alloc));
+    same(rt, record, &init_alone(rt, alloc));
 }
 
 #[test]
@@ -117,7 +117,7 @@ fn copied_records_without_bytes(rt: HostRuntime) {
     let alloc = rt.alloc();
     let envelope = record_without_bytes(&rt, alloc);
     let copy = envelope.try_clone().expect(&rt, "memory");
-    assert!(rt; copy == envelope);
+    same(&rt, &copy, &envelope);
     is_init_alone(&rt, alloc, &copy.into_contents());
 }
 
@@ -165,8 +165,8 @@ fn unsigned(
 fn unsigned_checkpoints(rt: HostRuntime) {
     let alloc = rt.alloc();
     let envelope = unsigned(&rt, alloc, ALICE_ID);
-    assert!(rt; envelope != checkpoint_without_bytes(&rt, alloc));
-    assert!(rt; envelope != unsigned(&rt, alloc, "k"));
+    differ(&rt, &envelope, &checkpoint_without_bytes(&rt, alloc));
+    differ(&rt, &envelope, &unsigned(&rt, alloc, "k"));
     let copy = envelope.try_clone().expect(&rt, "memory");
-    assert!(rt; copy == envelope);
+    same(&rt, &copy, &envelope);
 }

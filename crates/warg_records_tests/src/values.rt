@@ -19,6 +19,25 @@ pub(crate) fn is_of<T: PartialEq + Debug + Drop>(rt: &impl Abort, bytes: &[u8], 
     assert_eq!(rt; found, want, "{bytes:?}");
 }
 
+// Both values are the same.
+pub(crate) fn same<T: PartialEq>(rt: &impl Abort, value: &T, other: &T) {
+    assert!(rt; *value == *other);
+}
+
+pub(crate) fn differ<T: PartialEq>(rt: &impl Abort, value: &T, other: &T) {
+    assert!(rt; *value != *other);
+}
+
+// It is what was found of this text.
+pub(crate) fn is_of_text<T: PartialEq + Debug + Drop>(
+    rt: &impl Abort,
+    text: &str,
+    found: T,
+    want: T,
+) {
+    assert_eq!(rt; found, want, "{text}");
+}
+
 // The value's text is this one.
 pub(crate) fn is_shown(rt: &impl Abort, alloc: Global, value: &impl Display, want: &str) {
     let shown = value.to_string(alloc).expect(rt, want);
