@@ -1,15 +1,16 @@
 //! Which error a part's fault becomes.
 
+use crate::values::is;
 use std::process::Abort;
 use warg_crypto::signing::KeyParseError;
 use warg_crypto::{DecodeError, WireFault};
 
 fn wire_becomes(rt: &impl Abort, fault: WireFault, want: DecodeError) {
-    assert_eq!(rt; DecodeError::from(fault), want);
+    is(rt, DecodeError::from(fault), want);
 }
 
 fn key_becomes(rt: &impl Abort, fault: KeyParseError, want: DecodeError) {
-    assert_eq!(rt; DecodeError::from(fault), want);
+    is(rt, DecodeError::from(fault), want);
 }
 
 #[test]

@@ -1,6 +1,6 @@
 //! Hashes and their texts.
 
-use crate::values::{bytes, is_shown};
+use crate::values::{bytes, is, is_of, is_shown};
 use std::alloc::Global;
 use std::process::Abort;
 use warg_crypto::hash::{
@@ -15,7 +15,7 @@ const EMPTY_IN_UPPER_CASE: &str =
 const ZEROS: &str = "sha256:0000000000000000000000000000000000000000000000000000000000000000";
 
 fn names(rt: &impl Abort, text: &str, want: Result<HashAlgorithm, UnknownAlgorithm>) {
-    assert_eq!(rt; text.parse::<HashAlgorithm>(), want, "{text}");
+    is_of(rt, text, text.parse::<HashAlgorithm>(), want);
 }
 
 #[test]
@@ -29,7 +29,7 @@ fn algorithms(rt: HostRuntime) {
 }
 
 fn spells(rt: &impl Abort, text: &str, want: Result<AnyHash, AnyHashError>) {
-    assert_eq!(rt; text.parse::<AnyHash>(), want, "{text}");
+    is_of(rt, text, text.parse::<AnyHash>(), want);
 }
 
 #[test]
@@ -46,7 +46,7 @@ fn refused_texts(rt: HostRuntime) {
 
 fn has_text(rt: &impl Abort, alloc: Global, hash: AnyHash, text: &str) {
     is_shown(rt, alloc, &hash, text);
-    assert_eq!(rt; hash.write_text(&mut [0; 71]), text);
+    is(rt, hash.write_text(&mut [0; 71]), text);
     spells(rt, text, Ok(hash));
 }
 

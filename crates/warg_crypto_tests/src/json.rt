@@ -1,5 +1,6 @@
 //! What is checked of any value with JSON.
 
+use crate::values::{is, is_of};
 use serde_json::Value;
 use std::alloc::Global;
 use std::fmt::Debug;
@@ -7,35 +8,35 @@ use std::process::Abort;
 use warg_crypto::{JsonError, JsonValue};
 
 /// The value of a JSON text.
-pub fn json(rt: &impl Abort, alloc: Global, text: &str) -> Value {
+pub(crate) fn json(rt: &impl Abort, alloc: Global, text: &str) -> Value {
     Value::from_str(alloc, text).expect(rt, text)
 }
 
 /// The text is what the JSON is written as.
-pub fn is_json(rt: &impl Abort, alloc: Global, value: &Value, text: &str) {
+pub(crate) fn is_json(rt: &impl Abort, alloc: Global, value: &Value, text: &str) {
     let written = value.to_string(alloc).expect(rt, text);
-    assert_eq!(rt; written.as_str(), text);
+    is(rt, written.as_str(), text);
 }
 
 /// The JSON is what is written of the value.
-pub fn is_written<T: JsonValue>(rt: &impl Abort, alloc: Global, value: &T, text: &str) {
+pub(crate) fn is_written<T: JsonValue>(rt: &impl Abort, alloc: Global, value: &T, text: &str) {
     let written = value.to_value(alloc).expect(rt, text);
     is_json(rt, alloc, &written, text);
 }
 
 /// The JSON is read as the value, or refused.
-pub fn is_read<T: JsonValue + PartialEq + Debug + Drop>(
+pub(crate) fn is_read<T: JsonValue + PartialEq + Debug + Drop>(
     rt: &impl Abort,
     alloc: Global,
     text: &str,
     want: Result<T, JsonError>,
 ) {
     let read = T::from_value(alloc, &json(rt, alloc, text));
-    assert_eq!(rt; read, want, "{text}");
+    is_of(rt, text, read, want);
 }
 
 /// The JSON is what is written of the value, and is read as it.
-pub fn goes_both_ways<T: JsonValue + PartialEq + Debug + Drop>(
+pub(crate) fn goes_both_ways<T: JsonValue + PartialEq + Debug + Drop>(
     rt: &impl Abort,
     alloc: Global,
     text: &str,
@@ -46,7 +47,7 @@ pub fn goes_both_ways<T: JsonValue + PartialEq + Debug + Drop>(
 }
 
 /// The JSON is refused.
-pub fn is_refused<T: JsonValue + PartialEq + Debug + Drop>(
+pub(crate) fn is_refused<T: JsonValue + PartialEq + Debug + Drop>(
     rt: &impl Abort,
     alloc: Global,
     text: &str,

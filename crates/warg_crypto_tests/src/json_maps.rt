@@ -1,6 +1,7 @@
 //! Lists, and objects as maps.
 
 use crate::json::{is_json, json};
+use crate::values::{is, is_of};
 use std::alloc::Global;
 use std::process::Abort;
 use warg_crypto::JsonError;
@@ -12,7 +13,7 @@ use warg_crypto::signing::KeyID;
 fn is_list(rt: &impl Abort, alloc: Global, text: &str, want: &[u32]) {
     let read = list_in::<u32>(alloc, &json(rt, alloc, text));
     let list = read.expect(rt, text);
-    assert_eq!(rt; list.as_slice(), want, "{text}");
+    is_of(rt, text, list.as_slice(), want);
     let written = list_value(alloc, want).expect(rt, text);
     is_json(rt, alloc, &written, text);
 }
@@ -26,7 +27,7 @@ fn lists(rt: HostRuntime) {
 
 fn is_no_list(rt: &impl Abort, alloc: Global, text: &str) {
     let fault = list_in::<u32>(alloc, &json(rt, alloc, text)).err();
-    assert_eq!(rt; fault, Some(JsonError::WrongType), "{text}");
+    is_of(rt, text, fault, Some(JsonError::WrongType));
 }
 
 #[test]
@@ -45,20 +46,20 @@ fn pairs(rt: &impl Abort, alloc: Global, text: &str) -> Vec<(KeyID, u32)> {
 fn is_pair(rt: &impl Abort, alloc: Global, pair: Option<&(KeyID, u32)>, name: &str, number: u32) {
     let (key, value) = pair.expect(rt, name);
     let written = key.to_name(alloc).expect(rt, name);
-    assert_eq!(rt; written.as_str(), name);
-    assert_eq!(rt; *value, number);
+    is(rt, written.as_str(), name);
+    is(rt, *value, number);
 }
 
 #[test]
 fn maps(rt: HostRuntime) {
     let alloc = rt.alloc();
     let read = pairs(&rt, alloc, "{\"m\":{\"b\":1,\"a\":2}}");
-    assert_eq!(rt; read.len(), 2);
+    is(&rt, read.len(), 2);
     is_pair(&rt, alloc, read.get(0), "a", 2);
     is_pair(&rt, alloc, read.get(1), "b", 1);
     let written = pairs_value(alloc, read.as_slice()).expect(&rt, "memory");
     is_json(&rt, alloc, &written, "{\"a\":2,\"b\":1}");
-    assert!(rt; pairs(&rt, alloc, "{}").is_empty());
+    is(&rt, pairs(&rt, alloc, "{}").len(), 0);
 }
 
 #[test]
@@ -69,12 +70,12 @@ fn names(rt: HostRuntime) {
     let read = pairs_of::<KeyID, u32>(alloc, members).expect(&rt, "pairs");
     is_pair(&rt, alloc, read.get(0), "any name", 7);
     let id = KeyID::from_name(alloc, "a").expect(&rt, "memory");
-    assert_eq!(rt; id.as_str(), "a");
+    is(&rt, id.as_str(), "a");
 }
 
 fn is_no_map(rt: &impl Abort, alloc: Global, text: &str) {
     let fault = pairs_in::<KeyID, u32>(alloc, &json(rt, alloc, text)).err();
-    assert_eq!(rt; fault, Some(JsonError::WrongType), "{text}");
+    is_of(rt, text, fault, Some(JsonError::WrongType));
 }
 
 #[test]

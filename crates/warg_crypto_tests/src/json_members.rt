@@ -1,6 +1,7 @@
 //! Members of objects.
 
 use crate::json::{is_json, json};
+use crate::values::{is, is_of};
 use serde_json::Map;
 use std::alloc::Global;
 use std::process::Abort;
@@ -22,7 +23,7 @@ fn has_member(
         Ok(value) => u32::from_value(alloc, value),
         Err(fault) => Err(fault),
     };
-    assert_eq!(rt; read, want, "{name} in {text}");
+    is_of(rt, (name, text), read, want);
 }
 
 #[test]
@@ -43,7 +44,7 @@ fn may_have_member(
 ) {
     let object = json(rt, alloc, text);
     let read = optional_member::<u32>(alloc, &object, name);
-    assert_eq!(rt; read, want, "{name} in {text}");
+    is_of(rt, (name, text), read, want);
 }
 
 #[test]
@@ -54,7 +55,7 @@ fn members_that_may_be_missing(rt: HostRuntime) {
     may_have_member(&rt, alloc, "{\"n\":null}", "n", Ok(None));
     may_have_member(&rt, alloc, "{\"t\":\"1\"}", "t", Err(JsonError::WrongType));
     may_have_member(&rt, alloc, "[1]", "a", Err(JsonError::WrongType));
-    assert_eq!(rt; optional::<u32>(alloc, None), Ok(None));
+    is(&rt, optional::<u32>(alloc, None), Ok(None));
 }
 
 #[test]
@@ -62,10 +63,14 @@ fn put_members(rt: HostRuntime) {
     let alloc = rt.alloc();
     let mut map = Map::new(alloc);
     let text = text_value(alloc, "x").expect(&rt, "memory");
-    assert_eq!(rt; put_value(&mut map, alloc, "b", &1u32), Ok(()));
-    assert_eq!(rt; put_optional(&mut map, alloc, "c", &Some(2u32)), Ok(()));
-    assert_eq!(rt; put_optional::<u32>(&mut map, alloc, "d", &None), Ok(()));
-    assert_eq!(rt; put_member(&mut map, alloc, "a", text), Ok(()));
+    is(&rt, put_value(&mut map, alloc, "b", &1u32), Ok(()));
+    is(&rt, put_optional(&mut map, alloc, "c", &Some(2u32)), Ok(()));
+    is(
+        &rt,
+        put_optional::<u32>(&mut map, alloc, "d", &None),
+        Ok(()),
+    );
+    is(&rt, put_member(&mut map, alloc, "a", text), Ok(()));
     is_json(
         &rt,
         alloc,

@@ -1,7 +1,7 @@
 //! JSON of the values that are written as their text.
 
 use crate::json::{goes_both_ways, is_read, is_refused};
-use crate::values::{id, key, signature};
+use crate::values::{id, is, key, signature};
 use std::alloc::Global;
 use std::fmt::Debug;
 use std::process::Abort;
@@ -73,5 +73,5 @@ fn times(rt: HostRuntime) {
     let late = "\"9223372036854775807.1000000000\"";
     is_refused::<Timestamp>(&rt, alloc, late, JsonError::TimeOutOfRange);
     let before = Timestamp::new(-1, 0).to_value(alloc).err();
-    assert_eq!(rt; before, Some(JsonError::TimeBeforeEpoch));
+    is(&rt, before, Some(JsonError::TimeBeforeEpoch));
 }

@@ -2,15 +2,15 @@
 
 ghost use Rattle.std.specs.Prelude.{◌≡◌, codes, string_bytes};
 
-use crate::values::{bytes, id, is_shown, key, signature};
+use crate::values::{bytes, differ, id, is, is_of, is_shown, key, same, signature};
 use std::alloc::Global;
 use std::process::Abort;
 use warg_crypto::signing::{KeyParseError, PublicKey, Signature, SignatureParseError};
 
 fn is_key(rt: &impl Abort, alloc: Global, text: &str, name: &str, bytes: &[u8]) {
     let key = key(rt, alloc, text);
-    assert_eq!(rt; key.algorithm(), name);
-    assert_eq!(rt; key.bytes(), bytes);
+    is(rt, key.algorithm(), name);
+    is(rt, key.bytes(), bytes);
     is_shown(rt, alloc, &key, text);
 }
 
@@ -24,8 +24,8 @@ fn keys(rt: HostRuntime) {
 
 fn is_signature(rt: &impl Abort, alloc: Global, text: &str, name: &str, bytes: &[u8]) {
     let signature = signature(rt, alloc, text);
-    assert_eq!(rt; signature.algorithm(), name);
-    assert_eq!(rt; signature.bytes(), bytes);
+    is(rt, signature.algorithm(), name);
+    is(rt, signature.bytes(), bytes);
     is_shown(rt, alloc, &signature, text);
 }
 
@@ -63,8 +63,8 @@ fn copied_keys(rt: HostRuntime) {
     let alloc = rt.alloc();
     let alice = key(&rt, alloc, "toy:YWxpY2U=");
     let copy = alice.try_clone().expect(&rt, "memory");
-    assert_eq!(rt; copy, alice);
-    assert_ne!(rt; key(&rt, alloc, "toy:"), alice);
+    same(&rt, &copy, &alice);
+    differ(&rt, &key(&rt, alloc, "toy:"), &alice);
 }
 
 #[test]
@@ -72,12 +72,12 @@ fn copied_signatures(rt: HostRuntime) {
     let alloc = rt.alloc();
     let read = signature(&rt, alloc, "toy:AAEC");
     let copy = read.try_clone().expect(&rt, "memory");
-    assert_eq!(rt; copy, read);
-    assert_ne!(rt; signature(&rt, alloc, "toz:AAEC"), read);
+    same(&rt, &copy, &read);
+    differ(&rt, &signature(&rt, alloc, "toz:AAEC"), &read);
 }
 
 fn is_no_key(rt: &impl Abort, alloc: Global, text: &str, want: KeyParseError) {
-    assert_eq!(rt; PublicKey::parse(alloc, text).err(), Some(want), "{text}");
+    is_of(rt, text, PublicKey::parse(alloc, text).err(), Some(want));
 }
 
 #[test]
@@ -92,7 +92,7 @@ fn refused_keys(rt: HostRuntime) {
 }
 
 fn is_no_signature(rt: &impl Abort, alloc: Global, text: &str, want: SignatureParseError) {
-    assert_eq!(rt; Signature::parse(alloc, text).err(), Some(want), "{text}");
+    is_of(rt, text, Signature::parse(alloc, text).err(), Some(want));
 }
 
 #[test]
@@ -110,7 +110,7 @@ fn ids(rt: HostRuntime) {
     let any = id(&rt, alloc, "any text: at all");
     is_shown(&rt, alloc, &any, "any text: at all");
     let copy = any.try_clone().expect(&rt, "memory");
-    assert_eq!(rt; copy, any);
+    same(&rt, &copy, &any);
 }
 
 #[test]

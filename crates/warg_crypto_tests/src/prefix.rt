@@ -1,6 +1,6 @@
 //! Prefix encoding.
 
-use crate::values::bytes;
+use crate::values::{bytes, is, is_of};
 use std::alloc::{AllocError, Global};
 use std::process::Abort;
 use warg_crypto::hash::{AnyHash, Hash, HashAlgorithm, Sha256};
@@ -10,8 +10,8 @@ use warg_crypto::{ByteVisitor, VisitBytes};
 fn is_number(rt: &impl Abort, alloc: Global, number: u64, want: &[u8]) {
     let mut seen = bytes(rt, alloc, b"");
     let visit = PrefixEncodeVisitor::new(&mut seen).visit_unsigned(number);
-    assert_eq!(rt; visit, Ok(()));
-    assert_eq!(rt; seen.as_slice(), want, "{number}");
+    is(rt, visit, Ok(()));
+    is_of(rt, number, seen.as_slice(), want);
 }
 
 #[test]
@@ -32,15 +32,15 @@ fn numbers(rt: HostRuntime) {
 fn is_text(rt: &impl Abort, alloc: Global, text: &str, want: &[u8]) {
     let mut seen = bytes(rt, alloc, b"");
     let visit = PrefixEncodeVisitor::new(&mut seen).visit_str(text);
-    assert_eq!(rt; visit, Ok(()));
-    assert_eq!(rt; seen.as_slice(), want, "{text}");
+    is(rt, visit, Ok(()));
+    is_of(rt, text, seen.as_slice(), want);
 }
 
 fn is_raw_text(rt: &impl Abort, alloc: Global, text: &str) {
     let mut seen = bytes(rt, alloc, b"");
     let visit = PrefixEncodeVisitor::new(&mut seen).visit_str_raw(text);
-    assert_eq!(rt; visit, Ok(()));
-    assert_eq!(rt; seen.as_slice(), text.as_bytes(), "{text}");
+    is(rt, visit, Ok(()));
+    is_of(rt, text, seen.as_slice(), text.as_bytes());
 }
 
 #[test]
@@ -86,10 +86,11 @@ fn values(rt: HostRuntime) {
     let point = Point { x: 300 };
     let mut seen = bytes(&rt, rt.alloc(), b"(");
     point.visit_bv(&mut seen).expect(&rt, "memory");
-    assert_eq!(rt; seen.as_slice(), b"(\xac\x02".as_slice());
+    is(&rt, seen.as_slice(), b"(\xac\x02".as_slice());
     let hash = Hash::<Sha256>::of(&(b"(".as_slice(), &point));
-    assert_eq!(rt;
+    is(
+        &rt,
         AnyHash::from(hash),
-        HashAlgorithm::Sha256.digest(b"(\xac\x02")
+        HashAlgorithm::Sha256.digest(b"(\xac\x02"),
     );
 }

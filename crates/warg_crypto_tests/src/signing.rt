@@ -1,6 +1,6 @@
 //! Values that are signed under a prefix of their kind.
 
-use crate::values::bytes;
+use crate::values::{bytes, is};
 use std::alloc::{AllocError, Global};
 use std::process::Abort;
 use warg_crypto::hash::HashAlgorithm;
@@ -55,10 +55,10 @@ fn signed_message(rt: HostRuntime) {
     let note = short_note(&rt, alloc);
     let signature = signed(&rt, alloc, &note);
     let want = HashAlgorithm::Sha256.digest(b"aliceNOTE-SIGNATURE-V0:x");
-    assert_eq!(rt; signature.bytes(), want.bytes());
-    assert_eq!(rt; signature.algorithm(), "toy");
+    is(&rt, signature.bytes(), want.bytes());
+    is(&rt, signature.algorithm(), "toy");
     let encoded = note.encode(alloc).expect(&rt, "memory");
-    assert_eq!(rt; encoded.as_slice(), b"x".as_slice());
+    is(&rt, encoded.as_slice(), b"x".as_slice());
 }
 
 fn is_judged(
@@ -70,7 +70,7 @@ fn is_judged(
 ) {
     let signer = signer(rt, alloc);
     let judged = Note::verify(alloc, &ToyVerifier, signer.public_key(), content, signature);
-    assert_eq!(rt; judged, want);
+    is(rt, judged, want);
 }
 
 #[test]

@@ -2,13 +2,14 @@
 
 ghost use Rattle.std.specs.Prelude.{◌≡◌};
 
+use crate::values::{differ, is, is_of};
 use std::alloc::Global;
 use std::process::Abort;
 use warg_crypto::{Clock, JsonError, TimeError, Timestamp};
 
 fn carries(rt: &impl Abort, seconds: i64, nanos: i32, want: Result<Timestamp, TimeError>) {
     let time = Timestamp::from_parts(seconds, nanos);
-    assert_eq!(rt; time, want, "{seconds} {nanos}");
+    is_of(rt, (seconds, nanos), time, want);
 }
 
 #[test]
@@ -23,7 +24,7 @@ fn carried_nanos(rt: HostRuntime) {
 
 fn is_before(rt: &impl Abort, a: Timestamp, b: Timestamp) {
     assert!(rt; a < b);
-    assert_ne!(rt; a, b);
+    differ(rt, &a, &b);
 }
 
 #[test]
@@ -32,12 +33,12 @@ fn order(rt: HostRuntime) {
     is_before(&rt, Timestamp::new(0, 0), Timestamp::new(0, 1));
     is_before(&rt, Timestamp::new(0, 1), Timestamp::new(1, 0));
     let time = Timestamp::new(-1, 999_999_999);
-    assert_eq!(rt; time.seconds(), -1);
-    assert_eq!(rt; time.nanos(), 999_999_999);
+    is(&rt, time.seconds(), -1);
+    is(&rt, time.nanos(), 999_999_999);
 }
 
 fn says(rt: &impl Abort, text: &str, want: Result<Timestamp, JsonError>) {
-    assert_eq!(rt; Timestamp::parse_text(text), want, "{text}");
+    is_of(rt, text, Timestamp::parse_text(text), want);
 }
 
 fn says_a_late_time(rt: &impl Abort, text: &str) {
@@ -78,7 +79,7 @@ fn refused_texts(rt: HostRuntime) {
 
 fn is_written(rt: &impl Abort, alloc: Global, time: Timestamp, want: &str) {
     let text = time.to_text(alloc).expect(rt, want);
-    assert_eq!(rt; text.as_str(), want);
+    is(rt, text.as_str(), want);
 }
 
 #[test]
@@ -92,7 +93,11 @@ fn written_texts(rt: HostRuntime) {
 }
 
 fn is_not_written(rt: &impl Abort, alloc: Global, time: Timestamp) {
-    assert_eq!(rt; time.to_text(alloc).err(), Some(JsonError::TimeBeforeEpoch));
+    is(
+        rt,
+        time.to_text(alloc).err(),
+        Some(JsonError::TimeBeforeEpoch),
+    );
 }
 
 #[test]
@@ -123,6 +128,6 @@ impl Clock for Ticks {
 #[test]
 fn clock(rt: HostRuntime) {
     let mut ticks = Ticks { next: 7 };
-    assert_eq!(rt; ticks.now(), Timestamp::new(7, 0));
-    assert_eq!(rt; ticks.now(), Timestamp::new(8, 0));
+    is(&rt, ticks.now(), Timestamp::new(7, 0));
+    is(&rt, ticks.now(), Timestamp::new(8, 0));
 }

@@ -1,6 +1,6 @@
 //! The toy scheme.
 
-use crate::values::{is_shown, key};
+use crate::values::{is, is_shown, key};
 use std::alloc::Global;
 use std::process::Abort;
 use warg_crypto::signing::{PublicKey, Signature, SignatureError, Signer, Verifier};
@@ -32,7 +32,7 @@ fn is_judged(
     want: Result<(), SignatureError>,
 ) {
     let judged = ToyVerifier.verify(alloc, key, message, signature);
-    assert_eq!(rt; judged, want);
+    is(rt, judged, want);
 }
 
 #[test]

@@ -2,7 +2,7 @@
 
 ghost use Rattle.std.specs.Prelude.{◌≡◌};
 
-use crate::values::bytes;
+use crate::values::{bytes, is};
 use std::alloc::{AllocError, Global};
 use std::process::Abort;
 use warg_crypto::hash::{AnyHash, Hash, HashAlgorithm, Sha256};
@@ -35,16 +35,16 @@ fn refused_second_piece(rt: HostRuntime) {
         bytes: Vec::new(rt.alloc()),
     };
     let pair = (b"ab".as_slice(), b"c".as_slice());
-    assert_eq!(rt; pair.visit(&mut once), Err(AllocError));
-    assert_eq!(rt; once.bytes.as_slice(), b"ab".as_slice());
+    is(&rt, pair.visit(&mut once), Err(AllocError));
+    is(&rt, once.bytes.as_slice(), b"ab".as_slice());
 }
 
 fn sees<T: VisitBytes>(rt: &impl Abort, alloc: Global, content: &T, want: &[u8]) {
     let mut seen = bytes(rt, alloc, b"");
     content.visit(&mut seen).expect(rt, "memory");
-    assert_eq!(rt; seen.as_slice(), want);
+    is(rt, seen.as_slice(), want);
     let hash = AnyHash::from(Hash::<Sha256>::of(content));
-    assert_eq!(rt; hash, HashAlgorithm::Sha256.digest(want));
+    is(rt, hash, HashAlgorithm::Sha256.digest(want));
 }
 
 #[test]
@@ -67,13 +67,17 @@ fn bytes_beside_their_hash(rt: HostRuntime) {
     let pair = (b"ab".as_slice(), b"c".as_slice());
     let both = bytes_and_hash::<Sha256, _>(alloc, &pair);
     let (bytes, hash) = both.expect(&rt, "memory");
-    assert_eq!(rt; bytes.as_slice(), b"abc".as_slice());
-    assert_eq!(rt; AnyHash::from(hash), HashAlgorithm::Sha256.digest(b"abc"));
+    is(&rt, bytes.as_slice(), b"abc".as_slice());
+    is(
+        &rt,
+        AnyHash::from(hash),
+        HashAlgorithm::Sha256.digest(b"abc"),
+    );
 }
 
 #[test]
 fn appended(rt: HostRuntime) {
     let mut seen = bytes(&rt, rt.alloc(), b"x");
     seen.visit_bytes(b"yz").expect(&rt, "memory");
-    assert_eq!(rt; seen.as_slice(), b"xyz".as_slice());
+    is(&rt, seen.as_slice(), b"xyz".as_slice());
 }
