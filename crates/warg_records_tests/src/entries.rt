@@ -59,10 +59,14 @@ fn refused_permissions(rt: HostRuntime) {
     is_refused(&rt, alloc, ones, -1);
 }
 
-fn package_entry_reads_back(rt: &impl Abort, alloc: Global, entry: &PackageEntry) {
+// The entry that its message says.
+fn package_entry_again(rt: &impl Abort, alloc: Global, entry: &PackageEntry) -> PackageEntry {
     let message = entry.to_proto(alloc).expect(rt, "memory");
-    let read = PackageEntry::from_proto(alloc, message);
-    same(rt, &read.expect(rt, "an entry"), entry);
+    PackageEntry::from_proto(alloc, message).expect(rt, "an entry")
+}
+
+fn package_entry_reads_back(rt: &impl Abort, alloc: Global, entry: &PackageEntry) {
+    same(rt, &package_entry_again(rt, alloc, entry), entry);
     same(rt, &entry.try_clone().expect(rt, "memory"), entry);
 }
 
@@ -73,10 +77,14 @@ fn package_entries_read_back(rt: HostRuntime) {
     }
 }
 
-fn operator_entry_reads_back(rt: &impl Abort, alloc: Global, entry: &OperatorEntry) {
+// The entry that its message says.
+fn operator_entry_again(rt: &impl Abort, alloc: Global, entry: &OperatorEntry) -> OperatorEntry {
     let message = entry.to_proto(alloc).expect(rt, "memory");
-    let read = OperatorEntry::from_proto(alloc, message);
-    same(rt, &read.expect(rt, "an entry"), entry);
+    OperatorEntry::from_proto(alloc, message).expect(rt, "an entry")
+}
+
+fn operator_entry_reads_back(rt: &impl Abort, alloc: Global, entry: &OperatorEntry) {
+    same(rt, &operator_entry_again(rt, alloc, entry), entry);
     same(rt, &entry.try_clone().expect(rt, "memory"), entry);
 }
 

@@ -1,7 +1,7 @@
 //! JSON of what a registry names things by.
 
 use crate::samples::{EMPTY, empty_hash};
-use crate::values::{is, is_of_text};
+use crate::values::{is, is_of};
 use serde_json::Value;
 use std::alloc::Global;
 use std::fmt::Debug;
@@ -31,7 +31,7 @@ fn goes_both_ways<T: JsonValue + PartialEq + Debug + Drop>(
 }
 
 fn is_refused<T: JsonValue + Drop>(rt: &impl Abort, alloc: Global, json: &str, want: JsonError) {
-    is_of_text(rt, json, read::<T>(rt, alloc, json).err(), Some(want));
+    is_of(rt, json, read::<T>(rt, alloc, json).err(), Some(want));
 }
 
 const EMPTY_JSON: &str =
@@ -73,11 +73,9 @@ fn checkpoint(log_length: usize) -> Checkpoint {
 
 #[test]
 fn checkpoints(rt: HostRuntime) {
-    let alloc = rt.alloc();
-    let json = format!(in alloc;
-        "{{\"logLength\":300,\"logRoot\":\"{EMPTY}\",\"mapRoot\":\"{EMPTY}\"}}"
-    ).expect(&rt, "memory");
-    goes_both_ways(&rt, alloc, json.as_str(), checkpoint(300));
+    let json =
+        "{\"logLength\":300,\"logRoot\":\"sha256:e3b0c44298fc1c149afbf4c8996fb92427ae41e4649b934ca495991b7852b855\",\"mapRoot\":\"sha256:e3b0c44298fc1c149afbf4c8996fb92427ae41e4649b934ca495991b7852b855\"}";
+    goes_both_ways(&rt, rt.alloc(), json, checkpoint(300));
 }
 
 #[test]
@@ -91,49 +89,45 @@ fn refused_checkpoints(rt: HostRuntime) {
     is_refused::<Checkpoint>(&rt, alloc, text, JsonError::BadText);
 }
 
+fn is_no_length(rt: &impl Abort, alloc: Global, length: &str) {
+    let json = format!(in alloc;
+        "{{\"logRoot\":\"{EMPTY}\",\"logLength\":{length},\"mapRoot\":\"md5:\"}}"
+    ).expect(rt, "memory");
+    is_refused::<Checkpoint>(rt, alloc, json.as_str(), JsonError::WrongType);
+}
+
 // Lengths that are no whole number of 64 bits, before the fault of the map's root.
 #[test]
 fn refused_lengths(rt: HostRuntime) {
-    let alloc = rt.alloc();
     for length in ["-1", "1.5", "18446744073709551616", "\"1\"", "null"] {
-        let json = format!(in alloc;
-            "{{\"logRoot\":\"{EMPTY}\",\"logLength\":{length},\"mapRoot\":\"md5:\"}}"
-        ).expect(&rt, "memory");
-        is_refused::<Checkpoint>(&rt, alloc, json.as_str(), JsonError::WrongType);
+        is_no_length(&rt, rt.alloc(), length);
     }
 }
 
 #[test]
 fn timestamped_checkpoints(rt: HostRuntime) {
-    let alloc = rt.alloc();
     let timestamped = TimestampedCheckpoint {
         checkpoint: checkpoint(0),
         timestamp: 1,
     };
-    let json = format!(in alloc;
-        "{{\"logLength\":0,\"logRoot\":\"{EMPTY}\",\"mapRoot\":\"{EMPTY}\",\"timestamp\":1}}"
-    ).expect(&rt, "memory");
-    goes_both_ways(&rt, alloc, json.as_str(), timestamped);
-}
-
-#[test]
-fn checkpoints_without_a_time(rt: HostRuntime) {
-    let alloc = rt.alloc();
-    let json = format!(in alloc;
-        "{{\"logLength\":0,\"logRoot\":\"{EMPTY}\",\"mapRoot\":\"{EMPTY}\"}}"
-    ).expect(&rt, "memory");
-    is_refused::<TimestampedCheckpoint>(&rt, alloc, json.as_str(), JsonError::Missing);
+    let json =
+        "{\"logLength\":0,\"logRoot\":\"sha256:e3b0c44298fc1c149afbf4c8996fb92427ae41e4649b934ca495991b7852b855\",\"mapRoot\":\"sha256:e3b0c44298fc1c149afbf4c8996fb92427ae41e4649b934ca495991b7852b855\",\"timestamp\":1}";
+    goes_both_ways(&rt, rt.alloc(), json, timestamped);
+    let timeless =
+        "{\"logLength\":0,\"logRoot\":\"sha256:e3b0c44298fc1c149afbf4c8996fb92427ae41e4649b934ca495991b7852b855\",\"mapRoot\":\"sha256:e3b0c44298fc1c149afbf4c8996fb92427ae41e4649b934ca495991b7852b855\"}";
+    is_refused::<TimestampedCheckpoint>(&rt, rt.alloc(), timeless, JsonError::Missing);
 }
 
 #[test]
 fn log_leaves(rt: HostRuntime) {
-    let alloc = rt.alloc();
     let leaf = LogLeaf {
         log_id: LogId::from(empty_hash()),
         record_id: RecordId::from(empty_hash()),
     };
-    let json = format!(in alloc; "{{\"logId\":\"{EMPTY}\",\"recordId\":\"{EMPTY}\"}}");
-    goes_both_ways(&rt, alloc, json.expect(&rt, "memory").as_str(), leaf);
-    let json = format!(in alloc; "{{\"logId\":\"{EMPTY}\",\"other\":1}}").expect(&rt, "memory");
-    is_refused::<LogLeaf>(&rt, alloc, json.as_str(), JsonError::Missing);
+    let json =
+        "{\"logId\":\"sha256:e3b0c44298fc1c149afbf4c8996fb92427ae41e4649b934ca495991b7852b855\",\"recordId\":\"sha256:e3b0c44298fc1c149afbf4c8996fb92427ae41e4649b934ca495991b7852b855\"}";
+    goes_both_ways(&rt, rt.alloc(), json, leaf);
+    let lone =
+        "{\"logId\":\"sha256:e3b0c44298fc1c149afbf4c8996fb92427ae41e4649b934ca495991b7852b855\",\"other\":1}";
+    is_refused::<LogLeaf>(&rt, rt.alloc(), lone, JsonError::Missing);
 }

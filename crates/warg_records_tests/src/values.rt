@@ -14,9 +14,14 @@ pub(crate) fn is<T: PartialEq + Debug + Drop>(rt: &impl Abort, value: T, want: T
     assert_eq!(rt; value, want);
 }
 
-// It is what was found of these bytes.
-pub(crate) fn is_of<T: PartialEq + Debug + Drop>(rt: &impl Abort, bytes: &[u8], found: T, want: T) {
-    assert_eq!(rt; found, want, "{bytes:?}");
+// It is what was found for this row.
+pub(crate) fn is_of<R: Debug + Drop, T: PartialEq + Debug + Drop>(
+    rt: &impl Abort,
+    row: R,
+    found: T,
+    want: T,
+) {
+    assert_eq!(rt; found, want, "{row:?}");
 }
 
 // Both values are the same.
@@ -24,18 +29,9 @@ pub(crate) fn same<T: PartialEq>(rt: &impl Abort, value: &T, other: &T) {
     assert!(rt; *value == *other);
 }
 
+// The value is another than this one.
 pub(crate) fn differ<T: PartialEq>(rt: &impl Abort, value: &T, other: &T) {
     assert!(rt; *value != *other);
-}
-
-// It is what was found of this text.
-pub(crate) fn is_of_text<T: PartialEq + Debug + Drop>(
-    rt: &impl Abort,
-    text: &str,
-    found: T,
-    want: T,
-) {
-    assert_eq!(rt; found, want, "{text}");
 }
 
 // The value's text is this one.
