@@ -50,15 +50,20 @@ fn is_pair(rt: &impl Abort, alloc: Global, pair: Option<&(KeyID, u32)>, name: &s
     is(rt, *value, number);
 }
 
+// The two pairs of a map, in the order of their names.
+fn are_pairs(rt: &impl Abort, alloc: Global, read: &[(KeyID, u32)]) {
+    is(rt, read.len(), 2);
+    is_pair(rt, alloc, read.get(0), "a", 2);
+    is_pair(rt, alloc, read.get(1), "b", 1);
+    let written = pairs_value(alloc, read).expect(rt, "memory");
+    is_json(rt, alloc, &written, "{\"a\":2,\"b\":1}");
+}
+
 #[test]
 fn maps(rt: HostRuntime) {
     let alloc = rt.alloc();
     let read = pairs(&rt, alloc, "{\"m\":{\"b\":1,\"a\":2}}");
-    is(&rt, read.len(), 2);
-    is_pair(&rt, alloc, read.get(0), "a", 2);
-    is_pair(&rt, alloc, read.get(1), "b", 1);
-    let written = pairs_value(alloc, read.as_slice()).expect(&rt, "memory");
-    is_json(&rt, alloc, &written, "{\"a\":2,\"b\":1}");
+    are_pairs(&rt, alloc, read.as_slice());
     is(&rt, pairs(&rt, alloc, "{}").len(), 0);
 }
 
@@ -69,7 +74,11 @@ fn names(rt: HostRuntime) {
     let members = members_in(&object).expect(&rt, "members");
     let read = pairs_of::<KeyID, u32>(alloc, members).expect(&rt, "pairs");
     is_pair(&rt, alloc, read.get(0), "any name", 7);
-    let id = KeyID::from_name(alloc, "a").expect(&rt, "memory");
+}
+
+#[test]
+fn names_of_ids(rt: HostRuntime) {
+    let id = KeyID::from_name(rt.alloc(), "a").expect(&rt, "memory");
     is(&rt, id.as_str(), "a");
 }
 

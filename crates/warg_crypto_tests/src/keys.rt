@@ -62,8 +62,7 @@ fn made_from_parts(rt: HostRuntime) {
 fn copied_keys(rt: HostRuntime) {
     let alloc = rt.alloc();
     let alice = key(&rt, alloc, "toy:YWxpY2U=");
-    let copy = alice.try_clone().expect(&rt, "memory");
-    same(&rt, &copy, &alice);
+    same(&rt, &alice.try_clone().expect(&rt, "memory"), &alice);
     differ(&rt, &key(&rt, alloc, "toy:"), &alice);
 }
 
@@ -71,8 +70,7 @@ fn copied_keys(rt: HostRuntime) {
 fn copied_signatures(rt: HostRuntime) {
     let alloc = rt.alloc();
     let read = signature(&rt, alloc, "toy:AAEC");
-    let copy = read.try_clone().expect(&rt, "memory");
-    same(&rt, &copy, &read);
+    same(&rt, &read.try_clone().expect(&rt, "memory"), &read);
     differ(&rt, &signature(&rt, alloc, "toz:AAEC"), &read);
 }
 
@@ -109,8 +107,7 @@ fn ids(rt: HostRuntime) {
     let alloc = rt.alloc();
     let any = id(&rt, alloc, "any text: at all");
     is_shown(&rt, alloc, &any, "any text: at all");
-    let copy = any.try_clone().expect(&rt, "memory");
-    same(&rt, &copy, &any);
+    same(&rt, &any.try_clone().expect(&rt, "memory"), &any);
 }
 
 #[test]

@@ -52,12 +52,16 @@ fn signed(rt: &impl Abort, alloc: Global, note: &Note) -> Signature {
 #[test]
 fn signed_message(rt: HostRuntime) {
     let alloc = rt.alloc();
-    let note = short_note(&rt, alloc);
-    let signature = signed(&rt, alloc, &note);
+    let signature = signed(&rt, alloc, &short_note(&rt, alloc));
     let want = HashAlgorithm::Sha256.digest(b"aliceNOTE-SIGNATURE-V0:x");
     is(&rt, signature.bytes(), want.bytes());
     is(&rt, signature.algorithm(), "toy");
-    let encoded = note.encode(alloc).expect(&rt, "memory");
+}
+
+#[test]
+fn encoded_note(rt: HostRuntime) {
+    let note = short_note(&rt, rt.alloc());
+    let encoded = note.encode(rt.alloc()).expect(&rt, "memory");
     is(&rt, encoded.as_slice(), b"x".as_slice());
 }
 
