@@ -19,7 +19,7 @@ fn keys(rt: HostRuntime) {
     is_shown(&rt, alloc, bob.public_key(), "toy:Ym9i");
 }
 
-fn signed(rt: &impl Abort, alloc: Global, signer: &ToySigner, message: &[u8]) -> Signature {
+fn signed(rt: &impl Abort, alloc: Global, signer: &impl Signer, message: &[u8]) -> Signature {
     signer.sign(alloc, message).expect(rt, "a signature")
 }
 
