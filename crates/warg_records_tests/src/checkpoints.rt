@@ -1,12 +1,12 @@
 //! Checkpoints.
 
-use crate::samples::empty_hash;
+use crate::samples::{alice, empty_hash};
 use crate::values::{is, is_encoded, is_shown};
 use std::alloc::Global;
 use std::process::Abort;
 use warg_crypto::hash::HashAlgorithm;
 use warg_crypto::signing::{Signature, Signer};
-use warg_crypto::toy::{ToySigner, ToyVerifier};
+use warg_crypto::toy::ToyVerifier;
 use warg_crypto::{Clock, Encode, Signable, TimeError, Timestamp};
 use warg_records::registry::{Checkpoint, TimestampedCheckpoint};
 
@@ -83,10 +83,6 @@ fn times(rt: HostRuntime) {
     is_timed(&rt, Timestamp::new(1, 999_999_999), Ok(timestamped(1)));
     let now = TimestampedCheckpoint::now(checkpoint(0), &mut Five);
     is(&rt, now, Ok(timestamped(5)));
-}
-
-fn alice(rt: &impl Abort, alloc: Global) -> ToySigner {
-    ToySigner::new(alloc, b"alice").expect(rt, "memory")
 }
 
 fn signature(rt: &impl Abort, alloc: Global) -> Signature {

@@ -6,6 +6,7 @@ use std::process::Abort;
 use warg_crypto::Timestamp;
 use warg_crypto::hash::{AnyHash, HashAlgorithm};
 use warg_crypto::signing::{KeyID, PublicKey};
+use warg_crypto::toy::ToySigner;
 use warg_records::operator::{OPERATOR_RECORD_VERSION, OperatorEntry, OperatorRecord};
 use warg_records::package::{PACKAGE_RECORD_VERSION, PackageEntry, PackageRecord};
 use warg_records::{Version, operator, package};
@@ -34,6 +35,10 @@ pub(crate) fn key(rt: &impl Abort, alloc: Global, text: &str) -> PublicKey {
 
 pub(crate) fn key_id(rt: &impl Abort, alloc: Global, text: &str) -> KeyID {
     KeyID::from(string(rt, alloc, text))
+}
+
+pub(crate) fn alice(rt: &impl Abort, alloc: Global) -> ToySigner {
+    ToySigner::new(alloc, b"alice").expect(rt, "memory")
 }
 
 pub(crate) fn package_init(rt: &impl Abort, alloc: Global) -> PackageEntry {

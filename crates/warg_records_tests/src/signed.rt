@@ -1,23 +1,18 @@
 //! Envelopes that are signed here.
 
 use crate::samples::{
-    ALICE_ID, empty_hash, key_id, operator_entries, operator_record, package_entries, package_init,
-    package_record,
+    ALICE_ID, alice, empty_hash, key_id, operator_entries, operator_record, package_entries,
+    package_init, package_record,
 };
 use crate::values::{differ, is, is_shown, same};
 use std::alloc::Global;
 use std::process::Abort;
 use warg_crypto::Signable;
 use warg_crypto::signing::Signature;
-use warg_crypto::toy::ToySigner;
 use warg_records::operator::OperatorRecord;
 use warg_records::package::PackageRecord;
 use warg_records::registry::{Checkpoint, TimestampedCheckpoint};
 use warg_records::{ProtoEnvelope, Record, SerdeEnvelope};
-
-fn alice(rt: &impl Abort, alloc: Global) -> ToySigner {
-    ToySigner::new(alloc, b"alice").expect(rt, "memory")
-}
 
 fn sealed<C: Signable + Drop>(rt: &impl Abort, alloc: Global, contents: C) -> ProtoEnvelope<C> {
     let signed = ProtoEnvelope::signed_contents(alloc, &alice(rt, alloc), contents);
