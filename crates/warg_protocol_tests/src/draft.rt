@@ -3,6 +3,7 @@
 //! `alice 1.5 v7: init alice, grant bob release` is signed by alice, at one second and five nanoseconds, of
 //! version 7 of the protocol, and has two entries. Where nothing is said the version is 0, and the record
 //! names the one before it; an `unlinked` record names none, and a `mislinked` one another.
+use crate::script::words_of;
 use std::test::Fail;
 use warg_crypto::hash::HashAlgorithm;
 use warg_protocol::Timestamp;
@@ -29,9 +30,7 @@ impl<'a> Draft<'a> {
     /// The draft that a line says.
     pub fn parse(line: &'a str) -> Result<Draft<'a>, Fail> {
         let (head, entries) = line.split_once(':').ok_or("a line without a colon")?;
-        let mut words = head.split(' ');
-        let signer = words.next().ok_or("no signer")?;
-        let time = words.next().ok_or("no time")?;
+        let (signer, time, turns) = words_of(head);
         let mut draft = Draft {
             signer,
             time,
@@ -39,10 +38,15 @@ impl<'a> Draft<'a> {
             entries,
             link: Link::Right,
         };
-        for word in words {
-            draft.turn(word)?;
-        }
+        draft.turn_all(turns)?;
         Ok(draft)
+    }
+
+    fn turn_all(&mut self, words: &str) -> Result<(), Fail> {
+        for word in words.split_whitespace() {
+            self.turn(word)?;
+        }
+        Ok(())
     }
 
     fn turn(&mut self, word: &str) -> Result<(), Fail> {

@@ -1,4 +1,5 @@
 //! What operator logs answer, in words.
+use crate::answers::{head, text_of};
 use crate::people::id;
 use std::alloc::Global;
 use std::test::Fail;
@@ -12,30 +13,21 @@ pub fn answer(
     subject: &str,
 ) -> Result<String, Fail> {
     match look_up {
-        "head" => head(alloc, state, subject),
-        "key" => match state.public_key(&id(alloc, subject)?) {
-            Some(key) => Ok(key.to_string(alloc)?),
-            None => Ok(String::from_str(alloc, "none")?),
-        },
-        "signs" => {
-            let signs = state.key_has_permission_to_sign_checkpoints(&id(alloc, subject)?);
-            Ok(signs.to_string(alloc)?)
-        }
+        "head" => head(alloc, state.head(), subject),
+        "key" => key(alloc, state, subject),
+        "signs" => signs(alloc, state, subject),
         "namespace" => namespace(alloc, state, subject),
         _ => Err(Fail::new("a strange look-up")),
     }
 }
 
-// `head time` or `head digest`.
-fn head(alloc: Global, state: &LogState, subject: &str) -> Result<String, Fail> {
-    match state.head() {
-        Some(head) if subject == "digest" => Ok(head.digest.to_string(alloc)?),
-        Some(head) => {
-            let (seconds, nanos) = (head.timestamp.seconds(), head.timestamp.nanos());
-            Ok(format!(in alloc; "{seconds}.{nanos}")?)
-        }
-        None => Ok(String::from_str(alloc, "none")?),
-    }
+fn key(alloc: Global, state: &LogState, name: &str) -> Result<String, Fail> {
+    text_of(alloc, state.public_key(&id(alloc, name)?))
+}
+
+fn signs(alloc: Global, state: &LogState, name: &str) -> Result<String, Fail> {
+    let signs = state.key_has_permission_to_sign_checkpoints(&id(alloc, name)?);
+    Ok(signs.to_string(alloc)?)
 }
 
 fn namespace(alloc: Global, state: &LogState, name: &str) -> Result<String, Fail> {

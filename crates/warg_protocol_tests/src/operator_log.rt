@@ -1,7 +1,5 @@
 //! Operator logs.
-use crate::operator_errors::error;
 use crate::play::{log_of, play};
-use crate::script::words_of;
 use std::alloc::Global;
 use std::process::Abort;
 use std::test::Fail;
@@ -194,77 +192,4 @@ fn copy(rt: &impl Abort, state: &LogState) -> Result<(), Fail> {
 fn copies_are_equal(rt: HostRuntime) -> Result<(), Fail> {
     let log = log_of::<LogState>(&rt, rt.alloc(), NAMESPACES)?;
     copy(&rt, &log.state)
-}
-
-fn shown(alloc: Global, words: &str) -> Result<String, Fail> {
-    let (case, subject, permission) = words_of(words);
-    Ok(error(alloc, case, subject, permission)?.to_string(alloc)?)
-}
-
-#[test]
-fn a_refusal_says_why(rt: HostRuntime) -> Result<(), Fail> {
-    for (words, text) in [
-        (
-            "FirstEntryIsNotInit",
-            "the first entry of the log is not \"init\"",
-        ),
-        (
-            "InitialRecordDoesNotInit",
-            "the initial record is empty and does not \"init\"",
-        ),
-        (
-            "KeyIDNotRecognized x",
-            "the Key ID used to sign this envelope is not known to this operator log",
-        ),
-        (
-            "InitialEntryAfterBeginning",
-            "a second \"init\" entry was found",
-        ),
-        (
-            "UnauthorizedAction x defineNamespace",
-            "the key with ID x did not have required permission defineNamespace",
-        ),
-        (
-            "PermissionNotFoundToRevoke x commit",
-            "attempted to remove permission commit from key x which did not have it",
-        ),
-        ("SignatureError", "unable to verify signature: Refused"),
-        (
-            "IncorrectHashAlgorithm",
-            "record hash uses sha256 algorithm but sha256 was expected",
-        ),
-        (
-            "RecordHashDoesNotMatch",
-            "previous record hash does not match",
-        ),
-        (
-            "PreviousHashOnFirstRecord",
-            "the first record contained a previous hash value",
-        ),
-        (
-            "NoPreviousHashAfterInit",
-            "non-initial record contained no previous hash",
-        ),
-        (
-            "ProtocolVersionNotAllowed 7",
-            "protocol version 7 not allowed",
-        ),
-        (
-            "TimestampLowerThanPrevious",
-            "record has lower timestamp than previous",
-        ),
-        (
-            "InvalidNamespace A",
-            "the namespace `A` is invalid; namespace must be a lowercased kebab case string",
-        ),
-        (
-            "NamespaceAlreadyDefined a",
-            "the namespace `a` is already defined and cannot be redefined",
-        ),
-        ("OutOfMemory", "OutOfMemory"),
-    ] {
-        let shown = shown(rt.alloc(), words)?;
-        assert_eq!(rt; shown.as_str(), text);
-    }
-    Ok(())
 }

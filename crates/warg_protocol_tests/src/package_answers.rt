@@ -1,13 +1,10 @@
 //! What package logs answer, in words.
+use crate::answers::{head, text_of, time};
 use crate::people::{id, owner};
 use std::alloc::Global;
 use std::test::Fail;
 use warg_protocol::package::{LogState, Release, ReleaseState};
-use warg_protocol::{Timestamp, Version, VersionReq};
-
-fn none(alloc: Global) -> Result<String, Fail> {
-    Ok(String::from_str(alloc, "none")?)
-}
+use warg_protocol::{Version, VersionReq};
 
 /// The answer to a look-up.
 pub fn answer(
@@ -17,34 +14,29 @@ pub fn answer(
     subject: &str,
 ) -> Result<String, Fail> {
     match look_up {
-        "head" => head(alloc, state, subject),
-        "key" => match state.public_key(&id(alloc, subject)?) {
-            Some(key) => Ok(key.to_string(alloc)?),
-            None => none(alloc),
-        },
+        "head" => head(alloc, state.head(), subject),
+        "key" => key(alloc, state, subject),
         "permissions" => permissions(alloc, state, subject),
         "releases" => releases(alloc, state),
-        "latest" => {
-            let release = state.find_latest_release(&VersionReq::parse(alloc, subject)?);
-            Ok(match release {
-                Some(release) => release.version.to_string(alloc)?,
-                None => none(alloc)?,
-            })
-        }
-        _ => match state.release(&Version::parse(alloc, subject)?) {
-            Some(release) => of_release(alloc, release, look_up),
-            None => none(alloc),
-        },
+        "latest" => latest(alloc, state, subject),
+        _ => of_version(alloc, state, look_up, subject),
     }
 }
 
-// `head time` or `head digest`.
-fn head(alloc: Global, state: &LogState, subject: &str) -> Result<String, Fail> {
-    match state.head() {
-        Some(head) if subject == "time" => time(alloc, head.timestamp),
-        Some(head) => Ok(head.digest.to_string(alloc)?),
+fn key(alloc: Global, state: &LogState, name: &str) -> Result<String, Fail> {
+    text_of(alloc, state.public_key(&id(alloc, name)?))
+}
+
+fn latest(alloc: Global, state: &LogState, wanted: &str) -> Result<String, Fail> {
+    let wanted = VersionReq::parse(alloc, wanted)?;
+    match state.find_latest_release(&wanted) {
+        Some(release) => text_of(alloc, Some(&release.version)),
         None => none(alloc),
     }
+}
+
+fn none(alloc: Global) -> Result<String, Fail> {
+    Ok(String::from_str(alloc, "none")?)
 }
 
 fn permissions(alloc: Global, state: &LogState, name: &str) -> Result<String, Fail> {
@@ -67,19 +59,24 @@ fn releases(alloc: Global, state: &LogState) -> Result<String, Fail> {
     Ok(text)
 }
 
-fn time(alloc: Global, time: Timestamp) -> Result<String, Fail> {
-    let (seconds, nanos) = (time.seconds(), time.nanos());
-    Ok(format!(in alloc; "{seconds}.{nanos}")?)
+// `release`, `content` or `record` of a version.
+fn of_version(
+    alloc: Global,
+    state: &LogState,
+    look_up: &str,
+    version: &str,
+) -> Result<String, Fail> {
+    let version = Version::parse(alloc, version)?;
+    match state.release(&version) {
+        Some(release) => of_release(alloc, release, look_up),
+        None => none(alloc),
+    }
 }
 
-// `release`, `content` or `record` of a version.
 fn of_release(alloc: Global, release: &Release, look_up: &str) -> Result<String, Fail> {
     match look_up {
-        "record" => Ok(release.record_id.to_string(alloc)?),
-        "content" => match release.content() {
-            Some(content) => Ok(content.to_string(alloc)?),
-            None => none(alloc),
-        },
+        "record" => text_of(alloc, Some(&release.record_id)),
+        "content" => text_of(alloc, release.content()),
         _ => told(alloc, release),
     }
 }

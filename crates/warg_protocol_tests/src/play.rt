@@ -6,13 +6,14 @@
 //! - `? permissions bob = release yank`: the log's answer to a question.
 use crate::effect::effect_of;
 use crate::fault::cause;
-use crate::script::{Scripted, envelope_of, words_of};
+use crate::script::{Scripted, string_of, words_of};
 use std::alloc::Global;
 use std::fmt::Debug;
 use std::process::Abort;
+use std::slice;
 use std::test::Fail;
 use warg_crypto::toy::ToyVerifier;
-use warg_protocol::{ProtoEnvelope, RunCause, RunError, run, run_from};
+use warg_protocol::{ProtoEnvelope, RunCause, run, run_from};
 
 /// A log on the way.
 #[derive(Drop)]
@@ -52,7 +53,33 @@ where
     Ok(player)
 }
 
-/// The state and the cause, where a string comes next.
+/// Whether the strings lead from the one state to the other.
+pub(crate) fn makes<L: Scripted>(
+    alloc: Global,
+    before: &L,
+    strings: &[Vec<u8>],
+    after: &L,
+) -> Result<bool, Fail> {
+    let resumed = run_from(alloc, before.try_clone()?, &ToyVerifier, strings);
+    Ok(resumed.is_ok_and(|state| state == *after))
+}
+
+/// Whether the string at this place is the first that is refused after the state, for this cause.
+pub(crate) fn is_refused<L: Scripted>(
+    alloc: Global,
+    before: &L,
+    strings: &[Vec<u8>],
+    index: usize,
+    cause: &RunCause<L::Error>,
+) -> Result<bool, Fail>
+where
+    L::Error: PartialEq,
+{
+    let resumed = run_from(alloc, before.try_clone()?, &ToyVerifier, strings);
+    Ok(resumed.is_err_and(|error| error.index == index && error.cause == *cause))
+}
+
+/// The state or the cause, where a string comes next.
 fn judged<L: Scripted>(alloc: Global, state: L, string: &[u8]) -> Result<L, RunCause<L::Error>> {
     let envelope = match ProtoEnvelope::<L::Record>::from_protobuf(alloc, string) {
         Ok(envelope) => envelope,
@@ -85,40 +112,41 @@ where
 
     // The bytes of the envelope that a line says.
     fn string_of(&self, alloc: Global, line: &str) -> Result<Vec<u8>, Fail> {
-        if !line.contains(':') {
-            return Ok(hex::decode(alloc, line)?);
-        }
-        let last = self.state.head_digest().copied();
-        let envelope = envelope_of::<L>(alloc, last, line)?;
-        Ok(envelope.to_protobuf(alloc)?)
+        let mut last = self.state.head_digest().copied();
+        string_of::<L>(alloc, &mut last, line)
     }
 
     fn append(&mut self, rt: &impl Abort, alloc: Global, string: Vec<u8>) -> Result<(), Fail> {
-        let judged = judged(alloc, self.state.try_clone()?, string.as_slice());
-        let strings = vec![in alloc; string]?;
-        let copy = self.state.try_clone()?;
-        let resumed = run_from(alloc, copy, &ToyVerifier, strings.as_slice());
-        match (judged, resumed) {
-            (Ok(state), Ok(again)) => {
-                assert!(rt; state == again);
-                self.state = state;
-                self.strings.extend(strings)?;
-            }
-            (
-                Err(cause),
-                Err(
-                    RunError {
-                        index,
-                        cause: again,
-                    },
-                ),
-            ) => {
-                assert_eq!(rt; index, 0);
-                assert_eq!(rt; cause, again);
-                self.refusal = Some(cause);
-            }
-            _ => return Err(Fail::new("validate and run_from differ")),
+        match judged(alloc, self.state.try_clone()?, string.as_slice()) {
+            Ok(state) => self.take(rt, alloc, string, state),
+            Err(cause) => self.refuse(rt, alloc, &string, cause),
         }
+    }
+
+    // The string makes this state.
+    fn take(
+        &mut self,
+        rt: &impl Abort,
+        alloc: Global,
+        string: Vec<u8>,
+        state: L,
+    ) -> Result<(), Fail> {
+        assert!(rt; makes(alloc, &self.state, slice::from_ref(&string), &state)?);
+        self.strings.push(string)?;
+        self.state = state;
+        Ok(())
+    }
+
+    // The string is refused, and the state stays.
+    fn refuse(
+        &mut self,
+        rt: &impl Abort,
+        alloc: Global,
+        string: &Vec<u8>,
+        cause: RunCause<L::Error>,
+    ) -> Result<(), Fail> {
+        assert!(rt; is_refused(alloc, &self.state, slice::from_ref(string), 0, &cause)?);
+        self.refusal = Some(cause);
         Ok(())
     }
 
@@ -126,15 +154,36 @@ where
         let (question, answer) = line
             .split_once(" = ")
             .ok_or("a question without an answer")?;
-        if let Some(subject) = question.strip_prefix("effect ") {
-            let string = self.strings.last().ok_or("no record")?;
-            let effect = effect_of::<L>(alloc, string.as_slice(), subject)?;
-            assert_eq!(rt; effect, answer, "{line}");
-            return Ok(());
+        match question.strip_prefix("effect ") {
+            Some(subject) => self.ask_effect(rt, alloc, subject, answer),
+            None => self.ask_state(rt, alloc, question, answer),
         }
+    }
+
+    // Of an entry of the last record.
+    fn ask_effect(
+        &self,
+        rt: &impl Abort,
+        alloc: Global,
+        subject: &str,
+        answer: &str,
+    ) -> Result<(), Fail> {
+        let string = self.strings.last().ok_or("no record")?;
+        let effect = effect_of::<L>(alloc, string.as_slice(), subject)?;
+        assert_eq!(rt; effect, answer, "{subject}");
+        Ok(())
+    }
+
+    fn ask_state(
+        &self,
+        rt: &impl Abort,
+        alloc: Global,
+        question: &str,
+        answer: &str,
+    ) -> Result<(), Fail> {
         let (look_up, subject, _) = words_of(question);
         let told = self.state.answer(alloc, look_up, subject)?;
-        assert_eq!(rt; told.as_str(), answer, "{line}");
+        assert_eq!(rt; told.as_str(), answer, "{question}");
         Ok(())
     }
 }

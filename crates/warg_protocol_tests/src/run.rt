@@ -1,28 +1,21 @@
 //! Whole logs, read as strings.
 use crate::fault::cause;
-use crate::play::{Player, log_of};
-use crate::script::{Scripted, envelope_of};
+use crate::play::{Player, is_refused, log_of, makes};
+use crate::script::{Scripted, envelope_of, string_of};
 use std::alloc::Global;
 use std::fmt::Debug;
 use std::process::Abort;
 use std::slice;
 use std::test::Fail;
 use warg_crypto::toy::ToyVerifier;
-use warg_protocol::{ProtoEnvelope, RunCause, RunError, operator, package, run, run_from};
+use warg_protocol::{ProtoEnvelope, Record, RunError, operator, package, run};
 
 // The strings of a script without answers. A record names the one before it, be that lawful or not.
 fn strings_of<L: Scripted>(alloc: Global, script: &str) -> Result<Vec<Vec<u8>>, Fail> {
     let mut strings = Vec::new(alloc);
     let mut last = None;
     for line in script.trim().lines() {
-        let line = line.trim();
-        if line.contains(':') {
-            let envelope = envelope_of::<L>(alloc, last, line)?;
-            last = Some(L::record_id(&envelope));
-            strings.push(envelope.to_protobuf(alloc)?)?;
-        } else {
-            strings.push(hex::decode(alloc, line)?)?;
-        }
+        strings.push(string_of::<L>(alloc, &mut last, line.trim())?)?;
     }
     Ok(strings)
 }
@@ -163,40 +156,19 @@ const ALICE_YANKS: &str = "
     alice 3.0: revoke bob release yank, yank 1.1.0
 ";
 
-// Whether the strings make the one state of the other.
-fn makes(
-    alloc: Global,
-    before: &package::LogState,
-    strings: &[Vec<u8>],
-    after: &package::LogState,
-) -> Result<bool, Fail> {
-    let resumed = run_from(alloc, before.try_clone()?, &ToyVerifier, strings);
-    Ok(match resumed {
-        Ok(state) => state == *after,
-        Err(_) => false,
-    })
-}
-
-// Whether the second string names another record than the one before it.
-fn is_second_mislinked(
-    alloc: Global,
-    before: &package::LogState,
-    strings: &[Vec<u8>],
-) -> Result<bool, Fail> {
-    let resumed = run_from(alloc, before.try_clone()?, &ToyVerifier, strings);
-    Ok(match resumed {
-        Err(
-            RunError {
-                index: 1,
-                cause: RunCause::Validation(package::ValidationError::RecordHashDoesNotMatch),
-            },
-        ) => true,
-        _ => false,
-    })
-}
-
 fn twice(alloc: Global, string: &Vec<u8>) -> Result<Vec<Vec<u8>>, Fail> {
     Ok(vec![in alloc; string.clone()?, string.clone()?]?)
+}
+
+// The string can't come twice.
+fn is_refused_again(
+    alloc: Global,
+    before: &package::LogState,
+    string: &Vec<u8>,
+) -> Result<bool, Fail> {
+    let strings = twice(alloc, string)?;
+    let cause = cause::<package::LogState>(alloc, "RecordHashDoesNotMatch")?;
+    is_refused(alloc, before, strings.as_slice(), 1, &cause)
 }
 
 // The last of the strings goes on from `before` to `after`, and can't come twice.
@@ -209,8 +181,7 @@ fn resume(
     let last = after.strings.last().ok_or("no strings")?;
     assert!(rt; makes(alloc, before, slice::from_ref(last), &after.state)?);
     assert!(rt; makes(alloc, before, &[], before)?);
-    let twice = twice(alloc, last)?;
-    assert!(rt; is_second_mislinked(alloc, before, twice.as_slice())?);
+    assert!(rt; is_refused_again(alloc, before, last)?);
     Ok(())
 }
 
@@ -230,13 +201,28 @@ fn a_log_goes_on(rt: HostRuntime) -> Result<(), Fail> {
     resume_script(&rt, rt.alloc(), &before.state, ALICE_YANKS)
 }
 
+fn is_read<R: Record + PartialEq>(
+    alloc: Global,
+    bytes: &[u8],
+    envelope: &ProtoEnvelope<R>,
+) -> Result<bool, Fail> {
+    Ok(ProtoEnvelope::<R>::from_protobuf(alloc, bytes)? == *envelope)
+}
+
+fn is_read_back<R: Record + PartialEq>(
+    alloc: Global,
+    envelope: &ProtoEnvelope<R>,
+) -> Result<bool, Fail> {
+    let bytes = envelope.to_protobuf(alloc)?;
+    is_read(alloc, bytes.as_slice(), envelope)
+}
+
 fn reads_back<L: Scripted>(alloc: Global, line: &str) -> Result<bool, Fail>
 where
     L::Record: PartialEq,
 {
     let envelope = envelope_of::<L>(alloc, None, line)?;
-    let bytes = envelope.to_protobuf(alloc)?;
-    Ok(ProtoEnvelope::<L::Record>::from_protobuf(alloc, bytes.as_slice())? == envelope)
+    is_read_back(alloc, &envelope)
 }
 
 #[test]

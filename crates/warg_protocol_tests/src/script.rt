@@ -79,3 +79,17 @@ pub fn envelope_of<L: Scripted>(
     let entries = entries_of::<L>(alloc, draft.entries)?;
     L::signed(alloc, draft.prev(last), &draft, entries)
 }
+
+/// The string that a line says: hex digits, or a record in a log whose last one is `last`, which it then is itself.
+pub(crate) fn string_of<L: Scripted>(
+    alloc: Global,
+    last: &mut Option<RecordId>,
+    line: &str,
+) -> Result<Vec<u8>, Fail> {
+    if !line.contains(':') {
+        return Ok(hex::decode(alloc, line)?);
+    }
+    let envelope = envelope_of::<L>(alloc, *last, line)?;
+    *last = Some(L::record_id(&envelope));
+    Ok(envelope.to_protobuf(alloc)?)
+}
