@@ -5,20 +5,30 @@ use std::test::Fail;
 use warg_protocol::Timestamp;
 use warg_protocol::package::Head;
 
+/// A value's text.
+pub(crate) fn shown<T: Display>(alloc: Global, value: &T) -> Result<String, Fail> {
+    Ok(value.to_string(alloc)?)
+}
+
+/// The answer where there is nothing.
+pub(crate) fn none(alloc: Global) -> Result<String, Fail> {
+    Ok(String::from_str(alloc, "none")?)
+}
+
 /// A value's text, or `none`.
 pub(crate) fn text_of<T: Display>(alloc: Global, value: Option<&T>) -> Result<String, Fail> {
-    Ok(match value {
-        Some(value) => value.to_string(alloc)?,
-        None => String::from_str(alloc, "none")?,
-    })
+    match value {
+        Some(value) => shown(alloc, value),
+        None => none(alloc),
+    }
 }
 
 /// The answer to `head time` or `head digest`.
 pub(crate) fn head(alloc: Global, head: &Option<Head>, subject: &str) -> Result<String, Fail> {
     match head {
         Some(head) if subject == "time" => time(alloc, head.timestamp),
-        Some(head) => text_of(alloc, Some(&head.digest)),
-        None => Ok(String::from_str(alloc, "none")?),
+        Some(head) => shown(alloc, &head.digest),
+        None => none(alloc),
     }
 }
 

@@ -1,6 +1,5 @@
 //! Operator logs.
-use crate::play::{log_of, play};
-use std::alloc::Global;
+use crate::play::{play, state_of};
 use std::process::Abort;
 use std::test::Fail;
 use warg_protocol::operator::LogState;
@@ -190,6 +189,6 @@ fn copy(rt: &impl Abort, state: &LogState) -> Result<(), Fail> {
 
 #[test]
 fn copies_are_equal(rt: HostRuntime) -> Result<(), Fail> {
-    let log = log_of::<LogState>(&rt, rt.alloc(), NAMESPACES)?;
-    copy(&rt, &log.state)
+    let state = state_of::<LogState>(&rt, rt.alloc(), NAMESPACES)?;
+    copy(&rt, &state)
 }

@@ -1,10 +1,11 @@
 //! What package logs answer, in words.
-use crate::answers::{head, text_of, time};
+use crate::answers::{head, none, shown, text_of, time};
 use crate::people::{id, owner};
 use std::alloc::Global;
 use std::test::Fail;
+use warg_crypto::signing::KeyID;
 use warg_protocol::package::{LogState, Release, ReleaseState};
-use warg_protocol::{Version, VersionReq};
+use warg_protocol::{Timestamp, Version, VersionReq};
 
 /// The answer to a look-up.
 pub fn answer(
@@ -30,13 +31,9 @@ fn key(alloc: Global, state: &LogState, name: &str) -> Result<String, Fail> {
 fn latest(alloc: Global, state: &LogState, wanted: &str) -> Result<String, Fail> {
     let wanted = VersionReq::parse(alloc, wanted)?;
     match state.find_latest_release(&wanted) {
-        Some(release) => text_of(alloc, Some(&release.version)),
+        Some(release) => shown(alloc, &release.version),
         None => none(alloc),
     }
-}
-
-fn none(alloc: Global) -> Result<String, Fail> {
-    Ok(String::from_str(alloc, "none")?)
 }
 
 fn permissions(alloc: Global, state: &LogState, name: &str) -> Result<String, Fail> {
@@ -75,24 +72,26 @@ fn of_version(
 
 fn of_release(alloc: Global, release: &Release, look_up: &str) -> Result<String, Fail> {
     match look_up {
-        "record" => text_of(alloc, Some(&release.record_id)),
+        "record" => shown(alloc, &release.record_id),
         "content" => text_of(alloc, release.content()),
         _ => told(alloc, release),
     }
 }
 
 fn told(alloc: Global, release: &Release) -> Result<String, Fail> {
-    let by = owner(&release.by)?;
-    let at = time(alloc, release.timestamp)?;
+    let released = deed(alloc, &release.by, release.timestamp)?;
     match &release.state {
-        ReleaseState::Released { .. } => Ok(format!(in alloc; "by {by} at {at}")?),
-        ReleaseState::Yanked {
-            by: yanker,
-            timestamp,
-        } => {
-            let yanker = owner(yanker)?;
-            let then = time(alloc, *timestamp)?;
-            Ok(format!(in alloc; "by {by} at {at}, yanked by {yanker} at {then}")?)
+        ReleaseState::Released { .. } => Ok(released),
+        ReleaseState::Yanked { by, timestamp } => {
+            let yanked = deed(alloc, by, *timestamp)?;
+            Ok(format!(in alloc; "{released}, yanked {yanked}")?)
         }
     }
+}
+
+// Whose it is, and when it was done.
+fn deed(alloc: Global, key_id: &KeyID, timestamp: Timestamp) -> Result<String, Fail> {
+    let by = owner(key_id)?;
+    let at = time(alloc, timestamp)?;
+    Ok(format!(in alloc; "by {by} at {at}")?)
 }

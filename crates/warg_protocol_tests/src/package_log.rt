@@ -1,5 +1,5 @@
 //! Package logs.
-use crate::play::{log_of, play};
+use crate::play::{play, state_of};
 use std::alloc::Global;
 use std::process::Abort;
 use std::test::Fail;
@@ -281,15 +281,15 @@ fn differ(rt: &impl Abort, left: &LogState, right: &LogState) {
 }
 
 fn differ_from(rt: &impl Abort, alloc: Global, left: &LogState, script: &str) -> Result<(), Fail> {
-    let right = log_of::<LogState>(rt, alloc, script)?;
-    differ(rt, left, &right.state);
+    let right = state_of::<LogState>(rt, alloc, script)?;
+    differ(rt, left, &right);
     Ok(())
 }
 
 #[test]
 fn a_state_knows_who_signed(rt: HostRuntime) -> Result<(), Fail> {
-    let by_bob = log_of::<LogState>(&rt, rt.alloc(), BY_BOB)?;
-    differ_from(&rt, rt.alloc(), &by_bob.state, BY_ALICE)
+    let by_bob = state_of::<LogState>(&rt, rt.alloc(), BY_BOB)?;
+    differ_from(&rt, rt.alloc(), &by_bob, BY_ALICE)
 }
 
 fn is_copied(state: &LogState) -> Result<bool, Fail> {
@@ -314,8 +314,8 @@ fn copy(rt: &impl Abort, state: &LogState) -> Result<(), Fail> {
 }
 
 fn copy_log(rt: &impl Abort, alloc: Global, script: &str) -> Result<(), Fail> {
-    let log = log_of::<LogState>(rt, alloc, script)?;
-    copy(rt, &log.state)
+    let state = state_of::<LogState>(rt, alloc, script)?;
+    copy(rt, &state)
 }
 
 #[test]

@@ -53,6 +53,14 @@ where
     Ok(player)
 }
 
+/// The state of a script.
+pub(crate) fn state_of<L: Scripted>(rt: &impl Abort, alloc: Global, script: &str) -> Result<L, Fail>
+where
+    L::Error: Debug + PartialEq,
+{
+    Ok(log_of::<L>(rt, alloc, script)?.state)
+}
+
 /// Whether the strings lead from the one state to the other.
 pub(crate) fn makes<L: Scripted>(
     alloc: Global,
@@ -154,36 +162,25 @@ where
         let (question, answer) = line
             .split_once(" = ")
             .ok_or("a question without an answer")?;
+        let told = self.told(alloc, question)?;
+        assert_eq!(rt; told.as_str(), answer, "{line}");
+        Ok(())
+    }
+
+    fn told(&self, alloc: Global, question: &str) -> Result<String, Fail> {
         match question.strip_prefix("effect ") {
-            Some(subject) => self.ask_effect(rt, alloc, subject, answer),
-            None => self.ask_state(rt, alloc, question, answer),
+            Some(subject) => self.effect(alloc, subject),
+            None => {
+                let (look_up, subject, _) = words_of(question);
+                self.state.answer(alloc, look_up, subject)
+            }
         }
     }
 
     // Of an entry of the last record.
-    fn ask_effect(
-        &self,
-        rt: &impl Abort,
-        alloc: Global,
-        subject: &str,
-        answer: &str,
-    ) -> Result<(), Fail> {
+    fn effect(&self, alloc: Global, subject: &str) -> Result<String, Fail> {
         let string = self.strings.last().ok_or("no record")?;
         let effect = effect_of::<L>(alloc, string.as_slice(), subject)?;
-        assert_eq!(rt; effect, answer, "{subject}");
-        Ok(())
-    }
-
-    fn ask_state(
-        &self,
-        rt: &impl Abort,
-        alloc: Global,
-        question: &str,
-        answer: &str,
-    ) -> Result<(), Fail> {
-        let (look_up, subject, _) = words_of(question);
-        let told = self.state.answer(alloc, look_up, subject)?;
-        assert_eq!(rt; told.as_str(), answer, "{question}");
-        Ok(())
+        Ok(String::from_str(alloc, effect)?)
     }
 }

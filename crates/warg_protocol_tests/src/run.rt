@@ -1,6 +1,6 @@
 //! Whole logs, read as strings.
 use crate::fault::cause;
-use crate::play::{Player, is_refused, log_of, makes};
+use crate::play::{Player, is_refused, log_of, makes, state_of};
 use crate::script::{Scripted, envelope_of, string_of};
 use std::alloc::Global;
 use std::fmt::Debug;
@@ -160,45 +160,54 @@ fn twice(alloc: Global, string: &Vec<u8>) -> Result<Vec<Vec<u8>>, Fail> {
     Ok(vec![in alloc; string.clone()?, string.clone()?]?)
 }
 
-// The string can't come twice.
-fn is_refused_again(
+// Whether the second string names another record than the one before it.
+fn is_second_mislinked<L: Scripted>(
     alloc: Global,
-    before: &package::LogState,
-    string: &Vec<u8>,
-) -> Result<bool, Fail> {
-    let strings = twice(alloc, string)?;
-    let cause = cause::<package::LogState>(alloc, "RecordHashDoesNotMatch")?;
-    is_refused(alloc, before, strings.as_slice(), 1, &cause)
+    before: &L,
+    strings: &[Vec<u8>],
+) -> Result<bool, Fail>
+where
+    L::Error: PartialEq,
+{
+    let cause = cause::<L>(alloc, "RecordHashDoesNotMatch")?;
+    is_refused(alloc, before, strings, 1, &cause)
 }
 
 // The last of the strings goes on from `before` to `after`, and can't come twice.
-fn resume(
+fn resume<L: Scripted>(
     rt: &impl Abort,
     alloc: Global,
-    before: &package::LogState,
-    after: &Player<package::LogState>,
-) -> Result<(), Fail> {
+    before: &L,
+    after: &Player<L>,
+) -> Result<(), Fail>
+where
+    L::Error: PartialEq,
+{
     let last = after.strings.last().ok_or("no strings")?;
     assert!(rt; makes(alloc, before, slice::from_ref(last), &after.state)?);
     assert!(rt; makes(alloc, before, &[], before)?);
-    assert!(rt; is_refused_again(alloc, before, last)?);
+    let twice = twice(alloc, last)?;
+    assert!(rt; is_second_mislinked(alloc, before, twice.as_slice())?);
     Ok(())
 }
 
-fn resume_script(
+fn resume_script<L: Scripted>(
     rt: &impl Abort,
     alloc: Global,
-    before: &package::LogState,
+    before: &L,
     script: &str,
-) -> Result<(), Fail> {
-    let after = log_of::<package::LogState>(rt, alloc, script)?;
+) -> Result<(), Fail>
+where
+    L::Error: Debug + PartialEq,
+{
+    let after = log_of::<L>(rt, alloc, script)?;
     resume(rt, alloc, before, &after)
 }
 
 #[test]
 fn a_log_goes_on(rt: HostRuntime) -> Result<(), Fail> {
-    let before = log_of::<package::LogState>(&rt, rt.alloc(), BOB_RELEASES)?;
-    resume_script(&rt, rt.alloc(), &before.state, ALICE_YANKS)
+    let before = state_of::<package::LogState>(&rt, rt.alloc(), BOB_RELEASES)?;
+    resume_script(&rt, rt.alloc(), &before, ALICE_YANKS)
 }
 
 fn is_read<R: Record + PartialEq>(

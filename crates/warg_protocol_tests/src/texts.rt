@@ -1,4 +1,5 @@
 //! What refusals say.
+use crate::answers::shown;
 use crate::script::{Scripted, words_of};
 use std::alloc::Global;
 use std::fmt::Display;
@@ -12,7 +13,7 @@ where
 {
     let (case, subject, permission) = words_of(words);
     let error = L::error(alloc, case, subject, permission)?;
-    Ok(error.to_string(alloc)?)
+    shown(alloc, &error)
 }
 
 // Each line is an error in words, and what it says.
