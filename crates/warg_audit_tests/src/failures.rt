@@ -1,12 +1,12 @@
 //! Readers and writers that fail.
 
-use crate::answering::{answer, answers, texts};
+use crate::answering::{answer, answers, status};
 use crate::lines::log_of;
 use std::alloc::Global;
 use std::io;
 use std::io::{ErrorKind, Read, Write};
 use std::test::Fail;
-use warg_audit::{Input, Output, audit};
+use warg_audit::{Input, Output};
 
 // Gives one byte a read, and fails once its reads are made.
 #[derive(Drop)]
@@ -30,6 +30,19 @@ impl Read for Drip<'_> {
     }
 }
 
+// Whether this is printed of the input, byte by byte, where so many reads succeed.
+fn is_read(
+    alloc: Global,
+    words: &[&str],
+    input: &[u8],
+    reads: usize,
+    printed: &str,
+    status: u8,
+) -> Result<bool, Fail> {
+    let drip = Drip { rest: input, reads };
+    answers(alloc, words, drip, printed, status)
+}
+
 // Whether the input, byte by byte, is answered so as soon as as many reads as it has bytes and one more succeed, and
 // each reader that fails earlier is told.
 fn is_read_bytewise(
@@ -38,24 +51,13 @@ fn is_read_bytewise(
     input: &[u8],
     printed: &str,
 ) -> Result<bool, Fail> {
-    for reads in 0..input.len() {
-        let drip = Drip { rest: input, reads };
-        if !answers(alloc, words, drip, "read fault\n", 3)? {
+    let enough = input.len().saturating_add(1);
+    for reads in 0..enough {
+        if !is_read(alloc, words, input, reads, "read fault\n", 3)? {
             return Ok(false);
         }
     }
-    let short = Drip {
-        rest: input,
-        reads: input.len(),
-    };
-    let whole = Drip {
-        rest: input,
-        reads: input.len().saturating_add(1),
-    };
-    Ok(
-        answers(alloc, words, short, "read fault\n", 3)?
-            && answers(alloc, words, whole, printed, 0)?,
-    )
+    is_read(alloc, words, input, enough, printed, 0)
 }
 
 #[test]
@@ -69,6 +71,11 @@ fn tells_failed_reads(rt: HostRuntime) -> Result<(), Fail> {
             id
         )?
     );
+    Ok(())
+}
+
+#[test]
+fn tells_failed_reads_of_a_log(rt: HostRuntime) -> Result<(), Fail> {
     let log = log_of(rt.alloc(), "abc", "\n")?;
     let verdict =
         "ok 3 sha256:88e63a3e22d45d5304a601e1f3f96e4c8edb3772b5250b528a833bfbf3c3c718\n1.1.0 yanked\n";
@@ -96,22 +103,33 @@ impl Write for Drain {
     }
 }
 
+// The exit status and the failed writes, where so many writes succeed; none where a read failed.
+fn written(
+    alloc: Global,
+    words: &[&str],
+    input: &[u8],
+    writes: usize,
+) -> Result<Option<(u8, u64)>, Fail> {
+    let mut reader = Input::new(input);
+    let mut output = Output::new(Drain { writes });
+    let status = status(alloc, words, &mut reader, &mut output)?;
+    let told = (status, output.failures());
+    Ok(if reader.failures() == 0 {
+        Some(told)
+    } else {
+        None
+    })
+}
+
 // Whether the status is 3 exactly where fewer writes succeed than the answer has bytes.
 fn is_written_bytewise(alloc: Global, words: &[&str], input: &[u8]) -> Result<bool, Fail> {
     let (text, status) = answer(alloc, words, input)?;
-    let words = texts(alloc, words)?;
     for writes in 0..text.len() {
-        let mut reader = Input::new(input);
-        let mut output = Output::new(Drain { writes });
-        let found = audit(alloc, words.as_slice(), &mut reader, &mut output);
-        if found != 3 || reader.failures() != 0 || output.failures() != 1 {
+        if written(alloc, words, input, writes)? != Some((3, 1)) {
             return Ok(false);
         }
     }
-    let mut reader = Input::new(input);
-    let mut output = Output::new(Drain { writes: text.len() });
-    let found = audit(alloc, words.as_slice(), &mut reader, &mut output);
-    Ok(found == status && output.failures() == 0)
+    Ok(written(alloc, words, input, text.len())? == Some((status, 0)))
 }
 
 #[test]
@@ -124,6 +142,11 @@ fn tells_failed_writes(rt: HostRuntime) -> Result<(), Fail> {
         )?
     );
     assert!(rt; is_written_bytewise(rt.alloc(), ["pkg"].as_slice(), b"".as_slice())?);
+    Ok(())
+}
+
+#[test]
+fn tells_failed_writes_of_a_log(rt: HostRuntime) -> Result<(), Fail> {
     let log = log_of(rt.alloc(), "abc", "\n")?;
     assert!(rt; is_written_bytewise(rt.alloc(), ["package"].as_slice(), log.as_bytes())?);
     Ok(())

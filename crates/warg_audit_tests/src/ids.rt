@@ -1,6 +1,6 @@
 //! The id of one record.
 
-use crate::answering::first_wrong;
+use crate::answering::{answer_lines, answer_rows};
 use std::test::Fail;
 
 // The ids of the package records of no bytes and of 1a00, and of the operator record of 1a00.
@@ -23,22 +23,25 @@ fn names_records(rt: HostRuntime) -> Result<(), Fail> {
         ("0A021A00\r", SMALL),
         ("0A021A00\r\n", SMALL),
     ];
-    let wrong = first_wrong(rt.alloc(), ["id", "package"].as_slice(), rows.as_slice(), 0)?;
-    assert!(rt; wrong.is_none(), "{wrong:?}");
-    Ok(())
+    answer_rows(
+        &rt,
+        rt.alloc(),
+        ["id", "package"].as_slice(),
+        rows.as_slice(),
+        0,
+    )
 }
 
 #[test]
 fn names_operator_records(rt: HostRuntime) -> Result<(), Fail> {
     let rows = [("0a021a00", OPERATOR)];
-    let wrong = first_wrong(
+    answer_rows(
+        &rt,
         rt.alloc(),
         ["id", "operator"].as_slice(),
         rows.as_slice(),
         0,
-    )?;
-    assert!(rt; wrong.is_none(), "{wrong:?}");
-    Ok(())
+    )
 }
 
 #[test]
@@ -56,35 +59,28 @@ fn wants_one_line(rt: HostRuntime) -> Result<(), Fail> {
         ("0a021a00\n0a021a00\n", "bad line 1\n"),
         ("0a021a00\n0g", "bad line 1\n"),
     ];
-    let wrong = first_wrong(rt.alloc(), ["id", "package"].as_slice(), rows.as_slice(), 2)?;
-    assert!(rt; wrong.is_none(), "{wrong:?}");
-    Ok(())
+    answer_rows(
+        &rt,
+        rt.alloc(),
+        ["id", "package"].as_slice(),
+        rows.as_slice(),
+        2,
+    )
 }
 
 #[test]
 fn names_faults(rt: HostRuntime) -> Result<(), Fail> {
-    let rows = [
-        ("0a021a", "refused 0 ProtobufEnvelope.Truncated\n"),
-        ("80", "refused 0 ProtobufEnvelope.Truncated\n"),
-        (
-            "ffffffffffffffffff02",
-            "refused 0 ProtobufEnvelope.VarintTooLong\n",
-        ),
-        ("0b", "refused 0 ProtobufEnvelope.Group\n"),
-        ("0e", "refused 0 ProtobufEnvelope.BadKey\n"),
-        ("00", "refused 0 ProtobufEnvelope.BadKey\n"),
-        ("0801", "refused 0 ProtobufEnvelope.WrongWireType\n"),
-        ("1201ff", "refused 0 ProtobufEnvelope.NotUtf8\n"),
-        ("1201ff120161", "refused 0 ProtobufEnvelope.NotUtf8\n"),
-    ];
-    let wrong = first_wrong(rt.alloc(), ["id", "package"].as_slice(), rows.as_slice(), 1)?;
-    assert!(rt; wrong.is_none(), "{wrong:?}");
-    let wrong = first_wrong(
-        rt.alloc(),
-        ["id", "operator"].as_slice(),
-        rows.as_slice(),
-        1,
-    )?;
-    assert!(rt; wrong.is_none(), "{wrong:?}");
-    Ok(())
+    let lines = "
+        0a021a = refused 0 ProtobufEnvelope.Truncated
+        80 = refused 0 ProtobufEnvelope.Truncated
+        ffffffffffffffffff02 = refused 0 ProtobufEnvelope.VarintTooLong
+        0b = refused 0 ProtobufEnvelope.Group
+        0e = refused 0 ProtobufEnvelope.BadKey
+        00 = refused 0 ProtobufEnvelope.BadKey
+        0801 = refused 0 ProtobufEnvelope.WrongWireType
+        1201ff = refused 0 ProtobufEnvelope.NotUtf8
+        1201ff120161 = refused 0 ProtobufEnvelope.NotUtf8
+    ";
+    answer_lines(&rt, rt.alloc(), ["id", "package"].as_slice(), lines, 1)?;
+    answer_lines(&rt, rt.alloc(), ["id", "operator"].as_slice(), lines, 1)
 }

@@ -1,8 +1,9 @@
 //! The verdict on logs.
 
-use crate::answering::answers;
+use crate::answering::{answers, answers_line, row};
 use crate::lines::log_of;
 use std::alloc::Global;
+use std::process::Abort;
 use std::test::Fail;
 
 const PACKAGE: &str =
@@ -16,21 +17,54 @@ const ONE: &str = "ok 1 sha256:a81d0fa3471ae2d21cbfdb301daf648089c44117ca34d9b32
 const OPERATOR: &str =
     "ok 2 sha256:830514606a060a92a56e67edd1f57742cd36218908150d8de15650a8edebaf84\n";
 
-// The first log that is answered otherwise. A row is the letters of its lines and what is printed of it.
-fn first_wrong_log(
+// Whether the log of these letters is answered so.
+fn is_answered(
+    alloc: Global,
+    kind: &str,
+    end: &str,
+    letters: &str,
+    printed: &str,
+) -> Result<bool, Fail> {
+    let log = log_of(alloc, letters, end)?;
+    answers(alloc, [kind].as_slice(), log.as_bytes(), printed, 0)
+}
+
+// Answers each log so. A row is the letters of its lines and what is printed of it.
+fn answer_logs(
+    rt: &impl Abort,
     alloc: Global,
     kind: &str,
     end: &str,
     rows: &[(&'static str, &'static str)],
-    status: u8,
-) -> Result<Option<&'static str>, Fail> {
+) -> Result<(), Fail> {
     for (letters, printed) in rows {
-        let log = log_of(alloc, *letters, end)?;
-        if !answers(alloc, [kind].as_slice(), log.as_bytes(), *printed, status)? {
-            return Ok(Some(*letters));
-        }
+        assert!(rt;
+            is_answered(alloc, kind, end, *letters, *printed)?,
+            "{letters}"
+        );
     }
-    Ok(None)
+    Ok(())
+}
+
+// Whether the log of these letters is answered by this line, with this exit status.
+fn is_told(alloc: Global, kind: &str, letters: &str, line: &str, status: u8) -> Result<bool, Fail> {
+    let log = log_of(alloc, letters, "\n")?;
+    answers_line(alloc, [kind].as_slice(), log.as_bytes(), line, status)
+}
+
+// Answers each log so, with this exit status. A line is the letters of its lines and the line that is printed of it.
+fn tell_logs(
+    rt: &impl Abort,
+    alloc: Global,
+    kind: &str,
+    lines: &str,
+    status: u8,
+) -> Result<(), Fail> {
+    for line in lines.trim().lines() {
+        let (letters, printed) = row(line)?;
+        assert!(rt; is_told(alloc, kind, letters, printed, status)?, "{line}");
+    }
+    Ok(())
 }
 
 #[test]
@@ -41,19 +75,14 @@ fn shows_package_logs(rt: HostRuntime) -> Result<(), Fail> {
         ("ab", TWO),
         ("abc", PACKAGE),
     ];
-    let wrong = first_wrong_log(rt.alloc(), "package", "\n", rows.as_slice(), 0)?;
-    assert!(rt; wrong.is_none(), "{wrong:?}");
-    let wrong = first_wrong_log(rt.alloc(), "package", "\r\n", rows.as_slice(), 0)?;
-    assert!(rt; wrong.is_none(), "{wrong:?}");
-    Ok(())
+    answer_logs(&rt, rt.alloc(), "package", "\n", rows.as_slice())?;
+    answer_logs(&rt, rt.alloc(), "package", "\r\n", rows.as_slice())
 }
 
 #[test]
 fn shows_operator_logs(rt: HostRuntime) -> Result<(), Fail> {
     let rows = [("", "ok 0 none\n"), ("id", OPERATOR)];
-    let wrong = first_wrong_log(rt.alloc(), "operator", "\n", rows.as_slice(), 0)?;
-    assert!(rt; wrong.is_none(), "{wrong:?}");
-    Ok(())
+    answer_logs(&rt, rt.alloc(), "operator", "\n", rows.as_slice())
 }
 
 #[test]
@@ -69,47 +98,40 @@ fn last_line_may_end_early(rt: HostRuntime) -> Result<(), Fail> {
 
 #[test]
 fn refuses_the_first_wrong_line(rt: HostRuntime) -> Result<(), Fail> {
-    let rows = [
-        ("bac", "refused 0 PreviousHashOnFirstRecord\n"),
-        ("acb", "refused 1 RecordHashDoesNotMatch\n"),
-        ("abb", "refused 2 RecordHashDoesNotMatch\n"),
-        ("gbc", "refused 0 ProtobufEnvelope.Group\n"),
-        ("agc", "refused 1 ProtobufEnvelope.Group\n"),
-        ("abg", "refused 2 ProtobufEnvelope.Group\n"),
-        ("a-c", "refused 1 Contents.MissingTime\n"),
-        ("aa", "refused 1 NoPreviousHashAfterInit\n"),
-    ];
-    let wrong = first_wrong_log(rt.alloc(), "package", "\n", rows.as_slice(), 1)?;
-    assert!(rt; wrong.is_none(), "{wrong:?}");
-    Ok(())
+    let lines = "
+        bac = refused 0 PreviousHashOnFirstRecord
+        acb = refused 1 RecordHashDoesNotMatch
+        abb = refused 2 RecordHashDoesNotMatch
+        gbc = refused 0 ProtobufEnvelope.Group
+        agc = refused 1 ProtobufEnvelope.Group
+        abg = refused 2 ProtobufEnvelope.Group
+        a-c = refused 1 Contents.MissingTime
+        aa = refused 1 NoPreviousHashAfterInit
+    ";
+    tell_logs(&rt, rt.alloc(), "package", lines, 1)
 }
 
 #[test]
 fn refuses_operator_lines(rt: HostRuntime) -> Result<(), Fail> {
-    let rows = [
-        ("di", "refused 0 PreviousHashOnFirstRecord\n"),
-        ("ii", "refused 1 NoPreviousHashAfterInit\n"),
-        ("idd", "refused 2 RecordHashDoesNotMatch\n"),
-        ("idg", "refused 2 ProtobufEnvelope.Group\n"),
-    ];
-    let wrong = first_wrong_log(rt.alloc(), "operator", "\n", rows.as_slice(), 1)?;
-    assert!(rt; wrong.is_none(), "{wrong:?}");
-    Ok(())
+    let lines = "
+        di = refused 0 PreviousHashOnFirstRecord
+        ii = refused 1 NoPreviousHashAfterInit
+        idd = refused 2 RecordHashDoesNotMatch
+        idg = refused 2 ProtobufEnvelope.Group
+    ";
+    tell_logs(&rt, rt.alloc(), "operator", lines, 1)
 }
 
 #[test]
 fn reads_all_lines_first(rt: HostRuntime) -> Result<(), Fail> {
-    let rows = [
-        ("x", "bad line 0\n"),
-        ("xbc", "bad line 0\n"),
-        ("axc", "bad line 1\n"),
-        ("abx", "bad line 2\n"),
-        ("gx", "bad line 1\n"),
-        ("xx", "bad line 0\n"),
-    ];
-    let wrong = first_wrong_log(rt.alloc(), "package", "\n", rows.as_slice(), 2)?;
-    assert!(rt; wrong.is_none(), "{wrong:?}");
-    let wrong = first_wrong_log(rt.alloc(), "operator", "\n", rows.as_slice(), 2)?;
-    assert!(rt; wrong.is_none(), "{wrong:?}");
-    Ok(())
+    let lines = "
+        x = bad line 0
+        xbc = bad line 0
+        axc = bad line 1
+        abx = bad line 2
+        gx = bad line 1
+        xx = bad line 0
+    ";
+    tell_logs(&rt, rt.alloc(), "package", lines, 2)?;
+    tell_logs(&rt, rt.alloc(), "operator", lines, 2)
 }
