@@ -4,7 +4,6 @@ use Rattle.std.specs.Bool.{Decides}
 use Rattle.std.specs.Cmp.Lexicographic.{pointwise}
 use Rattle.std.specs.Option.{option_eq}
 use Rattle.std.specs.Str.{bytes_eq}
-use Rattle.std.specs.Ordering.{int_eq}
 use Rattle.std.proofs.lemmas.Bool.Decides.{Decides-and, Decides-eqb, Decides-int_eq, Decides-like}
 use Rattle.std.proofs.lemmas.Slice.Eq.{bytes_eq-Decides, slice_eq-Decides}
 use Rattle.std.proofs.lemmas.Cmp.{nat_eq_equiv}
@@ -51,9 +50,10 @@ IsFalse false = Unit {0}
 
 -- two values of different cases, by the numbers of their plain data's cases
 pub cases_decided : {D : Type 0} (case_of : D → ℕ) (r : Bool) (d e : D) → r ≡ false → nat_eq (case_of d) (case_of e) ≡ false → Decides r (d ≡ e)
-cases_decided case_of r d e is_false differ =
-    (λ h. absurd (subst IsFalse (sym is_false ∙ h) tt),
-    λ h. absurd (subst IsFalse (sym (subst (λ (x : _). nat_eq (case_of d) (case_of x) ≡ false) (sym h) differ) ∙ nat_eq_equiv.refl (case_of d)) tt))
+cases_decided case_of r d e is_false differ = (
+  λ h. absurd (subst IsFalse (sym is_false ∙ h) tt),
+  λ h. absurd (subst IsFalse (sym (subst (λ (x : _). nat_eq (case_of d) (case_of x) ≡ false) (sym h) differ) ∙ nat_eq_equiv.refl (case_of d)) tt),
+)
 
 pub version_decided : (v w : Version) →
     Decides ((v.major == w.major) && ((v.minor == w.minor) && ((v.patch == w.patch) && (bytes_eq (pre_text v.pre) (pre_text w.pre) && bytes_eq (build_text v.build) (build_text w.build)))))

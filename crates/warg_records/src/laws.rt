@@ -25,8 +25,9 @@ use crate::{ProtoEnvelope, Record};
 pub use equality::{
     are_same_bodies, are_same_envelopes, are_same_invalid_permissions, are_same_operator_entries,
     are_same_operator_permissions, are_same_operator_records, are_same_package_entries,
-    are_same_package_permissions, are_same_package_records, are_same_parse_errors, are_same_permission_errors,
-    are_same_published_bodies, are_same_published_envelopes, are_same_serde_envelopes,
+    are_same_package_permissions, are_same_package_records, are_same_parse_errors,
+    are_same_permission_errors, are_same_published_bodies, are_same_published_envelopes,
+    are_same_serde_envelopes,
 };
 use warg_protobuf::laws::{decoding_computes, exactly_one};
 pub use whole::{operator_records_are_whole, package_records_are_whole};
