@@ -1,20 +1,19 @@
-//! Contracts of a program's own, which cite what `warg_protocol` alone hands on.
+//! A program over package logs, whose contracts cite what `warg_protocol` alone hands on.
 ghost use Rattle.std.specs.Prelude.{◌≡◌, IfOk, map};
 ghost use Rattle.std.specs.Option.{option_map, option_copied};
 ghost use Rattle.std.specs.Vec.{vec_items};
 ghost use Rattle.warg_protocol.specs.Logs.{IsAccepted, envelope_of, read_all};
-ghost use Rattle.warg_protocol.specs.Operator as operator;
 ghost use Rattle.warg_protocol.specs.Package.{TellsHistory, kind, package_record_of, view_of, IsGreatest, shows_candidate, shown_cmp, release_view};
 
 use crate::people::id;
-use crate::play::{log_of, state_of};
+use crate::play::log_of;
 use std::alloc::Global;
 use std::process::Abort;
 use std::test::Fail;
 use warg_protocol::package::{LogState, Permission, Release, ValidationError};
 use warg_protocol::signing::{KeyID, Verifier};
 use warg_protocol::toy::ToyVerifier;
-use warg_protocol::{RunError, Validator, VersionReq, laws, operator, run};
+use warg_protocol::{RunError, Validator, VersionReq, laws, run};
 
 /// The state of a package's log: what its history says.
 fn audited<V: Verifier>(
@@ -41,13 +40,6 @@ fn resolved<'a>(state: &'a LogState, wanted: &VersionReq) -> Option<&'a Release>
     ensures { IsGreatest (shows_candidate wanted.now.comparators.items) shown_cmp (view_of state.now).whole.matter (option_map release_view (option_copied result)) }
 {
     state.find_latest_release(wanted)
-}
-
-/// Whether the key may sign checkpoints of the registry.
-fn may_sign(state: &operator::LogState, key_id: &KeyID) -> bool
-    ensures { result ≡ (operator.view_of state.now).whole.authority.holds key_id.now operator::Permission.Commit }
-{
-    state.key_has_permission_to_sign_checkpoints(key_id)
 }
 
 const LOG: &str = "
@@ -84,17 +76,5 @@ fn a_program_asks_a_package_log(rt: HostRuntime) -> Result<(), Fail> {
     assert!(rt; may_release_in(alloc, &state, "bob")?);
     assert!(rt; !may_release_in(alloc, &state, "mallory")?);
     assert_eq!(rt; best(alloc, &state, "^1")?.as_str(), "1.1.0");
-    Ok(())
-}
-
-fn may_sign_in(alloc: Global, state: &operator::LogState, name: &str) -> Result<bool, Fail> {
-    Ok(may_sign(state, &id(alloc, name)?))
-}
-
-#[test]
-fn a_program_asks_an_operator_log(rt: HostRuntime) -> Result<(), Fail> {
-    let state = state_of::<operator::LogState>(&rt, rt.alloc(), "alice 1.0: init alice")?;
-    assert!(rt; may_sign_in(rt.alloc(), &state, "alice")?);
-    assert!(rt; !may_sign_in(rt.alloc(), &state, "bob")?);
     Ok(())
 }
