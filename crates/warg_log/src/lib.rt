@@ -14,7 +14,6 @@ mod permission;
 mod refusal;
 mod rights;
 
-pub use fault::Fault;
 pub use head::Head;
 pub use log::Log;
 pub use matter::{Matter, Parts, Step};
