@@ -7,6 +7,7 @@ ghost use Rattle.indexmap.specs.IndexMap.{get_by_text};
 ghost use Rattle.warg_records.specs.KebabNames.{IsKebabName, is_kebab_name};
 ghost use Rattle.warg_records.specs.OperatorEntries.{OperatorAct, reading, said};
 ghost use Rattle.warg_log.specs.Judging.{Judges};
+ghost use Rattle.warg_log.specs.Offences as shared;
 ghost use Rattle.warg_log.specs.History.{Wrong};
 ghost use Rattle.warg_operator_log.specs.Namespaces.{OwnOffence, Names, Namespace, names, name_offence, rules, names-none, names-append, alike_offence, alike_after};
 ghost use Rattle.warg_operator_log.specs.NamespaceMap.{namespace_view, named, HasKebabNames};
@@ -183,7 +184,9 @@ impl Matter for NamespaceMap {
         }
     }
 
-    fn refused(refusal: Refusal<Permission>) -> ValidationError {
+    fn refused(refusal: Refusal<Permission>) -> ValidationError
+        ensures { offence_of result ≡ option_map Wrong.Shared (shared.offence_of refusal) }
+    {
         ValidationError::from(refusal)
     }
 
