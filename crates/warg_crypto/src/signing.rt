@@ -7,6 +7,7 @@ ghost use Rattle.warg_crypto.specs.declared.signing.error.SignatureError.TheVari
 
 mod error;
 mod key;
+mod shown;
 mod signed;
 mod tagged;
 
@@ -15,6 +16,7 @@ pub use error::{KeyParseError, SignatureError, SignatureParseError};
 pub use key::{KeyID, PublicKey};
 pub use signed::Signature;
 use std::alloc::{AllocError, Global};
+pub use tagged::is_algorithm_name;
 
 /// Says whether a signature belongs to a message under a key.
 pub trait Verifier {

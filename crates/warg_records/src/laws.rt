@@ -18,9 +18,15 @@ ghost use Rattle.warg_protobuf.specs.Envelope.{IsEnvelope};
 ghost use Rattle.warg_records.specs.Envelopes.{IsHonest, envelope_message};
 ghost use Rattle.warg_records.specs.Letters.{Held};
 
+mod registry;
 mod whole;
 
 use crate::{ProtoEnvelope, Record};
+pub use registry::{
+    are_same_checkpoints, are_same_log_ids, are_same_log_leaves, are_same_map_leaves,
+    are_same_package_name_errors, are_same_package_names, are_same_record_ids,
+    are_same_timestamped_checkpoints, compare_log_ids, compare_package_names, compare_record_ids,
+};
 use warg_protobuf::laws::{decoding_computes, exactly_one};
 pub use whole::{operator_records_are_whole, package_records_are_whole};
 
