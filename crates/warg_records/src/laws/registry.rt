@@ -34,7 +34,10 @@ pub fn are_same_checkpoints(a: &Checkpoint, b: &Checkpoint) -> bool
 }
 
 /// `==` of timestamped checkpoints is equality of checkpoint and time.
-pub fn are_same_timestamped_checkpoints(a: &TimestampedCheckpoint, b: &TimestampedCheckpoint) -> bool
+pub fn are_same_timestamped_checkpoints(
+    a: &TimestampedCheckpoint,
+    b: &TimestampedCheckpoint,
+) -> bool
     ensures { IsTrue result ↔ (a.now ≡ b.now) }
 {
     a == b
