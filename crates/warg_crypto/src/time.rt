@@ -149,6 +149,7 @@ impl fmt::Display for Timestamp {
 /// clock that ticks once a call:
 ///
 /// ```
+/// #[derive(Drop)]
 /// struct Ticks {
 ///     next: u32,
 /// }
