@@ -11,7 +11,9 @@ ghost use Rattle.warg_crypto.specs.TimeText.{time_text};
 ghost use Rattle.warg_crypto.specs.declared.hash.AnyHash.{AnyHash};
 
 mod equality;
+mod hashing;
 mod order;
+mod texts;
 
 use crate::hash::{Hash, SupportedDigest};
 use crate::toy::{ToySigner, ToyVerifier};
@@ -23,8 +25,12 @@ pub use equality::{
     are_same_time_errors, are_same_times, are_same_typed_hashes, are_same_unknown_algorithms,
     are_same_wire_faults,
 };
+pub use hashing::{feed_id, feed_key, feed_signature, feed_time};
 pub use order::{compare_algorithms, compare_hashes, compare_ids, compare_typed_hashes, is_before};
 use std::alloc::{AllocError, Global};
+pub use texts::{
+    print_algorithm, print_hash, print_id, print_key, print_signature, print_time, print_typed_hash,
+};
 
 /// What is written of a hash reads back.
 pub fn hash_reads_back()

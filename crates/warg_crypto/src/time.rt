@@ -125,8 +125,7 @@ impl Hash for Timestamp {
     ghost respects_eq = { time_hash_input-same_time };
 
     fn hash<H: Hasher>(&self, state: &mut H) {
-        self.seconds.hash(state);
-        self.nanos.hash(state);
+        (self.seconds, self.nanos).hash(state);
     }
 }
 

@@ -125,7 +125,7 @@ impl<D: SupportedDigest> fmt::Debug for Hash<D> {
     ghost debug_output = { λ h. Some (hash_text (record { algorithm = D.ALGORITHM; bytes = h.bytes })) };
 
     fn fmt<W: fmt::Write>(&self, f: &mut fmt::Formatter<W>) -> fmt::Result {
-        fmt::Display::fmt(&self.any(), f)
+        fmt::Display::fmt(self, f)
     }
 }
 

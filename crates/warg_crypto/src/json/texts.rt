@@ -23,7 +23,8 @@ impl JsonValue for HashAlgorithm {
     ghost reads_back = { algorithm_reads_back };
 
     fn to_value(&self, alloc: Global) -> Result<Value, JsonError> {
-        text_value(alloc, self.as_str())
+        let name = self.as_str();
+        text_value(alloc, name)
     }
 
     fn from_value(_alloc: Global, value: &Value) -> Result<HashAlgorithm, JsonError> {

@@ -69,7 +69,7 @@ impl fmt::Debug for KeyID {
     ghost debug_output = { λ k. Some k };
 
     fn fmt<W: fmt::Write>(&self, f: &mut fmt::Formatter<W>) -> fmt::Result {
-        f.write_str(self.as_str())
+        fmt::Display::fmt(self, f)
     }
 }
 
@@ -239,7 +239,7 @@ impl fmt::Debug for PublicKey {
     ghost debug_output = { λ k. Some (tag_text k) };
 
     fn fmt<W: fmt::Write>(&self, f: &mut fmt::Formatter<W>) -> fmt::Result {
-        fmt::Display::fmt(&self.tagged, f)
+        fmt::Display::fmt(self, f)
     }
 }
 

@@ -95,7 +95,7 @@ impl fmt::Debug for Signature {
     ghost debug_output = { λ k. Some (tag_text k) };
 
     fn fmt<W: fmt::Write>(&self, f: &mut fmt::Formatter<W>) -> fmt::Result {
-        fmt::Display::fmt(&self.tagged, f)
+        fmt::Display::fmt(self, f)
     }
 }
 

@@ -89,8 +89,9 @@ impl Tagged {
         ensures value { result.now ≡ self.now.bytes }
         ensures are_bytes { IsBytes self.now.bytes }
     {
-        byte_range(self.bytes.as_slice());
-        self.bytes.as_slice()
+        let bytes = self.bytes.as_slice();
+        byte_range(bytes);
+        bytes
     }
 
     /// The name, a colon, and the bytes in base64.

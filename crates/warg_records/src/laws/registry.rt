@@ -1,7 +1,9 @@
-//! Equality and order of what a registry names things by.
+//! Equality and order of what a registry names things by, and what a hasher is fed of a name.
 
 ghost use Rattle.std.specs.Prelude.{◌≡◌, ◌↔◌, IsTrue};
 ghost use Rattle.std.specs.Cmp.Lexicographic.{slice_cmp};
+ghost use Rattle.std.specs.Hash as fed;
+ghost use Rattle.std.specs.List.{fold};
 ghost use Rattle.std.specs.Ordering.{nat_cmp};
 ghost use Rattle.warg_records.specs.PackageNames.{refused_name};
 
@@ -10,6 +12,7 @@ use crate::registry::{
     TimestampedCheckpoint,
 };
 use std::cmp::Ordering;
+use std::hash::{Hash, Hasher};
 use warg_crypto::hash::AnyHash;
 
 /// `==` of ids of logs is equality of hashes.
@@ -90,4 +93,11 @@ pub fn compare_package_names(a: &PackageName, b: &PackageName) -> Ordering
     ensures { result ≡ slice_cmp nat_cmp a.now b.now }
 {
     a.cmp(b)
+}
+
+/// Of a package name a hasher is fed its text.
+pub fn feed_package_name<H: Hasher>(name: &PackageName, hasher: &mut H)
+    ensures { hasher.new ≡ fold H.write hasher.old (fed.str name.now) }
+{
+    name.hash(hasher);
 }

@@ -64,7 +64,7 @@ impl fmt::Debug for LogId {
     ghost debug_output = { λ id. Some (hash_text id.hash) };
 
     fn fmt<W: fmt::Write>(&self, f: &mut fmt::Formatter<W>) -> fmt::Result {
-        fmt::Display::fmt(&self.hash, f)
+        fmt::Display::fmt(self, f)
     }
 }
 
