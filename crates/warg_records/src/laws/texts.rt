@@ -36,7 +36,10 @@ pub fn print_package_name<W: Write>(name: &PackageName, f: &mut Formatter<W>) ->
 }
 
 /// A permission of a package log prints as its name.
-pub fn print_package_permission<W: Write>(permission: &package::Permission, f: &mut Formatter<W>) -> Result
+pub fn print_package_permission<W: Write>(
+    permission: &package::Permission,
+    f: &mut Formatter<W>,
+) -> Result
     ensures plain { WritesOnOk W.write_str_gives f.old result (in_package.permission_text permission.now) f.new }
     ensures styled { WritesStyledOnOk W.write_str_gives f.old result (in_package.permission_text permission.now) f.new }
 {
@@ -44,7 +47,10 @@ pub fn print_package_permission<W: Write>(permission: &package::Permission, f: &
 }
 
 /// A permission of an operator log prints as its name.
-pub fn print_operator_permission<W: Write>(permission: &operator::Permission, f: &mut Formatter<W>) -> Result
+pub fn print_operator_permission<W: Write>(
+    permission: &operator::Permission,
+    f: &mut Formatter<W>,
+) -> Result
     ensures plain { WritesOnOk W.write_str_gives f.old result (in_operator.permission_text permission.now) f.new }
     ensures styled { WritesStyledOnOk W.write_str_gives f.old result (in_operator.permission_text permission.now) f.new }
 {
