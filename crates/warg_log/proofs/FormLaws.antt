@@ -227,7 +227,7 @@ module _ {P O V F D : Type 0} (rules : Rules P O V F) (same : P → P → Bool) 
   coherent v (e ∷ es) c h =
       let r = record_of e in
       let l = lawful rules same b v r (read_lawful rules same read matter b v e (read e.content) h.0) in
-      coherent (after_record rules same v r) es (record-coherent rules same b v r (whole_after rules same v.whole (record_events rules.id_of r)) refl l.unsigned (head_of rules.id_of r) c l.signed) h.1
+      coherent (after_record rules same v r) es (record-coherent rules same b v r (whole_after rules same v.whole (record_events rules.id_of r)) refl l.unsigned (head_of rules.id_of r) refl c l.signed) h.1
 
   module _ (laws : KindLaws (kind_of rules same read matter)) where
     -- the contents of accepted letters are records

@@ -171,6 +171,63 @@ fn later_records_are_refused(rt: HostRuntime) -> Result<(), Fail> {
     play::<LogState>(&rt, rt.alloc(), script)
 }
 
+#[test]
+fn versions_never_fall(rt: HostRuntime) -> Result<(), Fail> {
+    let script = "
+        alice 1.0 v2: init alice
+        ! ProtocolVersionNotAllowed 2
+        alice 1.0: init alice
+        ? head version = 0
+        alice 1.0 v2:
+        ! ProtocolVersionNotAllowed 2
+        alice 1.0 mislinked v2:
+        ! RecordHashDoesNotMatch
+        alice 1.0 v1:
+        ? head version = 1
+        alice 0.5:
+        ! ProtocolVersionNotAllowed 0
+        alice 1.0 v1: define a
+    ";
+    play::<LogState>(&rt, rt.alloc(), script)
+}
+
+#[test]
+fn no_key_brings_itself_in(rt: HostRuntime) -> Result<(), Fail> {
+    for script in [
+        // From version 1 on the signer of an init owns its key.
+        "
+        carol 1.0 v1: init alice, grant carol commit
+        ! KeyIDNotRecognized carol
+        carol 1.0: init alice, grant carol commit
+        ? signs carol = true
+        carol 1.0 v1:
+        ? head version = 1
+        ",
+        "
+        alice 1.0 v1: grant bob
+        ! UnauthorizedAction alice commit
+        alice 1.0 v1: init alice
+        alice 1.0 v1: grant mallory
+        ! EmptyGrant mallory
+        mallory 1.0 v1: grant mallory
+        ! UnauthorizedAction mallory commit
+        ? key mallory = none
+        alice 1.0 v1: grant mallory commit
+        mallory 1.0 v1: grant bob importNamespace
+        ! UnauthorizedAction mallory importNamespace
+        mallory 1.0 v1:
+        ",
+        // What version 0 took stays.
+        "
+        alice 1.0: init alice, grant bob
+        bob 1.0 v1:
+        ",
+    ] {
+        play::<LogState>(&rt, rt.alloc(), script)?;
+    }
+    Ok(())
+}
+
 fn is_copied(state: &LogState) -> Result<bool, Fail> {
     Ok(state.try_clone()? == *state)
 }
