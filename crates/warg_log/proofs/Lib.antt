@@ -14,3 +14,4 @@ pub mod HistoryViews
 pub mod KindLaws
 pub mod SameLaws
 pub mod FormLaws
+pub mod AdmissionLaws

@@ -12,6 +12,7 @@ pub mod Refusals
 pub mod Histories
 pub mod Forms
 pub mod LogKind
+pub mod Admissions
 pub mod Steps
 pub mod Equal
 pub mod EqualLaws
