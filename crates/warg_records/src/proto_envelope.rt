@@ -20,7 +20,7 @@ use std::fmt;
 use std::marker::Model;
 use warg_crypto::signing::{KeyID, Signature, SignatureError, Signer};
 use warg_crypto::{DecodeError, Signable};
-use warg_protobuf::Envelope;
+use warg_protobuf::{Envelope, Message};
 
 /// A record with its bytes as they came, who signed them, and the signature. The bytes are kept since other bytes
 /// may say the same record.
