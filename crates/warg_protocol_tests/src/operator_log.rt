@@ -2,7 +2,7 @@
 use crate::play::{play, state_of};
 use std::process::Abort;
 use std::test::Fail;
-use warg_protocol::operator::LogState;
+use warg_protocol::operator::{LogState, OPERATOR_RECORD_VERSION};
 
 #[test]
 fn a_log_begins(rt: HostRuntime) -> Result<(), Fail> {
@@ -173,6 +173,7 @@ fn later_records_are_refused(rt: HostRuntime) -> Result<(), Fail> {
 
 #[test]
 fn versions_never_fall(rt: HostRuntime) -> Result<(), Fail> {
+    assert_eq!(rt; OPERATOR_RECORD_VERSION, 1);
     let script = "
         alice 1.0 v2: init alice
         ! ProtocolVersionNotAllowed 2

@@ -3,7 +3,7 @@ use crate::play::{play, state_of};
 use std::alloc::Global;
 use std::process::Abort;
 use std::test::Fail;
-use warg_protocol::package::{LogState, Release, ReleaseState};
+use warg_protocol::package::{LogState, PACKAGE_RECORD_VERSION, Release, ReleaseState};
 
 #[test]
 fn a_log_begins(rt: HostRuntime) -> Result<(), Fail> {
@@ -262,6 +262,7 @@ fn releases_and_yanks_are_refused(rt: HostRuntime) -> Result<(), Fail> {
 
 #[test]
 fn versions_never_fall(rt: HostRuntime) -> Result<(), Fail> {
+    assert_eq!(rt; PACKAGE_RECORD_VERSION, 1);
     for script in [
         "
         alice 1.0 v2: init alice
