@@ -31,6 +31,7 @@ pub use serde_envelope::SerdeEnvelope;
 use std::alloc::{AllocError, Global};
 use warg_crypto::hash::AnyHash;
 use warg_crypto::{Decode, DecodeError};
+pub use warg_protobuf::{Envelope, EnvelopeView};
 
 /// A record of one kind of log.
 pub trait Record: Decode + Drop {
