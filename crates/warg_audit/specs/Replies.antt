@@ -1,5 +1,5 @@
 -- What is printed by a reader and a writer that may fail.
-use Rattle.std.specs.Prelude.{◌≡◌, ℕ, List, Option, IfSome, string_bytes}
+use Rattle.std.specs.Prelude.{◌≡◌, ◌⊎◌, ℕ, List, Option, IfSome, string_bytes}
 use Rattle.std.specs.Io.KnownBytes.{Appends}
 use Rattle.warg_audit.specs.declared.reply.Text.{Text}
 use Rattle.warg_audit.specs.declared.reply.Text.TheVariants.{Made, Fixed}
@@ -26,6 +26,10 @@ pub data IsReply (words : List (List ℕ)) (told : Option (List ℕ)) (ReadFaile
 pub record IsPrinted (before after : Option (List ℕ)) (status : ℕ) (printed : Printed) : Type 0 where
   pub status_is : status ≡ printed.status
   pub text_is : Appends before after printed.text
+
+-- the same, or status 3 where a write failed
+abbrev pub IsPrintedOrFailed : Option (List ℕ) → Option (List ℕ) → Type 0 → ℕ → Printed → Type 0
+IsPrintedOrFailed before after WriteFailed status printed = IsPrinted before after status printed ⊎ ((status ≡ 3) × WriteFailed)
 
 -- the answer was printed whole
 pub record IsAnswered (words : List (List ℕ)) (told before after : Option (List ℕ)) (status : ℕ) : Type 0 where
