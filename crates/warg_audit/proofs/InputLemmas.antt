@@ -1,5 +1,5 @@
 -- What was read of an input whose bytes are known.
-use Rattle.std.proofs.Common.{◌≡◌, ◌≤◌, ◌+◌, ℕ, false, List, [], ◌++◌, length, ap, sym, ◌∙◌, arith, append-nil, length-append, Option, Some, None, IfSome}
+use Rattle.std.proofs.Common.{◌≡◌, ◌<◌, ◌≤◌, ◌+◌, ℕ, false, List, [], ◌++◌, length, ap, sym, ◌∙◌, arith, append-nil, length-append, Option, Some, None, IfSome}
 use Rattle.std.proofs.KnownBytes.{Consumes-trans}
 use Rattle.std.specs.Io.KnownBytes.{Consumes, Keeps, IsAtEnd}
 use Rattle.warg_audit.specs.declared.input.Input.{Input}
@@ -25,6 +25,12 @@ pub told_more : (a b : Option (List ℕ)) (bs : List ℕ) (before after : ℕ) �
 told_more None b bs before after p few = tt
 told_more (Some x) None bs before after p few = absurd p
 told_more (Some x) (Some y) bs before after p few = rw p (omega (arith, length-append bs y))
+
+-- what is gone was told
+pub told_long : (a b : Option (List ℕ)) (bs : List ℕ) (n : ℕ) → Consumes a b bs → n < length bs → IfSome a (λ xs. n < length xs)
+told_long None b bs n p long = tt
+told_long (Some x) None bs n p long = absurd p
+told_long (Some x) (Some y) bs n p long = rw p (omega (arith, length-append bs y))
 
 -- what was read before a turn: each read gave bytes, and these are all
 pub record SoFar {R : Type 0} (remaining : R → Option (List ℕ)) (before now : Input R) (turn : ℕ) (bytes : List ℕ) : Type 0 where
