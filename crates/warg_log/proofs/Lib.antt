@@ -12,5 +12,6 @@ pub mod RefusalLaws
 pub mod PossibleLaws
 pub mod HistoryViews
 pub mod KindLaws
+pub mod NextLaws
 pub mod SameLaws
 pub mod FormLaws

@@ -15,8 +15,10 @@ ghost use Rattle.warg_log.specs.LogKind.{kind_of, effects_of, opened};
 ghost use Rattle.warg_log.specs.Offences.{offence_of};
 ghost use Rattle.warg_log.specs.Possible.{IsPossible};
 ghost use Rattle.warg_log.specs.States.{State, view_of_state};
+ghost use Rattle.warg_log.specs.declared.head.Head.{Head};
 ghost use Rattle.warg_log.specs.declared.refusal.Refusal.{Refusal};
 
+use crate::head::Head;
 use crate::matter::Matter;
 
 /// The rules of a log are those of a kind, whatever content bytes are read as: what lawful records say
@@ -33,6 +35,11 @@ pub fn gives_what_is_held<M: Matter>()
 /// Logs are equal exactly if they answer alike.
 pub fn equal_logs_answer_alike<M: Matter>()
     ensures { (s t : State (Contents M.Permission) M) → (same_states M.Permission.eq M.eq s t ≡ true) ↔ IsSame M.alike (view_of_state M.Permission.eq M.view s) (view_of_state M.Permission.eq M.view t) }
+{}
+
+/// Heads are equal exactly if they are one.
+pub fn equal_heads()
+    ensures { (a b : Head) → (⟦<Head as PartialEq>⟧.eq a b ≡ true) ↔ (a ≡ b) }
 {}
 
 /// No two refusals tell the same offence.

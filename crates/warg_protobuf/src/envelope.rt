@@ -1,17 +1,15 @@
 //! The outer message.
 
-ghost use Rattle.std.specs.Prelude.{◌≡◌, ◌≢◌, [], ◌∷◌, map, IfOk, IfErr, Ok, Err};
+ghost use Rattle.std.specs.Prelude.{◌≡◌, [], ◌∷◌, map, Ok};
 ghost use Rattle.warg_protobuf.specs.declared.error.WireError.{WireError};
-ghost use Rattle.warg_protobuf.specs.declared.error.WireError.TheVariants.{OutOfMemory};
-ghost use Rattle.warg_protobuf.specs.Envelope.{envelope_table, EnvelopeValue, envelope_seen, envelope_from, IsEnvelope, envelope_of, envelope_fields, envelope_bytes, IsSoundEnvelope, parts_seen, last_parts, parts_of, part_fields};
-ghost use Rattle.warg_protobuf.specs.Table.{HasFault};
+ghost use Rattle.warg_protobuf.specs.Envelope.{envelope_table, EnvelopeValue, envelope_seen, envelope_from, IsEnvelopeOf, envelope_of, envelope_fields, IsSoundEnvelope, parts_seen, last_parts, parts_of, part_fields};
 ghost use Rattle.warg_protobuf.specs.Reading.{Is};
 ghost use Rattle.warg_protobuf.specs.Views.{field_view, Gives};
 
 use crate::error::WireError;
 use crate::field::{RawField, RawPayload};
 use crate::keep::{Keep, keep_fields};
-use crate::message::{Message, Value, write_message};
+use crate::message::{Codec, Schema};
 use crate::text::{check_text, last_bytes, read_text};
 use crate::writing::{push_bytes, push_text};
 use std::alloc::{AllocError, Global};
@@ -27,7 +25,7 @@ pub struct Envelope {
     pub signature: String,
 }
 
-impl Message for Envelope {
+impl Schema for Envelope {
     ghost table = { envelope_table };
 
     fn takes(number: u32, wire_type: u32) -> bool {
@@ -46,10 +44,12 @@ impl Message for Envelope {
     }
 }
 
-impl Value for Envelope {
+impl Codec for Envelope {
     ghost Seen = { EnvelopeValue };
 
     ghost seen = { envelope_seen };
+
+    ghost Says = { IsEnvelopeOf };
 
     ghost value = { envelope_from };
 
@@ -74,6 +74,12 @@ impl Value for Envelope {
         push_text(out, 2, &self.key_id)?;
         push_text(out, 3, &self.signature)
     }
+
+    fn read(alloc: Global, bytes: &[u8]) -> Result<Envelope, WireError> {
+        read_envelope(alloc, bytes)
+    }
+
+    fn laws() {}
 }
 
 /// The parts of an envelope where they stand in the bytes.
@@ -144,28 +150,4 @@ fn read_envelope(alloc: Global, bytes: &[u8]) -> Result<Envelope, WireError>
 {
     let parts = EnvelopeParts::read(bytes)?;
     Envelope::from_fields(alloc, &parts.fields())
-}
-
-impl Envelope {
-    /// Reads an envelope, all of the bytes: of repeated fields the last counts, unknown numbers are skipped.
-    pub fn decode(alloc: Global, bytes: &[u8]) -> Result<Self, WireError>
-        // What is read is what the bytes say.
-        ensures found { IfOk result (λ v. IsEnvelope bytes.now (envelope_seen v)) }
-        ensures fault { IfErr result (λ e. e ≢ OutOfMemory → HasFault envelope_table bytes.now e) }
-
-        // What the bytes say is read, unless memory runs out.
-        ensures only { (v : EnvelopeValue) → IsEnvelope bytes.now v → Gives envelope_seen result (Ok v) }
-        ensures only_fault { (e : WireError) → HasFault envelope_table bytes.now e → Gives envelope_seen result (Err e) }
-        ensures computed { Gives envelope_seen result (envelope_of bytes.now) }
-    {
-        read_envelope(alloc, bytes)
-    }
-
-    /// The message's bytes, by rising number; a part at its default is left out.
-    pub fn encode(&self, alloc: Global) -> Result<Vec<u8>, AllocError>
-        ensures spelled { IfOk result (λ v. v.items ≡ envelope_bytes (envelope_seen self.now)) }
-        ensures read_again { IfOk result (λ v. IsEnvelope v.items (envelope_seen self.now)) }
-    {
-        write_message::<Envelope>(alloc, self)
-    }
 }

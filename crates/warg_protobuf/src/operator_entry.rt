@@ -1,11 +1,8 @@
 //! An entry of an operator log.
 
-ghost use Rattle.std.specs.Prelude.{◌≡◌, ◌≢◌, IfOk, IfErr, Ok, Err, Option};
+ghost use Rattle.std.specs.Prelude.{Ok, Option};
 ghost use Rattle.warg_protobuf.specs.declared.error.WireError.{WireError};
-ghost use Rattle.warg_protobuf.specs.declared.error.WireError.TheVariants.{OutOfMemory};
-ghost use Rattle.warg_protobuf.specs.OperatorEntry.{operator_entry_table, OperatorMember, operator_entry_seen, operator_entry_from, IsOperatorEntry, operator_entry_of, operator_entry_fields, operator_entry_bytes, IsSoundOperatorEntry};
-ghost use Rattle.warg_protobuf.specs.Table.{HasFault};
-ghost use Rattle.warg_protobuf.specs.Views.{Gives};
+ghost use Rattle.warg_protobuf.specs.OperatorEntry.{operator_entry_table, OperatorMember, operator_entry_seen, operator_entry_from, IsOperatorEntryOf, operator_entry_fields, IsSoundOperatorEntry};
 
 use crate::define_namespace::OperatorDefineNamespace;
 use crate::error::WireError;
@@ -13,7 +10,7 @@ use crate::field::{RawField, RawPayload, check_fields};
 use crate::grant_flat::OperatorGrantFlat;
 use crate::import_namespace::OperatorImportNamespace;
 use crate::init::OperatorInit;
-use crate::message::{Message, Value, read_message, write_message};
+use crate::message::{Codec, Schema};
 use crate::nested::push_message;
 use crate::oneof::{Oneof, last_member, read_member};
 use crate::revoke_flat::OperatorRevokeFlat;
@@ -41,7 +38,7 @@ pub struct OperatorEntry {
     pub contents: Option<Contents>,
 }
 
-impl Message for OperatorEntry {
+impl Schema for OperatorEntry {
     ghost table = { operator_entry_table };
 
     fn takes(number: u32, wire_type: u32) -> bool {
@@ -77,10 +74,12 @@ impl Oneof for OperatorEntry {
     }
 }
 
-impl Value for OperatorEntry {
+impl Codec for OperatorEntry {
     ghost Seen = { Option OperatorMember };
 
     ghost seen = { operator_entry_seen };
+
+    ghost Says = { IsOperatorEntryOf };
 
     ghost value = { operator_entry_from };
 
@@ -131,28 +130,6 @@ impl Value for OperatorEntry {
             ),
         }
     }
-}
 
-impl OperatorEntry {
-    /// Reads the message, all of the bytes.
-    pub fn decode(alloc: Global, bytes: &[u8]) -> Result<Self, WireError>
-        // What is read is what the bytes say.
-        ensures found { IfOk result (λ v. IsOperatorEntry bytes.now (operator_entry_seen v)) }
-        ensures fault { IfErr result (λ e. e ≢ OutOfMemory → HasFault operator_entry_table bytes.now e) }
-
-        // What the bytes say is read, unless memory runs out.
-        ensures only { (v : Option OperatorMember) → IsOperatorEntry bytes.now v → Gives operator_entry_seen result (Ok v) }
-        ensures only_fault { (e : WireError) → HasFault operator_entry_table bytes.now e → Gives operator_entry_seen result (Err e) }
-        ensures computed { Gives operator_entry_seen result (operator_entry_of bytes.now) }
-    {
-        read_message::<OperatorEntry>(alloc, bytes)
-    }
-
-    /// The message's bytes, by rising number; a part at its default is left out.
-    pub fn encode(&self, alloc: Global) -> Result<Vec<u8>, AllocError>
-        ensures spelled { IfOk result (λ v. v.items ≡ operator_entry_bytes (operator_entry_seen self.now)) }
-        ensures read_again { IfOk result (λ v. IsOperatorEntry v.items (operator_entry_seen self.now)) }
-    {
-        write_message::<OperatorEntry>(alloc, self)
-    }
+    fn laws() {}
 }

@@ -1,17 +1,14 @@
 //! An entry of a package log.
 
-ghost use Rattle.std.specs.Prelude.{◌≡◌, ◌≢◌, IfOk, IfErr, Ok, Err, Option};
+ghost use Rattle.std.specs.Prelude.{Ok, Option};
 ghost use Rattle.warg_protobuf.specs.declared.error.WireError.{WireError};
-ghost use Rattle.warg_protobuf.specs.declared.error.WireError.TheVariants.{OutOfMemory};
-ghost use Rattle.warg_protobuf.specs.PackageEntry.{package_entry_table, PackageMember, package_entry_seen, package_entry_from, IsPackageEntry, package_entry_of, package_entry_fields, package_entry_bytes, IsSoundPackageEntry};
-ghost use Rattle.warg_protobuf.specs.Table.{HasFault};
-ghost use Rattle.warg_protobuf.specs.Views.{Gives};
+ghost use Rattle.warg_protobuf.specs.PackageEntry.{package_entry_table, PackageMember, package_entry_seen, package_entry_from, IsPackageEntryOf, package_entry_fields, IsSoundPackageEntry};
 
 use crate::error::WireError;
 use crate::field::{RawField, RawPayload, check_fields};
 use crate::grant_flat::PackageGrantFlat;
 use crate::init::PackageInit;
-use crate::message::{Message, Value, read_message, write_message};
+use crate::message::{Codec, Schema};
 use crate::nested::push_message;
 use crate::oneof::{Oneof, last_member, read_member};
 use crate::release::PackageRelease;
@@ -41,7 +38,7 @@ pub struct PackageEntry {
     pub contents: Option<Contents>,
 }
 
-impl Message for PackageEntry {
+impl Schema for PackageEntry {
     ghost table = { package_entry_table };
 
     fn takes(number: u32, wire_type: u32) -> bool {
@@ -73,10 +70,12 @@ impl Oneof for PackageEntry {
     }
 }
 
-impl Value for PackageEntry {
+impl Codec for PackageEntry {
     ghost Seen = { Option PackageMember };
 
     ghost seen = { package_entry_seen };
+
+    ghost Says = { IsPackageEntryOf };
 
     ghost value = { package_entry_from };
 
@@ -121,28 +120,6 @@ impl Value for PackageEntry {
             Some(Contents::Yank(member)) => push_message::<PackageYank>(alloc, out, 5, member),
         }
     }
-}
 
-impl PackageEntry {
-    /// Reads the message, all of the bytes.
-    pub fn decode(alloc: Global, bytes: &[u8]) -> Result<Self, WireError>
-        // What is read is what the bytes say.
-        ensures found { IfOk result (λ v. IsPackageEntry bytes.now (package_entry_seen v)) }
-        ensures fault { IfErr result (λ e. e ≢ OutOfMemory → HasFault package_entry_table bytes.now e) }
-
-        // What the bytes say is read, unless memory runs out.
-        ensures only { (v : Option PackageMember) → IsPackageEntry bytes.now v → Gives package_entry_seen result (Ok v) }
-        ensures only_fault { (e : WireError) → HasFault package_entry_table bytes.now e → Gives package_entry_seen result (Err e) }
-        ensures computed { Gives package_entry_seen result (package_entry_of bytes.now) }
-    {
-        read_message::<PackageEntry>(alloc, bytes)
-    }
-
-    /// The message's bytes, by rising number; a part at its default is left out.
-    pub fn encode(&self, alloc: Global) -> Result<Vec<u8>, AllocError>
-        ensures spelled { IfOk result (λ v. v.items ≡ package_entry_bytes (package_entry_seen self.now)) }
-        ensures read_again { IfOk result (λ v. IsPackageEntry v.items (package_entry_seen self.now)) }
-    {
-        write_message::<PackageEntry>(alloc, self)
-    }
+    fn laws() {}
 }

@@ -1,15 +1,12 @@
 //! A record's time.
 
-ghost use Rattle.std.specs.Prelude.{◌≡◌, ◌≢◌, IfOk, IfErr, Ok, Err};
+ghost use Rattle.std.specs.Prelude.{Ok};
 ghost use Rattle.warg_protobuf.specs.declared.error.WireError.{WireError};
-ghost use Rattle.warg_protobuf.specs.declared.error.WireError.TheVariants.{OutOfMemory};
-ghost use Rattle.warg_protobuf.specs.Timestamp.{timestamp_table, TimestampValue, timestamp_seen, timestamp_from, IsTimestamp, timestamp_of, timestamp_fields, timestamp_bytes, IsSoundTimestamp};
-ghost use Rattle.warg_protobuf.specs.Table.{HasFault};
-ghost use Rattle.warg_protobuf.specs.Views.{Gives};
+ghost use Rattle.warg_protobuf.specs.Timestamp.{timestamp_table, TimestampValue, timestamp_seen, timestamp_from, IsTimestampOf, timestamp_fields, IsSoundTimestamp};
 
 use crate::error::WireError;
 use crate::field::{RawField, RawPayload};
-use crate::message::{Message, Value, read_message, write_message};
+use crate::message::{Codec, Schema};
 use crate::signed::low_signed;
 use crate::text::last_number;
 use crate::writing::{as_number, push_number};
@@ -24,7 +21,7 @@ pub struct TimestampPair {
     pub nanos: i32,
 }
 
-impl Message for TimestampPair {
+impl Schema for TimestampPair {
     ghost table = { timestamp_table };
 
     fn takes(number: u32, wire_type: u32) -> bool {
@@ -40,10 +37,12 @@ impl Message for TimestampPair {
     }
 }
 
-impl Value for TimestampPair {
+impl Codec for TimestampPair {
     ghost Seen = { TimestampValue };
 
     ghost seen = { timestamp_seen };
+
+    ghost Says = { IsTimestampOf };
 
     ghost value = { timestamp_from };
 
@@ -63,28 +62,6 @@ impl Value for TimestampPair {
         push_number(out, 2, as_number(i64::from(self.nanos)))?;
         Ok(())
     }
-}
 
-impl TimestampPair {
-    /// Reads the message, all of the bytes.
-    pub fn decode(alloc: Global, bytes: &[u8]) -> Result<Self, WireError>
-        // What is read is what the bytes say.
-        ensures found { IfOk result (λ v. IsTimestamp bytes.now (timestamp_seen v)) }
-        ensures fault { IfErr result (λ e. e ≢ OutOfMemory → HasFault timestamp_table bytes.now e) }
-
-        // What the bytes say is read, unless memory runs out.
-        ensures only { (v : TimestampValue) → IsTimestamp bytes.now v → Gives timestamp_seen result (Ok v) }
-        ensures only_fault { (e : WireError) → HasFault timestamp_table bytes.now e → Gives timestamp_seen result (Err e) }
-        ensures computed { Gives timestamp_seen result (timestamp_of bytes.now) }
-    {
-        read_message::<TimestampPair>(alloc, bytes)
-    }
-
-    /// The message's bytes, by rising number; a part at its default is left out.
-    pub fn encode(&self, alloc: Global) -> Result<Vec<u8>, AllocError>
-        ensures spelled { IfOk result (λ v. v.items ≡ timestamp_bytes (timestamp_seen self.now)) }
-        ensures read_again { IfOk result (λ v. IsTimestamp v.items (timestamp_seen self.now)) }
-    {
-        write_message::<TimestampPair>(alloc, self)
-    }
+    fn laws() {}
 }

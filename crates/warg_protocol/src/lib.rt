@@ -10,7 +10,7 @@ pub mod registry;
 pub use warg_crypto::{
     Clock, Decode, DecodeError, Encode, JsonError, JsonValue, Signable, TimeError, Timestamp,
 };
-pub use warg_protobuf::{Envelope, WireError};
+pub use warg_protobuf::{Envelope, Message, WireError};
 pub use warg_records::{
     InvalidPermission, ParseEnvelopeError, PermissionParseError, ProtoEnvelope, ProtoEnvelopeBody,
     PublishedProtoEnvelope, PublishedProtoEnvelopeBody, Record, SerdeEnvelope, Version, VersionReq,

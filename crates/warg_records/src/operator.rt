@@ -25,6 +25,7 @@ pub use permission::Permission;
 use std::alloc::{AllocError, Global};
 use warg_crypto::hash::AnyHash;
 use warg_crypto::{Decode, DecodeError, Encode, Signable};
+use warg_protobuf::Message;
 
 /// The version of the protocol that operator records have.
 pub const OPERATOR_RECORD_VERSION: u32 = 0;

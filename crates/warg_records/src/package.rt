@@ -28,6 +28,7 @@ pub use permission::Permission;
 use std::alloc::{AllocError, Global};
 use warg_crypto::hash::AnyHash;
 use warg_crypto::{Decode, DecodeError, Encode, Signable};
+use warg_protobuf::Message;
 
 /// The version of the protocol that package records have.
 pub const PACKAGE_RECORD_VERSION: u32 = 0;
