@@ -19,18 +19,18 @@ none_gone None b kept = tt
 none_gone (Some x) None kept = absurd kept
 none_gone (Some x) (Some y) kept = sym kept
 
--- no more is gone than was told
-pub told_more : (a b : Option (List ℕ)) (bs : List ℕ) (before after : ℕ) → Consumes a b bs → after ≤ before + (length bs + 1)
+-- no more is gone than was there
+pub known_more : (a b : Option (List ℕ)) (bs : List ℕ) (before after : ℕ) → Consumes a b bs → after ≤ before + (length bs + 1)
     → IfSome a (λ xs. after ≤ before + (length xs + 1))
-told_more None b bs before after p few = tt
-told_more (Some x) None bs before after p few = absurd p
-told_more (Some x) (Some y) bs before after p few = rw p (omega (arith, length-append bs y))
+known_more None b bs before after p few = tt
+known_more (Some x) None bs before after p few = absurd p
+known_more (Some x) (Some y) bs before after p few = rw p (omega (arith, length-append bs y))
 
--- what is gone was told
-pub told_long : (a b : Option (List ℕ)) (bs : List ℕ) (n : ℕ) → Consumes a b bs → n < length bs → IfSome a (λ xs. n < length xs)
-told_long None b bs n p long = tt
-told_long (Some x) None bs n p long = absurd p
-told_long (Some x) (Some y) bs n p long = rw p (omega (arith, length-append bs y))
+-- what is gone was there
+pub known_long : (a b : Option (List ℕ)) (bs : List ℕ) (n : ℕ) → Consumes a b bs → n < length bs → IfSome a (λ xs. n < length xs)
+known_long None b bs n p long = tt
+known_long (Some x) None bs n p long = absurd p
+known_long (Some x) (Some y) bs n p long = rw p (omega (arith, length-append bs y))
 
 -- what was read before a turn: each read gave bytes, and these are all
 pub record SoFar {R : Type 0} (remaining : R → Option (List ℕ)) (before now : Input R) (turn : ℕ) (bytes : List ℕ) : Type 0 where
@@ -52,7 +52,7 @@ module _ {R : Type 0} (remaining : R → Option (List ℕ)) (before now after : 
     failures = omega arith;
     reads = omega arith;
     taken = omega arith;
-    told_reads = told_more (left remaining before) (left remaining now) bytes before.reads after.reads far.are_gone (omega arith);
+    known_reads = known_more (left remaining before) (left remaining now) bytes before.reads after.reads far.are_gone (omega arith);
     gone = bytes ++ front;
     are_gone = Consumes-trans (left remaining before) (left remaining now) (left remaining after) bytes front far.are_gone front_gone;
     few_gone = omega (arith, length-append bytes front);

@@ -2,7 +2,7 @@ use Rattle.std.proofs.Common.{◌≡◌, ◌∙◌, ◌+◌, ◌≤◌, ℕ, [],
 use Rattle.std.proofs.lemmas.List.{take-append-le}
 use Rattle.std.proofs.lemmas.Bool.{ne_eqb}
 use Rattle.std.proofs.KnownBytes.{Consumes-trans}
-use Rattle.warg_audit.proofs.InputLemmas.{at_end, none_gone, told_long, last_read}
+use Rattle.warg_audit.proofs.InputLemmas.{at_end, none_gone, known_long, last_read}
 use Rattle.warg_audit.proofs.reading.read_all.Goals as goal
 
 pub returns-in_default-clause-reading : goal.returns-in_default-clause-reading
@@ -35,7 +35,7 @@ returns-then-len-gt-MAX_INPUT-clause-long g c = λ long.
     let within : c.in-Ok.count ≤ length c.read.new.buf = c.in-Ok.ensures.bound.0 in
     let grown : c.extend_from_slice.new.self.items ≡ c.reads.bytes.items ++ front =
     (rw c.if-is_err.ensures.negation at c.extend_from_slice.ensures.items) ∙ ap (λ taken. c.reads.bytes.items ++ taken) (take-append-le c.in-Ok.count c.read.new.buf _ within) in
-    told_long _ _ (c.reads.bytes.items ++ front) 16_777_216 (Consumes-trans _ _ _ _ front c.reads.invariant.are_gone c.in-Ok.ensures.bytes.0) (omega (arith, ap length grown))
+    known_long _ _ (c.reads.bytes.items ++ front) 16_777_216 (Consumes-trans _ _ _ _ front c.reads.invariant.are_gone c.in-Ok.ensures.bytes.0) (omega (arith, ap length grown))
 
 pub reads-preserved : goal.reads-preserved
 reads-preserved g c =
