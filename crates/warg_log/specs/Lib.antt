@@ -6,6 +6,7 @@ pub mod Contents
 pub mod Offences
 pub mod Records
 pub mod History
+pub mod OffenceNames
 pub mod States
 pub mod Possible
 pub mod Refusals

@@ -3,6 +3,7 @@ pub mod Readings
 pub mod Faults
 pub mod ParseErrors
 pub mod Envelopes
+pub mod FaultNames
 pub mod Permissions
 pub mod PackagePermissions
 pub mod OperatorPermissions

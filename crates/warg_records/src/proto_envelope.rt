@@ -11,6 +11,7 @@ ghost use Rattle.warg_records.specs.Same.{same_held, same_held_equiv, same_held_
 
 mod body;
 mod error;
+mod name;
 
 use crate::Record;
 pub use body::{ProtoEnvelopeBody, PublishedProtoEnvelope, PublishedProtoEnvelopeBody};

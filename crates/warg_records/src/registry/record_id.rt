@@ -52,20 +52,28 @@ impl RecordId {
     pub fn operator_record<D: SupportedDigest>(envelope: &ProtoEnvelope<OperatorRecord>) -> RecordId
         ensures { result ≡ id_by D.ALGORITHM D.digest_of (operator_record_message envelope.now.sealed.content) }
     {
-        hashed_id::<D>(
-            b"WARG-OPERATOR-LOG-RECORD-V0:".as_slice(),
-            envelope.content_bytes(),
-        )
+        RecordId::of_operator_content::<D>(envelope.content_bytes())
     }
 
     /// The id of a package record: the hash of `WARG-PACKAGE-LOG-RECORD-V0:` and the content bytes as they came.
     pub fn package_record<D: SupportedDigest>(envelope: &ProtoEnvelope<PackageRecord>) -> RecordId
         ensures { result ≡ id_by D.ALGORITHM D.digest_of (package_record_message envelope.now.sealed.content) }
     {
-        hashed_id::<D>(
-            b"WARG-PACKAGE-LOG-RECORD-V0:".as_slice(),
-            envelope.content_bytes(),
-        )
+        RecordId::of_package_content::<D>(envelope.content_bytes())
+    }
+
+    /// The id of an operator record, from its content bytes alone.
+    pub fn of_operator_content<D: SupportedDigest>(content: &[u8]) -> RecordId
+        ensures { result ≡ id_by D.ALGORITHM D.digest_of (operator_record_message content.now) }
+    {
+        hashed_id::<D>(b"WARG-OPERATOR-LOG-RECORD-V0:".as_slice(), content)
+    }
+
+    /// The id of a package record, from its content bytes alone.
+    pub fn of_package_content<D: SupportedDigest>(content: &[u8]) -> RecordId
+        ensures { result ≡ id_by D.ALGORITHM D.digest_of (package_record_message content.now) }
+    {
+        hashed_id::<D>(b"WARG-PACKAGE-LOG-RECORD-V0:".as_slice(), content)
     }
 }
 
