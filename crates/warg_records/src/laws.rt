@@ -18,9 +18,17 @@ ghost use Rattle.warg_protobuf.specs.Envelope.{IsEnvelope};
 ghost use Rattle.warg_records.specs.Envelopes.{IsHonest, envelope_message};
 ghost use Rattle.warg_records.specs.Letters.{Held};
 
+mod equality;
 mod whole;
 
 use crate::{ProtoEnvelope, Record};
+pub use equality::{
+    are_same_bodies, are_same_envelopes, are_same_invalid_permissions, are_same_operator_entries,
+    are_same_operator_permissions, are_same_operator_records, are_same_package_entries,
+    are_same_package_permissions, are_same_package_records, are_same_parse_errors,
+    are_same_permission_errors, are_same_published_bodies, are_same_published_envelopes,
+    are_same_serde_envelopes,
+};
 use warg_protobuf::laws::{decoding_computes, exactly_one};
 pub use whole::{operator_records_are_whole, package_records_are_whole};
 

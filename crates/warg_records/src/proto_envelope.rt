@@ -128,6 +128,14 @@ impl<C: Record> ProtoEnvelope<C> {
     }
 }
 
+impl<C: Record> Clone for ProtoEnvelope<C> {
+    ghost is_clone = { λ a b. (b.sealed ≡ a.sealed) × (C.meaning b.contents ≡ C.meaning a.contents) };
+
+    fn clone(&self) -> Result<ProtoEnvelope<C>, AllocError> {
+        self.try_clone()
+    }
+}
+
 impl<C: PartialEq> PartialEq for ProtoEnvelope<C> {
     ghost eq = { same_held C.eq };
 
