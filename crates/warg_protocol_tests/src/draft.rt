@@ -5,8 +5,8 @@
 //! names the one before it; an `unlinked` record names none, and a `mislinked` one another.
 use crate::script::words_of;
 use std::test::Fail;
-use warg_crypto::hash::HashAlgorithm;
 use warg_protocol::Timestamp;
+use warg_protocol::hash::HashAlgorithm;
 use warg_protocol::registry::RecordId;
 
 #[derive(Clone, Copy)]
