@@ -9,23 +9,28 @@ ghost use Rattle.warg_crypto.specs.declared.hash.AnyHash.{AnyHash};
 ghost use Rattle.warg_records.specs.Faults.{IsReading};
 ghost use Rattle.warg_records.specs.Mentions.{distinct};
 
+mod entry;
 pub mod laws;
+mod log_record;
 mod mention;
 pub mod operator;
 pub mod package;
 mod permission;
 mod proto_envelope;
 mod reading;
+
 pub mod registry;
 mod serde_envelope;
 mod writing;
 
+pub use entry::{Entry, SharedEntry};
 use indexmap::IndexSet;
-pub use permission::{InvalidPermission, PermissionParseError};
+pub use permission::{InvalidPermission, LogPermission, PermissionParseError};
 pub use proto_envelope::{
     ParseEnvelopeError, ProtoEnvelope, ProtoEnvelopeBody, PublishedProtoEnvelope,
     PublishedProtoEnvelopeBody,
 };
+pub use log_record::LogRecord;
 pub use semver::{Version, VersionReq};
 pub use serde_envelope::SerdeEnvelope;
 use std::alloc::{AllocError, Global};
