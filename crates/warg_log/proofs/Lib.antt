@@ -11,6 +11,8 @@ pub mod SameStates
 pub mod RefusalLaws
 pub mod PossibleLaws
 pub mod HistoryViews
+pub mod ListingLaws
 pub mod KindLaws
+pub mod NextLaws
 pub mod SameLaws
 pub mod FormLaws

@@ -11,6 +11,7 @@ pub mod Possible
 pub mod Refusals
 pub mod Histories
 pub mod Forms
+pub mod Listings
 pub mod LogKind
 pub mod Steps
 pub mod Equal

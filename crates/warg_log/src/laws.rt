@@ -3,20 +3,24 @@ ghost use Rattle.std.specs.Prelude.{◌≡◌, ◌↔◌, ℕ, List, Result, tru
 ghost use Rattle.warg_records.specs.Faults.{RecordFault};
 ghost use Rattle.warg_records.specs.Letters.{Letter};
 ghost use Rattle.warg_records.specs.Readings.{Reading, Said};
+ghost use Rattle.warg_validator.specs.declared.effect.Effect.TheVariants.{Gives};
 ghost use Rattle.warg_validator.specs.Effects as effects;
 ghost use Rattle.warg_validator.specs.Effects.{GivesWhatIsHeld};
 ghost use Rattle.warg_validator.specs.Kinds.{Belief, KindLaws, view_after, IsAccepted};
 ghost use Rattle.warg_log.specs.Contents.{Contents};
 ghost use Rattle.warg_log.specs.Equal.{IsSame, same_states};
 ghost use Rattle.warg_log.specs.Forms.{HasForm};
-ghost use Rattle.warg_log.specs.Histories.{Placed, Holds, holds};
+ghost use Rattle.warg_log.specs.Histories.{Placed, Holds, holds, reading_on};
 ghost use Rattle.warg_log.specs.History.{View, SignedRecord, record_offence, start, Event};
-ghost use Rattle.warg_log.specs.LogKind.{kind_of, effects_of, opened};
+ghost use Rattle.warg_log.specs.Listings.{IsGift};
+ghost use Rattle.warg_log.specs.LogKind.{kind_of, effects_of, effect_of, opened};
 ghost use Rattle.warg_log.specs.Offences.{offence_of};
 ghost use Rattle.warg_log.specs.Possible.{IsPossible};
 ghost use Rattle.warg_log.specs.States.{State, view_of_state};
+ghost use Rattle.warg_log.specs.declared.head.Head.{Head};
 ghost use Rattle.warg_log.specs.declared.refusal.Refusal.{Refusal};
 
+use crate::head::Head;
 use crate::matter::Matter;
 
 /// The rules of a log are those of a kind, whatever content bytes are read as: what lawful records say
@@ -33,6 +37,11 @@ pub fn gives_what_is_held<M: Matter>()
 /// Logs are equal exactly if they answer alike.
 pub fn equal_logs_answer_alike<M: Matter>()
     ensures { (s t : State (Contents M.Permission) M) → (same_states M.Permission.eq M.eq s t ≡ true) ↔ IsSame M.alike (view_of_state M.Permission.eq M.view s) (view_of_state M.Permission.eq M.view t) }
+{}
+
+/// Heads are equal exactly if they are one.
+pub fn equal_heads()
+    ensures { (a b : Head) → (⟦<Head as PartialEq>⟧.eq a b ≡ true) ↔ (a ≡ b) }
 {}
 
 /// No two refusals tell the same offence.
@@ -54,6 +63,12 @@ pub fn effects_are_what_is_held<M: Matter>()
 /// A key holds a permission exactly if some entry speaks of both, and the last such entry gives.
 pub fn last_entry_decides<M: Matter>()
     ensures { (h : List (Placed (Reading M.Permission M.Own))) (k : List ℕ) (p : M.Permission) → (holds M.Permission.eq h k p ≡ true) ↔ Holds M.Permission.eq h k p }
+{}
+
+/// An entry gives a permission to a key exactly if it is an Init that the key signed, or a grant to the
+/// key that lists it.
+pub fn gifts<M: Matter>()
+    ensures { (signer k : List ℕ) (p : M.Permission) (r : Reading M.Permission M.Own) → (effect_of (reading_on M.Permission.eq k p signer r) ≡ Gives) ↔ IsGift M.Permission.eq k p signer r }
 {}
 
 /// The contents of an accepted log are records. Where it has any, their times never fall, the first

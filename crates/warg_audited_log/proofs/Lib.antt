@@ -1,0 +1,4 @@
+pub mod HeadLemmas
+pub mod FrontLemmas
+pub mod ExtinctionLemmas
+pub mod AppendLemmas

@@ -1,0 +1,4 @@
+pub mod Audited
+pub mod Extinction
+pub mod Heads
+pub mod Log
