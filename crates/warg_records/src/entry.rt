@@ -10,8 +10,8 @@ ghost use Rattle.warg_records.specs.Readings.{Reading, Said};
 ghost use Rattle.warg_records.specs.Records.{said_by};
 ghost use Rattle.warg_records.specs.Steps.{message_of, message_said};
 
-use crate::permission::LogPermission;
 use crate::log_record::LogRecord;
+use crate::permission::LogPermission;
 use indexmap::IndexSet;
 use std::alloc::{AllocError, Global};
 use warg_crypto::DecodeError;

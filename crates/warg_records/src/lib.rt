@@ -18,19 +18,18 @@ pub mod package;
 mod permission;
 mod proto_envelope;
 mod reading;
-
 pub mod registry;
 mod serde_envelope;
 mod writing;
 
 pub use entry::{Entry, SharedEntry};
 use indexmap::IndexSet;
+pub use log_record::LogRecord;
 pub use permission::{InvalidPermission, LogPermission, PermissionParseError};
 pub use proto_envelope::{
     ParseEnvelopeError, ProtoEnvelope, ProtoEnvelopeBody, PublishedProtoEnvelope,
     PublishedProtoEnvelopeBody,
 };
-pub use log_record::LogRecord;
 pub use semver::{Version, VersionReq};
 pub use serde_envelope::SerdeEnvelope;
 use std::alloc::{AllocError, Global};

@@ -69,7 +69,10 @@ impl From<SharedEntry<Permission>> for OperatorEntry {
                 hash_algorithm,
                 key,
             },
-            SharedEntry::GrantFlat { key, permissions } => OperatorEntry::GrantFlat { key, permissions },
+            SharedEntry::GrantFlat { key, permissions } => OperatorEntry::GrantFlat {
+                key,
+                permissions,
+            },
             SharedEntry::RevokeFlat {
                 key_id,
                 permissions,
@@ -119,10 +122,7 @@ impl Entry for OperatorEntry {
         self.to_proto(alloc)
     }
 
-    fn read_record(
-        alloc: Global,
-        content: &[u8],
-    ) -> Result<message::OperatorRecord, DecodeError> {
+    fn read_record(alloc: Global, content: &[u8]) -> Result<message::OperatorRecord, DecodeError> {
         reading::read_record(alloc, content)
     }
 

@@ -18,8 +18,8 @@ mod writing;
 
 use crate::entry::{Entry, SharedEntry};
 use crate::laws::{package_records_are_whole, record_reading_computes};
-use crate::mention::{self, Mention};
 use crate::log_record::LogRecord;
+use crate::mention::{self, Mention};
 use indexmap::IndexSet;
 pub use model::{PackageEntry, PackageRecord};
 pub use permission::Permission;
@@ -72,7 +72,10 @@ impl From<SharedEntry<Permission>> for PackageEntry {
                 hash_algorithm,
                 key,
             },
-            SharedEntry::GrantFlat { key, permissions } => PackageEntry::GrantFlat { key, permissions },
+            SharedEntry::GrantFlat { key, permissions } => PackageEntry::GrantFlat {
+                key,
+                permissions,
+            },
             SharedEntry::RevokeFlat {
                 key_id,
                 permissions,
@@ -122,10 +125,7 @@ impl Entry for PackageEntry {
         self.to_proto(alloc)
     }
 
-    fn read_record(
-        alloc: Global,
-        content: &[u8],
-    ) -> Result<message::PackageRecord, DecodeError> {
+    fn read_record(alloc: Global, content: &[u8]) -> Result<message::PackageRecord, DecodeError> {
         reading::read_record(alloc, content)
     }
 

@@ -20,7 +20,8 @@ use warg_crypto::hash::{AnyHash, HashAlgorithm};
 use warg_crypto::signing::{KeyID, PublicKey};
 use warg_crypto::{DecodeError, Timestamp, WireFault};
 use warg_protobuf::{
-    PackageGrantFlat as GrantFlat, PackageInit as Init, PackageRevokeFlat as RevokeFlat, TimestampPair, WireError,
+    PackageGrantFlat as GrantFlat, PackageInit as Init, PackageRevokeFlat as RevokeFlat,
+    TimestampPair, WireError,
 };
 
 /// Reads all messages, in order, up to the first fault.

@@ -18,7 +18,8 @@ use warg_crypto::Timestamp;
 use warg_crypto::hash::HashAlgorithm;
 use warg_crypto::signing::{KeyID, PublicKey};
 use warg_protobuf::{
-    PackageGrantFlat as GrantFlat, PackageInit as Init, PackageRevokeFlat as RevokeFlat, TimestampPair,
+    PackageGrantFlat as GrantFlat, PackageInit as Init, PackageRevokeFlat as RevokeFlat,
+    TimestampPair,
 };
 
 /// Writes all parts, in order.

@@ -3,8 +3,8 @@
 ghost use Rattle.std.specs.Prelude.{◌≡◌, IfOk};
 ghost use Rattle.warg_records.specs.OperatorEntries.{reading, required_permission_of};
 
-use crate::operator::permission::Permission;
 use crate::log_record::LogRecord;
+use crate::operator::permission::Permission;
 use std::alloc::AllocError;
 use warg_crypto::hash::HashAlgorithm;
 use warg_crypto::signing::{KeyID, PublicKey};

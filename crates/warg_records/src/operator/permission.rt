@@ -123,11 +123,7 @@ impl LogPermission for Permission {
     }
 
     fn all(alloc: Global) -> Result<Vec<Permission>, AllocError> {
-        Ok(vec![in alloc; 
-            Permission::Commit,
-            Permission::DefineNamespace,
-            Permission::ImportNamespace,
-        ]?)
+        Ok(Vec::from_array(alloc, Permission::all())?)
     }
 }
 

@@ -14,8 +14,8 @@ use crate::reading::{read_grant, read_init, read_revoke, wire_error};
 use std::alloc::Global;
 use warg_crypto::DecodeError;
 use warg_protobuf as message;
-use warg_protobuf::operator_entry::Contents;
 use warg_protobuf::Message;
+use warg_protobuf::operator_entry::Contents;
 
 impl OperatorEntry {
     /// The entry that a message says, or its first fault.
@@ -29,9 +29,18 @@ impl OperatorEntry {
             return Err(DecodeError::EmptyEntry);
         };
         match contents {
-            Contents::Init(init) => Ok(OperatorEntry::from(read_init(alloc, Box::into_inner(init))?)),
-            Contents::GrantFlat(grant) => Ok(OperatorEntry::from(read_grant(alloc, Box::into_inner(grant))?)),
-            Contents::RevokeFlat(revoke) => Ok(OperatorEntry::from(read_revoke(alloc, Box::into_inner(revoke))?)),
+            Contents::Init(init) => Ok(OperatorEntry::from(read_init(
+                alloc,
+                Box::into_inner(init),
+            )?)),
+            Contents::GrantFlat(grant) => Ok(OperatorEntry::from(read_grant(
+                alloc,
+                Box::into_inner(grant),
+            )?)),
+            Contents::RevokeFlat(revoke) => Ok(OperatorEntry::from(read_revoke(
+                alloc,
+                Box::into_inner(revoke),
+            )?)),
             Contents::DefineNamespace(define) => {
                 let define = Box::into_inner(define);
                 Ok(OperatorEntry::DefineNamespace {

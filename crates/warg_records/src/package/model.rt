@@ -5,8 +5,8 @@ ghost use Rattle.semver.specs.Identifiers.{parts_of};
 ghost use Rattle.std.specs.Option.{option_copied};
 ghost use Rattle.warg_records.specs.PackageEntries.{reading, required_permission_of, content_of};
 
-use crate::package::permission::Permission;
 use crate::log_record::LogRecord;
+use crate::package::permission::Permission;
 use semver::Version;
 use std::alloc::AllocError;
 use warg_crypto::hash::{AnyHash, HashAlgorithm};

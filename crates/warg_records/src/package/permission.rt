@@ -113,7 +113,7 @@ impl LogPermission for Permission {
     }
 
     fn all(alloc: Global) -> Result<Vec<Permission>, AllocError> {
-        Ok(vec![in alloc; Permission::Release, Permission::Yank]?)
+        Ok(Vec::from_array(alloc, Permission::all())?)
     }
 }
 

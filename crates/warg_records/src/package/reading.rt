@@ -73,9 +73,18 @@ impl PackageEntry {
             return Err(DecodeError::EmptyEntry);
         };
         match contents {
-            Contents::Init(init) => Ok(PackageEntry::from(read_init(alloc, Box::into_inner(init))?)),
-            Contents::GrantFlat(grant) => Ok(PackageEntry::from(read_grant(alloc, Box::into_inner(grant))?)),
-            Contents::RevokeFlat(revoke) => Ok(PackageEntry::from(read_revoke(alloc, Box::into_inner(revoke))?)),
+            Contents::Init(init) => Ok(PackageEntry::from(read_init(
+                alloc,
+                Box::into_inner(init),
+            )?)),
+            Contents::GrantFlat(grant) => Ok(PackageEntry::from(read_grant(
+                alloc,
+                Box::into_inner(grant),
+            )?)),
+            Contents::RevokeFlat(revoke) => Ok(PackageEntry::from(read_revoke(
+                alloc,
+                Box::into_inner(revoke),
+            )?)),
             Contents::Release(release) => read_release(alloc, Box::into_inner(release)),
             Contents::Yank(yank) => read_yank(alloc, Box::into_inner(yank)),
         }
