@@ -15,7 +15,7 @@ ghost use Rattle.warg_log.specs.EqualLaws.{contents_equiv};
 ghost use Rattle.warg_log.specs.Judging.{Judges};
 ghost use Rattle.warg_log.specs.Offences.{offence_of, unauthorized, lacks, lacks_required, not_begun, empty_grant, init_offence, grant_offence, revoke_offence};
 
-use crate::permission::LogPermission;
+use warg_records::LogPermission;
 use crate::refusal::Refusal;
 use crate::rights;
 use indexmap::{IndexMap, IndexSet};

@@ -10,7 +10,6 @@ mod head;
 pub mod laws;
 mod log;
 mod matter;
-mod permission;
 mod refusal;
 mod rights;
 
@@ -18,5 +17,5 @@ pub use fault::Fault;
 pub use head::Head;
 pub use log::Log;
 pub use matter::{Matter, Parts, Step};
-pub use permission::LogPermission;
+pub use warg_records::LogPermission;
 pub use refusal::Refusal;
