@@ -1,17 +1,18 @@
 -- The answers to an input, by what was found of its lines.
 use Rattle.std.proofs.Common.{◌≡◌, ◌≢◌, ◌<◌, ◌≤◌, ℕ, Bool, true, false, cond, List, [], ◌∷◌, ◌++◌, length, codes, refl, sym, ◌∙◌, ap, arith, append_assoc, zero, suc, Option, Some, None, IfSome, Ok, IsErr}
 use Rattle.std.specs.Io.KnownBytes.{Appends}
-use Rattle.warg_audit.specs.declared.command.Kind.{Kind}
+use Rattle.warg_audit.specs.declared.command.LogType.{LogType}
 use Rattle.warg_audit.specs.declared.command.Command.{Command}
 use Rattle.warg_audit.specs.Commands.{command_of}
 use Rattle.warg_audit.specs.Lines.{lines_of, string_of, is_line_feed, onto}
 use Rattle.warg_audit.specs.Answers.{IsEnvelopeAnswer, has_fault, IsIdAnswer, no_line, bad_digits, second_line, one_line, IsCommandAnswer, other_words, over_limit, of_lines}
 use Rattle.warg_audit.specs.Printed.{Printed, usage, too_long, bad_line, refused}
-use Rattle.warg_audit.specs.Names.{wire_name}
 use Rattle.warg_protobuf.specs.Envelope.{envelope_table}
 use Rattle.warg_protobuf.specs.Table.{HasFault}
 use Rattle.warg_protobuf.specs.declared.error.WireError.{WireError}
 use Rattle.warg_protobuf.specs.declared.error.WireError.TheVariants.{OutOfMemory}
+use Rattle.warg_records.specs.FaultNames.{error_name}
+use Rattle.warg_records.specs.declared.proto_envelope.error.ParseEnvelopeError.TheVariants.{ProtobufEnvelope}
 use Rattle.warg_audit.specs.Replies.{IsReply, answer, unread, starved, IsAnswered}
 use Rattle.warg_audit.proofs.LineLemmas.{lines_of-are}
 
@@ -35,24 +36,24 @@ more_lines (b ∷ rest) h = first_of_step (is_line_feed b) b (lines_of rest)
 
 -- ---- the answer to an input, by its first line and what stands behind it
 
-module _ (kind : Kind) (text line more : List ℕ) (printed : Printed) where
-  pub empty_text : length text ≡ 0 → printed ≡ bad_line 0 → IsIdAnswer kind (lines_of text) printed
+module _ (log_type : LogType) (text line more : List ℕ) (printed : Printed) where
+  pub empty_text : length text ≡ 0 → printed ≡ bad_line 0 → IsIdAnswer log_type (lines_of text) printed
   empty_text e is = no_line (no_more text e) is
 
-  pub bad_first : lines_of text ≡ line ∷ lines_of more → IsErr (string_of line) → printed ≡ bad_line 0 → IsIdAnswer kind (lines_of text) printed
+  pub bad_first : lines_of text ≡ line ∷ lines_of more → IsErr (string_of line) → printed ≡ bad_line 0 → IsIdAnswer log_type (lines_of text) printed
   bad_first cut bad is = bad_digits line (lines_of more) cut bad is
 
-  pub line_behind : (bytes : List ℕ) → lines_of text ≡ line ∷ lines_of more → string_of line ≡ Ok bytes → 0 < length more → printed ≡ bad_line 1 → IsIdAnswer kind (lines_of text) printed
+  pub line_behind : (bytes : List ℕ) → lines_of text ≡ line ∷ lines_of more → string_of line ≡ Ok bytes → 0 < length more → printed ≡ bad_line 1 → IsIdAnswer log_type (lines_of text) printed
   line_behind bytes cut good some is =
       let next = more_lines more some in
       second_line line bytes next.0 next.1 (cut ∙ ap (λ lines. line ∷ lines) next.2) good is
 
-  pub only_line : (bytes : List ℕ) → lines_of text ≡ line ∷ lines_of more → string_of line ≡ Ok bytes → length more ≡ 0 → IsEnvelopeAnswer kind bytes printed → IsIdAnswer kind (lines_of text) printed
+  pub only_line : (bytes : List ℕ) → lines_of text ≡ line ∷ lines_of more → string_of line ≡ Ok bytes → length more ≡ 0 → IsEnvelopeAnswer log_type bytes printed → IsIdAnswer log_type (lines_of text) printed
   only_line bytes cut good none is = one_line line bytes (cut ∙ ap (λ lines. line ∷ lines) (no_more more none)) good is
 
-pub of_fault : (kind : Kind) (bytes : List ℕ) (printed : Printed) (fault : WireError) → (fault ≢ OutOfMemory → HasFault envelope_table bytes fault)
-    → (fault ≢ OutOfMemory) × (printed ≡ refused 0 (codes "ProtobufEnvelope." ++ wire_name fault)) → IsEnvelopeAnswer kind bytes printed
-of_fault kind bytes printed fault has is = has_fault fault (has is.0) is.1
+pub of_fault : (log_type : LogType) (bytes : List ℕ) (printed : Printed) (fault : WireError) → (fault ≢ OutOfMemory → HasFault envelope_table bytes fault)
+    → (fault ≢ OutOfMemory) × (printed ≡ refused 0 (error_name (ProtobufEnvelope fault))) → IsEnvelopeAnswer log_type bytes printed
+of_fault log_type bytes printed fault has is = has_fault fault (has is.0) is.1
 
 -- ---- a list longer than any number
 
@@ -63,33 +64,23 @@ long_list (suc n) = let more = long_list n in (0 ∷ more.0, omega (arith, more.
 -- ---- replies
 
 module _ (words : List (List ℕ)) (Failed : Type 0) (printed : Printed) where
-  pub usage_reply : (told : Option (List ℕ)) → command_of words ≡ None → printed ≡ usage → IsReply words told Failed printed
+  pub usage_reply : (known : Option (List ℕ)) → command_of words ≡ None → printed ≡ usage → IsReply words known Failed printed
   usage_reply (Some all) none e = answer all refl (other_words none e)
   usage_reply None none e = answer [] tt (other_words none e)
 
-  pub long_reply : (told : Option (List ℕ)) (command : Command) → command_of words ≡ Some command → IfSome told (λ bytes. 16_777_216 < length bytes)
-      → printed ≡ too_long → IsReply words told Failed printed
+  pub long_reply : (known : Option (List ℕ)) (command : Command) → command_of words ≡ Some command → IfSome known (λ bytes. 16_777_216 < length bytes)
+      → printed ≡ too_long → IsReply words known Failed printed
   long_reply (Some all) command is h e = answer all refl (over_limit command is h e)
   long_reply None command is h e = let long = long_list 16_777_216 in answer long.0 tt (over_limit command is long.1 e)
 
-  pub lines_reply : (told : Option (List ℕ)) (command : Command) (bytes : List ℕ) → command_of words ≡ Some command → IfSome told (λ all. all ≡ bytes)
-      → length bytes ≤ 16_777_216 → IsCommandAnswer command (lines_of bytes) printed → IsReply words told Failed printed
-  lines_reply told command bytes is are short found = answer bytes are (of_lines command (lines_of bytes) is short (lines_of-are bytes) found)
+  pub lines_reply : (known : Option (List ℕ)) (command : Command) (bytes : List ℕ) → command_of words ≡ Some command → IfSome known (λ all. all ≡ bytes)
+      → length bytes ≤ 16_777_216 → IsCommandAnswer command (lines_of bytes) printed → IsReply words known Failed printed
+  lines_reply known command bytes is are short found = answer bytes are (of_lines command (lines_of bytes) is short (lines_of-are bytes) found)
 
 -- ---- what was written of a reply
 
-module _ (words : List (List ℕ)) (told before after : Option (List ℕ)) (Failed : Type 0) (printed : Printed) (status : ℕ) where
-  pub answered_by : IsReply words told Failed printed → status ≡ printed.status → Appends before after printed.text → status ≢ 3 → IsAnswered words told before after status
-  answered_by (answer bytes are is) same wrote other = record { bytes = bytes; are_told = are; printed = printed; is_answer = is; is_printed = record { status_is = same; text_is = wrote } }
+module _ (words : List (List ℕ)) (known before after : Option (List ℕ)) (Failed : Type 0) (printed : Printed) (status : ℕ) where
+  pub answered_by : IsReply words known Failed printed → status ≡ printed.status → Appends before after printed.text → status ≢ 3 → IsAnswered words known before after status
+  answered_by (answer bytes are is) same wrote other = record { bytes = bytes; are_known = are; printed = printed; is_answer = is; is_printed = record { status_is = same; text_is = wrote } }
   answered_by (unread failed is) same wrote other = absurd (other (same ∙ ap (λ (p : Printed). p.status) is))
   answered_by (starved is) same wrote other = absurd (other (same ∙ ap (λ (p : Printed). p.status) is))
-
--- ---- the text of a refusal
-
-regroup : (a b c d e : List ℕ) → a ++ (b ++ (c ++ (d ++ e))) ≡ a ++ b ++ c ++ d ++ e
-regroup a b c d e = sym (simp append_assoc)
-
-pub refusal_text : (index_text name shown text : List ℕ) → text ≡ codes "refused " ++ (index_text ++ (codes " ProtobufEnvelope." ++ (shown ++ codes "\n"))) → shown ≡ name
-    → text ≡ codes "refused " ++ index_text ++ codes " " ++ (codes "ProtobufEnvelope." ++ name) ++ codes "\n"
-refusal_text index_text name shown text e s =
-    e ∙ rw s (regroup (codes "refused ") index_text (codes " ") (codes "ProtobufEnvelope." ++ name) (codes "\n"))

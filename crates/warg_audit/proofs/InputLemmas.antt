@@ -1,6 +1,9 @@
 -- What was read of an input whose bytes are known.
-use Rattle.std.proofs.Common.{◌≡◌, ℕ, List, [], ◌++◌, ap, ◌∙◌, append-nil, Option, Some, None, IfSome}
-use Rattle.std.specs.Io.KnownBytes.{Consumes, IsAtEnd}
+use Rattle.std.proofs.Common.{◌≡◌, ◌<◌, ◌≤◌, ◌+◌, ℕ, false, List, [], ◌++◌, length, ap, sym, ◌∙◌, arith, append-nil, length-append, Option, Some, None, IfSome}
+use Rattle.std.proofs.KnownBytes.{Consumes-trans}
+use Rattle.std.specs.Io.KnownBytes.{Consumes, Keeps, IsAtEnd}
+use Rattle.warg_audit.specs.declared.input.Input.{Input}
+use Rattle.warg_audit.specs.Meters.{left, ReadsToEnd}
 
 -- the bytes before the end are all
 pub at_end : (a b n : Option (List ℕ)) (bs front : List ℕ) → Consumes a b bs → Consumes b n front → front ≡ [] → IsAtEnd n → IfSome a (λ xs. xs ≡ bs)
@@ -9,3 +12,48 @@ at_end (Some x) None n bs front p q f end = absurd p
 at_end (Some x) (Some y) None bs front p q f end = absurd q
 at_end (Some x) (Some y) (Some z) bs front p q f end =
     p ∙ ap (λ l. bs ++ l) (q ∙ ap (λ l. l ++ z) f ∙ end) ∙ append-nil bs
+
+-- a failed read took nothing
+pub none_gone : (a b : Option (List ℕ)) → Keeps a b → Consumes a b []
+none_gone None b kept = tt
+none_gone (Some x) None kept = absurd kept
+none_gone (Some x) (Some y) kept = sym kept
+
+-- no more is gone than was there
+pub known_more : (a b : Option (List ℕ)) (bs : List ℕ) (before after : ℕ) → Consumes a b bs → after ≤ before + (length bs + 1)
+    → IfSome a (λ xs. after ≤ before + (length xs + 1))
+known_more None b bs before after p few = tt
+known_more (Some x) None bs before after p few = absurd p
+known_more (Some x) (Some y) bs before after p few = rw p (omega (arith, length-append bs y))
+
+-- what is gone was there
+pub known_long : (a b : Option (List ℕ)) (bs : List ℕ) (n : ℕ) → Consumes a b bs → n < length bs → IfSome a (λ xs. n < length xs)
+known_long None b bs n p long = tt
+known_long (Some x) None bs n p long = absurd p
+known_long (Some x) (Some y) bs n p long = rw p (omega (arith, length-append bs y))
+
+-- what was read before a turn: each read gave bytes, and these are all
+pub record SoFar {R : Type 0} (remaining : R → Option (List ℕ)) (before now : Input R) (turn : ℕ) (bytes : List ℕ) : Type 0 where
+  pub reads : now.reads ≤ before.reads + turn
+  pub failures : now.failures ≡ before.failures
+  pub taken : now.taken ≤ before.taken + length bytes
+  pub late : before.ended ≡ false → (now.ended ≡ false) × (now.late ≡ before.late)
+  pub enough : turn ≤ length bytes
+  pub short : length bytes ≤ 16_777_216
+  pub are_gone : Consumes (left remaining before) (left remaining now) bytes
+
+module _ {R : Type 0} (remaining : R → Option (List ℕ)) (before now after : Input R) (turn : ℕ) (bytes front : List ℕ) where
+  -- with the last read
+  pub last_read : SoFar remaining before now turn bytes → after.reads ≤ now.reads + 1 → after.failures ≤ now.failures + 1 → after.taken ≤ now.taken + length front
+      → (now.ended ≡ false → after.late ≡ now.late) → Consumes (left remaining now) (left remaining after) front → length front + length bytes ≤ 16_777_217
+      → ReadsToEnd remaining before after
+  last_read far reads failures taken late front_gone few = record {
+    late = λ unended. let kept = far.late unended in late kept.0 ∙ kept.1;
+    failures = omega arith;
+    reads = omega arith;
+    taken = omega arith;
+    known_reads = known_more (left remaining before) (left remaining now) bytes before.reads after.reads far.are_gone (omega arith);
+    gone = bytes ++ front;
+    are_gone = Consumes-trans (left remaining before) (left remaining now) (left remaining after) bytes front far.are_gone front_gone;
+    few_gone = omega (arith, length-append bytes front);
+  }

@@ -9,15 +9,15 @@ use Rattle.warg_validator.proofs.LogLaws.{first-searched}
 use Rattle.warg_crypto.specs.Signed.{toy_belongs}
 use Rattle.warg_operator_log.specs.StateLaws as operator_rules
 use Rattle.warg_package_log.specs.StateLaws as package_rules
-use Rattle.warg_audit.specs.declared.command.Kind.{Kind}
-use Rattle.warg_audit.specs.declared.command.Kind.TheVariants.{Package, Operator}
+use Rattle.warg_audit.specs.declared.command.LogType.{LogType}
+use Rattle.warg_audit.specs.declared.command.LogType.TheVariants.{Package, Operator}
 use Rattle.warg_audit.specs.declared.command.Command.{Command}
 use Rattle.warg_audit.specs.declared.command.Command.TheVariants.{Id, Audit}
 use Rattle.warg_audit.specs.declared.lines.LineError.{LineError}
 use Rattle.warg_audit.specs.declared.lines.LineError.TheVariants.{Bad, OutOfMemory}
 use Rattle.warg_audit.specs.Answers.{IsIdAnswer, id_answer, IsCommandAnswer, command_answer, IsAnswer, other_words, over_limit, of_lines, asked_answer, answer_of}
 use Rattle.warg_audit.specs.Commands.{command_of}
-use Rattle.warg_audit.specs.Kinds.{package_log, operator_log, IsKindAnswer, kind_answer}
+use Rattle.warg_audit.specs.LogTypes.{package_log, operator_log, IsLogTypeAnswer, log_type_answer}
 use Rattle.warg_audit.specs.Lines.{lines_of, strings_of}
 use Rattle.warg_audit.specs.LogAnswers.{Shown, IsLogAnswer, all_lawful, first_refused, IsAuditAnswer, first_bad, all_spelled, found_answer, log_answer, spelled_answer, audit_answer}
 use Rattle.warg_audit.specs.Printed.{Printed, too_long}
@@ -54,21 +54,21 @@ module _ {Meaning Fault View Offence : Type 0} (log : Shown Meaning Fault View O
   audit_only lines printed (all_spelled strings spell is) =
       log_only strings printed is ∙ ap (spelled_answer log belief) (sym (spelled.from_spell 0 lines strings spell))
 
-pub kind_is : (kind : Kind) (lines : List (List ℕ)) → IsKindAnswer kind lines (kind_answer kind lines)
-kind_is Package lines = audit_is package_log package_rules.state_laws toy_belongs lines
-kind_is Operator lines = audit_is operator_log operator_rules.state_laws toy_belongs lines
+pub log_type_is : (log_type : LogType) (lines : List (List ℕ)) → IsLogTypeAnswer log_type lines (log_type_answer log_type lines)
+log_type_is Package lines = audit_is package_log package_rules.state_laws toy_belongs lines
+log_type_is Operator lines = audit_is operator_log operator_rules.state_laws toy_belongs lines
 
-pub kind_only : (kind : Kind) (lines : List (List ℕ)) (printed : Printed) → IsKindAnswer kind lines printed → printed ≡ kind_answer kind lines
-kind_only Package lines printed is = audit_only package_log package_rules.state_laws toy_belongs lines printed is
-kind_only Operator lines printed is = audit_only operator_log operator_rules.state_laws toy_belongs lines printed is
+pub log_type_only : (log_type : LogType) (lines : List (List ℕ)) (printed : Printed) → IsLogTypeAnswer log_type lines printed → printed ≡ log_type_answer log_type lines
+log_type_only Package lines printed is = audit_only package_log package_rules.state_laws toy_belongs lines printed is
+log_type_only Operator lines printed is = audit_only operator_log operator_rules.state_laws toy_belongs lines printed is
 
 -- ---- words and bytes
 
-module _ (id_is : (kind : Kind) (lines : List (List ℕ)) → IsIdAnswer kind lines (id_answer kind lines))
-    (log_is : (kind : Kind) (lines : List (List ℕ)) → IsKindAnswer kind lines (kind_answer kind lines)) (words : List (List ℕ)) (bytes : List ℕ) where
+module _ (id_is : (log_type : LogType) (lines : List (List ℕ)) → IsIdAnswer log_type lines (id_answer log_type lines))
+    (log_is : (log_type : LogType) (lines : List (List ℕ)) → IsLogTypeAnswer log_type lines (log_type_answer log_type lines)) (words : List (List ℕ)) (bytes : List ℕ) where
   command_is : (command : Command) (lines : List (List ℕ)) → IsCommandAnswer command lines (command_answer command lines)
-  command_is (Id kind) lines = id_is kind lines
-  command_is (Audit kind) lines = log_is kind lines
+  command_is (Id log_type) lines = id_is log_type lines
+  command_is (Audit log_type) lines = log_is log_type lines
 
   limited_is : (command : Command) → command_of words ≡ Some command → (long : Bool) → nat_lt 16_777_216 (length bytes) ≡ long
       → IsAnswer words bytes (cond long too_long (command_answer command (lines_of bytes)))
@@ -82,12 +82,12 @@ module _ (id_is : (kind : Kind) (lines : List (List ℕ)) → IsIdAnswer kind li
   pub answer_is : IsAnswer words bytes (answer_of words bytes)
   answer_is = asked_is (command_of words) refl
 
-module _ (id_only : (kind : Kind) (lines : List (List ℕ)) (printed : Printed) → IsIdAnswer kind lines printed → printed ≡ id_answer kind lines)
-    (log_only : (kind : Kind) (lines : List (List ℕ)) (printed : Printed) → IsKindAnswer kind lines printed → printed ≡ kind_answer kind lines)
+module _ (id_only : (log_type : LogType) (lines : List (List ℕ)) (printed : Printed) → IsIdAnswer log_type lines printed → printed ≡ id_answer log_type lines)
+    (log_only : (log_type : LogType) (lines : List (List ℕ)) (printed : Printed) → IsLogTypeAnswer log_type lines printed → printed ≡ log_type_answer log_type lines)
     (words : List (List ℕ)) (bytes : List ℕ) (printed : Printed) where
   command_only : (command : Command) (lines : List (List ℕ)) → IsCommandAnswer command lines printed → printed ≡ command_answer command lines
-  command_only (Id kind) lines is = id_only kind lines printed is
-  command_only (Audit kind) lines is = log_only kind lines printed is
+  command_only (Id log_type) lines is = id_only log_type lines printed is
+  command_only (Audit log_type) lines is = log_only log_type lines printed is
 
   asked : (command : Option Command) → command_of words ≡ command → asked_answer command bytes ≡ answer_of words bytes
   asked command e = ap (λ (o : Option Command). asked_answer o bytes) (sym e)

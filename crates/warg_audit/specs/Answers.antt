@@ -1,46 +1,47 @@
 -- What the program answers to its words and the bytes of its input.
 use Rattle.std.specs.Prelude.{◌≡◌, ℕ, ◌<◌, ◌≤◌, nat_lt, if◌then◌else◌, List, [], ◌∷◌, ◌++◌, length, codes, Option, Some, None, Result, Ok, Err, IsErr}
 use Rattle.hex.specs.declared.error.FromHexError.{FromHexError}
-use Rattle.warg_crypto.specs.RecordIds.{package_record_id_of, operator_record_id_of}
-use Rattle.warg_crypto.specs.declared.hash.AnyHash.{AnyHash}
 use Rattle.warg_protobuf.specs.Envelope.{envelope_table, EnvelopeValue, IsEnvelope, envelope_of}
 use Rattle.warg_protobuf.specs.Table.{HasFault}
 use Rattle.warg_protobuf.specs.declared.error.WireError.{WireError}
-use Rattle.warg_audit.specs.declared.command.Kind.{Kind}
-use Rattle.warg_audit.specs.declared.command.Kind.TheVariants.{Package, Operator}
+use Rattle.warg_records.specs.FaultNames.{error_name}
+use Rattle.warg_records.specs.RecordIds.{package_record_id_of, operator_record_id_of}
+use Rattle.warg_records.specs.declared.proto_envelope.error.ParseEnvelopeError.TheVariants.{ProtobufEnvelope}
+use Rattle.warg_records.specs.declared.registry.record_id.RecordId.{RecordId}
+use Rattle.warg_audit.specs.declared.command.LogType.{LogType}
+use Rattle.warg_audit.specs.declared.command.LogType.TheVariants.{Package, Operator}
 use Rattle.warg_audit.specs.declared.command.Command.{Command}
 use Rattle.warg_audit.specs.declared.command.Command.TheVariants.{Id, Audit}
 use Rattle.warg_audit.specs.Commands.{command_of}
-use Rattle.warg_audit.specs.Kinds.{IsKindAnswer, kind_answer}
+use Rattle.warg_audit.specs.LogTypes.{IsLogTypeAnswer, log_type_answer}
 use Rattle.warg_audit.specs.Lines.{AreLines, string_of, lines_of}
-use Rattle.warg_audit.specs.Names.{wire_name}
 use Rattle.warg_audit.specs.Printed.{Printed, usage, too_long, bad_line, record_id, refused}
 
--- the id of a record of this kind, from its content bytes
-abbrev pub record_id_of : Kind → List ℕ → AnyHash
+-- the id of a record of a log of this type, from its content bytes
+abbrev pub record_id_of : LogType → List ℕ → RecordId
 record_id_of Package content = package_record_id_of content
 record_id_of Operator content = operator_record_id_of content
 
 -- the answer to an envelope's bytes whose record's id is asked: its contents and its signature are not looked into
-pub data IsEnvelopeAnswer (kind : Kind) (bytes : List ℕ) (printed : Printed) : Type 0 where
+pub data IsEnvelopeAnswer (log_type : LogType) (bytes : List ℕ) (printed : Printed) : Type 0 where
   is_read : (envelope : EnvelopeValue) → IsEnvelope bytes envelope
-      → printed ≡ record_id (record_id_of kind envelope.contents) → IsEnvelopeAnswer kind bytes printed
+      → printed ≡ record_id (record_id_of log_type envelope.contents) → IsEnvelopeAnswer log_type bytes printed
   has_fault : (fault : WireError) → HasFault envelope_table bytes fault
-      → printed ≡ refused 0 (codes "ProtobufEnvelope." ++ wire_name fault) → IsEnvelopeAnswer kind bytes printed
+      → printed ≡ refused 0 (error_name (ProtobufEnvelope fault)) → IsEnvelopeAnswer log_type bytes printed
 
 -- the answer to lines, of which one is wanted
-pub data IsIdAnswer (kind : Kind) (lines : List (List ℕ)) (printed : Printed) : Type 0 where
-  no_line : lines ≡ [] → printed ≡ bad_line 0 → IsIdAnswer kind lines printed
+pub data IsIdAnswer (log_type : LogType) (lines : List (List ℕ)) (printed : Printed) : Type 0 where
+  no_line : lines ≡ [] → printed ≡ bad_line 0 → IsIdAnswer log_type lines printed
   bad_digits : (line : List ℕ) (more : List (List ℕ)) → lines ≡ line ∷ more → IsErr (string_of line)
-      → printed ≡ bad_line 0 → IsIdAnswer kind lines printed
+      → printed ≡ bad_line 0 → IsIdAnswer log_type lines printed
   second_line : (line bytes next : List ℕ) (more : List (List ℕ)) → lines ≡ line ∷ next ∷ more → string_of line ≡ Ok bytes
-      → printed ≡ bad_line 1 → IsIdAnswer kind lines printed
+      → printed ≡ bad_line 1 → IsIdAnswer log_type lines printed
   one_line : (line bytes : List ℕ) → lines ≡ line ∷ [] → string_of line ≡ Ok bytes
-      → IsEnvelopeAnswer kind bytes printed → IsIdAnswer kind lines printed
+      → IsEnvelopeAnswer log_type bytes printed → IsIdAnswer log_type lines printed
 
 abbrev pub IsCommandAnswer : Command → List (List ℕ) → Printed → Type 0
-IsCommandAnswer (Id kind) lines printed = IsIdAnswer kind lines printed
-IsCommandAnswer (Audit kind) lines printed = IsKindAnswer kind lines printed
+IsCommandAnswer (Id log_type) lines printed = IsIdAnswer log_type lines printed
+IsCommandAnswer (Audit log_type) lines printed = IsLogTypeAnswer log_type lines printed
 
 -- the answer to words and bytes
 pub data IsAnswer (words : List (List ℕ)) (bytes : List ℕ) (printed : Printed) : Type 0 where
@@ -52,23 +53,23 @@ pub data IsAnswer (words : List (List ℕ)) (bytes : List ℕ) (printed : Printe
 
 -- ---- the same, computed: the only answer (`laws`)
 
-abbrev pub envelope_answer : Kind → Result EnvelopeValue WireError → Printed
-envelope_answer kind (Ok envelope) = record_id (record_id_of kind envelope.contents)
-envelope_answer kind (Err fault) = refused 0 (codes "ProtobufEnvelope." ++ wire_name fault)
+abbrev pub envelope_answer : LogType → Result EnvelopeValue WireError → Printed
+envelope_answer log_type (Ok envelope) = record_id (record_id_of log_type envelope.contents)
+envelope_answer log_type (Err fault) = refused 0 (error_name (ProtobufEnvelope fault))
 
 -- by what the first line spells, and the lines behind it
-abbrev pub string_answer : Kind → Result (List ℕ) FromHexError → List (List ℕ) → Printed
-string_answer kind (Err fault) more = bad_line 0
-string_answer kind (Ok bytes) [] = envelope_answer kind (envelope_of bytes)
-string_answer kind (Ok bytes) (next ∷ more) = bad_line 1
+abbrev pub string_answer : LogType → Result (List ℕ) FromHexError → List (List ℕ) → Printed
+string_answer log_type (Err fault) more = bad_line 0
+string_answer log_type (Ok bytes) [] = envelope_answer log_type (envelope_of bytes)
+string_answer log_type (Ok bytes) (next ∷ more) = bad_line 1
 
-abbrev pub id_answer : Kind → List (List ℕ) → Printed
-id_answer kind [] = bad_line 0
-id_answer kind (line ∷ more) = string_answer kind (string_of line) more
+abbrev pub id_answer : LogType → List (List ℕ) → Printed
+id_answer log_type [] = bad_line 0
+id_answer log_type (line ∷ more) = string_answer log_type (string_of line) more
 
 abbrev pub command_answer : Command → List (List ℕ) → Printed
-command_answer (Id kind) lines = id_answer kind lines
-command_answer (Audit kind) lines = kind_answer kind lines
+command_answer (Id log_type) lines = id_answer log_type lines
+command_answer (Audit log_type) lines = log_type_answer log_type lines
 
 -- by what the words ask for
 abbrev pub asked_answer : Option Command → List ℕ → Printed

@@ -1,12 +1,9 @@
 pub mod Commands
 pub mod Lines
-pub mod Names
 pub mod Printed
 pub mod LogAnswers
-pub mod OffenceNames
 pub mod ReleaseLines
-pub mod Kinds
+pub mod LogTypes
 pub mod Answers
-pub mod Pieces
 pub mod Replies
 pub mod Meters

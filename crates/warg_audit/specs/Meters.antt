@@ -1,24 +1,40 @@
--- What the wrappers of the reader and the writer tell.
-use Rattle.std.specs.Prelude.{ℕ, ◌+◌, ◌-◌, ◌^◌, ◌<◌, ◌≤◌, List, Option}
+-- What the wrappers of the reader and the writer count.
+use Rattle.std.specs.Prelude.{◌≡◌, ℕ, ◌+◌, ◌-◌, ◌^◌, ◌<◌, ◌≤◌, false, List, length, Option, IfSome, Result, Ok, Err}
+use Rattle.std.specs.Io.KnownBytes.{Consumes}
 use Rattle.warg_audit.specs.declared.input.Input.{Input}
 use Rattle.warg_audit.specs.declared.output.Output.{Output}
 
--- the bytes that the reader has left, if it tells them
+-- how many bytes a read gave, none where it failed
+abbrev pub given : {E : Type 0} → Result ℕ E → ℕ
+given (Ok count) = count
+given (Err e) = 0
+
+-- the bytes that the reader has left, where they are known
 abbrev pub left : {R : Type 0} → (R → Option (List ℕ)) → Input R → Option (List ℕ)
 left remaining input = remaining input.reader
 
--- the bytes that the writer holds, if it tells them
+-- the bytes that the writer holds, where they are known
 abbrev pub held : {W : Type 0} → (W → Option (List ℕ)) → Output W → Option (List ℕ)
 held contents output = contents output.writer
 
--- at most this many reads were made
-abbrev pub ReadsWithin : {R : Type 0} → Input R → Input R → ℕ → Type 0
-ReadsWithin before after count = after.reads ≤ before.reads + count
+-- Reading ends at the first read that fails or gives no bytes, or one byte past the limit.
+pub record ReadsToEnd {R : Type 0} (remaining : R → Option (List ℕ)) (before after : Input R) : Type 0 where
+  -- no read follows one that failed or gave no bytes
+  pub late : before.ended ≡ false → after.late ≡ before.late
+  pub failures : after.failures ≤ before.failures + 1
+  -- no byte is read past the first one over the limit
+  pub reads : after.reads ≤ before.reads + 16_777_217
+  pub taken : after.taken ≤ before.taken + 16_777_217
+  -- where its bytes are known: at most one read more than it has bytes, and the bytes that are gone
+  pub known_reads : IfSome (left remaining before) (λ bytes. after.reads ≤ before.reads + (length bytes + 1))
+  pub gone : List ℕ
+  pub are_gone : Consumes (left remaining before) (left remaining after) gone
+  pub few_gone : length gone ≤ 16_777_217
 
--- a read failed meanwhile; no more can be told where the count of failed ones was full
+-- a read failed meanwhile; nothing is known where the count of failed ones was full
 abbrev pub ReadFailed : {R : Type 0} → Input R → Input R → Type 0
 ReadFailed before after = before.failures < 2 ^ 64 - 1 → before.failures < after.failures
 
--- a write failed meanwhile; no more can be told where the count of failed ones was full
+-- a write failed meanwhile; nothing is known where the count of failed ones was full
 abbrev pub WriteFailed : {W : Type 0} → Output W → Output W → Type 0
 WriteFailed before after = before.failures < 2 ^ 64 - 1 → before.failures < after.failures

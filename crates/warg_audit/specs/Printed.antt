@@ -2,7 +2,7 @@
 use Rattle.std.specs.Prelude.{ℕ, List, ◌++◌, codes}
 use Rattle.std.specs.Fmt.{decimal}
 use Rattle.warg_crypto.specs.HashText.{hash_text}
-use Rattle.warg_crypto.specs.declared.hash.AnyHash.{AnyHash}
+use Rattle.warg_records.specs.declared.registry.record_id.RecordId.{RecordId}
 
 -- the text that is printed, and the exit status
 pub record Printed : Type 0 where
@@ -18,8 +18,8 @@ too_long = record { text = codes "too long\n"; status = 2 }
 abbrev pub bad_line : ℕ → Printed
 bad_line index = record { text = codes "bad line " ++ decimal index ++ codes "\n"; status = 2 }
 
-abbrev pub record_id : AnyHash → Printed
-record_id id = record { text = hash_text id ++ codes "\n"; status = 0 }
+abbrev pub record_id : RecordId → Printed
+record_id id = record { text = hash_text id.hash ++ codes "\n"; status = 0 }
 
 abbrev pub refused : ℕ → List ℕ → Printed
 refused index name = record { text = codes "refused " ++ decimal index ++ codes " " ++ name ++ codes "\n"; status = 1 }

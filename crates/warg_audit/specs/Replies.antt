@@ -1,36 +1,40 @@
 -- What is printed by a reader and a writer that may fail.
-use Rattle.std.specs.Prelude.{◌≡◌, ℕ, List, Option, IfSome, string_bytes}
+use Rattle.std.specs.Prelude.{◌≡◌, ◌⊎◌, ℕ, List, Option, IfSome, string_bytes}
 use Rattle.std.specs.Io.KnownBytes.{Appends}
 use Rattle.warg_audit.specs.declared.reply.Text.{Text}
-use Rattle.warg_audit.specs.declared.reply.Text.TheVariants.{Made, Fixed}
+use Rattle.warg_audit.specs.declared.reply.Text.TheVariants.{Owned, Fixed}
 use Rattle.warg_audit.specs.declared.reply.Reply.{Reply}
 use Rattle.warg_audit.specs.Answers.{IsAnswer}
 use Rattle.warg_audit.specs.Printed.{Printed, read_fault, out_of_memory}
 
 abbrev pub text_of : Text → List ℕ
-text_of (Made text) = string_bytes text
+text_of (Owned text) = string_bytes text
 text_of (Fixed text) = text.now
 
 -- a reply as plain data
 abbrev pub printed_of : Reply → Printed
 printed_of reply = record { text = text_of reply.text; status = reply.status }
 
--- The reply to words, of a reader that has these bytes left if it tells them: the answer to its
--- bytes; or the line that tells of a failed read; or the line that tells of refused memory.
-pub data IsReply (words : List (List ℕ)) (told : Option (List ℕ)) (ReadFailed : Type 0) (printed : Printed) : Type 0 where
-  answer : (bytes : List ℕ) → IfSome told (λ all. all ≡ bytes) → IsAnswer words bytes printed → IsReply words told ReadFailed printed
-  unread : ReadFailed → printed ≡ read_fault → IsReply words told ReadFailed printed
-  starved : printed ≡ out_of_memory → IsReply words told ReadFailed printed
+-- The reply to words, of a reader that has these bytes left where they are known: the answer to its
+-- bytes; or the line for a failed read; or the line for refused memory.
+pub data IsReply (words : List (List ℕ)) (known : Option (List ℕ)) (ReadFailed : Type 0) (printed : Printed) : Type 0 where
+  answer : (bytes : List ℕ) → IfSome known (λ all. all ≡ bytes) → IsAnswer words bytes printed → IsReply words known ReadFailed printed
+  unread : ReadFailed → printed ≡ read_fault → IsReply words known ReadFailed printed
+  starved : printed ≡ out_of_memory → IsReply words known ReadFailed printed
 
--- this was printed whole, by a writer that holds these bytes before and after if it tells them, and its status given
+-- this was printed whole, by a writer that holds these bytes before and after where they are known, and its status given
 pub record IsPrinted (before after : Option (List ℕ)) (status : ℕ) (printed : Printed) : Type 0 where
   pub status_is : status ≡ printed.status
   pub text_is : Appends before after printed.text
 
+-- the same, or status 3 where a write failed
+abbrev pub IsPrintedOrFailed : Option (List ℕ) → Option (List ℕ) → Type 0 → ℕ → Printed → Type 0
+IsPrintedOrFailed before after WriteFailed status printed = IsPrinted before after status printed ⊎ ((status ≡ 3) × WriteFailed)
+
 -- the answer was printed whole
-pub record IsAnswered (words : List (List ℕ)) (told before after : Option (List ℕ)) (status : ℕ) : Type 0 where
+pub record IsAnswered (words : List (List ℕ)) (known before after : Option (List ℕ)) (status : ℕ) : Type 0 where
   pub bytes : List ℕ
-  pub are_told : IfSome told (λ all. all ≡ bytes)
+  pub are_known : IfSome known (λ all. all ≡ bytes)
   pub printed : Printed
   pub is_answer : IsAnswer words bytes printed
   pub is_printed : IsPrinted before after status printed

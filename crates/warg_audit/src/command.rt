@@ -1,11 +1,11 @@
 //! What the program is asked for.
 
 ghost use Rattle.std.specs.Prelude.{◌≡◌, map, string_bytes};
-ghost use Rattle.warg_audit.specs.Commands.{command_of, kind_of};
+ghost use Rattle.warg_audit.specs.Commands.{command_of, log_type_of};
 
-/// A kind of log.
+/// A type of log.
 #[derive(Clone, Copy, Debug, PartialEq, Eq)]
-pub enum Kind {
+pub enum LogType {
     Package,
     Operator,
 }
@@ -14,17 +14,17 @@ pub enum Kind {
 #[derive(Clone, Copy, Debug, PartialEq, Eq)]
 pub enum Command {
     /// The id of one record, `id package` or `id operator`.
-    Id(Kind),
+    Id(LogType),
     /// The verdict on a log, `package` or `operator`.
-    Audit(Kind),
+    Audit(LogType),
 }
 
-fn parse_kind(word: &str) -> Option<Kind>
-    ensures { result ≡ kind_of word.now }
+fn parse_log_type(word: &str) -> Option<LogType>
+    ensures { result ≡ log_type_of word.now }
 {
     match word {
-        "package" => Some(Kind::Package),
-        "operator" => Some(Kind::Operator),
+        "package" => Some(LogType::Package),
+        "operator" => Some(LogType::Operator),
         _ => None,
     }
 }
@@ -34,12 +34,12 @@ pub fn parse_command(words: &[String]) -> Option<Command>
     ensures { result ≡ command_of (map string_bytes words.now) }
 {
     match words {
-        [word] => parse_kind(word.as_str()).map(Command::Audit),
+        [word] => parse_log_type(word.as_str()).map(Command::Audit),
         [first, second] => {
             if first.as_str() != "id" {
                 return None;
             }
-            parse_kind(second.as_str()).map(Command::Id)
+            parse_log_type(second.as_str()).map(Command::Id)
         }
         _ => None,
     }

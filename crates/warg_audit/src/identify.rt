@@ -1,63 +1,59 @@
 //! The id of the one record whose envelope is read.
 
-ghost use Rattle.std.specs.Prelude.{◌≡◌, ◌≢◌, ◌++◌, codes, IfOk};
+ghost use Rattle.std.specs.Prelude.{◌≡◌, ◌≢◌, IfOk};
 ghost use Rattle.warg_protobuf.specs.declared.error.WireError.TheVariants.{OutOfMemory};
+ghost use Rattle.warg_records.specs.FaultNames.{error_name};
+ghost use Rattle.warg_records.specs.declared.proto_envelope.error.ParseEnvelopeError.TheVariants.{ProtobufEnvelope};
 ghost use Rattle.warg_audit.specs.Answers.{record_id_of, IsEnvelopeAnswer, IsIdAnswer};
 ghost use Rattle.warg_audit.specs.Printed.{refused};
-ghost use Rattle.warg_audit.specs.Names.{wire_name};
 ghost use Rattle.warg_audit.specs.Lines.{lines_of};
 ghost use Rattle.warg_audit.specs.Replies.{printed_of};
 
-use crate::command::Kind;
+use crate::command::LogType;
 use crate::lines::{cut_line, line_bytes};
-use crate::names::wire_name;
-use crate::reply::{Reply, bad_line_reply};
+use crate::reply::{Reply, bad_line_reply, refused_reply};
 use std::alloc::{AllocError, Global};
-use warg_crypto::hash::{AnyHash, Hash, Sha256};
+use warg_crypto::hash::Sha256;
 use warg_protobuf::{Envelope, Message, WireError};
+use warg_records::ParseEnvelopeError;
+use warg_records::registry::RecordId;
 
-// The id of a record of this kind, from its content bytes.
-fn record_id(kind: Kind, content: &[u8]) -> AnyHash
-    ensures { result ≡ record_id_of kind content.now }
+// The id of a record of a log of this type, from its content bytes.
+fn record_id(log_type: LogType, content: &[u8]) -> RecordId
+    ensures { result ≡ record_id_of log_type content.now }
 {
-    let prefix = match kind {
-        Kind::Package => "WARG-PACKAGE-LOG-RECORD-V0:",
-        Kind::Operator => "WARG-OPERATOR-LOG-RECORD-V0:",
-    };
-    Hash::<Sha256>::of(&(prefix.as_bytes(), content)).into()
+    match log_type {
+        LogType::Package => RecordId::of_package_content::<Sha256>(content),
+        LogType::Operator => RecordId::of_operator_content::<Sha256>(content),
+    }
 }
 
-// What tells of an envelope's first fault; no reply where that is want of memory.
-fn fault_reply(alloc: Global, index: usize, fault: WireError) -> Result<Reply, AllocError>
-    ensures { IfOk result (λ reply. (fault ≢ OutOfMemory)
-        × (printed_of reply ≡ refused index (codes "ProtobufEnvelope." ++ wire_name fault))) }
+// The reply to an envelope's first fault; none where memory was refused.
+fn fault_reply(alloc: Global, fault: WireError) -> Result<Reply, AllocError>
+    ensures { IfOk result (λ reply. (fault ≢ OutOfMemory) × (printed_of reply ≡ refused 0 (error_name (ProtobufEnvelope fault)))) }
 {
     match fault {
         WireError::OutOfMemory => Err(AllocError),
-        _ => {
-            let name = wire_name(fault);
-            let text = format!(in alloc; "refused {index} ProtobufEnvelope.{name}\n")?;
-            Ok(Reply::made(text, 1))
-        }
+        _ => refused_reply(alloc, 0, ParseEnvelopeError::ProtobufEnvelope(fault).name()),
     }
 }
 
 // The answer to an envelope's bytes.
-fn envelope_reply(alloc: Global, kind: Kind, bytes: &[u8]) -> Result<Reply, AllocError>
-    ensures { IfOk result (λ reply. IsEnvelopeAnswer kind bytes.now (printed_of reply)) }
+fn envelope_reply(alloc: Global, log_type: LogType, bytes: &[u8]) -> Result<Reply, AllocError>
+    ensures { IfOk result (λ reply. IsEnvelopeAnswer log_type bytes.now (printed_of reply)) }
 {
     match Envelope::decode(alloc, bytes) {
         Ok(envelope) => {
-            let id = record_id(kind, envelope.contents.as_slice());
-            Ok(Reply::made(format!(in alloc; "{id}\n")?, 0))
+            let id = record_id(log_type, envelope.contents.as_slice());
+            Ok(Reply::owned(format!(in alloc; "{id}\n")?, 0))
         }
-        Err(fault) => fault_reply(alloc, 0, fault),
+        Err(fault) => fault_reply(alloc, fault),
     }
 }
 
 /// The answer to the text of one line.
-pub(crate) fn id_reply(alloc: Global, kind: Kind, text: &[u8]) -> Result<Reply, AllocError>
-    ensures { IfOk result (λ reply. IsIdAnswer kind (lines_of text.now) (printed_of reply)) }
+pub(crate) fn id_reply(alloc: Global, log_type: LogType, text: &[u8]) -> Result<Reply, AllocError>
+    ensures { IfOk result (λ reply. IsIdAnswer log_type (lines_of text.now) (printed_of reply)) }
 {
     if text.is_empty() {
         return bad_line_reply(alloc, 0);
@@ -69,5 +65,5 @@ pub(crate) fn id_reply(alloc: Global, kind: Kind, text: &[u8]) -> Result<Reply, 
     if !more.is_empty() {
         return bad_line_reply(alloc, 1);
     }
-    envelope_reply(alloc, kind, bytes.as_slice())
+    envelope_reply(alloc, log_type, bytes.as_slice())
 }

@@ -1,31 +1,42 @@
-//! A reader that tells of its reads.
+//! A reader that counts what is read of it.
 
-ghost use Rattle.std.specs.Prelude.{◌≡◌, ◌+◌, ◌-◌, ◌^◌, min, if◌then◌else◌, is_err};
+ghost use Rattle.std.specs.Prelude.{◌≡◌, ◌+◌, ◌-◌, ◌^◌, ◌==◌, ◌||◌, min, if◌then◌else◌, is_err, false};
 ghost use Rattle.std.specs.Io.KnownBytes.{ReadConsumes};
 ghost use Rattle.std.specs.Io.{ReadsAtMost};
+ghost use Rattle.warg_audit.specs.Meters.{given};
 
 use std::io;
 use std::io::Read;
 
-/// A reader that counts its reads and those that failed, each up to the greatest `u64`.
+/// A reader that counts what is read of it: its reads, those that failed, the bytes that it gave,
+/// and the reads that came after its end. Each count stops at the greatest `u64`.
 #[derive(Drop)]
 pub struct Input<R> {
     reader: R,
     reads: u64,
     failures: u64,
+    taken: u64,
+    ended: bool,
+    late: u64,
 }
 
 impl<R: Read> Input<R> {
-    /// No read is made yet.
+    /// Nothing is read yet.
     pub fn new(reader: R) -> Input<R>
         ensures reader { result.reader ≡ reader }
         ensures reads { result.reads ≡ 0 }
         ensures failures { result.failures ≡ 0 }
+        ensures taken { result.taken ≡ 0 }
+        ensures ended { result.ended ≡ false }
+        ensures late { result.late ≡ 0 }
     {
         Input {
             reader,
             reads: 0,
             failures: 0,
+            taken: 0,
+            ended: false,
+            late: 0,
         }
     }
 
@@ -33,11 +44,7 @@ impl<R: Read> Input<R> {
     pub fn into_inner(self) -> R
         ensures { result ≡ self.reader }
     {
-        let Input {
-            reader,
-            reads: _,
-            failures: _,
-        } = self;
+        let Input { reader, .. } = self;
         reader
     }
 
@@ -55,18 +62,54 @@ impl<R: Read> Input<R> {
         self.failures
     }
 
+    /// How many bytes the reads gave.
+    pub fn taken(&self) -> u64
+        ensures { result ≡ self.now.taken }
+    {
+        self.taken
+    }
+
+    /// Whether a read failed or gave no bytes.
+    pub fn has_ended(&self) -> bool
+        ensures { result ≡ self.now.ended }
+    {
+        self.ended
+    }
+
+    /// How many reads were made after one that failed or gave no bytes.
+    pub fn late_reads(&self) -> u64
+        ensures { result ≡ self.now.late }
+    {
+        self.late
+    }
+
     /// One read of the reader.
     pub fn read(&mut self, buf: &mut [u8]) -> io::Result<usize>
         ensures reads { self.new.reads ≡ min (self.old.reads + 1) (2 ^ 64 - 1) }
-        ensures failures { self.new.failures ≡ min (self.old.failures + (if is_err result then 1 else 0)) (2 ^ 64 - 1) }
+        ensures failures { self.new.failures ≡ (if is_err result then min (self.old.failures + 1) (2 ^ 64 - 1) else self.old.failures) }
+        ensures taken { self.new.taken ≡ min (self.old.taken + given result) (2 ^ 64 - 1) }
+        ensures ended { self.new.ended ≡ (self.old.ended || given result == 0) }
+        ensures late { self.new.late ≡ (if self.old.ended then min (self.old.late + 1) (2 ^ 64 - 1) else self.old.late) }
         ensures bound { ReadsAtMost result buf.new }
         ensures bytes { ReadConsumes (R.remaining self.old.reader) (R.remaining self.new.reader) result buf.new }
     {
+        let (failures, taken, ended) = (self.failures, self.taken, self.ended);
         self.reads = self.reads.saturating_add(1);
-        let failures = self.failures;
+        if ended {
+            self.late = self.late.saturating_add(1);
+        }
+        // Trusted by reading: this line reads the reader once, and no other line reads it. A reader
+        // that failed may go on, so no clause tells one failed read from two.
         let outcome = self.reader.read(buf);
-        if outcome.is_err() {
-            self.failures = failures.saturating_add(1);
+        match &outcome {
+            Ok(count) => {
+                self.taken = taken.saturating_add(*count as u64);
+                self.ended = ended || *count == 0;
+            }
+            Err(_) => {
+                self.failures = failures.saturating_add(1);
+                self.ended = true;
+            }
         }
         outcome
     }

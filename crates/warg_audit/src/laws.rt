@@ -2,8 +2,8 @@
 
 ghost use Rattle.std.specs.Prelude.{◌≡◌, ℕ, List};
 ghost use Rattle.warg_audit.specs.Answers.{IsIdAnswer, id_answer, IsAnswer, answer_of};
-ghost use Rattle.warg_audit.specs.Kinds.{IsKindAnswer, kind_answer};
-ghost use Rattle.warg_audit.specs.declared.command.Kind.{Kind};
+ghost use Rattle.warg_audit.specs.LogTypes.{IsLogTypeAnswer, log_type_answer};
+ghost use Rattle.warg_audit.specs.declared.command.LogType.{LogType};
 ghost use Rattle.warg_audit.specs.Printed.{Printed};
 ghost use Rattle.warg_audit.specs.Lines.{AreLines, lines_of};
 
@@ -17,16 +17,16 @@ pub fn one_list_of_lines()
 
 /// Lines of which an id is asked have an answer, and no other one.
 pub fn one_id_answer()
-    ensures some { (kind : Kind) (lines : List (List ℕ)) → IsIdAnswer kind lines (id_answer kind lines) }
-    ensures only { (kind : Kind) (lines : List (List ℕ)) (printed : Printed) → IsIdAnswer kind lines printed → printed ≡ id_answer kind lines }
+    ensures some { (log_type : LogType) (lines : List (List ℕ)) → IsIdAnswer log_type lines (id_answer log_type lines) }
+    ensures only { (log_type : LogType) (lines : List (List ℕ)) (printed : Printed) → IsIdAnswer log_type lines printed → printed ≡ id_answer log_type lines }
 {
     decoding_computes();
 }
 
 /// The lines of a log have an answer, and no other one.
 pub fn one_log_answer()
-    ensures some { (kind : Kind) (lines : List (List ℕ)) → IsKindAnswer kind lines (kind_answer kind lines) }
-    ensures only { (kind : Kind) (lines : List (List ℕ)) (printed : Printed) → IsKindAnswer kind lines printed → printed ≡ kind_answer kind lines }
+    ensures some { (log_type : LogType) (lines : List (List ℕ)) → IsLogTypeAnswer log_type lines (log_type_answer log_type lines) }
+    ensures only { (log_type : LogType) (lines : List (List ℕ)) (printed : Printed) → IsLogTypeAnswer log_type lines printed → printed ≡ log_type_answer log_type lines }
 {}
 
 /// Words and bytes have an answer, and no other one: a text, printed whole, and a status.

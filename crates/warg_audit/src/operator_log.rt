@@ -1,40 +1,24 @@
-//! Operator logs as the program shows them.
+//! What is reported of operator logs.
 
 ghost use Rattle.std.specs.Prelude.{[]};
 
-use crate::audited::Audited;
+use crate::report::Report;
 use std::alloc::{AllocError, Global};
 use warg_operator_log::{LogState, ValidationError};
 
-impl Audited for LogState {
+impl Report for LogState {
     ghost use Rattle.std.specs.Option.{option_map};
     ghost use Rattle.warg_operator_log.specs.State.{offence_of};
-    ghost use Rattle.warg_audit.specs.OffenceNames.{wrong_name, namespace_offence_name};
+    ghost use Rattle.warg_operator_log.specs.OffenceNames.{offence_name};
 
-    ghost name_of = { λ e. option_map (wrong_name namespace_offence_name) (offence_of e) };
+    ghost name_of = { λ e. option_map offence_name (offence_of e) };
 
     ghost lines_of = { λ _. [] };
 
     fn error_name(error: &ValidationError) -> Option<&'static str> {
         match error {
-            ValidationError::FirstEntryIsNotInit => Some("FirstEntryIsNotInit"),
-            ValidationError::InitialRecordDoesNotInit => Some("InitialRecordDoesNotInit"),
-            ValidationError::KeyIDNotRecognized { .. } => Some("KeyIDNotRecognized"),
-            ValidationError::InitialEntryAfterBeginning => Some("InitialEntryAfterBeginning"),
-            ValidationError::UnauthorizedAction { .. } => Some("UnauthorizedAction"),
-            ValidationError::PermissionNotFoundToRevoke { .. } => Some(
-                "PermissionNotFoundToRevoke",
-            ),
-            ValidationError::SignatureError(_) => Some("SignatureError"),
-            ValidationError::IncorrectHashAlgorithm { .. } => Some("IncorrectHashAlgorithm"),
-            ValidationError::RecordHashDoesNotMatch => Some("RecordHashDoesNotMatch"),
-            ValidationError::PreviousHashOnFirstRecord => Some("PreviousHashOnFirstRecord"),
-            ValidationError::NoPreviousHashAfterInit => Some("NoPreviousHashAfterInit"),
-            ValidationError::ProtocolVersionNotAllowed { .. } => Some("ProtocolVersionNotAllowed"),
-            ValidationError::TimestampLowerThanPrevious => Some("TimestampLowerThanPrevious"),
-            ValidationError::InvalidNamespace { .. } => Some("InvalidNamespace"),
-            ValidationError::NamespaceAlreadyDefined { .. } => Some("NamespaceAlreadyDefined"),
             ValidationError::OutOfMemory => None,
+            _ => Some(error.name()),
         }
     }
 

@@ -1,10 +1,10 @@
-//! Package logs as the program shows them.
+//! What is reported of package logs.
 
 ghost use Rattle.std.specs.Prelude.{◌≡◌, IfOk, string_bytes};
 ghost use Rattle.warg_package_log.specs.Catalog.{release_view};
 ghost use Rattle.warg_audit.specs.ReleaseLines.{release_line};
 
-use crate::audited::Audited;
+use crate::report::Report;
 use std::alloc::{AllocError, Global};
 use warg_package_log::{LogState, Release, ReleaseState, ValidationError};
 
@@ -21,37 +21,20 @@ fn release_line(alloc: Global, release: &Release) -> Result<String, AllocError>
     }
 }
 
-impl Audited for LogState {
+impl Report for LogState {
     ghost use Rattle.std.specs.Option.{option_map};
     ghost use Rattle.warg_package_log.specs.State.{view_of, offence_of};
-    ghost use Rattle.warg_audit.specs.OffenceNames.{wrong_name, release_offence_name};
+    ghost use Rattle.warg_package_log.specs.OffenceNames.{offence_name};
     ghost use Rattle.warg_audit.specs.ReleaseLines.{release_lines};
 
-    ghost name_of = { λ e. option_map (wrong_name release_offence_name) (offence_of e) };
+    ghost name_of = { λ e. option_map offence_name (offence_of e) };
 
     ghost lines_of = { λ state. release_lines (view_of state).whole.matter };
 
     fn error_name(error: &ValidationError) -> Option<&'static str> {
         match error {
-            ValidationError::FirstEntryIsNotInit => Some("FirstEntryIsNotInit"),
-            ValidationError::InitialRecordDoesNotInit => Some("InitialRecordDoesNotInit"),
-            ValidationError::KeyIDNotRecognized { .. } => Some("KeyIDNotRecognized"),
-            ValidationError::InitialEntryAfterBeginning => Some("InitialEntryAfterBeginning"),
-            ValidationError::UnauthorizedAction { .. } => Some("UnauthorizedAction"),
-            ValidationError::PermissionNotFoundToRevoke { .. } => Some(
-                "PermissionNotFoundToRevoke",
-            ),
-            ValidationError::SignatureError(_) => Some("SignatureError"),
-            ValidationError::IncorrectHashAlgorithm { .. } => Some("IncorrectHashAlgorithm"),
-            ValidationError::RecordHashDoesNotMatch => Some("RecordHashDoesNotMatch"),
-            ValidationError::PreviousHashOnFirstRecord => Some("PreviousHashOnFirstRecord"),
-            ValidationError::NoPreviousHashAfterInit => Some("NoPreviousHashAfterInit"),
-            ValidationError::ProtocolVersionNotAllowed { .. } => Some("ProtocolVersionNotAllowed"),
-            ValidationError::TimestampLowerThanPrevious => Some("TimestampLowerThanPrevious"),
-            ValidationError::ReleaseOfReleased { .. } => Some("ReleaseOfReleased"),
-            ValidationError::YankOfUnreleased { .. } => Some("YankOfUnreleased"),
-            ValidationError::YankOfYanked { .. } => Some("YankOfYanked"),
             ValidationError::OutOfMemory => None,
+            _ => Some(error.name()),
         }
     }
 

@@ -3,14 +3,14 @@
 ghost use Rattle.std.specs.Prelude.{◌≡◌, ◌≢◌, ◌⊎◌, map, string_bytes, IfOk, Some, None};
 ghost use Rattle.std.specs.Io.KnownBytes.{Appends};
 ghost use Rattle.warg_audit.specs.Answers.{IsCommandAnswer};
-ghost use Rattle.warg_audit.specs.Printed.{usage};
+ghost use Rattle.warg_audit.specs.Printed.{usage, read_fault};
 ghost use Rattle.warg_audit.specs.Commands.{command_of};
-ghost use Rattle.warg_audit.specs.Kinds.{IsKindAnswer};
+ghost use Rattle.warg_audit.specs.LogTypes.{IsLogTypeAnswer};
 ghost use Rattle.warg_audit.specs.Lines.{lines_of};
-ghost use Rattle.warg_audit.specs.Meters.{left, held, ReadsWithin, ReadFailed, WriteFailed};
-ghost use Rattle.warg_audit.specs.Replies.{printed_of, IsReply, IsPrinted, IsAnswered, IsTrouble};
+ghost use Rattle.warg_audit.specs.Meters.{left, held, ReadsToEnd, ReadFailed, WriteFailed};
+ghost use Rattle.warg_audit.specs.Replies.{printed_of, IsReply, IsPrintedOrFailed, IsAnswered, IsTrouble};
 
-use crate::command::{Command, Kind, parse_command};
+use crate::command::{Command, LogType, parse_command};
 use crate::identify::id_reply;
 use crate::input::Input;
 use crate::log::log_reply;
@@ -26,13 +26,13 @@ pub const USAGE: &str = "usage: warg_audit [id] package|operator\n";
 /// What is printed where memory is refused.
 pub const OUT_OF_MEMORY: &str = "out of memory\n";
 
-// The answer to the text of a log of this kind.
-fn kind_reply(alloc: Global, kind: Kind, text: &[u8]) -> Result<Reply, AllocError>
-    ensures { IfOk result (λ reply. IsKindAnswer kind (lines_of text.now) (printed_of reply)) }
+// The answer to the text of a log of this type.
+fn log_type_reply(alloc: Global, log_type: LogType, text: &[u8]) -> Result<Reply, AllocError>
+    ensures { IfOk result (λ reply. IsLogTypeAnswer log_type (lines_of text.now) (printed_of reply)) }
 {
-    match kind {
-        Kind::Package => log_reply::<warg_package_log::LogState>(alloc, text),
-        Kind::Operator => log_reply::<warg_operator_log::LogState>(alloc, text),
+    match log_type {
+        LogType::Package => log_reply::<warg_package_log::LogState>(alloc, text),
+        LogType::Operator => log_reply::<warg_operator_log::LogState>(alloc, text),
     }
 }
 
@@ -41,17 +41,18 @@ fn command_reply(alloc: Global, command: Command, bytes: &[u8]) -> Result<Reply,
     ensures { IfOk result (λ reply. IsCommandAnswer command (lines_of bytes.now) (printed_of reply)) }
 {
     match command {
-        Command::Id(kind) => id_reply(alloc, kind, bytes),
-        Command::Audit(kind) => kind_reply(alloc, kind, bytes),
+        Command::Id(log_type) => id_reply(alloc, log_type, bytes),
+        Command::Audit(log_type) => log_type_reply(alloc, log_type, bytes),
     }
 }
 
-/// What the program prints to the words, made whole before anything is written. For words that
+/// What the program prints to the words, whole before anything is written. For words that
 /// ask for nothing, nothing is read and no memory is taken.
 pub fn make_reply<R: Read>(alloc: Global, words: &[String], input: &mut Input<R>) -> Reply
     ensures reply { IsReply (map string_bytes words.now) (left R.remaining input.old) (ReadFailed input.old input.new) (printed_of result) }
     ensures other_words { command_of (map string_bytes words.now) ≡ None → (input.new ≡ input.old) × (printed_of result ≡ usage) }
-    ensures reads { ReadsWithin input.old input.new 16_777_217 }
+    ensures faults { (input.new.failures ≡ input.old.failures) ⊎ (printed_of result ≡ read_fault) }
+    ensures reading { ReadsToEnd R.remaining input.old input.new }
 {
     let Some(command) = parse_command(words) else {
         return Reply::fixed(USAGE, 2);
@@ -77,13 +78,20 @@ pub fn audit<R: Read, W: Write>(
     // Any other status than 3 is that of the answer, which was written whole and alone.
     ensures answered { result ≢ 3 → IsAnswered (map string_bytes words.now) (left R.remaining input.old) (held W.contents output.old) (held W.contents output.new) result }
 
-    // Status 3 tells of a failed read or of refused memory, by its line, or of a failed write.
+    // Status 3: a failed read or refused memory, with its line, or a failed write.
     ensures trouble { result ≡ 3 → IsTrouble (held W.contents output.old) (held W.contents output.new) (ReadFailed input.old input.new) (WriteFailed output.old output.new) }
+
+    // Where a read failed, its line is written, unless the write fails too.
+    ensures faults { (input.new.failures ≡ input.old.failures)
+        ⊎ IsPrintedOrFailed (held W.contents output.old) (held W.contents output.new) (WriteFailed output.old output.new) result read_fault }
+
+    // Where the write failed, the status is 3.
+    ensures unwritten { (output.new.failures ≡ output.old.failures) ⊎ (result ≡ 3) }
 
     // Words that ask for nothing: no read, and the usage line unless it can't be written.
     ensures other_words { command_of (map string_bytes words.now) ≡ None → (input.new ≡ input.old)
-        × (IsPrinted (held W.contents output.old) (held W.contents output.new) result usage ⊎ ((result ≡ 3) × WriteFailed output.old output.new)) }
-    ensures reads { ReadsWithin input.old input.new 16_777_217 }
+        × IsPrintedOrFailed (held W.contents output.old) (held W.contents output.new) (WriteFailed output.old output.new) result usage }
+    ensures reading { ReadsToEnd R.remaining input.old input.new }
 {
     let reply = make_reply(alloc, words, input);
     match output.write_all(reply.text().as_bytes()) {

@@ -1,7 +1,7 @@
 //! Reading all there is, up to a limit.
 
-ghost use Rattle.std.specs.Prelude.{◌≡◌, ◌<◌, ◌≤◌, length, IfOk, IfSome};
-ghost use Rattle.warg_audit.specs.Meters.{left, ReadsWithin, ReadFailed};
+ghost use Rattle.std.specs.Prelude.{◌≡◌, ◌<◌, ◌≤◌, ◌⊎◌, length, IfOk, IfSome};
+ghost use Rattle.warg_audit.specs.Meters.{left, ReadsToEnd, ReadFailed};
 ghost use Rattle.warg_audit.specs.declared.reading.InputError.TheVariants as fault;
 
 use crate::input::Input;
@@ -22,14 +22,14 @@ pub(crate) enum InputError {
     OutOfMemory,
 }
 
-/// All bytes of the input: at most one read more than the limit has bytes, and none after the
-/// first fault, the first read of no bytes or the first byte past the limit.
+/// All bytes of the input, up to the limit.
 pub(crate) fn read_all<R: Read>(alloc: Global, input: &mut Input<R>) -> Result<Vec<u8>, InputError>
-    ensures reads { ReadsWithin input.old input.new 16_777_217 }
+    ensures reading { ReadsToEnd R.remaining input.old input.new }
     ensures ok { IfOk result (λ v. IfSome (left R.remaining input.old) (λ bytes. bytes ≡ v.items)) }
     ensures short { IfOk result (λ v. length v.items ≤ 16_777_216) }
     ensures long { result ≡ Err fault.TooLong → IfSome (left R.remaining input.old) (λ bytes. 16_777_216 < length bytes) }
     ensures failed { result ≡ Err fault.Fault → ReadFailed input.old input.new }
+    ensures steady { (input.new.failures ≡ input.old.failures) ⊎ (result ≡ Err fault.Fault) }
 {
     let mut bytes = Vec::new(alloc);
     let mut buf = [0u8; CHUNK];

@@ -4,10 +4,10 @@ ghost use Rattle.std.specs.Prelude.{◌≡◌, IfOk};
 
 use std::alloc::{AllocError, Global};
 
-/// A text that was made, or one that takes no memory.
+/// A text in memory of its own, or one that takes none.
 #[derive(Debug, Drop)]
 enum Text {
-    Made(String),
+    Owned(String),
     Fixed(&'static str),
 }
 
@@ -22,11 +22,11 @@ impl Reply {
     ghost use Rattle.warg_audit.specs.Replies.{printed_of, text_of};
     ghost use Rattle.std.specs.Prelude.{string_bytes};
 
-    pub(crate) fn made(text: String, status: u8) -> Reply
+    pub(crate) fn owned(text: String, status: u8) -> Reply
         ensures { printed_of result ≡ record { text = string_bytes text; status = status } }
     {
         Reply {
-            text: Text::Made(text),
+            text: Text::Owned(text),
             status,
         }
     }
@@ -46,7 +46,7 @@ impl Reply {
         ensures { result.now ≡ (printed_of self.now).text }
     {
         match &self.text {
-            Text::Made(text) => text.as_str(),
+            Text::Owned(text) => text.as_str(),
             Text::Fixed(text) => *text,
         }
     }
@@ -60,12 +60,20 @@ impl Reply {
     }
 }
 
-ghost use Rattle.warg_audit.specs.Printed.{bad_line};
+ghost use Rattle.warg_audit.specs.Printed.{bad_line, refused};
 ghost use Rattle.warg_audit.specs.Replies.{printed_of};
 
-/// What tells of a line that spells no bytes, or of one too few or too many.
+/// The reply to a line that spells no bytes, or to one too few or too many.
 pub(crate) fn bad_line_reply(alloc: Global, index: usize) -> Result<Reply, AllocError>
     ensures { IfOk result (λ reply. printed_of reply ≡ bad_line index) }
 {
-    Ok(Reply::made(format!(in alloc; "bad line {index}\n")?, 2))
+    Ok(Reply::owned(format!(in alloc; "bad line {index}\n")?, 2))
+}
+
+/// The reply to a refused string.
+pub(crate) fn refused_reply(alloc: Global, index: usize, name: &str) -> Result<Reply, AllocError>
+    ensures { IfOk result (λ reply. printed_of reply ≡ refused index name.now) }
+{
+    let text = format!(in alloc; "refused {index} {name}\n")?;
+    Ok(Reply::owned(text, 1))
 }

@@ -16,4 +16,6 @@ mod logs;
 #[cfg(test)]
 mod refusals;
 #[cfg(test)]
+mod witnesses;
+#[cfg(test)]
 mod words;

@@ -6,6 +6,7 @@ pub mod Contents
 pub mod Offences
 pub mod Records
 pub mod History
+pub mod OffenceNames
 pub mod States
 pub mod Possible
 pub mod Refusals
@@ -13,6 +14,7 @@ pub mod Histories
 pub mod Forms
 pub mod Listings
 pub mod LogKind
+pub mod Admissions
 pub mod Steps
 pub mod Equal
 pub mod EqualLaws

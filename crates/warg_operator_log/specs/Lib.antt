@@ -1,6 +1,7 @@
 pub mod ErrorLaws
 pub mod NamespaceMap
 pub mod Namespaces
+pub mod OffenceNames
 pub mod SameNamespaceLaws
 pub mod SameNamespaces
 pub mod State

@@ -3,6 +3,7 @@
 
 mod error;
 pub mod laws;
+mod name;
 mod namespace;
 mod namespace_map;
 mod state;

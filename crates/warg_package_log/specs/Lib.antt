@@ -5,6 +5,7 @@ pub mod Extensions
 pub mod Latest
 pub mod ListedReleaseLaws
 pub mod ListedReleases
+pub mod OffenceNames
 pub mod ReleaseLaws
 pub mod Releases
 pub mod SameReleaseLaws

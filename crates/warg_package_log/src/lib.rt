@@ -5,6 +5,7 @@ mod catalog;
 mod error;
 mod latest;
 pub mod laws;
+mod name;
 mod release;
 mod release_map;
 mod releases;

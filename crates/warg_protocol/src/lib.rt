@@ -16,7 +16,7 @@ pub use warg_crypto::{
     ByteVisitor, Clock, Decode, DecodeError, Encode, Incoherence, JsonError, JsonValue, Signable,
     TimeError, Timestamp, VisitBytes, WireFault, hash, json, prefix, signing, toy,
 };
-pub use warg_protobuf::{Envelope, Message, WireError};
+pub use warg_protobuf::{Envelope, EnvelopeView, Message, WireError};
 pub use warg_records::{
     InvalidPermission, ParseEnvelopeError, PermissionParseError, ProtoEnvelope, ProtoEnvelopeBody,
     PublishedProtoEnvelope, PublishedProtoEnvelopeBody, Record, SerdeEnvelope, Version, VersionReq,

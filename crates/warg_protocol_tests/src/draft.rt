@@ -53,8 +53,12 @@ impl<'a> Draft<'a> {
         match word {
             "unlinked" => self.link = Link::Missing,
             "mislinked" => self.link = Link::Wrong,
-            "v7" => self.version = 7,
-            _ => return Err(Fail::new("a strange word before the colon")),
+            _ => {
+                let number = word
+                    .strip_prefix("v")
+                    .ok_or("a strange word before the colon")?;
+                self.version = number.parse::<u32>()?;
+            }
         }
         Ok(())
     }

@@ -25,6 +25,9 @@ pub fn error(
             key_id: id(alloc, subject)?,
             permission: permission.parse::<Permission>()?,
         }),
+        "EmptyGrant" => Ok(ValidationError::EmptyGrant {
+            key_id: id(alloc, subject)?,
+        }),
         "ProtocolVersionNotAllowed" => Ok(ValidationError::ProtocolVersionNotAllowed {
             version: subject.parse::<u32>()?,
         }),

@@ -1,8 +1,11 @@
 pub mod Letters
 pub mod Readings
+pub mod Records
+pub mod Parts
 pub mod Faults
 pub mod ParseErrors
 pub mod Envelopes
+pub mod FaultNames
 pub mod Permissions
 pub mod PackagePermissions
 pub mod OperatorPermissions

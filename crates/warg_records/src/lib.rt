@@ -9,7 +9,9 @@ ghost use Rattle.warg_crypto.specs.declared.hash.AnyHash.{AnyHash};
 ghost use Rattle.warg_records.specs.Faults.{IsReading};
 ghost use Rattle.warg_records.specs.Mentions.{distinct};
 
+mod entry;
 pub mod laws;
+mod log_record;
 mod mention;
 pub mod operator;
 pub mod package;
@@ -20,8 +22,10 @@ pub mod registry;
 mod serde_envelope;
 mod writing;
 
+pub use entry::{Entry, SharedEntry};
 use indexmap::IndexSet;
-pub use permission::{InvalidPermission, PermissionParseError};
+pub use log_record::LogRecord;
+pub use permission::{InvalidPermission, LogPermission, PermissionParseError};
 pub use proto_envelope::{
     ParseEnvelopeError, ProtoEnvelope, ProtoEnvelopeBody, PublishedProtoEnvelope,
     PublishedProtoEnvelopeBody,
@@ -31,6 +35,10 @@ pub use serde_envelope::SerdeEnvelope;
 use std::alloc::{AllocError, Global};
 use warg_crypto::hash::AnyHash;
 use warg_crypto::{Decode, DecodeError};
+pub use warg_protobuf::{Envelope, EnvelopeView};
+
+/// The newest version of the protocol: that of new records of either kind.
+pub const RECORD_VERSION: u32 = 1;
 
 /// A record of one kind of log.
 pub trait Record: Decode + Drop {

@@ -1,6 +1,7 @@
 //! The ids of records.
 
 ghost use Rattle.std.specs.Prelude.{◌≡◌, ◌++◌, Some, length};
+ghost use Rattle.hex.specs.Hex.{IsBytes};
 ghost use Rattle.warg_crypto.specs.HashText.{hash_text};
 ghost use Rattle.warg_crypto.specs.RecordIds.{operator_record_message, package_record_message};
 ghost use Rattle.warg_records.specs.RecordIds.{id_by};
@@ -12,8 +13,8 @@ use std::fmt;
 use warg_crypto::hash::{AnyHash, Hash, HashAlgorithm, SupportedDigest};
 
 /// The id of a record: the hash of a prefix that names the kind of log, and of the record's bytes
-/// as they came.
-#[derive(Clone, Copy, Debug, PartialEq, Eq, Hash)]
+/// as they came. Ids are ordered as their hashes, by algorithm, then by bytes.
+#[derive(Clone, Copy, PartialEq, Eq, PartialOrd, Ord, Hash)]
 pub struct RecordId {
     pub(super) hash: AnyHash,
 }
@@ -30,6 +31,7 @@ impl RecordId {
     pub fn as_bytes(&self) -> &[u8]
         ensures value { result.now ≡ self.now.hash.bytes }
         ensures len { length result.now ≡ 32 }
+        ensures are_bytes { IsBytes self.now.hash.bytes }
     {
         self.hash.bytes()
     }
@@ -50,29 +52,46 @@ impl RecordId {
     pub fn operator_record<D: SupportedDigest>(envelope: &ProtoEnvelope<OperatorRecord>) -> RecordId
         ensures { result ≡ id_by D.ALGORITHM D.digest_of (operator_record_message envelope.now.sealed.content) }
     {
-        hashed_id::<D>(
-            b"WARG-OPERATOR-LOG-RECORD-V0:".as_slice(),
-            envelope.content_bytes(),
-        )
+        RecordId::of_operator_content::<D>(envelope.content_bytes())
     }
 
     /// The id of a package record: the hash of `WARG-PACKAGE-LOG-RECORD-V0:` and the content bytes as they came.
     pub fn package_record<D: SupportedDigest>(envelope: &ProtoEnvelope<PackageRecord>) -> RecordId
         ensures { result ≡ id_by D.ALGORITHM D.digest_of (package_record_message envelope.now.sealed.content) }
     {
-        hashed_id::<D>(
-            b"WARG-PACKAGE-LOG-RECORD-V0:".as_slice(),
-            envelope.content_bytes(),
-        )
+        RecordId::of_package_content::<D>(envelope.content_bytes())
+    }
+
+    /// The id of an operator record, from its content bytes alone.
+    pub fn of_operator_content<D: SupportedDigest>(content: &[u8]) -> RecordId
+        ensures { result ≡ id_by D.ALGORITHM D.digest_of (operator_record_message content.now) }
+    {
+        hashed_id::<D>(b"WARG-OPERATOR-LOG-RECORD-V0:".as_slice(), content)
+    }
+
+    /// The id of a package record, from its content bytes alone.
+    pub fn of_package_content<D: SupportedDigest>(content: &[u8]) -> RecordId
+        ensures { result ≡ id_by D.ALGORITHM D.digest_of (package_record_message content.now) }
+    {
+        hashed_id::<D>(b"WARG-PACKAGE-LOG-RECORD-V0:".as_slice(), content)
     }
 }
 
 impl fmt::Display for RecordId {
     ghost output = { λ id. Some (hash_text id.hash) };
 
+    ghost styled_output = { λ id _. Some (hash_text id.hash) };
+
     fn fmt<W: fmt::Write>(&self, f: &mut fmt::Formatter<W>) -> fmt::Result {
-        let hash = &self.hash;
-        write!(f, "{hash}")
+        fmt::Display::fmt(&self.hash, f)
+    }
+}
+
+impl fmt::Debug for RecordId {
+    ghost debug_output = { λ id. Some (hash_text id.hash) };
+
+    fn fmt<W: fmt::Write>(&self, f: &mut fmt::Formatter<W>) -> fmt::Result {
+        fmt::Display::fmt(self, f)
     }
 }
 

@@ -9,8 +9,8 @@ use Rattle.warg_audit.proofs.identify.envelope_reply.Goals as goal
 pub returns-in_ok-format-in-Ok : goal.returns-in_ok-format-in-Ok
 returns-in_ok-format-in-Ok c =
     is_read (envelope_seen c.in-Ok.envelope) c.in-Ok.ensures.found
-    (c.made.ensures ∙ ap (λ (t : List ℕ). record { text = t; status = 0 }) (c.in_ok-format-in-Ok.ensures.ok ∙ rw (c.record_id-id.ensures, c.as_slice.ensures.value) refl))
+    (c.owned.ensures ∙ ap (λ (t : List ℕ). record { text = t; status = 0 }) (c.in_ok-format-in-Ok.ensures.ok ∙ rw (c.record_id-id.ensures, c.as_slice.ensures.value) refl))
 
 pub returns-in-Err : goal.returns-in-Err
 returns-in-Err c =
-    IfOk-weaker c.fault_reply.result _ _ (λ reply. of_fault c.args.kind c.args.bytes.now (printed_of reply) c.in-Err.fault c.in-Err.ensures.fault) c.fault_reply.ensures
+    IfOk-weaker c.fault_reply.result _ _ (λ reply. of_fault c.args.log_type c.args.bytes.now (printed_of reply) c.in-Err.fault c.in-Err.ensures.fault) c.fault_reply.ensures

@@ -1,12 +1,8 @@
-use Rattle.std.proofs.Common.{ap, ◌∙◌, ℕ, List}
-use Rattle.std.specs.Fmt.{decimal}
-use Rattle.warg_audit.specs.Names.{wire_name}
-use Rattle.warg_audit.proofs.IdAnswers.{refusal_text}
+use Rattle.std.proofs.Common.{ap, ◌∙◌}
+use Rattle.std.proofs.lemmas.Result.{IfOk-weaker}
+use Rattle.warg_audit.specs.Printed.{refused}
 use Rattle.warg_audit.proofs.identify.fault_reply.Goals as goal
 
-pub returns-in_ok-text-in_default : goal.returns-in_ok-text-in_default
-returns-in_ok-text-in_default c = (
-  c.in_default.not-OutOfMemory,
-  c.made.ensures ∙ ap (λ (t : List ℕ). record { text = t; status = 1 })
-      (refusal_text (decimal c.args.index) (wire_name c.args.fault) c.wire_name-name.result.now _ c.in_ok-text-in_default.ensures.ok c.wire_name-name.ensures),
-)
+pub returns-in_default : goal.returns-in_default
+returns-in_default c =
+    IfOk-weaker c.refused_reply.result _ _ (λ reply is. (c.in_default.not-OutOfMemory, is ∙ ap (refused 0) c.name.ensures)) c.refused_reply.ensures

@@ -1,0 +1,51 @@
+//! Tells why a log is refused, whatever the cause: `example_run_errors FILE..`, where the files hold its envelopes.
+#![tactic(auto)]
+
+use std::alloc::{AllocError, Global};
+use std::env;
+use std::fs;
+use warg_protocol::package::{LogState, ValidationError};
+use warg_protocol::signing::SignatureError;
+use warg_protocol::toy::ToyVerifier;
+use warg_protocol::{DecodeError, ParseEnvelopeError, RunCause, RunError, run};
+
+// Why the bytes are no envelope.
+fn told_fault(alloc: Global, fault: ParseEnvelopeError) -> Result<String, AllocError> {
+    match fault {
+        ParseEnvelopeError::ProtobufEnvelope(wire) => format!(in alloc; "its outer message: {wire}"),
+        ParseEnvelopeError::Contents(DecodeError::Wire(wire)) => format!(in alloc; "its record's message: {wire}"),
+        ParseEnvelopeError::Contents(contents) => format!(in alloc; "its record: {contents}"),
+        ParseEnvelopeError::KeyID(text) => format!(in alloc; "its key id: {text}"),
+        ParseEnvelopeError::Signature(text) => format!(in alloc; "its signature's text: {text}"),
+        ParseEnvelopeError::OutOfMemory => String::from_str(alloc, "out of memory"),
+    }
+}
+
+// Why the record can't come next. Each case has the fields that its text names.
+fn told_offence(alloc: Global, offence: &ValidationError) -> Result<String, AllocError> {
+    match offence {
+        ValidationError::SignatureError(SignatureError::Refused) => String::from_str(alloc, "its signature is not its signer's"),
+        ValidationError::YankOfYanked { version } => format!(in alloc; "{version} was yanked before"),
+        other => format!(in alloc; "{other}"),
+    }
+}
+
+fn told(alloc: Global, error: &RunError<ValidationError>) -> Result<String, AllocError> {
+    let why = match &error.cause {
+        RunCause::Parse(fault) => told_fault(alloc, *fault)?,
+        RunCause::Validation(offence) => told_offence(alloc, offence)?,
+    };
+    format!(in alloc; "record {} is refused: {why}", error.index)
+}
+
+fn main(rt: HostRuntime) -> anyhow::Result<()> {
+    let mut log = Vec::new(rt.alloc());
+    for file in env::args(&rt)?.skip(1) {
+        log.push(fs::read(&rt, file.as_str())?)?;
+    }
+    match run::<LogState, ToyVerifier>(rt.alloc(), &ToyVerifier, log.as_slice()) {
+        Ok(state) => println!(rt; "lawful, with {} releases", state.releases().count())?,
+        Err(error) => println!(rt; "{}", told(rt.alloc(), &error)?)?,
+    }
+    Ok(())
+}

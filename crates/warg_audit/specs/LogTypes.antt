@@ -1,0 +1,56 @@
+-- The logs of either type as the program shows them.
+use Rattle.std.specs.Prelude.{ℕ, List, []}
+use Rattle.warg_crypto.specs.Signed.{toy_belongs}
+use Rattle.warg_records.specs.FaultNames.{record_fault_name}
+use Rattle.warg_records.specs.Faults.{RecordFault}
+use Rattle.warg_records.specs.OperatorEntries.{OperatorAct}
+use Rattle.warg_records.specs.OperatorReading.{operator_record_of}
+use Rattle.warg_records.specs.PackageEntries.{PackageAct}
+use Rattle.warg_records.specs.PackageReading.{package_record_of}
+use Rattle.warg_records.specs.Readings.{Said}
+use Rattle.warg_records.specs.declared.operator.permission.Permission.{Permission as OperatorPermission}
+use Rattle.warg_records.specs.declared.package.permission.Permission.{Permission as PackagePermission}
+use Rattle.warg_log.specs.History.{Wrong}
+use Rattle.warg_operator_log.specs.Namespaces.{OwnOffence as NamespaceOffence}
+use Rattle.warg_operator_log.specs.OffenceNames.{offence_name as namespace_offence_name}
+use Rattle.warg_operator_log.specs.State.{View as OperatorView}
+use Rattle.warg_operator_log.specs.StateLaws.{kind as operator_kind}
+use Rattle.warg_package_log.specs.OffenceNames.{offence_name as release_offence_name}
+use Rattle.warg_package_log.specs.Releases.{OwnOffence as ReleaseOffence}
+use Rattle.warg_package_log.specs.State.{View as PackageView}
+use Rattle.warg_package_log.specs.StateLaws.{kind as package_kind}
+use Rattle.warg_audit.specs.declared.command.LogType.{LogType}
+use Rattle.warg_audit.specs.declared.command.LogType.TheVariants.{Package, Operator}
+use Rattle.warg_audit.specs.LogAnswers.{Shown, IsAuditAnswer, audit_answer}
+use Rattle.warg_audit.specs.Printed.{Printed}
+use Rattle.warg_audit.specs.ReleaseLines.{release_lines}
+
+-- a package log shows its releases
+abbrev pub package_log : Shown (Said PackagePermission PackageAct) RecordFault PackageView (Wrong PackagePermission ReleaseOffence)
+package_log = record {
+  kind = package_kind;
+  read = package_record_of;
+  fault_name = record_fault_name;
+  offence_name = release_offence_name;
+  shown = λ view. release_lines view.whole.matter;
+}
+
+-- an operator log shows nothing more
+abbrev pub operator_log : Shown (Said OperatorPermission OperatorAct) RecordFault OperatorView (Wrong OperatorPermission NamespaceOffence)
+operator_log = record {
+  kind = operator_kind;
+  read = operator_record_of;
+  fault_name = record_fault_name;
+  offence_name = namespace_offence_name;
+  shown = λ view. [];
+}
+
+-- the answer to the lines of a log of this type, whose signatures are of the toy scheme
+abbrev pub IsLogTypeAnswer : LogType → List (List ℕ) → Printed → Type 0
+IsLogTypeAnswer Package lines printed = IsAuditAnswer package_log toy_belongs lines printed
+IsLogTypeAnswer Operator lines printed = IsAuditAnswer operator_log toy_belongs lines printed
+
+-- the same, computed: the only answer (`laws`)
+abbrev pub log_type_answer : LogType → List (List ℕ) → Printed
+log_type_answer Package lines = audit_answer package_log toy_belongs lines
+log_type_answer Operator lines = audit_answer operator_log toy_belongs lines

@@ -1,0 +1,22 @@
+-- The names of a log's offences, and of the errors that say them.
+use Rattle.std.specs.Prelude.{ℕ, List, codes, unwrap_or}
+use Rattle.std.specs.Option.{option_map}
+use Rattle.warg_records.specs.declared.operator.permission.Permission.{Permission}
+use Rattle.warg_log.specs.History.{Wrong}
+use Rattle.warg_log.specs.OffenceNames.{wrong_name}
+use Rattle.warg_operator_log.specs.Namespaces.{OwnOffence}
+use Rattle.warg_operator_log.specs.Namespaces as own
+use Rattle.warg_operator_log.specs.State.{offence_of}
+use Rattle.warg_operator_log.specs.declared.error.ValidationError.{ValidationError}
+
+-- those that this kind of log alone has
+abbrev pub namespace_offence_name : OwnOffence → List ℕ
+namespace_offence_name (own.InvalidNamespace name) = codes "InvalidNamespace"
+namespace_offence_name (own.NamespaceAlreadyDefined name) = codes "NamespaceAlreadyDefined"
+
+abbrev pub offence_name : Wrong Permission OwnOffence → List ℕ
+offence_name offence = wrong_name namespace_offence_name offence
+
+-- the name of an error: of the offence that it says, if it says one
+abbrev pub error_name : ValidationError → List ℕ
+error_name error = unwrap_or (option_map offence_name (offence_of error)) (codes "OutOfMemory")

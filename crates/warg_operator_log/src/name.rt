@@ -1,0 +1,34 @@
+//! The names of refusals, which take no memory.
+
+ghost use Rattle.std.specs.Prelude.{◌≡◌};
+ghost use Rattle.warg_operator_log.specs.OffenceNames.{error_name};
+
+use crate::error::ValidationError;
+
+impl ValidationError {
+    /// The name of the error's case, without its fields, as the program prints it. `OutOfMemory` is the name
+    /// where memory was refused.
+    pub fn name(&self) -> &'static str
+        ensures { result.now ≡ error_name self.now }
+    {
+        match self {
+            ValidationError::FirstEntryIsNotInit => "FirstEntryIsNotInit",
+            ValidationError::InitialRecordDoesNotInit => "InitialRecordDoesNotInit",
+            ValidationError::KeyIDNotRecognized { .. } => "KeyIDNotRecognized",
+            ValidationError::InitialEntryAfterBeginning => "InitialEntryAfterBeginning",
+            ValidationError::UnauthorizedAction { .. } => "UnauthorizedAction",
+            ValidationError::PermissionNotFoundToRevoke { .. } => "PermissionNotFoundToRevoke",
+            ValidationError::SignatureError(_) => "SignatureError",
+            ValidationError::IncorrectHashAlgorithm { .. } => "IncorrectHashAlgorithm",
+            ValidationError::RecordHashDoesNotMatch => "RecordHashDoesNotMatch",
+            ValidationError::PreviousHashOnFirstRecord => "PreviousHashOnFirstRecord",
+            ValidationError::NoPreviousHashAfterInit => "NoPreviousHashAfterInit",
+            ValidationError::ProtocolVersionNotAllowed { .. } => "ProtocolVersionNotAllowed",
+            ValidationError::TimestampLowerThanPrevious => "TimestampLowerThanPrevious",
+            ValidationError::EmptyGrant { .. } => "EmptyGrant",
+            ValidationError::InvalidNamespace { .. } => "InvalidNamespace",
+            ValidationError::NamespaceAlreadyDefined { .. } => "NamespaceAlreadyDefined",
+            ValidationError::OutOfMemory => "OutOfMemory",
+        }
+    }
+}
