@@ -14,7 +14,7 @@ use crate::names::wire_name;
 use crate::reply::{Reply, bad_line_reply};
 use std::alloc::{AllocError, Global};
 use warg_crypto::hash::{AnyHash, Hash, Sha256};
-use warg_protobuf::{Envelope, WireError};
+use warg_protobuf::{Envelope, Message, WireError};
 
 // The id of a record of this kind, from its content bytes.
 fn record_id(kind: Kind, content: &[u8]) -> AnyHash

@@ -7,6 +7,7 @@ ghost use Rattle.warg_validator.specs.declared.effect.Effect.TheVariants.{Gives}
 ghost use Rattle.warg_validator.specs.Effects as effects;
 ghost use Rattle.warg_validator.specs.Effects.{GivesWhatIsHeld};
 ghost use Rattle.warg_validator.specs.Kinds.{Belief, KindLaws, view_after, IsAccepted};
+ghost use Rattle.warg_log.specs.Admissions.{NoKeyBringsItselfIn};
 ghost use Rattle.warg_log.specs.Contents.{Contents};
 ghost use Rattle.warg_log.specs.Equal.{IsSame, same_states};
 ghost use Rattle.warg_log.specs.Forms.{HasForm};
@@ -17,8 +18,10 @@ ghost use Rattle.warg_log.specs.LogKind.{kind_of, effects_of, effect_of, opened}
 ghost use Rattle.warg_log.specs.Offences.{offence_of};
 ghost use Rattle.warg_log.specs.Possible.{IsPossible};
 ghost use Rattle.warg_log.specs.States.{State, view_of_state};
+ghost use Rattle.warg_log.specs.declared.head.Head.{Head};
 ghost use Rattle.warg_log.specs.declared.refusal.Refusal.{Refusal};
 
+use crate::head::Head;
 use crate::matter::Matter;
 
 /// The rules of a log are those of a kind, whatever content bytes are read as: what lawful records say
@@ -35,6 +38,11 @@ pub fn gives_what_is_held<M: Matter>()
 /// Logs are equal exactly if they answer alike.
 pub fn equal_logs_answer_alike<M: Matter>()
     ensures { (s t : State (Contents M.Permission) M) → (same_states M.Permission.eq M.eq s t ≡ true) ↔ IsSame M.alike (view_of_state M.Permission.eq M.view s) (view_of_state M.Permission.eq M.view t) }
+{}
+
+/// Heads are equal exactly if they are one.
+pub fn equal_heads()
+    ensures { (a b : Head) → (⟦<Head as PartialEq>⟧.eq a b ≡ true) ↔ (a ≡ b) }
 {}
 
 /// No two refusals tell the same offence.
@@ -72,4 +80,14 @@ pub fn form<M: Matter>()
         (b : Belief) (es : List Letter) → IsAccepted (kind_of M.rules M.Permission.eq read matter) b es → All (λ e. IsOk (read e.content)) es }
     ensures form { (read : List ℕ → Result (Said M.Permission M.Own) RecordFault) (matter : List (Event M.Own) → M.View) → KindLaws (kind_of M.rules M.Permission.eq read matter) →
         (b : Belief) (es : List Letter) → 0 < length es → IsAccepted (kind_of M.rules M.Permission.eq read matter) b es → HasForm M.rules.id_of (map (opened M.rules M.Permission.eq read) es) }
+{}
+
+/// In an accepted log whose records all have version 1 no key brings itself in: each signer signed the
+/// first record, or an entry of an earlier record grants a permission to a key whose fingerprint is the
+/// signer's id. That is so in each kind that asks the signer of an Init of version 1 to own its key,
+/// whatever content bytes are read as.
+pub fn no_key_brings_itself_in<M: Matter>()
+    ensures { M.rules.by_own_key 1 ≡ true → (read : List ℕ → Result (Said M.Permission M.Own) RecordFault) (matter : List (Event M.Own) → M.View) → KindLaws (kind_of M.rules M.Permission.eq read matter) →
+        (b : Belief) (es : List Letter) → IsAccepted (kind_of M.rules M.Permission.eq read matter) b es → All (λ r. r.contents.version ≡ 1) (map (opened M.rules M.Permission.eq read) es) →
+        NoKeyBringsItselfIn (map (opened M.rules M.Permission.eq read) es) }
 {}

@@ -15,25 +15,32 @@ pub enum Refusal<P> {
     InitialRecordDoesNotInit,
     /// The signer has no key in this log, or does not own the key of its Init.
     KeyIDNotRecognized {
+        /// The id of the signer's key.
         key_id: KeyID,
     },
     /// An Init stands already.
     InitialEntryAfterBeginning,
     /// The signer lacks a permission that the entry asks or hands on.
     UnauthorizedAction {
+        /// The id of the signer's key.
         key_id: KeyID,
+        /// The permission that it lacks.
         needed_permission: P,
     },
     /// The key lacks a permission that is to be taken from it.
     PermissionNotFoundToRevoke {
+        /// The permission.
         permission: P,
+        /// The id of the key that lacks it.
         key_id: KeyID,
     },
     /// The signature is not the signer's.
     SignatureError(SignatureError),
     /// The record names its predecessor by another algorithm. Never answered: there is one algorithm.
     IncorrectHashAlgorithm {
+        /// The record's algorithm.
         found: HashAlgorithm,
+        /// The log's algorithm.
         expected: HashAlgorithm,
     },
     /// The record names another predecessor.
@@ -44,10 +51,16 @@ pub enum Refusal<P> {
     NoPreviousHashAfterInit,
     /// The record is of a version that may not stand here.
     ProtocolVersionNotAllowed {
+        /// The record's version.
         version: u32,
     },
     /// The record is older than its predecessor.
     TimestampLowerThanPrevious,
+    /// The entry grants the key no permission; a record of version 0 may.
+    EmptyGrant {
+        /// The id of the key that it names.
+        key_id: KeyID,
+    },
     /// There was no memory left. Says nothing of the record.
     OutOfMemory,
 }

@@ -23,7 +23,7 @@ namespace_same : (a : Namespace) → same_namespace a a ≡ true
 namespace_same Defined = refl
 namespace_same (Imported registry) = nat_list_eq_equiv.refl registry
 
-namespace_decides : (a b : Namespace) → Decides (same_namespace a b) (a ≡ b)
+pub namespace_decides : (a b : Namespace) → Decides (same_namespace a b) (a ≡ b)
 namespace_decides a b = (namespace_exact a b, λ h. ap (same_namespace a) (sym h) ∙ namespace_same a)
 
 namespace_equiv : IsEquivalence same_namespace

@@ -39,6 +39,7 @@ pub enum ValidationError {
     /// No key of this id is known to the log.
     #[error("the Key ID used to sign this envelope is not known to this operator log")]
     KeyIDNotRecognized {
+        /// The id of the signer's key.
         key_id: KeyID,
     },
     /// A second init.
@@ -47,13 +48,17 @@ pub enum ValidationError {
     /// The signer lacks a permission that the entry asks or hands on.
     #[error("the key with ID {key_id} did not have required permission {needed_permission}")]
     UnauthorizedAction {
+        /// The id of the signer's key.
         key_id: KeyID,
+        /// The permission that it lacks.
         needed_permission: Permission,
     },
     /// The key lacks a permission that is to be taken from it.
     #[error("attempted to remove permission {permission} from key {key_id} which did not have it")]
     PermissionNotFoundToRevoke {
+        /// The permission.
         permission: Permission,
+        /// The id of the key that lacks it.
         key_id: KeyID,
     },
     /// The signature is not the signer's. The case that memory was wanting is never held here.
@@ -62,7 +67,9 @@ pub enum ValidationError {
     /// The record before is named by another algorithm. Never answered, since there is one algorithm.
     #[error("record hash uses {found} algorithm but {expected} was expected")]
     IncorrectHashAlgorithm {
+        /// The record's algorithm.
         found: HashAlgorithm,
+        /// The log's algorithm.
         expected: HashAlgorithm,
     },
     /// The record names another record before it than the log's last.
@@ -77,25 +84,44 @@ pub enum ValidationError {
     /// The version of the protocol is not one of this log.
     #[error("protocol version {version} not allowed")]
     ProtocolVersionNotAllowed {
+        /// The record's version.
         version: u32,
     },
     /// The record is older than the log's last.
     #[error("record has lower timestamp than previous")]
     TimestampLowerThanPrevious,
+    /// The entry grants the key no permission, in a record of version 1.
+    #[error("an entry granted no permission to key {key_id}")]
+    EmptyGrant {
+        /// The id of the key that it names.
+        key_id: KeyID,
+    },
     /// The name is not one or more words of lower-case letters and digits, each beginning with a
     /// letter, joined by single hyphens.
     #[error("the namespace `{namespace}` is invalid; namespace must be a lowercased kebab case string")]
     InvalidNamespace {
+        /// The name.
         namespace: String,
     },
     /// The name has its namespace already.
     #[error("the namespace `{namespace}` is already defined and cannot be redefined")]
     NamespaceAlreadyDefined {
+        /// The name.
         namespace: String,
     },
     /// There was no memory left. This says nothing of the record.
     #[error("OutOfMemory")]
     OutOfMemory,
+}
+
+impl From<AllocError> for ValidationError {
+    ghost use Rattle.warg_operator_log.specs.declared.error.ValidationError.TheVariants.{OutOfMemory};
+
+    ghost from_gives = { λ _ e. e ≡ OutOfMemory };
+
+    fn from(_error: AllocError) -> ValidationError {
+        ValidationError::OutOfMemory
+    }
 }
 
 impl From<SignatureError> for ValidationError {
@@ -148,6 +174,7 @@ impl From<Refusal<Permission>> for ValidationError {
                 ValidationError::ProtocolVersionNotAllowed { version }
             }
             Refusal::TimestampLowerThanPrevious => ValidationError::TimestampLowerThanPrevious,
+            Refusal::EmptyGrant { key_id } => ValidationError::EmptyGrant { key_id },
             Refusal::OutOfMemory => ValidationError::OutOfMemory,
         }
     }

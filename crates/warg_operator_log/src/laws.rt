@@ -1,14 +1,19 @@
 //! Laws over all operator logs. They have no effect.
-ghost use Rattle.std.specs.Prelude.{◌≡◌, ◌↔◌, ℕ, List, ◌++◌, None, Some, true, ◌<◌, length, Result, IfOk, IsOk, All, IfSome};
+ghost use Rattle.std.specs.Prelude.{◌≡◌, ◌↔◌, ◌≤◌, ℕ, List, ◌++◌, None, Some, true, ◌<◌, length, Result, IfOk, IsOk, All, IfSome};
 ghost use Rattle.warg_records.specs.Letters.{Letter};
 ghost use Rattle.warg_validator.specs.Kinds.{Belief, IsAccepted, StandsFor};
+ghost use Rattle.std.specs.Prelude.{Option};
+ghost use Rattle.warg_log.specs.Records.{version_offence};
+ghost use Rattle.warg_log.specs.declared.head.Head.{Head};
+ghost use Rattle.warg_operator_log.specs.NamespaceMap.{namespace_view};
 ghost use Rattle.warg_operator_log.specs.Namespaces.{Namespace, record_id_of};
 ghost use Rattle.warg_operator_log.specs.State.{offence_of, view_of, View, record_offence};
 ghost use Rattle.warg_records.specs.OperatorEntries.{OperatorAct};
 ghost use Rattle.warg_records.specs.declared.operator.permission.Permission.{Permission};
 ghost use Rattle.warg_log.specs.History.{SignedRecord};
 ghost use Rattle.warg_log.specs.Possible.{IsPossible};
-ghost use Rattle.warg_operator_log.specs.StateLaws.{kind};
+ghost use Rattle.warg_operator_log.specs.StateLaws.{kind, AreSame};
+ghost use Rattle.warg_operator_log.specs.declared.namespace.NamespaceState.{NamespaceState};
 ghost use Rattle.warg_operator_log.specs.declared.error.ValidationError.{ValidationError};
 ghost use Rattle.warg_operator_log.specs.declared.error.ValidationError.TheVariants.{OutOfMemory};
 ghost use Rattle.warg_records.specs.Envelopes.{envelope_of, envelope_fault_of};
@@ -17,10 +22,14 @@ ghost use Rattle.warg_records.specs.OperatorReading.{operator_record_of};
 ghost use Rattle.warg_validator.specs.Outcomes.{IsRun, IfStarted, told};
 ghost use Rattle.warg_validator.specs.Strings.{read_all};
 ghost use Rattle.warg_validator.specs.declared.replay.RunError.{RunError};
+ghost use Rattle.warg_log.specs.Admissions.{NoKeyBringsItselfIn};
 ghost use Rattle.warg_log.specs.Contents.{Contents};
 ghost use Rattle.warg_log.specs.Forms.{HasForm};
 ghost use Rattle.warg_log.specs.States.{State};
 ghost use Rattle.warg_operator_log.specs.StateHistory.{TellsHistory, OneEntryEach, records_of, history};
+
+use warg_log::Head;
+use warg_records::operator::OPERATOR_RECORD_VERSION;
 
 /// Each namespace of an accepted log keeps its state in each accepted log that goes on from it.
 pub fn extension()
@@ -62,4 +71,25 @@ pub fn states_tell_history()
 /// no record is refused by `IncorrectHashAlgorithm`, or by a `SignatureError` but `Refused`.
 pub fn offences_are_possible()
     ensures { (b : Belief) (v : View) (e : SignedRecord Permission OperatorAct) → IfSome (record_offence b v e) IsPossible }
+{}
+
+/// Heads are equal exactly if they are one, namespaces exactly if their texts are, and states exactly if
+/// they answer alike.
+pub fn equality()
+    ensures heads { (a b : Head) → (⟦<Head as PartialEq>⟧.eq a b ≡ true) ↔ (a ≡ b) }
+    ensures namespaces { (a b : NamespaceState) → (⟦<crate::namespace::NamespaceState as PartialEq>⟧.eq a b ≡ true) ↔ (namespace_view a ≡ namespace_view b) }
+    ensures states { (s t : State (Contents Permission) (List (List ℕ × Namespace))) → (⟦<crate::state::LogState as PartialEq>⟧.eq s t ≡ true) ↔ AreSame (view_of s) (view_of t) }
+{}
+
+/// A record's version is lawful exactly if it is at most `OPERATOR_RECORD_VERSION`, the newest, and not below the
+/// head's.
+pub fn newest_version()
+    ensures { (head : Option Head) (version : ℕ) → (version_offence {P = Permission} head version ≡ None) ↔ ((version ≤ OPERATOR_RECORD_VERSION) × IfSome head (λ h. h.version ≤ version)) }
+{}
+
+/// In an accepted log whose records all have version 1 no key brings itself in: each signer signed the
+/// first record, or an entry of an earlier record grants a permission to a key whose fingerprint is the
+/// signer's id.
+pub fn no_key_brings_itself_in()
+    ensures { (b : Belief) (es : List Letter) → IsAccepted kind b es → All (λ r. r.contents.version ≡ 1) (records_of es) → NoKeyBringsItselfIn (records_of es) }
 {}

@@ -10,7 +10,10 @@ pub enum NamespaceState {
     /// The registry keeps the logs of its packages itself.
     Defined,
     /// The packages are those of another registry.
-    Imported { registry: String },
+    Imported {
+        /// The other registry's name.
+        registry: String,
+    },
 }
 
 impl NamespaceState {

@@ -84,7 +84,7 @@ state_exact (Released a) (Yanked by time) h = absurd (true≢false (sym h))
 state_exact (Yanked by time) (Released a) h = absurd (true≢false (sym h))
 state_exact (Yanked a s) (Yanked b t) h = let by = (bytes_eq-Decides a b).0 (first_so _ _ h) in let time = (time_decides s t).0 (second_so _ _ h) in λ i. Yanked (by i) (time i)
 
-state_decides : (a b : ReleaseState) → Decides (same_state a b) (a ≡ b)
+pub state_decides : (a b : ReleaseState) → Decides (same_state a b) (a ≡ b)
 state_decides a b = (state_exact a b, λ h. ap (same_state a) (sym h) ∙ state_same a)
 
 pub state_equiv : IsEquivalence same_state
@@ -105,7 +105,7 @@ release_exact a b h =
 release_same : (a : ReleaseView) → same_release a a ≡ true
 release_same a = λ i. (id_decides a.record_id a.record_id).1 refl i && (same_parts-self a.version i && (nat_list_eq_equiv.refl a.by i && ((time_decides a.timestamp a.timestamp).1 refl i && state_same a.state i)))
 
-release_decides : (a b : ReleaseView) → Decides (same_release a b) (a ≡ b)
+pub release_decides : (a b : ReleaseView) → Decides (same_release a b) (a ≡ b)
 release_decides a b = (release_exact a b, λ h. ap (same_release a) (sym h) ∙ release_same a)
 
 pub shown_equiv : IsEquivalence (λ (a b : Release). same_release (release_view a) (release_view b))

@@ -40,6 +40,7 @@ pub enum ValidationError {
     /// No key of this id is known to the log, or the signer of an init does not own its key.
     #[error("the Key ID used to sign this envelope is not known to this package log")]
     KeyIDNotRecognized {
+        /// The id of the signer's key.
         key_id: KeyID,
     },
     /// A second init.
@@ -48,13 +49,17 @@ pub enum ValidationError {
     /// The signer lacks a permission that the entry asks or hands on.
     #[error("the key with ID {key_id} did not have required permission {needed_permission}")]
     UnauthorizedAction {
+        /// The id of the signer's key.
         key_id: KeyID,
+        /// The permission that it lacks.
         needed_permission: Permission,
     },
     /// The key lacks a permission that is to be taken from it.
     #[error("attempted to remove permission {permission} from key {key_id} which did not have it")]
     PermissionNotFoundToRevoke {
+        /// The permission.
         permission: Permission,
+        /// The id of the key that lacks it.
         key_id: KeyID,
     },
     /// The signature is not the signer's. The case that memory was wanting is never held here.
@@ -63,7 +68,9 @@ pub enum ValidationError {
     /// The record before is named by another algorithm. Never answered, since there is one algorithm.
     #[error("record hash uses {found} algorithm but {expected} was expected")]
     IncorrectHashAlgorithm {
+        /// The record's algorithm.
         found: HashAlgorithm,
+        /// The log's algorithm.
         expected: HashAlgorithm,
     },
     /// The record names another record before it than the log's last.
@@ -78,29 +85,49 @@ pub enum ValidationError {
     /// The version of the protocol is not one of this log.
     #[error("protocol version {version} not allowed")]
     ProtocolVersionNotAllowed {
+        /// The record's version.
         version: u32,
     },
     /// The record is older than the log's last.
     #[error("record has lower timestamp than previous")]
     TimestampLowerThanPrevious,
+    /// The entry grants the key no permission, in a record of version 1.
+    #[error("an entry granted no permission to key {key_id}")]
+    EmptyGrant {
+        /// The id of the key that it names.
+        key_id: KeyID,
+    },
     /// The version is released already, be it yanked since.
     #[error("an entry attempted to release version {version} which is already released")]
     ReleaseOfReleased {
+        /// The version.
         version: Version,
     },
     /// The version to be yanked was never released.
     #[error("an entry attempted to yank version {version} which had not yet been released")]
     YankOfUnreleased {
+        /// The version.
         version: Version,
     },
     /// The version to be yanked is yanked already.
     #[error("an entry attempted to yank version {version} which is already yanked")]
     YankOfYanked {
+        /// The version.
         version: Version,
     },
     /// There was no memory left. This says nothing of the record.
     #[error("OutOfMemory")]
     OutOfMemory,
+}
+
+impl From<AllocError> for ValidationError {
+    ghost use Rattle.warg_package_log.specs.declared.error.ValidationError.TheVariants.{OutOfMemory};
+
+    ghost from_gives = { λ _ e. e ≡ OutOfMemory };
+
+    fn from(_error: AllocError) -> ValidationError {
+        ValidationError::OutOfMemory
+    }
 }
 
 impl From<SignatureError> for ValidationError {
@@ -153,6 +180,7 @@ impl From<Refusal<Permission>> for ValidationError {
                 ValidationError::ProtocolVersionNotAllowed { version }
             }
             Refusal::TimestampLowerThanPrevious => ValidationError::TimestampLowerThanPrevious,
+            Refusal::EmptyGrant { key_id } => ValidationError::EmptyGrant { key_id },
             Refusal::OutOfMemory => ValidationError::OutOfMemory,
         }
     }

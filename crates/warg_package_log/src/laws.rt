@@ -1,5 +1,5 @@
 //! Laws over all package logs. They have no effect.
-ghost use Rattle.std.specs.Prelude.{◌≡◌, ◌↔◌, List, ◌++◌, None, true, ◌<◌, ℕ, length, Result, IfOk, IsOk, All, IfSome};
+ghost use Rattle.std.specs.Prelude.{◌≡◌, ◌↔◌, ◌≤◌, List, ◌++◌, None, true, ◌<◌, ℕ, length, Result, IfOk, IsOk, All, IfSome};
 ghost use Rattle.warg_records.specs.Envelopes.{envelope_of, envelope_fault_of};
 ghost use Rattle.warg_records.specs.Faults.{fault_of};
 ghost use Rattle.warg_records.specs.Letters.{Letter};
@@ -9,20 +9,29 @@ ghost use Rattle.warg_validator.specs.Kinds.{Belief, IsAccepted, StandsFor};
 ghost use Rattle.warg_validator.specs.Outcomes.{IsRun, IfStarted, told};
 ghost use Rattle.warg_validator.specs.Strings.{read_all};
 ghost use Rattle.warg_validator.specs.declared.replay.RunError.{RunError};
+ghost use Rattle.warg_log.specs.Admissions.{NoKeyBringsItselfIn};
 ghost use Rattle.warg_log.specs.Contents.{Contents};
 ghost use Rattle.warg_log.specs.Forms.{HasForm};
 ghost use Rattle.warg_log.specs.States.{State};
-ghost use Rattle.warg_package_log.specs.Catalog.{AreDistinct};
+ghost use Rattle.std.specs.Prelude.{Option};
+ghost use Rattle.warg_log.specs.Records.{version_offence};
+ghost use Rattle.warg_log.specs.declared.head.Head.{Head};
+ghost use Rattle.warg_package_log.specs.Catalog.{AreDistinct, release_view};
 ghost use Rattle.warg_package_log.specs.Extensions.{IsExtension};
 ghost use Rattle.warg_package_log.specs.Releases.{versions, ReleaseView, record_id_of};
 ghost use Rattle.warg_package_log.specs.State.{offence_of, view_of, View, record_offence};
 ghost use Rattle.warg_records.specs.PackageEntries.{PackageAct};
 ghost use Rattle.warg_log.specs.History.{SignedRecord};
 ghost use Rattle.warg_log.specs.Possible.{IsPossible};
-ghost use Rattle.warg_package_log.specs.StateLaws.{kind};
+ghost use Rattle.warg_package_log.specs.StateLaws.{kind, AreSame};
+ghost use Rattle.warg_package_log.specs.declared.release.Release.{Release};
+ghost use Rattle.warg_package_log.specs.declared.release.ReleaseState.{ReleaseState};
 ghost use Rattle.warg_package_log.specs.declared.error.ValidationError.{ValidationError};
 ghost use Rattle.warg_package_log.specs.declared.error.ValidationError.TheVariants.{OutOfMemory};
 ghost use Rattle.warg_package_log.specs.StateHistory.{TellsHistory, OneYankEach, records_of, history};
+
+use warg_log::Head;
+use warg_records::package::PACKAGE_RECORD_VERSION;
 
 /// The releases of an accepted log are the front of those of each accepted log that goes on from
 /// it: none is lost, moved or changed, but that one that stood may have been yanked.
@@ -69,4 +78,26 @@ pub fn states_tell_history()
 /// no record is refused by `IncorrectHashAlgorithm`, or by a `SignatureError` but `Refused`.
 pub fn offences_are_possible()
     ensures { (b : Belief) (v : View) (e : SignedRecord Permission PackageAct) → IfSome (record_offence b v e) IsPossible }
+{}
+
+/// Heads, and what became of releases, are equal exactly if they are one, releases exactly if their fields
+/// are, a version by its numbers and texts, and states exactly if they answer alike.
+pub fn equality()
+    ensures heads { (a b : Head) → (⟦<Head as PartialEq>⟧.eq a b ≡ true) ↔ (a ≡ b) }
+    ensures release_states { (a b : ReleaseState) → (⟦<crate::release::ReleaseState as PartialEq>⟧.eq a b ≡ true) ↔ (a ≡ b) }
+    ensures releases { (a b : Release) → (⟦<crate::release::Release as PartialEq>⟧.eq a b ≡ true) ↔ (release_view a ≡ release_view b) }
+    ensures states { (s t : State (Contents Permission) (List ReleaseView)) → (⟦<crate::state::LogState as PartialEq>⟧.eq s t ≡ true) ↔ AreSame (view_of s) (view_of t) }
+{}
+
+/// A record's version is lawful exactly if it is at most `PACKAGE_RECORD_VERSION`, the newest, and not below the
+/// head's.
+pub fn newest_version()
+    ensures { (head : Option Head) (version : ℕ) → (version_offence {P = Permission} head version ≡ None) ↔ ((version ≤ PACKAGE_RECORD_VERSION) × IfSome head (λ h. h.version ≤ version)) }
+{}
+
+/// In an accepted log whose records all have version 1 no key brings itself in: each signer signed the
+/// first record, or an entry of an earlier record grants a permission to a key whose fingerprint is the
+/// signer's id.
+pub fn no_key_brings_itself_in()
+    ensures { (b : Belief) (es : List Letter) → IsAccepted kind b es → All (λ r. r.contents.version ≡ 1) (records_of es) → NoKeyBringsItselfIn (records_of es) }
 {}

@@ -13,10 +13,18 @@ use warg_records::registry::RecordId;
 /// What became of a release.
 #[derive(Debug, Drop)]
 pub enum ReleaseState {
-    /// The release stands, with the hash of its content.
-    Released { content: AnyHash },
-    /// The release was yanked: by this key, at the time of the record that yanked it.
-    Yanked { by: KeyID, timestamp: Timestamp },
+    /// The release stands.
+    Released {
+        /// The hash of the content.
+        content: AnyHash,
+    },
+    /// The release was yanked.
+    Yanked {
+        /// The id of the key.
+        by: KeyID,
+        /// The time of the record.
+        timestamp: Timestamp,
+    },
 }
 
 impl ReleaseState {
@@ -31,6 +39,14 @@ impl ReleaseState {
                 timestamp: *timestamp,
             },
         })
+    }
+}
+
+impl Clone for ReleaseState {
+    ghost is_clone = { λ a b. b ≡ a };
+
+    fn clone(&self) -> Result<ReleaseState, AllocError> {
+        self.try_clone()
     }
 }
 

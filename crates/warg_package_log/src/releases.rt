@@ -4,6 +4,9 @@ ghost use Rattle.std.specs.Prelude.{◌≡◌};
 use crate::release::Release;
 use indexmap::map::Values;
 use semver::Version;
+use std::alloc::AllocError;
+use std::fmt;
+use std::iter::FusedIterator;
 use std::marker::Model;
 
 /// The releases of a log, in the order of their release.
@@ -29,7 +32,6 @@ impl<'a> Iterator for Releases<'a> {
     ghost use Rattle.std.specs.Iterator.{at_most};
     ghost use Rattle.std.specs.Map.Iter.{TakesFirst};
     ghost use Rattle.warg_package_log.specs.Catalog.{release_view};
-    ghost use Rattle.std.specs.Borrow.{Bor};
 
     ghost next_gives = { TakesFirst (λ r. release_view r.now) };
 
@@ -37,5 +39,49 @@ impl<'a> Iterator for Releases<'a> {
 
     fn next(&mut self) -> Option<&'a Release> {
         self.inner.next()
+    }
+
+    fn size_hint(&self) -> (usize, Option<usize>) {
+        let len = self.len();
+        (len, Some(len))
+    }
+}
+
+impl<'a> DoubleEndedIterator for Releases<'a> {
+    ghost use Rattle.std.specs.Map.Iter.{TakesLast};
+    ghost use Rattle.warg_package_log.specs.Catalog.{release_view};
+
+    ghost next_back_gives = { TakesLast (λ r. release_view r.now) };
+
+    fn next_back(&mut self) -> Option<&'a Release> {
+        self.inner.next_back()
+    }
+}
+
+impl<'a> ExactSizeIterator for Releases<'a> {
+    fn len(&self) -> usize {
+        self.inner.len()
+    }
+}
+
+impl<'a> FusedIterator for Releases<'a> {}
+
+impl<'a> Clone for Releases<'a> {
+    ghost use Rattle.std.specs.Prelude.{⊤};
+
+    ghost is_clone = { λ s r. r ≡ s };
+
+    ghost is_infallible = { λ _. ⊤ };
+
+    fn clone(&self) -> Result<Releases<'a>, AllocError> {
+        Ok(Releases {
+            inner: self.inner.clone()?,
+        })
+    }
+}
+
+impl<'a> fmt::Debug for Releases<'a> {
+    fn fmt<W: fmt::Write>(&self, f: &mut fmt::Formatter<W>) -> fmt::Result {
+        f.debug_list().entries(self.inner.as_slice()).finish()
     }
 }

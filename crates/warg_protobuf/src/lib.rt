@@ -2,21 +2,19 @@
 #![tactic(auto)]
 
 mod define_namespace;
+mod draft;
+mod entry;
 mod envelope;
 mod error;
 mod field;
 mod grant_flat;
 mod import_namespace;
 mod init;
-mod keep;
 pub mod laws;
 mod message;
 mod nested;
-mod oneof;
 pub mod operator_entry;
-mod operator_record;
 pub mod package_entry;
-mod package_record;
 mod record;
 mod release;
 mod revoke_flat;
@@ -29,15 +27,15 @@ mod writing;
 mod yank;
 
 pub use define_namespace::OperatorDefineNamespace;
-pub use envelope::Envelope;
+pub use envelope::{Envelope, EnvelopeView};
 pub use error::WireError;
 pub use grant_flat::{OperatorGrantFlat, PackageGrantFlat};
 pub use import_namespace::OperatorImportNamespace;
 pub use init::{OperatorInit, PackageInit};
+pub use message::Message;
 pub use operator_entry::OperatorEntry;
-pub use operator_record::OperatorRecord;
 pub use package_entry::PackageEntry;
-pub use package_record::PackageRecord;
+pub use record::{OperatorRecord, PackageRecord, Record};
 pub use release::PackageRelease;
 pub use revoke_flat::{OperatorRevokeFlat, PackageRevokeFlat};
 pub use timestamp::TimestampPair;

@@ -1,22 +1,20 @@
 //! An entry of an operator log.
 
-ghost use Rattle.std.specs.Prelude.{◌≡◌, ◌≢◌, IfOk, IfErr, Ok, Err, Option};
-ghost use Rattle.warg_protobuf.specs.declared.error.WireError.{WireError};
-ghost use Rattle.warg_protobuf.specs.declared.error.WireError.TheVariants.{OutOfMemory};
-ghost use Rattle.warg_protobuf.specs.OperatorEntry.{operator_entry_table, OperatorMember, operator_entry_seen, operator_entry_from, IsOperatorEntry, operator_entry_of, operator_entry_fields, operator_entry_bytes, IsSoundOperatorEntry};
-ghost use Rattle.warg_protobuf.specs.Table.{HasFault};
-ghost use Rattle.warg_protobuf.specs.Views.{Gives};
+ghost use Rattle.std.specs.Prelude.{◌≡◌, Option, IfOk};
+ghost use Rattle.warg_protobuf.specs.Drafts.{one_text_kept, two_texts_kept, member_kept, operator_entry_made};
+ghost use Rattle.warg_protobuf.specs.OperatorEntry.{operator_entry_table, OperatorMember, operator_entry_seen, operator_entry_from, IsOperatorEntryOf, operator_entry_fields, IsSoundOperatorEntry};
 
 use crate::define_namespace::OperatorDefineNamespace;
+use crate::draft::read_draft;
+use crate::entry::{EntryDraft, MemberDraft};
 use crate::error::WireError;
-use crate::field::{RawField, RawPayload, check_fields};
 use crate::grant_flat::OperatorGrantFlat;
 use crate::import_namespace::OperatorImportNamespace;
 use crate::init::OperatorInit;
-use crate::message::{Message, Value, read_message, write_message};
+use crate::message::Codec;
 use crate::nested::push_message;
-use crate::oneof::{Oneof, last_member, read_member};
 use crate::revoke_flat::OperatorRevokeFlat;
+use crate::shape::{OneText, TwoTexts};
 use std::alloc::{AllocError, Global};
 
 /// The members of the oneof, each in a box, so that a list of entries stays small.
@@ -41,72 +39,57 @@ pub struct OperatorEntry {
     pub contents: Option<Contents>,
 }
 
-impl Message for OperatorEntry {
-    ghost table = { operator_entry_table };
+/// An entry that is read.
+type Draft<'a> = EntryDraft<'a, OneText<'a>, TwoTexts<'a>>;
 
-    fn takes(number: u32, wire_type: u32) -> bool {
-        match number {
-            1 | 2 | 3 | 4 | 5 => wire_type == 2,
-            _ => true,
-        }
-    }
-
-    #[tactic(auto, unfolding(crate::specs::Reading::payload_fault))]
-    fn check(number: u32, payload: RawPayload<'_>) -> Result<(), WireError> {
-        match payload {
-            RawPayload::Bytes(bytes) if number == 1 => check_fields::<OperatorInit>(bytes),
-            RawPayload::Bytes(bytes) if number == 2 => check_fields::<OperatorGrantFlat>(bytes),
-            RawPayload::Bytes(bytes) if number == 3 => check_fields::<OperatorRevokeFlat>(bytes),
-            RawPayload::Bytes(bytes) if number == 4 => check_fields::<OperatorDefineNamespace>(
-                bytes,
-            ),
-            RawPayload::Bytes(bytes) if number == 5 => check_fields::<OperatorImportNamespace>(
-                bytes,
-            ),
-            _ => Ok(()),
-        }
-    }
-}
-
-impl Oneof for OperatorEntry {
-    fn is_member(number: u32) -> bool {
-        match number {
-            1 | 2 | 3 | 4 | 5 => true,
-            _ => false,
-        }
-    }
-}
-
-impl Value for OperatorEntry {
-    ghost Seen = { Option OperatorMember };
-
-    ghost seen = { operator_entry_seen };
-
-    ghost value = { operator_entry_from };
-
-    #[tactic(auto, unfolding(crate::specs::OperatorEntry::operator_entry_from))]
-    fn from_fields(alloc: Global, fields: &[RawField<'_>]) -> Result<Self, WireError> {
-        let Some(member) = last_member::<OperatorEntry>(fields) else {
-            return Ok(OperatorEntry { contents: None });
-        };
-        let contents = match member {
-            1 => Contents::Init(read_member::<OperatorEntry, OperatorInit>(alloc, 1, fields)?),
-            2 => Contents::GrantFlat(read_member::<OperatorEntry, OperatorGrantFlat>(
-                alloc, 2, fields,
+impl OperatorEntry {
+    /// The message of what is kept.
+    fn finish(alloc: Global, draft: Draft<'_>) -> Result<OperatorEntry, AllocError>
+        ensures { IfOk result (λ v. operator_entry_seen v ≡ operator_entry_made (member_kept one_text_kept two_texts_kept draft.entry.member)) }
+    {
+        let contents = match draft.member {
+            MemberDraft::Absent => return Ok(OperatorEntry { contents: None }),
+            MemberDraft::Init(draft) => Contents::Init(Box::new(
+                alloc,
+                OperatorInit::finish(alloc, draft)?,
             )?),
-            3 => Contents::RevokeFlat(read_member::<OperatorEntry, OperatorRevokeFlat>(
-                alloc, 3, fields,
+            MemberDraft::GrantFlat(draft) => Contents::GrantFlat(Box::new(
+                alloc,
+                OperatorGrantFlat::finish(alloc, draft)?,
             )?),
-            4 => Contents::DefineNamespace(read_member::<OperatorEntry, OperatorDefineNamespace>(
-                alloc, 4, fields,
+            MemberDraft::RevokeFlat(draft) => Contents::RevokeFlat(Box::new(
+                alloc,
+                OperatorRevokeFlat::finish(alloc, draft)?,
             )?),
-            _ => Contents::ImportNamespace(read_member::<OperatorEntry, OperatorImportNamespace>(
-                alloc, 5, fields,
+            MemberDraft::Fourth(draft) => Contents::DefineNamespace(Box::new(
+                alloc,
+                OperatorDefineNamespace::finish(alloc, draft)?,
+            )?),
+            MemberDraft::Fifth(draft) => Contents::ImportNamespace(Box::new(
+                alloc,
+                OperatorImportNamespace::finish(alloc, draft)?,
             )?),
         };
         Ok(OperatorEntry {
             contents: Some(contents),
         })
+    }
+}
+
+impl Codec for OperatorEntry {
+    ghost table = { operator_entry_table };
+
+    ghost Seen = { Option OperatorMember };
+
+    ghost seen = { operator_entry_seen };
+
+    ghost Says = { IsOperatorEntryOf };
+
+    ghost value = { operator_entry_from };
+
+    fn read(alloc: Global, bytes: &[u8]) -> Result<OperatorEntry, WireError> {
+        let draft = read_draft::<Draft<'_>>(alloc, bytes)?;
+        Ok(OperatorEntry::finish(alloc, draft)?)
     }
 
     ghost written = { operator_entry_fields };
@@ -131,28 +114,6 @@ impl Value for OperatorEntry {
             ),
         }
     }
-}
 
-impl OperatorEntry {
-    /// Reads the message, all of the bytes.
-    pub fn decode(alloc: Global, bytes: &[u8]) -> Result<Self, WireError>
-        // What is read is what the bytes say.
-        ensures found { IfOk result (λ v. IsOperatorEntry bytes.now (operator_entry_seen v)) }
-        ensures fault { IfErr result (λ e. e ≢ OutOfMemory → HasFault operator_entry_table bytes.now e) }
-
-        // What the bytes say is read, unless memory runs out.
-        ensures only { (v : Option OperatorMember) → IsOperatorEntry bytes.now v → Gives operator_entry_seen result (Ok v) }
-        ensures only_fault { (e : WireError) → HasFault operator_entry_table bytes.now e → Gives operator_entry_seen result (Err e) }
-        ensures computed { Gives operator_entry_seen result (operator_entry_of bytes.now) }
-    {
-        read_message::<OperatorEntry>(alloc, bytes)
-    }
-
-    /// The message's bytes, by rising number; a part at its default is left out.
-    pub fn encode(&self, alloc: Global) -> Result<Vec<u8>, AllocError>
-        ensures spelled { IfOk result (λ v. v.items ≡ operator_entry_bytes (operator_entry_seen self.now)) }
-        ensures read_again { IfOk result (λ v. IsOperatorEntry v.items (operator_entry_seen self.now)) }
-    {
-        write_message::<OperatorEntry>(alloc, self)
-    }
+    fn laws() {}
 }

@@ -1,17 +1,14 @@
 //! A record's time.
 
-ghost use Rattle.std.specs.Prelude.{◌≡◌, ◌≢◌, IfOk, IfErr, Ok, Err};
-ghost use Rattle.warg_protobuf.specs.declared.error.WireError.{WireError};
-ghost use Rattle.warg_protobuf.specs.declared.error.WireError.TheVariants.{OutOfMemory};
-ghost use Rattle.warg_protobuf.specs.Timestamp.{timestamp_table, TimestampValue, timestamp_seen, timestamp_from, IsTimestamp, timestamp_of, timestamp_fields, timestamp_bytes, IsSoundTimestamp};
-ghost use Rattle.warg_protobuf.specs.Table.{HasFault};
-ghost use Rattle.warg_protobuf.specs.Views.{Gives};
+ghost use Rattle.std.specs.Prelude.{◌≡◌};
+ghost use Rattle.warg_protobuf.specs.Drafts.{TimestampKept, timestamp_kept, no_time, timestamp_with, time_made};
+ghost use Rattle.warg_protobuf.specs.Timestamp.{timestamp_table, TimestampValue, timestamp_seen, timestamp_from, IsTimestampOf, timestamp_fields, IsSoundTimestamp};
 
+use crate::draft::{Draft, read_draft};
 use crate::error::WireError;
 use crate::field::{RawField, RawPayload};
-use crate::message::{Message, Value, read_message, write_message};
+use crate::message::Codec;
 use crate::signed::low_signed;
-use crate::text::last_number;
 use crate::writing::{as_number, push_number};
 use std::alloc::{AllocError, Global};
 
@@ -24,8 +21,43 @@ pub struct TimestampPair {
     pub nanos: i32,
 }
 
-impl Message for TimestampPair {
+/// The last numbers of a time that is being read, in however many pieces.
+#[derive(Clone, Copy)]
+pub(crate) struct TimestampDraft {
+    seconds: u64,
+    nanos: u64,
+}
+
+impl TimestampDraft {
+    pub(crate) fn finish(&self) -> TimestampPair
+        ensures { timestamp_seen result ≡ time_made (timestamp_kept self.now) }
+    {
+        TimestampPair {
+            seconds: self.seconds.cast_signed(),
+            nanos: low_signed(self.nanos),
+        }
+    }
+}
+
+impl<'a> Draft<'a> for TimestampDraft {
     ghost table = { timestamp_table };
+
+    ghost Kept = { TimestampKept };
+
+    ghost kept = { timestamp_kept };
+
+    ghost empty = { no_time };
+
+    ghost with_field = { timestamp_with };
+
+    ghost TakesMemory = { ⊥ };
+
+    fn new(_alloc: Global) -> Self {
+        TimestampDraft {
+            seconds: 0,
+            nanos: 0,
+        }
+    }
 
     fn takes(number: u32, wire_type: u32) -> bool {
         match number {
@@ -35,23 +67,32 @@ impl Message for TimestampPair {
     }
 
     #[tactic(auto, unfolding(crate::specs::Reading::payload_fault))]
-    fn check(_number: u32, _payload: RawPayload<'_>) -> Result<(), WireError> {
+    fn grow(&mut self, field: RawField<'a>) -> Result<(), WireError> {
+        if let RawPayload::Number(value) = field.payload {
+            match field.number {
+                1 => self.seconds = value,
+                2 => self.nanos = value,
+                _ => {}
+            }
+        }
         Ok(())
     }
 }
 
-impl Value for TimestampPair {
+impl Codec for TimestampPair {
+    ghost table = { timestamp_table };
+
     ghost Seen = { TimestampValue };
 
     ghost seen = { timestamp_seen };
 
+    ghost Says = { IsTimestampOf };
+
     ghost value = { timestamp_from };
 
-    #[tactic(auto, unfolding(crate::specs::Timestamp::timestamp_from))]
-    fn from_fields(_alloc: Global, fields: &[RawField<'_>]) -> Result<Self, WireError> {
-        let seconds = last_number(1, fields).cast_signed();
-        let nanos = low_signed(last_number(2, fields));
-        Ok(TimestampPair { seconds, nanos })
+    fn read(alloc: Global, bytes: &[u8]) -> Result<TimestampPair, WireError> {
+        let draft = read_draft::<TimestampDraft>(alloc, bytes)?;
+        Ok(draft.finish())
     }
 
     ghost written = { timestamp_fields };
@@ -63,28 +104,6 @@ impl Value for TimestampPair {
         push_number(out, 2, as_number(i64::from(self.nanos)))?;
         Ok(())
     }
-}
 
-impl TimestampPair {
-    /// Reads the message, all of the bytes.
-    pub fn decode(alloc: Global, bytes: &[u8]) -> Result<Self, WireError>
-        // What is read is what the bytes say.
-        ensures found { IfOk result (λ v. IsTimestamp bytes.now (timestamp_seen v)) }
-        ensures fault { IfErr result (λ e. e ≢ OutOfMemory → HasFault timestamp_table bytes.now e) }
-
-        // What the bytes say is read, unless memory runs out.
-        ensures only { (v : TimestampValue) → IsTimestamp bytes.now v → Gives timestamp_seen result (Ok v) }
-        ensures only_fault { (e : WireError) → HasFault timestamp_table bytes.now e → Gives timestamp_seen result (Err e) }
-        ensures computed { Gives timestamp_seen result (timestamp_of bytes.now) }
-    {
-        read_message::<TimestampPair>(alloc, bytes)
-    }
-
-    /// The message's bytes, by rising number; a part at its default is left out.
-    pub fn encode(&self, alloc: Global) -> Result<Vec<u8>, AllocError>
-        ensures spelled { IfOk result (λ v. v.items ≡ timestamp_bytes (timestamp_seen self.now)) }
-        ensures read_again { IfOk result (λ v. IsTimestamp v.items (timestamp_seen self.now)) }
-    {
-        write_message::<TimestampPair>(alloc, self)
-    }
+    fn laws() {}
 }

@@ -3,7 +3,7 @@
 use crate::message::{goes_both_ways, has_fault, reads_as};
 use crate::values::grant;
 use std::test::Fail;
-use warg_protobuf::{PackageGrantFlat, WireError};
+use warg_protobuf::{Message, PackageGrantFlat, WireError};
 
 #[test]
 fn packed_when_written(rt: HostRuntime) {

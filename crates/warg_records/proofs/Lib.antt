@@ -10,4 +10,7 @@ pub mod KebabLemmas
 pub mod PackageNames
 pub mod PrefixCode
 pub mod Pieces
+pub mod Equalities
+pub mod PackageEqualities
+pub mod OperatorEqualities
 pub mod JsonLemmas

@@ -32,6 +32,9 @@ use std::alloc::{AllocError, Global};
 use warg_crypto::hash::AnyHash;
 use warg_crypto::{Decode, DecodeError};
 
+/// The newest version of the protocol: that of new records of either kind.
+pub const RECORD_VERSION: u32 = 1;
+
 /// A record of one kind of log.
 pub trait Record: Decode + Drop {
     // What a record says, as plain data.

@@ -17,17 +17,18 @@ mod permission;
 mod reading;
 mod writing;
 
-use crate::Record;
 use crate::laws::{operator_records_are_whole, record_reading_computes};
+use crate::{RECORD_VERSION, Record};
 use indexmap::IndexSet;
 pub use model::{OperatorEntry, OperatorRecord};
 pub use permission::Permission;
 use std::alloc::{AllocError, Global};
 use warg_crypto::hash::AnyHash;
 use warg_crypto::{Decode, DecodeError, Encode, Signable};
+use warg_protobuf::Message;
 
-/// The version of the protocol that operator records have.
-pub const OPERATOR_RECORD_VERSION: u32 = 0;
+/// The newest version of the protocol that an operator record may have.
+pub const OPERATOR_RECORD_VERSION: u32 = RECORD_VERSION;
 
 impl Decode for OperatorRecord {
     ghost decodes = { λ content r. IsReading said fault_of (operator_record_of content) r };

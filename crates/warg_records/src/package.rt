@@ -19,18 +19,19 @@ mod permission;
 mod reading;
 mod writing;
 
-use crate::Record;
 use crate::laws::{package_records_are_whole, record_reading_computes};
 use crate::mention::{self, Mention};
+use crate::{RECORD_VERSION, Record};
 use indexmap::IndexSet;
 pub use model::{PackageEntry, PackageRecord};
 pub use permission::Permission;
 use std::alloc::{AllocError, Global};
 use warg_crypto::hash::AnyHash;
 use warg_crypto::{Decode, DecodeError, Encode, Signable};
+use warg_protobuf::Message;
 
-/// The version of the protocol that package records have.
-pub const PACKAGE_RECORD_VERSION: u32 = 0;
+/// The newest version of the protocol that a package record may have.
+pub const PACKAGE_RECORD_VERSION: u32 = RECORD_VERSION;
 
 impl Decode for PackageRecord {
     ghost decodes = { λ content r. IsReading said fault_of (package_record_of content) r };

@@ -20,7 +20,7 @@ use std::fmt;
 use std::marker::Model;
 use warg_crypto::signing::{KeyID, Signature, SignatureError, Signer};
 use warg_crypto::{DecodeError, Signable};
-use warg_protobuf::Envelope;
+use warg_protobuf::{Envelope, Message};
 
 /// A record with its bytes as they came, who signed them, and the signature. The bytes are kept since other bytes
 /// may say the same record.
@@ -125,6 +125,14 @@ impl<C: Record> ProtoEnvelope<C> {
             key_id: self.key_id.clone()?,
             signature: self.signature.clone()?,
         })
+    }
+}
+
+impl<C: Record> Clone for ProtoEnvelope<C> {
+    ghost is_clone = { λ a b. (b.sealed ≡ a.sealed) × (C.meaning b.contents ≡ C.meaning a.contents) };
+
+    fn clone(&self) -> Result<ProtoEnvelope<C>, AllocError> {
+        self.try_clone()
     }
 }
 

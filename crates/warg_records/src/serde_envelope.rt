@@ -82,6 +82,14 @@ impl<C: Clone> SerdeEnvelope<C> {
     }
 }
 
+impl<C: Clone> Clone for SerdeEnvelope<C> {
+    ghost is_clone = { λ a b. C.is_clone a.contents b.contents × (b.key_id ≡ a.key_id) × (b.signature ≡ a.signature) };
+
+    fn clone(&self) -> Result<SerdeEnvelope<C>, AllocError> {
+        self.try_clone()
+    }
+}
+
 impl<C: Signable + Drop> SerdeEnvelope<C> {
     /// The contents under the signer's signature. `Refused` only where the signer refuses the message.
     pub fn signed_contents<S: Signer>(

@@ -6,6 +6,7 @@ use std::alloc::Global;
 use std::process::Abort;
 use warg_crypto::DecodeError;
 use warg_protobuf as message;
+use warg_protobuf::Message;
 use warg_records::operator::OperatorEntry;
 use warg_records::package::{PackageEntry, Permission};
 

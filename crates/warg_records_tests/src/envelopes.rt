@@ -66,6 +66,7 @@ fn says_nothing(rt: &impl Abort, record: &PackageRecord) {
 
 fn is_copied(rt: &impl Abort, envelope: &ProtoEnvelope<PackageRecord>) {
     same(rt, &envelope.try_clone().expect(rt, "memory"), envelope);
+    same(rt, &envelope.clone().expect(rt, "memory"), envelope);
 }
 
 #[test]

@@ -1,5 +1,3 @@
-pub mod CountLaws
-pub mod Counts
 pub mod Effects
 pub mod Kinds
 pub mod Outcomes

@@ -1,13 +1,19 @@
 //! Laws over all logs of a kind. They have no effect.
-ghost use Rattle.std.specs.Prelude.{◌≡◌, ◌↔◌, ℕ, ◌+◌, List, [], ◌∷◌, ◌++◌, length, map, take, Option, Some, None, true};
+ghost use Rattle.std.specs.Prelude.{◌≡◌, ◌==◌, ◌&&◌, ◌↔◌, ℕ, ◌+◌, List, [], ◌∷◌, ◌++◌, length, map, take, Option, Some, None, true};
 ghost use Rattle.std.specs.List.{slice_get};
 ghost use Rattle.warg_records.specs.Envelopes.{EnvelopeFault, envelope_of};
 ghost use Rattle.warg_records.specs.Letters.{Letter};
-ghost use Rattle.warg_validator.specs.Kinds.{Belief, IsAccepted, StandsFor, last_id};
-ghost use Rattle.warg_validator.specs.Outcomes.{HasNoOffence, IsFirstOffence, IsFoundBy, first_offence_from};
+ghost use Rattle.warg_validator.specs.Kinds.{Belief, either, IsAccepted, StandsFor, last_id};
+ghost use Rattle.warg_validator.specs.Outcomes.{same_cause, HasNoOffence, IsFirstOffence, IsFoundBy, first_offence_from};
 ghost use Rattle.warg_validator.specs.Strings.{Cause, read_all};
+ghost use Rattle.warg_validator.specs.declared.effect.Effect.{Effect};
+ghost use Rattle.warg_validator.specs.declared.replay.RunCause.{RunCause};
+ghost use Rattle.warg_validator.specs.declared.replay.RunError.{RunError};
 
+use crate::effect::Effect;
+use crate::replay::{RunCause, RunError};
 use crate::validator::Validator;
+use warg_records::ParseEnvelopeError;
 
 /// A log with one record more is accepted exactly if the log is and the record has no offence after
 /// it, and then says what the record makes of what the log said.
@@ -68,4 +74,20 @@ pub fn resumption<L: Validator>()
         (i : ℕ) (c : Cause (EnvelopeFault L.Record.Fault) L.Offence) →
         IsFirstOffence L.kind b (envelope_of L.Record.read) (λ fs. L.kind.view_of (read_all (envelope_of L.Record.read) ss ++ fs)) ts i c →
         IsFirstOffence L.kind b (envelope_of L.Record.read) L.kind.view_of (ss ++ ts) (length ss + i) c }
+{}
+
+/// A log whose front one verifier accepted, and whose other strings another: one that takes whatever
+/// either takes accepts the whole.
+pub fn two_verifiers<L: Validator>()
+    ensures { (d b : Belief) (es : List Letter) (ss : List (List ℕ)) → IsAccepted L.kind d es →
+        HasNoOffence L.kind b (envelope_of L.Record.read) (λ fs. L.kind.view_of (es ++ fs)) ss →
+        IsAccepted L.kind (either d b) (es ++ read_all (envelope_of L.Record.read) ss) }
+{}
+
+/// Effects are equal exactly if they are one, refusals exactly if their places and causes are equal, and
+/// causes exactly if both are faults of reading or both refusals of a record, and these are equal.
+pub fn equality<E: PartialEq>()
+    ensures effects { (a b : Effect) → (⟦<Effect as PartialEq>⟧.eq a b ≡ true) ↔ (a ≡ b) }
+    ensures causes { (a b : RunCause E) → ⟦<RunCause<E> as PartialEq>⟧.eq a b ≡ same_cause ⟦<ParseEnvelopeError as PartialEq>⟧.eq E.eq a b }
+    ensures errors { (a b : RunError E) → ⟦<RunError<E> as PartialEq>⟧.eq a b ≡ (a.index == b.index && ⟦<RunCause<E> as PartialEq>⟧.eq a.cause b.cause) }
 {}

@@ -4,9 +4,9 @@ ghost use Rattle.std.specs.Prelude.{◌≡◌, Option};
 ghost use Rattle.warg_protobuf.specs.OperatorEntry.{OperatorMember, operator_entry_seen};
 ghost use Rattle.warg_protobuf.specs.OperatorRecord.{operator_record_seen};
 ghost use Rattle.warg_protobuf.specs.OperatorRecord.{operator_record_of as operator_message_of};
-ghost use Rattle.warg_protobuf.specs.GrantFlat.{operator_grant_flat_seen};
-ghost use Rattle.warg_protobuf.specs.Init.{operator_init_seen};
-ghost use Rattle.warg_protobuf.specs.RevokeFlat.{operator_revoke_flat_seen};
+ghost use Rattle.warg_protobuf.specs.GrantFlat.{grant_flat_seen};
+ghost use Rattle.warg_protobuf.specs.Init.{init_seen};
+ghost use Rattle.warg_protobuf.specs.RevokeFlat.{revoke_flat_seen};
 ghost use Rattle.warg_records.specs.Faults.{fault_of, IsReading};
 ghost use Rattle.warg_records.specs.OperatorEntries.{OperatorAct, reading, said};
 ghost use Rattle.warg_records.specs.OperatorPermissions.{permission_of};
@@ -24,12 +24,12 @@ use warg_crypto::DecodeError;
 use warg_crypto::signing::KeyID;
 use warg_protobuf as message;
 use warg_protobuf::operator_entry::Contents;
-use warg_protobuf::{OperatorGrantFlat, OperatorInit, OperatorRevokeFlat};
+use warg_protobuf::{Message, OperatorGrantFlat, OperatorInit, OperatorRevokeFlat};
 
 // A member of the entry's oneof.
 
 fn read_init_entry(alloc: Global, message: OperatorInit) -> Result<OperatorEntry, DecodeError>
-    ensures { IsReading reading fault_of (shared (init_of (operator_init_seen message))) result }
+    ensures { IsReading reading fault_of (shared (init_of (init_seen message))) result }
 {
     let (hash_algorithm, key) = read_init(
         alloc,
@@ -43,7 +43,7 @@ fn read_init_entry(alloc: Global, message: OperatorInit) -> Result<OperatorEntry
 }
 
 fn read_grant(alloc: Global, message: OperatorGrantFlat) -> Result<OperatorEntry, DecodeError>
-    ensures { IsReading reading fault_of (shared (grant_of permission_of (operator_grant_flat_seen message))) result }
+    ensures { IsReading reading fault_of (shared (grant_of permission_of (grant_flat_seen message))) result }
 {
     let key = read_key(alloc, message.key.as_str())?;
     let permissions = read_permissions::<Permission>(alloc, message.permissions)?;
@@ -51,7 +51,7 @@ fn read_grant(alloc: Global, message: OperatorGrantFlat) -> Result<OperatorEntry
 }
 
 fn read_revoke(alloc: Global, message: OperatorRevokeFlat) -> Result<OperatorEntry, DecodeError>
-    ensures { IsReading reading fault_of (shared (revoke_of permission_of (operator_revoke_flat_seen message))) result }
+    ensures { IsReading reading fault_of (shared (revoke_of permission_of (revoke_flat_seen message))) result }
 {
     let permissions = read_permissions::<Permission>(alloc, message.permissions)?;
     Ok(OperatorEntry::RevokeFlat {

@@ -8,9 +8,9 @@ ghost use Rattle.warg_protobuf.specs.Yank.{yank_seen};
 ghost use Rattle.warg_protobuf.specs.PackageEntry.{PackageMember, package_entry_seen};
 ghost use Rattle.warg_protobuf.specs.PackageRecord.{package_record_seen};
 ghost use Rattle.warg_protobuf.specs.PackageRecord.{package_record_of as package_message_of};
-ghost use Rattle.warg_protobuf.specs.GrantFlat.{package_grant_flat_seen};
-ghost use Rattle.warg_protobuf.specs.Init.{package_init_seen};
-ghost use Rattle.warg_protobuf.specs.RevokeFlat.{package_revoke_flat_seen};
+ghost use Rattle.warg_protobuf.specs.GrantFlat.{grant_flat_seen};
+ghost use Rattle.warg_protobuf.specs.Init.{init_seen};
+ghost use Rattle.warg_protobuf.specs.RevokeFlat.{revoke_flat_seen};
 ghost use Rattle.warg_records.specs.Faults.{fault_of, IsReading};
 ghost use Rattle.warg_records.specs.PackageEntries.{PackageAct, reading, said};
 ghost use Rattle.warg_records.specs.PackagePermissions.{permission_of};
@@ -32,13 +32,13 @@ use warg_crypto::signing::KeyID;
 use warg_protobuf as message;
 use warg_protobuf::package_entry::Contents;
 use warg_protobuf::{
-    PackageGrantFlat, PackageInit, PackageRelease, PackageRevokeFlat, PackageYank,
+    Message, PackageGrantFlat, PackageInit, PackageRelease, PackageRevokeFlat, PackageYank,
 };
 
 // A member of the entry's oneof.
 
 fn read_init_entry(alloc: Global, message: PackageInit) -> Result<PackageEntry, DecodeError>
-    ensures { IsReading reading fault_of (shared (init_of (package_init_seen message))) result }
+    ensures { IsReading reading fault_of (shared (init_of (init_seen message))) result }
 {
     let (hash_algorithm, key) = read_init(
         alloc,
@@ -52,7 +52,7 @@ fn read_init_entry(alloc: Global, message: PackageInit) -> Result<PackageEntry, 
 }
 
 fn read_grant(alloc: Global, message: PackageGrantFlat) -> Result<PackageEntry, DecodeError>
-    ensures { IsReading reading fault_of (shared (grant_of permission_of (package_grant_flat_seen message))) result }
+    ensures { IsReading reading fault_of (shared (grant_of permission_of (grant_flat_seen message))) result }
 {
     let key = read_key(alloc, message.key.as_str())?;
     let permissions = read_permissions::<Permission>(alloc, message.permissions)?;
@@ -60,7 +60,7 @@ fn read_grant(alloc: Global, message: PackageGrantFlat) -> Result<PackageEntry, 
 }
 
 fn read_revoke(alloc: Global, message: PackageRevokeFlat) -> Result<PackageEntry, DecodeError>
-    ensures { IsReading reading fault_of (shared (revoke_of permission_of (package_revoke_flat_seen message))) result }
+    ensures { IsReading reading fault_of (shared (revoke_of permission_of (revoke_flat_seen message))) result }
 {
     let permissions = read_permissions::<Permission>(alloc, message.permissions)?;
     Ok(PackageEntry::RevokeFlat {

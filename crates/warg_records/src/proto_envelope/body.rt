@@ -42,6 +42,14 @@ impl ProtoEnvelopeBody {
     }
 }
 
+impl Clone for ProtoEnvelopeBody {
+    ghost is_clone = { λ a b. b ≡ a };
+
+    fn clone(&self) -> Result<ProtoEnvelopeBody, AllocError> {
+        self.try_clone()
+    }
+}
+
 impl PartialEq for ProtoEnvelopeBody {
     ghost eq = { same_letter };
 
@@ -119,6 +127,14 @@ impl PublishedProtoEnvelopeBody {
     }
 }
 
+impl Clone for PublishedProtoEnvelopeBody {
+    ghost is_clone = { λ a b. b ≡ a };
+
+    fn clone(&self) -> Result<PublishedProtoEnvelopeBody, AllocError> {
+        self.try_clone()
+    }
+}
+
 impl<C: Drop> From<PublishedProtoEnvelope<C>> for PublishedProtoEnvelopeBody {
     ghost from_gives = { λ e b. b ≡ record { envelope = e.envelope.sealed; registry_index = e.registry_index } };
 
@@ -157,5 +173,14 @@ impl<C: Record> PublishedProtoEnvelope<C> {
             envelope: self.envelope.try_clone()?,
             registry_index: self.registry_index,
         })
+    }
+}
+
+impl<C: Record> Clone for PublishedProtoEnvelope<C> {
+    ghost is_clone = { λ a b. (b.registry_index ≡ a.registry_index) × (b.envelope.sealed ≡ a.envelope.sealed)
+        × (C.meaning b.envelope.contents ≡ C.meaning a.envelope.contents) };
+
+    fn clone(&self) -> Result<PublishedProtoEnvelope<C>, AllocError> {
+        self.try_clone()
     }
 }
