@@ -96,7 +96,11 @@ where
         let before = self.log.records().len();
         self.refusal = self.log.append(string.as_slice()).err();
         let more = if self.refusal.is_none() { 1 } else { 0 };
-        assert_eq!(rt; self.log.records().len() - before, more, "{line}");
+        assert_eq!(rt;
+            Some(self.log.records().len()),
+            before.checked_add(more),
+            "{line}"
+        );
         Ok(())
     }
 }
