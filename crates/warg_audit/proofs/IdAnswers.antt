@@ -5,13 +5,8 @@ use Rattle.warg_audit.specs.declared.command.Kind.{Kind}
 use Rattle.warg_audit.specs.declared.command.Command.{Command}
 use Rattle.warg_audit.specs.Commands.{command_of}
 use Rattle.warg_audit.specs.Lines.{lines_of, string_of, is_line_feed, onto}
-use Rattle.warg_audit.specs.Answers.{IsEnvelopeAnswer, has_fault, IsIdAnswer, no_line, bad_digits, second_line, one_line, IsCommandAnswer, other_words, over_limit, of_lines}
+use Rattle.warg_audit.specs.Answers.{IsEnvelopeAnswer, IsIdAnswer, no_line, bad_digits, second_line, one_line, IsCommandAnswer, other_words, over_limit, of_lines}
 use Rattle.warg_audit.specs.Printed.{Printed, usage, too_long, bad_line, refused}
-use Rattle.warg_audit.specs.Names.{wire_name}
-use Rattle.warg_protobuf.specs.Envelope.{envelope_table}
-use Rattle.warg_protobuf.specs.Table.{HasFault}
-use Rattle.warg_protobuf.specs.declared.error.WireError.{WireError}
-use Rattle.warg_protobuf.specs.declared.error.WireError.TheVariants.{OutOfMemory}
 use Rattle.warg_audit.specs.Replies.{IsReply, answer, unread, starved, IsAnswered}
 use Rattle.warg_audit.proofs.LineLemmas.{lines_of-are}
 
@@ -49,10 +44,6 @@ module _ (kind : Kind) (text line more : List ℕ) (printed : Printed) where
 
   pub only_line : (bytes : List ℕ) → lines_of text ≡ line ∷ lines_of more → string_of line ≡ Ok bytes → length more ≡ 0 → IsEnvelopeAnswer kind bytes printed → IsIdAnswer kind (lines_of text) printed
   only_line bytes cut good none is = one_line line bytes (cut ∙ ap (λ lines. line ∷ lines) (no_more more none)) good is
-
-pub of_fault : (kind : Kind) (bytes : List ℕ) (printed : Printed) (fault : WireError) → (fault ≢ OutOfMemory → HasFault envelope_table bytes fault)
-    → (fault ≢ OutOfMemory) × (printed ≡ refused 0 (codes "ProtobufEnvelope." ++ wire_name fault)) → IsEnvelopeAnswer kind bytes printed
-of_fault kind bytes printed fault has is = has_fault fault (has is.0) is.1
 
 -- ---- a list longer than any number
 

@@ -1,7 +1,6 @@
 //! The id of the one record whose envelope is read.
 
-ghost use Rattle.std.specs.Prelude.{◌≡◌, ◌≢◌, ◌++◌, codes, IfOk};
-ghost use Rattle.warg_protobuf.specs.declared.error.WireError.TheVariants.{OutOfMemory};
+ghost use Rattle.std.specs.Prelude.{◌≡◌, ◌++◌, codes, IfOk};
 ghost use Rattle.warg_audit.specs.Answers.{record_id_of, IsEnvelopeAnswer, IsIdAnswer};
 ghost use Rattle.warg_audit.specs.Printed.{refused};
 ghost use Rattle.warg_audit.specs.Names.{wire_name};
@@ -14,7 +13,7 @@ use crate::names::wire_name;
 use crate::reply::{Reply, bad_line_reply};
 use std::alloc::{AllocError, Global};
 use warg_crypto::hash::{AnyHash, Hash, Sha256};
-use warg_protobuf::{Envelope, Message, WireError};
+use warg_protobuf::{Envelope, WireError};
 
 // The id of a record of this kind, from its content bytes.
 fn record_id(kind: Kind, content: &[u8]) -> AnyHash
@@ -27,28 +26,22 @@ fn record_id(kind: Kind, content: &[u8]) -> AnyHash
     Hash::<Sha256>::of(&(prefix.as_bytes(), content)).into()
 }
 
-// What tells of an envelope's first fault; no reply where that is want of memory.
+// What tells of an envelope's first fault.
 fn fault_reply(alloc: Global, index: usize, fault: WireError) -> Result<Reply, AllocError>
-    ensures { IfOk result (λ reply. (fault ≢ OutOfMemory)
-        × (printed_of reply ≡ refused index (codes "ProtobufEnvelope." ++ wire_name fault))) }
+    ensures { IfOk result (λ reply. printed_of reply ≡ refused index (codes "ProtobufEnvelope." ++ wire_name fault)) }
 {
-    match fault {
-        WireError::OutOfMemory => Err(AllocError),
-        _ => {
-            let name = wire_name(fault);
-            let text = format!(in alloc; "refused {index} ProtobufEnvelope.{name}\n")?;
-            Ok(Reply::made(text, 1))
-        }
-    }
+    let name = wire_name(fault);
+    let text = format!(in alloc; "refused {index} ProtobufEnvelope.{name}\n")?;
+    Ok(Reply::made(text, 1))
 }
 
 // The answer to an envelope's bytes.
 fn envelope_reply(alloc: Global, kind: Kind, bytes: &[u8]) -> Result<Reply, AllocError>
     ensures { IfOk result (λ reply. IsEnvelopeAnswer kind bytes.now (printed_of reply)) }
 {
-    match Envelope::decode(alloc, bytes) {
+    match Envelope::view(bytes) {
         Ok(envelope) => {
-            let id = record_id(kind, envelope.contents.as_slice());
+            let id = record_id(kind, envelope.contents);
             Ok(Reply::made(format!(in alloc; "{id}\n")?, 0))
         }
         Err(fault) => fault_reply(alloc, 0, fault),
