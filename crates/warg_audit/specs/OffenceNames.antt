@@ -21,6 +21,7 @@ shared_name shared.PreviousHashOnFirstRecord = codes "PreviousHashOnFirstRecord"
 shared_name shared.NoPreviousHashAfterInit = codes "NoPreviousHashAfterInit"
 shared_name (shared.ProtocolVersionNotAllowed version) = codes "ProtocolVersionNotAllowed"
 shared_name shared.TimestampLowerThanPrevious = codes "TimestampLowerThanPrevious"
+shared_name (shared.EmptyGrant key_id) = codes "EmptyGrant"
 
 -- with the names of those that one kind alone has; no error tells a record that can't be read
 abbrev pub wrong_name : {P F : Type 0} → (F → List ℕ) → Wrong P F → List ℕ

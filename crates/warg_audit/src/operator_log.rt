@@ -32,6 +32,7 @@ impl Audited for LogState {
             ValidationError::NoPreviousHashAfterInit => Some("NoPreviousHashAfterInit"),
             ValidationError::ProtocolVersionNotAllowed { .. } => Some("ProtocolVersionNotAllowed"),
             ValidationError::TimestampLowerThanPrevious => Some("TimestampLowerThanPrevious"),
+            ValidationError::EmptyGrant { .. } => Some("EmptyGrant"),
             ValidationError::InvalidNamespace { .. } => Some("InvalidNamespace"),
             ValidationError::NamespaceAlreadyDefined { .. } => Some("NamespaceAlreadyDefined"),
             ValidationError::OutOfMemory => None,

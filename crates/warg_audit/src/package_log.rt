@@ -48,6 +48,7 @@ impl Audited for LogState {
             ValidationError::NoPreviousHashAfterInit => Some("NoPreviousHashAfterInit"),
             ValidationError::ProtocolVersionNotAllowed { .. } => Some("ProtocolVersionNotAllowed"),
             ValidationError::TimestampLowerThanPrevious => Some("TimestampLowerThanPrevious"),
+            ValidationError::EmptyGrant { .. } => Some("EmptyGrant"),
             ValidationError::ReleaseOfReleased { .. } => Some("ReleaseOfReleased"),
             ValidationError::YankOfUnreleased { .. } => Some("YankOfUnreleased"),
             ValidationError::YankOfYanked { .. } => Some("YankOfYanked"),

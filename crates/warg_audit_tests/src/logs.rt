@@ -107,6 +107,8 @@ fn refuses_the_first_wrong_line(rt: HostRuntime) -> Result<(), Fail> {
         abg = refused 2 ProtobufEnvelope.Group
         a-c = refused 1 Contents.MissingTime
         aa = refused 1 NoPreviousHashAfterInit
+        ve = refused 1 EmptyGrant
+        v- = refused 1 Contents.MissingTime
     ";
     tell_logs(&rt, rt.alloc(), "package", lines, 1)
 }
@@ -118,6 +120,7 @@ fn refuses_operator_lines(rt: HostRuntime) -> Result<(), Fail> {
         ii = refused 1 NoPreviousHashAfterInit
         idd = refused 2 RecordHashDoesNotMatch
         idg = refused 2 ProtobufEnvelope.Group
+        wf = refused 1 EmptyGrant
     ";
     tell_logs(&rt, rt.alloc(), "operator", lines, 1)
 }

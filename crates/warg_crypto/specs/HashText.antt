@@ -16,6 +16,10 @@ use Rattle.warg_crypto.specs.declared.hash.AnyHashError.TheVariants as fault
 abbrev pub sha256_hash_of : List ℕ → AnyHash
 sha256_hash_of bytes = record { algorithm = Sha256; bytes = sha256 bytes }
 
+-- the name of an algorithm
+abbrev pub algorithm_text : HashAlgorithm → List ℕ
+algorithm_text Sha256 = codes "sha256"
+
 -- the algorithm that a text names
 abbrev pub algorithm_of : List ℕ → Result HashAlgorithm UnknownAlgorithm
 algorithm_of text = if bytes_eq text (codes "sha256") then Ok Sha256 else Err (record {})

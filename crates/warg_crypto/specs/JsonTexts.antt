@@ -1,21 +1,17 @@
 -- The JSON of the values that are written as their text.
-use Rattle.std.specs.Prelude.{ℕ, ◌≡◌, List, length, codes, Result}
+use Rattle.std.specs.Prelude.{ℕ, ◌≡◌, List, length, Result}
 use Rattle.base64.specs.GeneralPurpose as code
 use Rattle.hex.specs.Hex.{IsBytes}
 use Rattle.serde_json.specs.Data.{Data, string}
 use Rattle.warg_crypto.specs.declared.hash.AnyHash.{AnyHash}
 use Rattle.warg_crypto.specs.declared.hash.HashAlgorithm.{HashAlgorithm}
-use Rattle.warg_crypto.specs.declared.hash.HashAlgorithm.TheVariants.{Sha256}
 use Rattle.warg_crypto.specs.declared.json.error.JsonError.{JsonError}
-use Rattle.warg_crypto.specs.HashText.{algorithm_of, hash_of, hash_text}
+use Rattle.warg_crypto.specs.HashText.{algorithm_of, algorithm_text, hash_of, hash_text}
 use Rattle.warg_crypto.specs.Json.{◌>>=◌, or_bad_text, text_in, wrote}
 use Rattle.warg_crypto.specs.Tags.{IsName, Tag, tag_text}
 use Rattle.warg_crypto.specs.Keys.{public_key_of, signature_of}
 use Rattle.warg_crypto.specs.Times.{Time}
 use Rattle.warg_crypto.specs.TimeText.{time_of, time_text}
-
-abbrev pub algorithm_text : HashAlgorithm → List ℕ
-algorithm_text Sha256 = codes "sha256"
 
 abbrev pub algorithm_json : HashAlgorithm → Result Data JsonError
 algorithm_json a = wrote (string (algorithm_text a))

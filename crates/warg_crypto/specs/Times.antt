@@ -1,9 +1,13 @@
 -- Times: seconds since the epoch, and nanoseconds of the second that began then.
-use Rattle.std.specs.Prelude.{ℕ, ◌&&◌, ◌+ℤ◌, nat_eq, Bool, if◌then◌else◌, ℤ, pos, negsuc, unsigned_abs, int_le, Some, Result, Ok, Err, ◌≡◌, refl}
+use Rattle.std.specs.Prelude.{ℕ, ◌&&◌, ◌+ℤ◌, nat_eq, Bool, false, true, if◌then◌else◌, ℤ, pos, negsuc, unsigned_abs, int_le, List, ◌∷◌, ◌++◌, Some, Result, Ok, Err, ◌≡◌, refl}
 use Rattle.std.specs.declared.cmp.Ordering.{Ordering}
-use Rattle.std.specs.Ordering.{int_cmp, nat_cmp, int_eq, ordering_then, eq_by_cmp}
+use Rattle.std.specs.Ordering.{int_cmp, nat_cmp, int_eq, is_gt, ordering_then, eq_by_cmp}
 use Rattle.std.specs.Cmp.{IsEquivalence, IsTotalOrder, IsPartialOrder, on_equiv, on_total, then_total, po, both_tied, ties, unsigned_po, int_cmp_total, nat_cmp_total}
+use Rattle.std.specs.Cmp.Rules.{hashing}
+use Rattle.std.specs.Fmt.{decimal, signed_decimal}
+use Rattle.std.specs.Hash as fed
 use Rattle.std.specs.Int.{int_div_euclid, int_rem_euclid}
+use Rattle.std.proofs.Common.{rules}
 use Rattle.std.proofs.lemmas.Cmp.{and_equiv, int_eq_equiv, nat_eq_equiv}
 use Rattle.warg_crypto.specs.declared.time.TimeError.{TimeError}
 use Rattle.warg_crypto.specs.declared.time.TimeError.TheVariants as fault
@@ -34,6 +38,18 @@ same_time a b = int_eq a.seconds b.seconds && nat_eq a.nanos b.nanos
 abbrev pub time_cmp : Time → Time → Ordering
 time_cmp a b = ordering_then (int_cmp a.seconds b.seconds) (nat_cmp a.nanos b.nanos)
 
+-- the one time is not after the other
+abbrev pub IsNotAfter : Time → Time → Type 0
+IsNotAfter a b = is_gt (time_cmp a b) ≡ false
+
+-- what is printed: seconds, a dot, nanoseconds
+abbrev pub shown_time : Time → List ℕ
+shown_time t = signed_decimal t.seconds ++ 46 ∷ decimal t.nanos
+
+-- what a hasher is fed: seconds, then nanoseconds
+abbrev pub time_hash_input : Time → List (List ℕ)
+time_hash_input t = fed.i64 t.seconds ++ fed.u32 t.nanos
+
 pub same_time_equiv : IsEquivalence same_time
 same_time_equiv = and_equiv (on_equiv (λ (t : Time). t.seconds) int_eq_equiv) (on_equiv (λ (t : Time). t.nanos) nat_eq_equiv)
 
@@ -46,3 +62,9 @@ same_time-time_cmp a b = both_tied (int_eq a.seconds b.seconds) (nat_eq a.nanos 
 
 pub time_cmp_partial : IsPartialOrder same_time (λ a b. Some (time_cmp a b))
 time_cmp_partial = po time_cmp_total same_time-time_cmp
+
+alike : fed.Alike same_time time_hash_input
+alike = search (hashing, rules)
+
+pub time_hash_input-same_time : (a b : Time) → same_time a b ≡ true → time_hash_input a ≡ time_hash_input b
+time_hash_input-same_time = alike.fed

@@ -4,6 +4,7 @@ ghost use Rattle.std.specs.Prelude.{◌≡◌, ℕ, List, Result, IfOk};
 ghost use Rattle.warg_crypto.specs.Coding.{wire_error, key_error};
 ghost use Rattle.warg_crypto.specs.declared.coding.DecodeError.{DecodeError};
 ghost use Rattle.warg_crypto.specs.declared.coding.DecodeError.TheVariants as fault;
+ghost use Rattle.warg_crypto.specs.declared.coding.WireFault.TheVariants as wire;
 
 use crate::hash::AnyHashError;
 use crate::signing::KeyParseError;
@@ -54,6 +55,14 @@ pub enum WireFault {
     /// There was no memory for what was read.
     #[error("OutOfMemory")]
     OutOfMemory,
+}
+
+impl From<AllocError> for WireFault {
+    ghost from_gives = { λ _ e. e ≡ wire.OutOfMemory };
+
+    fn from(_error: AllocError) -> WireFault {
+        WireFault::OutOfMemory
+    }
 }
 
 /// Why bytes say no value.

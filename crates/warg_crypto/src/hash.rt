@@ -1,21 +1,24 @@
 //! Hash algorithms and hashes.
 
-ghost use Rattle.std.specs.Prelude.{◌≡◌, ◌%◌, ◌↔◌, codes, length, IsTrue, Some};
+ghost use Rattle.std.specs.Prelude.{◌≡◌, ◌%◌, ◌↔◌, length, string_bytes, IfOk, IsTrue, Some};
 ghost use Rattle.std.specs.List.{AllPass};
+ghost use Rattle.hex.specs.Hex.{IsBytes};
 ghost use Rattle.sha2.specs.Sha256.{sha256};
-ghost use Rattle.warg_crypto.specs.HashText.{algorithm_of};
+ghost use Rattle.warg_crypto.specs.HashText.{algorithm_of, algorithm_text};
 
 mod typed;
 
+use crate::ranges::byte_range;
 use hex::FromHex;
 use sha2::Digest;
+use std::alloc::{AllocError, Global};
 use std::fmt;
 use std::str::FromStr;
 use thiserror::Error;
 pub use typed::{Hash, Sha256, SupportedDigest};
 
 /// A hash algorithm.
-#[derive(Clone, Copy, Debug, PartialEq, Eq, Hash)]
+#[derive(Clone, Copy, Debug, PartialEq, Eq, PartialOrd, Ord, Hash)]
 pub enum HashAlgorithm {
     /// SHA-256 of FIPS 180-4.
     Sha256,
@@ -36,15 +39,24 @@ impl HashAlgorithm {
             HashAlgorithm::Sha256 => AnyHash::new(self, sha2::Sha256::digest(bytes)),
         }
     }
+
+    /// The name of the algorithm.
+    pub fn as_str(self) -> &'static str
+        ensures { result.now ≡ algorithm_text self }
+    {
+        match self {
+            HashAlgorithm::Sha256 => "sha256",
+        }
+    }
 }
 
 impl fmt::Display for HashAlgorithm {
-    ghost output = { λ _. Some (codes "sha256") };
+    ghost output = { λ a. Some (algorithm_text a) };
+
+    ghost styled_output = { λ a _. Some (algorithm_text a) };
 
     fn fmt<W: fmt::Write>(&self, f: &mut fmt::Formatter<W>) -> fmt::Result {
-        f.write_str(match self {
-            HashAlgorithm::Sha256 => "sha256",
-        })
+        f.write_str(self.as_str())
     }
 }
 
@@ -63,8 +75,9 @@ impl FromStr for HashAlgorithm {
 }
 
 /// A hash under its algorithm. Its text is the algorithm's name, a colon, and its bytes in
-/// lower-case hex digits; digits of either case are read.
-#[derive(Clone, Copy, Debug, PartialEq, Eq, Hash)]
+/// lower-case hex digits; digits of either case are read. Hashes are ordered by algorithm, then by
+/// bytes.
+#[derive(Clone, Copy, PartialEq, Eq, PartialOrd, Ord, Hash)]
 pub struct AnyHash {
     algorithm: HashAlgorithm,
     bytes: [u8; 32],
@@ -107,7 +120,9 @@ impl AnyHash {
     pub fn bytes(&self) -> &[u8]
         ensures value { result.now ≡ self.now.bytes }
         ensures len { length result.now ≡ 32 }
+        ensures are_bytes { IsBytes self.now.bytes }
     {
+        byte_range(&self.bytes);
         &self.bytes
     }
 }
@@ -124,6 +139,14 @@ impl AnyHash {
         let _ = hex::encode_to_slice(&self.bytes, digits);
         unsafe { str::from_utf8_unchecked(buffer) }
     }
+
+    /// The text of the hash.
+    pub fn to_text(&self, alloc: Global) -> Result<String, AllocError>
+        ensures { IfOk result (λ text. string_bytes text ≡ hash_text self.now) }
+    {
+        let mut buffer = [0u8; 71];
+        String::from_str(alloc, self.write_text(&mut buffer))
+    }
 }
 
 impl fmt::Display for AnyHash {
@@ -132,9 +155,22 @@ impl fmt::Display for AnyHash {
 
     ghost output = { λ h. Some (hash_text h) };
 
+    ghost styled_output = { λ h _. Some (hash_text h) };
+
     fn fmt<W: fmt::Write>(&self, f: &mut fmt::Formatter<W>) -> fmt::Result {
         let mut buffer = [0u8; 71];
         f.write_str(self.write_text(&mut buffer))
+    }
+}
+
+impl fmt::Debug for AnyHash {
+    ghost use Rattle.std.specs.Prelude.{Some};
+    ghost use Rattle.warg_crypto.specs.HashText.{hash_text};
+
+    ghost debug_output = { λ h. Some (hash_text h) };
+
+    fn fmt<W: fmt::Write>(&self, f: &mut fmt::Formatter<W>) -> fmt::Result {
+        fmt::Display::fmt(self, f)
     }
 }
 

@@ -1,4 +1,5 @@
-//! JSON of values, over `serde_json`'s `Value`.
+//! JSON of values, over `serde_json`'s `Value`. Who implements [`JsonValue`] for an own type finds
+//! what reads and puts members in [`members`], lists in [`lists`] and maps in [`maps`].
 
 ghost use Rattle.std.specs.Prelude.{◌≡◌, Ok, Result, IfOk, ⊤};
 ghost use Rattle.serde_json.specs.Data.{Data};
@@ -6,13 +7,13 @@ ghost use Rattle.serde_json.specs.View.{view};
 ghost use Rattle.warg_crypto.specs.declared.json.error.JsonError.{JsonError};
 ghost use Rattle.warg_crypto.specs.Json.{Gives, ReadsBack};
 
-pub mod error;
+mod error;
 pub mod laws;
 pub mod lists;
 pub mod maps;
 pub mod members;
-pub mod numbers;
-pub mod texts;
+mod numbers;
+mod texts;
 
 pub use error::{Incoherence, JsonError};
 use serde_json::Value;

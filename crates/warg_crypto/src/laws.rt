@@ -1,19 +1,36 @@
 //! Laws of the definitions, and of the types that rest on them.
 
-ghost use Rattle.std.specs.Prelude.{◌≡◌, ◌++◌, ◌<◌, ◌<ℤ◌, ◌≤◌, ◌⊎◌, ◌↔◌, ℕ, List, length, IfOk, IsTrue, true};
+ghost use Rattle.std.specs.Prelude.{◌≡◌, ◌++◌, ◌≤◌, ◌↔◌, ℕ, List, length, IfOk, Ok, true};
 ghost use Rattle.hex.specs.Hex.{IsBytes};
 ghost use Rattle.warg_crypto.specs.HashText.{hash_of, hash_text, IsHashText};
 ghost use Rattle.warg_crypto.specs.Keys.{public_key_of, signature_of};
 ghost use Rattle.warg_crypto.specs.Prefix.{IsLeb128, str_of, unsigned_of};
 ghost use Rattle.warg_crypto.specs.Tags.{IsKeyText, IsName, Tag, tag_text};
+ghost use Rattle.warg_crypto.specs.Times.{Time, shown_time};
+ghost use Rattle.warg_crypto.specs.TimeText.{time_text};
 ghost use Rattle.warg_crypto.specs.declared.hash.AnyHash.{AnyHash};
 
-use crate::hash::{AnyHash, Hash, SupportedDigest};
-use crate::signing::{KeyID, PublicKey, Signature};
-use crate::time::Timestamp;
+mod equality;
+mod hashing;
+mod order;
+mod texts;
+
+use crate::hash::{Hash, SupportedDigest};
 use crate::toy::{ToySigner, ToyVerifier};
 use crate::visit::VisitBytes;
+pub use equality::{
+    are_same_algorithms, are_same_decode_errors, are_same_hash_errors, are_same_hashes,
+    are_same_ids, are_same_incoherences, are_same_json_errors, are_same_key_errors, are_same_keys,
+    are_same_signature_errors, are_same_signature_parse_errors, are_same_signatures,
+    are_same_time_errors, are_same_times, are_same_typed_hashes, are_same_unknown_algorithms,
+    are_same_wire_faults,
+};
+pub use hashing::{feed_id, feed_key, feed_signature, feed_time};
+pub use order::{compare_algorithms, compare_hashes, compare_ids, compare_typed_hashes, is_before};
 use std::alloc::{AllocError, Global};
+pub use texts::{
+    print_algorithm, print_hash, print_id, print_key, print_signature, print_time, print_typed_hash,
+};
 
 /// What is written of a hash reads back.
 pub fn hash_reads_back()
@@ -87,44 +104,7 @@ pub fn str_is_no_beginning()
     ensures { (t u r s : List ℕ) → str_of t ++ r ≡ str_of u ++ s → (t ≡ u) × (r ≡ s) }
 {}
 
-/// `==` of hashes is equality of algorithm and bytes.
-pub fn are_same_hashes(a: &AnyHash, b: &AnyHash) -> bool
-    ensures { IsTrue result ↔ (a.now ≡ b.now) }
-{
-    a == b
-}
-
-/// `==` of key ids is equality of texts.
-pub fn are_same_ids(a: &KeyID, b: &KeyID) -> bool
-    ensures { IsTrue result ↔ (a.now ≡ b.now) }
-{
-    a == b
-}
-
-/// `==` of keys is equality of name and bytes.
-pub fn are_same_keys(a: &PublicKey, b: &PublicKey) -> bool
-    ensures { IsTrue result ↔ (a.now ≡ b.now) }
-{
-    a == b
-}
-
-/// `==` of signatures is equality of name and bytes.
-pub fn are_same_signatures(a: &Signature, b: &Signature) -> bool
-    ensures { IsTrue result ↔ (a.now ≡ b.now) }
-{
-    a == b
-}
-
-/// `==` of times is equality of seconds and nanoseconds.
-pub fn are_same_times(a: &Timestamp, b: &Timestamp) -> bool
-    ensures { IsTrue result ↔ (a.now ≡ b.now) }
-{
-    a == b
-}
-
-/// Times are ordered by seconds, then nanoseconds.
-pub fn is_before(a: &Timestamp, b: &Timestamp) -> bool
-    ensures { IsTrue result ↔ ((a.now.seconds <ℤ b.now.seconds) ⊎ ((a.now.seconds ≡ b.now.seconds) × (a.now.nanos < b.now.nanos))) }
-{
-    a < b
-}
+/// A time that has a text prints as that text.
+pub fn times_print_as_their_texts()
+    ensures { (time : Time) (text : List ℕ) → time_text time ≡ Ok text → shown_time time ≡ text }
+{}

@@ -7,6 +7,7 @@ ghost use Rattle.warg_crypto.specs.declared.signing.error.SignatureError.TheVari
 
 mod error;
 mod key;
+mod shown;
 mod signed;
 mod tagged;
 
@@ -15,8 +16,43 @@ pub use error::{KeyParseError, SignatureError, SignatureParseError};
 pub use key::{KeyID, PublicKey};
 pub use signed::Signature;
 use std::alloc::{AllocError, Global};
+pub use tagged::is_algorithm_name;
 
 /// Says whether a signature belongs to a message under a key.
+///
+/// The least impl says when one does, and tests it. Here a scheme whose signature is the message
+/// again ([`ToyVerifier`](crate::toy::ToyVerifier) is another):
+///
+/// ```
+/// ghost use Rattle.std.specs.Str.{bytes_eq};
+///
+/// struct EchoVerifier;
+///
+/// impl Verifier for EchoVerifier {
+///     ghost belongs = { λ _ key message signature. bytes_eq signature.bytes message };
+///
+///     fn verify(
+///         &self,
+///         _alloc: Global,
+///         _key: &PublicKey,
+///         message: &[u8],
+///         signature: &Signature,
+///     ) -> Result<(), SignatureError> {
+///         if signature.bytes() == message {
+///             Ok(())
+///         } else {
+///             Err(SignatureError::Refused)
+///         }
+///     }
+/// }
+/// ```
+///
+/// A clause of a function with a parameter `verifier: &V`, where `V: Verifier`, names the relation
+/// as `V.belongs`; a key and a signature are seen as their `name` and `bytes`:
+///
+/// ```
+/// ensures { IfOk result (λ _. V.belongs verifier.now key.now message.now signature.now ≡ true) }
+/// ```
 pub trait Verifier {
     // The signature belongs to the message under the key: key, message, signature.
     ghost belongs: { Self → Tag → List ℕ → Tag → Bool };
@@ -34,7 +70,42 @@ pub trait Verifier {
 }
 
 /// Signs messages by one key.
+///
+/// The least impl says which key that is, which signatures it gives for a message, and which
+/// messages it refuses, here none:
+///
+/// ```
+/// #[derive(Drop)]
+/// struct EchoSigner {
+///     key: PublicKey,
+/// }
+///
+/// impl Signer for EchoSigner {
+///     ghost key_of = { λ signer. signer.key };
+///
+///     ghost gives = { λ _ message signature. signature.bytes ≡ message };
+///
+///     ghost refuses = { λ _ _. ⊥ };
+///
+///     fn public_key(&self) -> &PublicKey {
+///         &self.key
+///     }
+///
+///     fn sign(&self, alloc: Global, message: &[u8]) -> Result<Signature, SignatureError> {
+///         let name = String::from_str(alloc, "echo")?;
+///         Ok(Signature::new(name, Vec::from_slice(alloc, message)?))
+///     }
+/// }
+/// ```
+///
+/// A clause of a function with a parameter `signer: &S`, where `S: Signer`, names them as `S.key_of`,
+/// `S.gives` and `S.refuses`:
+///
+/// ```
+/// ensures { IfOk result (λ signature. S.gives signer.now message.now signature) }
+/// ```
 pub trait Signer {
+    // The key that verifies what the signer gives.
     ghost key_of: { Self → Tag };
 
     // The signature is one that the signer gives for the message.

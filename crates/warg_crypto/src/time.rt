@@ -2,9 +2,12 @@
 
 ghost use Rattle.std.specs.Prelude.{◌≡◌, ◌<◌, Some, refl};
 ghost use Rattle.std.specs.Cmp.{partial_equiv_from_equiv};
-ghost use Rattle.warg_crypto.specs.Times.{Time, same_time, same_time-time_cmp, same_time_equiv, time_cmp, time_cmp_partial, time_cmp_total, time_from};
+ghost use Rattle.warg_crypto.specs.Times.{Time, same_time, same_time-time_cmp, same_time_equiv, shown_time, time_cmp, time_cmp_partial, time_cmp_total, time_from, time_hash_input, time_hash_input-same_time};
 
+use itoa::Buffer;
 use std::cmp::Ordering;
+use std::fmt;
+use std::hash::{Hash, Hasher};
 use std::marker::Model;
 use thiserror::Error;
 
@@ -22,7 +25,8 @@ pub enum TimeError {
 }
 
 /// A point in time: seconds since the epoch, 1970-01-01T00:00:00Z, and the nanoseconds of the
-/// second that began then, below 1_000_000_000.
+/// second that began then, below 1_000_000_000. It prints as both, with a dot between, without
+/// padding; its seconds may be negative. Times are ordered by seconds, then nanoseconds.
 #[derive(Clone, Copy, Debug)]
 pub struct Timestamp {
     seconds: i64,
@@ -115,7 +119,57 @@ impl Ord for Timestamp {
     }
 }
 
-/// Tells the time.
+impl Hash for Timestamp {
+    ghost hash_input = { time_hash_input };
+
+    ghost respects_eq = { time_hash_input-same_time };
+
+    fn hash<H: Hasher>(&self, state: &mut H) {
+        (self.seconds, self.nanos).hash(state);
+    }
+}
+
+impl fmt::Display for Timestamp {
+    ghost output = { λ t. Some (shown_time t) };
+
+    ghost styled_output = { λ t _. Some (shown_time t) };
+
+    fn fmt<W: fmt::Write>(&self, f: &mut fmt::Formatter<W>) -> fmt::Result {
+        let mut buffer = Buffer::new();
+        f.write_str(buffer.format(self.seconds))?;
+        f.write_str(".")?;
+        f.write_str(buffer.format(self.nanos))
+    }
+}
+
+/// Tells the time. The system's clock is one, as [`SystemClock`](crate::SystemClock).
+///
+/// The least impl says which time it tells, by the clock as it stood and as it stands then. Here a
+/// clock that ticks once a call:
+///
+/// ```
+/// #[derive(Drop)]
+/// struct Ticks {
+///     next: u32,
+/// }
+///
+/// impl Clock for Ticks {
+///     ghost tells = { λ before time after. time ≡ record { seconds = pos before.next; nanos = 0 } };
+///
+///     fn now(&mut self) -> Timestamp {
+///         let time = Timestamp::new(self.next as i64, 0);
+///         self.next = self.next.wrapping_add(1);
+///         time
+///     }
+/// }
+/// ```
+///
+/// A clause of a function with a parameter `clock: &mut C`, where `C: Clock`, names the time as
+/// `C.tells clock.old time clock.new`, with `Time` of `Rattle.warg_crypto.specs.Times`:
+///
+/// ```
+/// ensures { (time : Time) × C.tells clock.old time clock.new × (result ≡ time.seconds) }
+/// ```
 pub trait Clock {
     // A clock that stood as the first tells this time, and then stands as the second.
     ghost tells: { Self → Time → Self → Type 0 };

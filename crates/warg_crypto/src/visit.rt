@@ -6,6 +6,37 @@ ghost use Rattle.warg_crypto.specs.Visits.{Stops};
 use std::alloc::AllocError;
 
 /// Takes bytes in, piece by piece.
+///
+/// The least impl says which bytes a visitor has seen; `refuses` may be left out, and then says
+/// nothing. Here one that counts the bytes, and refuses those that it can't count:
+///
+/// ```
+/// #[derive(Drop)]
+/// struct Counter {
+///     count: usize,
+/// }
+///
+/// impl ByteVisitor for Counter {
+///     ghost seen = { λ counter m. counter.count ≡ length m };
+///
+///     fn visit_bytes(&mut self, bytes: &[u8]) -> Result<(), AllocError> {
+///         match self.count.checked_add(bytes.len()) {
+///             Some(count) => {
+///                 self.count = count;
+///                 Ok(())
+///             }
+///             None => Err(AllocError),
+///         }
+///     }
+/// }
+/// ```
+///
+/// A clause of a function with a parameter `visitor: &mut V`, where `V: ByteVisitor`, names what was
+/// seen as `V.seen`, and the bytes of a value of `T: VisitBytes` as `T.bytes_of`:
+///
+/// ```
+/// ensures { (m : List ℕ) → V.seen visitor.old m → OnOk result (V.seen visitor.new (m ++ T.bytes_of value.now)) }
+/// ```
 pub trait ByteVisitor {
     // The visitor has seen these bytes. A hasher does not store them.
     ghost seen: { Self → List ℕ → Type 0 };

@@ -1,6 +1,7 @@
 //! The texts of the errors: the names of their cases.
 
-use crate::values::is_shown;
+use crate::values::{is, is_shown};
+use std::alloc::AllocError;
 use warg_crypto::hash::{AnyHashError, UnknownAlgorithm};
 use warg_crypto::signing::{KeyParseError, SignatureError, SignatureParseError};
 use warg_crypto::{DecodeError, Incoherence, JsonError, TimeError, WireFault};
@@ -154,4 +155,24 @@ fn of_incoherent_states(rt: HostRuntime) {
         &Incoherence::PermissionsWithoutKey,
         "PermissionsWithoutKey",
     );
+}
+
+// Want of memory stays that.
+#[test]
+fn of_memory(rt: HostRuntime) {
+    is(
+        &rt,
+        KeyParseError::from(AllocError),
+        KeyParseError::OutOfMemory,
+    );
+    let signature = SignatureParseError::from(AllocError);
+    is(&rt, signature, SignatureParseError::OutOfMemory);
+    is(
+        &rt,
+        SignatureError::from(AllocError),
+        SignatureError::OutOfMemory,
+    );
+    is(&rt, WireFault::from(AllocError), WireFault::OutOfMemory);
+    is(&rt, DecodeError::from(AllocError), DecodeError::OutOfMemory);
+    is(&rt, JsonError::from(AllocError), JsonError::OutOfMemory);
 }

@@ -6,6 +6,8 @@ mod coding;
 #[cfg(test)]
 mod errors;
 #[cfg(test)]
+mod examples;
+#[cfg(test)]
 mod hashes;
 #[cfg(test)]
 mod json;
@@ -20,9 +22,15 @@ mod json_texts;
 #[cfg(test)]
 mod keys;
 #[cfg(test)]
+mod options;
+#[cfg(test)]
+mod order;
+#[cfg(test)]
 mod prefix;
 #[cfg(test)]
 mod signing;
+#[cfg(test)]
+mod system_clock;
 #[cfg(test)]
 mod times;
 #[cfg(test)]

@@ -1,10 +1,14 @@
 //! Values that are signed under a prefix of their kind.
 
+ghost use Rattle.std.specs.Prelude.{⊤};
+ghost use Rattle.warg_crypto.specs.Signed.{toy_belongs};
+
 use crate::values::{bytes, is};
 use std::alloc::{AllocError, Global};
+use std::cell::Cell;
 use std::process::Abort;
 use warg_crypto::hash::HashAlgorithm;
-use warg_crypto::signing::{Signature, SignatureError, Signer};
+use warg_crypto::signing::{PublicKey, Signature, SignatureError, Signer, Verifier};
 use warg_crypto::toy::{ToySigner, ToyVerifier};
 use warg_crypto::{Encode, Signable};
 
@@ -83,4 +87,104 @@ fn verified(rt: HostRuntime) {
     let signature = signed(&rt, alloc, &short_note(&rt, alloc));
     is_judged(&rt, alloc, b"x", &signature, Ok(()));
     is_judged(&rt, alloc, b"", &signature, Err(SignatureError::Refused));
+}
+
+// A signer that counts its messages, each of which has to be this one.
+#[derive(Drop)]
+struct CountingSigner<'a> {
+    signer: ToySigner,
+    message: &'a [u8],
+    calls: Cell<u32>,
+    others: Cell<u32>,
+}
+
+fn count(calls: &Cell<u32>) {
+    calls.set(calls.get().wrapping_add(1));
+}
+
+impl Signer for CountingSigner<'_> {
+    ghost key_of = { λ s. s.signer };
+
+    ghost gives = { λ _ _ _. ⊤ };
+
+    ghost refuses = { λ _ _. ⊤ };
+
+    fn public_key(&self) -> &PublicKey {
+        self.signer.public_key()
+    }
+
+    fn sign(&self, alloc: Global, message: &[u8]) -> Result<Signature, SignatureError> {
+        count(&self.calls);
+        if message != self.message {
+            count(&self.others);
+        }
+        self.signer.sign(alloc, message)
+    }
+}
+
+// A verifier that does the same.
+#[derive(Drop)]
+struct CountingVerifier<'a> {
+    message: &'a [u8],
+    calls: Cell<u32>,
+    others: Cell<u32>,
+}
+
+impl Verifier for CountingVerifier<'_> {
+    ghost belongs = { λ _ key message signature. toy_belongs key message signature };
+
+    fn verify(
+        &self,
+        alloc: Global,
+        key: &PublicKey,
+        message: &[u8],
+        signature: &Signature,
+    ) -> Result<(), SignatureError> {
+        count(&self.calls);
+        if message != self.message {
+            count(&self.others);
+        }
+        ToyVerifier.verify(alloc, key, message, signature)
+    }
+}
+
+#[test]
+fn signed_once(rt: HostRuntime) {
+    let alloc = rt.alloc();
+    let counting = CountingSigner {
+        signer: signer(&rt, alloc),
+        message: b"NOTE-SIGNATURE-V0:x",
+        calls: Cell::new(0),
+        others: Cell::new(0),
+    };
+    let signature = short_note(&rt, alloc).sign(alloc, &counting);
+    is(&rt, signature.is_ok(), true);
+    is(&rt, (counting.calls.get(), counting.others.get()), (1, 0));
+}
+
+fn verifies_once(
+    rt: &impl Abort,
+    alloc: Global,
+    content: &[u8],
+    message: &[u8],
+    want: Result<(), SignatureError>,
+) {
+    let counting = CountingVerifier {
+        message,
+        calls: Cell::new(0),
+        others: Cell::new(0),
+    };
+    let signature = signed(rt, alloc, &short_note(rt, alloc));
+    let signer = signer(rt, alloc);
+    let judged = Note::verify(alloc, &counting, signer.public_key(), content, &signature);
+    is(rt, judged, want);
+    is(rt, (counting.calls.get(), counting.others.get()), (1, 0));
+}
+
+#[test]
+fn verified_once(rt: HostRuntime) {
+    let alloc = rt.alloc();
+    verifies_once(&rt, alloc, b"x", b"NOTE-SIGNATURE-V0:x", Ok(()));
+    let refused = Err(SignatureError::Refused);
+    verifies_once(&rt, alloc, b"", b"NOTE-SIGNATURE-V0:", refused);
 }

@@ -55,10 +55,10 @@ head_and_prev None prev there h none = cc
 head_and_prev (Some head) None there h none = cc
 head_and_prev (Some head) (Some prev) there h none = cc
 
-same_item : {X : Type 0} (x y : X) → Some x ≡ Some y → x ≡ y
+pub same_item : {X : Type 0} (x y : X) → Some x ≡ Some y → x ≡ y
 same_item x y h = cc
 
-no_item : {X : Type 0} (n : ℕ) (x : X) → slice_get [] n ≡ Some x → ⊥
+pub no_item : {X : Type 0} (n : ℕ) (x : X) → slice_get [] n ≡ Some x → ⊥
 no_item n x h = cc
 
 -- Inits
@@ -72,15 +72,15 @@ inits-none (e ∷ h) each = ap (λ b. if b then e ∷ inits h else inits h) each
 
 module _ {P O V F : Type 0} (rules : Rules P O V F) (same : P → P → Bool) where
   -- what a record has that is lawful after a view
-  record IsLawful (b : Belief) (v : View P V) (r : SignedRecord P O) : Type 0 where
-    link : link_offence {P = P} v.head r.contents.prev ≡ None
-    time : time_offence {P = P} v.head r.contents.time ≡ None
-    events : events_offence rules same r.contents.version v.whole [] (record_events rules.id_of r) ≡ None
-    begun : is_some (whole_after rules same v.whole (record_events rules.id_of r)).authority.algorithm ≡ true
-    unsigned : unsigned_offence rules same v r ≡ None
-    signed : signer_offence b (whole_after rules same v.whole (record_events rules.id_of r)).authority r.sealed.key_id (signed_message rules.signing_prefix r.sealed.content) r.sealed.signature ≡ None
+  pub record IsLawful (b : Belief) (v : View P V) (r : SignedRecord P O) : Type 0 where
+    pub link : link_offence {P = P} v.head r.contents.prev ≡ None
+    pub time : time_offence {P = P} v.head r.contents.time ≡ None
+    pub events : events_offence rules same r.contents.version v.whole [] (record_events rules.id_of r) ≡ None
+    pub begun : is_some (whole_after rules same v.whole (record_events rules.id_of r)).authority.algorithm ≡ true
+    pub unsigned : unsigned_offence rules same v r ≡ None
+    pub signed : signer_offence b (whole_after rules same v.whole (record_events rules.id_of r)).authority r.sealed.key_id (signed_message rules.signing_prefix r.sealed.content) r.sealed.signature ≡ None
 
-  lawful : (b : Belief) (v : View P V) (r : SignedRecord P O) → record_offence rules same b v r ≡ None → IsLawful b v r
+  pub lawful : (b : Belief) (v : View P V) (r : SignedRecord P O) → record_offence rules same b v r ≡ None → IsLawful b v r
   lawful b v r h =
       let w = whole_after rules same v.whole (record_events rules.id_of r) in
       let link = option_map Wrong.Shared (link_offence v.head r.contents.prev) in
@@ -128,7 +128,7 @@ module _ {P O V F : Type 0} (rules : Rules P O V F) (same : P → P → Bool) wh
   begun_after version w x h = begun_entry rules same (λ content. Err content) (rules.after rules.start) version w x h
 
   -- the records of a log, each lawful after a view
-  abbrev AllLawfulRecords : Belief → View P V → List (SignedRecord P O) → Type 0
+  abbrev pub AllLawfulRecords : Belief → View P V → List (SignedRecord P O) → Type 0
   AllLawfulRecords b v rs = walk.AllLawful (after_record rules same) (record_offence rules same b) v rs
 
   module _ (b : Belief) where
@@ -155,7 +155,7 @@ module _ {P O V F : Type 0} (rules : Rules P O V F) (same : P → P → Bool) wh
     first_alone (q ∷ rs) h (suc n) r at = (λ none. absurd (later_prev (after_record rules same (start rules same) q) rs refl h.1 n r at none), λ zero. absurd (omega (arith, zero)))
 
     -- no entry after the first is an Init
-    later_entries : (version : ℕ) (w : Whole P V) (before events : List (Event (Reading P O))) → is_some (whole_after rules same w before).authority.algorithm ≡ true → events_offence rules same version w before events ≡ None → AllByRecursion (λ e. is_init e.entry ≡ false) events
+    pub later_entries : (version : ℕ) (w : Whole P V) (before events : List (Event (Reading P O))) → is_some (whole_after rules same w before).authority.algorithm ≡ true → events_offence rules same version w before events ≡ None → AllByRecursion (λ e. is_init e.entry ≡ false) events
     later_entries version w before [] begun h = tt
     later_entries version w before (e ∷ events) begun h =
         let here = or_first (entry_offence rules same version (whole_after rules same w before) e.signer e.entry) _ h in
@@ -209,7 +209,7 @@ module _ {P O V F D : Type 0} (rules : Rules P O V F) (same : P → P → Bool) 
   abbrev record_of : Letter → SignedRecord P O
   record_of e = opened rules same read e
 
-  lawful_records : (v : View P V) (es : List Letter) → AllLawful (kind_of rules same read matter) b v es → AllLawfulRecords rules same b v (map record_of es)
+  pub lawful_records : (v : View P V) (es : List Letter) → AllLawful (kind_of rules same read matter) b v es → AllLawfulRecords rules same b v (map record_of es)
   lawful_records v [] h = tt
   lawful_records v (e ∷ es) h = (read_lawful rules same read matter b v e (read e.content) h.0, lawful_records (after_record rules same v (record_of e)) es h.1)
 
@@ -227,7 +227,7 @@ module _ {P O V F D : Type 0} (rules : Rules P O V F) (same : P → P → Bool) 
   coherent v (e ∷ es) c h =
       let r = record_of e in
       let l = lawful rules same b v r (read_lawful rules same read matter b v e (read e.content) h.0) in
-      coherent (after_record rules same v r) es (record-coherent rules same b v r (whole_after rules same v.whole (record_events rules.id_of r)) refl l.unsigned (head_of rules.id_of r) c l.signed) h.1
+      coherent (after_record rules same v r) es (record-coherent rules same b v r (whole_after rules same v.whole (record_events rules.id_of r)) refl l.unsigned (head_of rules.id_of r) refl c l.signed) h.1
 
   module _ (laws : KindLaws (kind_of rules same read matter)) where
     -- the contents of accepted letters are records

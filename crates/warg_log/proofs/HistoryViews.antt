@@ -5,16 +5,15 @@ use Rattle.std.specs.List.{filter_map, last_or, list_any, cons_option, flat_map,
 use Rattle.std.specs.Option.{option_map, option_and_then}
 use Rattle.std.proofs.lemmas.List.Elements.{filter_map-append}
 use Rattle.std.proofs.lemmas.List.Concat.{flat_map-append, flat_map-cons}
-use Rattle.std.proofs.lemmas.Bool.{eqb-true}
 use Rattle.warg_validator.specs.Walks.{view_after, AllLawful, IsStepwise}
 use Rattle.warg_crypto.specs.Tags.{Tag}
 use Rattle.warg_log.specs.Acts.{Deed, after, nothing, deed_on, enters, deed_key, deed_algorithm}
 use Rattle.warg_records.specs.Readings.{Reading}
 use Rattle.warg_log.specs.History.{SignedRecord, Event, View, Whole, Wrong, Rules, deed_in, deed_of, own_of, events_of, record_events, head_of, whole_after, start, entry_offence, entry_fault, events_offence, unsigned_offence, record_offence, after_record}
-use Rattle.warg_log.specs.Offences.{Offence, lacks_required, not_begun, ProtocolVersionNotAllowed}
+use Rattle.warg_log.specs.Offences.{lacks_required, not_begun}
 use Rattle.warg_log.specs.Records.{link_offence, version_offence, time_offence}
 use Rattle.warg_log.specs.Histories.{Placed, placed_in, record_history, history_of, reading_on, reading_enters, reading_key, reading_algorithm, standing_of, owns, view_of, own_after, own_offence}
-use Rattle.warg_log.proofs.Firsts.{or_first, or_second, unmapped, unless_holds}
+use Rattle.warg_log.proofs.Firsts.{or_first, or_second, unmapped}
 use Rattle.warg_log.proofs.ActLaws.{same_standing, after-append, map-join}
 use Rattle.warg_records.specs.declared.registry.record_id.RecordId.{RecordId}
 use Rattle.warg_crypto.specs.Times.{Time}
@@ -131,28 +130,28 @@ module _ {P O V F : Type 0} (rules : Rules P O V F) (same : P → P → Bool) (n
   lawful-join v (e ∷ es) fs h g = (h.0, lawful-join (rules.after v (e ∷ [])) es fs h.1 (subst (λ u. Lawful u fs) (append v (e ∷ []) es) g))
 
   -- an event more: what its own entry adds
-  lawful-entry : (w : Whole P V) (signer : List ℕ) (time : Time) (id : RecordId) (r : Reading P O) (fs : List (Event O)) → entry_offence rules same 0 w signer r ≡ None
+  lawful-entry : (version : ℕ) (w : Whole P V) (signer : List ℕ) (time : Time) (id : RecordId) (r : Reading P O) (fs : List (Event O)) → entry_offence rules same version w signer r ≡ None
       → Lawful (rules.after w.matter (cons_option (own_of (event_in rules.id_of signer time id r)) [])) fs → Lawful w.matter (cons_option (own_of (event_in rules.id_of signer time id r)) fs)
-  lawful-entry w signer time id (Reading.Shared act) fs h g = subst (λ u. Lawful u fs) (sym (none w.matter)) g
-  lawful-entry w signer time id (Reading.Own o) fs h g =
-      let own = or_second (option_map Wrong.Shared (lacks_required w.authority signer (rules.required (Reading.Own o)))) (entry_fault rules same 0 w signer (Reading.Own o)) h in
-      (unmapped Wrong.Own (rules.offence 0 w.matter o) (or_second (option_map Wrong.Shared (not_begun w.authority)) (option_map Wrong.Own (rules.offence 0 w.matter o)) own), g)
+  lawful-entry version w signer time id (Reading.Shared act) fs h g = subst (λ u. Lawful u fs) (sym (none w.matter)) g
+  lawful-entry version w signer time id (Reading.Own o) fs h g =
+      let own = or_second (option_map Wrong.Shared (lacks_required w.authority signer (rules.required (Reading.Own o)))) (entry_fault rules same version w signer (Reading.Own o)) h in
+      (unmapped Wrong.Own (rules.offence w.matter o) (or_second (option_map Wrong.Shared (not_begun w.authority)) (option_map Wrong.Own (rules.offence w.matter o)) own), g)
 
   matter_push : (v : V) (before : List (Event (Reading P O))) (e : Event (Reading P O)) → rules.after v (filter_map own_of (before ++ e ∷ [])) ≡ rules.after (rules.after v (filter_map own_of before)) (cons_option (own_of e) [])
   matter_push v before e = ap (rules.after v) (filter_map-append own_of before (e ∷ [])) ∙ append v (filter_map own_of before) (cons_option (own_of e) [])
 
   -- the own events of a record without offence are lawful
-  lawful-events : (w : Whole P V) (before events : List (Event (Reading P O))) → events_offence rules same 0 w before events ≡ None → Lawful (rules.after w.matter (filter_map own_of before)) (filter_map own_of events)
-  lawful-events w before [] h = tt
-  lawful-events w before (e ∷ es) h =
-      let here = entry_offence rules same 0 (whole_after rules same w before) e.signer e.entry in
-      let later = events_offence rules same 0 w (before ++ e ∷ []) es in
-      let rest = lawful-events w (before ++ e ∷ []) es (or_second here later h) in
-      lawful-entry (whole_after rules same w before) e.signer e.time e.record_id e.entry (filter_map own_of es) (or_first here later h)
+  lawful-events : (version : ℕ) (w : Whole P V) (before events : List (Event (Reading P O))) → events_offence rules same version w before events ≡ None → Lawful (rules.after w.matter (filter_map own_of before)) (filter_map own_of events)
+  lawful-events version w before [] h = tt
+  lawful-events version w before (e ∷ es) h =
+      let here = entry_offence rules same version (whole_after rules same w before) e.signer e.entry in
+      let later = events_offence rules same version w (before ++ e ∷ []) es in
+      let rest = lawful-events version w (before ++ e ∷ []) es (or_second here later h) in
+      lawful-entry version (whole_after rules same w before) e.signer e.time e.record_id e.entry (filter_map own_of es) (or_first here later h)
       (subst (λ v. Lawful v (filter_map own_of es)) (matter_push w.matter before e) rest)
 
   -- of a record without offence no event has one
-  events-none : (v : View P V) (r : SignedRecord P O) (belongs : Tag → List ℕ → Tag → Bool) → record_offence rules same belongs v r ≡ None → events_offence rules same 0 v.whole [] (record_events rules.id_of r) ≡ None
+  events-none : (v : View P V) (r : SignedRecord P O) (belongs : Tag → List ℕ → Tag → Bool) → record_offence rules same belongs v r ≡ None → events_offence rules same r.contents.version v.whole [] (record_events rules.id_of r) ≡ None
   events-none v r belongs h =
       let w = whole_after rules same v.whole (record_events rules.id_of r) in
       let link = option_map Wrong.Shared (link_offence v.head r.contents.prev) in
@@ -161,8 +160,7 @@ module _ {P O V F : Type 0} (rules : Rules P O V F) (same : P → P → Bool) (n
       let events = events_offence rules same r.contents.version v.whole [] (record_events rules.id_of r) in
       let all = or_first (unsigned_offence rules same v r) _ h in
       let checks = or_second link _ all in
-      let first : r.contents.version ≡ 0 = eqb-true r.contents.version 0 (unless_holds {O = Offence P} _ (ProtocolVersionNotAllowed r.contents.version) (unmapped Wrong.Shared _ (or_first version _ checks))) in
-      ap (λ n. events_offence rules same n v.whole [] (record_events rules.id_of r)) (sym first) ∙ or_first events _ (or_second time _ (or_second version _ checks))
+      or_first events _ (or_second time _ (or_second version _ checks))
 
   module _ (belongs : Tag → List ℕ → Tag → Bool) (matter : List (Event O) → V) (by_list : (es : List (Event O)) → AllLawful (own_after rules) (own_offence rules) rules.start es → matter es ≡ rules.after rules.start es) where
     abbrev pub Good : List (SignedRecord P O) → Type 0
@@ -171,7 +169,7 @@ module _ {P O V F : Type 0} (rules : Rules P O V F) (same : P → P → Bool) (n
     lawful-record : (rs : List (SignedRecord P O)) (r : SignedRecord P O) → Good rs → record_offence rules same belongs (view_of rules same matter rs) r ≡ None → Lawful rules.start (filter_map own_of (flat_map (record_events rules.id_of) rs) ++ filter_map own_of (record_events rules.id_of r))
     lawful-record rs r good h =
         let v = view_of rules same matter rs in
-        let here = lawful-events v.whole [] (record_events rules.id_of r) (events-none v r belongs h) in
+        let here = lawful-events r.contents.version v.whole [] (record_events rules.id_of r) (events-none v r belongs h) in
         let at : rules.after v.whole.matter [] ≡ rules.after rules.start (filter_map own_of (flat_map (record_events rules.id_of) rs)) = sym (none v.whole.matter) ∙ by_list (owns (history_of rules.id_of rs)) good ∙ ap (rules.after rules.start) (owns_is rules.id_of rs) in
         lawful-join rules.start (filter_map own_of (flat_map (record_events rules.id_of) rs)) (filter_map own_of (record_events rules.id_of r))
         (subst (Lawful rules.start) (owns_is rules.id_of rs) good)

@@ -16,3 +16,4 @@ pub mod KindLaws
 pub mod NextLaws
 pub mod SameLaws
 pub mod FormLaws
+pub mod AdmissionLaws

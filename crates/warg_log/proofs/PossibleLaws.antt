@@ -1,6 +1,6 @@
 -- What is wrong with a record is an offence that a record may have.
 use Rattle.std.proofs.Common.{◌≡◌, ℕ, List, [], ◌∷◌, ◌++◌, Bool, true, false, Option, Some, None, refl}
-use Rattle.std.specs.Prelude.{IfSome, is_some, is_none, not, ◌||◌}
+use Rattle.std.specs.Prelude.{IfSome, ◌==◌, is_some, is_none, not, ◌||◌}
 use Rattle.std.specs.Option.{option_map, option_or, option_map_or}
 use Rattle.std.specs.Str.{bytes_eq}
 use Rattle.warg_crypto.specs.Tags.{Tag, fingerprint_of}
@@ -11,7 +11,7 @@ use Rattle.warg_records.specs.Readings.{Reading, Act, Init, GrantFlat, RevokeFla
 use Rattle.warg_records.specs.declared.registry.record_id.RecordId.{RecordId}
 use Rattle.warg_log.specs.Acts.{Standing}
 use Rattle.warg_log.specs.History.{Rules, Wrong, Whole, View, SignedRecord, Event, whole_after, record_events, entry_fault, entry_offence, events_offence, unsigned_offence, record_offence}
-use Rattle.warg_log.specs.Offences.{Offence, unless, not_begun, lacks_required, unauthorized, act_offence, InitialRecordDoesNotInit, KeyIDNotRecognized, UnauthorizedAction, PermissionNotFoundToRevoke, WrongSignature}
+use Rattle.warg_log.specs.Offences.{Offence, unless, not_begun, empty_grant, lacks_required, unauthorized, act_offence, InitialRecordDoesNotInit, KeyIDNotRecognized, UnauthorizedAction, PermissionNotFoundToRevoke, WrongSignature}
 use Rattle.warg_log.specs.Records.{link_offence, version_offence, time_offence, same_id}
 use Rattle.warg_log.specs.Rights.{first_missing}
 use Rattle.warg_log.specs.Possible.{may_be_told, IsPossible}
@@ -43,10 +43,14 @@ module _ {P : Type 0} where
   listed : (s : Standing P) (k : List ℕ) (ps : List P) → MayBe (unauthorized s k ps)
   listed s k ps = mapped (UnauthorizedAction k) (λ p. refl) _
 
-  act : (by_own_key : Bool) (same : P → P → Bool) (s : Standing P) (signer : List ℕ) (a : Act P) → MayBe (act_offence by_own_key same s signer a)
-  act by_own_key same s signer (Init algorithm key) = either _ _ (tested (is_none s.algorithm) _ refl) (tested (not by_own_key || bytes_eq signer (fingerprint_of key)) _ refl)
-  act by_own_key same s signer (GrantFlat key ps) = either _ _ (begun s) (listed s signer ps)
-  act by_own_key same s signer (RevokeFlat id ps) =
+  empty : (version : ℕ) (k : List ℕ) (ps : List P) → MayBe (empty_grant version k ps)
+  empty version k [] = tested (version == 0) _ refl
+  empty version k (p ∷ ps) = tt
+
+  act : (by_own_key : Bool) (version : ℕ) (same : P → P → Bool) (s : Standing P) (signer : List ℕ) (a : Act P) → MayBe (act_offence by_own_key version same s signer a)
+  act by_own_key version same s signer (Init algorithm key) = either _ _ (tested (is_none s.algorithm) _ refl) (tested (not by_own_key || bytes_eq signer (fingerprint_of key)) _ refl)
+  act by_own_key version same s signer (GrantFlat key ps) = either _ _ (begun s) (either _ _ (empty version (fingerprint_of key) ps) (listed s signer ps))
+  act by_own_key version same s signer (RevokeFlat id ps) =
       either _ _ (begun s) (either _ _ (listed s signer ps) (mapped (λ p. PermissionNotFoundToRevoke p id) (λ p. refl) (first_missing same (s.holds id) [] ps)))
 
 -- of the checks that name no permission
@@ -58,7 +62,8 @@ module _ (P : Type 0) where
   link (Some head) (Some prev) = tested (same_id prev head.digest) _ refl
 
   version : (head : Option Head) (n : ℕ) → MayBe {P = P} (version_offence head n)
-  version head n = tested _ _ refl
+  version None n = tested _ _ refl
+  version (Some head) n = tested _ _ refl
 
   time : (head : Option Head) (t : Time) → MayBe {P = P} (time_offence head t)
   time None t = tt
@@ -86,8 +91,8 @@ module _ {P O V F : Type 0} (rules : Rules P O V F) (same : P → P → Bool) wh
   own (Some x) = tt
 
   fault : (n : ℕ) (w : Whole P V) (signer : List ℕ) (r : Reading P O) → Possible (entry_fault rules same n w signer r)
-  fault n w signer (Reading.Shared a) = shared _ (act (rules.by_own_key n) same w.authority signer a)
-  fault n w signer (Reading.Own o) = first _ _ (shared _ (begun w.authority)) (own (rules.offence n w.matter o))
+  fault n w signer (Reading.Shared a) = shared _ (act (rules.by_own_key n) n same w.authority signer a)
+  fault n w signer (Reading.Own o) = first _ _ (shared _ (begun w.authority)) (own (rules.offence w.matter o))
 
   entry : (n : ℕ) (w : Whole P V) (signer : List ℕ) (r : Reading P O) → Possible (entry_offence rules same n w signer r)
   entry n w signer r = first _ _ (shared _ (required w.authority signer (rules.required r))) (fault n w signer r)

@@ -19,6 +19,7 @@ module _ {P : Type 0} where
   told_back refusal.NoPreviousHashAfterInit = refl
   told_back (refusal.ProtocolVersionNotAllowed n) = refl
   told_back refusal.TimestampLowerThanPrevious = refl
+  told_back (refusal.EmptyGrant k) = refl
   told_back refusal.OutOfMemory = refl
 
   pub told-apart : (r s : Refusal P) → offence_of r ≡ offence_of s → r ≡ s

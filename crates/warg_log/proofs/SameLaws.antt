@@ -17,11 +17,11 @@ use Rattle.warg_log.specs.Equal.{IsSame}
 use Rattle.warg_log.specs.declared.head.Head.{Head}
 
 module _ {P O V F D : Type 0} (rules : Rules P O V F) (same : P → P → Bool) (read : List ℕ → Result (Said P O) D) (matter : List (Event O) → V) (alike : V → V → Type 0)
-    (alike_offence : (v w : V) → alike v w → (version : ℕ) (o : O) → rules.offence version v o ≡ rules.offence version w o)
+    (alike_offence : (v w : V) → alike v w → (o : O) → rules.offence v o ≡ rules.offence w o)
     (alike_after : (v w : V) → alike v w → (xs : List (Event O)) → alike (rules.after v xs) (rules.after w xs)) where
   fault-same : (version : ℕ) (u w : Whole P V) → u.authority ≡ w.authority → alike u.matter w.matter → (signer : List ℕ) (r : Reading P O) → entry_fault rules same version u signer r ≡ entry_fault rules same version w signer r
-  fault-same version u w a m signer (Reading.Shared act) = λ i. option_map Wrong.Shared (act_offence (rules.by_own_key version) same (a i) signer act)
-  fault-same version u w a m signer (Reading.Own o) = λ i. option_or (option_map Wrong.Shared (not_begun (a i))) (option_map Wrong.Own (alike_offence u.matter w.matter m version o i))
+  fault-same version u w a m signer (Reading.Shared act) = λ i. option_map Wrong.Shared (act_offence (rules.by_own_key version) version same (a i) signer act)
+  fault-same version u w a m signer (Reading.Own o) = λ i. option_or (option_map Wrong.Shared (not_begun (a i))) (option_map Wrong.Own (alike_offence u.matter w.matter m o i))
 
   entry-same : (version : ℕ) (u w : Whole P V) → u.authority ≡ w.authority → alike u.matter w.matter → (signer : List ℕ) (r : Reading P O) → entry_offence rules same version u signer r ≡ entry_offence rules same version w signer r
   entry-same version u w a m signer r = λ i. option_or (option_map Wrong.Shared (lacks_required (a i) signer (rules.required r))) (fault-same version u w a m signer r i)

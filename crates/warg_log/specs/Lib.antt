@@ -13,6 +13,7 @@ pub mod Histories
 pub mod Forms
 pub mod Listings
 pub mod LogKind
+pub mod Admissions
 pub mod Steps
 pub mod Equal
 pub mod EqualLaws

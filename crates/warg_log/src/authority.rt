@@ -2,10 +2,10 @@
 ghost use Rattle.std.specs.Prelude.{◌≡◌, ℕ, List, [], ◌∷◌, true, OnOk, IfOk, IfSome, is_some, if◌then◌else◌, map};
 ghost use Rattle.std.specs.Cmp.{partial_equiv_from_equiv};
 ghost use Rattle.std.specs.Str.{bytes_eq};
-ghost use Rattle.std.specs.Option.{option_or, option_copied, option_eq};
+ghost use Rattle.std.specs.Option.{option_copied, option_eq};
 ghost use Rattle.indexmap.specs.IndexSet.{contains};
 ghost use Rattle.indexmap.specs.IndexMap.{get};
-ghost use Rattle.warg_crypto.specs.Tags.{same_tag};
+ghost use Rattle.warg_crypto.specs.Tags.{same_tag, fingerprint_of};
 ghost use Rattle.warg_log.specs.Permissions.{lists};
 ghost use Rattle.warg_records.specs.Readings.{Init, GrantFlat, RevokeFlat};
 ghost use Rattle.warg_log.specs.Acts.{after, nothing};
@@ -13,7 +13,7 @@ ghost use Rattle.warg_log.specs.Contents.{standing};
 ghost use Rattle.warg_log.specs.Equal.{same_contents, same_maps, same_sets, same_algorithm};
 ghost use Rattle.warg_log.specs.EqualLaws.{contents_equiv};
 ghost use Rattle.warg_log.specs.Judging.{Judges};
-ghost use Rattle.warg_log.specs.Offences.{offence_of, unauthorized, lacks, lacks_required, not_begun, act_offence};
+ghost use Rattle.warg_log.specs.Offences.{offence_of, unauthorized, lacks, lacks_required, not_begun, empty_grant, init_offence, grant_offence, revoke_offence};
 
 use warg_records::LogPermission;
 use crate::refusal::Refusal;
@@ -143,7 +143,7 @@ impl<P: LogPermission> Authority<P> {
         key: &PublicKey,
     ) -> Result<(), Refusal<P>>
         requires { (p : P) → lists P.eq all.now p ≡ true }
-        ensures judges { Judges offence_of (act_offence by_own_key P.eq (standing P.eq self.old) signer.now (Init hash_algorithm key.now)) result }
+        ensures judges { Judges offence_of (init_offence by_own_key (standing P.eq self.old) signer.now key.now) result }
         ensures after { OnOk result (standing P.eq self.new ≡ after P.eq (standing P.eq self.old)
             (record { signer = signer.now; act = Init hash_algorithm key.now } ∷ [])) }
     {
@@ -162,18 +162,37 @@ impl<P: LogPermission> Authority<P> {
         Ok(())
     }
 
-    /// Checks a GrantFlat and applies it.
+    /// Refuses a grant of no permission to the key, but in a record of version 0.
+    fn check_grant(
+        &self,
+        version: u32,
+        key: &PublicKey,
+        permissions: &[P],
+    ) -> Result<(), Refusal<P>>
+        ensures { Judges offence_of (empty_grant version (fingerprint_of key.now) permissions.now) result }
+    {
+        if version != 0 && permissions.is_empty() {
+            return Err(Refusal::EmptyGrant {
+                key_id: key.fingerprint(self.alloc)?,
+            });
+        }
+        Ok(())
+    }
+
+    /// Checks a GrantFlat of a record of this version and applies it.
     pub fn grant(
         &mut self,
+        version: u32,
         signer: &KeyID,
         key: &PublicKey,
         permissions: &[P],
     ) -> Result<(), Refusal<P>>
-        ensures judges { Judges offence_of (option_or (not_begun (standing P.eq self.old)) (unauthorized (standing P.eq self.old) signer.now permissions.now)) result }
+        ensures judges { Judges offence_of (grant_offence version (standing P.eq self.old) signer.now key.now permissions.now) result }
         ensures after { OnOk result (standing P.eq self.new ≡ after P.eq (standing P.eq self.old)
             (record { signer = signer.now; act = GrantFlat key.now permissions.now } ∷ [])) }
     {
         self.check_begun()?;
+        self.check_grant(version, key, permissions)?;
         self.check_permissions(signer, permissions)?;
         let key_id = key.fingerprint(self.alloc)?;
         insert_key(&mut self.keys, key_id.clone()?, key.clone()?)?;
@@ -188,7 +207,7 @@ impl<P: LogPermission> Authority<P> {
         key_id: &KeyID,
         permissions: &[P],
     ) -> Result<(), Refusal<P>>
-        ensures judges { Judges offence_of (act_offence true P.eq (standing P.eq self.old) signer.now (RevokeFlat key_id.now permissions.now)) result }
+        ensures judges { Judges offence_of (revoke_offence P.eq (standing P.eq self.old) signer.now key_id.now permissions.now) result }
         ensures after { OnOk result (standing P.eq self.new ≡ after P.eq (standing P.eq self.old)
             (record { signer = signer.now; act = RevokeFlat key_id.now permissions.now } ∷ [])) }
     {

@@ -7,6 +7,7 @@ ghost use Rattle.warg_validator.specs.declared.effect.Effect.TheVariants.{Gives}
 ghost use Rattle.warg_validator.specs.Effects as effects;
 ghost use Rattle.warg_validator.specs.Effects.{GivesWhatIsHeld};
 ghost use Rattle.warg_validator.specs.Kinds.{Belief, KindLaws, view_after, IsAccepted};
+ghost use Rattle.warg_log.specs.Admissions.{NoKeyBringsItselfIn};
 ghost use Rattle.warg_log.specs.Contents.{Contents};
 ghost use Rattle.warg_log.specs.Equal.{IsSame, same_states};
 ghost use Rattle.warg_log.specs.Forms.{HasForm};
@@ -79,4 +80,14 @@ pub fn form<M: Matter>()
         (b : Belief) (es : List Letter) → IsAccepted (kind_of M.rules M.Permission.eq read matter) b es → All (λ e. IsOk (read e.content)) es }
     ensures form { (read : List ℕ → Result (Said M.Permission M.Own) RecordFault) (matter : List (Event M.Own) → M.View) → KindLaws (kind_of M.rules M.Permission.eq read matter) →
         (b : Belief) (es : List Letter) → 0 < length es → IsAccepted (kind_of M.rules M.Permission.eq read matter) b es → HasForm M.rules.id_of (map (opened M.rules M.Permission.eq read) es) }
+{}
+
+/// In an accepted log whose records all have version 1 no key brings itself in: each signer signed the
+/// first record, or an entry of an earlier record grants a permission to a key whose fingerprint is the
+/// signer's id. That is so in each kind that asks the signer of an Init of version 1 to own its key,
+/// whatever content bytes are read as.
+pub fn no_key_brings_itself_in<M: Matter>()
+    ensures { M.rules.by_own_key 1 ≡ true → (read : List ℕ → Result (Said M.Permission M.Own) RecordFault) (matter : List (Event M.Own) → M.View) → KindLaws (kind_of M.rules M.Permission.eq read matter) →
+        (b : Belief) (es : List Letter) → IsAccepted (kind_of M.rules M.Permission.eq read matter) b es → All (λ r. r.contents.version ≡ 1) (map (opened M.rules M.Permission.eq read) es) →
+        NoKeyBringsItselfIn (map (opened M.rules M.Permission.eq read) es) }
 {}

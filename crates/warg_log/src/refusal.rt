@@ -56,6 +56,11 @@ pub enum Refusal<P> {
     },
     /// The record is older than its predecessor.
     TimestampLowerThanPrevious,
+    /// The entry grants the key no permission; a record of version 0 may.
+    EmptyGrant {
+        /// The id of the key that it names.
+        key_id: KeyID,
+    },
     /// There was no memory left. Says nothing of the record.
     OutOfMemory,
 }

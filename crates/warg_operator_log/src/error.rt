@@ -90,6 +90,12 @@ pub enum ValidationError {
     /// The record is older than the log's last.
     #[error("record has lower timestamp than previous")]
     TimestampLowerThanPrevious,
+    /// The entry grants the key no permission, in a record of version 1.
+    #[error("an entry granted no permission to key {key_id}")]
+    EmptyGrant {
+        /// The id of the key that it names.
+        key_id: KeyID,
+    },
     /// The name is not one or more words of lower-case letters and digits, each beginning with a
     /// letter, joined by single hyphens.
     #[error("the namespace `{namespace}` is invalid; namespace must be a lowercased kebab case string")]
@@ -168,6 +174,7 @@ impl From<Refusal<Permission>> for ValidationError {
                 ValidationError::ProtocolVersionNotAllowed { version }
             }
             Refusal::TimestampLowerThanPrevious => ValidationError::TimestampLowerThanPrevious,
+            Refusal::EmptyGrant { key_id } => ValidationError::EmptyGrant { key_id },
             Refusal::OutOfMemory => ValidationError::OutOfMemory,
         }
     }

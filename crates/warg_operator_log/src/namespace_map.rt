@@ -139,8 +139,8 @@ impl Matter for NamespaceMap {
         copy_namespaces(self)
     }
 
-    fn by_own_key(_version: u32) -> bool {
-        false
+    fn by_own_key(version: u32) -> bool {
+        version != 0
     }
 
     fn parts(contents: &OperatorRecord) -> Parts<'_, OperatorEntry> {
@@ -184,7 +184,6 @@ impl Matter for NamespaceMap {
 
     fn apply(
         &mut self,
-        _version: u32,
         entry: &OperatorEntry,
         _signer: &KeyID,
         _timestamp: Timestamp,

@@ -23,9 +23,9 @@ find-turned ys v (r ∷ rs) = ap (cond (same_parts v r.version) (Some (turned ys
 find-after : (rs : List ReleaseView) (es : List (Event PackageAct)) (v : Parts) → find_parts (releases_after rs es) v ≡ option_or (option_map (turned es) (find_parts rs v)) (find_parts (released es) v)
 find-after rs es v = find-append (λ r. same_parts v r.version) (map (turned es) rs) (released es) ∙ ap (λ o. option_or o (find_parts (released es) v)) (find-turned es v rs)
 
-pub alike_offence : (rs qs : List ReleaseView) → AreAlike rs qs → (version : ℕ) (o : PackageAct) → own_offence rs o ≡ own_offence qs o
-alike_offence rs qs alike version (Release v content) = ap (λ o. unless (is_none o) (ReleaseOfReleased v)) (alike v)
-alike_offence rs qs alike version (Yank v) = ap (λ (o : Option ReleaseView). unyankable v (option_map (λ r. r.state) o)) (alike v)
+pub alike_offence : (rs qs : List ReleaseView) → AreAlike rs qs → (o : PackageAct) → own_offence rs o ≡ own_offence qs o
+alike_offence rs qs alike (Release v content) = ap (λ o. unless (is_none o) (ReleaseOfReleased v)) (alike v)
+alike_offence rs qs alike (Yank v) = ap (λ (o : Option ReleaseView). unyankable v (option_map (λ r. r.state) o)) (alike v)
 
 pub alike_after : (rs qs : List ReleaseView) → AreAlike rs qs → (es : List (Event PackageAct)) → AreAlike (releases_after rs es) (releases_after qs es)
 alike_after rs qs alike es v = find-after rs es v ∙ ap (λ o. option_or (option_map (turned es) o) (find_parts (released es) v)) (alike v) ∙ sym (find-after qs es v)

@@ -91,6 +91,12 @@ pub enum ValidationError {
     /// The record is older than the log's last.
     #[error("record has lower timestamp than previous")]
     TimestampLowerThanPrevious,
+    /// The entry grants the key no permission, in a record of version 1.
+    #[error("an entry granted no permission to key {key_id}")]
+    EmptyGrant {
+        /// The id of the key that it names.
+        key_id: KeyID,
+    },
     /// The version is released already, be it yanked since.
     #[error("an entry attempted to release version {version} which is already released")]
     ReleaseOfReleased {
@@ -174,6 +180,7 @@ impl From<Refusal<Permission>> for ValidationError {
                 ValidationError::ProtocolVersionNotAllowed { version }
             }
             Refusal::TimestampLowerThanPrevious => ValidationError::TimestampLowerThanPrevious,
+            Refusal::EmptyGrant { key_id } => ValidationError::EmptyGrant { key_id },
             Refusal::OutOfMemory => ValidationError::OutOfMemory,
         }
     }

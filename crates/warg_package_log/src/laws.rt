@@ -1,5 +1,5 @@
 //! Laws over all package logs. They have no effect.
-ghost use Rattle.std.specs.Prelude.{◌≡◌, ◌↔◌, List, ◌++◌, None, true, ◌<◌, ℕ, length, Result, IfOk, IsOk, All, IfSome};
+ghost use Rattle.std.specs.Prelude.{◌≡◌, ◌↔◌, ◌≤◌, List, ◌++◌, None, true, ◌<◌, ℕ, length, Result, IfOk, IsOk, All, IfSome};
 ghost use Rattle.warg_records.specs.Envelopes.{envelope_of, envelope_fault_of};
 ghost use Rattle.warg_records.specs.Faults.{fault_of};
 ghost use Rattle.warg_records.specs.Letters.{Letter};
@@ -9,6 +9,7 @@ ghost use Rattle.warg_validator.specs.Kinds.{Belief, IsAccepted, StandsFor};
 ghost use Rattle.warg_validator.specs.Outcomes.{IsRun, IfStarted, told};
 ghost use Rattle.warg_validator.specs.Strings.{read_all};
 ghost use Rattle.warg_validator.specs.declared.replay.RunError.{RunError};
+ghost use Rattle.warg_log.specs.Admissions.{NoKeyBringsItselfIn};
 ghost use Rattle.warg_log.specs.Contents.{Contents};
 ghost use Rattle.warg_log.specs.Forms.{HasForm};
 ghost use Rattle.warg_log.specs.States.{State};
@@ -88,7 +89,15 @@ pub fn equality()
     ensures states { (s t : State (Contents Permission) (List ReleaseView)) → (⟦<crate::state::LogState as PartialEq>⟧.eq s t ≡ true) ↔ AreSame (view_of s) (view_of t) }
 {}
 
-/// A record's version is lawful exactly if it is `PACKAGE_RECORD_VERSION`, whatever the head is.
+/// A record's version is lawful exactly if it is at most `PACKAGE_RECORD_VERSION`, the newest, and not below the
+/// head's.
 pub fn newest_version()
-    ensures { (head : Option Head) (version : ℕ) → (version_offence {P = Permission} head version ≡ None) ↔ (version ≡ PACKAGE_RECORD_VERSION) }
+    ensures { (head : Option Head) (version : ℕ) → (version_offence {P = Permission} head version ≡ None) ↔ ((version ≤ PACKAGE_RECORD_VERSION) × IfSome head (λ h. h.version ≤ version)) }
+{}
+
+/// In an accepted log whose records all have version 1 no key brings itself in: each signer signed the
+/// first record, or an entry of an earlier record grants a permission to a key whose fingerprint is the
+/// signer's id.
+pub fn no_key_brings_itself_in()
+    ensures { (b : Belief) (es : List Letter) → IsAccepted kind b es → All (λ r. r.contents.version ≡ 1) (records_of es) → NoKeyBringsItselfIn (records_of es) }
 {}

@@ -1,14 +1,13 @@
 //! The entry that defines a namespace.
 
-ghost use Rattle.std.specs.Prelude.{Ok};
-ghost use Rattle.warg_protobuf.specs.declared.error.WireError.{WireError};
+ghost use Rattle.std.specs.Prelude.{◌≡◌, IfOk};
+ghost use Rattle.warg_protobuf.specs.Drafts.{one_text_kept, define_namespace_made};
 ghost use Rattle.warg_protobuf.specs.DefineNamespace.{define_namespace_table, DefineNamespaceValue, define_namespace_seen, define_namespace_from, IsDefineNamespaceOf, define_namespace_fields, IsSoundDefineNamespace};
 
+use crate::draft::read_draft;
 use crate::error::WireError;
-use crate::field::{RawField, RawPayload};
-use crate::message::{Codec, Schema};
-use crate::shape::{check_one_text, push_one_text, takes_one_text};
-use crate::text::read_text;
+use crate::message::Codec;
+use crate::shape::{OneText, push_one_text};
 use std::alloc::{AllocError, Global};
 
 /// Defines a namespace of this registry.
@@ -18,19 +17,23 @@ pub struct OperatorDefineNamespace {
     pub namespace: String,
 }
 
-impl Schema for OperatorDefineNamespace {
-    ghost table = { define_namespace_table };
-
-    fn takes(number: u32, wire_type: u32) -> bool {
-        takes_one_text(number, wire_type)
-    }
-
-    fn check(number: u32, payload: RawPayload<'_>) -> Result<(), WireError> {
-        check_one_text(number, payload)
+impl OperatorDefineNamespace {
+    /// The message of what is kept.
+    pub(crate) fn finish(
+        alloc: Global,
+        draft: OneText<'_>,
+    ) -> Result<OperatorDefineNamespace, AllocError>
+        ensures { IfOk result (λ v. define_namespace_seen v ≡ define_namespace_made (one_text_kept draft.entry)) }
+    {
+        Ok(OperatorDefineNamespace {
+            namespace: String::from_str(alloc, draft.text)?,
+        })
     }
 }
 
 impl Codec for OperatorDefineNamespace {
+    ghost table = { define_namespace_table };
+
     ghost Seen = { DefineNamespaceValue };
 
     ghost seen = { define_namespace_seen };
@@ -39,10 +42,9 @@ impl Codec for OperatorDefineNamespace {
 
     ghost value = { define_namespace_from };
 
-    #[tactic(auto, unfolding(crate::specs::DefineNamespace::define_namespace_from))]
-    fn from_fields(alloc: Global, fields: &[RawField<'_>]) -> Result<Self, WireError> {
-        let namespace = read_text(alloc, 1, fields)?;
-        Ok(OperatorDefineNamespace { namespace })
+    fn read(alloc: Global, bytes: &[u8]) -> Result<OperatorDefineNamespace, WireError> {
+        let draft = read_draft::<OneText<'_>>(alloc, bytes)?;
+        Ok(OperatorDefineNamespace::finish(alloc, draft)?)
     }
 
     ghost written = { define_namespace_fields };

@@ -1,16 +1,18 @@
 //! The outer message.
 
-ghost use Rattle.std.specs.Prelude.{◌≡◌, [], ◌∷◌, map, Ok};
+ghost use Rattle.std.specs.Prelude.{◌≡◌, ◌≢◌, Ok, Err, IfOk, IfErr};
 ghost use Rattle.warg_protobuf.specs.declared.error.WireError.{WireError};
-ghost use Rattle.warg_protobuf.specs.Envelope.{envelope_table, EnvelopeValue, envelope_seen, envelope_from, IsEnvelopeOf, envelope_of, envelope_fields, IsSoundEnvelope, parts_seen, last_parts, parts_of, part_fields};
+ghost use Rattle.warg_protobuf.specs.declared.error.WireError.TheVariants.{OutOfMemory};
+ghost use Rattle.warg_protobuf.specs.Drafts.{no_parts, envelope_with};
+ghost use Rattle.warg_protobuf.specs.Envelope.{envelope_table, EnvelopeValue, envelope_seen, borrowed_envelope, envelope_from, IsEnvelope, IsEnvelopeOf, envelope_of, envelope_fields, IsSoundEnvelope};
 ghost use Rattle.warg_protobuf.specs.Reading.{Is};
-ghost use Rattle.warg_protobuf.specs.Views.{field_view, Gives};
+ghost use Rattle.warg_protobuf.specs.Table.{takes, HasFault};
 
+use crate::draft::{Draft, read_into};
 use crate::error::WireError;
 use crate::field::{RawField, RawPayload};
-use crate::keep::{Keep, keep_fields};
-use crate::message::{Codec, Schema};
-use crate::text::{check_text, last_bytes, read_text};
+use crate::message::Codec;
+use crate::text::read_text;
 use crate::writing::{push_bytes, push_text};
 use std::alloc::{AllocError, Global};
 
@@ -25,10 +27,64 @@ pub struct Envelope {
     pub signature: String,
 }
 
-impl Schema for Envelope {
+/// An envelope whose parts are where they stand in its bytes.
+#[derive(Clone, Copy, Debug, PartialEq, Eq)]
+pub struct EnvelopeView<'a> {
+    /// Field 1: the record's bytes, not looked into.
+    pub contents: &'a [u8],
+    /// Field 2.
+    pub key_id: &'a str,
+    /// Field 3.
+    pub signature: &'a str,
+}
+
+impl Envelope {
+    /// The parts of an envelope, all of the bytes. It takes no memory.
+    pub fn view(bytes: &[u8]) -> Result<EnvelopeView<'_>, WireError>
+        // What is read is what the bytes say.
+        ensures found { IfOk result (λ v. IsEnvelope bytes.now (borrowed_envelope v)) }
+        ensures fault { IfErr result (λ e. HasFault envelope_table bytes.now e) }
+        ensures no_memory { IfErr result (λ e. e ≢ OutOfMemory) }
+
+        // What the bytes say is read.
+        ensures only { (v : EnvelopeValue) → IsEnvelope bytes.now v → Is borrowed_envelope result (Ok v) }
+        ensures only_fault { (e : WireError) → HasFault envelope_table bytes.now e → Is borrowed_envelope result (Err e) }
+        ensures computed { Is borrowed_envelope result (envelope_of bytes.now) }
+    {
+        let mut view = EnvelopeView {
+            contents: &[],
+            key_id: "",
+            signature: "",
+        };
+        read_into(&mut view, bytes)?;
+        Ok(view)
+    }
+}
+
+impl<'a> Draft<'a> for EnvelopeView<'a> {
     ghost table = { envelope_table };
 
-    fn takes(number: u32, wire_type: u32) -> bool {
+    ghost Kept = { EnvelopeValue };
+
+    ghost kept = { borrowed_envelope };
+
+    ghost empty = { no_parts };
+
+    ghost with_field = { envelope_with };
+
+    ghost TakesMemory = { ⊥ };
+
+    fn new(_alloc: Global) -> Self {
+        EnvelopeView {
+            contents: &[],
+            key_id: "",
+            signature: "",
+        }
+    }
+
+    fn takes(number: u32, wire_type: u32) -> bool
+        ensures { result ≡ takes envelope_table number wire_type }
+    {
         match number {
             1 | 2 | 3 => wire_type == 2,
             _ => true,
@@ -36,15 +92,22 @@ impl Schema for Envelope {
     }
 
     #[tactic(auto, unfolding(crate::specs::Reading::payload_fault))]
-    fn check(number: u32, payload: RawPayload<'_>) -> Result<(), WireError> {
-        match payload {
-            RawPayload::Bytes(bytes) if number == 2 || number == 3 => check_text(bytes),
-            _ => Ok(()),
+    fn grow(&mut self, field: RawField<'a>) -> Result<(), WireError> {
+        if let RawPayload::Bytes(bytes) = field.payload {
+            match field.number {
+                1 => self.contents = bytes,
+                2 => self.key_id = read_text(bytes)?,
+                3 => self.signature = read_text(bytes)?,
+                _ => {}
+            }
         }
+        Ok(())
     }
 }
 
 impl Codec for Envelope {
+    ghost table = { envelope_table };
+
     ghost Seen = { EnvelopeValue };
 
     ghost seen = { envelope_seen };
@@ -53,15 +116,12 @@ impl Codec for Envelope {
 
     ghost value = { envelope_from };
 
-    #[tactic(auto, unfolding(crate::specs::Envelope::envelope_from))]
-    fn from_fields(alloc: Global, fields: &[RawField<'_>]) -> Result<Self, WireError> {
-        let key_id = read_text(alloc, 2, fields)?;
-        let signature = read_text(alloc, 3, fields)?;
-        let contents = Vec::from_slice(alloc, last_bytes(1, fields))?;
+    fn read(alloc: Global, bytes: &[u8]) -> Result<Envelope, WireError> {
+        let view = Envelope::view(bytes)?;
         Ok(Envelope {
-            contents,
-            key_id,
-            signature,
+            contents: Vec::from_slice(alloc, view.contents)?,
+            key_id: String::from_str(alloc, view.key_id)?,
+            signature: String::from_str(alloc, view.signature)?,
         })
     }
 
@@ -75,79 +135,5 @@ impl Codec for Envelope {
         push_text(out, 3, &self.signature)
     }
 
-    fn read(alloc: Global, bytes: &[u8]) -> Result<Envelope, WireError> {
-        read_envelope(alloc, bytes)
-    }
-
     fn laws() {}
-}
-
-/// The parts of an envelope where they stand in the bytes.
-#[derive(Drop)]
-struct EnvelopeParts<'a> {
-    contents: &'a [u8],
-    key_id: &'a [u8],
-    signature: &'a [u8],
-}
-
-impl<'a> Keep<'a> for EnvelopeParts<'a> {
-    ghost Kept = { EnvelopeValue };
-
-    ghost kept = { parts_seen };
-
-    ghost with_field = { λ v f. last_parts v (f ∷ []) };
-
-    fn keep(&mut self, field: RawField<'a>) {
-        if let RawPayload::Bytes(content) = field.payload {
-            match field.number {
-                1 => self.contents = content,
-                2 => self.key_id = content,
-                3 => self.signature = content,
-                _ => {}
-            }
-        }
-    }
-}
-
-impl<'a> EnvelopeParts<'a> {
-    /// Reads the parts, all of the bytes. This takes no memory.
-    fn read(bytes: &'a [u8]) -> Result<Self, WireError>
-        ensures { Is parts_seen result (parts_of bytes.now) }
-    {
-        let mut parts = EnvelopeParts {
-            contents: &[],
-            key_id: &[],
-            signature: &[],
-        };
-        keep_fields::<Envelope, _>(&mut parts, bytes)?;
-        Ok(parts)
-    }
-
-    /// A field for each part: they say the same envelope.
-    fn fields(&self) -> [RawField<'a>; 3]
-        ensures { map field_view result ≡ part_fields (parts_seen self.now) }
-    {
-        [
-            RawField {
-                number: 1,
-                payload: RawPayload::Bytes(self.contents),
-            },
-            RawField {
-                number: 2,
-                payload: RawPayload::Bytes(self.key_id),
-            },
-            RawField {
-                number: 3,
-                payload: RawPayload::Bytes(self.signature),
-            },
-        ]
-    }
-}
-
-/// Reads an envelope with no list of its fields: only the three parts are copied.
-fn read_envelope(alloc: Global, bytes: &[u8]) -> Result<Envelope, WireError>
-    ensures { Gives envelope_seen result (envelope_of bytes.now) }
-{
-    let parts = EnvelopeParts::read(bytes)?;
-    Envelope::from_fields(alloc, &parts.fields())
 }

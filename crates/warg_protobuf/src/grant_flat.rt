@@ -1,15 +1,13 @@
 //! Entries that grant permissions.
 
-ghost use Rattle.std.specs.Prelude.{Ok};
-ghost use Rattle.warg_protobuf.specs.declared.error.WireError.{WireError};
+ghost use Rattle.std.specs.Prelude.{◌≡◌, IfOk};
+ghost use Rattle.warg_protobuf.specs.Drafts.{text_and_numbers_kept, grant_flat_made};
 ghost use Rattle.warg_protobuf.specs.GrantFlat.{grant_flat_table, GrantFlatValue, grant_flat_seen, grant_flat_from, IsGrantFlatOf, grant_flat_fields, IsSoundGrantFlat};
 
+use crate::draft::read_draft;
 use crate::error::WireError;
-use crate::field::{RawField, RawPayload};
-use crate::message::{Codec, Schema};
-use crate::shape::{check_text_and_numbers, push_text_and_numbers, takes_text_and_numbers};
-use crate::signed::read_signed;
-use crate::text::read_text;
+use crate::message::Codec;
+use crate::shape::{TextAndNumbers, push_text_and_numbers};
 use std::alloc::{AllocError, Global};
 
 /// Grants permissions on an operator log.
@@ -27,19 +25,21 @@ pub type OperatorGrantFlat = GrantFlat;
 /// In a package log.
 pub type PackageGrantFlat = GrantFlat;
 
-impl Schema for GrantFlat {
-    ghost table = { grant_flat_table };
-
-    fn takes(number: u32, wire_type: u32) -> bool {
-        takes_text_and_numbers(number, wire_type)
-    }
-
-    fn check(number: u32, payload: RawPayload<'_>) -> Result<(), WireError> {
-        check_text_and_numbers(number, payload)
+impl GrantFlat {
+    /// The message of what is kept.
+    pub(crate) fn finish(alloc: Global, draft: TextAndNumbers<'_>) -> Result<GrantFlat, AllocError>
+        ensures { IfOk result (λ v. grant_flat_seen v ≡ grant_flat_made (text_and_numbers_kept draft.entry)) }
+    {
+        Ok(GrantFlat {
+            key: String::from_str(alloc, draft.text)?,
+            permissions: draft.numbers,
+        })
     }
 }
 
 impl Codec for GrantFlat {
+    ghost table = { grant_flat_table };
+
     ghost Seen = { GrantFlatValue };
 
     ghost seen = { grant_flat_seen };
@@ -48,11 +48,9 @@ impl Codec for GrantFlat {
 
     ghost value = { grant_flat_from };
 
-    #[tactic(auto, unfolding(crate::specs::GrantFlat::grant_flat_from))]
-    fn from_fields(alloc: Global, fields: &[RawField<'_>]) -> Result<Self, WireError> {
-        let key = read_text(alloc, 1, fields)?;
-        let permissions = read_signed(alloc, 2, fields)?;
-        Ok(GrantFlat { key, permissions })
+    fn read(alloc: Global, bytes: &[u8]) -> Result<GrantFlat, WireError> {
+        let draft = read_draft::<TextAndNumbers<'_>>(alloc, bytes)?;
+        Ok(GrantFlat::finish(alloc, draft)?)
     }
 
     ghost written = { grant_flat_fields };

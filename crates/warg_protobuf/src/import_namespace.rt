@@ -1,14 +1,13 @@
 //! The entry that imports a namespace.
 
-ghost use Rattle.std.specs.Prelude.{Ok};
-ghost use Rattle.warg_protobuf.specs.declared.error.WireError.{WireError};
+ghost use Rattle.std.specs.Prelude.{◌≡◌, IfOk};
+ghost use Rattle.warg_protobuf.specs.Drafts.{two_texts_kept, import_namespace_made};
 ghost use Rattle.warg_protobuf.specs.ImportNamespace.{import_namespace_table, ImportNamespaceValue, import_namespace_seen, import_namespace_from, IsImportNamespaceOf, import_namespace_fields, IsSoundImportNamespace};
 
+use crate::draft::read_draft;
 use crate::error::WireError;
-use crate::field::{RawField, RawPayload};
-use crate::message::{Codec, Schema};
-use crate::shape::{check_two_texts, push_two_texts, takes_two_texts};
-use crate::text::read_text;
+use crate::message::Codec;
+use crate::shape::{TwoTexts, push_two_texts};
 use std::alloc::{AllocError, Global};
 
 /// Imports a namespace of another registry.
@@ -20,19 +19,24 @@ pub struct OperatorImportNamespace {
     pub registry: String,
 }
 
-impl Schema for OperatorImportNamespace {
-    ghost table = { import_namespace_table };
-
-    fn takes(number: u32, wire_type: u32) -> bool {
-        takes_two_texts(number, wire_type)
-    }
-
-    fn check(number: u32, payload: RawPayload<'_>) -> Result<(), WireError> {
-        check_two_texts(number, payload)
+impl OperatorImportNamespace {
+    /// The message of what is kept.
+    pub(crate) fn finish(
+        alloc: Global,
+        draft: TwoTexts<'_>,
+    ) -> Result<OperatorImportNamespace, AllocError>
+        ensures { IfOk result (λ v. import_namespace_seen v ≡ import_namespace_made (two_texts_kept draft.entry)) }
+    {
+        Ok(OperatorImportNamespace {
+            namespace: String::from_str(alloc, draft.first)?,
+            registry: String::from_str(alloc, draft.second)?,
+        })
     }
 }
 
 impl Codec for OperatorImportNamespace {
+    ghost table = { import_namespace_table };
+
     ghost Seen = { ImportNamespaceValue };
 
     ghost seen = { import_namespace_seen };
@@ -41,14 +45,9 @@ impl Codec for OperatorImportNamespace {
 
     ghost value = { import_namespace_from };
 
-    #[tactic(auto, unfolding(crate::specs::ImportNamespace::import_namespace_from))]
-    fn from_fields(alloc: Global, fields: &[RawField<'_>]) -> Result<Self, WireError> {
-        let namespace = read_text(alloc, 1, fields)?;
-        let registry = read_text(alloc, 2, fields)?;
-        Ok(OperatorImportNamespace {
-            namespace,
-            registry,
-        })
+    fn read(alloc: Global, bytes: &[u8]) -> Result<OperatorImportNamespace, WireError> {
+        let draft = read_draft::<TwoTexts<'_>>(alloc, bytes)?;
+        Ok(OperatorImportNamespace::finish(alloc, draft)?)
     }
 
     ghost written = { import_namespace_fields };

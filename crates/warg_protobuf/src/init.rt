@@ -1,14 +1,13 @@
 //! Entries that begin a log.
 
-ghost use Rattle.std.specs.Prelude.{Ok};
-ghost use Rattle.warg_protobuf.specs.declared.error.WireError.{WireError};
+ghost use Rattle.std.specs.Prelude.{◌≡◌, IfOk};
+ghost use Rattle.warg_protobuf.specs.Drafts.{two_texts_kept, init_made};
 ghost use Rattle.warg_protobuf.specs.Init.{init_table, InitValue, init_seen, init_from, IsInitOf, init_fields, IsSoundInit};
 
+use crate::draft::read_draft;
 use crate::error::WireError;
-use crate::field::{RawField, RawPayload};
-use crate::message::{Codec, Schema};
-use crate::shape::{check_two_texts, push_two_texts, takes_two_texts};
-use crate::text::read_text;
+use crate::message::Codec;
+use crate::shape::{TwoTexts, push_two_texts};
 use std::alloc::{AllocError, Global};
 
 /// The entry that begins an operator log.
@@ -26,19 +25,21 @@ pub type OperatorInit = Init;
 /// In a package log.
 pub type PackageInit = Init;
 
-impl Schema for Init {
-    ghost table = { init_table };
-
-    fn takes(number: u32, wire_type: u32) -> bool {
-        takes_two_texts(number, wire_type)
-    }
-
-    fn check(number: u32, payload: RawPayload<'_>) -> Result<(), WireError> {
-        check_two_texts(number, payload)
+impl Init {
+    /// The message of what is kept.
+    pub(crate) fn finish(alloc: Global, draft: TwoTexts<'_>) -> Result<Init, AllocError>
+        ensures { IfOk result (λ v. init_seen v ≡ init_made (two_texts_kept draft.entry)) }
+    {
+        Ok(Init {
+            key: String::from_str(alloc, draft.first)?,
+            hash_algorithm: String::from_str(alloc, draft.second)?,
+        })
     }
 }
 
 impl Codec for Init {
+    ghost table = { init_table };
+
     ghost Seen = { InitValue };
 
     ghost seen = { init_seen };
@@ -47,14 +48,9 @@ impl Codec for Init {
 
     ghost value = { init_from };
 
-    #[tactic(auto, unfolding(crate::specs::Init::init_from))]
-    fn from_fields(alloc: Global, fields: &[RawField<'_>]) -> Result<Self, WireError> {
-        let key = read_text(alloc, 1, fields)?;
-        let hash_algorithm = read_text(alloc, 2, fields)?;
-        Ok(Init {
-            key,
-            hash_algorithm,
-        })
+    fn read(alloc: Global, bytes: &[u8]) -> Result<Init, WireError> {
+        let draft = read_draft::<TwoTexts<'_>>(alloc, bytes)?;
+        Ok(Init::finish(alloc, draft)?)
     }
 
     ghost written = { init_fields };

@@ -2,17 +2,17 @@
 #![tactic(auto)]
 
 mod define_namespace;
+mod draft;
+mod entry;
 mod envelope;
 mod error;
 mod field;
 mod grant_flat;
 mod import_namespace;
 mod init;
-mod keep;
 pub mod laws;
 mod message;
 mod nested;
-mod oneof;
 pub mod operator_entry;
 pub mod package_entry;
 mod record;
@@ -27,7 +27,7 @@ mod writing;
 mod yank;
 
 pub use define_namespace::OperatorDefineNamespace;
-pub use envelope::Envelope;
+pub use envelope::{Envelope, EnvelopeView};
 pub use error::WireError;
 pub use grant_flat::{OperatorGrantFlat, PackageGrantFlat};
 pub use import_namespace::OperatorImportNamespace;

@@ -1,35 +1,22 @@
-//! What a message is: its table, the judge of each payload, and its value.
+//! What a message is: its table, what its fields say, and how it is read and written.
 
-ghost use Rattle.std.specs.Prelude.{◌≡◌, ◌≢◌, ◌+◌, ◌*◌, ◌<◌, ◌^◌, ◌++◌, [], ◌∷◌, ℕ, map, length, List, Result, Ok, Err, IfOk, IfErr, OnOk, IfSome};
+ghost use Rattle.std.specs.Prelude.{◌≡◌, ◌≢◌, ◌<◌, ◌^◌, ◌++◌, length, List, Result, Ok, Err, IfOk, IfErr, OnOk};
 ghost use Rattle.warg_protobuf.specs.declared.error.WireError.{WireError};
 ghost use Rattle.warg_protobuf.specs.declared.error.WireError.TheVariants.{OutOfMemory};
 ghost use Rattle.warg_protobuf.specs.Field.{Field};
 ghost use Rattle.warg_protobuf.specs.Meaning.{Agrees, IsMessage};
-ghost use Rattle.warg_protobuf.specs.Reading.{payload_fault, fault_in};
-ghost use Rattle.warg_protobuf.specs.Table.{Table, takes, HasFault};
+ghost use Rattle.warg_protobuf.specs.Table.{Table, HasFault};
 ghost use Rattle.warg_protobuf.specs.Values.{message_of};
-ghost use Rattle.warg_protobuf.specs.Views.{payload_view, field_view, Gives};
+ghost use Rattle.warg_protobuf.specs.Views.{Gives};
 ghost use Rattle.warg_protobuf.specs.Writing.{bytes_of};
 
 use crate::error::WireError;
-use crate::field::{RawField, RawPayload, read_fields};
 use std::alloc::{AllocError, Global};
 
-/// What a message asks of its fields.
-pub(crate) trait Schema {
+/// What a message is as plain data, what its fields say, how it is read and how it is written.
+pub(crate) trait Codec: Drop {
     ghost table: { Table };
 
-    /// Whether a field of this number may have this wire type.
-    fn takes(number: u32, wire_type: u32) -> bool
-        ensures { result ≡ takes table number wire_type };
-
-    /// The fault of a payload, if it has one.
-    fn check(number: u32, payload: RawPayload<'_>) -> Result<(), WireError>
-        ensures { payload_fault table number (payload_view payload.entry) ≡ fault_in result };
-}
-
-/// A message that is made from its fields.
-pub(crate) trait Codec: Schema + Drop {
     /// The message as plain data.
     ghost Seen: { Type 0 };
 
@@ -41,8 +28,9 @@ pub(crate) trait Codec: Schema + Drop {
     /// The same, computed.
     ghost value: { List Field → Result Seen WireError };
 
-    fn from_fields(alloc: Global, fields: &[RawField<'_>]) -> Result<Self, WireError>
-        ensures { Gives seen result (value (map field_view fields.now)) };
+    /// Reads the message, all of the bytes, in one pass.
+    fn read(alloc: Global, bytes: &[u8]) -> Result<Self, WireError>
+        ensures { Gives seen result (message_of table value bytes.now) };
 
     /// The fields that are written.
     ghost written: { Seen → List Field };
@@ -55,28 +43,10 @@ pub(crate) trait Codec: Schema + Drop {
         ensures spelled { OnOk result (out.new.items ≡ out.old.items ++ bytes_of (written (seen self.now))) }
         ensures sound { OnOk result (is_sound (seen self.now)) };
 
-    /// Reads the message's fields, all of the bytes.
-    fn read(alloc: Global, bytes: &[u8]) -> Result<Self, WireError>
-    where
-        Self: Sized,
-        ensures { Gives seen result (message_of Self.table value bytes.now) }
-    {
-        let fields = read_fields::<Self>(alloc, bytes)?;
-        Self::from_fields(alloc, &fields)
-    }
-
     /// What is computed of fields is the only value that they say, and what is written is read again. This has no effect.
     fn laws()
-        ensures agrees { Agrees Self.table value Says }
-        ensures written { (v : Seen) → is_sound v → length (bytes_of (written v)) < 2 ^ 64 → IsMessage Self.table Says (bytes_of (written v)) v };
-}
-
-/// Reads one message, all of the bytes.
-pub(crate) fn read_message<V: Codec>(alloc: Global, bytes: &[u8]) -> Result<V, WireError>
-    ensures { Gives V.seen result (message_of V.table V.value bytes.now) }
-{
-    let fields = read_fields::<V>(alloc, bytes)?;
-    V::from_fields(alloc, &fields)
+        ensures agrees { Agrees table value Says }
+        ensures written { (v : Seen) → is_sound v → length (bytes_of (written v)) < 2 ^ 64 → IsMessage table Says (bytes_of (written v)) v };
 }
 
 /// The bytes of a message.

@@ -1,19 +1,20 @@
 //! An entry of an operator log.
 
-ghost use Rattle.std.specs.Prelude.{Ok, Option};
-ghost use Rattle.warg_protobuf.specs.declared.error.WireError.{WireError};
+ghost use Rattle.std.specs.Prelude.{◌≡◌, Option, IfOk};
+ghost use Rattle.warg_protobuf.specs.Drafts.{one_text_kept, two_texts_kept, member_kept, operator_entry_made};
 ghost use Rattle.warg_protobuf.specs.OperatorEntry.{operator_entry_table, OperatorMember, operator_entry_seen, operator_entry_from, IsOperatorEntryOf, operator_entry_fields, IsSoundOperatorEntry};
 
 use crate::define_namespace::OperatorDefineNamespace;
+use crate::draft::read_draft;
+use crate::entry::{EntryDraft, MemberDraft};
 use crate::error::WireError;
-use crate::field::{RawField, RawPayload, check_fields};
 use crate::grant_flat::OperatorGrantFlat;
 use crate::import_namespace::OperatorImportNamespace;
 use crate::init::OperatorInit;
-use crate::message::{Codec, Schema};
+use crate::message::Codec;
 use crate::nested::push_message;
-use crate::oneof::{Oneof, last_member, read_member};
 use crate::revoke_flat::OperatorRevokeFlat;
+use crate::shape::{OneText, TwoTexts};
 use std::alloc::{AllocError, Global};
 
 /// The members of the oneof, each in a box, so that a list of entries stays small.
@@ -38,43 +39,46 @@ pub struct OperatorEntry {
     pub contents: Option<Contents>,
 }
 
-impl Schema for OperatorEntry {
-    ghost table = { operator_entry_table };
+/// An entry that is read.
+type Draft<'a> = EntryDraft<'a, OneText<'a>, TwoTexts<'a>>;
 
-    fn takes(number: u32, wire_type: u32) -> bool {
-        match number {
-            1 | 2 | 3 | 4 | 5 => wire_type == 2,
-            _ => true,
-        }
-    }
-
-    #[tactic(auto, unfolding(crate::specs::Reading::payload_fault))]
-    fn check(number: u32, payload: RawPayload<'_>) -> Result<(), WireError> {
-        match payload {
-            RawPayload::Bytes(bytes) if number == 1 => check_fields::<OperatorInit>(bytes),
-            RawPayload::Bytes(bytes) if number == 2 => check_fields::<OperatorGrantFlat>(bytes),
-            RawPayload::Bytes(bytes) if number == 3 => check_fields::<OperatorRevokeFlat>(bytes),
-            RawPayload::Bytes(bytes) if number == 4 => check_fields::<OperatorDefineNamespace>(
-                bytes,
-            ),
-            RawPayload::Bytes(bytes) if number == 5 => check_fields::<OperatorImportNamespace>(
-                bytes,
-            ),
-            _ => Ok(()),
-        }
-    }
-}
-
-impl Oneof for OperatorEntry {
-    fn is_member(number: u32) -> bool {
-        match number {
-            1 | 2 | 3 | 4 | 5 => true,
-            _ => false,
-        }
+impl OperatorEntry {
+    /// The message of what is kept.
+    fn finish(alloc: Global, draft: Draft<'_>) -> Result<OperatorEntry, AllocError>
+        ensures { IfOk result (λ v. operator_entry_seen v ≡ operator_entry_made (member_kept one_text_kept two_texts_kept draft.entry.member)) }
+    {
+        let contents = match draft.member {
+            MemberDraft::Absent => return Ok(OperatorEntry { contents: None }),
+            MemberDraft::Init(draft) => Contents::Init(Box::new(
+                alloc,
+                OperatorInit::finish(alloc, draft)?,
+            )?),
+            MemberDraft::GrantFlat(draft) => Contents::GrantFlat(Box::new(
+                alloc,
+                OperatorGrantFlat::finish(alloc, draft)?,
+            )?),
+            MemberDraft::RevokeFlat(draft) => Contents::RevokeFlat(Box::new(
+                alloc,
+                OperatorRevokeFlat::finish(alloc, draft)?,
+            )?),
+            MemberDraft::Fourth(draft) => Contents::DefineNamespace(Box::new(
+                alloc,
+                OperatorDefineNamespace::finish(alloc, draft)?,
+            )?),
+            MemberDraft::Fifth(draft) => Contents::ImportNamespace(Box::new(
+                alloc,
+                OperatorImportNamespace::finish(alloc, draft)?,
+            )?),
+        };
+        Ok(OperatorEntry {
+            contents: Some(contents),
+        })
     }
 }
 
 impl Codec for OperatorEntry {
+    ghost table = { operator_entry_table };
+
     ghost Seen = { Option OperatorMember };
 
     ghost seen = { operator_entry_seen };
@@ -83,29 +87,9 @@ impl Codec for OperatorEntry {
 
     ghost value = { operator_entry_from };
 
-    #[tactic(auto, unfolding(crate::specs::OperatorEntry::operator_entry_from))]
-    fn from_fields(alloc: Global, fields: &[RawField<'_>]) -> Result<Self, WireError> {
-        let Some(member) = last_member::<OperatorEntry>(fields) else {
-            return Ok(OperatorEntry { contents: None });
-        };
-        let contents = match member {
-            1 => Contents::Init(read_member::<OperatorEntry, OperatorInit>(alloc, 1, fields)?),
-            2 => Contents::GrantFlat(read_member::<OperatorEntry, OperatorGrantFlat>(
-                alloc, 2, fields,
-            )?),
-            3 => Contents::RevokeFlat(read_member::<OperatorEntry, OperatorRevokeFlat>(
-                alloc, 3, fields,
-            )?),
-            4 => Contents::DefineNamespace(read_member::<OperatorEntry, OperatorDefineNamespace>(
-                alloc, 4, fields,
-            )?),
-            _ => Contents::ImportNamespace(read_member::<OperatorEntry, OperatorImportNamespace>(
-                alloc, 5, fields,
-            )?),
-        };
-        Ok(OperatorEntry {
-            contents: Some(contents),
-        })
+    fn read(alloc: Global, bytes: &[u8]) -> Result<OperatorEntry, WireError> {
+        let draft = read_draft::<Draft<'_>>(alloc, bytes)?;
+        Ok(OperatorEntry::finish(alloc, draft)?)
     }
 
     ghost written = { operator_entry_fields };

@@ -1,18 +1,19 @@
 //! An entry of a package log.
 
-ghost use Rattle.std.specs.Prelude.{Ok, Option};
-ghost use Rattle.warg_protobuf.specs.declared.error.WireError.{WireError};
+ghost use Rattle.std.specs.Prelude.{◌≡◌, Option, IfOk};
+ghost use Rattle.warg_protobuf.specs.Drafts.{one_text_kept, two_texts_kept, member_kept, package_entry_made};
 ghost use Rattle.warg_protobuf.specs.PackageEntry.{package_entry_table, PackageMember, package_entry_seen, package_entry_from, IsPackageEntryOf, package_entry_fields, IsSoundPackageEntry};
 
+use crate::draft::read_draft;
+use crate::entry::{EntryDraft, MemberDraft};
 use crate::error::WireError;
-use crate::field::{RawField, RawPayload, check_fields};
 use crate::grant_flat::PackageGrantFlat;
 use crate::init::PackageInit;
-use crate::message::{Codec, Schema};
+use crate::message::Codec;
 use crate::nested::push_message;
-use crate::oneof::{Oneof, last_member, read_member};
 use crate::release::PackageRelease;
 use crate::revoke_flat::PackageRevokeFlat;
+use crate::shape::{OneText, TwoTexts};
 use crate::yank::PackageYank;
 use std::alloc::{AllocError, Global};
 
@@ -38,39 +39,46 @@ pub struct PackageEntry {
     pub contents: Option<Contents>,
 }
 
-impl Schema for PackageEntry {
-    ghost table = { package_entry_table };
+/// An entry that is read.
+type Draft<'a> = EntryDraft<'a, TwoTexts<'a>, OneText<'a>>;
 
-    fn takes(number: u32, wire_type: u32) -> bool {
-        match number {
-            1 | 2 | 3 | 4 | 5 => wire_type == 2,
-            _ => true,
-        }
-    }
-
-    #[tactic(auto, unfolding(crate::specs::Reading::payload_fault))]
-    fn check(number: u32, payload: RawPayload<'_>) -> Result<(), WireError> {
-        match payload {
-            RawPayload::Bytes(bytes) if number == 1 => check_fields::<PackageInit>(bytes),
-            RawPayload::Bytes(bytes) if number == 2 => check_fields::<PackageGrantFlat>(bytes),
-            RawPayload::Bytes(bytes) if number == 3 => check_fields::<PackageRevokeFlat>(bytes),
-            RawPayload::Bytes(bytes) if number == 4 => check_fields::<PackageRelease>(bytes),
-            RawPayload::Bytes(bytes) if number == 5 => check_fields::<PackageYank>(bytes),
-            _ => Ok(()),
-        }
-    }
-}
-
-impl Oneof for PackageEntry {
-    fn is_member(number: u32) -> bool {
-        match number {
-            1 | 2 | 3 | 4 | 5 => true,
-            _ => false,
-        }
+impl PackageEntry {
+    /// The message of what is kept.
+    fn finish(alloc: Global, draft: Draft<'_>) -> Result<PackageEntry, AllocError>
+        ensures { IfOk result (λ v. package_entry_seen v ≡ package_entry_made (member_kept two_texts_kept one_text_kept draft.entry.member)) }
+    {
+        let contents = match draft.member {
+            MemberDraft::Absent => return Ok(PackageEntry { contents: None }),
+            MemberDraft::Init(draft) => Contents::Init(Box::new(
+                alloc,
+                PackageInit::finish(alloc, draft)?,
+            )?),
+            MemberDraft::GrantFlat(draft) => Contents::GrantFlat(Box::new(
+                alloc,
+                PackageGrantFlat::finish(alloc, draft)?,
+            )?),
+            MemberDraft::RevokeFlat(draft) => Contents::RevokeFlat(Box::new(
+                alloc,
+                PackageRevokeFlat::finish(alloc, draft)?,
+            )?),
+            MemberDraft::Fourth(draft) => Contents::Release(Box::new(
+                alloc,
+                PackageRelease::finish(alloc, draft)?,
+            )?),
+            MemberDraft::Fifth(draft) => Contents::Yank(Box::new(
+                alloc,
+                PackageYank::finish(alloc, draft)?,
+            )?),
+        };
+        Ok(PackageEntry {
+            contents: Some(contents),
+        })
     }
 }
 
 impl Codec for PackageEntry {
+    ghost table = { package_entry_table };
+
     ghost Seen = { Option PackageMember };
 
     ghost seen = { package_entry_seen };
@@ -79,25 +87,9 @@ impl Codec for PackageEntry {
 
     ghost value = { package_entry_from };
 
-    #[tactic(auto, unfolding(crate::specs::PackageEntry::package_entry_from))]
-    fn from_fields(alloc: Global, fields: &[RawField<'_>]) -> Result<Self, WireError> {
-        let Some(member) = last_member::<PackageEntry>(fields) else {
-            return Ok(PackageEntry { contents: None });
-        };
-        let contents = match member {
-            1 => Contents::Init(read_member::<PackageEntry, PackageInit>(alloc, 1, fields)?),
-            2 => Contents::GrantFlat(read_member::<PackageEntry, PackageGrantFlat>(
-                alloc, 2, fields,
-            )?),
-            3 => Contents::RevokeFlat(read_member::<PackageEntry, PackageRevokeFlat>(
-                alloc, 3, fields,
-            )?),
-            4 => Contents::Release(read_member::<PackageEntry, PackageRelease>(alloc, 4, fields)?),
-            _ => Contents::Yank(read_member::<PackageEntry, PackageYank>(alloc, 5, fields)?),
-        };
-        Ok(PackageEntry {
-            contents: Some(contents),
-        })
+    fn read(alloc: Global, bytes: &[u8]) -> Result<PackageEntry, WireError> {
+        let draft = read_draft::<Draft<'_>>(alloc, bytes)?;
+        Ok(PackageEntry::finish(alloc, draft)?)
     }
 
     ghost written = { package_entry_fields };

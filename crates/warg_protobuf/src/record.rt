@@ -1,21 +1,22 @@
 //! Records of both kinds of log.
 
-ghost use Rattle.std.specs.Prelude.{◌≡◌, ◌++◌, map, OnOk, string_bytes};
-ghost use Rattle.warg_protobuf.specs.Reading.{payload_fault, fault_in};
+ghost use Rattle.std.specs.Prelude.{◌≡◌, ◌++◌, map, OnOk, IfOk, string_bytes};
+ghost use Rattle.warg_protobuf.specs.Drafts.{timestamp_kept, time_grown, RecordKept, record_kept, no_record, record_with, time_made, record_made};
 ghost use Rattle.warg_protobuf.specs.Record.{RecordValue, record_table, record_value, record_seen, record_from, record_fields, IsRecordOf, IsSoundRecord};
-ghost use Rattle.warg_protobuf.specs.Table.{takes};
 ghost use Rattle.warg_protobuf.specs.Timestamp.{timestamp_seen};
-ghost use Rattle.warg_protobuf.specs.Views.{payload_view, option_view};
+ghost use Rattle.warg_protobuf.specs.Table.{takes};
+ghost use Rattle.warg_protobuf.specs.Views.{option_view, Gives};
 ghost use Rattle.warg_protobuf.specs.Writing.{bytes_of};
 
+use crate::draft::{Draft, read_draft, read_into};
 use crate::error::WireError;
-use crate::field::{RawField, RawPayload, check_fields};
-use crate::message::{Codec, Schema};
-use crate::nested::{push_list, push_optional, read_list, read_merged};
+use crate::field::{RawField, RawPayload};
+use crate::message::Codec;
+use crate::nested::{push_list, push_optional};
 use crate::operator_entry::OperatorEntry;
 use crate::package_entry::PackageEntry;
-use crate::text::{check_text, last_number, read_optional_text};
-use crate::timestamp::TimestampPair;
+use crate::text::read_text;
+use crate::timestamp::{TimestampDraft, TimestampPair};
 use crate::writing::{push_number, push_optional_text};
 use std::alloc::{AllocError, Global};
 
@@ -38,19 +39,113 @@ pub type PackageRecord = Record<PackageEntry>;
 /// A record of an operator log.
 pub type OperatorRecord = Record<OperatorEntry>;
 
-impl<E: Codec> Schema for Record<E> {
-    ghost table = { record_table E.table };
+/// A record that is read: its entries are whole, the rest is where it stands in the bytes.
+#[derive(Drop)]
+struct RecordDraft<'a, E> {
+    alloc: Global,
+    prev: Option<&'a str>,
+    version: u64,
+    time: Option<TimestampDraft>,
+    entries: Vec<E>,
+}
 
-    fn takes(number: u32, wire_type: u32) -> bool {
-        takes_record::<E>(number, wire_type)
-    }
-
-    fn check(number: u32, payload: RawPayload<'_>) -> Result<(), WireError> {
-        check_record::<E>(number, payload)
+impl<'a, E: Codec> RecordDraft<'a, E> {
+    fn grow_time(&mut self, bytes: &'a [u8]) -> Result<(), WireError>
+        ensures given { Gives (λ _. option_view timestamp_kept self.new.time) result (time_grown (option_view timestamp_kept self.old.time) bytes.now) }
+        ensures others { OnOk result ((self.new.prev ≡ self.old.prev) × (self.new.version ≡ self.old.version) × (self.new.entries ≡ self.old.entries)) }
+    {
+        let mut time = match self.time {
+            Some(time) => time,
+            None => TimestampDraft::new(self.alloc),
+        };
+        read_into(&mut time, bytes)?;
+        self.time = Some(time);
+        Ok(())
     }
 }
 
+impl<'a, E: Codec> Draft<'a> for RecordDraft<'a, E> {
+    ghost table = { record_table E.table };
+
+    ghost Kept = { RecordKept E.Seen };
+
+    ghost kept = { record_kept E.seen };
+
+    ghost empty = { no_record };
+
+    ghost with_field = { record_with E.table E.value };
+
+    ghost TakesMemory = { Unit {0} };
+
+    fn new(alloc: Global) -> Self {
+        RecordDraft {
+            alloc,
+            prev: None,
+            version: 0,
+            time: None,
+            entries: Vec::new(alloc),
+        }
+    }
+
+    fn takes(number: u32, wire_type: u32) -> bool
+        ensures { result ≡ takes (record_table E.table) number wire_type }
+    {
+        match number {
+            1 | 3 | 4 => wire_type == 2,
+            2 => wire_type == 0,
+            _ => true,
+        }
+    }
+
+    #[tactic(auto, unfolding(crate::specs::Reading::payload_fault))]
+    fn grow(&mut self, field: RawField<'a>) -> Result<(), WireError> {
+        E::laws();
+        match field.payload {
+            RawPayload::Number(value) if field.number == 2 => self.version = value,
+            RawPayload::Bytes(bytes) if field.number == 1 => self.prev = Some(read_text(bytes)?),
+            RawPayload::Bytes(bytes) if field.number == 3 => self.grow_time(bytes)?,
+            RawPayload::Bytes(bytes) if field.number == 4 => self
+                .entries
+                .push(E::read(self.alloc, bytes)?)?,
+            _ => {}
+        }
+        Ok(())
+    }
+}
+
+impl<E: Codec> Record<E> {
+    /// The message of what is kept.
+    fn finish(alloc: Global, draft: RecordDraft<'_, E>) -> Result<Record<E>, AllocError>
+        ensures { IfOk result (λ v. record_seen E.seen v ≡ record_made (record_kept E.seen draft.entry)) }
+    {
+        Ok(Record {
+            prev: own_text(alloc, draft.prev)?,
+            version: (draft.version % (1 << 32)) as u32,
+            time: finish_time(draft.time),
+            entries: draft.entries,
+        })
+    }
+}
+
+fn own_text(alloc: Global, text: Option<&str>) -> Result<Option<String>, AllocError>
+    ensures { IfOk result (λ t. option_view (λ s. string_bytes s) t ≡ option_view (λ t. t.now) text.entry) }
+{
+    let Some(text) = text else {
+        return Ok(None);
+    };
+    Ok(Some(String::from_str(alloc, text)?))
+}
+
+fn finish_time(time: Option<TimestampDraft>) -> Option<TimestampPair>
+    ensures { option_view timestamp_seen result ≡ option_view time_made (option_view timestamp_kept time) }
+{
+    let time = time?;
+    Some(time.finish())
+}
+
 impl<E: Codec> Codec for Record<E> {
+    ghost table = { record_table E.table };
+
     ghost Seen = { RecordValue E.Seen };
 
     ghost seen = { record_seen E.seen };
@@ -59,18 +154,10 @@ impl<E: Codec> Codec for Record<E> {
 
     ghost value = { record_from E.table E.value };
 
-    #[tactic(auto, unfolding(crate::specs::Record::record_from))]
-    fn from_fields(alloc: Global, fields: &[RawField<'_>]) -> Result<Self, WireError> {
-        let prev = read_optional_text(alloc, 1, fields)?;
-        let version = (last_number(2, fields) % (1 << 32)) as u32;
-        let time = read_merged::<TimestampPair>(alloc, 3, fields)?;
-        let entries = read_list::<E>(alloc, 4, fields)?;
-        Ok(Record {
-            prev,
-            version,
-            time,
-            entries,
-        })
+    fn read(alloc: Global, bytes: &[u8]) -> Result<Record<E>, WireError> {
+        E::laws();
+        let draft = read_draft::<RecordDraft<'_, E>>(alloc, bytes)?;
+        Ok(Record::finish(alloc, draft)?)
     }
 
     ghost written = { record_fields (λ v. bytes_of (E.written v)) };
@@ -90,28 +177,6 @@ impl<E: Codec> Codec for Record<E> {
 
     fn laws() {
         E::laws();
-    }
-}
-
-pub(crate) fn takes_record<E: Schema>(number: u32, wire_type: u32) -> bool
-    ensures { result ≡ takes (record_table E.table) number wire_type }
-{
-    match number {
-        1 | 3 | 4 => wire_type == 2,
-        2 => wire_type == 0,
-        _ => true,
-    }
-}
-
-#[tactic(auto, unfolding(crate::specs::Reading::payload_fault))]
-pub(crate) fn check_record<E: Schema>(number: u32, payload: RawPayload<'_>) -> Result<(), WireError>
-    ensures { payload_fault (record_table E.table) number (payload_view payload.entry) ≡ fault_in result }
-{
-    match payload {
-        RawPayload::Bytes(bytes) if number == 1 => check_text(bytes),
-        RawPayload::Bytes(bytes) if number == 3 => check_fields::<TimestampPair>(bytes),
-        RawPayload::Bytes(bytes) if number == 4 => check_fields::<E>(bytes),
-        _ => Ok(()),
     }
 }
 

@@ -1,14 +1,13 @@
 //! The entry that releases a version.
 
-ghost use Rattle.std.specs.Prelude.{Ok};
-ghost use Rattle.warg_protobuf.specs.declared.error.WireError.{WireError};
+ghost use Rattle.std.specs.Prelude.{◌≡◌, IfOk};
+ghost use Rattle.warg_protobuf.specs.Drafts.{two_texts_kept, release_made};
 ghost use Rattle.warg_protobuf.specs.Release.{release_table, ReleaseValue, release_seen, release_from, IsReleaseOf, release_fields, IsSoundRelease};
 
+use crate::draft::read_draft;
 use crate::error::WireError;
-use crate::field::{RawField, RawPayload};
-use crate::message::{Codec, Schema};
-use crate::shape::{check_two_texts, push_two_texts, takes_two_texts};
-use crate::text::read_text;
+use crate::message::Codec;
+use crate::shape::{TwoTexts, push_two_texts};
 use std::alloc::{AllocError, Global};
 
 /// Releases a version of a package.
@@ -20,19 +19,21 @@ pub struct PackageRelease {
     pub content_hash: String,
 }
 
-impl Schema for PackageRelease {
-    ghost table = { release_table };
-
-    fn takes(number: u32, wire_type: u32) -> bool {
-        takes_two_texts(number, wire_type)
-    }
-
-    fn check(number: u32, payload: RawPayload<'_>) -> Result<(), WireError> {
-        check_two_texts(number, payload)
+impl PackageRelease {
+    /// The message of what is kept.
+    pub(crate) fn finish(alloc: Global, draft: TwoTexts<'_>) -> Result<PackageRelease, AllocError>
+        ensures { IfOk result (λ v. release_seen v ≡ release_made (two_texts_kept draft.entry)) }
+    {
+        Ok(PackageRelease {
+            version: String::from_str(alloc, draft.first)?,
+            content_hash: String::from_str(alloc, draft.second)?,
+        })
     }
 }
 
 impl Codec for PackageRelease {
+    ghost table = { release_table };
+
     ghost Seen = { ReleaseValue };
 
     ghost seen = { release_seen };
@@ -41,14 +42,9 @@ impl Codec for PackageRelease {
 
     ghost value = { release_from };
 
-    #[tactic(auto, unfolding(crate::specs::Release::release_from))]
-    fn from_fields(alloc: Global, fields: &[RawField<'_>]) -> Result<Self, WireError> {
-        let version = read_text(alloc, 1, fields)?;
-        let content_hash = read_text(alloc, 2, fields)?;
-        Ok(PackageRelease {
-            version,
-            content_hash,
-        })
+    fn read(alloc: Global, bytes: &[u8]) -> Result<PackageRelease, WireError> {
+        let draft = read_draft::<TwoTexts<'_>>(alloc, bytes)?;
+        Ok(PackageRelease::finish(alloc, draft)?)
     }
 
     ghost written = { release_fields };

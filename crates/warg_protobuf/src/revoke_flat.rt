@@ -1,15 +1,13 @@
 //! Entries that revoke permissions.
 
-ghost use Rattle.std.specs.Prelude.{Ok};
-ghost use Rattle.warg_protobuf.specs.declared.error.WireError.{WireError};
+ghost use Rattle.std.specs.Prelude.{◌≡◌, IfOk};
+ghost use Rattle.warg_protobuf.specs.Drafts.{text_and_numbers_kept, revoke_flat_made};
 ghost use Rattle.warg_protobuf.specs.RevokeFlat.{revoke_flat_table, RevokeFlatValue, revoke_flat_seen, revoke_flat_from, IsRevokeFlatOf, revoke_flat_fields, IsSoundRevokeFlat};
 
+use crate::draft::read_draft;
 use crate::error::WireError;
-use crate::field::{RawField, RawPayload};
-use crate::message::{Codec, Schema};
-use crate::shape::{check_text_and_numbers, push_text_and_numbers, takes_text_and_numbers};
-use crate::signed::read_signed;
-use crate::text::read_text;
+use crate::message::Codec;
+use crate::shape::{TextAndNumbers, push_text_and_numbers};
 use std::alloc::{AllocError, Global};
 
 /// Revokes permissions on an operator log.
@@ -27,19 +25,21 @@ pub type OperatorRevokeFlat = RevokeFlat;
 /// In a package log.
 pub type PackageRevokeFlat = RevokeFlat;
 
-impl Schema for RevokeFlat {
-    ghost table = { revoke_flat_table };
-
-    fn takes(number: u32, wire_type: u32) -> bool {
-        takes_text_and_numbers(number, wire_type)
-    }
-
-    fn check(number: u32, payload: RawPayload<'_>) -> Result<(), WireError> {
-        check_text_and_numbers(number, payload)
+impl RevokeFlat {
+    /// The message of what is kept.
+    pub(crate) fn finish(alloc: Global, draft: TextAndNumbers<'_>) -> Result<RevokeFlat, AllocError>
+        ensures { IfOk result (λ v. revoke_flat_seen v ≡ revoke_flat_made (text_and_numbers_kept draft.entry)) }
+    {
+        Ok(RevokeFlat {
+            key_id: String::from_str(alloc, draft.text)?,
+            permissions: draft.numbers,
+        })
     }
 }
 
 impl Codec for RevokeFlat {
+    ghost table = { revoke_flat_table };
+
     ghost Seen = { RevokeFlatValue };
 
     ghost seen = { revoke_flat_seen };
@@ -48,14 +48,9 @@ impl Codec for RevokeFlat {
 
     ghost value = { revoke_flat_from };
 
-    #[tactic(auto, unfolding(crate::specs::RevokeFlat::revoke_flat_from))]
-    fn from_fields(alloc: Global, fields: &[RawField<'_>]) -> Result<Self, WireError> {
-        let key_id = read_text(alloc, 1, fields)?;
-        let permissions = read_signed(alloc, 2, fields)?;
-        Ok(RevokeFlat {
-            key_id,
-            permissions,
-        })
+    fn read(alloc: Global, bytes: &[u8]) -> Result<RevokeFlat, WireError> {
+        let draft = read_draft::<TextAndNumbers<'_>>(alloc, bytes)?;
+        Ok(RevokeFlat::finish(alloc, draft)?)
     }
 
     ghost written = { revoke_flat_fields };

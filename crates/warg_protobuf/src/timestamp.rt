@@ -1,14 +1,14 @@
 //! A record's time.
 
-ghost use Rattle.std.specs.Prelude.{Ok};
-ghost use Rattle.warg_protobuf.specs.declared.error.WireError.{WireError};
+ghost use Rattle.std.specs.Prelude.{◌≡◌};
+ghost use Rattle.warg_protobuf.specs.Drafts.{TimestampKept, timestamp_kept, no_time, timestamp_with, time_made};
 ghost use Rattle.warg_protobuf.specs.Timestamp.{timestamp_table, TimestampValue, timestamp_seen, timestamp_from, IsTimestampOf, timestamp_fields, IsSoundTimestamp};
 
+use crate::draft::{Draft, read_draft};
 use crate::error::WireError;
 use crate::field::{RawField, RawPayload};
-use crate::message::{Codec, Schema};
+use crate::message::Codec;
 use crate::signed::low_signed;
-use crate::text::last_number;
 use crate::writing::{as_number, push_number};
 use std::alloc::{AllocError, Global};
 
@@ -21,8 +21,43 @@ pub struct TimestampPair {
     pub nanos: i32,
 }
 
-impl Schema for TimestampPair {
+/// The last numbers of a time that is being read, in however many pieces.
+#[derive(Clone, Copy)]
+pub(crate) struct TimestampDraft {
+    seconds: u64,
+    nanos: u64,
+}
+
+impl TimestampDraft {
+    pub(crate) fn finish(&self) -> TimestampPair
+        ensures { timestamp_seen result ≡ time_made (timestamp_kept self.now) }
+    {
+        TimestampPair {
+            seconds: self.seconds.cast_signed(),
+            nanos: low_signed(self.nanos),
+        }
+    }
+}
+
+impl<'a> Draft<'a> for TimestampDraft {
     ghost table = { timestamp_table };
+
+    ghost Kept = { TimestampKept };
+
+    ghost kept = { timestamp_kept };
+
+    ghost empty = { no_time };
+
+    ghost with_field = { timestamp_with };
+
+    ghost TakesMemory = { ⊥ };
+
+    fn new(_alloc: Global) -> Self {
+        TimestampDraft {
+            seconds: 0,
+            nanos: 0,
+        }
+    }
 
     fn takes(number: u32, wire_type: u32) -> bool {
         match number {
@@ -32,12 +67,21 @@ impl Schema for TimestampPair {
     }
 
     #[tactic(auto, unfolding(crate::specs::Reading::payload_fault))]
-    fn check(_number: u32, _payload: RawPayload<'_>) -> Result<(), WireError> {
+    fn grow(&mut self, field: RawField<'a>) -> Result<(), WireError> {
+        if let RawPayload::Number(value) = field.payload {
+            match field.number {
+                1 => self.seconds = value,
+                2 => self.nanos = value,
+                _ => {}
+            }
+        }
         Ok(())
     }
 }
 
 impl Codec for TimestampPair {
+    ghost table = { timestamp_table };
+
     ghost Seen = { TimestampValue };
 
     ghost seen = { timestamp_seen };
@@ -46,11 +90,9 @@ impl Codec for TimestampPair {
 
     ghost value = { timestamp_from };
 
-    #[tactic(auto, unfolding(crate::specs::Timestamp::timestamp_from))]
-    fn from_fields(_alloc: Global, fields: &[RawField<'_>]) -> Result<Self, WireError> {
-        let seconds = last_number(1, fields).cast_signed();
-        let nanos = low_signed(last_number(2, fields));
-        Ok(TimestampPair { seconds, nanos })
+    fn read(alloc: Global, bytes: &[u8]) -> Result<TimestampPair, WireError> {
+        let draft = read_draft::<TimestampDraft>(alloc, bytes)?;
+        Ok(draft.finish())
     }
 
     ghost written = { timestamp_fields };

@@ -1,14 +1,13 @@
 //! The entry that yanks a version.
 
-ghost use Rattle.std.specs.Prelude.{Ok};
-ghost use Rattle.warg_protobuf.specs.declared.error.WireError.{WireError};
+ghost use Rattle.std.specs.Prelude.{◌≡◌, IfOk};
+ghost use Rattle.warg_protobuf.specs.Drafts.{one_text_kept, yank_made};
 ghost use Rattle.warg_protobuf.specs.Yank.{yank_table, YankValue, yank_seen, yank_from, IsYankOf, yank_fields, IsSoundYank};
 
+use crate::draft::read_draft;
 use crate::error::WireError;
-use crate::field::{RawField, RawPayload};
-use crate::message::{Codec, Schema};
-use crate::shape::{check_one_text, push_one_text, takes_one_text};
-use crate::text::read_text;
+use crate::message::Codec;
+use crate::shape::{OneText, push_one_text};
 use std::alloc::{AllocError, Global};
 
 /// Yanks a released version of a package.
@@ -18,19 +17,20 @@ pub struct PackageYank {
     pub version: String,
 }
 
-impl Schema for PackageYank {
-    ghost table = { yank_table };
-
-    fn takes(number: u32, wire_type: u32) -> bool {
-        takes_one_text(number, wire_type)
-    }
-
-    fn check(number: u32, payload: RawPayload<'_>) -> Result<(), WireError> {
-        check_one_text(number, payload)
+impl PackageYank {
+    /// The message of what is kept.
+    pub(crate) fn finish(alloc: Global, draft: OneText<'_>) -> Result<PackageYank, AllocError>
+        ensures { IfOk result (λ v. yank_seen v ≡ yank_made (one_text_kept draft.entry)) }
+    {
+        Ok(PackageYank {
+            version: String::from_str(alloc, draft.text)?,
+        })
     }
 }
 
 impl Codec for PackageYank {
+    ghost table = { yank_table };
+
     ghost Seen = { YankValue };
 
     ghost seen = { yank_seen };
@@ -39,10 +39,9 @@ impl Codec for PackageYank {
 
     ghost value = { yank_from };
 
-    #[tactic(auto, unfolding(crate::specs::Yank::yank_from))]
-    fn from_fields(alloc: Global, fields: &[RawField<'_>]) -> Result<Self, WireError> {
-        let version = read_text(alloc, 1, fields)?;
-        Ok(PackageYank { version })
+    fn read(alloc: Global, bytes: &[u8]) -> Result<PackageYank, WireError> {
+        let draft = read_draft::<OneText<'_>>(alloc, bytes)?;
+        Ok(PackageYank::finish(alloc, draft)?)
     }
 
     ghost written = { yank_fields };

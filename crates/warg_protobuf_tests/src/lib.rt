@@ -1,6 +1,7 @@
 //! The tests of `warg_protobuf`: worked rows, whose bytes are written in hex, with values by hand.
 #![tactic(auto)]
 
+pub mod callers;
 #[cfg(test)]
 mod entries;
 #[cfg(test)]

@@ -1,16 +1,22 @@
 //! The protocol of a package registry: records of operator and package logs in signed envelopes, the
-//! states that they add up to, and the reading of whole logs. What the crates below prove is handed on
-//! here under one roof.
+//! states that they add up to, and the reading of whole logs.
+//!
+//! A program that lists this crate alone reaches all that it needs: what the crates below prove is handed
+//! on here under one roof, with its laws in `laws`, and in `specs/` what a clause of one's own may cite.
 #![tactic(auto)]
 
+pub mod laws;
 pub mod operator;
 pub mod package;
 pub mod registry;
 
+pub use indexmap::IndexSet;
+pub use semver::Error as VersionParseError;
 pub use warg_crypto::{
-    Clock, Decode, DecodeError, Encode, JsonError, JsonValue, Signable, TimeError, Timestamp,
+    ByteVisitor, Clock, Decode, DecodeError, Encode, Incoherence, JsonError, JsonValue, Signable,
+    TimeError, Timestamp, VisitBytes, WireFault, hash, json, prefix, signing, toy,
 };
-pub use warg_protobuf::{Envelope, Message, WireError};
+pub use warg_protobuf::{Envelope, EnvelopeView, Message, WireError};
 pub use warg_records::{
     InvalidPermission, ParseEnvelopeError, PermissionParseError, ProtoEnvelope, ProtoEnvelopeBody,
     PublishedProtoEnvelope, PublishedProtoEnvelopeBody, Record, SerdeEnvelope, Version, VersionReq,

@@ -23,10 +23,11 @@ pub(crate) fn text_of<T: Display>(alloc: Global, value: Option<&T>) -> Result<St
     }
 }
 
-/// The answer to `head time` or `head digest`.
+/// The answer to `head time`, `head version` or `head digest`.
 pub(crate) fn head(alloc: Global, head: &Option<Head>, subject: &str) -> Result<String, Fail> {
     match head {
         Some(head) if subject == "time" => time(alloc, head.timestamp),
+        Some(head) if subject == "version" => shown(alloc, &head.version),
         Some(head) => shown(alloc, &head.digest),
         None => none(alloc),
     }

@@ -5,8 +5,8 @@
 //! names the one before it; an `unlinked` record names none, and a `mislinked` one another.
 use crate::script::words_of;
 use std::test::Fail;
-use warg_crypto::hash::HashAlgorithm;
 use warg_protocol::Timestamp;
+use warg_protocol::hash::HashAlgorithm;
 use warg_protocol::registry::RecordId;
 
 #[derive(Clone, Copy)]
@@ -53,8 +53,12 @@ impl<'a> Draft<'a> {
         match word {
             "unlinked" => self.link = Link::Missing,
             "mislinked" => self.link = Link::Wrong,
-            "v7" => self.version = 7,
-            _ => return Err(Fail::new("a strange word before the colon")),
+            _ => {
+                let number = word
+                    .strip_prefix("v")
+                    .ok_or("a strange word before the colon")?;
+                self.version = number.parse::<u32>()?;
+            }
         }
         Ok(())
     }

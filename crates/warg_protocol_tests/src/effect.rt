@@ -3,7 +3,7 @@ use crate::people::id;
 use crate::script::{Scripted, words_of};
 use std::alloc::Global;
 use std::test::Fail;
-use warg_crypto::signing::KeyID;
+use warg_protocol::signing::KeyID;
 use warg_protocol::{Effect, ProtoEnvelope};
 
 fn effect_at<L: Scripted>(

@@ -2,9 +2,8 @@
 use crate::script::{Scripted, words_of};
 use std::alloc::Global;
 use std::test::Fail;
-use warg_crypto::WireFault;
-use warg_crypto::signing::SignatureParseError;
-use warg_protocol::{DecodeError, ParseEnvelopeError, RunCause, WireError};
+use warg_protocol::signing::SignatureParseError;
+use warg_protocol::{DecodeError, ParseEnvelopeError, RunCause, WireError, WireFault};
 
 /// The cause that words say: `Parse` with the cases of the fault from the outside in, or a validation error.
 pub fn cause<L: Scripted>(alloc: Global, words: &str) -> Result<RunCause<L::Error>, Fail> {

@@ -2,7 +2,7 @@
 use crate::play::{play, state_of};
 use std::process::Abort;
 use std::test::Fail;
-use warg_protocol::operator::LogState;
+use warg_protocol::operator::{LogState, OPERATOR_RECORD_VERSION};
 
 #[test]
 fn a_log_begins(rt: HostRuntime) -> Result<(), Fail> {
@@ -169,6 +169,64 @@ fn later_records_are_refused(rt: HostRuntime) -> Result<(), Fail> {
         ? head time = 5.0
     ";
     play::<LogState>(&rt, rt.alloc(), script)
+}
+
+#[test]
+fn versions_never_fall(rt: HostRuntime) -> Result<(), Fail> {
+    assert_eq!(rt; OPERATOR_RECORD_VERSION, 1);
+    let script = "
+        alice 1.0 v2: init alice
+        ! ProtocolVersionNotAllowed 2
+        alice 1.0: init alice
+        ? head version = 0
+        alice 1.0 v2:
+        ! ProtocolVersionNotAllowed 2
+        alice 1.0 mislinked v2:
+        ! RecordHashDoesNotMatch
+        alice 1.0 v1:
+        ? head version = 1
+        alice 0.5:
+        ! ProtocolVersionNotAllowed 0
+        alice 1.0 v1: define a
+    ";
+    play::<LogState>(&rt, rt.alloc(), script)
+}
+
+#[test]
+fn no_key_brings_itself_in(rt: HostRuntime) -> Result<(), Fail> {
+    for script in [
+        // From version 1 on the signer of an init owns its key.
+        "
+        carol 1.0 v1: init alice, grant carol commit
+        ! KeyIDNotRecognized carol
+        carol 1.0: init alice, grant carol commit
+        ? signs carol = true
+        carol 1.0 v1:
+        ? head version = 1
+        ",
+        "
+        alice 1.0 v1: grant bob
+        ! UnauthorizedAction alice commit
+        alice 1.0 v1: init alice
+        alice 1.0 v1: grant mallory
+        ! EmptyGrant mallory
+        mallory 1.0 v1: grant mallory
+        ! UnauthorizedAction mallory commit
+        ? key mallory = none
+        alice 1.0 v1: grant mallory commit
+        mallory 1.0 v1: grant bob importNamespace
+        ! UnauthorizedAction mallory importNamespace
+        mallory 1.0 v1:
+        ",
+        // What version 0 took stays.
+        "
+        alice 1.0: init alice, grant bob
+        bob 1.0 v1:
+        ",
+    ] {
+        play::<LogState>(&rt, rt.alloc(), script)?;
+    }
+    Ok(())
 }
 
 fn is_copied(state: &LogState) -> Result<bool, Fail> {

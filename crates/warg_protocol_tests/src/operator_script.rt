@@ -6,8 +6,8 @@ use crate::people::{id, key, signer};
 use crate::script::{Scripted, permissions_of};
 use std::alloc::Global;
 use std::test::Fail;
-use warg_crypto::hash::HashAlgorithm;
 use warg_protocol::ProtoEnvelope;
+use warg_protocol::hash::HashAlgorithm;
 use warg_protocol::operator::{
     LogState, OperatorEntry, OperatorRecord, Permission, ValidationError,
 };

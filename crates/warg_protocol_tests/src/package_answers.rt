@@ -3,8 +3,8 @@ use crate::answers::{head, none, shown, text_of, time};
 use crate::people::{id, owner};
 use std::alloc::Global;
 use std::test::Fail;
-use warg_crypto::signing::KeyID;
 use warg_protocol::package::{LogState, Release, ReleaseState};
+use warg_protocol::signing::KeyID;
 use warg_protocol::{Timestamp, Version, VersionReq};
 
 /// The answer to a look-up.
@@ -41,7 +41,7 @@ fn permissions(alloc: Global, state: &LogState, name: &str) -> Result<String, Fa
         return none(alloc);
     };
     let mut text = String::from_str(alloc, "only")?;
-    for permission in permissions {
+    for permission in permissions.iter() {
         write!(text, " {permission}")?;
     }
     Ok(text)

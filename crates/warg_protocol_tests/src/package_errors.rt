@@ -2,10 +2,10 @@
 use crate::people::id;
 use std::alloc::Global;
 use std::test::Fail;
-use warg_crypto::hash::HashAlgorithm;
-use warg_crypto::signing::SignatureError;
 use warg_protocol::Version;
+use warg_protocol::hash::HashAlgorithm;
 use warg_protocol::package::{Permission, ValidationError};
+use warg_protocol::signing::SignatureError;
 
 /// The error that words say: its case, a person or a version, and a permission.
 pub fn error(
@@ -25,6 +25,9 @@ pub fn error(
         "PermissionNotFoundToRevoke" => Ok(ValidationError::PermissionNotFoundToRevoke {
             key_id: id(alloc, subject)?,
             permission: permission.parse::<Permission>()?,
+        }),
+        "EmptyGrant" => Ok(ValidationError::EmptyGrant {
+            key_id: id(alloc, subject)?,
         }),
         "ProtocolVersionNotAllowed" => Ok(ValidationError::ProtocolVersionNotAllowed {
             version: subject.parse::<u32>()?,

@@ -3,7 +3,7 @@ use crate::play::{play, state_of};
 use std::alloc::Global;
 use std::process::Abort;
 use std::test::Fail;
-use warg_protocol::package::{LogState, Release, ReleaseState};
+use warg_protocol::package::{LogState, PACKAGE_RECORD_VERSION, Release, ReleaseState};
 
 #[test]
 fn a_log_begins(rt: HostRuntime) -> Result<(), Fail> {
@@ -258,6 +258,83 @@ fn releases_and_yanks_are_refused(rt: HostRuntime) -> Result<(), Fail> {
         ! YankOfUnreleased 1.0.0+b
     ";
     play::<LogState>(&rt, rt.alloc(), script)
+}
+
+#[test]
+fn versions_never_fall(rt: HostRuntime) -> Result<(), Fail> {
+    assert_eq!(rt; PACKAGE_RECORD_VERSION, 1);
+    for script in [
+        "
+        alice 1.0 v2: init alice
+        ! ProtocolVersionNotAllowed 2
+        alice 1.0: init alice
+        ? head version = 0
+        alice 1.0 v2:
+        ! ProtocolVersionNotAllowed 2
+        alice 1.0 mislinked v2:
+        ! RecordHashDoesNotMatch
+        alice 0.5 v2:
+        ! ProtocolVersionNotAllowed 2
+        alice 1.0 v1:
+        ? head version = 1
+        alice 1.0 v1: release 1.0.0
+        alice 1.0 v4294967295:
+        ! ProtocolVersionNotAllowed 4294967295
+        ",
+        "
+        alice 1.0 v1: init alice
+        ? head version = 1
+        alice 1.0:
+        ! ProtocolVersionNotAllowed 0
+        alice 0.5:
+        ! ProtocolVersionNotAllowed 0
+        alice 1.0 mislinked:
+        ! RecordHashDoesNotMatch
+        alice 0.5 v1:
+        ! TimestampLowerThanPrevious
+        ",
+    ] {
+        play::<LogState>(&rt, rt.alloc(), script)?;
+    }
+    Ok(())
+}
+
+#[test]
+fn no_key_brings_itself_in(rt: HostRuntime) -> Result<(), Fail> {
+    for script in [
+        "
+        alice 1.0 v1: grant bob
+        ! FirstEntryIsNotInit
+        carol 1.0 v1: init alice, grant carol release
+        ! KeyIDNotRecognized carol
+        alice 1.0 v1: init alice
+        alice 1.0 v1: grant mallory
+        ! EmptyGrant mallory
+        mallory 1.0 v1: grant mallory
+        ! EmptyGrant mallory
+        mallory 1.0 v1: grant mallory yank
+        ! UnauthorizedAction mallory yank
+        ? key mallory = none
+        ? permissions mallory = none
+        alice 1.0 v1: grant bob yank
+        bob 1.0 v1: grant mallory yank
+        bob 1.0 v1: revoke mallory
+        mallory 1.0 v1:
+        ",
+        // What version 0 took stays.
+        "
+        alice 1.0: init alice
+        mallory 1.0: grant mallory
+        mallory 1.0 v1:
+        ? head version = 1
+        ? permissions mallory = only
+        mallory 1.0 v1: grant mallory
+        ! EmptyGrant mallory
+        ",
+    ] {
+        play::<LogState>(&rt, rt.alloc(), script)?;
+    }
+    Ok(())
 }
 
 const BY_BOB: &str = "

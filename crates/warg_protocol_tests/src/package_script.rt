@@ -6,7 +6,7 @@ use crate::people::{id, key, signer};
 use crate::script::{Scripted, permissions_of};
 use std::alloc::Global;
 use std::test::Fail;
-use warg_crypto::hash::HashAlgorithm;
+use warg_protocol::hash::HashAlgorithm;
 use warg_protocol::package::{LogState, PackageEntry, PackageRecord, Permission, ValidationError};
 use warg_protocol::registry::RecordId;
 use warg_protocol::{ProtoEnvelope, Version};

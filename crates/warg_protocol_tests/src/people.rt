@@ -2,8 +2,8 @@
 //! of their keys were computed elsewhere.
 use std::alloc::{AllocError, Global};
 use std::test::Fail;
-use warg_crypto::signing::{KeyID, PublicKey, Signer};
-use warg_crypto::toy::ToySigner;
+use warg_protocol::signing::{KeyID, PublicKey, Signer};
+use warg_protocol::toy::ToySigner;
 
 const PEOPLE: [(&str, &str); 4] = [
     (

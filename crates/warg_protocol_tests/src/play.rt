@@ -12,7 +12,7 @@ use std::fmt::Debug;
 use std::process::Abort;
 use std::slice;
 use std::test::Fail;
-use warg_crypto::toy::ToyVerifier;
+use warg_protocol::toy::ToyVerifier;
 use warg_protocol::{ProtoEnvelope, RunCause, run, run_from};
 
 /// A log on the way.

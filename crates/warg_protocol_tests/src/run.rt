@@ -7,7 +7,7 @@ use std::fmt::Debug;
 use std::process::Abort;
 use std::slice;
 use std::test::Fail;
-use warg_crypto::toy::ToyVerifier;
+use warg_protocol::toy::ToyVerifier;
 use warg_protocol::{ProtoEnvelope, Record, RunError, operator, package, run};
 
 // The strings of a script without answers. A record names the one before it, be that lawful or not.

@@ -48,6 +48,7 @@ fn a_refusal_of_a_package_says_why(rt: HostRuntime) -> Result<(), Fail> {
         NoPreviousHashAfterInit = non-initial record contained no previous hash
         ProtocolVersionNotAllowed 7 = protocol version 7 not allowed
         TimestampLowerThanPrevious = record has lower timestamp than previous
+        EmptyGrant x = an entry granted no permission to key x
         ReleaseOfReleased 1.0.0 = an entry attempted to release version 1.0.0 which is already released
         YankOfUnreleased 1.0.0 = an entry attempted to yank version 1.0.0 which had not yet been released
         YankOfYanked 1.0.0 = an entry attempted to yank version 1.0.0 which is already yanked
@@ -72,6 +73,7 @@ fn a_refusal_of_an_operator_says_why(rt: HostRuntime) -> Result<(), Fail> {
         NoPreviousHashAfterInit = non-initial record contained no previous hash
         ProtocolVersionNotAllowed 7 = protocol version 7 not allowed
         TimestampLowerThanPrevious = record has lower timestamp than previous
+        EmptyGrant x = an entry granted no permission to key x
         InvalidNamespace A = the namespace `A` is invalid; namespace must be a lowercased kebab case string
         NamespaceAlreadyDefined a = the namespace `a` is already defined and cannot be redefined
         OutOfMemory = OutOfMemory

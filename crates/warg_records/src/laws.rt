@@ -19,6 +19,8 @@ ghost use Rattle.warg_records.specs.Envelopes.{IsHonest, envelope_message};
 ghost use Rattle.warg_records.specs.Letters.{Held};
 
 mod equality;
+mod registry;
+mod texts;
 mod whole;
 
 use crate::{ProtoEnvelope, Record};
@@ -28,6 +30,16 @@ pub use equality::{
     are_same_package_permissions, are_same_package_records, are_same_parse_errors,
     are_same_permission_errors, are_same_published_bodies, are_same_published_envelopes,
     are_same_serde_envelopes,
+};
+pub use registry::{
+    are_same_checkpoints, are_same_log_ids, are_same_log_leaves, are_same_map_leaves,
+    are_same_package_name_errors, are_same_package_names, are_same_record_ids,
+    are_same_timestamped_checkpoints, compare_log_ids, compare_package_names, compare_record_ids,
+    feed_package_name,
+};
+pub use texts::{
+    print_log_id, print_operator_permission, print_package_name, print_package_permission,
+    print_record_id,
 };
 use warg_protobuf::laws::{decoding_computes, exactly_one};
 pub use whole::{operator_records_are_whole, package_records_are_whole};

@@ -35,6 +35,10 @@ pub use serde_envelope::SerdeEnvelope;
 use std::alloc::{AllocError, Global};
 use warg_crypto::hash::AnyHash;
 use warg_crypto::{Decode, DecodeError};
+pub use warg_protobuf::{Envelope, EnvelopeView};
+
+/// The newest version of the protocol: that of new records of either kind.
+pub const RECORD_VERSION: u32 = 1;
 
 /// A record of one kind of log.
 pub trait Record: Decode + Drop {

@@ -14,6 +14,7 @@ mod permission;
 mod reading;
 mod writing;
 
+use crate::RECORD_VERSION;
 use crate::entry::{Entry, SharedEntry};
 use crate::laws::{operator_records_are_whole, record_reading_computes};
 use crate::log_record::LogRecord;
@@ -26,8 +27,8 @@ use warg_crypto::{DecodeError, Encode, Signable};
 use warg_protobuf as message;
 use warg_protobuf::Message;
 
-/// The version of the protocol that operator records have.
-pub const OPERATOR_RECORD_VERSION: u32 = 0;
+/// The newest version of the protocol that an operator record may have.
+pub const OPERATOR_RECORD_VERSION: u32 = RECORD_VERSION;
 
 impl Encode for OperatorRecord {
     ghost encoding = { λ r. operator_content_of (said r) };

@@ -16,6 +16,7 @@ mod permission;
 mod reading;
 mod writing;
 
+use crate::RECORD_VERSION;
 use crate::entry::{Entry, SharedEntry};
 use crate::laws::{package_records_are_whole, record_reading_computes};
 use crate::log_record::LogRecord;
@@ -29,8 +30,8 @@ use warg_crypto::{DecodeError, Encode, Signable};
 use warg_protobuf as message;
 use warg_protobuf::Message;
 
-/// The version of the protocol that package records have.
-pub const PACKAGE_RECORD_VERSION: u32 = 0;
+/// The newest version of the protocol that a package record may have.
+pub const PACKAGE_RECORD_VERSION: u32 = RECORD_VERSION;
 
 impl Encode for PackageRecord {
     ghost encoding = { λ r. package_content_of (said r) };

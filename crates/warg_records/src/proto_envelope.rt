@@ -94,13 +94,15 @@ impl<C: Record> ProtoEnvelope<C> {
     ) -> Result<ProtoEnvelope<C>, ParseEnvelopeError>
         ensures { IsOpening C.read C.meaning C.fault_of bytes.now result }
     {
-        let envelope = Envelope::decode(alloc, bytes)?;
-        let contents = decode_contents::<C>(alloc, envelope.contents.as_slice())?;
-        let signature = Signature::parse(alloc, envelope.signature.as_str())?;
+        let envelope = Envelope::view(bytes)?;
+        let contents = decode_contents::<C>(alloc, envelope.contents)?;
+        let signature = Signature::parse(alloc, envelope.signature)?;
+        let content_bytes = Vec::from_slice(alloc, envelope.contents)?;
+        let key_id = KeyID::from(String::from_str(alloc, envelope.key_id)?);
         Ok(ProtoEnvelope {
             contents,
-            content_bytes: envelope.contents,
-            key_id: KeyID::from(envelope.key_id),
+            content_bytes,
+            key_id,
             signature,
         })
     }

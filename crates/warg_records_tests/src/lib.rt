@@ -20,6 +20,8 @@ mod log_ids;
 #[cfg(test)]
 mod names;
 #[cfg(test)]
+mod options;
+#[cfg(test)]
 mod permissions;
 #[cfg(test)]
 mod record_ids;

@@ -7,8 +7,8 @@ use warg_crypto::Timestamp;
 use warg_crypto::hash::{AnyHash, HashAlgorithm};
 use warg_crypto::signing::{KeyID, PublicKey};
 use warg_crypto::toy::ToySigner;
-use warg_records::operator::{OPERATOR_RECORD_VERSION, OperatorEntry, OperatorRecord};
-use warg_records::package::{PACKAGE_RECORD_VERSION, PackageEntry, PackageRecord};
+use warg_records::operator::{OperatorEntry, OperatorRecord};
+use warg_records::package::{PackageEntry, PackageRecord};
 use warg_records::{Version, operator, package};
 
 pub(crate) const ALICE: &str = "toy:YWxpY2U=";
@@ -87,7 +87,7 @@ pub(crate) fn yank(minor: u64) -> PackageEntry {
 pub(crate) fn package_record(entries: Vec<PackageEntry>) -> PackageRecord {
     PackageRecord {
         prev: None,
-        version: PACKAGE_RECORD_VERSION,
+        version: 0,
         timestamp: Timestamp::new(1, 0),
         entries,
     }
@@ -160,7 +160,7 @@ pub(crate) fn import(
 pub(crate) fn operator_record(entries: Vec<OperatorEntry>) -> OperatorRecord {
     OperatorRecord {
         prev: None,
-        version: OPERATOR_RECORD_VERSION,
+        version: 0,
         timestamp: Timestamp::new(1, 0),
         entries,
     }

@@ -1,14 +1,16 @@
 //! Hashes whose type names their algorithm.
 
-ghost use Rattle.std.specs.Prelude.{◌≡◌, ◌++◌, ℕ, List, []};
+ghost use Rattle.std.specs.Prelude.{◌≡◌, ◌++◌, ℕ, List, [], Some};
 ghost use Rattle.sha2.specs.Sha256.{sha256};
 ghost use Rattle.sha2.specs.Hashers.{Holds256};
+ghost use Rattle.warg_crypto.specs.HashText.{hash_text};
 ghost use Rattle.warg_crypto.specs.declared.hash.HashAlgorithm.{HashAlgorithm};
 
 use crate::hash::{AnyHash, HashAlgorithm};
 use crate::visit::{ByteVisitor, VisitBytes};
 use sha2::Digest;
 use std::alloc::{AllocError, Global};
+use std::fmt;
 use std::marker::PhantomData;
 
 /// A digest that hashes are made by: a function of the bytes of what is hashed.
@@ -62,7 +64,7 @@ impl ByteVisitor for Sha256Visitor {
 }
 
 /// SHA-256, by name.
-#[derive(Clone, Copy, Debug, PartialEq, Eq, Hash)]
+#[derive(Clone, Copy, Debug, PartialEq, Eq, PartialOrd, Ord, Hash)]
 pub struct Sha256;
 
 impl SupportedDigest for Sha256 {
@@ -83,8 +85,8 @@ impl SupportedDigest for Sha256 {
     }
 }
 
-/// A hash by the digest `D`.
-#[derive(Clone, Copy, Debug, PartialEq, Eq)]
+/// A hash by the digest `D`. Its text is that of the [`AnyHash`] that it is.
+#[derive(Clone, Copy, PartialEq, Eq, PartialOrd, Ord, Hash)]
 pub struct Hash<D> {
     bytes: [u8; 32],
     digest: PhantomData<D>,
@@ -99,6 +101,31 @@ impl<D: SupportedDigest> Hash<D> {
             bytes: D::digest(content),
             digest: PhantomData,
         }
+    }
+
+    // The hash, under the name of its algorithm.
+    fn any(&self) -> AnyHash
+        ensures { result ≡ record { algorithm = D.ALGORITHM; bytes = self.now.bytes } }
+    {
+        AnyHash::new(D::ALGORITHM, self.bytes)
+    }
+}
+
+impl<D: SupportedDigest> fmt::Display for Hash<D> {
+    ghost output = { λ h. Some (hash_text (record { algorithm = D.ALGORITHM; bytes = h.bytes })) };
+
+    ghost styled_output = { λ h _. Some (hash_text (record { algorithm = D.ALGORITHM; bytes = h.bytes })) };
+
+    fn fmt<W: fmt::Write>(&self, f: &mut fmt::Formatter<W>) -> fmt::Result {
+        fmt::Display::fmt(&self.any(), f)
+    }
+}
+
+impl<D: SupportedDigest> fmt::Debug for Hash<D> {
+    ghost debug_output = { λ h. Some (hash_text (record { algorithm = D.ALGORITHM; bytes = h.bytes })) };
+
+    fn fmt<W: fmt::Write>(&self, f: &mut fmt::Formatter<W>) -> fmt::Result {
+        fmt::Display::fmt(self, f)
     }
 }
 

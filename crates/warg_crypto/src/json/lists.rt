@@ -1,4 +1,4 @@
-//! Lists of values.
+//! Lists of values, for who implements [`JsonValue`].
 
 ghost use Rattle.serde_json.specs.View.{items_view, view};
 ghost use Rattle.warg_crypto.specs.Json.{Answers, Gives, items_in};

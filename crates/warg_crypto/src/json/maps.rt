@@ -1,4 +1,4 @@
-//! Objects as maps from names to values.
+//! Objects as maps from names to values, for who implements [`JsonValue`](crate::JsonValue).
 
 ghost use Rattle.std.specs.Prelude.{List, ℕ, Result, IfOk, string_bytes};
 ghost use Rattle.serde_json.specs.View.{members_view, view};
@@ -12,7 +12,7 @@ use crate::signing::KeyID;
 use serde_json::{Map, Value};
 use std::alloc::Global;
 
-/// A value that names a member of an object.
+/// A value that names a member of an object, as a key id does.
 pub trait MemberName: Sized {
     // The name that is written.
     ghost name_of: { Self → List ℕ };

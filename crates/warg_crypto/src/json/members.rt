@@ -1,6 +1,6 @@
-//! Members of objects: looked up, and put.
+//! Members of objects, for who implements [`JsonValue`]: looked up, and put.
 
-ghost use Rattle.std.specs.Prelude.{◌≡◌, OnOk, IfErr, Option, string_bytes};
+ghost use Rattle.std.specs.Prelude.{◌≡◌, OnOk, OnErr, IfErr, Option, string_bytes};
 ghost use Rattle.std.specs.Option.{option_map};
 ghost use Rattle.serde_json.specs.Data.{Data, object, put, string};
 ghost use Rattle.serde_json.specs.View.{view, members_view};
@@ -65,7 +65,8 @@ pub fn optional_member<T: JsonValue + Drop>(
     optional::<T>(alloc, value.get(name))
 }
 
-/// Puts a member into an object that is being written. The error is `OutOfMemory`.
+/// Puts a member into an object that is being written. The error is `OutOfMemory`, and then the
+/// object is as it was.
 pub fn put_member(
     map: &mut Map<String, Value>,
     alloc: Global,
@@ -74,13 +75,14 @@ pub fn put_member(
 ) -> Result<(), JsonError>
     ensures ok { OnOk result (members_view map.new.entries ≡ put name.now (view value) (members_view map.old.entries)) }
     ensures err { IfErr result (λ e. e ≡ fault.OutOfMemory) }
+    ensures kept { OnErr result (members_view map.new.entries ≡ members_view map.old.entries) }
 {
     let name = String::from_str(alloc, name)?;
     drop(map.insert(name, value)?);
     Ok(())
 }
 
-/// Puts the JSON of a value as a member.
+/// Puts the JSON of a value as a member. Where that fails, the object is as it was.
 pub fn put_value<T: JsonValue>(
     map: &mut Map<String, Value>,
     alloc: Global,
@@ -91,20 +93,23 @@ pub fn put_value<T: JsonValue>(
         (put_json T.writes name.now value.now (members_view map.old.entries)) }
     ensures back { T.condition value.now → OnOk result
         ((d : Data) × ReadsBack T.reads T.same value.now d × (members_view map.new.entries ≡ put name.now d (members_view map.old.entries))) }
+    ensures kept { OnErr result (members_view map.new.entries ≡ members_view map.old.entries) }
 {
     let json = value.to_value(alloc)?;
     put_member(map, alloc, name, json)
 }
 
-/// Puts the JSON of a value as a member, and nothing where there is none.
+/// Puts the JSON of a value as a member, and nothing where there is none. Where that fails, the
+/// object is as it was.
 pub fn put_optional<T: JsonValue>(
     map: &mut Map<String, Value>,
     alloc: Global,
     name: &str,
     value: &Option<T>,
 ) -> Result<(), JsonError>
-    ensures { Gives (λ _. members_view map.new.entries) result
+    ensures written { Gives (λ _. members_view map.new.entries) result
         (put_option T.writes name.now value.now (members_view map.old.entries)) }
+    ensures kept { OnErr result (members_view map.new.entries ≡ members_view map.old.entries) }
 {
     let Some(value) = value else {
         return Ok(());

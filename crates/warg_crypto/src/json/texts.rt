@@ -8,7 +8,6 @@ ghost use Rattle.warg_crypto.specs.JsonTextLaws.{algorithm_reads_back, hash_read
 use crate::hash::{AnyHash, HashAlgorithm};
 use crate::json::members::{string_value, text_in, text_value};
 use crate::json::{JsonError, JsonValue};
-use crate::ranges::byte_range;
 use crate::signing::{KeyID, KeyParseError, PublicKey, Signature, SignatureParseError};
 use crate::time::Timestamp;
 use serde_json::Value;
@@ -24,8 +23,8 @@ impl JsonValue for HashAlgorithm {
     ghost reads_back = { algorithm_reads_back };
 
     fn to_value(&self, alloc: Global) -> Result<Value, JsonError> {
-        let algorithm = self.to_string(alloc)?;
-        Ok(string_value(algorithm))
+        let name = self.as_str();
+        text_value(alloc, name)
     }
 
     fn from_value(_alloc: Global, value: &Value) -> Result<HashAlgorithm, JsonError> {
@@ -45,8 +44,8 @@ impl JsonValue for AnyHash {
     ghost reads_back = { hash_reads_back };
 
     fn to_value(&self, alloc: Global) -> Result<Value, JsonError> {
-        byte_range(self.bytes());
-        let hash = self.to_string(alloc)?;
+        let _bytes = self.bytes();
+        let hash = self.to_text(alloc)?;
         Ok(string_value(hash))
     }
 
@@ -85,8 +84,8 @@ impl JsonValue for PublicKey {
 
     fn to_value(&self, alloc: Global) -> Result<Value, JsonError> {
         let _name = self.algorithm();
-        byte_range(self.bytes());
-        let key = self.to_string(alloc)?;
+        let _bytes = self.bytes();
+        let key = self.to_text(alloc)?;
         Ok(string_value(key))
     }
 
@@ -110,8 +109,8 @@ impl JsonValue for Signature {
 
     fn to_value(&self, alloc: Global) -> Result<Value, JsonError> {
         let _name = self.algorithm();
-        byte_range(self.bytes());
-        let signature = self.to_string(alloc)?;
+        let _bytes = self.bytes();
+        let signature = self.to_text(alloc)?;
         Ok(string_value(signature))
     }
 

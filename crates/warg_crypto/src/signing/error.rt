@@ -38,6 +38,16 @@ impl From<TagError> for KeyParseError {
     }
 }
 
+impl From<AllocError> for KeyParseError {
+    ghost use Rattle.warg_crypto.specs.declared.signing.error.KeyParseError.TheVariants.{OutOfMemory};
+
+    ghost from_gives = { λ _ e. e ≡ OutOfMemory };
+
+    fn from(_error: AllocError) -> KeyParseError {
+        KeyParseError::OutOfMemory
+    }
+}
+
 /// Why a text is no signature.
 #[derive(Clone, Copy, Debug, PartialEq, Eq, Error)]
 pub enum SignatureParseError {
@@ -67,6 +77,16 @@ impl From<TagError> for SignatureParseError {
             TagError::BadBase64 => SignatureParseError::BadBase64,
             TagError::OutOfMemory => SignatureParseError::OutOfMemory,
         }
+    }
+}
+
+impl From<AllocError> for SignatureParseError {
+    ghost use Rattle.warg_crypto.specs.declared.signing.error.SignatureParseError.TheVariants.{OutOfMemory};
+
+    ghost from_gives = { λ _ e. e ≡ OutOfMemory };
+
+    fn from(_error: AllocError) -> SignatureParseError {
+        SignatureParseError::OutOfMemory
     }
 }
 

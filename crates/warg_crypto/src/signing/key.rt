@@ -2,6 +2,7 @@
 
 ghost use Rattle.std.specs.Prelude.{◌≡◌, ◌⊎◌, IfOk, IfErr, Some};
 ghost use Rattle.std.specs.String.{string_bytes};
+ghost use Rattle.base64.specs.GeneralPurpose.{IsBytes};
 ghost use Rattle.warg_crypto.specs.Keys.{public_key_of};
 ghost use Rattle.warg_crypto.specs.Tags.{IsName, tag_text, fingerprint_of};
 ghost use Rattle.warg_crypto.specs.declared.signing.error.KeyParseError.TheVariants as fault;
@@ -10,12 +11,13 @@ use crate::hash::HashAlgorithm;
 use crate::signing::error::KeyParseError;
 use crate::signing::tagged::Tagged;
 use std::alloc::{AllocError, Global};
+use std::cmp::Ordering;
 use std::fmt;
 use std::hash::{Hash, Hasher};
 use std::marker::Model;
 
-/// The id of a key: any text.
-#[derive(Debug, Drop)]
+/// The id of a key: any text. Ids are ordered by the bytes of their texts.
+#[derive(Drop)]
 pub struct KeyID {
     text: String,
 }
@@ -56,8 +58,18 @@ impl From<String> for KeyID {
 impl fmt::Display for KeyID {
     ghost output = { λ k. Some k };
 
+    ghost styled_output = { λ k _. Some k };
+
     fn fmt<W: fmt::Write>(&self, f: &mut fmt::Formatter<W>) -> fmt::Result {
         f.write_str(self.as_str())
+    }
+}
+
+impl fmt::Debug for KeyID {
+    ghost debug_output = { λ k. Some k };
+
+    fn fmt<W: fmt::Write>(&self, f: &mut fmt::Formatter<W>) -> fmt::Result {
+        fmt::Display::fmt(self, f)
     }
 }
 
@@ -79,6 +91,37 @@ impl Eq for KeyID {
     ghost use Rattle.std.specs.Cmp.Lexicographic.{nat_list_eq_equiv};
 
     ghost laws = { nat_list_eq_equiv };
+}
+
+impl PartialOrd for KeyID {
+    ghost use Rattle.std.specs.Cmp.Lexicographic.{slice_cmp, texts_po};
+    ghost use Rattle.std.specs.Ordering.{nat_cmp};
+
+    ghost partial_cmp = { λ a b. Some (slice_cmp nat_cmp a b) };
+
+    ghost laws = { texts_po };
+
+    fn partial_cmp(&self, other: &KeyID) -> Option<Ordering> {
+        Some(self.cmp(other))
+    }
+}
+
+impl Ord for KeyID {
+    ghost use Rattle.std.specs.Cmp.Lexicographic.{slice_cmp, nat_list_cmp_total, texts_ties};
+    ghost use Rattle.std.specs.Ordering.{nat_cmp};
+    ghost use Rattle.std.proofs.Common.{refl};
+
+    ghost cmp = { slice_cmp nat_cmp };
+
+    ghost total = { nat_list_cmp_total };
+
+    ghost matches_partial_cmp = { λ a b. refl };
+
+    ghost matches_eq = { texts_ties };
+
+    fn cmp(&self, other: &KeyID) -> Ordering {
+        self.as_str().cmp(other.as_str())
+    }
 }
 
 impl Hash for KeyID {
@@ -106,7 +149,7 @@ impl Clone for KeyID {
 }
 
 /// A public key: the name of its algorithm, and bytes.
-#[derive(Debug, Drop)]
+#[derive(Drop)]
 pub struct PublicKey {
     tagged: Tagged,
 }
@@ -120,7 +163,8 @@ impl Model for PublicKey {
 }
 
 impl PublicKey {
-    /// The key of these bytes under the algorithm's name, which is not empty and has no colon.
+    /// The key of these bytes under the algorithm's name, which is not empty and has no colon
+    /// ([`is_algorithm_name`](crate::signing::is_algorithm_name) tells).
     pub fn new(algorithm: String, bytes: Vec<u8>) -> PublicKey
         requires { IsName (string_bytes algorithm) }
         ensures name { result.name ≡ string_bytes algorithm }
@@ -141,7 +185,8 @@ impl PublicKey {
 
     /// The key's bytes.
     pub fn bytes(&self) -> &[u8]
-        ensures { result.now ≡ self.now.bytes }
+        ensures value { result.now ≡ self.now.bytes }
+        ensures are_bytes { IsBytes self.now.bytes }
     {
         self.tagged.bytes()
     }
@@ -153,6 +198,13 @@ impl PublicKey {
     {
         let tagged = Tagged::parse(alloc, text)?;
         Ok(PublicKey { tagged })
+    }
+
+    /// The text of the key: its name, a colon, and its bytes in base64 (RFC 4648, with padding).
+    pub fn to_text(&self, alloc: Global) -> Result<String, AllocError>
+        ensures { IfOk result (λ text. string_bytes text ≡ tag_text self.now) }
+    {
+        self.tagged.to_text(alloc)
     }
 
     /// The same key again.
@@ -167,18 +219,27 @@ impl PublicKey {
     pub fn fingerprint(&self, alloc: Global) -> Result<KeyID, AllocError>
         ensures { IfOk result (λ id. id ≡ fingerprint_of self.now) }
     {
-        let text = self.to_string(alloc)?;
+        let text = self.to_text(alloc)?;
         let hash = HashAlgorithm::Sha256.digest(text.as_bytes());
-        Ok(KeyID::from(hash.to_string(alloc)?))
+        Ok(KeyID::from(hash.to_text(alloc)?))
     }
 }
 
 impl fmt::Display for PublicKey {
     ghost output = { λ k. Some (tag_text k) };
 
+    ghost styled_output = { λ k _. Some (tag_text k) };
+
     fn fmt<W: fmt::Write>(&self, f: &mut fmt::Formatter<W>) -> fmt::Result {
-        let tagged = &self.tagged;
-        write!(f, "{tagged}")
+        fmt::Display::fmt(&self.tagged, f)
+    }
+}
+
+impl fmt::Debug for PublicKey {
+    ghost debug_output = { λ k. Some (tag_text k) };
+
+    fn fmt<W: fmt::Write>(&self, f: &mut fmt::Formatter<W>) -> fmt::Result {
+        fmt::Display::fmt(self, f)
     }
 }
 
@@ -200,6 +261,18 @@ impl Eq for PublicKey {
     ghost use Rattle.warg_crypto.specs.Same.{same_tag_equiv};
 
     ghost laws = { same_tag_equiv };
+}
+
+impl Hash for PublicKey {
+    ghost use Rattle.warg_crypto.specs.Same.{tag_hash_input, tag_hash_input-same_tag};
+
+    ghost hash_input = { tag_hash_input };
+
+    ghost respects_eq = { tag_hash_input-same_tag };
+
+    fn hash<H: Hasher>(&self, state: &mut H) {
+        self.tagged.hash(state);
+    }
 }
 
 impl Clone for PublicKey {

@@ -2,6 +2,7 @@
 
 ghost use Rattle.std.specs.Prelude.{◌≡◌, ◌⊎◌, IfOk, IfErr, Some};
 ghost use Rattle.std.specs.String.{string_bytes};
+ghost use Rattle.base64.specs.GeneralPurpose.{IsBytes};
 ghost use Rattle.warg_crypto.specs.Keys.{signature_of};
 ghost use Rattle.warg_crypto.specs.Tags.{IsName, tag_text};
 ghost use Rattle.warg_crypto.specs.declared.signing.error.SignatureParseError.TheVariants as fault;
@@ -10,10 +11,11 @@ use crate::signing::error::SignatureParseError;
 use crate::signing::tagged::Tagged;
 use std::alloc::{AllocError, Global};
 use std::fmt;
+use std::hash::{Hash, Hasher};
 use std::marker::Model;
 
 /// A signature: the name of its algorithm, and bytes.
-#[derive(Debug, Drop)]
+#[derive(Drop)]
 pub struct Signature {
     tagged: Tagged,
 }
@@ -27,7 +29,8 @@ impl Model for Signature {
 }
 
 impl Signature {
-    /// The signature of these bytes under the algorithm's name, which is not empty and has no colon.
+    /// The signature of these bytes under the algorithm's name, which is not empty and has no colon
+    /// ([`is_algorithm_name`](crate::signing::is_algorithm_name) tells).
     pub fn new(algorithm: String, bytes: Vec<u8>) -> Signature
         requires { IsName (string_bytes algorithm) }
         ensures name { result.name ≡ string_bytes algorithm }
@@ -48,7 +51,8 @@ impl Signature {
 
     /// The signature's bytes.
     pub fn bytes(&self) -> &[u8]
-        ensures { result.now ≡ self.now.bytes }
+        ensures value { result.now ≡ self.now.bytes }
+        ensures are_bytes { IsBytes self.now.bytes }
     {
         self.tagged.bytes()
     }
@@ -62,6 +66,13 @@ impl Signature {
         Ok(Signature { tagged })
     }
 
+    /// The text of the signature: its name, a colon, and its bytes in base64 (RFC 4648, with padding).
+    pub fn to_text(&self, alloc: Global) -> Result<String, AllocError>
+        ensures { IfOk result (λ text. string_bytes text ≡ tag_text self.now) }
+    {
+        self.tagged.to_text(alloc)
+    }
+
     /// The same signature again.
     pub fn try_clone(&self) -> Result<Signature, AllocError>
         ensures { IfOk result (λ k. k ≡ self.now) }
@@ -73,9 +84,18 @@ impl Signature {
 impl fmt::Display for Signature {
     ghost output = { λ k. Some (tag_text k) };
 
+    ghost styled_output = { λ k _. Some (tag_text k) };
+
     fn fmt<W: fmt::Write>(&self, f: &mut fmt::Formatter<W>) -> fmt::Result {
-        let tagged = &self.tagged;
-        write!(f, "{tagged}")
+        fmt::Display::fmt(&self.tagged, f)
+    }
+}
+
+impl fmt::Debug for Signature {
+    ghost debug_output = { λ k. Some (tag_text k) };
+
+    fn fmt<W: fmt::Write>(&self, f: &mut fmt::Formatter<W>) -> fmt::Result {
+        fmt::Display::fmt(self, f)
     }
 }
 
@@ -97,6 +117,18 @@ impl Eq for Signature {
     ghost use Rattle.warg_crypto.specs.Same.{same_tag_equiv};
 
     ghost laws = { same_tag_equiv };
+}
+
+impl Hash for Signature {
+    ghost use Rattle.warg_crypto.specs.Same.{tag_hash_input, tag_hash_input-same_tag};
+
+    ghost hash_input = { tag_hash_input };
+
+    ghost respects_eq = { tag_hash_input-same_tag };
+
+    fn hash<H: Hasher>(&self, state: &mut H) {
+        self.tagged.hash(state);
+    }
 }
 
 impl Clone for Signature {

@@ -1,16 +1,20 @@
 //! Bytes under the name of an algorithm, and their text.
 
-ghost use Rattle.std.specs.Prelude.{◌≡◌, ◌⊎◌, codes, length, IfOk, IfErr, IsTrue, ◌↔◌, Some};
+ghost use Rattle.std.specs.Prelude.{◌≡◌, ◌⊎◌, IfOk, IfErr, IsTrue, ◌↔◌, Some};
+ghost use Rattle.std.specs.List.{list_any};
 ghost use Rattle.std.specs.String.{string_bytes};
-ghost use Rattle.base64.specs.Display.{shown_text};
+ghost use Rattle.base64.specs.GeneralPurpose.{IsBytes};
+ghost use Rattle.warg_crypto.specs.HashText.{is_colon};
 ghost use Rattle.warg_crypto.specs.Tags.{Tag, IsName, tag_of, tag_text};
 ghost use Rattle.warg_crypto.specs.declared.signing.tagged.TagError.TheVariants as fault;
 
+use crate::ranges::byte_range;
+use crate::signing::shown::write_base64;
 use base64::DecodeAllocError;
-use base64::display::Base64Display;
 use base64::engine::general_purpose::STANDARD;
 use std::alloc::{AllocError, Global};
 use std::fmt;
+use std::hash::{Hash, Hasher};
 use std::marker::Model;
 use thiserror::Error;
 
@@ -35,14 +39,34 @@ impl Model for Tagged {
 /// Why a text is none of bytes under a name.
 #[derive(Clone, Copy, Debug, PartialEq, Eq, Error)]
 pub enum TagError {
+    /// No colon stands in the text.
     #[error("MissingColon")]
     MissingColon,
+    /// Nothing stands before the first colon.
     #[error("EmptyAlgorithm")]
     EmptyAlgorithm,
+    /// What stands behind the first colon is no base64.
     #[error("BadBase64")]
     BadBase64,
+    /// There was no memory.
     #[error("OutOfMemory")]
     OutOfMemory,
+}
+
+// Whether a colon stands in the text.
+fn has_colon(text: &[u8]) -> bool
+    ensures { result ≡ list_any is_colon text.now }
+{
+    text.iter().any(|byte| *byte == b':')
+}
+
+/// Whether the text may name an algorithm: it is not empty and has no colon. What
+/// [`PublicKey::new`](crate::signing::PublicKey::new) and
+/// [`Signature::new`](crate::signing::Signature::new) ask of a name.
+pub fn is_algorithm_name(text: &str) -> bool
+    ensures { IsTrue result ↔ IsName text.now }
+{
+    !text.is_empty() && !has_colon(text.as_bytes())
 }
 
 impl Tagged {
@@ -62,9 +86,22 @@ impl Tagged {
     }
 
     pub fn bytes(&self) -> &[u8]
-        ensures { result.now ≡ self.now.bytes }
+        ensures value { result.now ≡ self.now.bytes }
+        ensures are_bytes { IsBytes self.now.bytes }
     {
-        self.bytes.as_slice()
+        let bytes = self.bytes.as_slice();
+        byte_range(bytes);
+        bytes
+    }
+
+    /// The name, a colon, and the bytes in base64.
+    pub fn to_text(&self, alloc: Global) -> Result<String, AllocError>
+        ensures { IfOk result (λ text. string_bytes text ≡ tag_text self.now) }
+    {
+        let mut text = String::from_str(alloc, self.name.as_str())?;
+        text.push_str(":")?;
+        STANDARD.encode_string(self.bytes.as_slice(), &mut text)?;
+        Ok(text)
     }
 
     pub fn parse(alloc: Global, text: &str) -> Result<Tagged, TagError>
@@ -92,10 +129,25 @@ impl Tagged {
 impl fmt::Display for Tagged {
     ghost output = { λ t. Some (tag_text t) };
 
+    ghost styled_output = { λ t _. Some (tag_text t) };
+
     fn fmt<W: fmt::Write>(&self, f: &mut fmt::Formatter<W>) -> fmt::Result {
-        let name = self.name.as_str();
-        let shown = Base64Display::new(self.bytes.as_slice(), &STANDARD);
-        write!(f, "{name}:{shown}")
+        f.write_str(self.name.as_str())?;
+        f.write_str(":")?;
+        write_base64(self.bytes.as_slice(), f)
+    }
+}
+
+impl Hash for Tagged {
+    ghost use Rattle.warg_crypto.specs.Same.{tag_hash_input, tag_hash_input-same_tag};
+
+    ghost hash_input = { tag_hash_input };
+
+    ghost respects_eq = { tag_hash_input-same_tag };
+
+    fn hash<H: Hasher>(&self, state: &mut H) {
+        self.name.as_str().hash(state);
+        self.bytes.as_slice().hash(state);
     }
 }
 

@@ -74,6 +74,8 @@ impl Hash for Permission {
 impl fmt::Display for Permission {
     ghost output = { λ p. Some (permission_text p) };
 
+    ghost styled_output = { λ p _. Some (permission_text p) };
+
     fn fmt<W: fmt::Write>(&self, f: &mut fmt::Formatter<W>) -> fmt::Result {
         f.write_str(match self {
             Permission::Commit => "commit",

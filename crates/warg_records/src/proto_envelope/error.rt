@@ -4,6 +4,7 @@ ghost use Rattle.std.specs.Prelude.{◌≡◌};
 ghost use Rattle.warg_records.specs.ParseErrors.{wire_error, contents_error, signature_error};
 ghost use Rattle.warg_records.specs.declared.proto_envelope.error.ParseEnvelopeError.TheVariants as error;
 
+use std::alloc::AllocError;
 use thiserror::Error;
 use warg_crypto::DecodeError;
 use warg_crypto::hash::AnyHashError;
@@ -28,6 +29,14 @@ pub enum ParseEnvelopeError {
     /// There was no memory for the envelope.
     #[error("OutOfMemory")]
     OutOfMemory,
+}
+
+impl From<AllocError> for ParseEnvelopeError {
+    ghost from_gives = { λ _ e. e ≡ error.OutOfMemory };
+
+    fn from(_error: AllocError) -> ParseEnvelopeError {
+        ParseEnvelopeError::OutOfMemory
+    }
 }
 
 impl From<WireError> for ParseEnvelopeError {

@@ -12,15 +12,18 @@ use warg_crypto::{ByteVisitor, Clock, Encode, Signable, TimeError, Timestamp, Vi
 /// the map.
 #[derive(Clone, Copy, Debug, PartialEq, Eq, Hash)]
 pub struct Checkpoint {
+    /// The root of the log's tree.
     pub log_root: AnyHash,
-    /// In leaves.
+    /// The log's length, in leaves.
     pub log_length: RegistryLen,
+    /// The root of the map's tree.
     pub map_root: AnyHash,
 }
 
 /// A checkpoint at a time.
 #[derive(Clone, Copy, Debug, PartialEq, Eq, Hash)]
 pub struct TimestampedCheckpoint {
+    /// The checkpoint.
     pub checkpoint: Checkpoint,
     /// Whole seconds since 1970-01-01 00:00 UTC.
     pub timestamp: u64,

@@ -10,13 +10,16 @@ use warg_crypto::{ByteVisitor, VisitBytes};
 /// A leaf of the map: the last record of a log.
 #[derive(Clone, Copy, Debug, PartialEq, Eq, Hash)]
 pub struct MapLeaf {
+    /// The last record of the log.
     pub record_id: RecordId,
 }
 
 /// A leaf of the log: a record that was appended to a log.
 #[derive(Clone, Copy, Debug, PartialEq, Eq, Hash)]
 pub struct LogLeaf {
+    /// The log.
     pub log_id: LogId,
+    /// The record that was appended to it.
     pub record_id: RecordId,
 }
 

@@ -1,5 +1,6 @@
 //! The ids of logs.
 ghost use Rattle.std.specs.Prelude.{◌≡◌, Some, length};
+ghost use Rattle.hex.specs.Hex.{IsBytes};
 ghost use Rattle.warg_crypto.specs.HashText.{hash_text};
 ghost use Rattle.warg_records.specs.LogIds.{operator_log_message, package_log_message};
 
@@ -10,8 +11,8 @@ use warg_crypto::hash::{AnyHash, Hash, SupportedDigest};
 use warg_crypto::{ByteVisitor, VisitBytes};
 
 /// The id of a log: the hash of a prefix that names the kind of log and, for a package's log, of
-/// the name's prefix encoding.
-#[derive(Clone, Copy, Debug, PartialEq, Eq, Hash)]
+/// the name's prefix encoding. Ids are ordered as their hashes, by algorithm, then by bytes.
+#[derive(Clone, Copy, PartialEq, Eq, PartialOrd, Ord, Hash)]
 pub struct LogId {
     pub(super) hash: AnyHash,
 }
@@ -43,6 +44,7 @@ impl LogId {
     pub fn as_bytes(&self) -> &[u8]
         ensures value { result.now ≡ self.now.hash.bytes }
         ensures len { length result.now ≡ 32 }
+        ensures are_bytes { IsBytes self.now.hash.bytes }
     {
         self.hash.bytes()
     }
@@ -51,9 +53,18 @@ impl LogId {
 impl fmt::Display for LogId {
     ghost output = { λ id. Some (hash_text id.hash) };
 
+    ghost styled_output = { λ id _. Some (hash_text id.hash) };
+
     fn fmt<W: fmt::Write>(&self, f: &mut fmt::Formatter<W>) -> fmt::Result {
-        let hash = &self.hash;
-        write!(f, "{hash}")
+        fmt::Display::fmt(&self.hash, f)
+    }
+}
+
+impl fmt::Debug for LogId {
+    ghost debug_output = { λ id. Some (hash_text id.hash) };
+
+    fn fmt<W: fmt::Write>(&self, f: &mut fmt::Formatter<W>) -> fmt::Result {
+        fmt::Display::fmt(self, f)
     }
 }
 

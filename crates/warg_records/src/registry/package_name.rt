@@ -44,6 +44,7 @@ impl From<AllocError> for PackageNameError {
 }
 
 /// A package's name: a namespace, a colon and a name, both of lower-case letters, digits and hyphens.
+/// Names are ordered by the bytes of their texts.
 #[derive(Debug, Drop)]
 pub struct PackageName {
     text: String,
@@ -164,9 +165,7 @@ impl PackageName {
     pub fn try_clone(&self) -> Result<PackageName, AllocError>
         ensures { IfOk result (λ copy. copy ≡ self.now) }
     {
-        Ok(PackageName {
-            text: self.text.clone()?,
-        })
+        self.clone()
     }
 
     /// Whether the text is words of a letter a to z and then letters a to z and digits, joined by single hyphens.
@@ -180,6 +179,8 @@ impl PackageName {
 
 impl fmt::Display for PackageName {
     ghost output = { λ n. Some n };
+
+    ghost styled_output = { λ n _. Some n };
 
     fn fmt<W: fmt::Write>(&self, f: &mut fmt::Formatter<W>) -> fmt::Result {
         f.write_str(self.text.as_str())
@@ -231,6 +232,16 @@ impl Hash for PackageName {
 
     fn hash<H: Hasher>(&self, state: &mut H) {
         self.text.as_str().hash(state);
+    }
+}
+
+impl Clone for PackageName {
+    ghost is_clone = { λ a b. b ≡ a };
+
+    fn clone(&self) -> Result<PackageName, AllocError> {
+        Ok(PackageName {
+            text: self.text.clone()?,
+        })
     }
 }
 

@@ -1,6 +1,7 @@
 //! The ids of records.
 
 ghost use Rattle.std.specs.Prelude.{◌≡◌, ◌++◌, Some, length};
+ghost use Rattle.hex.specs.Hex.{IsBytes};
 ghost use Rattle.warg_crypto.specs.HashText.{hash_text};
 ghost use Rattle.warg_crypto.specs.RecordIds.{operator_record_message, package_record_message};
 ghost use Rattle.warg_records.specs.RecordIds.{id_by};
@@ -12,8 +13,8 @@ use std::fmt;
 use warg_crypto::hash::{AnyHash, Hash, HashAlgorithm, SupportedDigest};
 
 /// The id of a record: the hash of a prefix that names the kind of log, and of the record's bytes
-/// as they came.
-#[derive(Clone, Copy, Debug, PartialEq, Eq, Hash)]
+/// as they came. Ids are ordered as their hashes, by algorithm, then by bytes.
+#[derive(Clone, Copy, PartialEq, Eq, PartialOrd, Ord, Hash)]
 pub struct RecordId {
     pub(super) hash: AnyHash,
 }
@@ -30,6 +31,7 @@ impl RecordId {
     pub fn as_bytes(&self) -> &[u8]
         ensures value { result.now ≡ self.now.hash.bytes }
         ensures len { length result.now ≡ 32 }
+        ensures are_bytes { IsBytes self.now.hash.bytes }
     {
         self.hash.bytes()
     }
@@ -70,9 +72,18 @@ impl RecordId {
 impl fmt::Display for RecordId {
     ghost output = { λ id. Some (hash_text id.hash) };
 
+    ghost styled_output = { λ id _. Some (hash_text id.hash) };
+
     fn fmt<W: fmt::Write>(&self, f: &mut fmt::Formatter<W>) -> fmt::Result {
-        let hash = &self.hash;
-        write!(f, "{hash}")
+        fmt::Display::fmt(&self.hash, f)
+    }
+}
+
+impl fmt::Debug for RecordId {
+    ghost debug_output = { λ id. Some (hash_text id.hash) };
+
+    fn fmt<W: fmt::Write>(&self, f: &mut fmt::Formatter<W>) -> fmt::Result {
+        fmt::Display::fmt(self, f)
     }
 }
 

@@ -1,5 +1,4 @@
-use Rattle.std.proofs.Common.{◌≡◌, List, ℕ, Ok, rules, subst}
-use Rattle.base64.specs.GeneralPurpose.{IsBytes}
+use Rattle.std.proofs.Common.{◌≡◌, Ok, rules}
 use Rattle.serde_json.specs.View.{view}
 use Rattle.warg_crypto.specs.JsonTexts.{key_json}
 use Rattle.warg_crypto.specs.JsonTextLaws.{key_reads_back}
@@ -7,7 +6,6 @@ use Rattle.warg_crypto.proofs.json.texts.PublicKeyJsonValue.to_value.Goals as go
 
 pub returns-clause-back : goal.returns-clause-back
 returns-clause-back c =
-    let bytes : IsBytes c.args.self.now.bytes = subst (λ (xs : List ℕ). IsBytes xs) c.bytes.ensures c.byte_range.ensures in
     let written : key_json c.args.self.now ≡ Ok (view c.string_value.result) = search rules in
-    let read = key_reads_back c.args.self.now _ (record { name = c.algorithm-name.ensures.named; bytes = bytes }) written in
+    let read = key_reads_back c.args.self.now _ (record { name = c.algorithm-name.ensures.named; bytes = c.bytes-bytes.ensures.are_bytes }) written in
     λ _. record { again = read.again; is = read.is; equal = read.equal }

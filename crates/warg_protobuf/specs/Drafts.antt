@@ -1,0 +1,269 @@
+-- What is kept of a message's fields while they are read. No public clause names any of this.
+use Rattle.std.specs.Prelude.{ℕ, ℤ, ◌%◌, ◌^◌, map, List, [], ◌∷◌, ◌++◌, fold, Option, Some, None, Result, Ok, Err, ◌==◌, if◌then◌else◌}
+use Rattle.std.specs.Int.{w64, cast_signed}
+use Rattle.warg_protobuf.specs.declared.error.WireError.{WireError}
+use Rattle.warg_protobuf.specs.declared.entry.MemberDraft.{MemberDraft}
+use Rattle.warg_protobuf.specs.declared.entry.MemberDraft.TheVariants as member
+use Rattle.warg_protobuf.specs.declared.record.RecordDraft.{RecordDraft}
+use Rattle.warg_protobuf.specs.declared.shape.OneText.{OneText}
+use Rattle.warg_protobuf.specs.declared.shape.TwoTexts.{TwoTexts}
+use Rattle.warg_protobuf.specs.declared.shape.TextAndNumbers.{TextAndNumbers}
+use Rattle.warg_protobuf.specs.declared.timestamp.TimestampDraft.{TimestampDraft}
+use Rattle.warg_protobuf.specs.Field.{Payload, Number, Eight, Bytes, Four, Field}
+use Rattle.warg_protobuf.specs.Table.{Table, End, MessageAt}
+use Rattle.warg_protobuf.specs.Reading.{◌>>=◌, fields_of}
+use Rattle.warg_protobuf.specs.Shapes.{two_texts, text_and_numbers}
+use Rattle.warg_protobuf.specs.Init.{InitValue}
+use Rattle.warg_protobuf.specs.Release.{ReleaseValue}
+use Rattle.warg_protobuf.specs.ImportNamespace.{ImportNamespaceValue}
+use Rattle.warg_protobuf.specs.Yank.{YankValue}
+use Rattle.warg_protobuf.specs.DefineNamespace.{DefineNamespaceValue}
+use Rattle.warg_protobuf.specs.GrantFlat.{GrantFlatValue}
+use Rattle.warg_protobuf.specs.RevokeFlat.{RevokeFlatValue}
+use Rattle.warg_protobuf.specs.PackageEntry.{PackageMember}
+use Rattle.warg_protobuf.specs.PackageEntry as in_package
+use Rattle.warg_protobuf.specs.OperatorEntry.{OperatorMember}
+use Rattle.warg_protobuf.specs.OperatorEntry as in_operator
+use Rattle.warg_protobuf.specs.Envelope.{EnvelopeValue}
+use Rattle.warg_protobuf.specs.Record.{RecordValue}
+use Rattle.warg_protobuf.specs.Views.{option_view}
+use Rattle.warg_protobuf.specs.Timestamp.{timestamp_table, TimestampValue}
+use Rattle.warg_protobuf.specs.Values.{low_signed, held, numbers, last_from, last_option_from, at_number, signed_in, item_at, kept_of}
+
+-- a payload that is not judged yet
+abbrev pub no_fault : ℕ → Payload → Option WireError
+no_fault n p = None
+
+-- the items that were read, or none
+abbrev pub items_of : {X : Type 0} → Result (List X) WireError → List X
+items_of (Ok xs) = xs
+items_of (Err e) = []
+
+module _ {K : Type 0} (with_field : K → Field → K) where
+  -- what all these fields make of what is kept
+  abbrev pub kept_after : K → Result (List Field) WireError → K
+  kept_after k (Ok fs) = fold with_field k fs
+  kept_after k (Err e) = k
+
+  -- and what the fields of one more payload make of it
+  abbrev pub grown : Table → K → List ℕ → K
+  grown T k b = kept_after k (fields_of T b)
+
+-- ---- texts and numbers
+
+pub record OneTextKept : Type 0 where
+  pub text : List ℕ
+
+abbrev pub one_text_kept : OneText → OneTextKept
+one_text_kept d = record { text = d.text.now }
+
+abbrev pub no_text : OneTextKept
+no_text = record { text = [] }
+
+abbrev pub one_text_with : OneTextKept → Field → OneTextKept
+one_text_with k f = record { text = last_from k.text (held 1 (f ∷ [])) }
+
+pub record TwoTextsKept : Type 0 where
+  pub first : List ℕ
+  pub second : List ℕ
+
+abbrev pub two_texts_kept : TwoTexts → TwoTextsKept
+two_texts_kept d = record { first = d.first.now; second = d.second.now }
+
+abbrev pub no_texts : TwoTextsKept
+no_texts = record { first = []; second = [] }
+
+abbrev pub two_texts_with : TwoTextsKept → Field → TwoTextsKept
+two_texts_with k f = record { first = last_from k.first (held 1 (f ∷ [])); second = last_from k.second (held 2 (f ∷ [])) }
+
+pub record TextAndNumbersKept : Type 0 where
+  pub text : List ℕ
+  pub numbers : List ℤ
+
+abbrev pub text_and_numbers_kept : TextAndNumbers → TextAndNumbersKept
+text_and_numbers_kept d = record { text = d.text.now; numbers = d.numbers.items }
+
+abbrev pub nothing_kept : TextAndNumbersKept
+nothing_kept = record { text = []; numbers = [] }
+
+abbrev pub text_and_numbers_with : TextAndNumbersKept → Field → TextAndNumbersKept
+text_and_numbers_with k f = record {
+  text = last_from k.text (held 1 (f ∷ []));
+  numbers = k.numbers ++ items_of (at_number 2 signed_in f);
+}
+
+-- ---- times
+
+pub record TimestampKept : Type 0 where
+  pub seconds : ℕ
+  pub nanos : ℕ
+
+abbrev pub timestamp_kept : TimestampDraft → TimestampKept
+timestamp_kept d = record { seconds = d.seconds; nanos = d.nanos }
+
+abbrev pub no_time : TimestampKept
+no_time = record { seconds = 0; nanos = 0 }
+
+abbrev pub timestamp_with : TimestampKept → Field → TimestampKept
+timestamp_with k f = record {
+  seconds = last_from k.seconds (numbers 1 (f ∷ []));
+  nanos = last_from k.nanos (numbers 2 (f ∷ []));
+}
+
+abbrev pub time_made : TimestampKept → TimestampValue
+time_made k = record { seconds = cast_signed w64 k.seconds; nanos = low_signed k.nanos }
+
+-- ---- entries: the run of the last member
+
+pub data MemberKept (F G : Type 0) : Type 0 where
+  Absent : MemberKept F G
+  Init : TwoTextsKept → MemberKept F G
+  GrantFlat : TextAndNumbersKept → MemberKept F G
+  RevokeFlat : TextAndNumbersKept → MemberKept F G
+  Fourth : F → MemberKept F G
+  Fifth : G → MemberKept F G
+
+abbrev pub member_kept : {D E F G : Type 0} → (D → F) → (E → G) → MemberDraft D E → MemberKept F G
+member_kept fourth fifth member.Absent = Absent
+member_kept fourth fifth (member.Init d) = Init (two_texts_kept d)
+member_kept fourth fifth (member.GrantFlat d) = GrantFlat (text_and_numbers_kept d)
+member_kept fourth fifth (member.RevokeFlat d) = RevokeFlat (text_and_numbers_kept d)
+member_kept fourth fifth (member.Fourth d) = Fourth (fourth d)
+member_kept fourth fifth (member.Fifth d) = Fifth (fifth d)
+
+abbrev pub no_member : {F G : Type 0} → MemberKept F G
+no_member = Absent
+
+-- what is kept of one member's run: nothing where another came last
+abbrev pub init_so_far : {F G : Type 0} → MemberKept F G → TwoTextsKept
+init_so_far (Init t) = t
+init_so_far _ = no_texts
+
+abbrev pub grant_flat_so_far : {F G : Type 0} → MemberKept F G → TextAndNumbersKept
+grant_flat_so_far (GrantFlat t) = t
+grant_flat_so_far _ = nothing_kept
+
+abbrev pub revoke_flat_so_far : {F G : Type 0} → MemberKept F G → TextAndNumbersKept
+revoke_flat_so_far (RevokeFlat t) = t
+revoke_flat_so_far _ = nothing_kept
+
+abbrev pub fourth_so_far : {F G : Type 0} → F → MemberKept F G → F
+fourth_so_far empty (Fourth t) = t
+fourth_so_far empty _ = empty
+
+abbrev pub fifth_so_far : {F G : Type 0} → G → MemberKept F G → G
+fifth_so_far empty (Fifth t) = t
+fifth_so_far empty _ = empty
+
+abbrev pub entry_table : Table → Table → Table
+entry_table fourth fifth = MessageAt 1 two_texts (MessageAt 2 text_and_numbers (MessageAt 3 text_and_numbers (MessageAt 4 fourth (MessageAt 5 fifth End))))
+
+module _ {F G : Type 0} (fourth : Table) (fourth_with : F → Field → F) (no_fourth : F) (fifth : Table) (fifth_with : G → Field → G) (no_fifth : G) where
+  abbrev pub member_bytes : MemberKept F G → ℕ → List ℕ → MemberKept F G
+  member_bytes k n b =
+      if n == 1 then Init (grown two_texts_with two_texts (init_so_far k) b)
+      else (if n == 2 then GrantFlat (grown text_and_numbers_with text_and_numbers (grant_flat_so_far k) b)
+      else (if n == 3 then RevokeFlat (grown text_and_numbers_with text_and_numbers (revoke_flat_so_far k) b)
+      else (if n == 4 then Fourth (grown fourth_with fourth (fourth_so_far no_fourth k) b)
+      else (if n == 5 then Fifth (grown fifth_with fifth (fifth_so_far no_fifth k) b)
+      else k))))
+
+  abbrev pub member_payload : MemberKept F G → ℕ → Payload → MemberKept F G
+  member_payload k n (Bytes b) = member_bytes k n b
+  member_payload k n (Number v) = k
+  member_payload k n (Eight b) = k
+  member_payload k n (Four b) = k
+
+  abbrev pub member_with : MemberKept F G → Field → MemberKept F G
+  member_with k f = member_payload k f.number f.payload
+
+-- ---- envelopes and records
+
+abbrev pub no_parts : EnvelopeValue
+no_parts = record { contents = []; key_id = []; signature = [] }
+
+abbrev pub envelope_with : EnvelopeValue → Field → EnvelopeValue
+envelope_with k f = record {
+  contents = last_from k.contents (held 1 (f ∷ []));
+  key_id = last_from k.key_id (held 2 (f ∷ []));
+  signature = last_from k.signature (held 3 (f ∷ []));
+}
+
+pub record RecordKept (E : Type 0) : Type 0 where
+  pub prev : Option (List ℕ)
+  pub version : ℕ
+  pub time : Option TimestampKept
+  pub entries : List E
+
+abbrev pub record_kept : {E D : Type 0} → (E → D) → RecordDraft E → RecordKept D
+record_kept entry_seen d = record {
+  prev = option_view (λ t. t.now) d.prev;
+  version = d.version;
+  time = option_view timestamp_kept d.time;
+  entries = map entry_seen d.entries.items;
+}
+
+abbrev pub no_record : {E : Type 0} → RecordKept E
+no_record = record { prev = None; version = 0; time = None; entries = [] }
+
+abbrev pub time_so_far : Option TimestampKept → TimestampKept
+time_so_far None = no_time
+time_so_far (Some k) = k
+
+-- the time after one more piece, or the piece's fault
+abbrev pub time_grown : Option TimestampKept → List ℕ → Result (Option TimestampKept) WireError
+time_grown o b = kept_of timestamp_with (time_so_far o) (fields_of timestamp_table b) >>= λ k. Ok (Some k)
+
+-- what one more piece of the time makes of it
+abbrev pub time_with : Option TimestampKept → List ℕ → Option TimestampKept
+time_with o b = Some (grown timestamp_with timestamp_table (time_so_far o) b)
+
+abbrev pub record_with : {E : Type 0} → Table → (List Field → Result E WireError) → RecordKept E → Field → RecordKept E
+record_with entry entry_from k f = record {
+  prev = last_option_from k.prev (held 1 (f ∷ []));
+  version = last_from k.version (numbers 2 (f ∷ []));
+  time = fold time_with k.time (held 3 (f ∷ []));
+  entries = k.entries ++ items_of (item_at entry entry_from 4 f);
+}
+
+-- ---- the messages of what is kept
+
+abbrev pub init_made : TwoTextsKept → InitValue
+init_made k = record { key = k.first; hash_algorithm = k.second }
+
+abbrev pub release_made : TwoTextsKept → ReleaseValue
+release_made k = record { version = k.first; content_hash = k.second }
+
+abbrev pub import_namespace_made : TwoTextsKept → ImportNamespaceValue
+import_namespace_made k = record { namespace = k.first; registry = k.second }
+
+abbrev pub yank_made : OneTextKept → YankValue
+yank_made k = record { version = k.text }
+
+abbrev pub define_namespace_made : OneTextKept → DefineNamespaceValue
+define_namespace_made k = record { namespace = k.text }
+
+abbrev pub grant_flat_made : TextAndNumbersKept → GrantFlatValue
+grant_flat_made k = record { key = k.text; permissions = k.numbers }
+
+abbrev pub revoke_flat_made : TextAndNumbersKept → RevokeFlatValue
+revoke_flat_made k = record { key_id = k.text; permissions = k.numbers }
+
+abbrev pub package_entry_made : MemberKept TwoTextsKept OneTextKept → Option PackageMember
+package_entry_made Absent = None
+package_entry_made (Init k) = Some (in_package.Init (init_made k))
+package_entry_made (GrantFlat k) = Some (in_package.GrantFlat (grant_flat_made k))
+package_entry_made (RevokeFlat k) = Some (in_package.RevokeFlat (revoke_flat_made k))
+package_entry_made (Fourth k) = Some (in_package.Release (release_made k))
+package_entry_made (Fifth k) = Some (in_package.Yank (yank_made k))
+
+abbrev pub operator_entry_made : MemberKept OneTextKept TwoTextsKept → Option OperatorMember
+operator_entry_made Absent = None
+operator_entry_made (Init k) = Some (in_operator.Init (init_made k))
+operator_entry_made (GrantFlat k) = Some (in_operator.GrantFlat (grant_flat_made k))
+operator_entry_made (RevokeFlat k) = Some (in_operator.RevokeFlat (revoke_flat_made k))
+operator_entry_made (Fourth k) = Some (in_operator.DefineNamespace (define_namespace_made k))
+operator_entry_made (Fifth k) = Some (in_operator.ImportNamespace (import_namespace_made k))
+
+abbrev pub record_made : {E : Type 0} → RecordKept E → RecordValue E
+record_made k = record { prev = k.prev; version = k.version % 2 ^ 32; time = option_view time_made k.time; entries = k.entries }

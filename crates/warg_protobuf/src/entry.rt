@@ -1,0 +1,143 @@
+//! The oneof of an entry while it is read: the run of the member that came last.
+
+ghost use Rattle.std.specs.Prelude.{◌≡◌};
+ghost use Rattle.warg_protobuf.specs.Drafts.{TwoTextsKept, two_texts_kept, TextAndNumbersKept, text_and_numbers_kept, MemberKept, member_kept, no_member, member_with, entry_table, init_so_far, grant_flat_so_far, revoke_flat_so_far, fourth_so_far, fifth_so_far};
+ghost use Rattle.warg_protobuf.specs.Table.{takes};
+
+use crate::draft::{Draft, read_into};
+use crate::error::WireError;
+use crate::field::{RawField, RawPayload};
+use crate::shape::{TextAndNumbers, TwoTexts};
+use std::alloc::Global;
+use std::mem;
+
+/// What is kept of the last member's run. The last two members are those of the entry's own kind.
+#[derive(Drop)]
+pub(crate) enum MemberDraft<'a, F, G> {
+    Absent,
+    Init(TwoTexts<'a>),
+    GrantFlat(TextAndNumbers<'a>),
+    RevokeFlat(TextAndNumbers<'a>),
+    Fourth(F),
+    Fifth(G),
+}
+
+/// An entry that is read. Where another member begins, the run before it is dropped; its faults have counted.
+#[derive(Drop)]
+pub(crate) struct EntryDraft<'a, F, G> {
+    alloc: Global,
+    pub member: MemberDraft<'a, F, G>,
+}
+
+impl<'a, F: Draft<'a>, G: Draft<'a>> EntryDraft<'a, F, G> {
+    fn take_init(&mut self) -> TwoTexts<'a>
+        ensures { two_texts_kept result ≡ init_so_far (member_kept F.kept G.kept self.old.member) }
+    {
+        match mem::replace(&mut self.member, MemberDraft::Absent) {
+            MemberDraft::Init(draft) => draft,
+            _ => TwoTexts::new(self.alloc),
+        }
+    }
+
+    fn take_grant_flat(&mut self) -> TextAndNumbers<'a>
+        ensures { text_and_numbers_kept result ≡ grant_flat_so_far (member_kept F.kept G.kept self.old.member) }
+    {
+        match mem::replace(&mut self.member, MemberDraft::Absent) {
+            MemberDraft::GrantFlat(draft) => draft,
+            _ => TextAndNumbers::new(self.alloc),
+        }
+    }
+
+    fn take_revoke_flat(&mut self) -> TextAndNumbers<'a>
+        ensures { text_and_numbers_kept result ≡ revoke_flat_so_far (member_kept F.kept G.kept self.old.member) }
+    {
+        match mem::replace(&mut self.member, MemberDraft::Absent) {
+            MemberDraft::RevokeFlat(draft) => draft,
+            _ => TextAndNumbers::new(self.alloc),
+        }
+    }
+
+    fn take_fourth(&mut self) -> F
+        ensures { F.kept result ≡ fourth_so_far F.empty (member_kept F.kept G.kept self.old.member) }
+    {
+        match mem::replace(&mut self.member, MemberDraft::Absent) {
+            MemberDraft::Fourth(draft) => draft,
+            _ => F::new(self.alloc),
+        }
+    }
+
+    fn take_fifth(&mut self) -> G
+        ensures { G.kept result ≡ fifth_so_far G.empty (member_kept F.kept G.kept self.old.member) }
+    {
+        match mem::replace(&mut self.member, MemberDraft::Absent) {
+            MemberDraft::Fifth(draft) => draft,
+            _ => G::new(self.alloc),
+        }
+    }
+}
+
+impl<'a, F: Draft<'a>, G: Draft<'a>> Draft<'a> for EntryDraft<'a, F, G> {
+    ghost table = { entry_table F.table G.table };
+
+    ghost Kept = { MemberKept F.Kept G.Kept };
+
+    ghost kept = { λ d. member_kept F.kept G.kept d.member };
+
+    ghost empty = { no_member };
+
+    ghost with_field = { member_with F.table F.with_field F.empty G.table G.with_field G.empty };
+
+    ghost TakesMemory = { Unit {0} };
+
+    fn new(alloc: Global) -> Self {
+        EntryDraft {
+            alloc,
+            member: MemberDraft::Absent,
+        }
+    }
+
+    fn takes(number: u32, wire_type: u32) -> bool
+        ensures { result ≡ takes (entry_table F.table G.table) number wire_type }
+    {
+        match number {
+            1 | 2 | 3 | 4 | 5 => wire_type == 2,
+            _ => true,
+        }
+    }
+
+    #[tactic(auto, unfolding(crate::specs::Reading::payload_fault))]
+    fn grow(&mut self, field: RawField<'a>) -> Result<(), WireError> {
+        let RawPayload::Bytes(bytes) = field.payload else {
+            return Ok(());
+        };
+        match field.number {
+            1 => {
+                let mut draft = self.take_init();
+                read_into(&mut draft, bytes)?;
+                self.member = MemberDraft::Init(draft);
+            }
+            2 => {
+                let mut draft = self.take_grant_flat();
+                read_into(&mut draft, bytes)?;
+                self.member = MemberDraft::GrantFlat(draft);
+            }
+            3 => {
+                let mut draft = self.take_revoke_flat();
+                read_into(&mut draft, bytes)?;
+                self.member = MemberDraft::RevokeFlat(draft);
+            }
+            4 => {
+                let mut draft = self.take_fourth();
+                read_into(&mut draft, bytes)?;
+                self.member = MemberDraft::Fourth(draft);
+            }
+            5 => {
+                let mut draft = self.take_fifth();
+                read_into(&mut draft, bytes)?;
+                self.member = MemberDraft::Fifth(draft);
+            }
+            _ => {}
+        }
+        Ok(())
+    }
+}

@@ -1,0 +1,14 @@
+-- Operator logs: what a state stands for, what its look-ups answer, and what a log's history says.
+-- the rules, and what content bytes are as a record
+pub use Rattle.warg_operator_log.specs.StateLaws.{kind, effects}
+pub use Rattle.warg_records.specs.OperatorReading.{operator_record_of}
+pub use Rattle.warg_records.specs.OperatorEntries.{reading, said}
+-- what a state stands for: `(view_of s).whole.authority.holds`, `.key`, `(view_of s).whole.matter`, `(view_of s).head`
+pub use Rattle.warg_operator_log.specs.State.{View, view_of, plain_envelope, offence_of, record_offence, after_record}
+pub use Rattle.warg_records.specs.OperatorPermissions.{same_permission}
+pub use Rattle.warg_records.specs.KebabNames.{IsKebabName}
+-- the namespaces that a state shows
+pub use Rattle.warg_operator_log.specs.Namespaces.{Namespace, Defined, Imported}
+pub use Rattle.warg_operator_log.specs.NamespaceMap.{namespace_view}
+-- what the history of a log says
+pub use Rattle.warg_operator_log.specs.StateHistory.{TellsHistory, records_of, history}

@@ -1,0 +1,73 @@
+//! Records that come next.
+use crate::people::{key, signer};
+use crate::play::state_of;
+use std::alloc::Global;
+use std::test::Fail;
+use warg_protocol::hash::HashAlgorithm;
+use warg_protocol::toy::ToyVerifier;
+use warg_protocol::{ProtoEnvelope, Timestamp, Version, operator, package};
+
+fn yank(alloc: Global) -> Result<Vec<package::PackageEntry>, Fail> {
+    let version = Version::parse(alloc, "1.0.0")?;
+    Ok(vec![in alloc; package::PackageEntry::Yank { version }]?)
+}
+
+// What alice's next record at this time makes of the state.
+fn yanked(
+    alloc: Global,
+    state: &package::LogState,
+    time: &str,
+) -> Result<Result<package::LogState, package::ValidationError>, Fail> {
+    let record = state.next_record(Timestamp::parse_text(time)?, yank(alloc)?);
+    let envelope = ProtoEnvelope::signed_contents(alloc, &signer(alloc, "alice")?, record)?;
+    Ok(state.clone()?.validate(&envelope, &ToyVerifier))
+}
+
+fn is_yanked(alloc: Global, state: &package::LogState, time: &str) -> Result<bool, Fail> {
+    let next = yanked(alloc, state, time)?;
+    Ok(next.is_ok_and(|next| next.releases().all(|release| release.yanked())))
+}
+
+fn is_too_old(alloc: Global, state: &package::LogState, time: &str) -> Result<bool, Fail> {
+    let next = yanked(alloc, state, time)?;
+    Ok(next.is_err_and(|error| error == package::ValidationError::TimestampLowerThanPrevious))
+}
+
+#[test]
+fn a_next_record_is_taken(rt: HostRuntime) -> Result<(), Fail> {
+    let alloc = rt.alloc();
+    let script = "alice 2.0: init alice, release 1.0.0";
+    let state = state_of::<package::LogState>(&rt, alloc, script)?;
+    assert!(rt; is_yanked(alloc, &state, "2.0")?);
+    assert!(rt; is_yanked(alloc, &state, "3.5")?);
+    assert!(rt; is_too_old(alloc, &state, "1.9")?);
+    Ok(())
+}
+
+fn init(alloc: Global) -> Result<Vec<operator::OperatorEntry>, Fail> {
+    Ok(vec![in alloc;
+        operator::OperatorEntry::Init {
+            hash_algorithm: HashAlgorithm::Sha256,
+            key: key(alloc, "alice")?,
+        },
+    ]?)
+}
+
+// The state after a first record.
+fn begun(alloc: Global) -> Result<operator::LogState, Fail> {
+    let state = operator::LogState::new(alloc)?;
+    let record = state.next_record(Timestamp::parse_text("1.0")?, init(alloc)?);
+    let envelope = ProtoEnvelope::signed_contents(alloc, &signer(alloc, "alice")?, record)?;
+    match state.validate(&envelope, &ToyVerifier) {
+        Ok(next) => Ok(next),
+        Err(error) => Err(Fail::from(error)),
+    }
+}
+
+#[test]
+fn a_first_record_is_a_next_one(rt: HostRuntime) -> Result<(), Fail> {
+    let state = begun(rt.alloc())?;
+    let head = state.head().ok_or("no head")?;
+    assert_eq!(rt; head.try_clone()?, head);
+    Ok(())
+}

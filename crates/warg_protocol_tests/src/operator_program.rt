@@ -1,0 +1,29 @@
+//! A program over operator logs, whose contracts cite what `warg_protocol` alone hands on.
+ghost use Rattle.std.specs.Prelude.{◌≡◌};
+ghost use Rattle.warg_protocol.specs.Operator.{view_of};
+
+use crate::people::id;
+use crate::play::state_of;
+use std::alloc::Global;
+use std::test::Fail;
+use warg_protocol::operator::{LogState, Permission};
+use warg_protocol::signing::KeyID;
+
+/// Whether the key may sign checkpoints of the registry.
+fn may_sign(state: &LogState, key_id: &KeyID) -> bool
+    ensures { result ≡ (view_of state.now).whole.authority.holds key_id.now Permission.Commit }
+{
+    state.key_has_permission_to_sign_checkpoints(key_id)
+}
+
+fn may_sign_in(alloc: Global, state: &LogState, name: &str) -> Result<bool, Fail> {
+    Ok(may_sign(state, &id(alloc, name)?))
+}
+
+#[test]
+fn a_program_asks_an_operator_log(rt: HostRuntime) -> Result<(), Fail> {
+    let state = state_of::<LogState>(&rt, rt.alloc(), "alice 1.0: init alice")?;
+    assert!(rt; may_sign_in(rt.alloc(), &state, "alice")?);
+    assert!(rt; !may_sign_in(rt.alloc(), &state, "bob")?);
+    Ok(())
+}

@@ -1,0 +1,80 @@
+//! A program over package logs, whose contracts cite what `warg_protocol` alone hands on.
+ghost use Rattle.std.specs.Prelude.{◌≡◌, IfOk, map};
+ghost use Rattle.std.specs.Option.{option_map, option_copied};
+ghost use Rattle.std.specs.Vec.{vec_items};
+ghost use Rattle.warg_protocol.specs.Logs.{IsAccepted, envelope_of, read_all};
+ghost use Rattle.warg_protocol.specs.Package.{TellsHistory, kind, package_record_of, view_of, IsGreatest, shows_candidate, shown_cmp, release_view};
+
+use crate::people::id;
+use crate::play::log_of;
+use std::alloc::Global;
+use std::process::Abort;
+use std::test::Fail;
+use warg_protocol::package::{LogState, Permission, Release, ValidationError};
+use warg_protocol::signing::{KeyID, Verifier};
+use warg_protocol::toy::ToyVerifier;
+use warg_protocol::{RunError, Validator, VersionReq, laws, run};
+
+/// The state of a package's log: what its history says.
+fn audited<V: Verifier>(
+    alloc: Global,
+    verifier: &V,
+    strings: &[Vec<u8>],
+) -> Result<LogState, RunError<ValidationError>>
+    ensures { let log = read_all (envelope_of package_record_of) (map vec_items strings.now) in
+        IfOk result (λ s. IsAccepted kind (V.belongs verifier.now) log × TellsHistory s log) }
+{
+    laws::package::states_tell_history();
+    run(alloc, verifier, strings)
+}
+
+/// Whether the key may release.
+fn may_release(state: &LogState, key_id: &KeyID) -> bool
+    ensures { result ≡ (view_of state.now).whole.authority.holds key_id.now Permission.Release }
+{
+    Validator::holds(state, key_id, Permission::Release)
+}
+
+/// The version that meets the requirement best.
+fn resolved<'a>(state: &'a LogState, wanted: &VersionReq) -> Option<&'a Release>
+    ensures { IsGreatest (shows_candidate wanted.now.comparators.items) shown_cmp (view_of state.now).whole.matter (option_map release_view (option_copied result)) }
+{
+    state.find_latest_release(wanted)
+}
+
+const LOG: &str = "
+    alice 1.0: init alice, grant bob release
+    bob 2.0: release 1.0.0 first, release 1.1.0 second
+";
+
+fn strings(rt: &impl Abort, alloc: Global) -> Result<Vec<Vec<u8>>, Fail> {
+    Ok(log_of::<LogState>(rt, alloc, LOG)?.strings)
+}
+
+fn state(rt: &impl Abort, alloc: Global) -> Result<LogState, Fail> {
+    let strings = strings(rt, alloc)?;
+    match audited(alloc, &ToyVerifier, strings.as_slice()) {
+        Ok(state) => Ok(state),
+        Err(error) => Err(Fail::from(error)),
+    }
+}
+
+fn may_release_in(alloc: Global, state: &LogState, name: &str) -> Result<bool, Fail> {
+    Ok(may_release(state, &id(alloc, name)?))
+}
+
+fn best(alloc: Global, state: &LogState, wanted: &str) -> Result<String, Fail> {
+    let wanted = VersionReq::parse(alloc, wanted)?;
+    let release = resolved(state, &wanted).ok_or("nothing meets it")?;
+    Ok(release.version.to_string(alloc)?)
+}
+
+#[test]
+fn a_program_asks_a_package_log(rt: HostRuntime) -> Result<(), Fail> {
+    let alloc = rt.alloc();
+    let state = state(&rt, alloc)?;
+    assert!(rt; may_release_in(alloc, &state, "bob")?);
+    assert!(rt; !may_release_in(alloc, &state, "mallory")?);
+    assert_eq!(rt; best(alloc, &state, "^1")?.as_str(), "1.1.0");
+    Ok(())
+}
