@@ -13,9 +13,8 @@ mod matter;
 mod refusal;
 mod rights;
 
-pub use fault::Fault;
 pub use head::Head;
 pub use log::Log;
 pub use matter::{Matter, Parts, Step};
-pub use warg_records::LogPermission;
 pub use refusal::Refusal;
+pub use warg_records::LogPermission;

@@ -1,4 +1,3 @@
-pub mod Entries
 pub mod ErrorLaws
 pub mod NamespaceMap
 pub mod Namespaces

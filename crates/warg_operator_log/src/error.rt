@@ -5,26 +5,8 @@ use std::alloc::AllocError;
 use thiserror::Error;
 use warg_crypto::hash::HashAlgorithm;
 use warg_crypto::signing::{KeyID, SignatureError};
-use warg_log::{Fault, Refusal};
+use warg_log::Refusal;
 use warg_records::operator::Permission;
-
-/// Why a namespace is refused.
-#[derive(Debug, Drop)]
-pub enum NamespaceError {
-    InvalidNamespace { namespace: String },
-    NamespaceAlreadyDefined { namespace: String },
-    OutOfMemory,
-}
-
-impl From<AllocError> for NamespaceError {
-    ghost use Rattle.warg_operator_log.specs.declared.error.NamespaceError.TheVariants.{OutOfMemory};
-
-    ghost from_gives = { λ _ e. e ≡ OutOfMemory };
-
-    fn from(_error: AllocError) -> NamespaceError {
-        NamespaceError::OutOfMemory
-    }
-}
 
 /// Why a record of an operator log is refused.
 #[derive(Debug, Drop, PartialEq, Eq, Error)]
@@ -176,27 +158,6 @@ impl From<Refusal<Permission>> for ValidationError {
             Refusal::TimestampLowerThanPrevious => ValidationError::TimestampLowerThanPrevious,
             Refusal::EmptyGrant { key_id } => ValidationError::EmptyGrant { key_id },
             Refusal::OutOfMemory => ValidationError::OutOfMemory,
-        }
-    }
-}
-
-impl From<Fault<Permission, NamespaceError>> for ValidationError {
-    ghost use Rattle.warg_log.specs.States.{fault_told};
-    ghost use Rattle.warg_operator_log.specs.Entries.{told};
-    ghost use Rattle.warg_operator_log.specs.State.{offence_of};
-
-    ghost from_gives = { λ f e. offence_of e ≡ fault_told told f };
-
-    fn from(fault: Fault<Permission, NamespaceError>) -> ValidationError {
-        match fault {
-            Fault::Shared(refusal) => ValidationError::from(refusal),
-            Fault::Own(NamespaceError::InvalidNamespace { namespace }) => {
-                ValidationError::InvalidNamespace { namespace }
-            }
-            Fault::Own(NamespaceError::NamespaceAlreadyDefined { namespace }) => {
-                ValidationError::NamespaceAlreadyDefined { namespace }
-            }
-            Fault::Own(NamespaceError::OutOfMemory) => ValidationError::OutOfMemory,
         }
     }
 }

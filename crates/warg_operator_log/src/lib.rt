@@ -9,7 +9,7 @@ mod namespace_map;
 mod state;
 mod validator;
 
-pub use error::{NamespaceError, ValidationError};
+pub use error::ValidationError;
 pub use namespace::NamespaceState;
 pub use state::LogState;
 pub use warg_log::Head;

@@ -7,13 +7,15 @@ ghost use Rattle.indexmap.specs.IndexMap.{get_by_text};
 ghost use Rattle.warg_records.specs.KebabNames.{IsKebabName, is_kebab_name};
 ghost use Rattle.warg_records.specs.OperatorEntries.{OperatorAct, reading, said};
 ghost use Rattle.warg_log.specs.Judging.{Judges};
+ghost use Rattle.warg_log.specs.Offences as shared;
+ghost use Rattle.warg_log.specs.History.{Wrong};
 ghost use Rattle.warg_operator_log.specs.Namespaces.{OwnOffence, Names, Namespace, names, name_offence, rules, names-none, names-append, alike_offence, alike_after};
 ghost use Rattle.warg_operator_log.specs.NamespaceMap.{namespace_view, named, HasKebabNames};
 ghost use Rattle.warg_operator_log.specs.SameNamespaces.{same_namespaces};
 ghost use Rattle.warg_operator_log.specs.SameNamespaceLaws.{namespaces_decide, namespaces_equiv};
-ghost use Rattle.warg_operator_log.specs.Entries.{told};
+ghost use Rattle.warg_operator_log.specs.State.{offence_of};
 
-use crate::error::NamespaceError;
+use crate::error::ValidationError;
 use crate::namespace::NamespaceState;
 use indexmap::IndexMap;
 use std::alloc::{AllocError, Global};
@@ -21,7 +23,7 @@ use std::marker::Model;
 use warg_crypto::Timestamp;
 use warg_crypto::hash::Sha256;
 use warg_crypto::signing::KeyID;
-use warg_log::{Matter, Parts, Step};
+use warg_log::{Matter, Parts, Refusal, Step};
 use warg_records::ProtoEnvelope;
 use warg_records::operator::{OperatorEntry, OperatorRecord, Permission};
 use warg_records::registry::{PackageName, RecordId};
@@ -69,17 +71,17 @@ impl NamespaceMap {
         self.map.get(name)
     }
 
-    fn define(&mut self, name: &String, state: NamespaceState) -> Result<(), NamespaceError>
-        ensures judges { Judges told (name_offence (names self.old) (string_bytes name.now)) result }
+    fn define(&mut self, name: &String, state: NamespaceState) -> Result<(), ValidationError>
+        ensures judges { Judges offence_of (option_map Wrong.Own (name_offence (names self.old) (string_bytes name.now))) result }
         ensures after { OnOk result ((k : List ℕ) → names self.new k ≡ (if bytes_eq (string_bytes name.now) k then Some (namespace_view state) else names self.old k)) }
     {
         if !PackageName::is_valid_namespace(name.as_str()) {
-            return Err(NamespaceError::InvalidNamespace {
+            return Err(ValidationError::InvalidNamespace {
                 namespace: name.clone()?,
             });
         }
         if self.map.contains_key(name.as_str()) {
-            return Err(NamespaceError::NamespaceAlreadyDefined {
+            return Err(ValidationError::NamespaceAlreadyDefined {
                 namespace: name.clone()?,
             });
         }
@@ -95,7 +97,7 @@ impl Matter for NamespaceMap {
 
     type Entry = OperatorEntry;
 
-    type Error = NamespaceError;
+    type Error = ValidationError;
 
     ghost Own = { OperatorAct };
 
@@ -113,7 +115,7 @@ impl Matter for NamespaceMap {
 
     ghost reading = { reading };
 
-    ghost told = { told };
+    ghost told = { offence_of };
 
     ghost signs_under = { refl };
 
@@ -182,13 +184,19 @@ impl Matter for NamespaceMap {
         }
     }
 
+    fn refused(refusal: Refusal<Permission>) -> ValidationError
+        ensures { offence_of result ≡ option_map Wrong.Shared (shared.offence_of refusal) }
+    {
+        ValidationError::from(refusal)
+    }
+
     fn apply(
         &mut self,
         entry: &OperatorEntry,
         _signer: &KeyID,
         _timestamp: Timestamp,
         _record_id: RecordId,
-    ) -> Result<(), NamespaceError> {
+    ) -> Result<(), ValidationError> {
         match entry {
             OperatorEntry::DefineNamespace { namespace } => {
                 self.define(namespace, NamespaceState::Defined)

@@ -1,6 +1,5 @@
 pub mod AlikeLaws
 pub mod Catalog
-pub mod Entries
 pub mod ErrorLaws
 pub mod Extensions
 pub mod Latest

@@ -6,27 +6,8 @@ use std::alloc::AllocError;
 use thiserror::Error;
 use warg_crypto::hash::HashAlgorithm;
 use warg_crypto::signing::{KeyID, SignatureError};
-use warg_log::{Fault, Refusal};
+use warg_log::Refusal;
 use warg_records::package::Permission;
-
-/// Why a release or a yank is refused.
-#[derive(Debug, Drop)]
-pub enum ReleaseError {
-    ReleaseOfReleased { version: Version },
-    YankOfUnreleased { version: Version },
-    YankOfYanked { version: Version },
-    OutOfMemory,
-}
-
-impl From<AllocError> for ReleaseError {
-    ghost use Rattle.warg_package_log.specs.declared.error.ReleaseError.TheVariants.{OutOfMemory};
-
-    ghost from_gives = { λ _ e. e ≡ OutOfMemory };
-
-    fn from(_error: AllocError) -> ReleaseError {
-        ReleaseError::OutOfMemory
-    }
-}
 
 /// Why a record of a package log is refused.
 #[derive(Debug, Drop, PartialEq, Eq, Error)]
@@ -182,30 +163,6 @@ impl From<Refusal<Permission>> for ValidationError {
             Refusal::TimestampLowerThanPrevious => ValidationError::TimestampLowerThanPrevious,
             Refusal::EmptyGrant { key_id } => ValidationError::EmptyGrant { key_id },
             Refusal::OutOfMemory => ValidationError::OutOfMemory,
-        }
-    }
-}
-
-impl From<Fault<Permission, ReleaseError>> for ValidationError {
-    ghost use Rattle.warg_log.specs.States.{fault_told};
-    ghost use Rattle.warg_package_log.specs.Entries.{told};
-    ghost use Rattle.warg_package_log.specs.State.{offence_of};
-
-    ghost from_gives = { λ f e. offence_of e ≡ fault_told told f };
-
-    fn from(fault: Fault<Permission, ReleaseError>) -> ValidationError {
-        match fault {
-            Fault::Shared(refusal) => ValidationError::from(refusal),
-            Fault::Own(ReleaseError::ReleaseOfReleased { version }) => {
-                ValidationError::ReleaseOfReleased { version }
-            }
-            Fault::Own(ReleaseError::YankOfUnreleased { version }) => {
-                ValidationError::YankOfUnreleased { version }
-            }
-            Fault::Own(ReleaseError::YankOfYanked { version }) => {
-                ValidationError::YankOfYanked { version }
-            }
-            Fault::Own(ReleaseError::OutOfMemory) => ValidationError::OutOfMemory,
         }
     }
 }

@@ -12,7 +12,7 @@ mod releases;
 mod state;
 mod validator;
 
-pub use error::{ReleaseError, ValidationError};
+pub use error::ValidationError;
 pub use release::{Release, ReleaseState};
 pub use releases::Releases;
 pub use state::LogState;
