@@ -5,14 +5,8 @@ use Rattle.warg_audit.specs.declared.command.LogType.{LogType}
 use Rattle.warg_audit.specs.declared.command.Command.{Command}
 use Rattle.warg_audit.specs.Commands.{command_of}
 use Rattle.warg_audit.specs.Lines.{lines_of, string_of, is_line_feed, onto}
-use Rattle.warg_audit.specs.Answers.{IsEnvelopeAnswer, has_fault, IsIdAnswer, no_line, bad_digits, second_line, one_line, IsCommandAnswer, other_words, over_limit, of_lines}
+use Rattle.warg_audit.specs.Answers.{IsEnvelopeAnswer, IsIdAnswer, no_line, bad_digits, second_line, one_line, IsCommandAnswer, other_words, over_limit, of_lines}
 use Rattle.warg_audit.specs.Printed.{Printed, usage, too_long, bad_line, refused}
-use Rattle.warg_protobuf.specs.Envelope.{envelope_table}
-use Rattle.warg_protobuf.specs.Table.{HasFault}
-use Rattle.warg_protobuf.specs.declared.error.WireError.{WireError}
-use Rattle.warg_protobuf.specs.declared.error.WireError.TheVariants.{OutOfMemory}
-use Rattle.warg_records.specs.FaultNames.{error_name}
-use Rattle.warg_records.specs.declared.proto_envelope.error.ParseEnvelopeError.TheVariants.{ProtobufEnvelope}
 use Rattle.warg_audit.specs.Replies.{IsReply, answer, unread, starved, IsAnswered}
 use Rattle.warg_audit.proofs.LineLemmas.{lines_of-are}
 
@@ -50,10 +44,6 @@ module _ (log_type : LogType) (text line more : List ℕ) (printed : Printed) wh
 
   pub only_line : (bytes : List ℕ) → lines_of text ≡ line ∷ lines_of more → string_of line ≡ Ok bytes → length more ≡ 0 → IsEnvelopeAnswer log_type bytes printed → IsIdAnswer log_type (lines_of text) printed
   only_line bytes cut good none is = one_line line bytes (cut ∙ ap (λ lines. line ∷ lines) (no_more more none)) good is
-
-pub of_fault : (log_type : LogType) (bytes : List ℕ) (printed : Printed) (fault : WireError) → (fault ≢ OutOfMemory → HasFault envelope_table bytes fault)
-    → (fault ≢ OutOfMemory) × (printed ≡ refused 0 (error_name (ProtobufEnvelope fault))) → IsEnvelopeAnswer log_type bytes printed
-of_fault log_type bytes printed fault has is = has_fault fault (has is.0) is.1
 
 -- ---- a list longer than any number
 

@@ -1,7 +1,6 @@
 //! The id of the one record whose envelope is read.
 
-ghost use Rattle.std.specs.Prelude.{◌≡◌, ◌≢◌, IfOk};
-ghost use Rattle.warg_protobuf.specs.declared.error.WireError.TheVariants.{OutOfMemory};
+ghost use Rattle.std.specs.Prelude.{◌≡◌, IfOk};
 ghost use Rattle.warg_records.specs.FaultNames.{error_name};
 ghost use Rattle.warg_records.specs.declared.proto_envelope.error.ParseEnvelopeError.TheVariants.{ProtobufEnvelope};
 ghost use Rattle.warg_audit.specs.Answers.{record_id_of, IsEnvelopeAnswer, IsIdAnswer};
@@ -14,7 +13,7 @@ use crate::lines::{cut_line, line_bytes};
 use crate::reply::{Reply, bad_line_reply, refused_reply};
 use std::alloc::{AllocError, Global};
 use warg_crypto::hash::Sha256;
-use warg_protobuf::{Envelope, Message, WireError};
+use warg_protobuf::{Envelope, WireError};
 use warg_records::ParseEnvelopeError;
 use warg_records::registry::RecordId;
 
@@ -28,23 +27,20 @@ fn record_id(log_type: LogType, content: &[u8]) -> RecordId
     }
 }
 
-// The reply to an envelope's first fault; none where memory was refused.
+// The reply to an envelope's first fault.
 fn fault_reply(alloc: Global, fault: WireError) -> Result<Reply, AllocError>
-    ensures { IfOk result (λ reply. (fault ≢ OutOfMemory) × (printed_of reply ≡ refused 0 (error_name (ProtobufEnvelope fault)))) }
+    ensures { IfOk result (λ reply. printed_of reply ≡ refused 0 (error_name (ProtobufEnvelope fault))) }
 {
-    match fault {
-        WireError::OutOfMemory => Err(AllocError),
-        _ => refused_reply(alloc, 0, ParseEnvelopeError::ProtobufEnvelope(fault).name()),
-    }
+    refused_reply(alloc, 0, ParseEnvelopeError::ProtobufEnvelope(fault).name())
 }
 
 // The answer to an envelope's bytes.
 fn envelope_reply(alloc: Global, log_type: LogType, bytes: &[u8]) -> Result<Reply, AllocError>
     ensures { IfOk result (λ reply. IsEnvelopeAnswer log_type bytes.now (printed_of reply)) }
 {
-    match Envelope::decode(alloc, bytes) {
+    match Envelope::view(bytes) {
         Ok(envelope) => {
-            let id = record_id(log_type, envelope.contents.as_slice());
+            let id = record_id(log_type, envelope.contents);
             Ok(Reply::owned(format!(in alloc; "{id}\n")?, 0))
         }
         Err(fault) => fault_reply(alloc, fault),

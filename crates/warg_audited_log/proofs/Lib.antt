@@ -2,3 +2,8 @@ pub mod HeadLemmas
 pub mod FrontLemmas
 pub mod ExtinctionLemmas
 pub mod AppendLemmas
+pub mod NumberLemmas
+pub mod ChainLemmas
+pub mod TrailLemmas
+pub mod LedgerLemmas
+pub mod HoldLemmas

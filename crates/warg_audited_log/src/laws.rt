@@ -1,7 +1,9 @@
 //! Laws over all logs of a kind. They have no effect.
-ghost use Rattle.std.specs.Prelude.{◌≡◌, ◌≢◌, ◌⊎◌, ◌<◌, ◌+◌, ◌++◌, ℕ, List, [], length, take, Some, slice_index_or};
+ghost use Rattle.std.specs.Prelude.{◌≡◌, ◌↔◌, ◌⊎◌, ◌<◌, ◌+◌, ◌++◌, ℕ, List, [], length, take, Some, slice_index_or, true, false};
 ghost use Rattle.warg_records.specs.Letters.{Letter};
+ghost use Rattle.warg_validator.specs.Effects.{holds};
 ghost use Rattle.warg_validator.specs.Kinds.{Belief, IsAccepted};
+ghost use Rattle.warg_audited_log.specs.Chains.{Entry, entries_of, held_by, IsHeld};
 ghost use Rattle.warg_audited_log.specs.Extinction.{StaysExtinct};
 ghost use Rattle.warg_audited_log.specs.Heads.{HaveCollision};
 ghost use Rattle.warg_audited_log.specs.Log.{contents};
@@ -33,4 +35,11 @@ pub fn fronts<L: Validator>()
 /// A permission that no key id holds after the records of a log that has any, none holds after more of them.
 pub fn extinction<L: Validator>()
     ensures { (b : Belief) (es fs : List Letter) → IsAccepted L.kind b (es ++ fs) → StaysExtinct L.effects es (es ++ fs) }
+{}
+
+/// A key id holds a permission after entries exactly if the last of them that speaks of both gives it, and the
+/// entries of records are all of theirs, in one list.
+pub fn last_entry_decides<L: Validator>()
+    ensures held { (h : List (Entry L.Permission)) (k : List ℕ) (p : L.Permission) → (held_by false h k p ≡ true) ↔ IsHeld h k p }
+    ensures records { (es : List Letter) (k : List ℕ) (p : L.Permission) → held_by false (entries_of L.effects es) k p ≡ holds L.effects es k p }
 {}

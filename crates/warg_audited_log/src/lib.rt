@@ -1,10 +1,15 @@
 //! A log that keeps its records beside the state that they add up to: it takes one envelope after another, or
-//! leaves everything as it was, and compares its head with that of another log.
+//! leaves everything as it was, compares its head with that of another log, and says by which entries a key came to
+//! hold a permission.
 #![tactic(auto)]
 
 mod audited_log;
+mod drafting;
 mod heads;
 pub mod laws;
+mod ledger;
+mod link;
 
 pub use audited_log::AuditedLog;
 pub use heads::HeadComparison;
+pub use link::Link;

@@ -34,11 +34,11 @@ bare_judged T bytes = key_judged (takes T) (payload_fault T) (varint_at bytes)
 
 module _ {K : Type 0} (T : Table) (bytes : List ℕ) where
   -- a field that was cut and judged
-  pub field_grown : (f : Field) (after : List ℕ) (new seen : K) → field_at (takes T) no_fault bytes ≡ Ok (f, after) → unless (payload_fault T f.number f.payload) (Ok new) ≡ Ok seen
-      → (field_of T bytes ≡ Ok (f, after)) × (new ≡ seen)
-  field_grown f after new seen cut grown = by (payload_fault T f.number f.payload) refl grown
+  pub field_grown : (f : Field) (after : List ℕ) (new view : K) → field_at (takes T) no_fault bytes ≡ Ok (f, after) → unless (payload_fault T f.number f.payload) (Ok new) ≡ Ok view
+      → (field_of T bytes ≡ Ok (f, after)) × (new ≡ view)
+  field_grown f after new view cut grown = by (payload_fault T f.number f.payload) refl grown
     where
-      by : (o : Option WireError) → payload_fault T f.number f.payload ≡ o → unless o (Ok new) ≡ Ok seen → (field_of T bytes ≡ Ok (f, after)) × (new ≡ seen)
+      by : (o : Option WireError) → payload_fault T f.number f.payload ≡ o → unless o (Ok new) ≡ Ok view → (field_of T bytes ≡ Ok (f, after)) × (new ≡ view)
       by None e g = (bare_judged T bytes ∙ ap (judged (payload_fault T)) cut ∙ ap (λ (o : Option WireError). unless o (Ok (f, after))) e, cc)
       by (Some w) e g = cc g
 
@@ -52,7 +52,7 @@ module _ {K : Type 0} (T : Table) (bytes : List ℕ) where
 pub field_cut_short : (T : Table) (bytes : List ℕ) (w : WireError) → field_at (takes T) no_fault bytes ≡ Err w → field_of T bytes ≡ Err w
 field_cut_short T bytes w cut = bare_judged T bytes ∙ ap (judged (payload_fault T)) cut
 
--- at a fault of the payload, want of memory aside
+-- at a fault of the payload, out of memory aside
 pub grown_fails : {K : Type 0} (T : Table) (with_field : K → Field → K) (kept new : K) (rest : List ℕ) (total : Result K WireError) (so_far : kept_of with_field kept (fields_of T rest) ≡ total)
     (f : Field) (after : List ℕ) (e : WireError) → 0 < length rest → field_at (takes T) no_fault rest ≡ Ok (f, after) → Fails e (unless (payload_fault T f.number f.payload) (Ok new)) → Fails e total
 grown_fails T with_field kept new rest total so_far f after OutOfMemory some cut h = tt

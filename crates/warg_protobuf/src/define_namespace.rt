@@ -34,9 +34,9 @@ impl OperatorDefineNamespace {
 impl Codec for OperatorDefineNamespace {
     ghost table = { define_namespace_table };
 
-    ghost Seen = { DefineNamespaceValue };
+    ghost View = { DefineNamespaceValue };
 
-    ghost seen = { define_namespace_seen };
+    ghost view = { define_namespace_seen };
 
     ghost Says = { IsDefineNamespaceOf };
 

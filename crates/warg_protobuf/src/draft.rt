@@ -6,7 +6,7 @@ ghost use Rattle.warg_protobuf.specs.Field.{Field};
 ghost use Rattle.warg_protobuf.specs.Reading.{fields_of, payload_fault, unless};
 ghost use Rattle.warg_protobuf.specs.Table.{Table, takes};
 ghost use Rattle.warg_protobuf.specs.Values.{kept_of};
-ghost use Rattle.warg_protobuf.specs.Views.{field_view, Gives};
+ghost use Rattle.warg_protobuf.specs.Views.{field_view, ReturnsOrNoMemory};
 
 use crate::error::WireError;
 use crate::field::{RawField, read_field};
@@ -39,13 +39,13 @@ pub(crate) trait Draft<'a>: Drop {
     /// Keeps what counts of the next field, or finds the fault of its payload.
     fn grow(&mut self, field: RawField<'a>) -> Result<(), WireError>
         ensures given { let f = field_view field.entry in
-            Gives (λ _. kept self.new) result (unless (payload_fault table f.number f.payload) (Ok (with_field (kept self.old) f))) }
+            ReturnsOrNoMemory (λ _. kept self.new) result (unless (payload_fault table f.number f.payload) (Ok (with_field (kept self.old) f))) }
         ensures memory { IfErr result (λ e. e ≡ OutOfMemory → TakesMemory) };
 }
 
 /// Reads the fields of a message, all of the bytes, each once.
 pub(crate) fn read_into<'a, D: Draft<'a>>(draft: &mut D, bytes: &'a [u8]) -> Result<(), WireError>
-    ensures given { Gives (λ _. D.kept draft.new) result (kept_of D.with_field (D.kept draft.old) (fields_of D.table bytes.now)) }
+    ensures given { ReturnsOrNoMemory (λ _. D.kept draft.new) result (kept_of D.with_field (D.kept draft.old) (fields_of D.table bytes.now)) }
     ensures memory { IfErr result (λ e. e ≡ OutOfMemory → D.TakesMemory) }
 {
     let mut rest = bytes;
@@ -59,7 +59,7 @@ pub(crate) fn read_into<'a, D: Draft<'a>>(draft: &mut D, bytes: &'a [u8]) -> Res
 
 /// What is kept of the fields of a message, all of the bytes.
 pub(crate) fn read_draft<'a, D: Draft<'a>>(alloc: Global, bytes: &'a [u8]) -> Result<D, WireError>
-    ensures { Gives D.kept result (kept_of D.with_field D.empty (fields_of D.table bytes.now)) }
+    ensures { ReturnsOrNoMemory D.kept result (kept_of D.with_field D.empty (fields_of D.table bytes.now)) }
 {
     let mut draft = D::new(alloc);
     read_into(&mut draft, bytes)?;

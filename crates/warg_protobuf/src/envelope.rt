@@ -5,7 +5,7 @@ ghost use Rattle.warg_protobuf.specs.declared.error.WireError.{WireError};
 ghost use Rattle.warg_protobuf.specs.declared.error.WireError.TheVariants.{OutOfMemory};
 ghost use Rattle.warg_protobuf.specs.Drafts.{no_parts, envelope_with};
 ghost use Rattle.warg_protobuf.specs.Envelope.{envelope_table, EnvelopeValue, envelope_seen, borrowed_envelope, envelope_from, IsEnvelope, IsEnvelopeOf, envelope_of, envelope_fields, IsSoundEnvelope};
-ghost use Rattle.warg_protobuf.specs.Reading.{Is};
+ghost use Rattle.warg_protobuf.specs.Reading.{Returns};
 ghost use Rattle.warg_protobuf.specs.Table.{takes, HasFault};
 
 use crate::draft::{Draft, read_into};
@@ -47,9 +47,9 @@ impl Envelope {
         ensures no_memory { IfErr result (λ e. e ≢ OutOfMemory) }
 
         // What the bytes say is read.
-        ensures only { (v : EnvelopeValue) → IsEnvelope bytes.now v → Is borrowed_envelope result (Ok v) }
-        ensures only_fault { (e : WireError) → HasFault envelope_table bytes.now e → Is borrowed_envelope result (Err e) }
-        ensures computed { Is borrowed_envelope result (envelope_of bytes.now) }
+        ensures only { (v : EnvelopeValue) → IsEnvelope bytes.now v → Returns borrowed_envelope result (Ok v) }
+        ensures only_fault { (e : WireError) → HasFault envelope_table bytes.now e → Returns borrowed_envelope result (Err e) }
+        ensures computed { Returns borrowed_envelope result (envelope_of bytes.now) }
     {
         let mut view = EnvelopeView {
             contents: &[],
@@ -108,9 +108,9 @@ impl<'a> Draft<'a> for EnvelopeView<'a> {
 impl Codec for Envelope {
     ghost table = { envelope_table };
 
-    ghost Seen = { EnvelopeValue };
+    ghost View = { EnvelopeValue };
 
-    ghost seen = { envelope_seen };
+    ghost view = { envelope_seen };
 
     ghost Says = { IsEnvelopeOf };
 

@@ -40,9 +40,9 @@ impl GrantFlat {
 impl Codec for GrantFlat {
     ghost table = { grant_flat_table };
 
-    ghost Seen = { GrantFlatValue };
+    ghost View = { GrantFlatValue };
 
-    ghost seen = { grant_flat_seen };
+    ghost view = { grant_flat_seen };
 
     ghost Says = { IsGrantFlatOf };
 

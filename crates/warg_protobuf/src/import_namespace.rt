@@ -37,9 +37,9 @@ impl OperatorImportNamespace {
 impl Codec for OperatorImportNamespace {
     ghost table = { import_namespace_table };
 
-    ghost Seen = { ImportNamespaceValue };
+    ghost View = { ImportNamespaceValue };
 
-    ghost seen = { import_namespace_seen };
+    ghost view = { import_namespace_seen };
 
     ghost Says = { IsImportNamespaceOf };
 

@@ -40,9 +40,9 @@ impl Init {
 impl Codec for Init {
     ghost table = { init_table };
 
-    ghost Seen = { InitValue };
+    ghost View = { InitValue };
 
-    ghost seen = { init_seen };
+    ghost view = { init_seen };
 
     ghost Says = { IsInitOf };
 

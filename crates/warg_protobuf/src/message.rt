@@ -7,7 +7,7 @@ ghost use Rattle.warg_protobuf.specs.Field.{Field};
 ghost use Rattle.warg_protobuf.specs.Meaning.{Agrees, IsMessage};
 ghost use Rattle.warg_protobuf.specs.Table.{Table, HasFault};
 ghost use Rattle.warg_protobuf.specs.Values.{message_of};
-ghost use Rattle.warg_protobuf.specs.Views.{Gives};
+ghost use Rattle.warg_protobuf.specs.Views.{ReturnsOrNoMemory};
 ghost use Rattle.warg_protobuf.specs.Writing.{bytes_of};
 
 use crate::error::WireError;
@@ -18,41 +18,41 @@ pub(crate) trait Codec: Drop {
     ghost table: { Table };
 
     /// The message as plain data.
-    ghost Seen: { Type 0 };
+    ghost View: { Type 0 };
 
-    ghost seen: { Self → Seen };
+    ghost view: { Self → View };
 
     /// What the fields say.
-    ghost Says: { List Field → Seen → Type 0 };
+    ghost Says: { List Field → View → Type 0 };
 
     /// The same, computed.
-    ghost value: { List Field → Result Seen WireError };
+    ghost value: { List Field → Result View WireError };
 
     /// Reads the message, all of the bytes, in one pass.
     fn read(alloc: Global, bytes: &[u8]) -> Result<Self, WireError>
-        ensures { Gives seen result (message_of table value bytes.now) };
+        ensures { ReturnsOrNoMemory view result (message_of table value bytes.now) };
 
     /// The fields that are written.
-    ghost written: { Seen → List Field };
+    ghost written: { View → List Field };
 
     /// That each part can be one of a message's.
-    ghost is_sound: { Seen → Type 0 };
+    ghost is_sound: { View → Type 0 };
 
     /// Appends the fields that are written.
     fn write(&self, alloc: Global, out: &mut Vec<u8>) -> Result<(), AllocError>
-        ensures spelled { OnOk result (out.new.items ≡ out.old.items ++ bytes_of (written (seen self.now))) }
-        ensures sound { OnOk result (is_sound (seen self.now)) };
+        ensures spelled { OnOk result (out.new.items ≡ out.old.items ++ bytes_of (written (view self.now))) }
+        ensures sound { OnOk result (is_sound (view self.now)) };
 
     /// What is computed of fields is the only value that they say, and what is written is read again. This has no effect.
     fn laws()
         ensures agrees { Agrees table value Says }
-        ensures written { (v : Seen) → is_sound v → length (bytes_of (written v)) < 2 ^ 64 → IsMessage table Says (bytes_of (written v)) v };
+        ensures written { (v : View) → is_sound v → length (bytes_of (written v)) < 2 ^ 64 → IsMessage table Says (bytes_of (written v)) v };
 }
 
 /// The bytes of a message.
 pub(crate) fn write_message<V: Codec>(alloc: Global, value: &V) -> Result<Vec<u8>, AllocError>
-    ensures spelled { IfOk result (λ v. v.items ≡ bytes_of (V.written (V.seen value.now))) }
-    ensures sound { OnOk result (V.is_sound (V.seen value.now)) }
+    ensures spelled { IfOk result (λ v. v.items ≡ bytes_of (V.written (V.view value.now))) }
+    ensures sound { OnOk result (V.is_sound (V.view value.now)) }
 {
     let mut out = Vec::new(alloc);
     value.write(alloc, &mut out)?;
@@ -66,13 +66,13 @@ pub trait Message: Codec {
     where
         Self: Sized,
         // What is read is what the bytes say.
-        ensures found { IfOk result (λ v. IsMessage Self.table Self.Says bytes.now (Self.seen v)) }
+        ensures found { IfOk result (λ v. IsMessage Self.table Self.Says bytes.now (Self.view v)) }
         ensures fault { IfErr result (λ e. e ≢ OutOfMemory → HasFault Self.table bytes.now e) }
 
         // What the bytes say is read, unless memory runs out.
-        ensures only { (v : Self.Seen) → IsMessage Self.table Self.Says bytes.now v → Gives Self.seen result (Ok v) }
-        ensures only_fault { (e : WireError) → HasFault Self.table bytes.now e → Gives Self.seen result (Err e) }
-        ensures computed { Gives Self.seen result (message_of Self.table Self.value bytes.now) }
+        ensures only { (v : Self.View) → IsMessage Self.table Self.Says bytes.now v → ReturnsOrNoMemory Self.view result (Ok v) }
+        ensures only_fault { (e : WireError) → HasFault Self.table bytes.now e → ReturnsOrNoMemory Self.view result (Err e) }
+        ensures computed { ReturnsOrNoMemory Self.view result (message_of Self.table Self.value bytes.now) }
     {
         Self::laws();
         Self::read(alloc, bytes)
@@ -82,8 +82,8 @@ pub trait Message: Codec {
     final fn encode(&self, alloc: Global) -> Result<Vec<u8>, AllocError>
     where
         Self: Sized,
-        ensures spelled { IfOk result (λ v. v.items ≡ bytes_of (Self.written (Self.seen self.now))) }
-        ensures read_again { IfOk result (λ v. IsMessage Self.table Self.Says v.items (Self.seen self.now)) }
+        ensures spelled { IfOk result (λ v. v.items ≡ bytes_of (Self.written (Self.view self.now))) }
+        ensures read_again { IfOk result (λ v. IsMessage Self.table Self.Says v.items (Self.view self.now)) }
     {
         Self::laws();
         write_message::<Self>(alloc, self)

@@ -79,9 +79,9 @@ impl OperatorEntry {
 impl Codec for OperatorEntry {
     ghost table = { operator_entry_table };
 
-    ghost Seen = { Option OperatorMember };
+    ghost View = { Option OperatorMember };
 
-    ghost seen = { operator_entry_seen };
+    ghost view = { operator_entry_seen };
 
     ghost Says = { IsOperatorEntryOf };
 

@@ -79,9 +79,9 @@ impl PackageEntry {
 impl Codec for PackageEntry {
     ghost table = { package_entry_table };
 
-    ghost Seen = { Option PackageMember };
+    ghost View = { Option PackageMember };
 
-    ghost seen = { package_entry_seen };
+    ghost view = { package_entry_seen };
 
     ghost Says = { IsPackageEntryOf };
 

@@ -5,7 +5,7 @@ ghost use Rattle.warg_protobuf.specs.Drafts.{timestamp_kept, time_grown, RecordK
 ghost use Rattle.warg_protobuf.specs.Record.{RecordValue, record_table, record_value, record_seen, record_from, record_fields, IsRecordOf, IsSoundRecord};
 ghost use Rattle.warg_protobuf.specs.Timestamp.{timestamp_seen};
 ghost use Rattle.warg_protobuf.specs.Table.{takes};
-ghost use Rattle.warg_protobuf.specs.Views.{option_view, Gives};
+ghost use Rattle.warg_protobuf.specs.Views.{option_view, ReturnsOrNoMemory};
 ghost use Rattle.warg_protobuf.specs.Writing.{bytes_of};
 
 use crate::draft::{Draft, read_draft, read_into};
@@ -51,7 +51,7 @@ struct RecordDraft<'a, E> {
 
 impl<'a, E: Codec> RecordDraft<'a, E> {
     fn grow_time(&mut self, bytes: &'a [u8]) -> Result<(), WireError>
-        ensures given { Gives (λ _. option_view timestamp_kept self.new.time) result (time_grown (option_view timestamp_kept self.old.time) bytes.now) }
+        ensures given { ReturnsOrNoMemory (λ _. option_view timestamp_kept self.new.time) result (time_grown (option_view timestamp_kept self.old.time) bytes.now) }
         ensures others { OnOk result ((self.new.prev ≡ self.old.prev) × (self.new.version ≡ self.old.version) × (self.new.entries ≡ self.old.entries)) }
     {
         let mut time = match self.time {
@@ -67,9 +67,9 @@ impl<'a, E: Codec> RecordDraft<'a, E> {
 impl<'a, E: Codec> Draft<'a> for RecordDraft<'a, E> {
     ghost table = { record_table E.table };
 
-    ghost Kept = { RecordKept E.Seen };
+    ghost Kept = { RecordKept E.View };
 
-    ghost kept = { record_kept E.seen };
+    ghost kept = { record_kept E.view };
 
     ghost empty = { no_record };
 
@@ -116,7 +116,7 @@ impl<'a, E: Codec> Draft<'a> for RecordDraft<'a, E> {
 impl<E: Codec> Record<E> {
     /// The message of what is kept.
     fn finish(alloc: Global, draft: RecordDraft<'_, E>) -> Result<Record<E>, AllocError>
-        ensures { IfOk result (λ v. record_seen E.seen v ≡ record_made (record_kept E.seen draft.entry)) }
+        ensures { IfOk result (λ v. record_seen E.view v ≡ record_made (record_kept E.view draft.entry)) }
     {
         Ok(Record {
             prev: own_text(alloc, draft.prev)?,
@@ -146,9 +146,9 @@ fn finish_time(time: Option<TimestampDraft>) -> Option<TimestampPair>
 impl<E: Codec> Codec for Record<E> {
     ghost table = { record_table E.table };
 
-    ghost Seen = { RecordValue E.Seen };
+    ghost View = { RecordValue E.View };
 
-    ghost seen = { record_seen E.seen };
+    ghost view = { record_seen E.view };
 
     ghost Says = { IsRecordOf E.table E.Says };
 
@@ -188,9 +188,9 @@ pub(crate) fn push_record<E: Codec>(
     time: &Option<TimestampPair>,
     entries: &[E],
 ) -> Result<(), AllocError>
-    ensures spelled { let value = record_value (option_view (λ s. string_bytes s) prev.now) version (option_view timestamp_seen time.now) (map E.seen entries.now) in
+    ensures spelled { let value = record_value (option_view (λ s. string_bytes s) prev.now) version (option_view timestamp_seen time.now) (map E.view entries.now) in
         OnOk result (out.new.items ≡ out.old.items ++ bytes_of (record_fields (λ v. bytes_of (E.written v)) value)) }
-    ensures sound { let value = record_value (option_view (λ s. string_bytes s) prev.now) version (option_view timestamp_seen time.now) (map E.seen entries.now) in
+    ensures sound { let value = record_value (option_view (λ s. string_bytes s) prev.now) version (option_view timestamp_seen time.now) (map E.view entries.now) in
         OnOk result (IsSoundRecord E.is_sound value) }
 {
     push_optional_text(out, 1, prev)?;

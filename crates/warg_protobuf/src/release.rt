@@ -34,9 +34,9 @@ impl PackageRelease {
 impl Codec for PackageRelease {
     ghost table = { release_table };
 
-    ghost Seen = { ReleaseValue };
+    ghost View = { ReleaseValue };
 
-    ghost seen = { release_seen };
+    ghost view = { release_seen };
 
     ghost Says = { IsReleaseOf };
 

@@ -40,9 +40,9 @@ impl RevokeFlat {
 impl Codec for RevokeFlat {
     ghost table = { revoke_flat_table };
 
-    ghost Seen = { RevokeFlatValue };
+    ghost View = { RevokeFlatValue };
 
-    ghost seen = { revoke_flat_seen };
+    ghost view = { revoke_flat_seen };
 
     ghost Says = { IsRevokeFlatOf };
 

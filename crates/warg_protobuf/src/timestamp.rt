@@ -82,9 +82,9 @@ impl<'a> Draft<'a> for TimestampDraft {
 impl Codec for TimestampPair {
     ghost table = { timestamp_table };
 
-    ghost Seen = { TimestampValue };
+    ghost View = { TimestampValue };
 
-    ghost seen = { timestamp_seen };
+    ghost view = { timestamp_seen };
 
     ghost Says = { IsTimestampOf };
 

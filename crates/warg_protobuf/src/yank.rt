@@ -31,9 +31,9 @@ impl PackageYank {
 impl Codec for PackageYank {
     ghost table = { yank_table };
 
-    ghost Seen = { YankValue };
+    ghost View = { YankValue };
 
-    ghost seen = { yank_seen };
+    ghost view = { yank_seen };
 
     ghost Says = { IsYankOf };
 

@@ -1,10 +1,10 @@
 //! Callers of each message from another crate: each has the clauses of `decode` and `encode` in the message's own words,
 //! with no proof file. One that is generic has them in the trait's.
 
-ghost use Rattle.std.specs.Prelude.{◌≡◌, ◌≢◌, Ok, Err, IfOk, IfErr, Option};
+ghost use Rattle.std.specs.Prelude.{◌≡◌, ◌≢◌, ℕ, List, Ok, Err, IfOk, IfErr, Option};
 ghost use Rattle.warg_protobuf.specs.declared.error.WireError.{WireError};
 ghost use Rattle.warg_protobuf.specs.declared.error.WireError.TheVariants.{OutOfMemory};
-ghost use Rattle.warg_protobuf.specs.Envelope.{envelope_table, envelope_seen, IsEnvelope, envelope_of, envelope_bytes, EnvelopeValue};
+ghost use Rattle.warg_protobuf.specs.Envelope.{envelope_table, IsEnvelopeOf, envelope_seen, IsEnvelope, envelope_of, envelope_bytes, EnvelopeValue};
 ghost use Rattle.warg_protobuf.specs.Timestamp.{timestamp_table, timestamp_seen, IsTimestamp, timestamp_of, timestamp_bytes, TimestampValue};
 ghost use Rattle.warg_protobuf.specs.Init.{init_table, init_seen, IsInit, init_of, init_bytes, InitValue};
 ghost use Rattle.warg_protobuf.specs.GrantFlat.{grant_flat_table, grant_flat_seen, IsGrantFlat, grant_flat_of, grant_flat_bytes, GrantFlatValue};
@@ -17,22 +17,30 @@ ghost use Rattle.warg_protobuf.specs.PackageEntry.{package_entry_table, package_
 ghost use Rattle.warg_protobuf.specs.OperatorEntry.{operator_entry_table, operator_entry_seen, IsOperatorEntry, operator_entry_of, operator_entry_bytes, OperatorMember};
 ghost use Rattle.warg_protobuf.specs.PackageRecord.{package_record_table, package_record_seen, IsPackageRecord, package_record_of, package_record_bytes};
 ghost use Rattle.warg_protobuf.specs.OperatorRecord.{operator_record_table, operator_record_seen, IsOperatorRecord, operator_record_of, operator_record_bytes};
-ghost use Rattle.warg_protobuf.specs.Meaning.{IsMessage};
+ghost use Rattle.warg_protobuf.specs.Meaning.{IsMessage, HasOneAnswer};
 ghost use Rattle.warg_protobuf.specs.Record.{RecordValue};
 ghost use Rattle.warg_protobuf.specs.Table.{HasFault};
-ghost use Rattle.warg_protobuf.specs.Views.{Gives};
+ghost use Rattle.warg_protobuf.specs.Views.{ReturnsOrNoMemory};
 ghost use Rattle.warg_protobuf.specs.Writing.{bytes_of};
 
 use std::alloc::{AllocError, Global};
+use warg_protobuf::laws::one_answer;
 use warg_protobuf::{
     Envelope, Message, OperatorDefineNamespace, OperatorEntry, OperatorImportNamespace,
     OperatorRecord, OperatorRevokeFlat, PackageEntry, PackageGrantFlat, PackageInit, PackageRecord,
     PackageRelease, PackageYank, TimestampPair, WireError,
 };
 
+/// All bytes are one envelope or have one fault.
+pub fn one_envelope()
+    ensures { (bytes : List ℕ) → HasOneAnswer envelope_table IsEnvelopeOf bytes }
+{
+    one_answer::<Envelope>();
+}
+
 /// Reads any message.
 pub fn read_any<M: Message>(alloc: Global, bytes: &[u8]) -> Result<M, WireError>
-    ensures found { IfOk result (λ v. IsMessage M.table M.Says bytes.now (M.seen v)) }
+    ensures found { IfOk result (λ v. IsMessage M.table M.Says bytes.now (M.view v)) }
     ensures fault { IfErr result (λ e. e ≢ OutOfMemory → HasFault M.table bytes.now e) }
 {
     M::decode(alloc, bytes)
@@ -40,8 +48,8 @@ pub fn read_any<M: Message>(alloc: Global, bytes: &[u8]) -> Result<M, WireError>
 
 /// Writes any message.
 pub fn write_any<M: Message>(alloc: Global, message: &M) -> Result<Vec<u8>, AllocError>
-    ensures spelled { IfOk result (λ v. v.items ≡ bytes_of (M.written (M.seen message.now))) }
-    ensures read_again { IfOk result (λ v. IsMessage M.table M.Says v.items (M.seen message.now)) }
+    ensures spelled { IfOk result (λ v. v.items ≡ bytes_of (M.written (M.view message.now))) }
+    ensures read_again { IfOk result (λ v. IsMessage M.table M.Says v.items (M.view message.now)) }
 {
     message.encode(alloc)
 }
@@ -49,9 +57,9 @@ pub fn write_any<M: Message>(alloc: Global, message: &M) -> Result<Vec<u8>, Allo
 pub fn read_envelope(alloc: Global, bytes: &[u8]) -> Result<Envelope, WireError>
     ensures found { IfOk result (λ v. IsEnvelope bytes.now (envelope_seen v)) }
     ensures fault { IfErr result (λ e. e ≢ OutOfMemory → HasFault envelope_table bytes.now e) }
-    ensures only { (v : EnvelopeValue) → IsEnvelope bytes.now v → Gives envelope_seen result (Ok v) }
-    ensures only_fault { (e : WireError) → HasFault envelope_table bytes.now e → Gives envelope_seen result (Err e) }
-    ensures computed { Gives envelope_seen result (envelope_of bytes.now) }
+    ensures only { (v : EnvelopeValue) → IsEnvelope bytes.now v → ReturnsOrNoMemory envelope_seen result (Ok v) }
+    ensures only_fault { (e : WireError) → HasFault envelope_table bytes.now e → ReturnsOrNoMemory envelope_seen result (Err e) }
+    ensures computed { ReturnsOrNoMemory envelope_seen result (envelope_of bytes.now) }
 {
     Envelope::decode(alloc, bytes)
 }
@@ -66,9 +74,9 @@ pub fn write_envelope(alloc: Global, message: &Envelope) -> Result<Vec<u8>, Allo
 pub fn read_timestamp(alloc: Global, bytes: &[u8]) -> Result<TimestampPair, WireError>
     ensures found { IfOk result (λ v. IsTimestamp bytes.now (timestamp_seen v)) }
     ensures fault { IfErr result (λ e. e ≢ OutOfMemory → HasFault timestamp_table bytes.now e) }
-    ensures only { (v : TimestampValue) → IsTimestamp bytes.now v → Gives timestamp_seen result (Ok v) }
-    ensures only_fault { (e : WireError) → HasFault timestamp_table bytes.now e → Gives timestamp_seen result (Err e) }
-    ensures computed { Gives timestamp_seen result (timestamp_of bytes.now) }
+    ensures only { (v : TimestampValue) → IsTimestamp bytes.now v → ReturnsOrNoMemory timestamp_seen result (Ok v) }
+    ensures only_fault { (e : WireError) → HasFault timestamp_table bytes.now e → ReturnsOrNoMemory timestamp_seen result (Err e) }
+    ensures computed { ReturnsOrNoMemory timestamp_seen result (timestamp_of bytes.now) }
 {
     TimestampPair::decode(alloc, bytes)
 }
@@ -83,9 +91,9 @@ pub fn write_timestamp(alloc: Global, message: &TimestampPair) -> Result<Vec<u8>
 pub fn read_init(alloc: Global, bytes: &[u8]) -> Result<PackageInit, WireError>
     ensures found { IfOk result (λ v. IsInit bytes.now (init_seen v)) }
     ensures fault { IfErr result (λ e. e ≢ OutOfMemory → HasFault init_table bytes.now e) }
-    ensures only { (v : InitValue) → IsInit bytes.now v → Gives init_seen result (Ok v) }
-    ensures only_fault { (e : WireError) → HasFault init_table bytes.now e → Gives init_seen result (Err e) }
-    ensures computed { Gives init_seen result (init_of bytes.now) }
+    ensures only { (v : InitValue) → IsInit bytes.now v → ReturnsOrNoMemory init_seen result (Ok v) }
+    ensures only_fault { (e : WireError) → HasFault init_table bytes.now e → ReturnsOrNoMemory init_seen result (Err e) }
+    ensures computed { ReturnsOrNoMemory init_seen result (init_of bytes.now) }
 {
     PackageInit::decode(alloc, bytes)
 }
@@ -100,9 +108,9 @@ pub fn write_init(alloc: Global, message: &PackageInit) -> Result<Vec<u8>, Alloc
 pub fn read_grant_flat(alloc: Global, bytes: &[u8]) -> Result<PackageGrantFlat, WireError>
     ensures found { IfOk result (λ v. IsGrantFlat bytes.now (grant_flat_seen v)) }
     ensures fault { IfErr result (λ e. e ≢ OutOfMemory → HasFault grant_flat_table bytes.now e) }
-    ensures only { (v : GrantFlatValue) → IsGrantFlat bytes.now v → Gives grant_flat_seen result (Ok v) }
-    ensures only_fault { (e : WireError) → HasFault grant_flat_table bytes.now e → Gives grant_flat_seen result (Err e) }
-    ensures computed { Gives grant_flat_seen result (grant_flat_of bytes.now) }
+    ensures only { (v : GrantFlatValue) → IsGrantFlat bytes.now v → ReturnsOrNoMemory grant_flat_seen result (Ok v) }
+    ensures only_fault { (e : WireError) → HasFault grant_flat_table bytes.now e → ReturnsOrNoMemory grant_flat_seen result (Err e) }
+    ensures computed { ReturnsOrNoMemory grant_flat_seen result (grant_flat_of bytes.now) }
 {
     PackageGrantFlat::decode(alloc, bytes)
 }
@@ -117,9 +125,9 @@ pub fn write_grant_flat(alloc: Global, message: &PackageGrantFlat) -> Result<Vec
 pub fn read_revoke_flat(alloc: Global, bytes: &[u8]) -> Result<OperatorRevokeFlat, WireError>
     ensures found { IfOk result (λ v. IsRevokeFlat bytes.now (revoke_flat_seen v)) }
     ensures fault { IfErr result (λ e. e ≢ OutOfMemory → HasFault revoke_flat_table bytes.now e) }
-    ensures only { (v : RevokeFlatValue) → IsRevokeFlat bytes.now v → Gives revoke_flat_seen result (Ok v) }
-    ensures only_fault { (e : WireError) → HasFault revoke_flat_table bytes.now e → Gives revoke_flat_seen result (Err e) }
-    ensures computed { Gives revoke_flat_seen result (revoke_flat_of bytes.now) }
+    ensures only { (v : RevokeFlatValue) → IsRevokeFlat bytes.now v → ReturnsOrNoMemory revoke_flat_seen result (Ok v) }
+    ensures only_fault { (e : WireError) → HasFault revoke_flat_table bytes.now e → ReturnsOrNoMemory revoke_flat_seen result (Err e) }
+    ensures computed { ReturnsOrNoMemory revoke_flat_seen result (revoke_flat_of bytes.now) }
 {
     OperatorRevokeFlat::decode(alloc, bytes)
 }
@@ -134,9 +142,9 @@ pub fn write_revoke_flat(alloc: Global, message: &OperatorRevokeFlat) -> Result<
 pub fn read_release(alloc: Global, bytes: &[u8]) -> Result<PackageRelease, WireError>
     ensures found { IfOk result (λ v. IsRelease bytes.now (release_seen v)) }
     ensures fault { IfErr result (λ e. e ≢ OutOfMemory → HasFault release_table bytes.now e) }
-    ensures only { (v : ReleaseValue) → IsRelease bytes.now v → Gives release_seen result (Ok v) }
-    ensures only_fault { (e : WireError) → HasFault release_table bytes.now e → Gives release_seen result (Err e) }
-    ensures computed { Gives release_seen result (release_of bytes.now) }
+    ensures only { (v : ReleaseValue) → IsRelease bytes.now v → ReturnsOrNoMemory release_seen result (Ok v) }
+    ensures only_fault { (e : WireError) → HasFault release_table bytes.now e → ReturnsOrNoMemory release_seen result (Err e) }
+    ensures computed { ReturnsOrNoMemory release_seen result (release_of bytes.now) }
 {
     PackageRelease::decode(alloc, bytes)
 }
@@ -151,9 +159,9 @@ pub fn write_release(alloc: Global, message: &PackageRelease) -> Result<Vec<u8>,
 pub fn read_yank(alloc: Global, bytes: &[u8]) -> Result<PackageYank, WireError>
     ensures found { IfOk result (λ v. IsYank bytes.now (yank_seen v)) }
     ensures fault { IfErr result (λ e. e ≢ OutOfMemory → HasFault yank_table bytes.now e) }
-    ensures only { (v : YankValue) → IsYank bytes.now v → Gives yank_seen result (Ok v) }
-    ensures only_fault { (e : WireError) → HasFault yank_table bytes.now e → Gives yank_seen result (Err e) }
-    ensures computed { Gives yank_seen result (yank_of bytes.now) }
+    ensures only { (v : YankValue) → IsYank bytes.now v → ReturnsOrNoMemory yank_seen result (Ok v) }
+    ensures only_fault { (e : WireError) → HasFault yank_table bytes.now e → ReturnsOrNoMemory yank_seen result (Err e) }
+    ensures computed { ReturnsOrNoMemory yank_seen result (yank_of bytes.now) }
 {
     PackageYank::decode(alloc, bytes)
 }
@@ -171,9 +179,9 @@ pub fn read_define_namespace(
 ) -> Result<OperatorDefineNamespace, WireError>
     ensures found { IfOk result (λ v. IsDefineNamespace bytes.now (define_namespace_seen v)) }
     ensures fault { IfErr result (λ e. e ≢ OutOfMemory → HasFault define_namespace_table bytes.now e) }
-    ensures only { (v : DefineNamespaceValue) → IsDefineNamespace bytes.now v → Gives define_namespace_seen result (Ok v) }
-    ensures only_fault { (e : WireError) → HasFault define_namespace_table bytes.now e → Gives define_namespace_seen result (Err e) }
-    ensures computed { Gives define_namespace_seen result (define_namespace_of bytes.now) }
+    ensures only { (v : DefineNamespaceValue) → IsDefineNamespace bytes.now v → ReturnsOrNoMemory define_namespace_seen result (Ok v) }
+    ensures only_fault { (e : WireError) → HasFault define_namespace_table bytes.now e → ReturnsOrNoMemory define_namespace_seen result (Err e) }
+    ensures computed { ReturnsOrNoMemory define_namespace_seen result (define_namespace_of bytes.now) }
 {
     OperatorDefineNamespace::decode(alloc, bytes)
 }
@@ -194,9 +202,9 @@ pub fn read_import_namespace(
 ) -> Result<OperatorImportNamespace, WireError>
     ensures found { IfOk result (λ v. IsImportNamespace bytes.now (import_namespace_seen v)) }
     ensures fault { IfErr result (λ e. e ≢ OutOfMemory → HasFault import_namespace_table bytes.now e) }
-    ensures only { (v : ImportNamespaceValue) → IsImportNamespace bytes.now v → Gives import_namespace_seen result (Ok v) }
-    ensures only_fault { (e : WireError) → HasFault import_namespace_table bytes.now e → Gives import_namespace_seen result (Err e) }
-    ensures computed { Gives import_namespace_seen result (import_namespace_of bytes.now) }
+    ensures only { (v : ImportNamespaceValue) → IsImportNamespace bytes.now v → ReturnsOrNoMemory import_namespace_seen result (Ok v) }
+    ensures only_fault { (e : WireError) → HasFault import_namespace_table bytes.now e → ReturnsOrNoMemory import_namespace_seen result (Err e) }
+    ensures computed { ReturnsOrNoMemory import_namespace_seen result (import_namespace_of bytes.now) }
 {
     OperatorImportNamespace::decode(alloc, bytes)
 }
@@ -214,9 +222,9 @@ pub fn write_import_namespace(
 pub fn read_package_entry(alloc: Global, bytes: &[u8]) -> Result<PackageEntry, WireError>
     ensures found { IfOk result (λ v. IsPackageEntry bytes.now (package_entry_seen v)) }
     ensures fault { IfErr result (λ e. e ≢ OutOfMemory → HasFault package_entry_table bytes.now e) }
-    ensures only { (v : Option PackageMember) → IsPackageEntry bytes.now v → Gives package_entry_seen result (Ok v) }
-    ensures only_fault { (e : WireError) → HasFault package_entry_table bytes.now e → Gives package_entry_seen result (Err e) }
-    ensures computed { Gives package_entry_seen result (package_entry_of bytes.now) }
+    ensures only { (v : Option PackageMember) → IsPackageEntry bytes.now v → ReturnsOrNoMemory package_entry_seen result (Ok v) }
+    ensures only_fault { (e : WireError) → HasFault package_entry_table bytes.now e → ReturnsOrNoMemory package_entry_seen result (Err e) }
+    ensures computed { ReturnsOrNoMemory package_entry_seen result (package_entry_of bytes.now) }
 {
     PackageEntry::decode(alloc, bytes)
 }
@@ -231,9 +239,9 @@ pub fn write_package_entry(alloc: Global, message: &PackageEntry) -> Result<Vec<
 pub fn read_operator_entry(alloc: Global, bytes: &[u8]) -> Result<OperatorEntry, WireError>
     ensures found { IfOk result (λ v. IsOperatorEntry bytes.now (operator_entry_seen v)) }
     ensures fault { IfErr result (λ e. e ≢ OutOfMemory → HasFault operator_entry_table bytes.now e) }
-    ensures only { (v : Option OperatorMember) → IsOperatorEntry bytes.now v → Gives operator_entry_seen result (Ok v) }
-    ensures only_fault { (e : WireError) → HasFault operator_entry_table bytes.now e → Gives operator_entry_seen result (Err e) }
-    ensures computed { Gives operator_entry_seen result (operator_entry_of bytes.now) }
+    ensures only { (v : Option OperatorMember) → IsOperatorEntry bytes.now v → ReturnsOrNoMemory operator_entry_seen result (Ok v) }
+    ensures only_fault { (e : WireError) → HasFault operator_entry_table bytes.now e → ReturnsOrNoMemory operator_entry_seen result (Err e) }
+    ensures computed { ReturnsOrNoMemory operator_entry_seen result (operator_entry_of bytes.now) }
 {
     OperatorEntry::decode(alloc, bytes)
 }
@@ -248,9 +256,9 @@ pub fn write_operator_entry(alloc: Global, message: &OperatorEntry) -> Result<Ve
 pub fn read_package_record(alloc: Global, bytes: &[u8]) -> Result<PackageRecord, WireError>
     ensures found { IfOk result (λ v. IsPackageRecord bytes.now (package_record_seen v)) }
     ensures fault { IfErr result (λ e. e ≢ OutOfMemory → HasFault package_record_table bytes.now e) }
-    ensures only { (v : RecordValue (Option PackageMember)) → IsPackageRecord bytes.now v → Gives package_record_seen result (Ok v) }
-    ensures only_fault { (e : WireError) → HasFault package_record_table bytes.now e → Gives package_record_seen result (Err e) }
-    ensures computed { Gives package_record_seen result (package_record_of bytes.now) }
+    ensures only { (v : RecordValue (Option PackageMember)) → IsPackageRecord bytes.now v → ReturnsOrNoMemory package_record_seen result (Ok v) }
+    ensures only_fault { (e : WireError) → HasFault package_record_table bytes.now e → ReturnsOrNoMemory package_record_seen result (Err e) }
+    ensures computed { ReturnsOrNoMemory package_record_seen result (package_record_of bytes.now) }
 {
     PackageRecord::decode(alloc, bytes)
 }
@@ -265,9 +273,9 @@ pub fn write_package_record(alloc: Global, message: &PackageRecord) -> Result<Ve
 pub fn read_operator_record(alloc: Global, bytes: &[u8]) -> Result<OperatorRecord, WireError>
     ensures found { IfOk result (λ v. IsOperatorRecord bytes.now (operator_record_seen v)) }
     ensures fault { IfErr result (λ e. e ≢ OutOfMemory → HasFault operator_record_table bytes.now e) }
-    ensures only { (v : RecordValue (Option OperatorMember)) → IsOperatorRecord bytes.now v → Gives operator_record_seen result (Ok v) }
-    ensures only_fault { (e : WireError) → HasFault operator_record_table bytes.now e → Gives operator_record_seen result (Err e) }
-    ensures computed { Gives operator_record_seen result (operator_record_of bytes.now) }
+    ensures only { (v : RecordValue (Option OperatorMember)) → IsOperatorRecord bytes.now v → ReturnsOrNoMemory operator_record_seen result (Ok v) }
+    ensures only_fault { (e : WireError) → HasFault operator_record_table bytes.now e → ReturnsOrNoMemory operator_record_seen result (Err e) }
+    ensures computed { ReturnsOrNoMemory operator_record_seen result (operator_record_of bytes.now) }
 {
     OperatorRecord::decode(alloc, bytes)
 }

@@ -1,6 +1,7 @@
 //! The laws of all that stands here. Each is a function with no effect, whose contract is the law: a proof
 //! may cite it after a call.
 
+pub use warg_audited_log::laws as audited_logs;
 pub use warg_crypto::laws as crypto;
 pub use warg_log::laws as logs;
 pub use warg_operator_log::laws as operator;

@@ -1,5 +1,5 @@
 //! The protocol of a package registry: records of operator and package logs in signed envelopes, the
-//! states that they add up to, and the reading of whole logs.
+//! states that they add up to, the reading of whole logs, and logs that are kept and compared.
 //!
 //! A program that lists this crate alone reaches all that it needs: what the crates below prove is handed
 //! on here under one roof, with its laws in `laws`, and in `specs/` what a clause of one's own may cite.
@@ -12,6 +12,7 @@ pub mod registry;
 
 pub use indexmap::IndexSet;
 pub use semver::Error as VersionParseError;
+pub use warg_audited_log::{AuditedLog, HeadComparison, Link};
 pub use warg_crypto::{
     ByteVisitor, Clock, Decode, DecodeError, Encode, Incoherence, JsonError, JsonValue, Signable,
     TimeError, Timestamp, VisitBytes, WireFault, hash, json, prefix, signing, toy,
