@@ -14,7 +14,10 @@ fn first_envelope(alloc: Global, alice: &ToySigner) -> anyhow::Result<Vec<u8>> {
     let key = alice.public_key().try_clone()?;
     let version = Version::parse(alloc, "1.0.0")?;
     let content = hash_algorithm.digest(b"what is released");
-    let init = PackageEntry::Init { hash_algorithm, key };
+    let init = PackageEntry::Init {
+        hash_algorithm,
+        key,
+    };
     let entries = vec![in alloc; init, PackageEntry::Release { version, content }]?;
     let record = LogState::new(alloc)?.next_record(Timestamp::new(1_700_000_000, 0), entries);
     Ok(ProtoEnvelope::signed_contents(alloc, alice, record)?.to_protobuf(alloc)?)
