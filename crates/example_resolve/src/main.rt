@@ -1,23 +1,14 @@
-//! Prints the release of a package that meets a requirement best: `example_resolve '^1' FILE..`, where the files hold
-//! the envelopes of the package's log in order.
+//! Resolves requirements: `example_resolve FILE..`, where the files hold the envelopes of a package's log in order,
+//! prints for each line of standard input, as `^1`, the release that meets it best.
 #![tactic(auto)]
 
 use std::alloc::Global;
-use std::env;
-use std::fs;
-use warg_protocol::package::{LogState, Release};
+use std::{env, fs};
+use warg_protocol::package::LogState;
 use warg_protocol::toy::ToyVerifier;
 use warg_protocol::{VersionReq, run};
 
-// What a release is fetched by.
-fn described(alloc: Global, release: &Release) -> anyhow::Result<String> {
-    match release.content() {
-        Some(content) => Ok(format!(in alloc; "{} {content}", release.version)?),
-        None => Ok(format!(in alloc; "{} is yanked", release.version)?),
-    }
-}
-
-// The state of the log of these envelopes.
+// What the log's envelopes add up to.
 fn state_of(alloc: Global, log: &[Vec<u8>]) -> anyhow::Result<LogState> {
     match run(alloc, &ToyVerifier, log) {
         Ok(state) => Ok(state),
@@ -25,19 +16,26 @@ fn state_of(alloc: Global, log: &[Vec<u8>]) -> anyhow::Result<LogState> {
     }
 }
 
-fn main(rt: HostRuntime) -> anyhow::Result<()> {
-    let mut words = env::args(&rt)?.skip(1);
-    let Some(wanted) = words.next() else {
-        anyhow::bail!("name a requirement and the files of a log");
+// The release that meets the requirement best, and the digest that it is fetched by.
+fn resolve(alloc: Global, state: &LogState, wanted: &str) -> anyhow::Result<String> {
+    let wanted = VersionReq::parse(alloc, wanted)?;
+    let Some(release) = state.find_latest_release(&wanted) else {
+        return Ok(String::from_str(alloc, "no release meets it")?);
     };
-    let wanted = VersionReq::parse(rt.alloc(), wanted.as_str())?;
+    match release.content() {
+        Some(digest) => Ok(format!(in alloc; "{} {digest}", release.version)?),
+        None => anyhow::bail!("a yanked release was found"),
+    }
+}
+
+fn main(rt: HostRuntime) -> anyhow::Result<()> {
     let mut log = Vec::new(rt.alloc());
-    for file in words {
+    for file in env::args(&rt)?.skip(1) {
         log.push(fs::read(&rt, file.as_str())?)?;
     }
-    match state_of(rt.alloc(), log.as_slice())?.find_latest_release(&wanted) {
-        Some(release) => println!(rt; "{}", described(rt.alloc(), release)?)?,
-        None => println!(rt; "no release meets {wanted}")?,
+    let state = state_of(rt.alloc(), log.as_slice())?;
+    for line in rt.lines(rt.alloc()) {
+        println!(rt; "{}", resolve(rt.alloc(), &state, line?.as_str())?)?;
     }
     Ok(())
 }

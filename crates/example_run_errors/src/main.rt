@@ -2,8 +2,7 @@
 #![tactic(auto)]
 
 use std::alloc::{AllocError, Global};
-use std::env;
-use std::fs;
+use std::{env, fs};
 use warg_protocol::package::{LogState, ValidationError};
 use warg_protocol::signing::SignatureError;
 use warg_protocol::toy::ToyVerifier;
@@ -12,8 +11,12 @@ use warg_protocol::{DecodeError, ParseEnvelopeError, RunCause, RunError, run};
 // Why the bytes are no envelope.
 fn told_fault(alloc: Global, fault: ParseEnvelopeError) -> Result<String, AllocError> {
     match fault {
-        ParseEnvelopeError::ProtobufEnvelope(wire) => format!(in alloc; "its outer message: {wire}"),
-        ParseEnvelopeError::Contents(DecodeError::Wire(wire)) => format!(in alloc; "its record's message: {wire}"),
+        ParseEnvelopeError::ProtobufEnvelope(wire) => format!(in alloc;
+            "its outer message: {wire}"
+        ),
+        ParseEnvelopeError::Contents(DecodeError::Wire(wire)) => format!(in alloc;
+            "its record's message: {wire}"
+        ),
         ParseEnvelopeError::Contents(contents) => format!(in alloc; "its record: {contents}"),
         ParseEnvelopeError::KeyID(text) => format!(in alloc; "its key id: {text}"),
         ParseEnvelopeError::Signature(text) => format!(in alloc; "its signature's text: {text}"),
@@ -24,18 +27,33 @@ fn told_fault(alloc: Global, fault: ParseEnvelopeError) -> Result<String, AllocE
 // Why the record can't come next. Each case has the fields that its text names.
 fn told_offence(alloc: Global, offence: &ValidationError) -> Result<String, AllocError> {
     match offence {
-        ValidationError::SignatureError(SignatureError::Refused) => String::from_str(alloc, "its signature is not its signer's"),
-        ValidationError::YankOfYanked { version } => format!(in alloc; "{version} was yanked before"),
+        ValidationError::SignatureError(SignatureError::Refused) => String::from_str(
+            alloc,
+            "its signature is not its signer's",
+        ),
+        ValidationError::YankOfYanked { version } => format!(in alloc;
+            "{version} was yanked before"
+        ),
         other => format!(in alloc; "{other}"),
     }
 }
 
-fn told(alloc: Global, error: &RunError<ValidationError>) -> Result<String, AllocError> {
-    let why = match &error.cause {
-        RunCause::Parse(fault) => told_fault(alloc, *fault)?,
-        RunCause::Validation(offence) => told_offence(alloc, offence)?,
-    };
-    format!(in alloc; "record {} is refused: {why}", error.index)
+fn told_cause(alloc: Global, cause: &RunCause<ValidationError>) -> Result<String, AllocError> {
+    match cause {
+        RunCause::Parse(fault) => told_fault(alloc, *fault),
+        RunCause::Validation(offence) => told_offence(alloc, offence),
+    }
+}
+
+// What came of the log.
+fn told(alloc: Global, log: &[Vec<u8>]) -> Result<String, AllocError> {
+    match run::<LogState, ToyVerifier>(alloc, &ToyVerifier, log) {
+        Ok(state) => format!(in alloc; "lawful, with {} releases", state.releases().count()),
+        Err(RunError { index, cause }) => format!(in alloc;
+            "record {index}: {}",
+            told_cause(alloc, &cause)?
+        ),
+    }
 }
 
 fn main(rt: HostRuntime) -> anyhow::Result<()> {
@@ -43,9 +61,6 @@ fn main(rt: HostRuntime) -> anyhow::Result<()> {
     for file in env::args(&rt)?.skip(1) {
         log.push(fs::read(&rt, file.as_str())?)?;
     }
-    match run::<LogState, ToyVerifier>(rt.alloc(), &ToyVerifier, log.as_slice()) {
-        Ok(state) => println!(rt; "lawful, with {} releases", state.releases().count())?,
-        Err(error) => println!(rt; "{}", told(rt.alloc(), &error)?)?,
-    }
+    println!(rt; "{}", told(rt.alloc(), log.as_slice())?)?;
     Ok(())
 }
