@@ -6,7 +6,9 @@ ghost use Rattle.warg_audit.specs.Commands.{command_of, log_type_of};
 /// A type of log.
 #[derive(Clone, Copy, Debug, PartialEq, Eq)]
 pub enum LogType {
+    /// The log of a package, `package`.
     Package,
+    /// The log of an operator, `operator`.
     Operator,
 }
 

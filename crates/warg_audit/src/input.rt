@@ -98,8 +98,8 @@ impl<R: Read> Input<R> {
         if ended {
             self.late = self.late.saturating_add(1);
         }
-        // Trusted by reading: this line reads the reader once, and no other line reads it. A reader
-        // that failed may go on, so no clause tells one failed read from two.
+        // Trusted by reading: this line reads the reader once, and no other line of the crate reads it.
+        // A reader that failed may go on, so no clause can tell one failed read from two.
         let outcome = self.reader.read(buf);
         match &outcome {
             Ok(count) => {

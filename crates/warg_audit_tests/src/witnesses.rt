@@ -67,7 +67,7 @@ struct Row<'b> {
     printed: &'b str,
 }
 
-// Whether this is printed with this status, by so many reads as the input tells and the reader notes, none of them late.
+// Whether this is printed with this status, by as many reads as both the input and the reader count, none of them late.
 fn is_witnessed(
     alloc: Global,
     row: &Row<'_>,
@@ -78,13 +78,13 @@ fn is_witnessed(
     let mut input = Input::new(witness);
     let mut output = Output::new(Vec::new(alloc));
     let found = status(alloc, row.words, &mut input, &mut output)?;
-    let told = input.reads() as usize;
+    let counted = input.reads() as usize;
     let late = input.late_reads();
     let witness = input.into_inner();
     let text = output.into_inner();
     let same = found == wanted && text.as_slice() == printed.as_bytes();
-    let noted = witness.reads == told && witness.late == 0 && late == 0;
-    Ok(if same && noted { Some(told) } else { None })
+    let noted = witness.reads == counted && witness.late == 0 && late == 0;
+    Ok(if same && noted { Some(counted) } else { None })
 }
 
 // Reads by steps of several lengths, and failing at each read in turn.
