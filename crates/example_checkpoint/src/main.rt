@@ -15,7 +15,12 @@ fn operator_log(alloc: Global, signer: &ToySigner) -> anyhow::Result<LogState> {
     let state = LogState::new(alloc)?;
     let key = signer.public_key().try_clone()?;
     let hash_algorithm = HashAlgorithm::Sha256;
-    let entries = vec![in alloc; OperatorEntry::Init { hash_algorithm, key }]?;
+    let entries = vec![in alloc;
+        OperatorEntry::Init {
+            hash_algorithm,
+            key
+        },
+    ]?;
     let record = state.next_record(Timestamp::new(1, 0), entries);
     let envelope = ProtoEnvelope::signed_contents(alloc, signer, record)?;
     Ok(state.validate(&envelope, &ToyVerifier)?)
@@ -61,7 +66,13 @@ fn main(rt: HostRuntime) -> anyhow::Result<()> {
         let Ok(leaves) = line?.parse::<u32>() else {
             anyhow::bail!("not a number of leaves");
         };
-        match is_signed(rt.alloc(), &operator, &checkpoint(leaves as usize)?, &key_id, &signature)? {
+        match is_signed(
+            rt.alloc(),
+            &operator,
+            &checkpoint(leaves as usize)?,
+            &key_id,
+            &signature,
+        )? {
             true => println!(rt; "{leaves} leaves: signed by the operator")?,
             false => println!(rt; "{leaves} leaves: refused")?,
         }
