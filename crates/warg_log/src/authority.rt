@@ -15,6 +15,7 @@ ghost use Rattle.warg_log.specs.EqualLaws.{contents_equiv};
 ghost use Rattle.warg_log.specs.Judging.{Judges};
 ghost use Rattle.warg_log.specs.Offences.{offence_of, unauthorized, lacks, lacks_required, not_begun, empty_grant, init_offence, grant_offence, revoke_offence};
 
+use crate::permission::LogPermission;
 use crate::refusal::Refusal;
 use crate::rights;
 use indexmap::{IndexMap, IndexSet};
@@ -23,7 +24,6 @@ use std::fmt;
 use std::marker::Model;
 use warg_crypto::hash::HashAlgorithm;
 use warg_crypto::signing::{KeyID, PublicKey};
-use warg_records::LogPermission;
 
 /// Who may do what in a log, and whose key is which.
 #[derive(Drop)]

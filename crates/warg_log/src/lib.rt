@@ -10,11 +10,12 @@ mod head;
 pub mod laws;
 mod log;
 mod matter;
+mod permission;
 mod refusal;
 mod rights;
 
 pub use head::Head;
 pub use log::Log;
 pub use matter::{Matter, Parts, Step};
+pub use permission::LogPermission;
 pub use refusal::Refusal;
-pub use warg_records::LogPermission;

@@ -5,10 +5,10 @@ ghost use Rattle.indexmap.specs.IndexSet.{contains};
 ghost use Rattle.warg_log.specs.Permissions.{lists};
 ghost use Rattle.warg_log.specs.Rights.{holds_in, has_entry_in, first_missing};
 
+use crate::permission::LogPermission;
 use indexmap::{IndexMap, IndexSet};
 use std::alloc::{AllocError, Global};
 use warg_crypto::signing::KeyID;
-use warg_records::LogPermission;
 
 /// Whether the key holds the permission.
 pub(crate) fn holds<P: LogPermission>(

@@ -14,9 +14,7 @@ use Rattle.warg_crypto.specs.Times.{Time, same_time}
 use Rattle.warg_crypto.specs.declared.hash.AnyHash.{AnyHash}
 use Rattle.warg_crypto.specs.declared.hash.HashAlgorithm.{HashAlgorithm}
 use Rattle.warg_crypto.specs.declared.hash.HashAlgorithm.TheVariants.{Sha256}
-use Rattle.warg_records.specs.Readings.{Reading, Shared, Init, GrantFlat, RevokeFlat}
-use Rattle.warg_records.specs.Records.{said_by}
-use Rattle.warg_records.specs.declared.log_record.LogRecord.{LogRecord}
+use Rattle.warg_records.specs.Readings.{Reading, Shared, Init, GrantFlat, RevokeFlat, Said}
 use Rattle.warg_records.specs.declared.registry.record_id.RecordId.{RecordId}
 
 -- the test of two values tells that they look alike, so that of two lists does
@@ -100,16 +98,16 @@ module _ {P O : Type 0} (test : P → P → Bool) (each : (p q : P) → Decides 
       (Decides-and _ _ (bytes_eq-Decides k l) (slice_eq-Decides each ps qs _ refl))
 
 -- records, by their entries' test
-abbrev pub same_id : RecordId → RecordId → Bool
+abbrev same_id : RecordId → RecordId → Bool
 same_id a b = bytes_eq a.hash.bytes b.hash.bytes
 
-abbrev pub same_record : {E : Type 0} → (E → E → Bool) → LogRecord E → LogRecord E → Bool
-same_record test a b = option_eq same_id a.prev b.prev && ((a.version == b.version) && (same_time a.timestamp b.timestamp && pointwise test a.entries.items b.entries.items))
+abbrev record_from : {P O : Type 0} → Option RecordId → ℕ → Time → List (Reading P O) → Said P O
+record_from prev version time entries = record { prev = prev; version = version; time = time; entries = entries }
 
 pub record_decided : {E P O : Type 0} (reading : E → Reading P O) (test : E → E → Bool) → ((a b : E) → Decides (test a b) (reading a ≡ reading b))
-    → (a b : LogRecord E) → Decides (same_record test a b) (said_by reading a ≡ said_by reading b)
-record_decided reading test each a b =
-    Decides-like _ (λ h i. record { prev = h.0 i; version = h.1.0 i; time = h.1.1.0 i; entries = h.1.1.1 i })
-    (λ h. (λ i. (h i).prev, (λ i. (h i).version, (λ i. (h i).time, λ i. (h i).entries))))
-    (Decides-and _ _ (options_decided same_id id_decided a.prev b.prev) (Decides-and _ _ (Decides-eqb a.version b.version)
-    (Decides-and _ _ (time_decided a.timestamp b.timestamp) (lists_decided reading test each a.entries.items b.entries.items))))
+    → (p q : Option RecordId) (v w : ℕ) (s t : Time) (es fs : List E)
+    → Decides (option_eq same_id p q && ((v == w) && (same_time s t && pointwise test es fs)))
+    (record_from p v s (map reading es) ≡ record_from q w t (map reading fs))
+record_decided reading test each p q v w s t es fs =
+    Decides-like _ (λ h i. record_from (h.0 i) (h.1.0 i) (h.1.1.0 i) (h.1.1.1 i)) (λ h. (λ i. (h i).prev, (λ i. (h i).version, (λ i. (h i).time, λ i. (h i).entries))))
+    (Decides-and _ _ (options_decided same_id id_decided p q) (Decides-and _ _ (Decides-eqb v w) (Decides-and _ _ (time_decided s t) (lists_decided reading test each es fs))))

@@ -2,13 +2,12 @@
 use Rattle.std.proofs.Common.{◌≡◌, List, [], ◌∷◌, map, refl, ap, Option}
 use Rattle.std.specs.List.{AllZip, filter_map, cons_option}
 
--- the clones of items look like them as a list
-pub map-clones : {A B : Type 0} (IsClone : A → A → Type 0) (view : A → B) → ((x y : A) → IsClone x y → view y ≡ view x)
-    → (xs ys : List A) → AllZip IsClone xs ys → map view ys ≡ map view xs
-map-clones IsClone view alike [] [] h = refl
-map-clones IsClone view alike [] (y ∷ ys) h = absurd h
-map-clones IsClone view alike (x ∷ xs) [] h = absurd h
-map-clones IsClone view alike (x ∷ xs) (y ∷ ys) h = λ i. alike x y h.0 i ∷ map-clones IsClone view alike xs ys h.1 i
+-- the clones of items that look like the items look like them as a list
+pub map-clones : {A B : Type 0} (view : A → B) (xs ys : List A) → AllZip (λ x y. view y ≡ view x) xs ys → map view ys ≡ map view xs
+map-clones view [] [] h = refl
+map-clones view [] (y ∷ ys) h = absurd h
+map-clones view (x ∷ xs) [] h = absurd h
+map-clones view (x ∷ xs) (y ∷ ys) h = λ i. h.0 i ∷ map-clones view xs ys h.1 i
 
 pub map-through : {A B C : Type 0} (f : B → C) (g : A → B) (xs : List A) → map (λ x. f (g x)) xs ≡ map f (map g xs)
 map-through f g [] = refl

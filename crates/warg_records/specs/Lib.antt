@@ -1,7 +1,5 @@
 pub mod Letters
 pub mod Readings
-pub mod Records
-pub mod Parts
 pub mod Faults
 pub mod ParseErrors
 pub mod Envelopes

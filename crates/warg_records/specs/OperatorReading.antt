@@ -1,10 +1,10 @@
 -- What content bytes say as a record of an operator log.
-use Rattle.std.specs.Prelude.{◌≡◌, ℕ, List, Option, Some, None, Result, Ok, Err, refl}
+use Rattle.std.specs.Prelude.{ℕ, List, Option, Some, None, Result, Ok, Err}
 use Rattle.warg_protobuf.specs.OperatorEntry.{OperatorMember, Init, GrantFlat, RevokeFlat, DefineNamespace, ImportNamespace}
 use Rattle.warg_protobuf.specs.OperatorRecord as message
 use Rattle.warg_records.specs.Faults.{RecordFault, EmptyEntry}
 use Rattle.warg_records.specs.Readings.{Reading, Own, Said}
-use Rattle.warg_records.specs.Steps.{◌>>=◌, init_of, grant_of, revoke_of, shared, message_of, message_said, record_of}
+use Rattle.warg_records.specs.Steps.{◌>>=◌, init_of, grant_of, revoke_of, shared, message_of, record_of}
 use Rattle.warg_records.specs.OperatorEntries.{OperatorAct}
 use Rattle.warg_records.specs.OperatorEntries as act
 use Rattle.warg_records.specs.OperatorPermissions.{permission_of}
@@ -22,7 +22,3 @@ operator_entry_of (Some (ImportNamespace m)) = Ok (Own (act.ImportNamespace m.na
 -- what content bytes say, or their first fault
 unfoldable pub operator_record_of : List ℕ → Result (Said Permission OperatorAct) RecordFault
 operator_record_of content = message_of (message.operator_record_of content) >>= record_of operator_entry_of
-
-pub operator_record_of-message : (content : List ℕ) → operator_record_of content ≡ message_said operator_entry_of (message.operator_record_of content)
-unfolding operator_record_of
-operator_record_of-message content = refl

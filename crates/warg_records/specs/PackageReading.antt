@@ -1,5 +1,5 @@
 -- What content bytes say as a record of a package log.
-use Rattle.std.specs.Prelude.{◌≡◌, ℕ, List, Option, Some, None, Result, Ok, Err, refl}
+use Rattle.std.specs.Prelude.{ℕ, List, Option, Some, None, Result, Ok, Err}
 use Rattle.semver.specs.Parse.{version_parts}
 use Rattle.warg_crypto.specs.HashText.{hash_of}
 use Rattle.warg_protobuf.specs.PackageEntry.{PackageMember, Init, GrantFlat, RevokeFlat, Release, Yank}
@@ -8,7 +8,7 @@ use Rattle.warg_protobuf.specs.Release.{ReleaseValue}
 use Rattle.warg_protobuf.specs.Yank.{YankValue}
 use Rattle.warg_records.specs.Faults.{RecordFault, EmptyEntry, Version, ContentHash}
 use Rattle.warg_records.specs.Readings.{Reading, Said}
-use Rattle.warg_records.specs.Steps.{◌>>=◌, named, init_of, grant_of, revoke_of, shared, own, message_of, message_said, record_of}
+use Rattle.warg_records.specs.Steps.{◌>>=◌, named, init_of, grant_of, revoke_of, shared, own, message_of, record_of}
 use Rattle.warg_records.specs.PackageEntries.{Parts, PackageAct}
 use Rattle.warg_records.specs.PackageEntries as act
 use Rattle.warg_records.specs.PackagePermissions.{permission_of}
@@ -38,7 +38,3 @@ package_entry_of (Some (Yank m)) = own (yank_of m)
 -- what content bytes say, or their first fault
 unfoldable pub package_record_of : List ℕ → Result (Said Permission PackageAct) RecordFault
 package_record_of content = message_of (message.package_record_of content) >>= record_of package_entry_of
-
-pub package_record_of-message : (content : List ℕ) → package_record_of content ≡ message_said package_entry_of (message.package_record_of content)
-unfolding package_record_of
-package_record_of-message content = refl

@@ -1,6 +1,5 @@
 -- What is answered where a text or a number names no permission.
-use Rattle.std.specs.Prelude.{ℤ, Bool, List, Option, Some, None, Result, Ok, Err}
-use Rattle.std.specs.List.{list_any}
+use Rattle.std.specs.Prelude.{ℤ, Option, Some, None, Result, Ok, Err}
 use Rattle.warg_records.specs.declared.permission.InvalidPermission.{InvalidPermission}
 use Rattle.warg_records.specs.declared.permission.PermissionParseError.{PermissionParseError}
 
@@ -13,7 +12,3 @@ named_or None = Err (record {})
 abbrev pub numbered_or : {P : Type 0} → ℤ → Option P → Result P PermissionParseError
 numbered_or v (Some p) = Ok p
 numbered_or v None = Err (record { value = v })
-
--- whether the permissions have p among them, where same compares two
-abbrev pub lists : {P : Type 0} → (P → P → Bool) → List P → P → Bool
-lists same permissions p = list_any (λ x. same x p) permissions

@@ -116,7 +116,3 @@ message_of read = named (λ e. Wire (wire_fault_of e)) read
 abbrev pub wire_error_of : WireError → DecodeError
 wire_error_of error.OutOfMemory = decoding.OutOfMemory
 wire_error_of e = decoding.Wire (wire_fault_of e)
-
--- what a message says as a record, where the bytes are one
-abbrev pub message_said : {E P O : Type 0} → (E → Result (Reading P O) RecordFault) → Result (RecordValue E) WireError → Result (Said P O) RecordFault
-message_said entry_of read = message_of read >>= record_of entry_of

@@ -9,9 +9,7 @@ ghost use Rattle.warg_crypto.specs.declared.hash.AnyHash.{AnyHash};
 ghost use Rattle.warg_records.specs.Faults.{IsReading};
 ghost use Rattle.warg_records.specs.Mentions.{distinct};
 
-mod entry;
 pub mod laws;
-mod log_record;
 mod mention;
 pub mod operator;
 pub mod package;
@@ -22,10 +20,8 @@ pub mod registry;
 mod serde_envelope;
 mod writing;
 
-pub use entry::{Entry, SharedEntry};
 use indexmap::IndexSet;
-pub use log_record::LogRecord;
-pub use permission::{InvalidPermission, LogPermission, PermissionParseError};
+pub use permission::{InvalidPermission, PermissionParseError};
 pub use proto_envelope::{
     ParseEnvelopeError, ProtoEnvelope, ProtoEnvelopeBody, PublishedProtoEnvelope,
     PublishedProtoEnvelopeBody,

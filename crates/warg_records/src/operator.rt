@@ -1,34 +1,42 @@
 //! Records of operator logs.
 
-ghost use Rattle.std.specs.Prelude.{◌≡◌, codes, IfOk, Ok, Option, []};
-ghost use Rattle.warg_records.specs.Readings.{Shared};
-ghost use Rattle.warg_records.specs.Parts.{act_of};
-ghost use Rattle.warg_protobuf.specs.OperatorEntry.{OperatorMember, operator_entry_seen};
-ghost use Rattle.warg_protobuf.specs.OperatorRecord.{IsOperatorRecord, operator_record_of as operator_message_of};
-ghost use Rattle.warg_records.specs.OperatorWriting.{operator_content_of, operator_entry_message, operator_record_message};
-ghost use Rattle.warg_records.specs.OperatorEntries.{OperatorAct, reading, said};
-ghost use Rattle.warg_records.specs.OperatorReading.{operator_entry_of, operator_record_of, operator_record_of-message};
+ghost use Rattle.std.specs.Prelude.{◌≡◌, codes, IfOk, Ok, []};
+ghost use Rattle.warg_records.specs.Faults.{IsReading, fault_of};
+ghost use Rattle.warg_records.specs.FaultLaws.{fault_of-memory};
+ghost use Rattle.warg_records.specs.Readings.{Said};
+ghost use Rattle.warg_protobuf.specs.OperatorRecord.{IsOperatorRecord};
+ghost use Rattle.warg_records.specs.OperatorWriting.{operator_content_of, operator_record_message};
+ghost use Rattle.warg_records.specs.Faults.{RecordFault};
+ghost use Rattle.warg_records.specs.OperatorEntries.{OperatorAct, said};
+ghost use Rattle.warg_records.specs.OperatorReading.{operator_record_of};
+ghost use Rattle.warg_records.specs.declared.operator.permission.Permission.{Permission};
+ghost use Rattle.std.proofs.Common.{refl};
 
 mod model;
 mod permission;
 mod reading;
 mod writing;
 
-use crate::RECORD_VERSION;
-use crate::entry::{Entry, SharedEntry};
 use crate::laws::{operator_records_are_whole, record_reading_computes};
-use crate::log_record::LogRecord;
+use crate::{RECORD_VERSION, Record};
 use indexmap::IndexSet;
 pub use model::{OperatorEntry, OperatorRecord};
 pub use permission::Permission;
 use std::alloc::{AllocError, Global};
 use warg_crypto::hash::AnyHash;
-use warg_crypto::{DecodeError, Encode, Signable};
-use warg_protobuf as message;
+use warg_crypto::{Decode, DecodeError, Encode, Signable};
 use warg_protobuf::Message;
 
 /// The newest version of the protocol that an operator record may have.
 pub const OPERATOR_RECORD_VERSION: u32 = RECORD_VERSION;
+
+impl Decode for OperatorRecord {
+    ghost decodes = { λ content r. IsReading said fault_of (operator_record_of content) r };
+
+    fn decode(alloc: Global, content: &[u8]) -> Result<OperatorRecord, DecodeError> {
+        reading::read_record(alloc, content)
+    }
+}
 
 impl Encode for OperatorRecord {
     ghost encoding = { λ r. operator_content_of (said r) };
@@ -58,79 +66,43 @@ impl Signable for OperatorRecord {
     }
 }
 
-impl From<SharedEntry<Permission>> for OperatorEntry {
-    ghost from_gives = { λ shared entry. reading entry ≡ Shared (act_of shared) };
+impl Record for OperatorRecord {
+    ghost Meaning = { Said Permission OperatorAct };
 
-    fn from(entry: SharedEntry<Permission>) -> OperatorEntry {
-        match entry {
-            SharedEntry::Init {
-                hash_algorithm,
-                key,
-            } => OperatorEntry::Init {
-                hash_algorithm,
-                key,
-            },
-            SharedEntry::GrantFlat { key, permissions } => OperatorEntry::GrantFlat {
-                key,
-                permissions,
-            },
-            SharedEntry::RevokeFlat {
-                key_id,
-                permissions,
-            } => OperatorEntry::RevokeFlat {
-                key_id,
-                permissions,
-            },
-        }
-    }
-}
+    ghost meaning = { said };
 
-impl Entry for OperatorEntry {
-    type Permission = Permission;
+    ghost Fault = { RecordFault };
 
-    type Message = message::OperatorEntry;
+    ghost fault_of = { fault_of };
 
-    ghost Own = { OperatorAct };
+    ghost read = { operator_record_of };
 
-    ghost reading = { reading };
+    ghost decodes_reading = { λ b r h. h };
 
-    ghost Seen = { Option OperatorMember };
+    ghost memory_tells_none = { refl };
 
-    ghost seen = { operator_entry_seen };
-
-    ghost entry_of = { operator_entry_of };
-
-    ghost entry_message = { operator_entry_message };
-
-    ghost messages = { operator_message_of };
-
-    ghost record_of = { operator_record_of };
+    ghost memory_alone = { fault_of-memory };
 
     ghost mentions = { λ _. [] };
 
-    ghost says_message = { operator_record_of-message };
-
-    ghost clones_say = { λ x y h. h };
-
-    fn from_message(
-        alloc: Global,
-        message: message::OperatorEntry,
-    ) -> Result<OperatorEntry, DecodeError> {
-        OperatorEntry::from_proto(alloc, message)
-    }
-
-    fn to_message(&self, alloc: Global) -> Result<message::OperatorEntry, AllocError> {
-        self.to_proto(alloc)
-    }
-
-    fn read_record(alloc: Global, content: &[u8]) -> Result<message::OperatorRecord, DecodeError> {
-        reading::read_record(alloc, content)
-    }
-
-    fn contents(
-        alloc: Global,
-        _log_record: &LogRecord<OperatorEntry>,
-    ) -> Result<IndexSet<AnyHash>, AllocError> {
+    fn contents(&self, alloc: Global) -> Result<IndexSet<AnyHash>, AllocError> {
         Ok(IndexSet::new(alloc))
+    }
+
+    fn try_clone(&self) -> Result<OperatorRecord, AllocError> {
+        Ok(OperatorRecord {
+            prev: self.prev,
+            version: self.version,
+            timestamp: self.timestamp,
+            entries: self.entries.clone()?,
+        })
+    }
+}
+
+impl Clone for OperatorRecord {
+    ghost is_clone = { λ a b. said b ≡ said a };
+
+    fn clone(&self) -> Result<OperatorRecord, AllocError> {
+        self.try_clone()
     }
 }

@@ -1,37 +1,45 @@
 //! Records of package logs.
 
-ghost use Rattle.std.specs.Prelude.{◌≡◌, codes, IfOk, Ok, Option};
-ghost use Rattle.warg_records.specs.Readings.{Shared};
-ghost use Rattle.warg_records.specs.Parts.{act_of};
-ghost use Rattle.warg_protobuf.specs.PackageEntry.{PackageMember, package_entry_seen};
-ghost use Rattle.warg_protobuf.specs.PackageRecord.{IsPackageRecord, package_record_of as package_message_of};
-ghost use Rattle.warg_records.specs.PackageWriting.{package_content_of, package_entry_message, package_record_message};
+ghost use Rattle.std.specs.Prelude.{◌≡◌, codes, IfOk, Ok};
+ghost use Rattle.warg_records.specs.Faults.{IsReading, fault_of};
+ghost use Rattle.warg_records.specs.FaultLaws.{fault_of-memory};
+ghost use Rattle.warg_records.specs.Readings.{Said};
+ghost use Rattle.warg_protobuf.specs.PackageRecord.{IsPackageRecord};
+ghost use Rattle.warg_records.specs.PackageWriting.{package_content_of, package_record_message};
 ghost use Rattle.warg_records.specs.Whole.{IsReadable};
 ghost use Rattle.std.specs.List.{AllByRecursion};
+ghost use Rattle.warg_records.specs.Faults.{RecordFault};
 ghost use Rattle.warg_records.specs.PackageEntries.{PackageAct, content_of, mentions, reading, said};
-ghost use Rattle.warg_records.specs.PackageReading.{package_entry_of, package_record_of, package_record_of-message};
+ghost use Rattle.warg_records.specs.PackageReading.{package_record_of};
+ghost use Rattle.warg_records.specs.declared.package.permission.Permission.{Permission};
+ghost use Rattle.std.proofs.Common.{refl};
 
 mod model;
 mod permission;
 mod reading;
 mod writing;
 
-use crate::RECORD_VERSION;
-use crate::entry::{Entry, SharedEntry};
 use crate::laws::{package_records_are_whole, record_reading_computes};
-use crate::log_record::LogRecord;
 use crate::mention::{self, Mention};
+use crate::{RECORD_VERSION, Record};
 use indexmap::IndexSet;
 pub use model::{PackageEntry, PackageRecord};
 pub use permission::Permission;
 use std::alloc::{AllocError, Global};
 use warg_crypto::hash::AnyHash;
-use warg_crypto::{DecodeError, Encode, Signable};
-use warg_protobuf as message;
+use warg_crypto::{Decode, DecodeError, Encode, Signable};
 use warg_protobuf::Message;
 
 /// The newest version of the protocol that a package record may have.
 pub const PACKAGE_RECORD_VERSION: u32 = RECORD_VERSION;
+
+impl Decode for PackageRecord {
+    ghost decodes = { λ content r. IsReading said fault_of (package_record_of content) r };
+
+    fn decode(alloc: Global, content: &[u8]) -> Result<PackageRecord, DecodeError> {
+        reading::read_record(alloc, content)
+    }
+}
 
 impl Encode for PackageRecord {
     ghost encoding = { λ r. package_content_of (said r) };
@@ -61,80 +69,44 @@ impl Signable for PackageRecord {
     }
 }
 
-impl From<SharedEntry<Permission>> for PackageEntry {
-    ghost from_gives = { λ shared entry. reading entry ≡ Shared (act_of shared) };
+impl Record for PackageRecord {
+    ghost Meaning = { Said Permission PackageAct };
 
-    fn from(entry: SharedEntry<Permission>) -> PackageEntry {
-        match entry {
-            SharedEntry::Init {
-                hash_algorithm,
-                key,
-            } => PackageEntry::Init {
-                hash_algorithm,
-                key,
-            },
-            SharedEntry::GrantFlat { key, permissions } => PackageEntry::GrantFlat {
-                key,
-                permissions,
-            },
-            SharedEntry::RevokeFlat {
-                key_id,
-                permissions,
-            } => PackageEntry::RevokeFlat {
-                key_id,
-                permissions,
-            },
-        }
-    }
-}
+    ghost meaning = { said };
 
-impl Entry for PackageEntry {
-    type Permission = Permission;
+    ghost Fault = { RecordFault };
 
-    type Message = message::PackageEntry;
+    ghost fault_of = { fault_of };
 
-    ghost Own = { PackageAct };
+    ghost read = { package_record_of };
 
-    ghost reading = { reading };
+    ghost decodes_reading = { λ b r h. h };
 
-    ghost Seen = { Option PackageMember };
+    ghost memory_tells_none = { refl };
 
-    ghost seen = { package_entry_seen };
-
-    ghost entry_of = { package_entry_of };
-
-    ghost entry_message = { package_entry_message };
-
-    ghost messages = { package_message_of };
-
-    ghost record_of = { package_record_of };
+    ghost memory_alone = { fault_of-memory };
 
     ghost mentions = { mentions };
 
-    ghost says_message = { package_record_of-message };
-
-    ghost clones_say = { λ x y h. h };
-
-    fn from_message(
-        alloc: Global,
-        message: message::PackageEntry,
-    ) -> Result<PackageEntry, DecodeError> {
-        PackageEntry::from_proto(alloc, message)
+    fn contents(&self, alloc: Global) -> Result<IndexSet<AnyHash>, AllocError> {
+        mention::mentions(alloc, self.entries.as_slice())
     }
 
-    fn to_message(&self, alloc: Global) -> Result<message::PackageEntry, AllocError> {
-        self.to_proto(alloc)
+    fn try_clone(&self) -> Result<PackageRecord, AllocError> {
+        Ok(PackageRecord {
+            prev: self.prev,
+            version: self.version,
+            timestamp: self.timestamp,
+            entries: self.entries.clone()?,
+        })
     }
+}
 
-    fn read_record(alloc: Global, content: &[u8]) -> Result<message::PackageRecord, DecodeError> {
-        reading::read_record(alloc, content)
-    }
+impl Clone for PackageRecord {
+    ghost is_clone = { λ a b. said b ≡ said a };
 
-    fn contents(
-        alloc: Global,
-        log_record: &LogRecord<PackageEntry>,
-    ) -> Result<IndexSet<AnyHash>, AllocError> {
-        mention::mentions(alloc, log_record.entries.as_slice())
+    fn clone(&self) -> Result<PackageRecord, AllocError> {
+        self.try_clone()
     }
 }
 

@@ -1,10 +1,7 @@
 //! What both kinds' permissions share.
 
-ghost use Rattle.std.specs.Prelude.{◌≡◌, ℤ, Option, Some, IfOk, true};
-ghost use Rattle.warg_records.specs.Permissions.{lists};
+ghost use Rattle.std.specs.Prelude.{◌≡◌, ℤ, Option, Some};
 
-use std::alloc::{AllocError, Global};
-use std::hash::Hash;
 use thiserror::Error;
 
 /// A text names no permission.
@@ -20,9 +17,9 @@ pub struct PermissionParseError {
     pub value: i32,
 }
 
-/// A permission of a kind of log.
-pub trait LogPermission: Copy + Eq + Hash {
-    // The permission that a number of a message names.
+/// A permission, as messages number it.
+pub trait NumberedPermission: Copy {
+    // The permission that a number names.
     ghost permission_of: { ℤ → Option Self };
 
     // The number that names a permission.
@@ -36,16 +33,6 @@ pub trait LogPermission: Copy + Eq + Hash {
     fn to_number(self) -> i32
         ensures { result ≡ number_of self };
 
-    /// All permissions of the kind: what the signer of an Init gets.
-    fn all(alloc: Global) -> Result<Vec<Self>, AllocError>
-        ensures { IfOk result (λ ps. (p : Self) → lists Self.eq ps.items p ≡ true) };
-
     /// A permission is read back from its number.
     ghost reads_back: { (p : Self) → permission_of (number_of p) ≡ Some p };
-
-    // A clone is the same.
-    ghost clones: { (x y : Self) → Self.is_clone x y → y ≡ x };
-
-    // Permissions that are equal are the same.
-    ghost same_is: { (x y : Self) → Self.eq x y ≡ true → x ≡ y };
 }

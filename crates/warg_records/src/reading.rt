@@ -5,31 +5,44 @@ ghost use Rattle.warg_crypto.specs.declared.coding.DecodeError.{DecodeError};
 ghost use Rattle.warg_protobuf.specs.Timestamp.{timestamp_seen};
 ghost use Rattle.warg_protobuf.specs.Views.{option_view};
 ghost use Rattle.warg_records.specs.Faults.{RecordFault, fault_of, IsReading};
-ghost use Rattle.warg_protobuf.specs.GrantFlat.{grant_flat_seen};
-ghost use Rattle.warg_protobuf.specs.Init.{init_seen};
-ghost use Rattle.warg_protobuf.specs.RevokeFlat.{revoke_flat_seen};
-ghost use Rattle.warg_records.specs.Parts.{act_of};
-ghost use Rattle.warg_records.specs.Steps.{each, prev_of, time_of, key_of, init_of, grant_of, revoke_of, permission_in, wire_error_of};
+ghost use Rattle.warg_records.specs.Steps.{each, prev_of, time_of, key_of, beginning_of, permission_in, wire_error_of};
 
-use crate::entry::{Entry, SharedEntry};
-use crate::permission::LogPermission;
+use crate::permission::NumberedPermission;
 use crate::registry::RecordId;
 use std::alloc::Global;
 use std::str::FromStr;
 use warg_crypto::hash::{AnyHash, HashAlgorithm};
-use warg_crypto::signing::{KeyID, PublicKey};
+use warg_crypto::signing::PublicKey;
 use warg_crypto::{DecodeError, Timestamp, WireFault};
-use warg_protobuf::{
-    PackageGrantFlat as GrantFlat, PackageInit as Init, PackageRevokeFlat as RevokeFlat,
-    TimestampPair, WireError,
-};
+use warg_protobuf::{TimestampPair, WireError};
+
+/// A part of a record that is read from its message.
+pub(crate) trait FromMessage: Drop {
+    type Message: Drop;
+
+    // The message as plain data.
+    ghost Seen: { Type 0 };
+
+    ghost seen: { Self.Message → Seen };
+
+    // The part as plain data.
+    ghost Plain: { Type 0 };
+
+    ghost plain: { Self → Plain };
+
+    // What a message says, or its first fault.
+    ghost read: { Seen → Result Plain RecordFault };
+
+    fn from_message(alloc: Global, message: Self::Message) -> Result<Self, DecodeError>
+        ensures { IsReading plain fault_of (read (seen message)) result };
+}
 
 /// Reads all messages, in order, up to the first fault.
-pub(crate) fn read_each<T: Entry>(
+pub(crate) fn read_each<T: FromMessage>(
     alloc: Global,
     messages: Vec<T::Message>,
 ) -> Result<Vec<T>, DecodeError>
-    ensures { IsReading (λ v. map T.reading v.items) fault_of (each T.entry_of (map T.seen messages.items)) result }
+    ensures { IsReading (λ v. map T.plain v.items) fault_of (each T.read (map T.seen messages.items)) result }
 {
     let mut parts = Vec::new(alloc);
     for message in messages {
@@ -40,7 +53,7 @@ pub(crate) fn read_each<T: Entry>(
 }
 
 /// The permission of a number.
-fn read_permission<P: LogPermission>(number: i32) -> Result<P, DecodeError>
+fn read_permission<P: NumberedPermission>(number: i32) -> Result<P, DecodeError>
     ensures { IsReading (λ p. p) fault_of (permission_in P.permission_of number) result }
 {
     match P::from_number(number) {
@@ -50,7 +63,7 @@ fn read_permission<P: LogPermission>(number: i32) -> Result<P, DecodeError>
 }
 
 /// Reads all permissions, in order, up to the first number that is none.
-fn read_permissions<P: LogPermission>(
+pub(crate) fn read_permissions<P: NumberedPermission>(
     alloc: Global,
     numbers: Vec<i32>,
 ) -> Result<Vec<P>, DecodeError>
@@ -106,48 +119,24 @@ pub(crate) fn read_time(time: Option<TimestampPair>) -> Result<Timestamp, Decode
 }
 
 /// A key.
-fn read_key(alloc: Global, text: &str) -> Result<PublicKey, DecodeError>
+pub(crate) fn read_key(alloc: Global, text: &str) -> Result<PublicKey, DecodeError>
     ensures { IsReading (λ k. k) fault_of (key_of text.now) result }
 {
     Ok(PublicKey::parse(alloc, text)?)
 }
 
-/// The entry that begins a log.
-pub(crate) fn read_init<P>(alloc: Global, message: Init) -> Result<SharedEntry<P>, DecodeError>
-    ensures { IsReading act_of fault_of (init_of (init_seen message)) result }
+/// The algorithm and the key that begin a log.
+pub(crate) fn read_init(
+    alloc: Global,
+    key: &str,
+    hash_algorithm: &str,
+) -> Result<(HashAlgorithm, PublicKey), DecodeError>
+    ensures { IsReading (λ p. (p.0, p.1)) fault_of
+        (beginning_of (record { key = key.now; hash_algorithm = hash_algorithm.now })) result }
 {
-    let Ok(hash_algorithm) = HashAlgorithm::from_str(message.hash_algorithm.as_str()) else {
+    let Ok(algorithm) = HashAlgorithm::from_str(hash_algorithm) else {
         return Err(DecodeError::Algorithm);
     };
-    let key = read_key(alloc, message.key.as_str())?;
-    Ok(SharedEntry::Init {
-        hash_algorithm,
-        key,
-    })
-}
-
-/// The entry that grants permissions.
-pub(crate) fn read_grant<P: LogPermission>(
-    alloc: Global,
-    message: GrantFlat,
-) -> Result<SharedEntry<P>, DecodeError>
-    ensures { IsReading act_of fault_of (grant_of P.permission_of (grant_flat_seen message)) result }
-{
-    let key = read_key(alloc, message.key.as_str())?;
-    let permissions = read_permissions::<P>(alloc, message.permissions)?;
-    Ok(SharedEntry::GrantFlat { key, permissions })
-}
-
-/// The entry that revokes permissions.
-pub(crate) fn read_revoke<P: LogPermission>(
-    alloc: Global,
-    message: RevokeFlat,
-) -> Result<SharedEntry<P>, DecodeError>
-    ensures { IsReading act_of fault_of (revoke_of P.permission_of (revoke_flat_seen message)) result }
-{
-    let permissions = read_permissions::<P>(alloc, message.permissions)?;
-    Ok(SharedEntry::RevokeFlat {
-        key_id: KeyID::from(message.key_id),
-        permissions,
-    })
+    let key = read_key(alloc, key)?;
+    Ok((algorithm, key))
 }

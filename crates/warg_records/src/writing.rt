@@ -4,30 +4,37 @@ ghost use Rattle.std.specs.Prelude.{◌≡◌, IfOk, Some, map, string_bytes};
 ghost use Rattle.std.specs.Option.{option_map};
 ghost use Rattle.warg_protobuf.specs.Timestamp.{timestamp_seen};
 ghost use Rattle.warg_protobuf.specs.Views.{option_view};
-ghost use Rattle.warg_protobuf.specs.GrantFlat.{grant_flat_seen};
-ghost use Rattle.warg_protobuf.specs.Init.{init_seen};
-ghost use Rattle.warg_protobuf.specs.RevokeFlat.{revoke_flat_seen};
-ghost use Rattle.warg_records.specs.Writing.{id_text, time_message, init_message, grant_message, revoke_message};
+ghost use Rattle.warg_records.specs.Writing.{id_text, time_message};
 
-use crate::entry::Entry;
-use crate::permission::LogPermission;
+use crate::permission::NumberedPermission;
 use crate::registry::RecordId;
 use std::alloc::{AllocError, Global};
 use std::fmt;
 use warg_crypto::Timestamp;
-use warg_crypto::hash::HashAlgorithm;
-use warg_crypto::signing::{KeyID, PublicKey};
-use warg_protobuf::{
-    PackageGrantFlat as GrantFlat, PackageInit as Init, PackageRevokeFlat as RevokeFlat,
-    TimestampPair,
-};
+use warg_protobuf::TimestampPair;
+
+/// A part of a record that is written as its message.
+pub(crate) trait ToMessage {
+    type Message: Drop;
+
+    // The message as plain data.
+    ghost Seen: { Type 0 };
+
+    ghost seen: { Self.Message → Seen };
+
+    // The message of a part.
+    ghost written: { Self → Seen };
+
+    fn to_message(&self, alloc: Global) -> Result<Self::Message, AllocError>
+        ensures { IfOk result (λ m. seen m ≡ written self.now) };
+}
 
 /// Writes all parts, in order.
-pub(crate) fn write_each<T: Entry>(
+pub(crate) fn write_each<T: ToMessage>(
     alloc: Global,
     parts: &[T],
 ) -> Result<Vec<T::Message>, AllocError>
-    ensures { IfOk result (λ v. map T.seen v.items ≡ map (λ e. T.entry_message (T.reading e)) parts.now) }
+    ensures { IfOk result (λ v. map T.seen v.items ≡ map T.written parts.now) }
 {
     let mut messages = Vec::with_capacity(alloc, parts.len())?;
     for part in parts {
@@ -38,7 +45,7 @@ pub(crate) fn write_each<T: Entry>(
 }
 
 /// Writes the numbers of all permissions, in order.
-fn write_permissions<P: LogPermission>(
+pub(crate) fn write_permissions<P: NumberedPermission>(
     alloc: Global,
     permissions: &[P],
 ) -> Result<Vec<i32>, AllocError>
@@ -73,55 +80,4 @@ pub(crate) fn write_time(time: Timestamp) -> TimestampPair
         seconds: time.seconds(),
         nanos: time.nanos() as i32,
     }
-}
-
-/// The message of an entry that begins a log.
-pub(crate) fn write_init(
-    alloc: Global,
-    algorithm: HashAlgorithm,
-    key: &PublicKey,
-) -> Result<Box<Init>, AllocError>
-    ensures { IfOk result (λ b. init_seen b.value ≡ init_message algorithm key.now) }
-{
-    let key = key.to_string(alloc)?;
-    let hash_algorithm = algorithm.to_string(alloc)?;
-    Ok(Box::new(
-        alloc,
-        Init {
-            key,
-            hash_algorithm,
-        },
-    )?)
-}
-
-/// The message of an entry that grants permissions.
-pub(crate) fn write_grant<P: LogPermission>(
-    alloc: Global,
-    key: &PublicKey,
-    permissions: &[P],
-) -> Result<Box<GrantFlat>, AllocError>
-    ensures { IfOk result (λ b. grant_flat_seen b.value ≡ grant_message P.number_of key.now permissions.now) }
-{
-    let key = key.to_string(alloc)?;
-    let permissions = write_permissions(alloc, permissions)?;
-    Ok(Box::new(alloc, GrantFlat { key, permissions })?)
-}
-
-/// The message of an entry that revokes permissions.
-pub(crate) fn write_revoke<P: LogPermission>(
-    alloc: Global,
-    key_id: &KeyID,
-    permissions: &[P],
-) -> Result<Box<RevokeFlat>, AllocError>
-    ensures { IfOk result (λ b. revoke_flat_seen b.value ≡ revoke_message P.number_of key_id.now permissions.now) }
-{
-    let key_id = String::from_str(alloc, key_id.as_str())?;
-    let permissions = write_permissions(alloc, permissions)?;
-    Ok(Box::new(
-        alloc,
-        RevokeFlat {
-            key_id,
-            permissions,
-        },
-    )?)
 }

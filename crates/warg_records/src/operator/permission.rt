@@ -4,10 +4,9 @@ ghost use Rattle.std.specs.Prelude.{◌≡◌, [], ◌∷◌, pos, Option, Some,
 ghost use Rattle.std.specs.Cmp.{partial_equiv_from_equiv};
 ghost use Rattle.std.specs.Hash as fed;
 ghost use Rattle.warg_records.specs.Permissions.{named_or, numbered_or};
-ghost use Rattle.warg_records.specs.OperatorPermissions.{number_of, permission_of, permission_text, permission_in, same_permission, same_permission_equiv, same_permission-is, hash-same_permission, permission_of-number_of};
+ghost use Rattle.warg_records.specs.OperatorPermissions.{number_of, permission_of, permission_text, permission_in, same_permission, same_permission_equiv, hash-same_permission, permission_of-number_of};
 
-use crate::permission::{InvalidPermission, LogPermission, PermissionParseError};
-use std::alloc::{AllocError, Global};
+use crate::permission::{InvalidPermission, NumberedPermission, PermissionParseError};
 use std::fmt;
 use std::hash::{Hash, Hasher};
 use std::str::FromStr;
@@ -100,16 +99,12 @@ impl FromStr for Permission {
     }
 }
 
-impl LogPermission for Permission {
+impl NumberedPermission for Permission {
     ghost permission_of = { permission_of };
 
     ghost number_of = { λ p. pos (number_of p) };
 
     ghost reads_back = { permission_of-number_of };
-
-    ghost clones = { λ x y h. h };
-
-    ghost same_is = { same_permission-is };
 
     fn from_number(number: i32) -> Option<Permission> {
         match number {
@@ -122,10 +117,6 @@ impl LogPermission for Permission {
 
     fn to_number(self) -> i32 {
         self.number() as i32
-    }
-
-    fn all(alloc: Global) -> Result<Vec<Permission>, AllocError> {
-        Ok(Vec::from_array(alloc, Permission::all())?)
     }
 }
 

@@ -1,28 +1,73 @@
 //! Reading records of package logs from their messages.
 
-ghost use Rattle.std.specs.Prelude.{◌≡◌, ◌↔◌, IsTrue};
+ghost use Rattle.std.specs.Prelude.{◌≡◌, ◌↔◌, Option, IsTrue};
 ghost use Rattle.semver.specs.Parse.{memory_error};
 ghost use Rattle.semver.specs.Identifiers.{parts_of};
 ghost use Rattle.warg_protobuf.specs.Release.{release_seen};
 ghost use Rattle.warg_protobuf.specs.Yank.{yank_seen};
-ghost use Rattle.warg_protobuf.specs.PackageEntry.{package_entry_seen};
+ghost use Rattle.warg_protobuf.specs.PackageEntry.{PackageMember, package_entry_seen};
 ghost use Rattle.warg_protobuf.specs.PackageRecord.{package_record_seen};
 ghost use Rattle.warg_protobuf.specs.PackageRecord.{package_record_of as package_message_of};
+ghost use Rattle.warg_protobuf.specs.GrantFlat.{grant_flat_seen};
+ghost use Rattle.warg_protobuf.specs.Init.{init_seen};
+ghost use Rattle.warg_protobuf.specs.RevokeFlat.{revoke_flat_seen};
 ghost use Rattle.warg_records.specs.Faults.{fault_of, IsReading};
-ghost use Rattle.warg_records.specs.PackageEntries.{reading};
-ghost use Rattle.warg_records.specs.PackageReading.{package_entry_of, release_of, version_of, yank_of};
-ghost use Rattle.warg_records.specs.Steps.{message_of, own};
+ghost use Rattle.warg_records.specs.PackageEntries.{PackageAct, reading, said};
+ghost use Rattle.warg_records.specs.PackagePermissions.{permission_of};
+ghost use Rattle.warg_records.specs.PackageReading.{package_entry_of, package_record_of, release_of, version_of, yank_of};
+ghost use Rattle.warg_records.specs.Readings.{Reading};
+ghost use Rattle.warg_records.specs.Steps.{grant_of, init_of, message_of, record_of, revoke_of, shared, own};
+ghost use Rattle.warg_records.specs.declared.package.permission.Permission.{Permission};
 
-use crate::package::PackageEntry;
-use crate::reading::{read_grant, read_init, read_revoke, wire_error};
+use crate::package::{PackageEntry, PackageRecord, Permission};
+use crate::reading::{
+    FromMessage, read_each, read_init, read_key, read_permissions, read_prev, read_time, wire_error,
+};
 use semver::Version;
 use std::alloc::{AllocError, Global};
 use std::str::FromStr;
 use warg_crypto::DecodeError;
 use warg_crypto::hash::AnyHash;
+use warg_crypto::signing::KeyID;
 use warg_protobuf as message;
 use warg_protobuf::package_entry::Contents;
-use warg_protobuf::{Message, PackageRelease, PackageYank};
+use warg_protobuf::{
+    Message, PackageGrantFlat, PackageInit, PackageRelease, PackageRevokeFlat, PackageYank,
+};
+
+// A member of the entry's oneof.
+
+fn read_init_entry(alloc: Global, message: PackageInit) -> Result<PackageEntry, DecodeError>
+    ensures { IsReading reading fault_of (shared (init_of (init_seen message))) result }
+{
+    let (hash_algorithm, key) = read_init(
+        alloc,
+        message.key.as_str(),
+        message.hash_algorithm.as_str(),
+    )?;
+    Ok(PackageEntry::Init {
+        hash_algorithm,
+        key,
+    })
+}
+
+fn read_grant(alloc: Global, message: PackageGrantFlat) -> Result<PackageEntry, DecodeError>
+    ensures { IsReading reading fault_of (shared (grant_of permission_of (grant_flat_seen message))) result }
+{
+    let key = read_key(alloc, message.key.as_str())?;
+    let permissions = read_permissions::<Permission>(alloc, message.permissions)?;
+    Ok(PackageEntry::GrantFlat { key, permissions })
+}
+
+fn read_revoke(alloc: Global, message: PackageRevokeFlat) -> Result<PackageEntry, DecodeError>
+    ensures { IsReading reading fault_of (shared (revoke_of permission_of (revoke_flat_seen message))) result }
+{
+    let permissions = read_permissions::<Permission>(alloc, message.permissions)?;
+    Ok(PackageEntry::RevokeFlat {
+        key_id: KeyID::from(message.key_id),
+        permissions,
+    })
+}
 
 // Whether parsing a version found no memory.
 fn is_memory_error(error: semver::Error) -> bool
@@ -61,6 +106,36 @@ fn read_yank(alloc: Global, message: PackageYank) -> Result<PackageEntry, Decode
     Ok(PackageEntry::Yank { version })
 }
 
+impl FromMessage for PackageEntry {
+    type Message = message::PackageEntry;
+
+    ghost Seen = { Option PackageMember };
+
+    ghost seen = { package_entry_seen };
+
+    ghost Plain = { Reading Permission PackageAct };
+
+    ghost plain = { reading };
+
+    ghost read = { package_entry_of };
+
+    fn from_message(
+        alloc: Global,
+        message: message::PackageEntry,
+    ) -> Result<PackageEntry, DecodeError> {
+        let Some(contents) = message.contents else {
+            return Err(DecodeError::EmptyEntry);
+        };
+        match contents {
+            Contents::Init(init) => read_init_entry(alloc, Box::into_inner(init)),
+            Contents::GrantFlat(grant) => read_grant(alloc, Box::into_inner(grant)),
+            Contents::RevokeFlat(revoke) => read_revoke(alloc, Box::into_inner(revoke)),
+            Contents::Release(release) => read_release(alloc, Box::into_inner(release)),
+            Contents::Yank(yank) => read_yank(alloc, Box::into_inner(yank)),
+        }
+    }
+}
+
 impl PackageEntry {
     /// The entry that a message says, or its first fault.
     pub fn from_proto(
@@ -69,37 +144,45 @@ impl PackageEntry {
     ) -> Result<PackageEntry, DecodeError>
         ensures { IsReading reading fault_of (package_entry_of (package_entry_seen message)) result }
     {
-        let Some(contents) = message.contents else {
-            return Err(DecodeError::EmptyEntry);
-        };
-        match contents {
-            Contents::Init(init) => Ok(PackageEntry::from(read_init(
-                alloc,
-                Box::into_inner(init),
-            )?)),
-            Contents::GrantFlat(grant) => Ok(PackageEntry::from(read_grant(
-                alloc,
-                Box::into_inner(grant),
-            )?)),
-            Contents::RevokeFlat(revoke) => Ok(PackageEntry::from(read_revoke(
-                alloc,
-                Box::into_inner(revoke),
-            )?)),
-            Contents::Release(release) => read_release(alloc, Box::into_inner(release)),
-            Contents::Yank(yank) => read_yank(alloc, Box::into_inner(yank)),
-        }
+        PackageEntry::from_message(alloc, message)
     }
 }
 
-/// The message of a record that content bytes are.
-pub(super) fn read_record(
-    alloc: Global,
-    content: &[u8],
-) -> Result<message::PackageRecord, DecodeError>
+impl PackageRecord {
+    /// The record that a message says, or its first fault: of the link, of the time, then of the entries in order.
+    pub fn from_proto(
+        alloc: Global,
+        message: message::PackageRecord,
+    ) -> Result<PackageRecord, DecodeError>
+        ensures { IsReading said fault_of (record_of package_entry_of (package_record_seen message)) result }
+    {
+        let prev = read_prev(message.prev)?;
+        let timestamp = read_time(message.time)?;
+        let entries = read_each::<PackageEntry>(alloc, message.entries)?;
+        Ok(PackageRecord {
+            prev,
+            version: message.version,
+            timestamp,
+            entries,
+        })
+    }
+}
+
+// The message that content bytes are.
+fn read_message(alloc: Global, content: &[u8]) -> Result<message::PackageRecord, DecodeError>
     ensures { IsReading package_record_seen fault_of (message_of (package_message_of content.now)) result }
 {
     match message::PackageRecord::decode(alloc, content) {
         Ok(message) => Ok(message),
         Err(error) => Err(wire_error(error)),
     }
+}
+
+// The record that content bytes say.
+#[tactic(auto, unfolding(crate::specs::PackageReading::package_record_of), using(crate::proofs::Each::tells_bind))]
+pub(crate) fn read_record(alloc: Global, content: &[u8]) -> Result<PackageRecord, DecodeError>
+    ensures { IsReading said fault_of (package_record_of content.now) result }
+{
+    let message = read_message(alloc, content)?;
+    PackageRecord::from_proto(alloc, message)
 }

@@ -4,6 +4,6 @@ use Rattle.warg_records.specs.Steps.{each}
 use Rattle.warg_records.proofs.reading.read_each.Given as goal
 
 abbrev pub invariant-loop-message : goal.invariant-loop-message
-invariant-loop-message g l = (each g.T.Entry.entry_of (map g.T.Entry.seen l.yielded) ≡ Ok (map g.T.Entry.reading l.parts.items))
+invariant-loop-message g l = (each g.T.FromMessage.read (map g.T.FromMessage.seen l.yielded) ≡ Ok (map g.T.FromMessage.plain l.parts.items))
     × (l.yielded ++ into_iter_items l.message-iterator ≡ into_iter_items l.initial.message-iterator)
     × (into_iter_len l.message-iterator ≡ length (into_iter_items l.message-iterator))

@@ -1,6 +1,0 @@
-use Rattle.warg_records.specs.PackageEntries.{content_of, reading}
-use Rattle.warg_records.proofs.Views.{filter_map-through}
-use Rattle.warg_records.proofs.package.PackageEntryEntry.contents.Goals as goal
-
-pub returns : goal.returns
-returns c = rw (← filter_map-through content_of reading c.args.log_record.now.entries.items) (rw c.as_slice.ensures.value at c.mentions.ensures)
