@@ -1,29 +1,22 @@
-//! Verifies a registry's checkpoint. A line of standard input is a number of leaves: the checkpoint of that length is
-//! held against the signature that the operator gave for the one of three leaves.
+//! Verifies a registry's checkpoint, by the operator log of one record in the file `0.envelope`: the checkpoints of three
+//! and of four leaves are held against the signature that the operator gave for the one of three.
 #![tactic(auto)]
 
 use std::alloc::Global;
+use std::fs;
 use warg_protocol::hash::HashAlgorithm;
-use warg_protocol::operator::{LogState, OperatorEntry};
+use warg_protocol::operator::LogState;
 use warg_protocol::registry::{Checkpoint, TimestampedCheckpoint};
 use warg_protocol::signing::{KeyID, Signature, SignatureError, Signer};
 use warg_protocol::toy::{ToySigner, ToyVerifier};
-use warg_protocol::{Encode, ProtoEnvelope, Signable, Timestamp};
+use warg_protocol::{Encode, Signable, Timestamp, run};
 
-// The state of an operator log that the signer began.
-fn operator_log(alloc: Global, signer: &ToySigner) -> anyhow::Result<LogState> {
-    let state = LogState::new(alloc)?;
-    let key = signer.public_key().try_clone()?;
-    let hash_algorithm = HashAlgorithm::Sha256;
-    let entries = vec![in alloc;
-        OperatorEntry::Init {
-            hash_algorithm,
-            key
-        },
-    ]?;
-    let record = state.next_record(Timestamp::new(1, 0), entries);
-    let envelope = ProtoEnvelope::signed_contents(alloc, signer, record)?;
-    Ok(state.validate(&envelope, &ToyVerifier)?)
+// What the operator log's envelopes add up to.
+fn state_of(alloc: Global, log: &[Vec<u8>]) -> anyhow::Result<LogState> {
+    match run(alloc, &ToyVerifier, log) {
+        Ok(state) => Ok(state),
+        Err(error) => anyhow::bail!("record {} is refused", error.index),
+    }
 }
 
 fn checkpoint(leaves: usize) -> anyhow::Result<TimestampedCheckpoint> {
@@ -57,25 +50,22 @@ fn is_signed(
     }
 }
 
+// Whether the checkpoint of this length goes with alice's signature of the one of three leaves.
+fn told(alloc: Global, operator: &LogState, leaves: usize) -> anyhow::Result<&'static str> {
+    let alice = ToySigner::new(alloc, b"alice")?;
+    let signature = checkpoint(3)?.sign(alloc, &alice)?;
+    let key_id = alice.public_key().fingerprint(alloc)?;
+    match is_signed(alloc, operator, &checkpoint(leaves)?, &key_id, &signature)? {
+        true => Ok("signed by the operator"),
+        false => Ok("refused"),
+    }
+}
+
 fn main(rt: HostRuntime) -> anyhow::Result<()> {
-    let alice = ToySigner::new(rt.alloc(), b"alice")?;
-    let operator = operator_log(rt.alloc(), &alice)?;
-    let key_id = alice.public_key().fingerprint(rt.alloc())?;
-    let signature = checkpoint(3)?.sign(rt.alloc(), &alice)?;
-    for line in rt.lines(rt.alloc()) {
-        let Ok(leaves) = line?.parse::<u32>() else {
-            anyhow::bail!("not a number of leaves");
-        };
-        match is_signed(
-            rt.alloc(),
-            &operator,
-            &checkpoint(leaves as usize)?,
-            &key_id,
-            &signature,
-        )? {
-            true => println!(rt; "{leaves} leaves: signed by the operator")?,
-            false => println!(rt; "{leaves} leaves: refused")?,
-        }
+    let log = vec![in rt.alloc(); fs::read(&rt, "0.envelope")?]?;
+    let operator = state_of(rt.alloc(), log.as_slice())?;
+    for leaves in [3, 4] {
+        println!(rt; "{leaves} leaves: {}", told(rt.alloc(), &operator, leaves)?)?;
     }
     Ok(())
 }
