@@ -15,7 +15,7 @@ pub use semver::Error as VersionParseError;
 pub use warg_audited_log::{AuditedLog, HeadComparison, Link};
 pub use warg_crypto::{
     ByteVisitor, Clock, Decode, DecodeError, Encode, Incoherence, JsonError, JsonValue, Signable,
-    TimeError, Timestamp, VisitBytes, WireFault, hash, json, prefix, signing, toy,
+    SystemClock, TimeError, Timestamp, VisitBytes, WireFault, hash, json, prefix, signing, toy,
 };
 pub use warg_protobuf::{Envelope, EnvelopeView, Message, WireError};
 pub use warg_records::{
