@@ -9,7 +9,7 @@ use std::alloc::Global;
 use std::fmt::{Debug, Write};
 use std::process::Abort;
 use std::test::Fail;
-use warg_crypto::toy::ToyVerifier;
+use warg_protocol::toy::ToyVerifier;
 use warg_protocol::{AuditedLog, HeadComparison, RunCause, RunError, operator, package};
 
 /// A log on the way, and the refusal of its last line.
