@@ -6,12 +6,12 @@ use Rattle.warg_crypto.specs.declared.coding.DecodeError.TheVariants as fault
 use Rattle.warg_crypto.specs.declared.signing.error.KeyParseError.{KeyParseError}
 use Rattle.warg_crypto.specs.declared.signing.error.KeyParseError.TheVariants as key
 
--- a message's fault; want of memory stays want of memory
+-- a message's fault; out of memory stays out of memory
 abbrev pub wire_error : WireFault → DecodeError
 wire_error wire.OutOfMemory = fault.OutOfMemory
 wire_error e = fault.Wire e
 
--- a key's fault; want of memory stays want of memory
+-- a key's fault; out of memory stays out of memory
 abbrev pub key_error : KeyParseError → DecodeError
 key_error key.OutOfMemory = fault.OutOfMemory
 key_error e = fault.Key e

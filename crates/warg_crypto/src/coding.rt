@@ -109,7 +109,7 @@ pub enum DecodeError {
 impl From<WireFault> for DecodeError {
     ghost from_gives = { λ e f. f ≡ wire_error e };
 
-    /// Want of memory stays want of memory.
+    /// Out of memory stays out of memory.
     fn from(error: WireFault) -> DecodeError {
         match error {
             WireFault::OutOfMemory => DecodeError::OutOfMemory,
@@ -121,7 +121,7 @@ impl From<WireFault> for DecodeError {
 impl From<KeyParseError> for DecodeError {
     ghost from_gives = { λ e f. f ≡ key_error e };
 
-    /// Want of memory stays want of memory.
+    /// Out of memory stays out of memory.
     fn from(error: KeyParseError) -> DecodeError {
         match error {
             KeyParseError::OutOfMemory => DecodeError::OutOfMemory,

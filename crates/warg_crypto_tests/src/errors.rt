@@ -157,7 +157,7 @@ fn of_incoherent_states(rt: HostRuntime) {
     );
 }
 
-// Want of memory stays that.
+// Out of memory stays that.
 #[test]
 fn of_memory(rt: HostRuntime) {
     is(

@@ -109,7 +109,7 @@ module _ {P O V F : Type 0} (rules : Rules P O V F) (same : P → P → Bool) wh
       (first _ _ (events e.contents.version v.whole [] (record_events rules.id_of e))
       (shared _ (tested (is_some (whole_after rules same v.whole (record_events rules.id_of e)).authority.algorithm) InitialRecordDoesNotInit refl)))))
 
-  -- none is want of memory within another error, or a second algorithm, or a record that can't be read
+  -- none is out of memory within another error, or a second algorithm, or a record that can't be read
   pub record-possible : (belongs : Tag → List ℕ → Tag → Bool) (v : View P V) (e : SignedRecord P O) → IfSome (record_offence rules same belongs v e) IsPossible
   record-possible belongs v e =
       first _ _ (unsigned v e)

@@ -4,7 +4,7 @@ use Rattle.warg_crypto.specs.declared.signing.error.SignatureError.TheVariants.{
 use Rattle.warg_log.specs.History.{Wrong}
 use Rattle.warg_log.specs.Offences.{Offence, WrongSignature, IncorrectHashAlgorithm}
 
--- no record is refused for want of memory within another error, and there is one algorithm
+-- no record is refused for out of memory within another error, and there is one algorithm
 abbrev pub may_be_told : {P : Type 0} → Offence P → Bool
 may_be_told (WrongSignature Refused) = true
 may_be_told (WrongSignature OutOfMemory) = false

@@ -222,7 +222,7 @@ impl<P: LogPermission> Authority<P> {
         Ok(())
     }
 
-    /// The same again.
+    /// A copy.
     pub fn try_clone(&self) -> Result<Authority<P>, AllocError>
         ensures { IfOk result (λ copy. copy ≡ self.now) }
     {

@@ -50,7 +50,7 @@ pub fn refusals_tell_apart<P>()
     ensures { (r s : Refusal P) → offence_of r ≡ offence_of s → r ≡ s }
 {}
 
-/// What is wrong with a record is never want of memory within another error, nor a second algorithm,
+/// What is wrong with a record is never out of memory within another error, nor a second algorithm,
 /// nor that its bytes are no record: the record is held.
 pub fn offences_are_possible<M: Matter>()
     ensures { (belongs : Belief) (v : View M.Permission M.View) (e : SignedRecord M.Permission M.Own) → IfSome (record_offence M.rules M.Permission.eq belongs v e) IsPossible }

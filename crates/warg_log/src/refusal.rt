@@ -66,7 +66,7 @@ pub enum Refusal<P> {
 }
 
 impl<P> Refusal<P> {
-    /// Whether it stands for want of memory, and says nothing of the record.
+    /// Whether it stands for out of memory, and says nothing of the record.
     pub fn is_out_of_memory(&self) -> bool
         ensures told { result ≡ is_none (offence_of self.now) }
         ensures only { IsTrue result ↔ (self.now ≡ Refusal.OutOfMemory) }

@@ -43,7 +43,7 @@ pub enum ValidationError {
         /// The id of the key that lacks it.
         key_id: KeyID,
     },
-    /// The signature is not the signer's. The case that memory was wanting is never held here.
+    /// The signature is not the signer's. The case of being out of memory is never held here.
     #[error("unable to verify signature: {0}")]
     SignatureError(SignatureError),
     /// The record before is named by another algorithm. Never answered, since there is one algorithm.

@@ -213,7 +213,7 @@ impl Matter for NamespaceMap {
     }
 }
 
-/// The same again.
+/// A copy.
 fn copy_namespaces(namespaces: &NamespaceMap) -> Result<NamespaceMap, AllocError>
     ensures { IfOk result (λ copy. copy ≡ namespaces.now) }
 {

@@ -44,7 +44,7 @@ pub fn distinct_versions()
     ensures { (b : Belief) (es : List Letter) → IsAccepted kind b es → AreDistinct (versions (kind.view_of es).whole.matter) }
 {}
 
-/// Errors are equal exactly if they tell the same offence, and only want of memory tells none.
+/// Errors are equal exactly if they tell the same offence, and only out of memory tells none.
 pub fn errors_tell_apart()
     ensures apart { (e f : ValidationError) → (⟦<crate::error::ValidationError as PartialEq>⟧.eq e f ≡ true) ↔ (offence_of e ≡ offence_of f) }
     ensures memory { (e : ValidationError) → (offence_of e ≡ None) ↔ (e ≡ OutOfMemory) }
@@ -74,7 +74,7 @@ pub fn states_tell_history()
         IfOk answer (λ s. IsAccepted kind b (read_all read strings) × TellsHistory s (read_all read strings)) }
 {}
 
-/// What is wrong with a record is never want of memory within another error, nor a second algorithm:
+/// What is wrong with a record is never out of memory within another error, nor a second algorithm:
 /// no record is refused by `IncorrectHashAlgorithm`, or by a `SignatureError` but `Refused`.
 pub fn offences_are_possible()
     ensures { (b : Belief) (v : View) (e : SignedRecord Permission PackageAct) → IfSome (record_offence b v e) IsPossible }

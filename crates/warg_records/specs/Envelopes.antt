@@ -13,7 +13,7 @@ use Rattle.warg_records.specs.Letters.{Letter, Held}
 use Rattle.warg_records.specs.declared.proto_envelope.error.ParseEnvelopeError.{ParseEnvelopeError}
 use Rattle.warg_records.specs.declared.proto_envelope.error.ParseEnvelopeError.TheVariants as error
 
--- An envelope's first fault. No bytes have the two last: any text is a key id, and want of memory is never the
+-- An envelope's first fault. No bytes have the two last: any text is a key id, and out of memory is never the
 -- contents' own.
 pub data EnvelopeFault (F : Type 0) : Type 0 where
   ProtobufEnvelope : WireError → EnvelopeFault F
@@ -26,7 +26,7 @@ abbrev pub contents_fault_of : {F : Type 0} → Option F → EnvelopeFault F
 contents_fault_of (Some f) = Contents f
 contents_fault_of None = ContentsOutOfMemory
 
--- the fault that an error tells; want of memory tells none
+-- the fault that an error tells; out of memory tells none
 abbrev pub envelope_fault_of : {F : Type 0} → (DecodeError → Option F) → ParseEnvelopeError → Option (EnvelopeFault F)
 envelope_fault_of fault_of (error.ProtobufEnvelope w) = Some (ProtobufEnvelope w)
 envelope_fault_of fault_of (error.Contents e) = Some (contents_fault_of (fault_of e))
@@ -61,7 +61,7 @@ envelope_message letter = record { contents = letter.content; key_id = letter.ke
 abbrev pub IsHonest : {C M F : Type 0} → (List ℕ → Result M F) → (C → M) → Held C → Type 0
 IsHonest read meaning e = read e.sealed.content ≡ Ok (meaning e.contents)
 
--- the answer is what the bytes say, want of memory aside
+-- the answer is what the bytes say, out of memory aside
 abbrev pub IsOpening : {C M F : Type 0} → (List ℕ → Result M F) → (C → M) → (DecodeError → Option F) → List ℕ → Result (Held C) ParseEnvelopeError → Type 0
 IsOpening read meaning fault_of bytes (Ok e) = (envelope_of read bytes ≡ Ok e.sealed) × IsHonest read meaning e
 IsOpening read meaning fault_of bytes (Err e) = TellsFault (envelope_of read bytes) (envelope_fault_of fault_of e)

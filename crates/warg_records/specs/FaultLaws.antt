@@ -9,7 +9,7 @@ abbrev IsTold : Option RecordFault → Type 0
 IsTold (Some f) = Unit {0}
 IsTold None = ⊥
 
--- want of memory alone tells none
+-- out of memory alone tells none
 pub fault_of-memory : (e : DecodeError) → fault_of e ≡ None → e ≡ error.OutOfMemory
 fault_of-memory (error.Wire w) h = absurd (subst IsTold h tt)
 fault_of-memory (error.Prev w) h = absurd (subst IsTold h tt)

@@ -1,4 +1,4 @@
--- Why bytes are no record or no envelope. Want of memory is none of these.
+-- Why bytes are no record or no envelope. Out of memory is none of these.
 use Rattle.std.specs.Prelude.{◌≡◌, ℤ, Option, Some, None, Result, Ok, Err}
 use Rattle.warg_crypto.specs.declared.coding.WireFault.{WireFault}
 use Rattle.warg_crypto.specs.declared.coding.DecodeError.{DecodeError}
@@ -19,7 +19,7 @@ pub data RecordFault : Type 0 where
   Version : RecordFault
   ContentHash : AnyHashError → RecordFault
 
--- the fault that an error tells; want of memory tells none
+-- the fault that an error tells; out of memory tells none
 abbrev pub fault_of : DecodeError → Option RecordFault
 fault_of (error.Wire w) = Some (Wire w)
 fault_of (error.Prev h) = Some (Prev h)
@@ -38,7 +38,7 @@ abbrev pub TellsFault : {X F : Type 0} → Result X F → Option F → Type 0
 TellsFault said None = Unit {0}
 TellsFault said (Some f) = said ≡ Err f
 
--- what was answered, seen by view, is what is said, want of memory aside
+-- what was answered, seen by view, is what is said, out of memory aside
 abbrev pub IsReading : {X Y E F : Type 0} → (X → Y) → (E → Option F) → Result Y F → Result X E → Type 0
 IsReading view told said (Ok x) = said ≡ Ok (view x)
 IsReading view told said (Err e) = TellsFault said (told e)

@@ -1,4 +1,4 @@
--- Which error of an envelope a part's error is. Want of memory stays want of memory.
+-- Which error of an envelope a part's error is. Out of memory stays out of memory.
 use Rattle.warg_crypto.specs.declared.coding.DecodeError.{DecodeError}
 use Rattle.warg_crypto.specs.declared.coding.DecodeError.TheVariants as contents
 use Rattle.warg_crypto.specs.declared.signing.error.SignatureParseError.{SignatureParseError}

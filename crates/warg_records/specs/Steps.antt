@@ -112,7 +112,7 @@ wire_fault_of error.OutOfMemory = wire.OutOfMemory
 abbrev pub message_of : {V : Type 0} → Result V WireError → Result V RecordFault
 message_of read = named (λ e. Wire (wire_fault_of e)) read
 
--- the error of bytes that are no message; want of memory stays want of memory
+-- the error of bytes that are no message; out of memory stays out of memory
 abbrev pub wire_error_of : WireError → DecodeError
 wire_error_of error.OutOfMemory = decoding.OutOfMemory
 wire_error_of e = decoding.Wire (wire_fault_of e)

@@ -67,7 +67,7 @@ pub fn envelope_reading_computes()
     record_reading_computes();
 }
 
-/// No reading of bytes ends with want of memory, at the top or inside another fault.
+/// No reading of bytes ends with out of memory, at the top or inside another fault.
 pub fn no_fault_of_memory()
     ensures of_package { (content : List ℕ) → IfErr (package_record_of content) IsOfContent }
     ensures of_operator { (content : List ℕ) → IfErr (operator_record_of content) IsOfContent }

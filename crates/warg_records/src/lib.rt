@@ -46,7 +46,7 @@ pub trait Record: Decode + Drop {
     // Why content bytes are no record.
     ghost Fault: { Type 0 };
 
-    // The fault that an error tells; want of memory alone tells none.
+    // The fault that an error tells; out of memory alone tells none.
     ghost fault_of: { DecodeError → Option Fault };
 
     // What content bytes say, or their first fault.
@@ -66,7 +66,7 @@ pub trait Record: Decode + Drop {
     /// What is decoded is what the content bytes say, or an error that tells their fault.
     ghost decodes_reading: { (b : List ℕ) (r : Result Self DecodeError) → Self.decodes b r → IsReading meaning fault_of (read b) r };
 
-    /// Want of memory tells none.
+    /// Out of memory tells none.
     ghost memory_tells_none: { fault_of error.OutOfMemory ≡ None };
 
     /// It is the one error that tells none.

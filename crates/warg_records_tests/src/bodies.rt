@@ -24,7 +24,7 @@ fn copied(rt: &impl Abort, body: &ProtoEnvelopeBody) -> ProtoEnvelopeBody {
     body.try_clone().expect(rt, "memory")
 }
 
-// The envelope of the body; its own body is the same again.
+// The envelope of the body; its own body is a copy.
 fn is_opened(rt: &impl Abort, alloc: Global, body: &ProtoEnvelopeBody) {
     let read = ProtoEnvelope::<OperatorRecord>::from_body(alloc, copied(rt, body));
     let envelope = read.expect(rt, "an envelope");

@@ -11,7 +11,7 @@ use warg_crypto::hash::AnyHashError;
 use warg_crypto::signing::SignatureParseError;
 use warg_protobuf::WireError;
 
-/// Why bytes are no envelope: the fault that stands first, or want of memory.
+/// Why bytes are no envelope: the fault that stands first, or out of memory.
 #[derive(Clone, Copy, Debug, PartialEq, Eq, Error)]
 pub enum ParseEnvelopeError {
     /// The bytes are no outer message.

@@ -161,7 +161,7 @@ impl PackageName {
         self.text.as_str()
     }
 
-    /// The same again.
+    /// A copy.
     pub fn try_clone(&self) -> Result<PackageName, AllocError>
         ensures { IfOk result (λ copy. copy ≡ self.now) }
     {
