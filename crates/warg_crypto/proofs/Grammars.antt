@@ -12,7 +12,7 @@ use Rattle.hex.specs.declared.error.FromHexError.{FromHexError}
 use Rattle.warg_crypto.specs.HashText.{hash_of, hash_of_bytes, hash_of_digits, is_colon, IsHashText}
 use Rattle.warg_crypto.specs.Keys.{key_fault, public_key_of, signature_fault, signature_of, with_fault}
 use Rattle.warg_crypto.specs.Names.{no_colon-before_first, some_bytes, tag_of-parts}
-use Rattle.warg_crypto.specs.Tags.{IsKeyText, IsName, Tag, tag_of, tag_or_bad}
+use Rattle.warg_crypto.specs.NamedBytes.{IsKeyText, IsName, NamedBytes, tag_of, tag_or_bad}
 use Rattle.warg_crypto.specs.declared.hash.AnyHash.{AnyHash}
 use Rattle.warg_crypto.specs.declared.hash.AnyHashError.{AnyHashError}
 use Rattle.warg_crypto.specs.declared.hash.AnyHashError.TheVariants as fault
@@ -87,21 +87,21 @@ hash_of-IsHashText text h = (
   λ g. ap hash_of g.whole ∙ hash_read g.digits h (digits_read h.algorithm g.digits h.bytes g.count g.spell),
 )
 
-abbrev says : Tag → Result Tag TagError
+abbrev says : NamedBytes → Result NamedBytes TagError
 says t = Ok t
 
-abbrev name_said : Result Tag TagError → List ℕ
+abbrev name_said : Result NamedBytes TagError → List ℕ
 name_said (Ok x) = x.name
 name_said (Err e) = []
 
-abbrev bytes_said : Result Tag TagError → List ℕ
+abbrev bytes_said : Result NamedBytes TagError → List ℕ
 bytes_said (Ok x) = x.bytes
 bytes_said (Err e) = []
 
-same_tag_parts : (name bytes : List ℕ) (t : Tag) → says (record { name = name; bytes = bytes }) ≡ says t → (name ≡ t.name) × (bytes ≡ t.bytes)
+same_tag_parts : (name bytes : List ℕ) (t : NamedBytes) → says (record { name = name; bytes = bytes }) ≡ says t → (name ≡ t.name) × (bytes ≡ t.bytes)
 same_tag_parts name bytes t e = (ap name_said e, ap bytes_said e)
 
-tag_cut : (text : List ℕ) (t : Tag) (missing empty : Bool) (decoded : Result (List ℕ) NoBase64)
+tag_cut : (text : List ℕ) (t : NamedBytes) (missing empty : Bool) (decoded : Result (List ℕ) NoBase64)
     → (position_or_len is_colon text == length text) ≡ missing
     → (length (before_first is_colon text) == 0) ≡ empty
     → decode_of standard (after_first is_colon text) ≡ decoded
@@ -120,22 +120,22 @@ tag_cut text t false false (Ok bytes) m n d is =
     }
 
 -- a text says a name and bytes exactly if the grammar says so
-tag_of-IsKeyText : (text : List ℕ) (t : Tag) → (tag_of text ≡ Ok t) ↔ IsKeyText text t
+tag_of-IsKeyText : (text : List ℕ) (t : NamedBytes) → (tag_of text ≡ Ok t) ↔ IsKeyText text t
 tag_of-IsKeyText text t = (
   λ e. tag_cut text t (position_or_len is_colon text == length text) (length (before_first is_colon text) == 0) (decode_of standard (after_first is_colon text)) refl refl refl e,
   λ g. ap tag_of g.whole ∙ tag_of-parts t g.behind g.named g.spell,
 )
 
-abbrev tag_or : {E : Type 0} → Tag → Result Tag E → Tag
+abbrev tag_or : {E : Type 0} → NamedBytes → Result NamedBytes E → NamedBytes
 tag_or t (Ok x) = x
 tag_or t (Err e) = t
 
-plain_ok : {E : Type 0} (f : TagError → E) (r : Result Tag TagError) (t : Tag) → with_fault f r ≡ Ok t → r ≡ Ok t
+plain_ok : {E : Type 0} (f : TagError → E) (r : Result NamedBytes TagError) (t : NamedBytes) → with_fault f r ≡ Ok t → r ≡ Ok t
 plain_ok f (Ok x) t e = ap says (ap (tag_or t) e)
 plain_ok f (Err x) t e = cc
 
-pub public_key_of-IsKeyText : (text : List ℕ) (t : Tag) → (public_key_of text ≡ Ok t) ↔ IsKeyText text t
+pub public_key_of-IsKeyText : (text : List ℕ) (t : NamedBytes) → (public_key_of text ≡ Ok t) ↔ IsKeyText text t
 public_key_of-IsKeyText text t = (λ e. (tag_of-IsKeyText text t).0 (plain_ok key_fault (tag_of text) t e), λ g. ap (with_fault key_fault) ((tag_of-IsKeyText text t).1 g))
 
-pub signature_of-IsKeyText : (text : List ℕ) (t : Tag) → (signature_of text ≡ Ok t) ↔ IsKeyText text t
+pub signature_of-IsKeyText : (text : List ℕ) (t : NamedBytes) → (signature_of text ≡ Ok t) ↔ IsKeyText text t
 signature_of-IsKeyText text t = (λ e. (tag_of-IsKeyText text t).0 (plain_ok signature_fault (tag_of text) t e), λ g. ap (with_fault signature_fault) ((tag_of-IsKeyText text t).1 g))

@@ -1,6 +1,8 @@
 pub mod Visits
 pub mod PrefixLemmas
 pub mod Grammars
+pub mod DigitLemmas
 pub mod NumberTexts
 pub mod Lists
 pub mod Pairs
+pub mod JsonTextLaws

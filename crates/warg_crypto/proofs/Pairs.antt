@@ -1,5 +1,6 @@
 -- Pairs of members, read one by one.
-use Rattle.std.specs.Prelude.{ℕ, ◌≡◌, List, [], ◌∷◌, ◌++◌, String, string_bytes, Result, Ok}
+use Rattle.std.specs.Prelude.{ℕ, ◌≡◌, List, [], ◌∷◌, ◌++◌, String, string_bytes, Result, Ok, refl}
+use Rattle.std.proofs.Common.{ap}
 use Rattle.std.specs.declared.alloc.Global.{Global}
 use Rattle.std.specs.declared.cmp.Ordering.TheVariants.{Less}
 use Rattle.std.specs.Cmp.Lexicographic.{slice_cmp}
@@ -12,7 +13,7 @@ use Rattle.serde_json.specs.Data.{Data, Members, member}
 use Rattle.serde_json.specs.View.{members_view}
 use Rattle.serde_json.specs.declared.value.Value.{Value}
 use Rattle.warg_crypto.specs.declared.json.error.JsonError.{JsonError}
-use Rattle.warg_crypto.specs.Pairs.{AreAscending, names_of, pairs_of}
+use Rattle.warg_crypto.specs.Pairs.{AreAscending, names_of, pairs_of, plain_pairs}
 use Rattle.warg_crypto.proofs.Lists.{before, before_one}
 
 pub before_member : {K A : Type 0} (named : List ℕ → Result K JsonError) (reads : Data → Result A JsonError) (done : List (K × A)) (name : List ℕ) (k : K) (d : Data) (x : A) (more : Members)
@@ -38,3 +39,9 @@ ascending (e ∷ es) h = (above_all e.0 es h.0, ascending es h.1)
 pub none_ascend : AreAscending []
 unfolding IsStrictlySortedBy
 none_ascend = tt
+
+-- one more pair as plain data
+pub plain_more : {K V A B : Type 0} (name : K → A) (value : V → B) (es : List (K × V)) (e : K × V)
+    → plain_pairs name value (es ++ e ∷ []) ≡ plain_pairs name value es ++ (name e.0, value e.1) ∷ []
+plain_more name value [] e = refl
+plain_more name value (f ∷ es) e = ap (λ more. (name f.0, value f.1) ∷ more) (plain_more name value es e)

@@ -21,7 +21,8 @@ ok_value (Ok bytes) h = (bytes, refl)
 ok_value (Err e) h = cc h
 
 -- a text decodes exactly if it is pairs of digits
-pub IsOk-decode_of : (digits : List ℕ) → IsOk (decode_of digits) ↔ ((length digits % 2 ≡ 0) × AllPass is_hex_digit digits)
+pub IsOk-decode_of : (digits : List ℕ) → IsOk (decode_of digits)
+    ↔ ((length digits % 2 ≡ 0) × AllPass is_hex_digit digits)
 IsOk-decode_of digits = (
   λ h.
       let r = ok_value (decode_of digits) h in
@@ -34,14 +35,17 @@ by_bytes-bad : (count : ℕ) (r : Result (List ℕ) FromHexError) → (IsOk r �
 by_bytes-bad count (Ok bytes) h = absurd (h refl)
 by_bytes-bad count (Err e) h = refl
 
-by_bytes-long : (count : ℕ) (r : Result (List ℕ) FromHexError) → IsOk r → (count ≡ 64 → ⊥) → hash_of_bytes count r ≡ Err fault.BadLength
+by_bytes-long : (count : ℕ) (r : Result (List ℕ) FromHexError) → IsOk r → (count ≡ 64 → ⊥)
+    → hash_of_bytes count r ≡ Err fault.BadLength
 by_bytes-long count (Ok bytes) ok h = grind (arith)
 by_bytes-long count (Err e) ok h = cc ok
 
-pub hash_of_digits-bad : (digits : List ℕ) → (((length digits % 2 ≡ 0) × AllPass is_hex_digit digits) → ⊥) → hash_of_digits digits ≡ Err fault.BadHex
+pub hash_of_digits-bad : (digits : List ℕ) → (((length digits % 2 ≡ 0) × AllPass is_hex_digit digits) → ⊥)
+    → hash_of_digits digits ≡ Err fault.BadHex
 hash_of_digits-bad digits h = by_bytes-bad (length digits) (decode_of digits) (λ ok. h ((IsOk-decode_of digits).0 ok))
 
-pub hash_of_digits-long : (digits : List ℕ) → ((length digits % 2 ≡ 0) × AllPass is_hex_digit digits) → (length digits ≡ 64 → ⊥) → hash_of_digits digits ≡ Err fault.BadLength
+pub hash_of_digits-long : (digits : List ℕ) → ((length digits % 2 ≡ 0) × AllPass is_hex_digit digits)
+    → (length digits ≡ 64 → ⊥) → hash_of_digits digits ≡ Err fault.BadLength
 hash_of_digits-long digits pairs h = by_bytes-long (length digits) (decode_of digits) ((IsOk-decode_of digits).1 pairs) h
 
 pub IsAscii-lower_digits : IsAscii lower_digits

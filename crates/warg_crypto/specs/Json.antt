@@ -1,5 +1,8 @@
 -- What is written and read of JSON: each reader is a function to its value, or the first fault.
 use Rattle.std.specs.Prelude.{ℕ, ◌≡◌, ◌⊎◌, List, Option, Some, None, Result, Ok, Err, MatchResult}
+use Rattle.std.specs.List.{AllByRecursion}
+use Rattle.semver.specs.Identifiers.{parts_text}
+use Rattle.semver.specs.Parse.{version_parts}
 use Rattle.serde_json.specs.Data.{Data, Members, Items}
 use Rattle.serde_json.specs.Find.{as_array, as_object, as_str, get_member}
 use Rattle.warg_crypto.specs.declared.json.error.JsonError.{JsonError}
@@ -18,6 +21,19 @@ pub record ReadsBack {A : Type 0} (reads : Data → Result A JsonError) (same : 
   pub again : A
   pub is : reads d ≡ Ok again
   pub equal : same x again
+
+-- A version: its three numbers, the text before its release and the text of its build.
+abbrev pub Version : Type 0
+Version = ℕ × ℕ × ℕ × List ℕ × List ℕ
+
+-- the text of each version reads back as the version
+abbrev pub AreReadBack : List Version → Type 0
+AreReadBack versions = AllByRecursion (λ v. version_parts (parts_text v) ≡ Ok v) versions
+
+-- what was written of x reads back as the same
+abbrev pub IsReadBack : {A : Type 0} → (A → Result Data JsonError) → (Data → Result A JsonError) → (A → A → Type 0) → A
+    → Type 0
+IsReadBack writes reads same x = (d : Data) → writes x ≡ Ok d → ReadsBack reads same x d
 
 -- what is written
 abbrev pub wrote : {A : Type 0} → A → Result A JsonError

@@ -1,14 +1,12 @@
 -- The JSON of the values that are written as their text.
-use Rattle.std.specs.Prelude.{ℕ, ◌≡◌, List, length, Result}
-use Rattle.base64.specs.GeneralPurpose as code
-use Rattle.hex.specs.Hex.{IsBytes}
+use Rattle.std.specs.Prelude.{ℕ, List, Result}
 use Rattle.serde_json.specs.Data.{Data, string}
 use Rattle.warg_crypto.specs.declared.hash.AnyHash.{AnyHash}
 use Rattle.warg_crypto.specs.declared.hash.HashAlgorithm.{HashAlgorithm}
 use Rattle.warg_crypto.specs.declared.json.error.JsonError.{JsonError}
 use Rattle.warg_crypto.specs.HashText.{algorithm_of, algorithm_text, hash_of, hash_text}
 use Rattle.warg_crypto.specs.Json.{◌>>=◌, or_bad_text, text_in, wrote}
-use Rattle.warg_crypto.specs.Tags.{IsName, Tag, tag_text}
+use Rattle.warg_crypto.specs.NamedBytes.{NamedBytes, tag_text}
 use Rattle.warg_crypto.specs.Keys.{public_key_of, signature_of}
 use Rattle.warg_crypto.specs.Times.{Time}
 use Rattle.warg_crypto.specs.TimeText.{time_of, time_text}
@@ -25,11 +23,6 @@ hash_json h = wrote (string (hash_text h))
 abbrev pub hash_in : Data → Result AnyHash JsonError
 hash_in d = text_in d >>= λ text. or_bad_text (hash_of text)
 
--- thirty-two bytes
-pub record IsHash (h : AnyHash) : Type 0 where
-  pub len : length h.bytes ≡ 32
-  pub bytes : IsBytes h.bytes
-
 -- a key id, which is any text
 abbrev pub key_id_json : List ℕ → Result Data JsonError
 key_id_json id = wrote (string id)
@@ -37,22 +30,17 @@ key_id_json id = wrote (string id)
 abbrev pub key_id_in : Data → Result (List ℕ) JsonError
 key_id_in d = text_in d
 
-abbrev pub key_json : Tag → Result Data JsonError
+abbrev pub key_json : NamedBytes → Result Data JsonError
 key_json key = wrote (string (tag_text key))
 
-abbrev pub key_in : Data → Result Tag JsonError
+abbrev pub key_in : Data → Result NamedBytes JsonError
 key_in d = text_in d >>= λ text. or_bad_text (public_key_of text)
 
-abbrev pub signature_json : Tag → Result Data JsonError
+abbrev pub signature_json : NamedBytes → Result Data JsonError
 signature_json signature = wrote (string (tag_text signature))
 
-abbrev pub signature_in : Data → Result Tag JsonError
+abbrev pub signature_in : Data → Result NamedBytes JsonError
 signature_in d = text_in d >>= λ text. or_bad_text (signature_of text)
-
--- a name, and bytes
-pub record IsTag (t : Tag) : Type 0 where
-  pub name : IsName t.name
-  pub bytes : code.IsBytes t.bytes
 
 abbrev pub time_json : Time → Result Data JsonError
 time_json t = time_text t >>= λ text. wrote (string text)

@@ -1,6 +1,6 @@
 -- The texts of keys and of signatures.
 use Rattle.std.specs.Prelude.{ℕ, List, Result, Ok, Err}
-use Rattle.warg_crypto.specs.Tags.{Tag, tag_of}
+use Rattle.warg_crypto.specs.NamedBytes.{NamedBytes, tag_of}
 use Rattle.warg_crypto.specs.declared.signing.tagged.TagError.{TagError}
 use Rattle.warg_crypto.specs.declared.signing.tagged.TagError.TheVariants as fault
 use Rattle.warg_crypto.specs.declared.signing.error.KeyParseError.{KeyParseError}
@@ -22,14 +22,14 @@ signature_fault fault.EmptyAlgorithm = signature.EmptyAlgorithm
 signature_fault fault.BadBase64 = signature.BadBase64
 signature_fault fault.OutOfMemory = signature.OutOfMemory
 
-abbrev pub with_fault : {E : Type 0} → (TagError → E) → Result Tag TagError → Result Tag E
+abbrev pub with_fault : {E : Type 0} → (TagError → E) → Result NamedBytes TagError → Result NamedBytes E
 with_fault named (Ok tag) = Ok tag
 with_fault named (Err e) = Err (named e)
 
 -- the key that a text says, or its first fault
-abbrev pub public_key_of : List ℕ → Result Tag KeyParseError
+abbrev pub public_key_of : List ℕ → Result NamedBytes KeyParseError
 public_key_of text = with_fault key_fault (tag_of text)
 
 -- the signature that a text says, or its first fault
-abbrev pub signature_of : List ℕ → Result Tag SignatureParseError
+abbrev pub signature_of : List ℕ → Result NamedBytes SignatureParseError
 signature_of text = with_fault signature_fault (tag_of text)

@@ -1,7 +1,7 @@
 pub mod HashText
 pub mod RecordIds
 pub mod Visits
-pub mod Tags
+pub mod NamedBytes
 pub mod Same
 pub mod Keys
 pub mod Signed
@@ -13,7 +13,6 @@ pub mod Names
 pub mod Json
 pub mod Steps
 pub mod JsonTexts
-pub mod JsonTextLaws
 pub mod Members
 pub mod MemberLaws
 pub mod Numbers
@@ -21,6 +20,5 @@ pub mod Lists
 pub mod ListLaws
 pub mod Pairs
 pub mod PairsLaws
-pub mod NumberLaws
 pub mod TimeText
 pub mod TimeTextLaws

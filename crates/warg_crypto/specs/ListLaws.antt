@@ -33,7 +33,8 @@ module _ {A : Type 0} (writes : A → Result Data JsonError) (reads : Data → R
         equal = (one.equal, more.equal);
       }
 
-  pub list_reads_back : (xs : List A) (d : Data) → Each is_written xs → list_json writes xs ≡ Ok d → ReadsBack (list_in reads) (SameLists same) xs d
+  pub list_reads_back : (xs : List A) (d : Data) → Each is_written xs → list_json writes xs ≡ Ok d
+      → ReadsBack (list_in reads) (SameLists same) xs d
   list_reads_back xs d own e =
       let w = bind_ok (data_of writes xs) _ d e in
       let v = values_back xs w.0 own w.1 in

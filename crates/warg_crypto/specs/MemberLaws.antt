@@ -1,31 +1,15 @@
 -- What was written as a member reads back.
-use Rattle.std.specs.Prelude.{ℕ, ◌≡◌, List, ⊤, Option, Some, None, Result, Ok, Err, refl}
+use Rattle.std.specs.Prelude.{◌≡◌, ⊤, Option, Some, None, Result, Ok, Err, refl}
 use Rattle.std.proofs.Common.{sym, ap, ◌∙◌, subst}
-use Rattle.serde_json.specs.Data.{Data, Members, null, boolean, number, string, array, object, put}
+use Rattle.serde_json.specs.Data.{Data, null, boolean, number, string, array, object}
 use Rattle.warg_crypto.specs.declared.json.error.JsonError.{JsonError}
-use Rattle.warg_crypto.specs.Json.{◌>>=◌, ReadsBack, wrote}
-use Rattle.warg_crypto.specs.Members.{option_json, optional, put_json, put_option, put_some}
+use Rattle.warg_crypto.specs.Json.{ReadsBack, wrote}
+use Rattle.warg_crypto.specs.Members.{option_json, optional}
 use Rattle.warg_crypto.specs.Steps.{ok_same, bind_ok}
 
--- a member was put, and then the rest was written
-pub put_then : {A : Type 0} (writes : A → Result Data JsonError) (name : List ℕ) (x : A) (ms : Members) (rest : Members → Result Data JsonError) (d : Data)
-    → (put_json writes name x ms >>= rest) ≡ Ok d → (j : Data) × (writes x ≡ Ok j) × (rest (put name j ms) ≡ Ok d)
-put_then writes name x ms rest d e = by (writes x) e
-  where
-    by : (r : Result Data JsonError) → ((r >>= λ j. wrote (put name j ms)) >>= rest) ≡ Ok d → (j : Data) × (r ≡ Ok j) × (rest (put name j ms) ≡ Ok d)
-    by (Ok j) is = (j, refl, is)
-    by (Err f) is = cc is
-
-pub put_option_then : {A : Type 0} (writes : A → Result Data JsonError) (name : List ℕ) (o : Option A) (ms : Members) (rest : Members → Result Data JsonError) (d : Data)
-    → (put_option writes name o ms >>= rest) ≡ Ok d → (j : Option Data) × (option_json writes o ≡ Ok j) × (rest (put_some name j ms) ≡ Ok d)
-put_option_then writes name o ms rest d e = by (option_json writes o) e
-  where
-    by : (r : Result (Option Data) JsonError) → ((r >>= λ j. wrote (put_some name j ms)) >>= rest) ≡ Ok d → (j : Option Data) × (r ≡ Ok j) × (rest (put_some name j ms) ≡ Ok d)
-    by (Ok j) is = (j, refl, is)
-    by (Err f) is = cc is
-
 -- what reads back as an equal value reads as the value
-pub read_again : {A : Type 0} (reads : Data → Result A JsonError) (x : A) (d : Data) → ReadsBack reads (λ a b. a ≡ b) x d → reads d ≡ Ok x
+pub read_again : {A : Type 0} (reads : Data → Result A JsonError) (x : A) (d : Data)
+    → ReadsBack reads (λ a b. a ≡ b) x d → reads d ≡ Ok x
 read_again reads x d r = r.is ∙ ap wrote (sym r.equal)
 
 -- both are missing, or the values are the same
@@ -51,7 +35,8 @@ module _ {A : Type 0} (writes : A → Result Data JsonError) (reads : Data → R
   some_read_back (array ds) x h = rw h refl
   some_read_back (object ms) x h = rw h refl
 
-  pub optional_reads_back : (o : Option A) (d : Option Data) → ((x : A) → o ≡ Some x → is_written x) → option_json writes o ≡ Ok d → OptionReadsBack reads same o d
+  pub optional_reads_back : (o : Option A) (d : Option Data) → ((x : A) → o ≡ Some x → is_written x)
+      → option_json writes o ≡ Ok d → OptionReadsBack reads same o d
   optional_reads_back None d own is = record { again = None; is = subst (λ (x : Option Data). optional reads x ≡ Ok None) (ok_same _ _ is) refl; equal = tt }
   optional_reads_back (Some x) d own is =
       let w = bind_ok (writes x) _ d is in

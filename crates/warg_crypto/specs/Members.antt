@@ -42,5 +42,6 @@ abbrev pub put_json : {A : Type 0} → (A → Result Data JsonError) → List �
 put_json writes name x ms = writes x >>= λ d. wrote (put name d ms)
 
 -- the members, with the JSON of what is there at that name
-abbrev pub put_option : {A : Type 0} → (A → Result Data JsonError) → List ℕ → Option A → Members → Result Members JsonError
+abbrev pub put_option : {A : Type 0} → (A → Result Data JsonError) → List ℕ → Option A → Members
+    → Result Members JsonError
 put_option writes name o ms = option_json writes o >>= λ d. wrote (put_some name d ms)

@@ -9,7 +9,7 @@ use Rattle.std.proofs.Math.Seq.{take-append_seam, drop-append-add}
 use Rattle.base64.specs.declared.decode.DecodeError.{DecodeError}
 use Rattle.base64.specs.Engines.{standard}
 use Rattle.base64.proofs.EngineFacts.{decode_of-encode_of}
-use Rattle.warg_crypto.specs.Tags.{Tag, IsName, tag_of, tag_text, tag_of_parts}
+use Rattle.warg_crypto.specs.NamedBytes.{NamedBytes, IsName, tag_of, tag_text, tag_of_parts}
 use Rattle.warg_crypto.specs.HashText.{is_colon}
 use Rattle.warg_crypto.specs.Keys.{key_fault, public_key_of, signature_fault, signature_of, with_fault}
 
@@ -23,22 +23,26 @@ pub some_bytes : (text : List ℕ) (empty : Bool) → empty ≡ (length text == 
 some_bytes text empty e h = grind (arith)
 
 -- the first colon stands after the name
-pub colon_after : (name rest : List ℕ) → list_any is_colon name ≡ false → position_or_len is_colon (name ++ 58 ∷ rest) ≡ length name
+pub colon_after : (name rest : List ℕ) → list_any is_colon name ≡ false
+    → position_or_len is_colon (name ++ 58 ∷ rest) ≡ length name
 colon_after [] rest h = refl
 colon_after (b ∷ name) rest h = grind (arith, colon_after name rest)
 
-parts_read : (missing : Bool) (name front bytes : List ℕ) (decoded : Result (List ℕ) DecodeError) → missing ≡ false → front ≡ name → 0 < length name → decoded ≡ Ok bytes
+parts_read : (missing : Bool) (name front bytes : List ℕ) (decoded : Result (List ℕ) DecodeError) → missing ≡ false
+    → front ≡ name → 0 < length name → decoded ≡ Ok bytes
     → tag_of_parts missing front decoded ≡ Ok (record { name = name; bytes = bytes })
 parts_read missing name front bytes decoded m f some d = rw (m, f, d) (grind (arith))
 
-inside : (n len : ℕ) (text name : List ℕ) (p : ℕ) → p ≡ length name → length text ≡ length name + (n + 1) → (p == length text) ≡ false
+inside : (n len : ℕ) (text name : List ℕ) (p : ℕ) → p ≡ length name → length text ≡ length name + (n + 1)
+    → (p == length text) ≡ false
 inside n len text name p e l = grind (arith)
 
 length_with : (name behind : List ℕ) → length (name ++ 58 ∷ behind) ≡ length name + (length behind + 1)
 length_with name behind = omega (arith, length-append name (58 ∷ behind))
 
 -- a name, a colon, and base64 that spells the bytes
-pub tag_of-parts : (t : Tag) (behind : List ℕ) → IsName t.name → decode_of standard behind ≡ Ok t.bytes → tag_of (t.name ++ 58 ∷ behind) ≡ Ok t
+pub tag_of-parts : (t : NamedBytes) (behind : List ℕ) → IsName t.name → decode_of standard behind ≡ Ok t.bytes
+    → tag_of (t.name ++ 58 ∷ behind) ≡ Ok t
 tag_of-parts t behind own spell =
     let text = t.name ++ 58 ∷ behind in
     let at : position_or_len is_colon text ≡ length t.name = colon_after t.name behind own.no_colon in
@@ -48,13 +52,13 @@ tag_of-parts t behind own spell =
     parts_read _ t.name _ t.bytes _ (inside (length behind) 0 text t.name _ at (length_with t.name behind)) front own.nonempty decoded
 
 -- what is written of a name and bytes reads back
-pub tag_of-tag_text : (t : Tag) → IsName t.name → IsBytes t.bytes → tag_of (tag_text t) ≡ Ok t
+pub tag_of-tag_text : (t : NamedBytes) → IsName t.name → IsBytes t.bytes → tag_of (tag_text t) ≡ Ok t
 tag_of-tag_text t own fits = tag_of-parts t (encode_of standard t.bytes) own (decode_of-encode_of standard t.bytes refl fits)
 
 -- what is written of a key reads back
-pub public_key_of-tag_text : (t : Tag) → IsName t.name → IsBytes t.bytes → public_key_of (tag_text t) ≡ Ok t
+pub public_key_of-tag_text : (t : NamedBytes) → IsName t.name → IsBytes t.bytes → public_key_of (tag_text t) ≡ Ok t
 public_key_of-tag_text t own fits = ap (with_fault key_fault) (tag_of-tag_text t own fits)
 
 -- what is written of a signature reads back
-pub signature_of-tag_text : (t : Tag) → IsName t.name → IsBytes t.bytes → signature_of (tag_text t) ≡ Ok t
+pub signature_of-tag_text : (t : NamedBytes) → IsName t.name → IsBytes t.bytes → signature_of (tag_text t) ≡ Ok t
 signature_of-tag_text t own fits = ap (with_fault signature_fault) (tag_of-tag_text t own fits)

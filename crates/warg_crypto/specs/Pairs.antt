@@ -1,6 +1,6 @@
 -- Objects as maps from names to values: their pairs, in the order of the members, which is the byte
 -- order of the names.
-use Rattle.std.specs.Prelude.{ℕ, ◌≡◌, List, [], ◌∷◌, Option, Some, None, Result, Ok}
+use Rattle.std.specs.Prelude.{ℕ, ◌≡◌, List, [], ◌∷◌, map, Option, Some, None, Result, Ok}
 use Rattle.std.specs.Cmp.Lexicographic.{slice_cmp}
 use Rattle.std.specs.List.Sorted.{IsStrictlySortedBy}
 use Rattle.std.specs.Ordering.{nat_cmp}
@@ -17,6 +17,10 @@ names_of (member name d more) = name ∷ names_of more
 -- the names ascend in byte order, so none stands twice
 abbrev pub AreAscending : List (List ℕ) → Type 0
 AreAscending names = IsStrictlySortedBy (slice_cmp nat_cmp) names
+
+-- the pairs as plain data
+abbrev pub plain_pairs : {K V A B : Type 0} → (K → A) → (V → B) → List (K × V) → List (A × B)
+plain_pairs name value es = map (λ e. (name e.0, value e.1)) es
 
 module _ {K A : Type 0} (named : List ℕ → Result K JsonError) (reads : Data → Result A JsonError) where
   -- the pairs of the members, in order: of each the name, then the value

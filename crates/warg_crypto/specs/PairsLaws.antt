@@ -34,13 +34,15 @@ swapped : {A : Type 0} (q k l : List ℕ) (x y : A) (o : Option A) → (k ≡ l 
     → (if bytes_eq q l then Some y else if bytes_eq q k then Some x else o) ≡ (if bytes_eq q k then Some x else if bytes_eq q l then Some y else o)
 swapped {A} q k l x y o apart = by (bytes_eq q k) (bytes_eq q l) refl refl
   where
-    by : (a b : Bool) → bytes_eq q k ≡ a → bytes_eq q l ≡ b → (if b then Some y else if a then Some x else o) ≡ (if a then Some x else if b then Some y else o)
+    by : (a b : Bool) → bytes_eq q k ≡ a → bytes_eq q l ≡ b
+        → (if b then Some y else if a then Some x else o) ≡ (if a then Some x else if b then Some y else o)
     by true true s t = absurd (apart (sym ((bytes_eq-Decides q k).0 s) ∙ (bytes_eq-Decides q l).0 t))
     by true false s t = refl
     by false true s t = refl
     by false false s t = refl
 
-covered : {A : Type 0} (q l : List ℕ) (x y : A) (o : Option A) → (if bytes_eq q l then Some x else o) ≡ (if bytes_eq q l then Some x else if bytes_eq q l then Some y else o)
+covered : {A : Type 0} (q l : List ℕ) (x y : A) (o : Option A)
+    → (if bytes_eq q l then Some x else o) ≡ (if bytes_eq q l then Some x else if bytes_eq q l then Some y else o)
 covered {A} q l x y o = by (bytes_eq q l)
   where
     by : (b : Bool) → (if b then Some x else o) ≡ (if b then Some x else if b then Some y else o)
@@ -69,7 +71,8 @@ module _ {K A : Type 0} (name_of : K → List ℕ) where
   latest-absent q [] o h = refl
   latest-absent q (e ∷ es) o h = by (λ n. latest-absent q es o n) (bytes_eq q (name_of e.0)) h
     where
-      by : (value_at q es ≡ None → latest q es o ≡ o) → (b : Bool) → cond b (Some e.1) (value_at q es) ≡ None → latest q es (if b then Some e.1 else o) ≡ o
+      by : (value_at q es ≡ None → latest q es o ≡ o) → (b : Bool) → cond b (Some e.1) (value_at q es) ≡ None
+          → latest q es (if b then Some e.1 else o) ≡ o
       by again true n = cc n
       by again false n = again n
 
@@ -77,7 +80,8 @@ module _ {K A : Type 0} (name_of : K → List ℕ) where
   latest-unique q [] h = refl
   latest-unique q (e ∷ es) h = by (latest-unique q es h.1) (bytes_eq q (name_of e.0)) refl
     where
-      by : latest q es None ≡ value_at q es → (b : Bool) → bytes_eq q (name_of e.0) ≡ b → latest q es (if b then Some e.1 else None) ≡ cond b (Some e.1) (value_at q es)
+      by : latest q es None ≡ value_at q es → (b : Bool) → bytes_eq q (name_of e.0) ≡ b
+          → latest q es (if b then Some e.1 else None) ≡ cond b (Some e.1) (value_at q es)
       by again true t = latest-absent q es (Some e.1) (value_at-same es q (name_of e.0) ((bytes_eq-Decides q (name_of e.0)).0 t) ∙ h.0)
       by again false t = again
 
@@ -95,7 +99,8 @@ module _ {K A : Type 0} (named : List ℕ → Result K JsonError) (name_of : K �
     pub is : named name ≡ Ok k
     pub back : name_of k ≡ name
 
-  reads-member : (name : List ℕ) (k : K) (d : Data) (x : A) (more : Members) (f : List ℕ → Option A) → NameBack name k → reads d ≡ Ok x → test (k, x) ≡ false → Reads more f
+  reads-member : (name : List ℕ) (k : K) (d : Data) (x : A) (more : Members) (f : List ℕ → Option A) → NameBack name k
+      → reads d ≡ Ok x → test (k, x) ≡ false → Reads more f
       → Reads (member name d more) (λ q. if bytes_eq q name then Some x else f q)
   reads-member name k d x more f own is fails r = record {
     pairs = (k, x) ∷ r.pairs;
@@ -164,7 +169,8 @@ module _ {K A : Type 0} (named : List ℕ → Result K JsonError) (name_of : K �
       (reads-member l p.key e p.first (put name d ms) (λ q. if bytes_eq q name then Some x else p.g q) p.own p.first_is p.fails (again p.g p.rest))
 
   -- after a put, the value that was put is read at its name
-  pub reads-put : (name : List ℕ) (k : K) (d : Data) (x : A) (ms : Members) (f : List ℕ → Option A) → NameBack name k → reads d ≡ Ok x → test (k, x) ≡ false → Reads ms f
+  pub reads-put : (name : List ℕ) (k : K) (d : Data) (x : A) (ms : Members) (f : List ℕ → Option A) → NameBack name k
+      → reads d ≡ Ok x → test (k, x) ≡ false → Reads ms f
       → Reads (put name d ms) (λ q. if bytes_eq q name then Some x else f q)
   reads-put name k d x no_members f own is fails r = reads-member name k d x no_members f own is fails r
   reads-put name k d x (member l e ms) f own is fails r = put-at _ name k d x l e ms f refl own is fails r (λ h s. reads-put name k d x ms h own is fails s)
@@ -187,7 +193,8 @@ module _ {K A : Type 0} (named : List ℕ → Result K JsonError) (name_of : K �
     AreReadAs [] (f ∷ fs) = ⊥
     AreReadAs (e ∷ es) [] = ⊥
 
-    reads-onto : (ms out : Members) (es fs : List (K × A)) (f : List ℕ → Option A) → Reads ms f → AreReadAs es fs → pairs_onto name_of writes ms es ≡ Ok out
+    reads-onto : (ms out : Members) (es fs : List (K × A)) (f : List ℕ → Option A) → Reads ms f → AreReadAs es fs
+        → pairs_onto name_of writes ms es ≡ Ok out
         → Reads out (λ q. latest name_of q fs (f q))
     reads-onto ms out [] [] f r read is = subst (λ (m : Members). Reads m f) (ok_same ms out is) r
     reads-onto ms out [] (g ∷ fs) f r read is = absurd read
@@ -200,7 +207,8 @@ module _ {K A : Type 0} (named : List ℕ → Result K JsonError) (name_of : K �
         (reads-put (name_of e.0) g.0 w.0 g.1 ms f read.0.name (read.0.value w.0 w.1) read.0.fails r)) read.1 w.2
 
     -- what was written of pairs is read, and at each name it has what the pairs have
-    pub reads-written : (out : Members) (es fs : List (K × A)) → AreReadAs es fs → IsUniquePairs name_of fs → pairs_onto name_of writes no_members es ≡ Ok out
+    pub reads-written : (out : Members) (es fs : List (K × A)) → AreReadAs es fs → IsUniquePairs name_of fs
+        → pairs_onto name_of writes no_members es ≡ Ok out
         → Reads out (λ q. value_at name_of q fs)
     reads-written out es fs read unique is =
         reads-same out (λ q. latest name_of q fs None) (λ q. value_at name_of q fs) (λ q. latest-unique name_of q fs unique) (reads-onto no_members out es fs (λ q. None) reads-none read is)
@@ -212,7 +220,8 @@ module _ {K A : Type 0} (named : List ℕ → Result K JsonError) (name_of : K �
       pub at : (q : List ℕ) → value_at name_of q pairs ≡ value_at name_of q fs
       pub none_pass : list_any test pairs ≡ false
 
-    pub pairs_read_back : (es fs : List (K × A)) (d : Data) → AreReadAs es fs → IsUniquePairs name_of fs → pairs_json name_of writes es ≡ Ok d → ReadsPairs d fs
+    pub pairs_read_back : (es fs : List (K × A)) (d : Data) → AreReadAs es fs → IsUniquePairs name_of fs
+        → pairs_json name_of writes es ≡ Ok d → ReadsPairs d fs
     pairs_read_back es fs d read unique is =
         let w = bind_ok (pairs_onto name_of writes no_members es) _ d is in
         let r = reads-written w.0 es fs read unique w.1 in
@@ -221,7 +230,8 @@ module _ {K A : Type 0} (named : List ℕ → Result K JsonError) (name_of : K �
 -- Pairs of members whose names ascend have different names, where each name that is read is written as it was.
 module _ {K A : Type 0} (named : List ℕ → Result K JsonError) (name_of : K → List ℕ) (reads : Data → Result A JsonError)
     (back : (name : List ℕ) (k : K) → named name ≡ Ok k → name_of k ≡ name) where
-  absent : (name : List ℕ) (ms : Members) (pairs : List (K × A)) → AllByRecursion (λ m. slice_cmp nat_cmp name m ≡ Less) (names_of ms) → pairs_of named reads ms ≡ Ok pairs
+  absent : (name : List ℕ) (ms : Members) (pairs : List (K × A))
+      → AllByRecursion (λ m. slice_cmp nat_cmp name m ≡ Less) (names_of ms) → pairs_of named reads ms ≡ Ok pairs
       → value_at name_of name pairs ≡ None
   absent name no_members pairs h e = subst (λ (ps : List (K × A)). value_at name_of name ps ≡ None) (ok_same _ _ e) refl
   absent name (member l d ms) pairs h e =
@@ -231,7 +241,8 @@ module _ {K A : Type 0} (named : List ℕ → Result K JsonError) (name_of : K �
       let apart : bytes_eq name (name_of n.0) ≡ false = ap (bytes_eq name) (back l n.0 n.1) ∙ sym (is_eq-slice_cmp name l) ∙ ap is_eq h.0 in
       subst (λ (ps : List (K × A)). value_at name_of name ps ≡ None) (ok_same _ _ b.2) (rw apart (absent name ms b.0 h.1 b.1))
 
-  unique-of : (ms : Members) (pairs : List (K × A)) → AreAscending (names_of ms) → pairs_of named reads ms ≡ Ok pairs → IsUniquePairs name_of pairs
+  unique-of : (ms : Members) (pairs : List (K × A)) → AreAscending (names_of ms) → pairs_of named reads ms ≡ Ok pairs
+      → IsUniquePairs name_of pairs
   unfolding IsStrictlySortedBy
   unique-of no_members pairs h e = subst (λ (ps : List (K × A)). IsUniquePairs name_of ps) (ok_same _ _ e) tt
   unique-of (member l d ms) pairs h e =

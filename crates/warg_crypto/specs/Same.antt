@@ -6,17 +6,17 @@ use Rattle.std.specs.Cmp.Rules.{hashing}
 use Rattle.std.specs.Hash as fed
 use Rattle.std.proofs.Common.{rules}
 use Rattle.std.proofs.lemmas.Cmp.{and_equiv}
-use Rattle.warg_crypto.specs.Tags.{Tag, same_tag}
+use Rattle.warg_crypto.specs.NamedBytes.{NamedBytes, same_tag}
 
 pub same_tag_equiv : IsEquivalence same_tag
-same_tag_equiv = and_equiv (on_equiv (λ (t : Tag). t.name) nat_list_eq_equiv) (on_equiv (λ (t : Tag). t.bytes) nat_list_eq_equiv)
+same_tag_equiv = and_equiv (on_equiv (λ (t : NamedBytes). t.name) nat_list_eq_equiv) (on_equiv (λ (t : NamedBytes). t.bytes) nat_list_eq_equiv)
 
 -- the name, then the bytes behind their number
-abbrev pub tag_hash_input : Tag → List (List ℕ)
+abbrev pub tag_hash_input : NamedBytes → List (List ℕ)
 tag_hash_input t = fed.str t.name ++ fed.slice fed.u8 t.bytes
 
 alike : fed.Alike same_tag tag_hash_input
 alike = search (hashing, rules)
 
-pub tag_hash_input-same_tag : (a b : Tag) → same_tag a b ≡ true → tag_hash_input a ≡ tag_hash_input b
+pub tag_hash_input-same_tag : (a b : NamedBytes) → same_tag a b ≡ true → tag_hash_input a ≡ tag_hash_input b
 tag_hash_input-same_tag = alike.fed

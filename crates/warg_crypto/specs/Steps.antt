@@ -8,6 +8,7 @@ pub ok_same : {A : Type 0} (x y : A) → wrote x ≡ Ok y → x ≡ y
 ok_same x y e = cc
 
 -- both steps of a sequence succeeded
-pub bind_ok : {A B : Type 0} (r : Result A JsonError) (f : A → Result B JsonError) (y : B) → (r >>= f) ≡ Ok y → (x : A) × (r ≡ Ok x) × (f x ≡ Ok y)
+pub bind_ok : {A B : Type 0} (r : Result A JsonError) (f : A → Result B JsonError) (y : B) → (r >>= f) ≡ Ok y
+    → (x : A) × (r ≡ Ok x) × (f x ≡ Ok y)
 bind_ok (Ok x) f y e = (x, refl, e)
 bind_ok (Err d) f y e = cc e

@@ -26,7 +26,8 @@ all_pass [] h = refl
 all_pass (c ∷ cs) h = grind (arith, all_pass cs h.1, h.0)
 
 -- the first dot stands after the digits
-pub dot_after : (name rest : List ℕ) → list_any is_dot name ≡ false → position_or_len is_dot (name ++ 46 ∷ rest) ≡ length name
+pub dot_after : (name rest : List ℕ) → list_any is_dot name ≡ false
+    → position_or_len is_dot (name ++ 46 ∷ rest) ≡ length name
 dot_after [] rest h = refl
 dot_after (b ∷ name) rest h = grind (arith, dot_after name rest)
 
@@ -41,7 +42,8 @@ plus_free (c ∷ cs) h = rw (no_plus c h.0) refl
         by false e = e
         by true e = absurd (grind (arith))
 
-pub below_numeral : (bound n : ℕ) (ds : List ℕ) → IsNumeral 10 ds → digits_value 10 ds ≡ n → n < bound → below bound ds ≡ Some n
+pub below_numeral : (bound n : ℕ) (ds : List ℕ) → IsNumeral 10 ds → digits_value 10 ds ≡ n → n < bound
+    → below bound ds ≡ Some n
 below_numeral bound n ds own is fits = grind (arith, own.0, all_pass ds own.1, is)
 
 pub number_of-decimal : (bound n : ℕ) → n < bound → n < 2 ^ 64 → number_of bound (decimal n) ≡ Some n
@@ -55,14 +57,17 @@ carried_small s n fits small =
     let all : n % 1_000_000_000 ≡ n = omega arith in
     rw (none, all) (grind (arith))
 
-parts_read : (no_dot : Bool) (l r : Option ℕ) (s n : ℕ) → no_dot ≡ false → l ≡ Some s → r ≡ Some n → s < 2 ^ 63 → n < 1_000_000_000
+parts_read : (no_dot : Bool) (l r : Option ℕ) (s n : ℕ) → no_dot ≡ false → l ≡ Some s → r ≡ Some n → s < 2 ^ 63
+    → n < 1_000_000_000
     → time_parts no_dot l r ≡ Ok (record { seconds = pos s; nanos = n })
 parts_read no_dot l r s n d e f fits small = rw (d, e, f) (carried_small s n fits small)
 
-inside : (len : ℕ) (text name : List ℕ) (p : ℕ) → p ≡ length name → length text ≡ length name + (len + 1) → (p == length text) ≡ false
+inside : (len : ℕ) (text name : List ℕ) (p : ℕ) → p ≡ length name → length text ≡ length name + (len + 1)
+    → (p == length text) ≡ false
 inside len text name p e l = grind (arith)
 
-pub time_of-text : (s n : ℕ) → s < 2 ^ 63 → n < 1_000_000_000 → time_of (decimal s ++ 46 ∷ decimal n) ≡ Ok (record { seconds = pos s; nanos = n })
+pub time_of-text : (s n : ℕ) → s < 2 ^ 63 → n < 1_000_000_000
+    → time_of (decimal s ++ 46 ∷ decimal n) ≡ Ok (record { seconds = pos s; nanos = n })
 time_of-text s n fits small =
     let text = decimal s ++ 46 ∷ decimal n in
     let own = decimal_is_IsNumeral s (omega arith) in
@@ -75,7 +80,8 @@ time_of-text s n fits small =
     (ap (number_of (2 ^ 32)) back ∙ number_of-decimal (2 ^ 32) n (omega arith) (omega arith))
     fits small
 
-pub time_of-seconds_text : (z : ℤ) (n : ℕ) (text : List ℕ) → n < 1_000_000_000 → ((s : ℕ) → z ≡ pos s → s < 2 ^ 63) → seconds_text z n ≡ Ok text
+pub time_of-seconds_text : (z : ℤ) (n : ℕ) (text : List ℕ) → n < 1_000_000_000 → ((s : ℕ) → z ≡ pos s → s < 2 ^ 63)
+    → seconds_text z n ≡ Ok text
     → time_of text ≡ Ok (record { seconds = z; nanos = n })
 time_of-seconds_text (pos s) n text small fits e = rw (← ok_same _ _ e) (time_of-text s n (fits s refl) small)
 time_of-seconds_text (negsuc s) n text small fits e = cc e

@@ -8,8 +8,8 @@ ghost use Rattle.warg_crypto.specs.HashText.{algorithm_of, algorithm_text};
 
 mod typed;
 
+use crate::digits::decode_pairs;
 use crate::ranges::byte_range;
-use hex::FromHex;
 use sha2::Digest;
 use std::alloc::{AllocError, Global};
 use std::fmt;
@@ -209,15 +209,28 @@ fn are_pairs(digits: &[u8]) -> bool
     digits.len() % 2 == 0 && digits.iter().all(|d| is_hex_digit(*d))
 }
 
+// The hash that 64 digits spell.
+fn hash_of_64(digits: &[u8]) -> Result<AnyHash, AnyHashError>
+    requires { length digits.now ≡ 64 }
+    ensures { result ≡ hash_of_digits digits.now }
+{
+    let mut bytes = [0u8; 32];
+    if !decode_pairs(digits, &mut bytes) {
+        return Err(AnyHashError::BadHex);
+    }
+    Ok(AnyHash::new(HashAlgorithm::Sha256, bytes))
+}
+
 // The hash that the digits spell.
 fn hash_of_digits(digits: &[u8]) -> Result<AnyHash, AnyHashError>
     ensures { result ≡ hash_of_digits digits.now }
 {
-    if !are_pairs(digits) {
-        return Err(AnyHashError::BadHex);
+    if digits.len() == 64 {
+        return hash_of_64(digits);
     }
-    match <[u8; 32]>::from_hex(digits) {
-        Ok(bytes) => Ok(AnyHash::new(HashAlgorithm::Sha256, bytes)),
-        Err(_) => Err(AnyHashError::BadLength),
+    if are_pairs(digits) {
+        Err(AnyHashError::BadLength)
+    } else {
+        Err(AnyHashError::BadHex)
     }
 }

@@ -1,11 +1,11 @@
 //! JSON of values, over `serde_json`'s `Value`. Who implements [`JsonValue`] for an own type finds
 //! what reads and puts members in [`members`], lists in [`lists`] and maps in [`maps`].
 
-ghost use Rattle.std.specs.Prelude.{◌≡◌, Ok, Result, IfOk, ⊤};
+ghost use Rattle.std.specs.Prelude.{List, Result, IfOk};
 ghost use Rattle.serde_json.specs.Data.{Data};
 ghost use Rattle.serde_json.specs.View.{view};
 ghost use Rattle.warg_crypto.specs.declared.json.error.JsonError.{JsonError};
-ghost use Rattle.warg_crypto.specs.Json.{Gives, ReadsBack};
+ghost use Rattle.warg_crypto.specs.Json.{AreReadBack, Gives, ReadsBack, Version};
 
 mod error;
 pub mod laws;
@@ -21,30 +21,31 @@ use std::alloc::Global;
 
 /// A value that is written as JSON and read back.
 pub trait JsonValue: Sized {
+    // The value as plain data, which is what is written of it and what is read.
+    ghost Plain: { Type 0 };
+
+    ghost plain: { Self → Plain };
+
     // What is written, or why nothing is.
-    ghost writes: { Self → Result Data JsonError };
+    ghost writes: { Plain → Result Data JsonError };
 
     // What is read, or the first fault.
-    ghost reads: { Data → Result Self JsonError };
+    ghost reads: { Data → Result Plain JsonError };
 
-    // Holds of each value of the program that meets the condition.
-    ghost is_written: { Self → Type 0 };
-
-    // What is asked of a value so that what was written of it reads back: mostly nothing.
-    ghost condition: { Self → Type 0 } = { λ _. ⊤ };
+    // The versions among what is written: that their texts read back is all that is asked of a
+    // value so that what was written of it reads back.
+    ghost versions: { Plain → List Version };
 
     // Holds of two values that are equal: what was written reads back as such a one.
-    ghost same: { Self → Self → Type 0 } = { λ x y. x ≡ y };
+    ghost same: { Plain → Plain → Type 0 };
 
     /// The JSON of the value.
     fn to_value(&self, alloc: Global) -> Result<Value, JsonError>
-        ensures written { Gives view result (writes self.now) }
-        ensures back { condition self.now → IfOk result (λ v. ReadsBack reads same self.now (view v)) };
+        ensures written { Gives view result (writes (plain self.now)) }
+        ensures back { AreReadBack (versions (plain self.now)) →
+            IfOk result (λ v. ReadsBack reads same (plain self.now) (view v)) };
 
     /// The value of JSON, or its first fault.
     fn from_value(alloc: Global, value: &Value) -> Result<Self, JsonError>
-        ensures { Gives (λ x. x) result (reads (view value.now)) };
-
-    // What was written reads back as an equal value.
-    ghost reads_back: { (x : Self) (d : Data) → is_written x → writes x ≡ Ok d → ReadsBack reads same x d };
+        ensures { Gives plain result (reads (view value.now)) };
 }

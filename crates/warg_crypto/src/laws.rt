@@ -5,7 +5,7 @@ ghost use Rattle.hex.specs.Hex.{IsBytes};
 ghost use Rattle.warg_crypto.specs.HashText.{hash_of, hash_text, IsHashText};
 ghost use Rattle.warg_crypto.specs.Keys.{public_key_of, signature_of};
 ghost use Rattle.warg_crypto.specs.Prefix.{IsLeb128, str_of, unsigned_of};
-ghost use Rattle.warg_crypto.specs.Tags.{IsKeyText, IsName, Tag, tag_text};
+ghost use Rattle.warg_crypto.specs.NamedBytes.{IsKeyText, IsName, NamedBytes, tag_text};
 ghost use Rattle.warg_crypto.specs.Times.{Time, shown_time};
 ghost use Rattle.warg_crypto.specs.TimeText.{time_text};
 ghost use Rattle.warg_crypto.specs.declared.hash.AnyHash.{AnyHash};
@@ -39,12 +39,12 @@ pub fn hash_reads_back()
 
 /// What is written of a key reads back.
 pub fn public_key_reads_back()
-    ensures { (key : Tag) → IsName key.name → IsBytes key.bytes → public_key_of (tag_text key) ≡ Ok key }
+    ensures { (key : NamedBytes) → IsName key.name → IsBytes key.bytes → public_key_of (tag_text key) ≡ Ok key }
 {}
 
 /// What is written of a signature reads back.
 pub fn signature_reads_back()
-    ensures { (signature : Tag) → IsName signature.name → IsBytes signature.bytes → signature_of (tag_text signature) ≡ Ok signature }
+    ensures { (signature : NamedBytes) → IsName signature.name → IsBytes signature.bytes → signature_of (tag_text signature) ≡ Ok signature }
 {}
 
 /// A text spells a hash exactly if it is `sha256:` and 64 hex digits that spell the hash's bytes.
@@ -54,18 +54,18 @@ pub fn hash_text_grammar()
 
 /// A text says a key exactly if it is the key's name, a colon, and base64 of the key's bytes.
 pub fn public_key_text_grammar()
-    ensures { (text : List ℕ) (key : Tag) → (public_key_of text ≡ Ok key) ↔ IsKeyText text key }
+    ensures { (text : List ℕ) (key : NamedBytes) → (public_key_of text ≡ Ok key) ↔ IsKeyText text key }
 {}
 
 /// A text says a signature exactly if it is the signature's name, a colon, and base64 of its
 /// bytes.
 pub fn signature_text_grammar()
-    ensures { (text : List ℕ) (signature : Tag) → (signature_of text ≡ Ok signature) ↔ IsKeyText text signature }
+    ensures { (text : List ℕ) (signature : NamedBytes) → (signature_of text ≡ Ok signature) ↔ IsKeyText text signature }
 {}
 
 /// Whatever a toy signer gives for a message belongs to it under the signer's key.
 pub fn toy_signature_belongs(signer: &ToySigner, verifier: &ToyVerifier)
-    ensures { (message : List ℕ) (signature : Tag) → ⟦<ToySigner as crate::signing::Signer>⟧.gives signer.now message signature → ⟦<ToyVerifier as crate::signing::Verifier>⟧.belongs verifier.now (⟦<ToySigner as crate::signing::Signer>⟧.key_of signer.now) message signature ≡ true }
+    ensures { (message : List ℕ) (signature : NamedBytes) → ⟦<ToySigner as crate::signing::Signer>⟧.gives signer.now message signature → ⟦<ToyVerifier as crate::signing::Verifier>⟧.belongs verifier.now (⟦<ToySigner as crate::signing::Signer>⟧.key_of signer.now) message signature ≡ true }
 {
     let _ = &signer.key;
 }

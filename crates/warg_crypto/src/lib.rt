@@ -2,6 +2,7 @@
 #![tactic(auto)]
 
 mod coding;
+pub mod digits;
 pub mod hash;
 pub mod json;
 pub mod laws;

@@ -1,7 +1,7 @@
 //! Keys, signatures, and what signs and verifies.
 
 ghost use Rattle.std.specs.Prelude.{◌≡◌, ℕ, Bool, List, IfOk, false, true};
-ghost use Rattle.warg_crypto.specs.Tags.{Tag};
+ghost use Rattle.warg_crypto.specs.NamedBytes.{NamedBytes};
 ghost use Rattle.warg_crypto.specs.Signed.{signed_message};
 ghost use Rattle.warg_crypto.specs.declared.signing.error.SignatureError.TheVariants.{Refused};
 
@@ -55,7 +55,7 @@ pub use tagged::is_algorithm_name;
 /// ```
 pub trait Verifier {
     // The signature belongs to the message under the key: key, message, signature.
-    ghost belongs: { Self → Tag → List ℕ → Tag → Bool };
+    ghost belongs: { Self → NamedBytes → List ℕ → NamedBytes → Bool };
 
     /// `Ok` exactly where the signature belongs to the message under the key, else `Refused`.
     fn verify(
@@ -106,10 +106,10 @@ pub trait Verifier {
 /// ```
 pub trait Signer {
     // The key that verifies what the signer gives.
-    ghost key_of: { Self → Tag };
+    ghost key_of: { Self → NamedBytes };
 
     // The signature is one that the signer gives for the message.
-    ghost gives: { Self → List ℕ → Tag → Type 0 };
+    ghost gives: { Self → List ℕ → NamedBytes → Type 0 };
 
     // The signer does not sign the message.
     ghost refuses: { Self → List ℕ → Type 0 };
@@ -151,7 +151,8 @@ pub trait Signable: Encode {
     /// The signer's signature of the value.
     fn sign<S: Signer>(&self, alloc: Global, signer: &S) -> Result<Signature, SignatureError>
         ensures ok { IfOk result (λ s. S.gives signer.now (signed_message signed_prefix (Self.encoding self.now)) s) }
-        ensures refused { result ≡ Err Refused → S.refuses signer.now (signed_message signed_prefix (Self.encoding self.now)) }
+        ensures refused { result ≡ Err Refused → S.refuses signer.now
+            (signed_message signed_prefix (Self.encoding self.now)) }
     {
         let content = self.encode(alloc)?;
         let message = message_of(alloc, Self::signing_prefix(), content.as_slice())?;
@@ -167,8 +168,10 @@ pub trait Signable: Encode {
         content: &[u8],
         signature: &Signature,
     ) -> Result<(), SignatureError>
-        ensures ok { IfOk result (λ _. V.belongs verifier.now key.now (signed_message signed_prefix content.now) signature.now ≡ true) }
-        ensures refused { result ≡ Err Refused → V.belongs verifier.now key.now (signed_message signed_prefix content.now) signature.now ≡ false }
+        ensures ok { IfOk result (λ _. V.belongs verifier.now key.now
+            (signed_message signed_prefix content.now) signature.now ≡ true) }
+        ensures refused { result ≡ Err Refused → V.belongs verifier.now key.now
+            (signed_message signed_prefix content.now) signature.now ≡ false }
     {
         let message = message_of(alloc, Self::signing_prefix(), content)?;
         verifier.verify(alloc, key, message.as_slice(), signature)

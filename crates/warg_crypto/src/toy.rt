@@ -16,9 +16,9 @@ pub struct ToySigner {
 
 impl Model for ToySigner {
     ghost use Rattle.std.specs.Prelude.{◌≡◌, codes};
-    ghost use Rattle.warg_crypto.specs.Tags.{Tag};
+    ghost use Rattle.warg_crypto.specs.NamedBytes.{NamedBytes};
 
-    ghost Value = { Tag };
+    ghost Value = { NamedBytes };
 
     ghost view = { λ s. s.key };
 

@@ -2,7 +2,7 @@
 
 ghost use Rattle.std.specs.Prelude.{◌≡◌, ◌↔◌, ◌++◌, ℕ, List, length, true, IfOk, IsSome, OnOk, string_bytes};
 ghost use Rattle.std.specs.Str.{bytes_eq};
-ghost use Rattle.warg_crypto.specs.Tags.{IsName};
+ghost use Rattle.warg_crypto.specs.NamedBytes.{IsName};
 
 use crate::values::{bytes, is, key, text};
 use std::alloc::{AllocError, Global};

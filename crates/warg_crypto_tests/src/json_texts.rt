@@ -28,12 +28,25 @@ fn texts(rt: HostRuntime) {
     goes_both_ways(&rt, alloc, "\"1.5\"", Timestamp::new(1, 5));
 }
 
+// Other kinds of value, among them floats, numbers past every range and a hundred arrays in one another.
+const NO_TEXTS: [&str; 11] = [
+    "null",
+    "true",
+    "1",
+    "-1",
+    "1.5",
+    "1e308",
+    "18446744073709551616",
+    "[]",
+    "[\"sha256\"]",
+    "{\"a\":\"sha256\"}",
+    "[[[[[[[[[[[[[[[[[[[[[[[[[[[[[[[[[[[[[[[[[[[[[[[[[[[[[[[[[[[[[[[[[[[[[[[[[[[[[[[[[[[[[[[[[[[[[[[[[[[[]]]]]]]]]]]]]]]]]]]]]]]]]]]]]]]]]]]]]]]]]]]]]]]]]]]]]]]]]]]]]]]]]]]]]]]]]]]]]]]]]]]]]]]]]]]]]]]]]]]]",
+];
+
 fn is_no_text<T: JsonValue + PartialEq + Debug + Drop>(rt: &impl Abort, alloc: Global) {
-    is_refused::<T>(rt, alloc, "null", JsonError::WrongType);
-    is_refused::<T>(rt, alloc, "1", JsonError::WrongType);
-    is_refused::<T>(rt, alloc, "true", JsonError::WrongType);
-    is_refused::<T>(rt, alloc, "[\"sha256\"]", JsonError::WrongType);
-    is_refused::<T>(rt, alloc, "{\"a\":\"sha256\"}", JsonError::WrongType);
+    for json in NO_TEXTS {
+        is_refused::<T>(rt, alloc, json, JsonError::WrongType);
+    }
 }
 
 #[test]

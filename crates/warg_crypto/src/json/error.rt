@@ -30,6 +30,9 @@ pub enum Incoherence {
     /// Permissions of a key id that has no key.
     #[error("PermissionsWithoutKey")]
     PermissionsWithoutKey,
+    /// A head of a version that no log has.
+    #[error("UnsupportedVersion")]
+    UnsupportedVersion,
 }
 
 /// Why a value has no JSON, or JSON is no value.

@@ -5,7 +5,7 @@ ghost use Rattle.std.specs.Option.{option_map};
 ghost use Rattle.serde_json.specs.Data.{Data, object, put, string};
 ghost use Rattle.serde_json.specs.View.{view, members_view};
 ghost use Rattle.warg_crypto.specs.declared.json.error.JsonError.TheVariants as fault;
-ghost use Rattle.warg_crypto.specs.Json.{Answers, Gives, ReadsBack, members_in, member_in, text_in, wrote};
+ghost use Rattle.warg_crypto.specs.Json.{Answers, AreReadBack, Gives, ReadsBack, members_in, member_in, text_in, wrote};
 ghost use Rattle.warg_crypto.specs.Members.{optional, optional_member, put_json, put_option};
 
 use crate::json::{JsonError, JsonValue};
@@ -41,7 +41,7 @@ pub fn optional<T: JsonValue + Drop>(
     alloc: Global,
     value: Option<&Value>,
 ) -> Result<Option<T>, JsonError>
-    ensures { Gives (λ x. x) result (optional T.reads (option_map (λ v. view v.now) value.entry)) }
+    ensures { Gives (option_map T.plain) result (optional T.reads (option_map (λ v. view v.now) value.entry)) }
 {
     let Some(value) = value else {
         return Ok(None);
@@ -59,7 +59,7 @@ pub fn optional_member<T: JsonValue + Drop>(
     value: &Value,
     name: &str,
 ) -> Result<Option<T>, JsonError>
-    ensures { Gives (λ x. x) result (optional_member T.reads name.now (view value.now)) }
+    ensures { Gives (option_map T.plain) result (optional_member T.reads name.now (view value.now)) }
 {
     let _members = members_in(value)?;
     optional::<T>(alloc, value.get(name))
@@ -90,9 +90,10 @@ pub fn put_value<T: JsonValue>(
     value: &T,
 ) -> Result<(), JsonError>
     ensures written { Gives (λ _. members_view map.new.entries) result
-        (put_json T.writes name.now value.now (members_view map.old.entries)) }
-    ensures back { T.condition value.now → OnOk result
-        ((d : Data) × ReadsBack T.reads T.same value.now d × (members_view map.new.entries ≡ put name.now d (members_view map.old.entries))) }
+        (put_json T.writes name.now (T.plain value.now) (members_view map.old.entries)) }
+    ensures back { AreReadBack (T.versions (T.plain value.now)) → OnOk result
+        ((d : Data) × ReadsBack T.reads T.same (T.plain value.now) d ×
+        (members_view map.new.entries ≡ put name.now d (members_view map.old.entries))) }
     ensures kept { OnErr result (members_view map.new.entries ≡ members_view map.old.entries) }
 {
     let json = value.to_value(alloc)?;
@@ -108,7 +109,7 @@ pub fn put_optional<T: JsonValue>(
     value: &Option<T>,
 ) -> Result<(), JsonError>
     ensures written { Gives (λ _. members_view map.new.entries) result
-        (put_option T.writes name.now value.now (members_view map.old.entries)) }
+        (put_option T.writes name.now (option_map T.plain value.now) (members_view map.old.entries)) }
     ensures kept { OnErr result (members_view map.new.entries ≡ members_view map.old.entries) }
 {
     let Some(value) = value else {

@@ -1,11 +1,10 @@
 //! JSON of whole numbers.
 
-ghost use Rattle.std.specs.Prelude.{◌<◌, ◌^◌};
+ghost use Rattle.std.specs.Prelude.{◌≡◌, ◌^◌, ℕ, []};
 ghost use Rattle.serde_json.specs.Data.{number, unsigned};
 ghost use Rattle.serde_json.specs.View.{view};
 ghost use Rattle.warg_crypto.specs.Json.{Answers, wrote};
 ghost use Rattle.warg_crypto.specs.Numbers.{number_below};
-ghost use Rattle.warg_crypto.specs.NumberLaws.{number_reads_back};
 
 use crate::json::{JsonError, JsonValue};
 use serde_json::Value;
@@ -19,13 +18,17 @@ fn number_in(value: &Value) -> Result<u64, JsonError>
 }
 
 impl JsonValue for u64 {
+    ghost Plain = { ℕ };
+
+    ghost plain = { λ n. n };
+
     ghost writes = { λ n. wrote (number (unsigned n)) };
 
     ghost reads = { number_below (2 ^ 64) };
 
-    ghost is_written = { λ n. n < 2 ^ 64 };
+    ghost versions = { λ _. [] };
 
-    ghost reads_back = { number_reads_back (2 ^ 64) };
+    ghost same = { λ x y. x ≡ y };
 
     fn to_value(&self, _alloc: Global) -> Result<Value, JsonError> {
         Ok(Value::from(*self))
@@ -37,13 +40,17 @@ impl JsonValue for u64 {
 }
 
 impl JsonValue for u32 {
+    ghost Plain = { ℕ };
+
+    ghost plain = { λ n. n };
+
     ghost writes = { λ n. wrote (number (unsigned n)) };
 
     ghost reads = { number_below (2 ^ 32) };
 
-    ghost is_written = { λ n. n < 2 ^ 32 };
+    ghost versions = { λ _. [] };
 
-    ghost reads_back = { number_reads_back (2 ^ 32) };
+    ghost same = { λ x y. x ≡ y };
 
     fn to_value(&self, _alloc: Global) -> Result<Value, JsonError> {
         Ok(Value::from(*self))
@@ -59,13 +66,17 @@ impl JsonValue for u32 {
 }
 
 impl JsonValue for usize {
+    ghost Plain = { ℕ };
+
+    ghost plain = { λ n. n };
+
     ghost writes = { λ n. wrote (number (unsigned n)) };
 
     ghost reads = { number_below (2 ^ 64) };
 
-    ghost is_written = { λ n. n < 2 ^ 64 };
+    ghost versions = { λ _. [] };
 
-    ghost reads_back = { number_reads_back (2 ^ 64) };
+    ghost same = { λ x y. x ≡ y };
 
     fn to_value(&self, _alloc: Global) -> Result<Value, JsonError> {
         Ok(Value::from(*self))

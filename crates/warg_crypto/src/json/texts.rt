@@ -1,9 +1,11 @@
 //! JSON of the values that are written as their text.
 
-ghost use Rattle.std.specs.Prelude.{⊤};
-ghost use Rattle.warg_crypto.specs.JsonTexts.{IsHash, IsTag, algorithm_in, algorithm_json, hash_in, hash_json, key_id_in, key_id_json, key_in, key_json, signature_in, signature_json, time_in, time_json};
-ghost use Rattle.warg_crypto.specs.TimeText.{IsTime};
-ghost use Rattle.warg_crypto.specs.JsonTextLaws.{algorithm_reads_back, hash_reads_back, key_id_reads_back, key_reads_back, signature_reads_back, time_reads_back};
+ghost use Rattle.std.specs.Prelude.{◌≡◌, List, [], ℕ};
+ghost use Rattle.warg_crypto.specs.declared.hash.AnyHash.{AnyHash};
+ghost use Rattle.warg_crypto.specs.declared.hash.HashAlgorithm.{HashAlgorithm};
+ghost use Rattle.warg_crypto.specs.JsonTexts.{algorithm_in, algorithm_json, hash_in, hash_json, key_id_in, key_id_json, key_in, key_json, signature_in, signature_json, time_in, time_json};
+ghost use Rattle.warg_crypto.specs.NamedBytes.{NamedBytes};
+ghost use Rattle.warg_crypto.specs.Times.{Time};
 
 use crate::hash::{AnyHash, HashAlgorithm};
 use crate::json::members::{string_value, text_in, text_value};
@@ -14,13 +16,17 @@ use serde_json::Value;
 use std::alloc::Global;
 
 impl JsonValue for HashAlgorithm {
+    ghost Plain = { HashAlgorithm };
+
+    ghost plain = { λ x. x };
+
     ghost writes = { algorithm_json };
 
     ghost reads = { algorithm_in };
 
-    ghost is_written = { λ _. ⊤ };
+    ghost versions = { λ _. [] };
 
-    ghost reads_back = { algorithm_reads_back };
+    ghost same = { λ x y. x ≡ y };
 
     fn to_value(&self, alloc: Global) -> Result<Value, JsonError> {
         let name = self.as_str();
@@ -35,13 +41,17 @@ impl JsonValue for HashAlgorithm {
 }
 
 impl JsonValue for AnyHash {
+    ghost Plain = { AnyHash };
+
+    ghost plain = { λ x. x };
+
     ghost writes = { hash_json };
 
     ghost reads = { hash_in };
 
-    ghost is_written = { λ h. IsHash h };
+    ghost versions = { λ _. [] };
 
-    ghost reads_back = { hash_reads_back };
+    ghost same = { λ x y. x ≡ y };
 
     fn to_value(&self, alloc: Global) -> Result<Value, JsonError> {
         let _bytes = self.bytes();
@@ -56,13 +66,17 @@ impl JsonValue for AnyHash {
 }
 
 impl JsonValue for KeyID {
+    ghost Plain = { List ℕ };
+
+    ghost plain = { λ x. x };
+
     ghost writes = { key_id_json };
 
     ghost reads = { key_id_in };
 
-    ghost is_written = { λ _. ⊤ };
+    ghost versions = { λ _. [] };
 
-    ghost reads_back = { key_id_reads_back };
+    ghost same = { λ x y. x ≡ y };
 
     fn to_value(&self, alloc: Global) -> Result<Value, JsonError> {
         text_value(alloc, self.as_str())
@@ -74,13 +88,17 @@ impl JsonValue for KeyID {
 }
 
 impl JsonValue for PublicKey {
+    ghost Plain = { NamedBytes };
+
+    ghost plain = { λ x. x };
+
     ghost writes = { key_json };
 
     ghost reads = { key_in };
 
-    ghost is_written = { λ t. IsTag t };
+    ghost versions = { λ _. [] };
 
-    ghost reads_back = { key_reads_back };
+    ghost same = { λ x y. x ≡ y };
 
     fn to_value(&self, alloc: Global) -> Result<Value, JsonError> {
         let _name = self.algorithm();
@@ -99,13 +117,17 @@ impl JsonValue for PublicKey {
 }
 
 impl JsonValue for Signature {
+    ghost Plain = { NamedBytes };
+
+    ghost plain = { λ x. x };
+
     ghost writes = { signature_json };
 
     ghost reads = { signature_in };
 
-    ghost is_written = { λ t. IsTag t };
+    ghost versions = { λ _. [] };
 
-    ghost reads_back = { signature_reads_back };
+    ghost same = { λ x y. x ≡ y };
 
     fn to_value(&self, alloc: Global) -> Result<Value, JsonError> {
         let _name = self.algorithm();
@@ -124,13 +146,17 @@ impl JsonValue for Signature {
 }
 
 impl JsonValue for Timestamp {
+    ghost Plain = { Time };
+
+    ghost plain = { λ x. x };
+
     ghost writes = { time_json };
 
     ghost reads = { time_in };
 
-    ghost is_written = { λ t. IsTime t };
+    ghost versions = { λ _. [] };
 
-    ghost reads_back = { time_reads_back };
+    ghost same = { λ x y. x ≡ y };
 
     fn to_value(&self, alloc: Global) -> Result<Value, JsonError> {
         Ok(string_value(self.to_text(alloc)?))

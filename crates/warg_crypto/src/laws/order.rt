@@ -19,7 +19,8 @@ pub fn compare_algorithms(a: &HashAlgorithm, b: &HashAlgorithm) -> Ordering
 
 /// Hashes are ordered by algorithm, then by bytes.
 pub fn compare_hashes(a: &AnyHash, b: &AnyHash) -> Ordering
-    ensures { result ≡ ordering_then (⟦<HashAlgorithm as Ord>⟧.cmp a.now.algorithm b.now.algorithm) (slice_cmp nat_cmp a.now.bytes b.now.bytes) }
+    ensures { result ≡ ordering_then (⟦<HashAlgorithm as Ord>⟧.cmp a.now.algorithm b.now.algorithm)
+        (slice_cmp nat_cmp a.now.bytes b.now.bytes) }
 {
     a.cmp(b)
 }
@@ -40,7 +41,8 @@ pub fn compare_ids(a: &KeyID, b: &KeyID) -> Ordering
 
 /// Times are ordered by seconds, then nanoseconds.
 pub fn is_before(a: &Timestamp, b: &Timestamp) -> bool
-    ensures { IsTrue result ↔ ((a.now.seconds <ℤ b.now.seconds) ⊎ ((a.now.seconds ≡ b.now.seconds) × (a.now.nanos < b.now.nanos))) }
+    ensures { IsTrue result ↔ ((a.now.seconds <ℤ b.now.seconds) ⊎
+        ((a.now.seconds ≡ b.now.seconds) × (a.now.nanos < b.now.nanos))) }
 {
     a < b
 }

@@ -3,7 +3,7 @@
 ghost use Rattle.std.specs.Prelude.{◌≡◌};
 ghost use Rattle.std.specs.Fmt.{WritesOnOk, WritesStyledOnOk};
 ghost use Rattle.warg_crypto.specs.HashText.{algorithm_text, hash_text};
-ghost use Rattle.warg_crypto.specs.Tags.{tag_text};
+ghost use Rattle.warg_crypto.specs.NamedBytes.{tag_text};
 ghost use Rattle.warg_crypto.specs.Times.{shown_time};
 
 use crate::hash::{AnyHash, Hash, HashAlgorithm, SupportedDigest};
@@ -32,8 +32,10 @@ pub fn print_typed_hash<D: SupportedDigest, W: Write>(
     hash: &Hash<D>,
     f: &mut Formatter<W>,
 ) -> Result
-    ensures plain { WritesOnOk W.write_str_gives f.old result (hash_text (record { algorithm = D.ALGORITHM; bytes = hash.now.bytes })) f.new }
-    ensures styled { WritesStyledOnOk W.write_str_gives f.old result (hash_text (record { algorithm = D.ALGORITHM; bytes = hash.now.bytes })) f.new }
+    ensures plain { WritesOnOk W.write_str_gives f.old result
+        (hash_text (record { algorithm = D.ALGORITHM; bytes = hash.now.bytes })) f.new }
+    ensures styled { WritesStyledOnOk W.write_str_gives f.old result
+        (hash_text (record { algorithm = D.ALGORITHM; bytes = hash.now.bytes })) f.new }
 {
     hash.fmt(f)
 }

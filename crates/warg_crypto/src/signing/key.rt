@@ -4,7 +4,7 @@ ghost use Rattle.std.specs.Prelude.{◌≡◌, ◌⊎◌, IfOk, IfErr, Some};
 ghost use Rattle.std.specs.String.{string_bytes};
 ghost use Rattle.base64.specs.GeneralPurpose.{IsBytes};
 ghost use Rattle.warg_crypto.specs.Keys.{public_key_of};
-ghost use Rattle.warg_crypto.specs.Tags.{IsName, tag_text, fingerprint_of};
+ghost use Rattle.warg_crypto.specs.NamedBytes.{IsName, tag_text, fingerprint_of};
 ghost use Rattle.warg_crypto.specs.declared.signing.error.KeyParseError.TheVariants as fault;
 
 use crate::hash::HashAlgorithm;
@@ -155,9 +155,9 @@ pub struct PublicKey {
 }
 
 impl Model for PublicKey {
-    ghost use Rattle.warg_crypto.specs.Tags.{Tag};
+    ghost use Rattle.warg_crypto.specs.NamedBytes.{NamedBytes};
 
-    ghost Value = { Tag };
+    ghost Value = { NamedBytes };
 
     ghost view = { λ k. k.tagged };
 }
@@ -215,7 +215,7 @@ impl PublicKey {
     }
 
     /// The key's id: the text of the SHA-256 hash of the key's text.
-    #[tactic(auto, unfolding(crate::specs::Tags::fingerprint_of))]
+    #[tactic(auto, unfolding(crate::specs::NamedBytes::fingerprint_of))]
     pub fn fingerprint(&self, alloc: Global) -> Result<KeyID, AllocError>
         ensures { IfOk result (λ id. id ≡ fingerprint_of self.now) }
     {
@@ -245,7 +245,7 @@ impl fmt::Debug for PublicKey {
 
 impl PartialEq for PublicKey {
     ghost use Rattle.std.specs.Cmp.{partial_equiv_from_equiv};
-    ghost use Rattle.warg_crypto.specs.Tags.{same_tag};
+    ghost use Rattle.warg_crypto.specs.NamedBytes.{same_tag};
     ghost use Rattle.warg_crypto.specs.Same.{same_tag_equiv};
 
     ghost eq = { same_tag };

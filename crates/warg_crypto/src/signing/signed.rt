@@ -4,7 +4,7 @@ ghost use Rattle.std.specs.Prelude.{◌≡◌, ◌⊎◌, IfOk, IfErr, Some};
 ghost use Rattle.std.specs.String.{string_bytes};
 ghost use Rattle.base64.specs.GeneralPurpose.{IsBytes};
 ghost use Rattle.warg_crypto.specs.Keys.{signature_of};
-ghost use Rattle.warg_crypto.specs.Tags.{IsName, tag_text};
+ghost use Rattle.warg_crypto.specs.NamedBytes.{IsName, tag_text};
 ghost use Rattle.warg_crypto.specs.declared.signing.error.SignatureParseError.TheVariants as fault;
 
 use crate::signing::error::SignatureParseError;
@@ -21,9 +21,9 @@ pub struct Signature {
 }
 
 impl Model for Signature {
-    ghost use Rattle.warg_crypto.specs.Tags.{Tag};
+    ghost use Rattle.warg_crypto.specs.NamedBytes.{NamedBytes};
 
-    ghost Value = { Tag };
+    ghost Value = { NamedBytes };
 
     ghost view = { λ k. k.tagged };
 }
@@ -101,7 +101,7 @@ impl fmt::Debug for Signature {
 
 impl PartialEq for Signature {
     ghost use Rattle.std.specs.Cmp.{partial_equiv_from_equiv};
-    ghost use Rattle.warg_crypto.specs.Tags.{same_tag};
+    ghost use Rattle.warg_crypto.specs.NamedBytes.{same_tag};
     ghost use Rattle.warg_crypto.specs.Same.{same_tag_equiv};
 
     ghost eq = { same_tag };

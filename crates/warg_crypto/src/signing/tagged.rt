@@ -5,7 +5,7 @@ ghost use Rattle.std.specs.List.{list_any};
 ghost use Rattle.std.specs.String.{string_bytes};
 ghost use Rattle.base64.specs.GeneralPurpose.{IsBytes};
 ghost use Rattle.warg_crypto.specs.HashText.{is_colon};
-ghost use Rattle.warg_crypto.specs.Tags.{Tag, IsName, tag_of, tag_text};
+ghost use Rattle.warg_crypto.specs.NamedBytes.{NamedBytes, IsName, tag_of, tag_text};
 ghost use Rattle.warg_crypto.specs.declared.signing.tagged.TagError.TheVariants as fault;
 
 use crate::ranges::byte_range;
@@ -27,9 +27,9 @@ pub struct Tagged {
 
 impl Model for Tagged {
     ghost use Rattle.std.specs.String.{string_bytes};
-    ghost use Rattle.warg_crypto.specs.Tags.{Tag, IsName};
+    ghost use Rattle.warg_crypto.specs.NamedBytes.{NamedBytes, IsName};
 
-    ghost Value = { Tag };
+    ghost Value = { NamedBytes };
 
     ghost view = { λ t. record { name = string_bytes t.name; bytes = t.bytes.items } };
 
@@ -153,7 +153,7 @@ impl Hash for Tagged {
 
 impl PartialEq for Tagged {
     ghost use Rattle.std.specs.Cmp.{partial_equiv_from_equiv};
-    ghost use Rattle.warg_crypto.specs.Tags.{same_tag};
+    ghost use Rattle.warg_crypto.specs.NamedBytes.{same_tag};
     ghost use Rattle.warg_crypto.specs.Same.{same_tag_equiv};
 
     ghost eq = { same_tag };

@@ -1,7 +1,7 @@
 use Rattle.std.proofs.Common.{◌≡◌, List, ℕ, Ok, length, rules, subst}
 use Rattle.serde_json.specs.View.{view}
 use Rattle.warg_crypto.specs.JsonTexts.{hash_json}
-use Rattle.warg_crypto.specs.JsonTextLaws.{hash_reads_back}
+use Rattle.warg_crypto.proofs.JsonTextLaws.{hash_reads_back}
 use Rattle.warg_crypto.proofs.json.texts.AnyHashJsonValue.to_value.Goals as goal
 
 pub returns-clause-back : goal.returns-clause-back

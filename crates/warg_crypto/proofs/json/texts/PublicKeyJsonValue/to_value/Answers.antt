@@ -1,7 +1,7 @@
 use Rattle.std.proofs.Common.{◌≡◌, Ok, rules}
 use Rattle.serde_json.specs.View.{view}
 use Rattle.warg_crypto.specs.JsonTexts.{key_json}
-use Rattle.warg_crypto.specs.JsonTextLaws.{key_reads_back}
+use Rattle.warg_crypto.proofs.JsonTextLaws.{key_reads_back}
 use Rattle.warg_crypto.proofs.json.texts.PublicKeyJsonValue.to_value.Goals as goal
 
 pub returns-clause-back : goal.returns-clause-back

@@ -1,7 +1,7 @@
 use Rattle.std.proofs.Common.{◌≡◌, Ok, rules}
 use Rattle.serde_json.specs.View.{view}
 use Rattle.warg_crypto.specs.JsonTexts.{signature_json}
-use Rattle.warg_crypto.specs.JsonTextLaws.{signature_reads_back}
+use Rattle.warg_crypto.proofs.JsonTextLaws.{signature_reads_back}
 use Rattle.warg_crypto.proofs.json.texts.SignatureJsonValue.to_value.Goals as goal
 
 pub returns-clause-back : goal.returns-clause-back

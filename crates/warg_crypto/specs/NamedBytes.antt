@@ -10,7 +10,7 @@ use Rattle.warg_crypto.specs.declared.signing.tagged.TagError.{TagError}
 use Rattle.warg_crypto.specs.declared.signing.tagged.TagError.TheVariants as fault
 
 -- what keys and signatures hold
-pub record Tag : Type 0 where
+pub record NamedBytes : Type 0 where
   pub name : List ℕ
   pub bytes : List ℕ
 
@@ -19,35 +19,35 @@ pub record IsName (name : List ℕ) : Type 0 where
   pub nonempty : 0 < length name
   pub no_colon : list_any is_colon name ≡ false
 
-abbrev pub same_tag : Tag → Tag → Bool
+abbrev pub same_tag : NamedBytes → NamedBytes → Bool
 same_tag a b = bytes_eq a.name b.name && bytes_eq a.bytes b.bytes
 
 -- the text
-abbrev pub tag_text : Tag → List ℕ
+abbrev pub tag_text : NamedBytes → List ℕ
 tag_text t = t.name ++ 58 ∷ encode_of standard t.bytes
 
-abbrev pub tag_or_bad : List ℕ → Result (List ℕ) DecodeError → Result Tag TagError
+abbrev pub tag_or_bad : List ℕ → Result (List ℕ) DecodeError → Result NamedBytes TagError
 tag_or_bad name (Ok bytes) = Ok (record { name = name; bytes = bytes })
 tag_or_bad name (Err e) = Err fault.BadBase64
 
 -- what a name and what stands behind the colon say
-abbrev pub tag_of_parts : Bool → List ℕ → Result (List ℕ) DecodeError → Result Tag TagError
+abbrev pub tag_of_parts : Bool → List ℕ → Result (List ℕ) DecodeError → Result NamedBytes TagError
 tag_of_parts is_colon_missing name decoded =
     if is_colon_missing then Err fault.MissingColon
     else if length name == 0 then Err fault.EmptyAlgorithm
     else tag_or_bad name decoded
 
 -- what a text says, or its first fault: the text is cut at its first colon
-abbrev pub tag_of : List ℕ → Result Tag TagError
+abbrev pub tag_of : List ℕ → Result NamedBytes TagError
 tag_of text =
     tag_of_parts (position_or_len is_colon text == length text) (before_first is_colon text) (decode_of standard (after_first is_colon text))
 
 -- the fingerprint of a key, which is its id: the text of the hash of the key's text
-unfoldable pub fingerprint_of : Tag → List ℕ
+unfoldable pub fingerprint_of : NamedBytes → List ℕ
 fingerprint_of key = hash_text (sha256_hash_of (tag_text key))
 
 -- the grammar of a key's or a signature's text: a name, a colon, and base64 that spells the bytes
-pub record IsKeyText (text : List ℕ) (t : Tag) : Type 0 where
+pub record IsKeyText (text : List ℕ) (t : NamedBytes) : Type 0 where
   pub named : IsName t.name
   pub behind : List ℕ
   pub whole : text ≡ t.name ++ 58 ∷ behind
