@@ -196,11 +196,11 @@ pub record RecordKept (E : Type 0) : Type 0 where
   pub entries : List E
 
 abbrev pub record_kept : {E D : Type 0} → (E → D) → RecordDraft E → RecordKept D
-record_kept entry_seen d = record {
+record_kept entry_view d = record {
   prev = option_view (λ t. t.now) d.prev;
   version = d.version;
   time = option_view timestamp_kept d.time;
-  entries = map entry_seen d.entries.items;
+  entries = map entry_view d.entries.items;
 }
 
 abbrev pub no_record : {E : Type 0} → RecordKept E

@@ -2,7 +2,7 @@
 
 ghost use Rattle.std.specs.Prelude.{◌≡◌, IfOk};
 ghost use Rattle.warg_protobuf.specs.Drafts.{one_text_kept, define_namespace_made};
-ghost use Rattle.warg_protobuf.specs.DefineNamespace.{define_namespace_table, DefineNamespaceValue, define_namespace_seen, define_namespace_from, IsDefineNamespaceOf, define_namespace_fields, IsSoundDefineNamespace};
+ghost use Rattle.warg_protobuf.specs.DefineNamespace.{define_namespace_table, DefineNamespaceValue, define_namespace_view, define_namespace_from, IsDefineNamespaceOf, define_namespace_fields, IsSoundDefineNamespace};
 
 use crate::draft::read_draft;
 use crate::error::WireError;
@@ -23,7 +23,7 @@ impl OperatorDefineNamespace {
         alloc: Global,
         draft: OneText<'_>,
     ) -> Result<OperatorDefineNamespace, AllocError>
-        ensures { IfOk result (λ v. define_namespace_seen v ≡ define_namespace_made (one_text_kept draft.entry)) }
+        ensures { IfOk result (λ v. define_namespace_view v ≡ define_namespace_made (one_text_kept draft.entry)) }
     {
         Ok(OperatorDefineNamespace {
             namespace: String::from_str(alloc, draft.text)?,
@@ -36,7 +36,7 @@ impl Codec for OperatorDefineNamespace {
 
     ghost View = { DefineNamespaceValue };
 
-    ghost view = { define_namespace_seen };
+    ghost view = { define_namespace_view };
 
     ghost Says = { IsDefineNamespaceOf };
 

@@ -39,13 +39,15 @@ pub(crate) trait Draft<'a>: Drop {
     /// Keeps what counts of the next field, or finds the fault of its payload.
     fn grow(&mut self, field: RawField<'a>) -> Result<(), WireError>
         ensures given { let f = field_view field.entry in
-            ReturnsOrNoMemory (λ _. kept self.new) result (unless (payload_fault table f.number f.payload) (Ok (with_field (kept self.old) f))) }
+            ReturnsOrNoMemory (λ _. kept self.new) result
+            (unless (payload_fault table f.number f.payload) (Ok (with_field (kept self.old) f))) }
         ensures memory { IfErr result (λ e. e ≡ OutOfMemory → TakesMemory) };
 }
 
 /// Reads the fields of a message, all of the bytes, each once.
 pub(crate) fn read_into<'a, D: Draft<'a>>(draft: &mut D, bytes: &'a [u8]) -> Result<(), WireError>
-    ensures given { ReturnsOrNoMemory (λ _. D.kept draft.new) result (kept_of D.with_field (D.kept draft.old) (fields_of D.table bytes.now)) }
+    ensures given { ReturnsOrNoMemory (λ _. D.kept draft.new) result
+        (kept_of D.with_field (D.kept draft.old) (fields_of D.table bytes.now)) }
     ensures memory { IfErr result (λ e. e ≡ OutOfMemory → D.TakesMemory) }
 {
     let mut rest = bytes;

@@ -4,7 +4,7 @@ ghost use Rattle.std.specs.Prelude.{◌≡◌, ◌≢◌, Ok, Err, IfOk, IfErr};
 ghost use Rattle.warg_protobuf.specs.declared.error.WireError.{WireError};
 ghost use Rattle.warg_protobuf.specs.declared.error.WireError.TheVariants.{OutOfMemory};
 ghost use Rattle.warg_protobuf.specs.Drafts.{no_parts, envelope_with};
-ghost use Rattle.warg_protobuf.specs.Envelope.{envelope_table, EnvelopeValue, envelope_seen, borrowed_envelope, envelope_from, IsEnvelope, IsEnvelopeOf, envelope_of, envelope_fields, IsSoundEnvelope};
+ghost use Rattle.warg_protobuf.specs.Envelope.{envelope_table, EnvelopeValue, envelope_view, borrowed_envelope, envelope_from, IsEnvelope, IsEnvelopeOf, envelope_of, envelope_fields, IsSoundEnvelope};
 ghost use Rattle.warg_protobuf.specs.Reading.{Returns};
 ghost use Rattle.warg_protobuf.specs.Table.{takes, HasFault};
 
@@ -48,7 +48,8 @@ impl Envelope {
 
         // What the bytes say is read.
         ensures only { (v : EnvelopeValue) → IsEnvelope bytes.now v → Returns borrowed_envelope result (Ok v) }
-        ensures only_fault { (e : WireError) → HasFault envelope_table bytes.now e → Returns borrowed_envelope result (Err e) }
+        ensures only_fault { (e : WireError) → HasFault envelope_table bytes.now e →
+            Returns borrowed_envelope result (Err e) }
         ensures computed { Returns borrowed_envelope result (envelope_of bytes.now) }
     {
         let mut view = EnvelopeView {
@@ -110,7 +111,7 @@ impl Codec for Envelope {
 
     ghost View = { EnvelopeValue };
 
-    ghost view = { envelope_seen };
+    ghost view = { envelope_view };
 
     ghost Says = { IsEnvelopeOf };
 

@@ -2,7 +2,7 @@
 
 ghost use Rattle.std.specs.Prelude.{◌≡◌, IfOk};
 ghost use Rattle.warg_protobuf.specs.Drafts.{text_and_numbers_kept, grant_flat_made};
-ghost use Rattle.warg_protobuf.specs.GrantFlat.{grant_flat_table, GrantFlatValue, grant_flat_seen, grant_flat_from, IsGrantFlatOf, grant_flat_fields, IsSoundGrantFlat};
+ghost use Rattle.warg_protobuf.specs.GrantFlat.{grant_flat_table, GrantFlatValue, grant_flat_view, grant_flat_from, IsGrantFlatOf, grant_flat_fields, IsSoundGrantFlat};
 
 use crate::draft::read_draft;
 use crate::error::WireError;
@@ -28,7 +28,7 @@ pub type PackageGrantFlat = GrantFlat;
 impl GrantFlat {
     /// The message of what is kept.
     pub(crate) fn finish(alloc: Global, draft: TextAndNumbers<'_>) -> Result<GrantFlat, AllocError>
-        ensures { IfOk result (λ v. grant_flat_seen v ≡ grant_flat_made (text_and_numbers_kept draft.entry)) }
+        ensures { IfOk result (λ v. grant_flat_view v ≡ grant_flat_made (text_and_numbers_kept draft.entry)) }
     {
         Ok(GrantFlat {
             key: String::from_str(alloc, draft.text)?,
@@ -42,7 +42,7 @@ impl Codec for GrantFlat {
 
     ghost View = { GrantFlatValue };
 
-    ghost view = { grant_flat_seen };
+    ghost view = { grant_flat_view };
 
     ghost Says = { IsGrantFlatOf };
 

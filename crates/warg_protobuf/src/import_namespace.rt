@@ -2,7 +2,7 @@
 
 ghost use Rattle.std.specs.Prelude.{◌≡◌, IfOk};
 ghost use Rattle.warg_protobuf.specs.Drafts.{two_texts_kept, import_namespace_made};
-ghost use Rattle.warg_protobuf.specs.ImportNamespace.{import_namespace_table, ImportNamespaceValue, import_namespace_seen, import_namespace_from, IsImportNamespaceOf, import_namespace_fields, IsSoundImportNamespace};
+ghost use Rattle.warg_protobuf.specs.ImportNamespace.{import_namespace_table, ImportNamespaceValue, import_namespace_view, import_namespace_from, IsImportNamespaceOf, import_namespace_fields, IsSoundImportNamespace};
 
 use crate::draft::read_draft;
 use crate::error::WireError;
@@ -25,7 +25,7 @@ impl OperatorImportNamespace {
         alloc: Global,
         draft: TwoTexts<'_>,
     ) -> Result<OperatorImportNamespace, AllocError>
-        ensures { IfOk result (λ v. import_namespace_seen v ≡ import_namespace_made (two_texts_kept draft.entry)) }
+        ensures { IfOk result (λ v. import_namespace_view v ≡ import_namespace_made (two_texts_kept draft.entry)) }
     {
         Ok(OperatorImportNamespace {
             namespace: String::from_str(alloc, draft.first)?,
@@ -39,7 +39,7 @@ impl Codec for OperatorImportNamespace {
 
     ghost View = { ImportNamespaceValue };
 
-    ghost view = { import_namespace_seen };
+    ghost view = { import_namespace_view };
 
     ghost Says = { IsImportNamespaceOf };
 

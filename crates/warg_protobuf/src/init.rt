@@ -2,7 +2,7 @@
 
 ghost use Rattle.std.specs.Prelude.{◌≡◌, IfOk};
 ghost use Rattle.warg_protobuf.specs.Drafts.{two_texts_kept, init_made};
-ghost use Rattle.warg_protobuf.specs.Init.{init_table, InitValue, init_seen, init_from, IsInitOf, init_fields, IsSoundInit};
+ghost use Rattle.warg_protobuf.specs.Init.{init_table, InitValue, init_view, init_from, IsInitOf, init_fields, IsSoundInit};
 
 use crate::draft::read_draft;
 use crate::error::WireError;
@@ -28,7 +28,7 @@ pub type PackageInit = Init;
 impl Init {
     /// The message of what is kept.
     pub(crate) fn finish(alloc: Global, draft: TwoTexts<'_>) -> Result<Init, AllocError>
-        ensures { IfOk result (λ v. init_seen v ≡ init_made (two_texts_kept draft.entry)) }
+        ensures { IfOk result (λ v. init_view v ≡ init_made (two_texts_kept draft.entry)) }
     {
         Ok(Init {
             key: String::from_str(alloc, draft.first)?,
@@ -42,7 +42,7 @@ impl Codec for Init {
 
     ghost View = { InitValue };
 
-    ghost view = { init_seen };
+    ghost view = { init_view };
 
     ghost Says = { IsInitOf };
 

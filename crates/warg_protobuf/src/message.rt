@@ -46,7 +46,8 @@ pub(crate) trait Codec: Drop {
     /// What is computed of fields is the only value that they say, and what is written is read again. This has no effect.
     fn laws()
         ensures agrees { Agrees table value Says }
-        ensures written { (v : View) → is_sound v → length (bytes_of (written v)) < 2 ^ 64 → IsMessage table Says (bytes_of (written v)) v };
+        ensures written { (v : View) → is_sound v → length (bytes_of (written v)) < 2 ^ 64 →
+            IsMessage table Says (bytes_of (written v)) v };
 }
 
 /// The bytes of a message.
@@ -70,8 +71,10 @@ pub trait Message: Codec {
         ensures fault { IfErr result (λ e. e ≢ OutOfMemory → HasFault Self.table bytes.now e) }
 
         // What the bytes say is read, unless memory runs out.
-        ensures only { (v : Self.View) → IsMessage Self.table Self.Says bytes.now v → ReturnsOrNoMemory Self.view result (Ok v) }
-        ensures only_fault { (e : WireError) → HasFault Self.table bytes.now e → ReturnsOrNoMemory Self.view result (Err e) }
+        ensures only { (v : Self.View) → IsMessage Self.table Self.Says bytes.now v →
+            ReturnsOrNoMemory Self.view result (Ok v) }
+        ensures only_fault { (e : WireError) → HasFault Self.table bytes.now e →
+            ReturnsOrNoMemory Self.view result (Err e) }
         ensures computed { ReturnsOrNoMemory Self.view result (message_of Self.table Self.value bytes.now) }
     {
         Self::laws();

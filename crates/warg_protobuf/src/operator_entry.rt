@@ -2,7 +2,7 @@
 
 ghost use Rattle.std.specs.Prelude.{◌≡◌, Option, IfOk};
 ghost use Rattle.warg_protobuf.specs.Drafts.{one_text_kept, two_texts_kept, member_kept, operator_entry_made};
-ghost use Rattle.warg_protobuf.specs.OperatorEntry.{operator_entry_table, OperatorMember, operator_entry_seen, operator_entry_from, IsOperatorEntryOf, operator_entry_fields, IsSoundOperatorEntry};
+ghost use Rattle.warg_protobuf.specs.OperatorEntry.{operator_entry_table, OperatorMember, operator_entry_view, operator_entry_from, IsOperatorEntryOf, operator_entry_fields, IsSoundOperatorEntry};
 
 use crate::define_namespace::OperatorDefineNamespace;
 use crate::draft::read_draft;
@@ -45,7 +45,8 @@ type Draft<'a> = EntryDraft<'a, OneText<'a>, TwoTexts<'a>>;
 impl OperatorEntry {
     /// The message of what is kept.
     fn finish(alloc: Global, draft: Draft<'_>) -> Result<OperatorEntry, AllocError>
-        ensures { IfOk result (λ v. operator_entry_seen v ≡ operator_entry_made (member_kept one_text_kept two_texts_kept draft.entry.member)) }
+        ensures { IfOk result (λ v. operator_entry_view v ≡ operator_entry_made
+            (member_kept one_text_kept two_texts_kept draft.entry.member)) }
     {
         let contents = match draft.member {
             MemberDraft::Absent => return Ok(OperatorEntry { contents: None }),
@@ -81,7 +82,7 @@ impl Codec for OperatorEntry {
 
     ghost View = { Option OperatorMember };
 
-    ghost view = { operator_entry_seen };
+    ghost view = { operator_entry_view };
 
     ghost Says = { IsOperatorEntryOf };
 

@@ -2,7 +2,7 @@
 
 ghost use Rattle.std.specs.Prelude.{◌≡◌, Option, IfOk};
 ghost use Rattle.warg_protobuf.specs.Drafts.{one_text_kept, two_texts_kept, member_kept, package_entry_made};
-ghost use Rattle.warg_protobuf.specs.PackageEntry.{package_entry_table, PackageMember, package_entry_seen, package_entry_from, IsPackageEntryOf, package_entry_fields, IsSoundPackageEntry};
+ghost use Rattle.warg_protobuf.specs.PackageEntry.{package_entry_table, PackageMember, package_entry_view, package_entry_from, IsPackageEntryOf, package_entry_fields, IsSoundPackageEntry};
 
 use crate::draft::read_draft;
 use crate::entry::{EntryDraft, MemberDraft};
@@ -45,7 +45,8 @@ type Draft<'a> = EntryDraft<'a, TwoTexts<'a>, OneText<'a>>;
 impl PackageEntry {
     /// The message of what is kept.
     fn finish(alloc: Global, draft: Draft<'_>) -> Result<PackageEntry, AllocError>
-        ensures { IfOk result (λ v. package_entry_seen v ≡ package_entry_made (member_kept two_texts_kept one_text_kept draft.entry.member)) }
+        ensures { IfOk result (λ v. package_entry_view v ≡ package_entry_made
+            (member_kept two_texts_kept one_text_kept draft.entry.member)) }
     {
         let contents = match draft.member {
             MemberDraft::Absent => return Ok(PackageEntry { contents: None }),
@@ -81,7 +82,7 @@ impl Codec for PackageEntry {
 
     ghost View = { Option PackageMember };
 
-    ghost view = { package_entry_seen };
+    ghost view = { package_entry_view };
 
     ghost Says = { IsPackageEntryOf };
 

@@ -2,8 +2,8 @@
 
 ghost use Rattle.std.specs.Prelude.{◌≡◌, ◌++◌, map, OnOk, IfOk, string_bytes};
 ghost use Rattle.warg_protobuf.specs.Drafts.{timestamp_kept, time_grown, RecordKept, record_kept, no_record, record_with, time_made, record_made};
-ghost use Rattle.warg_protobuf.specs.Record.{RecordValue, record_table, record_value, record_seen, record_from, record_fields, IsRecordOf, IsSoundRecord};
-ghost use Rattle.warg_protobuf.specs.Timestamp.{timestamp_seen};
+ghost use Rattle.warg_protobuf.specs.Record.{RecordValue, record_table, record_value, record_view, record_from, record_fields, IsRecordOf, IsSoundRecord};
+ghost use Rattle.warg_protobuf.specs.Timestamp.{timestamp_view};
 ghost use Rattle.warg_protobuf.specs.Table.{takes};
 ghost use Rattle.warg_protobuf.specs.Views.{option_view, ReturnsOrNoMemory};
 ghost use Rattle.warg_protobuf.specs.Writing.{bytes_of};
@@ -51,8 +51,10 @@ struct RecordDraft<'a, E> {
 
 impl<'a, E: Codec> RecordDraft<'a, E> {
     fn grow_time(&mut self, bytes: &'a [u8]) -> Result<(), WireError>
-        ensures given { ReturnsOrNoMemory (λ _. option_view timestamp_kept self.new.time) result (time_grown (option_view timestamp_kept self.old.time) bytes.now) }
-        ensures others { OnOk result ((self.new.prev ≡ self.old.prev) × (self.new.version ≡ self.old.version) × (self.new.entries ≡ self.old.entries)) }
+        ensures given { ReturnsOrNoMemory (λ _. option_view timestamp_kept self.new.time) result
+            (time_grown (option_view timestamp_kept self.old.time) bytes.now) }
+        ensures others { OnOk result ((self.new.prev ≡ self.old.prev) × (self.new.version ≡ self.old.version) ×
+            (self.new.entries ≡ self.old.entries)) }
     {
         let mut time = match self.time {
             Some(time) => time,
@@ -116,7 +118,7 @@ impl<'a, E: Codec> Draft<'a> for RecordDraft<'a, E> {
 impl<E: Codec> Record<E> {
     /// The message of what is kept.
     fn finish(alloc: Global, draft: RecordDraft<'_, E>) -> Result<Record<E>, AllocError>
-        ensures { IfOk result (λ v. record_seen E.view v ≡ record_made (record_kept E.view draft.entry)) }
+        ensures { IfOk result (λ v. record_view E.view v ≡ record_made (record_kept E.view draft.entry)) }
     {
         Ok(Record {
             prev: own_text(alloc, draft.prev)?,
@@ -137,7 +139,7 @@ fn own_text(alloc: Global, text: Option<&str>) -> Result<Option<String>, AllocEr
 }
 
 fn finish_time(time: Option<TimestampDraft>) -> Option<TimestampPair>
-    ensures { option_view timestamp_seen result ≡ option_view time_made (option_view timestamp_kept time) }
+    ensures { option_view timestamp_view result ≡ option_view time_made (option_view timestamp_kept time) }
 {
     let time = time?;
     Some(time.finish())
@@ -148,7 +150,7 @@ impl<E: Codec> Codec for Record<E> {
 
     ghost View = { RecordValue E.View };
 
-    ghost view = { record_seen E.view };
+    ghost view = { record_view E.view };
 
     ghost Says = { IsRecordOf E.table E.Says };
 
@@ -188,9 +190,11 @@ pub(crate) fn push_record<E: Codec>(
     time: &Option<TimestampPair>,
     entries: &[E],
 ) -> Result<(), AllocError>
-    ensures spelled { let value = record_value (option_view (λ s. string_bytes s) prev.now) version (option_view timestamp_seen time.now) (map E.view entries.now) in
+    ensures spelled { let value = record_value (option_view (λ s. string_bytes s) prev.now) version
+        (option_view timestamp_view time.now) (map E.view entries.now) in
         OnOk result (out.new.items ≡ out.old.items ++ bytes_of (record_fields (λ v. bytes_of (E.written v)) value)) }
-    ensures sound { let value = record_value (option_view (λ s. string_bytes s) prev.now) version (option_view timestamp_seen time.now) (map E.view entries.now) in
+    ensures sound { let value = record_value (option_view (λ s. string_bytes s) prev.now) version
+        (option_view timestamp_view time.now) (map E.view entries.now) in
         OnOk result (IsSoundRecord E.is_sound value) }
 {
     push_optional_text(out, 1, prev)?;

@@ -2,7 +2,7 @@
 
 ghost use Rattle.std.specs.Prelude.{◌≡◌, IfOk};
 ghost use Rattle.warg_protobuf.specs.Drafts.{two_texts_kept, release_made};
-ghost use Rattle.warg_protobuf.specs.Release.{release_table, ReleaseValue, release_seen, release_from, IsReleaseOf, release_fields, IsSoundRelease};
+ghost use Rattle.warg_protobuf.specs.Release.{release_table, ReleaseValue, release_view, release_from, IsReleaseOf, release_fields, IsSoundRelease};
 
 use crate::draft::read_draft;
 use crate::error::WireError;
@@ -22,7 +22,7 @@ pub struct PackageRelease {
 impl PackageRelease {
     /// The message of what is kept.
     pub(crate) fn finish(alloc: Global, draft: TwoTexts<'_>) -> Result<PackageRelease, AllocError>
-        ensures { IfOk result (λ v. release_seen v ≡ release_made (two_texts_kept draft.entry)) }
+        ensures { IfOk result (λ v. release_view v ≡ release_made (two_texts_kept draft.entry)) }
     {
         Ok(PackageRelease {
             version: String::from_str(alloc, draft.first)?,
@@ -36,7 +36,7 @@ impl Codec for PackageRelease {
 
     ghost View = { ReleaseValue };
 
-    ghost view = { release_seen };
+    ghost view = { release_view };
 
     ghost Says = { IsReleaseOf };
 

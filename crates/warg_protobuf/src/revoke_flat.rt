@@ -2,7 +2,7 @@
 
 ghost use Rattle.std.specs.Prelude.{◌≡◌, IfOk};
 ghost use Rattle.warg_protobuf.specs.Drafts.{text_and_numbers_kept, revoke_flat_made};
-ghost use Rattle.warg_protobuf.specs.RevokeFlat.{revoke_flat_table, RevokeFlatValue, revoke_flat_seen, revoke_flat_from, IsRevokeFlatOf, revoke_flat_fields, IsSoundRevokeFlat};
+ghost use Rattle.warg_protobuf.specs.RevokeFlat.{revoke_flat_table, RevokeFlatValue, revoke_flat_view, revoke_flat_from, IsRevokeFlatOf, revoke_flat_fields, IsSoundRevokeFlat};
 
 use crate::draft::read_draft;
 use crate::error::WireError;
@@ -28,7 +28,7 @@ pub type PackageRevokeFlat = RevokeFlat;
 impl RevokeFlat {
     /// The message of what is kept.
     pub(crate) fn finish(alloc: Global, draft: TextAndNumbers<'_>) -> Result<RevokeFlat, AllocError>
-        ensures { IfOk result (λ v. revoke_flat_seen v ≡ revoke_flat_made (text_and_numbers_kept draft.entry)) }
+        ensures { IfOk result (λ v. revoke_flat_view v ≡ revoke_flat_made (text_and_numbers_kept draft.entry)) }
     {
         Ok(RevokeFlat {
             key_id: String::from_str(alloc, draft.text)?,
@@ -42,7 +42,7 @@ impl Codec for RevokeFlat {
 
     ghost View = { RevokeFlatValue };
 
-    ghost view = { revoke_flat_seen };
+    ghost view = { revoke_flat_view };
 
     ghost Says = { IsRevokeFlatOf };
 

@@ -2,7 +2,7 @@
 
 ghost use Rattle.std.specs.Prelude.{◌≡◌};
 ghost use Rattle.warg_protobuf.specs.Drafts.{TimestampKept, timestamp_kept, no_time, timestamp_with, time_made};
-ghost use Rattle.warg_protobuf.specs.Timestamp.{timestamp_table, TimestampValue, timestamp_seen, timestamp_from, IsTimestampOf, timestamp_fields, IsSoundTimestamp};
+ghost use Rattle.warg_protobuf.specs.Timestamp.{timestamp_table, TimestampValue, timestamp_view, timestamp_from, IsTimestampOf, timestamp_fields, IsSoundTimestamp};
 
 use crate::draft::{Draft, read_draft};
 use crate::error::WireError;
@@ -30,7 +30,7 @@ pub(crate) struct TimestampDraft {
 
 impl TimestampDraft {
     pub(crate) fn finish(&self) -> TimestampPair
-        ensures { timestamp_seen result ≡ time_made (timestamp_kept self.now) }
+        ensures { timestamp_view result ≡ time_made (timestamp_kept self.now) }
     {
         TimestampPair {
             seconds: self.seconds.cast_signed(),
@@ -84,7 +84,7 @@ impl Codec for TimestampPair {
 
     ghost View = { TimestampValue };
 
-    ghost view = { timestamp_seen };
+    ghost view = { timestamp_view };
 
     ghost Says = { IsTimestampOf };
 

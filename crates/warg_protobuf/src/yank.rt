@@ -2,7 +2,7 @@
 
 ghost use Rattle.std.specs.Prelude.{◌≡◌, IfOk};
 ghost use Rattle.warg_protobuf.specs.Drafts.{one_text_kept, yank_made};
-ghost use Rattle.warg_protobuf.specs.Yank.{yank_table, YankValue, yank_seen, yank_from, IsYankOf, yank_fields, IsSoundYank};
+ghost use Rattle.warg_protobuf.specs.Yank.{yank_table, YankValue, yank_view, yank_from, IsYankOf, yank_fields, IsSoundYank};
 
 use crate::draft::read_draft;
 use crate::error::WireError;
@@ -20,7 +20,7 @@ pub struct PackageYank {
 impl PackageYank {
     /// The message of what is kept.
     pub(crate) fn finish(alloc: Global, draft: OneText<'_>) -> Result<PackageYank, AllocError>
-        ensures { IfOk result (λ v. yank_seen v ≡ yank_made (one_text_kept draft.entry)) }
+        ensures { IfOk result (λ v. yank_view v ≡ yank_made (one_text_kept draft.entry)) }
     {
         Ok(PackageYank {
             version: String::from_str(alloc, draft.text)?,
@@ -33,7 +33,7 @@ impl Codec for PackageYank {
 
     ghost View = { YankValue };
 
-    ghost view = { yank_seen };
+    ghost view = { yank_view };
 
     ghost Says = { IsYankOf };
 

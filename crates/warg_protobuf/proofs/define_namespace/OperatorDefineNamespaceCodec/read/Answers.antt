@@ -1,7 +1,7 @@
 use Rattle.warg_protobuf.specs.Drafts.{one_text_kept, no_text, one_text_with, define_namespace_made}
-use Rattle.warg_protobuf.specs.DefineNamespace.{define_namespace_table, define_namespace_from, define_namespace_seen}
+use Rattle.warg_protobuf.specs.DefineNamespace.{define_namespace_table, define_namespace_from, define_namespace_view}
 use Rattle.warg_protobuf.proofs.Finishing.{finished_as, define_namespace_finishes}
 use Rattle.warg_protobuf.proofs.define_namespace.OperatorDefineNamespaceCodec.read.Goals as goal
 
 pub returns : goal.returns
-returns c = finished_as define_namespace_table define_namespace_from one_text_with no_text define_namespace_made define_namespace_finishes c.args.bytes.now (one_text_kept c.in_ok-draft.draft) (define_namespace_seen c.in_ok-finish.field-0) c.in_ok-draft.ensures c.in_ok-finish.ensures
+returns c = finished_as define_namespace_table define_namespace_from one_text_with no_text define_namespace_made define_namespace_finishes c.args.bytes.now (one_text_kept c.in_ok-draft.draft) (define_namespace_view c.in_ok-finish.field-0) c.in_ok-draft.ensures c.in_ok-finish.ensures

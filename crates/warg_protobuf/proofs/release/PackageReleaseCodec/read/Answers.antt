@@ -1,7 +1,7 @@
 use Rattle.warg_protobuf.specs.Drafts.{two_texts_kept, no_texts, two_texts_with, release_made}
-use Rattle.warg_protobuf.specs.Release.{release_table, release_from, release_seen}
+use Rattle.warg_protobuf.specs.Release.{release_table, release_from, release_view}
 use Rattle.warg_protobuf.proofs.Finishing.{finished_as, release_finishes}
 use Rattle.warg_protobuf.proofs.release.PackageReleaseCodec.read.Goals as goal
 
 pub returns : goal.returns
-returns c = finished_as release_table release_from two_texts_with no_texts release_made release_finishes c.args.bytes.now (two_texts_kept c.in_ok-draft.draft) (release_seen c.in_ok-finish.field-0) c.in_ok-draft.ensures c.in_ok-finish.ensures
+returns c = finished_as release_table release_from two_texts_with no_texts release_made release_finishes c.args.bytes.now (two_texts_kept c.in_ok-draft.draft) (release_view c.in_ok-finish.field-0) c.in_ok-draft.ensures c.in_ok-finish.ensures
