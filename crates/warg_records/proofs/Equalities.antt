@@ -9,12 +9,12 @@ use Rattle.std.proofs.lemmas.Slice.Eq.{bytes_eq-Decides, slice_eq-Decides}
 use Rattle.std.proofs.lemmas.Cmp.{nat_eq_equiv}
 use Rattle.semver.specs.Identifiers.{parts_of, pre_text, build_text}
 use Rattle.semver.specs.declared.Version.{Version}
-use Rattle.warg_crypto.specs.Tags.{Tag, same_tag}
+use Rattle.warg_crypto.specs.NamedBytes.{NamedBytes, same_tag}
 use Rattle.warg_crypto.specs.Times.{Time, same_time}
 use Rattle.warg_crypto.specs.declared.hash.AnyHash.{AnyHash}
 use Rattle.warg_crypto.specs.declared.hash.HashAlgorithm.{HashAlgorithm}
 use Rattle.warg_crypto.specs.declared.hash.HashAlgorithm.TheVariants.{Sha256}
-use Rattle.warg_records.specs.Readings.{Reading, Shared, Init, GrantFlat, RevokeFlat, Said}
+use Rattle.warg_records.specs.RecordData.{EntryData, Shared, Init, GrantFlat, RevokeFlat, RecordData}
 use Rattle.warg_records.specs.declared.registry.record_id.RecordId.{RecordId}
 
 -- the test of two values tells that they look alike, so that of two lists does
@@ -34,7 +34,7 @@ options_decided test each None (Some y) = (λ (h : false ≡ true). cc, λ (h : 
 options_decided test each (Some x) None = (λ (h : false ≡ true). cc, λ (h : Some x ≡ None). cc)
 options_decided test each (Some x) (Some y) = Decides-like _ (λ h. ap (λ z. Some z) h) (λ (h : Some x ≡ Some y). cc) (each x y)
 
-pub tag_decided : (a b : Tag) → Decides (same_tag a b) (a ≡ b)
+pub tag_decided : (a b : NamedBytes) → Decides (same_tag a b) (a ≡ b)
 tag_decided a b =
     Decides-like _ (λ h i. record { name = h.0 i; bytes = h.1 i }) (λ h. (λ i. (h i).name, λ i. (h i).bytes))
     (Decides-and _ _ (bytes_eq-Decides a.name b.name) (bytes_eq-Decides a.bytes b.bytes))
@@ -75,19 +75,19 @@ id_decided a b = Decides-like _ (λ e i. record { hash = e i }) (λ e i. (e i).h
 
 -- the entries that both kinds have
 module _ {P O : Type 0} (test : P → P → Bool) (each : (p q : P) → Decides (test p q) (p ≡ q)) where
-  abbrev begun : Tag → Reading P O
+  abbrev begun : NamedBytes → EntryData P O
   begun k = Shared (Init Sha256 k)
 
-  abbrev granted : Tag → List P → Reading P O
+  abbrev granted : NamedBytes → List P → EntryData P O
   granted k ps = Shared (GrantFlat k ps)
 
-  abbrev revoked : List ℕ → List P → Reading P O
+  abbrev revoked : List ℕ → List P → EntryData P O
   revoked k ps = Shared (RevokeFlat k ps)
 
-  pub init_decided : (k l : Tag) → Decides (same_tag k l) (begun k ≡ begun l)
+  pub init_decided : (k l : NamedBytes) → Decides (same_tag k l) (begun k ≡ begun l)
   init_decided k l = Decides-like _ (λ h i. begun (h i)) (λ (h : begun k ≡ begun l). cc) (tag_decided k l)
 
-  pub grant_decided : (k l : Tag) (ps qs : List P) → Decides (same_tag k l && pointwise test ps qs) (granted k ps ≡ granted l qs)
+  pub grant_decided : (k l : NamedBytes) (ps qs : List P) → Decides (same_tag k l && pointwise test ps qs) (granted k ps ≡ granted l qs)
   grant_decided k l ps qs =
       Decides-like _ (λ h i. granted (h.0 i) (h.1 i)) (λ (h : granted k ps ≡ granted l qs). (cc, cc))
       (Decides-and _ _ (tag_decided k l) (slice_eq-Decides each ps qs _ refl))
@@ -101,13 +101,13 @@ module _ {P O : Type 0} (test : P → P → Bool) (each : (p q : P) → Decides 
 abbrev same_id : RecordId → RecordId → Bool
 same_id a b = bytes_eq a.hash.bytes b.hash.bytes
 
-abbrev record_from : {P O : Type 0} → Option RecordId → ℕ → Time → List (Reading P O) → Said P O
+abbrev record_from : {P O : Type 0} → Option RecordId → ℕ → Time → List (EntryData P O) → RecordData P O
 record_from prev version time entries = record { prev = prev; version = version; time = time; entries = entries }
 
-pub record_decided : {E P O : Type 0} (reading : E → Reading P O) (test : E → E → Bool) → ((a b : E) → Decides (test a b) (reading a ≡ reading b))
+pub record_decided : {E P O : Type 0} (entry_data : E → EntryData P O) (test : E → E → Bool) → ((a b : E) → Decides (test a b) (entry_data a ≡ entry_data b))
     → (p q : Option RecordId) (v w : ℕ) (s t : Time) (es fs : List E)
     → Decides (option_eq same_id p q && ((v == w) && (same_time s t && pointwise test es fs)))
-    (record_from p v s (map reading es) ≡ record_from q w t (map reading fs))
-record_decided reading test each p q v w s t es fs =
+    (record_from p v s (map entry_data es) ≡ record_from q w t (map entry_data fs))
+record_decided entry_data test each p q v w s t es fs =
     Decides-like _ (λ h i. record_from (h.0 i) (h.1.0 i) (h.1.1.0 i) (h.1.1.1 i)) (λ h. (λ i. (h i).prev, (λ i. (h i).version, (λ i. (h i).time, λ i. (h i).entries))))
-    (Decides-and _ _ (options_decided same_id id_decided p q) (Decides-and _ _ (Decides-eqb v w) (Decides-and _ _ (time_decided s t) (lists_decided reading test each es fs))))
+    (Decides-and _ _ (options_decided same_id id_decided p q) (Decides-and _ _ (Decides-eqb v w) (Decides-and _ _ (time_decided s t) (lists_decided entry_data test each es fs))))

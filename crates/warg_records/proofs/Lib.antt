@@ -13,4 +13,6 @@ pub mod Pieces
 pub mod Equalities
 pub mod PackageEqualities
 pub mod OperatorEqualities
+pub mod RegistryJsonLaws
+pub mod EnvelopeJsonLaws
 pub mod JsonLemmas

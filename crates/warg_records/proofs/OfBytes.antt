@@ -7,7 +7,7 @@ use Rattle.base64.specs.Engines.{standard}
 use Rattle.base64.specs.GeneralPurpose.{decode_of}
 use Rattle.warg_crypto.specs.HashText.{is_colon, hash_of, algorithm_of}
 use Rattle.warg_crypto.specs.Keys.{with_fault, key_fault, signature_fault}
-use Rattle.warg_crypto.specs.Tags.{Tag, tag_of, tag_or_bad}
+use Rattle.warg_crypto.specs.NamedBytes.{NamedBytes, tag_of, tag_or_bad}
 use Rattle.warg_crypto.specs.declared.signing.tagged.TagError.{TagError}
 use Rattle.warg_crypto.specs.declared.signing.tagged.TagError.TheVariants as tag
 use Rattle.warg_crypto.specs.Times.{time_from}
@@ -31,12 +31,12 @@ use Rattle.warg_protobuf.specs.Table.{Table, HasFault}
 use Rattle.warg_protobuf.specs.Timestamp.{TimestampValue}
 use Rattle.warg_protobuf.specs.declared.error.WireError.{WireError}
 use Rattle.warg_protobuf.specs.declared.error.WireError.TheVariants as error
-use Rattle.warg_records.specs.Envelopes.{signed_letter, enclosed_letter, opened_letter, envelope_of}
+use Rattle.warg_records.specs.Envelopes.{signed_data, enclosed_data, opened_data, envelope_of}
 use Rattle.warg_records.specs.Faults.{RecordFault, Prev, TimeOutOfRange, Algorithm, Key, Version, ContentHash}
 use Rattle.warg_records.specs.OfBytes.{IsOfContent, IsOfEnvelope}
 use Rattle.warg_records.specs.OperatorReading.{operator_entry_of}
 use Rattle.warg_records.specs.PackageReading.{package_entry_of, release_of, version_of, yank_of}
-use Rattle.warg_records.specs.Readings.{Reading}
+use Rattle.warg_records.specs.RecordData.{EntryData}
 use Rattle.warg_records.specs.Steps.{◌>>=◌, named, each, prev_of, time_of, hash_algorithm_of, key_of, beginning_of, init_of, known_permission, permission_in, grant_of, revoke_of, message_of, record_of}
 use Rattle.warg_records.specs.OperatorPermissions as operator_permission
 use Rattle.warg_records.specs.PackagePermissions as package_permission
@@ -63,7 +63,7 @@ or_bad_within : (name : List ℕ) (d : Result (List ℕ) DecodeError) → IfErr 
 or_bad_within name (Ok bytes) = tt
 or_bad_within name (Err e) = tt
 
-parts_within : (a b : Bool) (r : Result Tag TagError) → IfErr r IsOfText → IfErr (cond a (Err tag.MissingColon) (cond b (Err tag.EmptyAlgorithm) r)) IsOfText
+parts_within : (a b : Bool) (r : Result NamedBytes TagError) → IfErr r IsOfText → IfErr (cond a (Err tag.MissingColon) (cond b (Err tag.EmptyAlgorithm) r)) IsOfText
 parts_within true b r h = tt
 parts_within false true r h = tt
 parts_within false false r h = h
@@ -71,7 +71,7 @@ parts_within false false r h = h
 tag_within : (text : List ℕ) → IfErr (tag_of text) IsOfText
 tag_within text = parts_within (position_or_len is_colon text == length text) (length (before_first is_colon text) == 0) (tag_or_bad (before_first is_colon text) (decode_of standard (after_first is_colon text))) (or_bad_within (before_first is_colon text) (decode_of standard (after_first is_colon text)))
 
-key_from_within : (r : Result Tag TagError) → IfErr r IsOfText → IfErr (named Key (with_fault key_fault r)) IsOfContent
+key_from_within : (r : Result NamedBytes TagError) → IfErr r IsOfText → IfErr (named Key (with_fault key_fault r)) IsOfContent
 key_from_within (Ok t) h = tt
 key_from_within (Err tag.MissingColon) h = tt
 key_from_within (Err tag.EmptyAlgorithm) h = tt
@@ -130,7 +130,7 @@ operator_entry_within (Some (operator_member.RevokeFlat m)) = then_within IsOfCo
 operator_entry_within (Some (operator_member.DefineNamespace m)) = tt
 operator_entry_within (Some (operator_member.ImportNamespace m)) = tt
 
-module _ {E P O : Type 0} (entry_of : E → Result (Reading P O) RecordFault) (entry_within : (x : E) → IfErr (entry_of x) IsOfContent) where
+module _ {E P O : Type 0} (entry_of : E → Result (EntryData P O) RecordFault) (entry_within : (x : E) → IfErr (entry_of x) IsOfContent) where
   record_within : (m : RecordValue E) → IfErr (record_of entry_of m) IsOfContent
   record_within m =
       then_within IsOfContent (prev_of m.prev) _ (prev_within m.prev)
@@ -157,7 +157,7 @@ package_within content computes no_memory = content_within package_entry_of pack
 pub operator_within : (content : List ℕ) → Computes operator_record_table operator_message.operator_record_of IsOperatorRecord content → (HasFault operator_record_table content error.OutOfMemory → ⊥) → IfErr (message_of (operator_message.operator_record_of content) >>= record_of operator_entry_of) IsOfContent
 operator_within content computes no_memory = content_within operator_entry_of operator_entry_within operator_record_table IsOperatorRecord operator_message.operator_record_of content computes no_memory
 
-signed_within : (v : EnvelopeValue) (r : Result Tag TagError) → IfErr r IsOfText → IfErr (signed_letter v (with_fault signature_fault r)) IsOfEnvelope
+signed_within : (v : EnvelopeValue) (r : Result NamedBytes TagError) → IfErr r IsOfText → IfErr (signed_data v (with_fault signature_fault r)) IsOfEnvelope
 signed_within v (Ok t) h = tt
 signed_within v (Err tag.MissingColon) h = tt
 signed_within v (Err tag.EmptyAlgorithm) h = tt
@@ -165,11 +165,11 @@ signed_within v (Err tag.BadBase64) h = tt
 signed_within v (Err tag.OutOfMemory) h = h
 
 module _ {M : Type 0} (read : List ℕ → Result M RecordFault) (within : (content : List ℕ) → IfErr (read content) IsOfContent) (bytes : List ℕ) (computes : Computes envelope_table message.envelope_of message.IsEnvelope bytes) (no_memory : HasFault envelope_table bytes error.OutOfMemory → ⊥) where
-  enclosed_within : (v : EnvelopeValue) (m : Result M RecordFault) → IfErr m IsOfContent → IfErr (enclosed_letter v m) IsOfEnvelope
+  enclosed_within : (v : EnvelopeValue) (m : Result M RecordFault) → IfErr m IsOfContent → IfErr (enclosed_data v m) IsOfEnvelope
   enclosed_within v (Ok m) h = signed_within v (tag_of v.signature) (tag_within v.signature)
   enclosed_within v (Err f) h = h
 
-  opened_within : (o : Result EnvelopeValue WireError) → message.envelope_of bytes ≡ o → IfErr (opened_letter read o) IsOfEnvelope
+  opened_within : (o : Result EnvelopeValue WireError) → message.envelope_of bytes ≡ o → IfErr (opened_data read o) IsOfEnvelope
   opened_within (Ok v) e = enclosed_within v (read v.contents) (within v.contents)
   opened_within (Err error.Truncated) e = tt
   opened_within (Err error.VarintTooLong) e = tt

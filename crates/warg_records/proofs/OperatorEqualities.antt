@@ -5,9 +5,9 @@ use Rattle.std.proofs.Common.{subst}
 use Rattle.std.proofs.lemmas.Bool.Decides.{Decides-and, Decides-like}
 use Rattle.std.proofs.lemmas.Slice.Eq.{bytes_eq-Decides}
 use Rattle.warg_crypto.specs.declared.hash.HashAlgorithm.TheVariants.{Sha256}
-use Rattle.warg_records.specs.OperatorEntries.{OperatorAct, DefineNamespace, ImportNamespace, reading, said}
+use Rattle.warg_records.specs.OperatorEntries.{OperatorOwnEntry, DefineNamespace, ImportNamespace, entry_data, record_data}
 use Rattle.warg_records.specs.OperatorPermissions.{same_permission, same_permission-is, same_permission_equiv}
-use Rattle.warg_records.specs.Readings.{Reading, Shared, Own, Init, GrantFlat, RevokeFlat}
+use Rattle.warg_records.specs.RecordData.{EntryData, Shared, Own, Init, GrantFlat, RevokeFlat}
 use Rattle.warg_records.specs.contracts.operator.model.OperatorEntryPartialEq.TheImpl as entries
 use Rattle.warg_records.specs.contracts.operator.model.OperatorRecordPartialEq.TheImpl as records
 use Rattle.warg_records.specs.declared.operator.permission.Permission.{Permission}
@@ -22,7 +22,7 @@ same_entry = (entries.ghosts).eq
 abbrev pub same_record : OperatorRecord → OperatorRecord → Bool
 same_record = (records.ghosts).eq
 
-abbrev case_of : Reading Permission OperatorAct → ℕ
+abbrev case_of : EntryData Permission OperatorOwnEntry → ℕ
 case_of (Shared (Init algorithm key)) = 0
 case_of (Shared (GrantFlat key permissions)) = 1
 case_of (Shared (RevokeFlat key_id permissions)) = 2
@@ -32,17 +32,17 @@ case_of (Own (ImportNamespace namespace registry)) = 4
 pub permission_decided : (p q : Permission) → Decides (same_permission p q) (p ≡ q)
 permission_decided p q = (same_permission-is p q, λ h. subst (λ (x : Permission). same_permission p x ≡ true) h (same_permission_equiv.refl p))
 
-pub entry_decided : (a b : OperatorEntry) → Decides (same_entry a b) (reading a ≡ reading b)
+pub entry_decided : (a b : OperatorEntry) → Decides (same_entry a b) (entry_data a ≡ entry_data b)
 entry_decided (entry.Init Sha256 k) (entry.Init Sha256 l) = init_decided same_permission permission_decided k l
 entry_decided (entry.GrantFlat k ps) (entry.GrantFlat l qs) = grant_decided same_permission permission_decided k l ps.items qs.items
 entry_decided (entry.RevokeFlat k ps) (entry.RevokeFlat l qs) = revoke_decided same_permission permission_decided k l ps.items qs.items
 entry_decided (entry.DefineNamespace n) (entry.DefineNamespace m) =
-    Decides-like _ (λ e i. Own (DefineNamespace (e i))) (λ (e : reading (entry.DefineNamespace n) ≡ reading (entry.DefineNamespace m)). cc)
+    Decides-like _ (λ e i. Own (DefineNamespace (e i))) (λ (e : entry_data (entry.DefineNamespace n) ≡ entry_data (entry.DefineNamespace m)). cc)
     (bytes_eq-Decides (string_bytes n) (string_bytes m))
 entry_decided (entry.ImportNamespace n r) (entry.ImportNamespace m s) =
-    Decides-like _ (λ e i. Own (ImportNamespace (e.0 i) (e.1 i))) (λ (e : reading (entry.ImportNamespace n r) ≡ reading (entry.ImportNamespace m s)). (cc, cc))
+    Decides-like _ (λ e i. Own (ImportNamespace (e.0 i) (e.1 i))) (λ (e : entry_data (entry.ImportNamespace n r) ≡ entry_data (entry.ImportNamespace m s)). (cc, cc))
     (Decides-and _ _ (bytes_eq-Decides (string_bytes n) (string_bytes m)) (bytes_eq-Decides (string_bytes r) (string_bytes s)))
-entry_decided a b = cases_decided case_of (same_entry a b) (reading a) (reading b) refl refl
+entry_decided a b = cases_decided case_of (same_entry a b) (entry_data a) (entry_data b) refl refl
 
-pub said_decided : (a b : OperatorRecord) → Decides (same_record a b) (said a ≡ said b)
-said_decided a b = record_decided reading same_entry entry_decided a.prev b.prev a.version b.version a.timestamp b.timestamp a.entries.items b.entries.items
+pub said_decided : (a b : OperatorRecord) → Decides (same_record a b) (record_data a ≡ record_data b)
+said_decided a b = record_decided entry_data same_entry entry_decided a.prev b.prev a.version b.version a.timestamp b.timestamp a.entries.items b.entries.items

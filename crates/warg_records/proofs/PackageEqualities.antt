@@ -4,9 +4,9 @@ use Rattle.std.specs.Bool.{Decides}
 use Rattle.std.proofs.Common.{subst}
 use Rattle.std.proofs.lemmas.Bool.Decides.{Decides-and, Decides-like}
 use Rattle.warg_crypto.specs.declared.hash.HashAlgorithm.TheVariants.{Sha256}
-use Rattle.warg_records.specs.PackageEntries.{PackageAct, Release, Yank, reading, said}
+use Rattle.warg_records.specs.PackageEntries.{PackageOwnEntry, Release, Yank, entry_data, record_data}
 use Rattle.warg_records.specs.PackagePermissions.{same_permission, same_permission-is, same_permission_equiv}
-use Rattle.warg_records.specs.Readings.{Reading, Shared, Own, Init, GrantFlat, RevokeFlat}
+use Rattle.warg_records.specs.RecordData.{EntryData, Shared, Own, Init, GrantFlat, RevokeFlat}
 use Rattle.warg_records.specs.contracts.package.model.PackageEntryPartialEq.TheImpl as entries
 use Rattle.warg_records.specs.contracts.package.model.PackageRecordPartialEq.TheImpl as records
 use Rattle.warg_records.specs.declared.package.permission.Permission.{Permission}
@@ -21,7 +21,7 @@ same_entry = (entries.ghosts).eq
 abbrev pub same_record : PackageRecord → PackageRecord → Bool
 same_record = (records.ghosts).eq
 
-abbrev case_of : Reading Permission PackageAct → ℕ
+abbrev case_of : EntryData Permission PackageOwnEntry → ℕ
 case_of (Shared (Init algorithm key)) = 0
 case_of (Shared (GrantFlat key permissions)) = 1
 case_of (Shared (RevokeFlat key_id permissions)) = 2
@@ -31,15 +31,15 @@ case_of (Own (Yank version)) = 4
 pub permission_decided : (p q : Permission) → Decides (same_permission p q) (p ≡ q)
 permission_decided p q = (same_permission-is p q, λ h. subst (λ (x : Permission). same_permission p x ≡ true) h (same_permission_equiv.refl p))
 
-pub entry_decided : (a b : PackageEntry) → Decides (same_entry a b) (reading a ≡ reading b)
+pub entry_decided : (a b : PackageEntry) → Decides (same_entry a b) (entry_data a ≡ entry_data b)
 entry_decided (entry.Init Sha256 k) (entry.Init Sha256 l) = init_decided same_permission permission_decided k l
 entry_decided (entry.GrantFlat k ps) (entry.GrantFlat l qs) = grant_decided same_permission permission_decided k l ps.items qs.items
 entry_decided (entry.RevokeFlat k ps) (entry.RevokeFlat l qs) = revoke_decided same_permission permission_decided k l ps.items qs.items
 entry_decided (entry.Release v g) (entry.Release w h) =
-    Decides-like _ (λ e i. Own (Release (e.0 i) (e.1 i))) (λ (e : reading (entry.Release v g) ≡ reading (entry.Release w h)). (cc, cc))
+    Decides-like _ (λ e i. Own (Release (e.0 i) (e.1 i))) (λ (e : entry_data (entry.Release v g) ≡ entry_data (entry.Release w h)). (cc, cc))
     (Decides-and _ _ (version_decided v w) (hash_decided g h))
-entry_decided (entry.Yank v) (entry.Yank w) = Decides-like _ (λ e i. Own (Yank (e i))) (λ (e : reading (entry.Yank v) ≡ reading (entry.Yank w)). cc) (version_decided v w)
-entry_decided a b = cases_decided case_of (same_entry a b) (reading a) (reading b) refl refl
+entry_decided (entry.Yank v) (entry.Yank w) = Decides-like _ (λ e i. Own (Yank (e i))) (λ (e : entry_data (entry.Yank v) ≡ entry_data (entry.Yank w)). cc) (version_decided v w)
+entry_decided a b = cases_decided case_of (same_entry a b) (entry_data a) (entry_data b) refl refl
 
-pub said_decided : (a b : PackageRecord) → Decides (same_record a b) (said a ≡ said b)
-said_decided a b = record_decided reading same_entry entry_decided a.prev b.prev a.version b.version a.timestamp b.timestamp a.entries.items b.entries.items
+pub said_decided : (a b : PackageRecord) → Decides (same_record a b) (record_data a ≡ record_data b)
+said_decided a b = record_decided entry_data same_entry entry_decided a.prev b.prev a.version b.version a.timestamp b.timestamp a.entries.items b.entries.items

@@ -1,7 +1,7 @@
 -- The computed readings of records and envelopes are what bytes are.
 use Rattle.std.proofs.Common.{◌≡◌, ℕ, List, Result, Ok, Err, refl, sym, ap, subst, ◌∙◌}
 use Rattle.warg_crypto.specs.Keys.{signature_of}
-use Rattle.warg_crypto.specs.Tags.{Tag}
+use Rattle.warg_crypto.specs.NamedBytes.{NamedBytes}
 use Rattle.warg_crypto.specs.declared.signing.error.SignatureParseError.{SignatureParseError}
 use Rattle.warg_protobuf.specs.Envelope.{EnvelopeValue, envelope_table}
 use Rattle.warg_protobuf.specs.Envelope as message
@@ -9,11 +9,11 @@ use Rattle.warg_protobuf.specs.Meaning.{Computes}
 use Rattle.warg_protobuf.specs.Record.{RecordValue}
 use Rattle.warg_protobuf.specs.Table.{Table}
 use Rattle.warg_protobuf.specs.declared.error.WireError.{WireError}
-use Rattle.warg_records.specs.Envelopes.{EnvelopeFault, ProtobufEnvelope, Contents, Signature, signed_letter, enclosed_letter, opened_letter, envelope_of}
+use Rattle.warg_records.specs.Envelopes.{EnvelopeFault, ProtobufEnvelope, Contents, Signature, signed_data, enclosed_data, opened_data, envelope_of}
 use Rattle.warg_records.specs.EnvelopeRelations.{IsEnvelope, HasEnvelopeFault, of_outer, of_contents, of_signature, ReadsEnvelope}
 use Rattle.warg_records.specs.Faults.{RecordFault, Wire}
-use Rattle.warg_records.specs.Letters.{Letter}
-use Rattle.warg_records.specs.Readings.{Reading, Said}
+use Rattle.warg_records.specs.EnvelopeData.{EnvelopeData}
+use Rattle.warg_records.specs.RecordData.{EntryData, RecordData}
 use Rattle.warg_records.specs.Relations.{IsRecord, HasRecordFault, of_message, of_record, ReadsRecord}
 use Rattle.warg_records.specs.Steps.{◌>>=◌, message_of, record_of, wire_fault_of}
 
@@ -33,17 +33,17 @@ module _ {Y F : Type 0} where
   ok_same : (x y : Y) → an_ok x ≡ an_ok y → x ≡ y
   ok_same x y h = cc
 
-module _ {E P O : Type 0} (table : Table) (IsMessage : List ℕ → RecordValue E → Type 0) (entry_of : E → Result (Reading P O) RecordFault) (messages : List ℕ → Result (RecordValue E) WireError) (computes : (b : List ℕ) → Computes table messages IsMessage b) (content : List ℕ) where
-  record_at : Result (RecordValue E) WireError → Result (Said P O) RecordFault
+module _ {E P O : Type 0} (table : Table) (IsMessage : List ℕ → RecordValue E → Type 0) (entry_of : E → Result (EntryData P O) RecordFault) (messages : List ℕ → Result (RecordValue E) WireError) (computes : (b : List ℕ) → Computes table messages IsMessage b) (content : List ℕ) where
+  record_at : Result (RecordValue E) WireError → Result (RecordData P O) RecordFault
   record_at m = message_of m >>= record_of entry_of
 
-  value_at : (m : Result (RecordValue E) WireError) → messages content ≡ m → (s : Said P O) → (message_of m >>= record_of entry_of) ≡ Ok s → IsRecord table IsMessage entry_of content s
+  value_at : (m : Result (RecordValue E) WireError) → messages content ≡ m → (s : RecordData P O) → (message_of m >>= record_of entry_of) ≡ Ok s → IsRecord table IsMessage entry_of content s
   value_at (Ok v) e s h = record { message = v; is = (computes content).value v e; says = h }
   value_at (Err w) e s h = ok_err s (Wire (wire_fault_of w)) (sym h)
 
   fault_at : (m : Result (RecordValue E) WireError) → messages content ≡ m → (f : RecordFault) → (message_of m >>= record_of entry_of) ≡ Err f → HasRecordFault table IsMessage entry_of content f
   fault_at (Ok v) e f h = of_record ((computes content).value v e) h
-  fault_at (Err w) e f h = subst (HasRecordFault table IsMessage entry_of content) (err_same {Y = Said P O} (Wire (wire_fault_of w)) f h) (of_message ((computes content).fault w e))
+  fault_at (Err w) e f h = subst (HasRecordFault table IsMessage entry_of content) (err_same {Y = RecordData P O} (Wire (wire_fault_of w)) f h) (of_message ((computes content).fault w e))
 
   again_at : (f : RecordFault) → HasRecordFault table IsMessage entry_of content f → (message_of (messages content) >>= record_of entry_of) ≡ Err f
   again_at f (of_message {e = w} h) = ap (λ (m : Result (RecordValue E) WireError). message_of m >>= record_of entry_of) ((computes content).fault_again w h)
@@ -65,55 +65,52 @@ pub record Reads {M F : Type 0} (IsMeaning : List ℕ → M → Type 0) (HasCont
   pub fault_again : (c : List ℕ) (f : F) → HasContentsFault c f → read c ≡ Err f
 
 module _ {M F : Type 0} (IsMeaning : List ℕ → M → Type 0) (HasContentsFault : List ℕ → F → Type 0) (read : List ℕ → Result M F) (reads : Reads IsMeaning HasContentsFault read) (computes : (b : List ℕ) → Computes envelope_table message.envelope_of message.IsEnvelope b) (bytes : List ℕ) where
-  abbrev Letters : Type 0
-  Letters = Result Letter (EnvelopeFault F)
-
   module _ (v : EnvelopeValue) (is : message.IsEnvelope bytes v) where
-    signed_at : (m : M) → read v.contents ≡ Ok m → (t : Result Tag SignatureParseError) → signature_of v.signature ≡ t → (letter : Letter) → signed_letter {F = F} v t ≡ Ok letter → IsEnvelope IsMeaning HasContentsFault bytes letter
-    signed_at m em (Ok tag) et letter h =
-        subst (IsEnvelope IsMeaning HasContentsFault bytes) (ok_same {F = EnvelopeFault F} (record { content = v.contents; key_id = v.key_id; signature = tag }) letter h)
+    signed_at : (m : M) → read v.contents ≡ Ok m → (t : Result NamedBytes SignatureParseError) → signature_of v.signature ≡ t → (envelope : EnvelopeData) → signed_data {F = F} v t ≡ Ok envelope → IsEnvelope IsMeaning HasContentsFault bytes envelope
+    signed_at m em (Ok tag) et envelope h =
+        subst (IsEnvelope IsMeaning HasContentsFault bytes) (ok_same {F = EnvelopeFault F} (record { content = v.contents; key_id = v.key_id; signature = tag }) envelope h)
         (record { outer = v; is = is; meaning = m; says = reads.value v.contents m em; signature = et; content = refl; key_id = refl })
-    signed_at m em (Err s) et letter h = ok_err letter (Signature s) (sym h)
+    signed_at m em (Err s) et envelope h = ok_err envelope (Signature s) (sym h)
 
-    enclosed_at : (m : Result M F) → read v.contents ≡ m → (letter : Letter) → enclosed_letter v m ≡ Ok letter → IsEnvelope IsMeaning HasContentsFault bytes letter
-    enclosed_at (Ok m) em letter h = signed_at m em (signature_of v.signature) refl letter h
-    enclosed_at (Err f) em letter h = ok_err letter (Contents f) (sym h)
+    enclosed_at : (m : Result M F) → read v.contents ≡ m → (envelope : EnvelopeData) → enclosed_data v m ≡ Ok envelope → IsEnvelope IsMeaning HasContentsFault bytes envelope
+    enclosed_at (Ok m) em envelope h = signed_at m em (signature_of v.signature) refl envelope h
+    enclosed_at (Err f) em envelope h = ok_err envelope (Contents f) (sym h)
 
-    signed_fault : (m : M) → read v.contents ≡ Ok m → (t : Result Tag SignatureParseError) → signature_of v.signature ≡ t → (f : EnvelopeFault F) → signed_letter v t ≡ Err f → HasEnvelopeFault IsMeaning HasContentsFault bytes f
+    signed_fault : (m : M) → read v.contents ≡ Ok m → (t : Result NamedBytes SignatureParseError) → signature_of v.signature ≡ t → (f : EnvelopeFault F) → signed_data v t ≡ Err f → HasEnvelopeFault IsMeaning HasContentsFault bytes f
     signed_fault m em (Ok tag) et f h = ok_err (record { content = v.contents; key_id = v.key_id; signature = tag }) f h
-    signed_fault m em (Err s) et f h = subst (HasEnvelopeFault IsMeaning HasContentsFault bytes) (err_same {Y = Letter} (Signature s) f h) (of_signature is (reads.value v.contents m em) et)
+    signed_fault m em (Err s) et f h = subst (HasEnvelopeFault IsMeaning HasContentsFault bytes) (err_same {Y = EnvelopeData} (Signature s) f h) (of_signature is (reads.value v.contents m em) et)
 
-    enclosed_fault : (m : Result M F) → read v.contents ≡ m → (f : EnvelopeFault F) → enclosed_letter v m ≡ Err f → HasEnvelopeFault IsMeaning HasContentsFault bytes f
+    enclosed_fault : (m : Result M F) → read v.contents ≡ m → (f : EnvelopeFault F) → enclosed_data v m ≡ Err f → HasEnvelopeFault IsMeaning HasContentsFault bytes f
     enclosed_fault (Ok m) em f h = signed_fault m em (signature_of v.signature) refl f h
-    enclosed_fault (Err e) em f h = subst (HasEnvelopeFault IsMeaning HasContentsFault bytes) (err_same {Y = Letter} (Contents e) f h) (of_contents is (reads.fault v.contents e em))
+    enclosed_fault (Err e) em f h = subst (HasEnvelopeFault IsMeaning HasContentsFault bytes) (err_same {Y = EnvelopeData} (Contents e) f h) (of_contents is (reads.fault v.contents e em))
 
-  opened_at : (o : Result EnvelopeValue WireError) → message.envelope_of bytes ≡ o → (letter : Letter) → opened_letter read o ≡ Ok letter → IsEnvelope IsMeaning HasContentsFault bytes letter
-  opened_at (Ok v) eo letter h = enclosed_at v ((computes bytes).value v eo) (read v.contents) refl letter h
-  opened_at (Err w) eo letter h = ok_err letter (ProtobufEnvelope w) (sym h)
+  opened_at : (o : Result EnvelopeValue WireError) → message.envelope_of bytes ≡ o → (envelope : EnvelopeData) → opened_data read o ≡ Ok envelope → IsEnvelope IsMeaning HasContentsFault bytes envelope
+  opened_at (Ok v) eo envelope h = enclosed_at v ((computes bytes).value v eo) (read v.contents) refl envelope h
+  opened_at (Err w) eo envelope h = ok_err envelope (ProtobufEnvelope w) (sym h)
 
-  opened_fault : (o : Result EnvelopeValue WireError) → message.envelope_of bytes ≡ o → (f : EnvelopeFault F) → opened_letter read o ≡ Err f → HasEnvelopeFault IsMeaning HasContentsFault bytes f
+  opened_fault : (o : Result EnvelopeValue WireError) → message.envelope_of bytes ≡ o → (f : EnvelopeFault F) → opened_data read o ≡ Err f → HasEnvelopeFault IsMeaning HasContentsFault bytes f
   opened_fault (Ok v) eo f h = enclosed_fault v ((computes bytes).value v eo) (read v.contents) refl f h
-  opened_fault (Err w) eo f h = subst (HasEnvelopeFault IsMeaning HasContentsFault bytes) (err_same {Y = Letter} (ProtobufEnvelope w) f h) (of_outer ((computes bytes).fault w eo))
+  opened_fault (Err w) eo f h = subst (HasEnvelopeFault IsMeaning HasContentsFault bytes) (err_same {Y = EnvelopeData} (ProtobufEnvelope w) f h) (of_outer ((computes bytes).fault w eo))
 
-  opens : (v : EnvelopeValue) → message.IsEnvelope bytes v → envelope_of read bytes ≡ enclosed_letter v (read v.contents)
-  opens v is = ap (opened_letter read) ((computes bytes).value_again v is)
+  opens : (v : EnvelopeValue) → message.IsEnvelope bytes v → envelope_of read bytes ≡ enclosed_data v (read v.contents)
+  opens v is = ap (opened_data read) ((computes bytes).value_again v is)
 
-  letter_again : (letter : Letter) → IsEnvelope IsMeaning HasContentsFault bytes letter → envelope_of read bytes ≡ Ok letter
-  letter_again letter e =
+  envelope_again : (envelope : EnvelopeData) → IsEnvelope IsMeaning HasContentsFault bytes envelope → envelope_of read bytes ≡ Ok envelope
+  envelope_again envelope e =
       opens e.outer e.is
-      ∙ ap (enclosed_letter e.outer) (reads.value_again e.outer.contents e.meaning e.says)
-      ∙ ap (signed_letter e.outer) e.signature
-      ∙ (λ i. Ok (record { content = sym e.content i; key_id = sym e.key_id i; signature = letter.signature }))
+      ∙ ap (enclosed_data e.outer) (reads.value_again e.outer.contents e.meaning e.says)
+      ∙ ap (signed_data e.outer) e.signature
+      ∙ (λ i. Ok (record { content = sym e.content i; key_id = sym e.key_id i; signature = envelope.signature }))
 
   fault_again : (f : EnvelopeFault F) → HasEnvelopeFault IsMeaning HasContentsFault bytes f → envelope_of read bytes ≡ Err f
-  fault_again f (of_outer {w = w} h) = ap (opened_letter read) ((computes bytes).fault_again w h)
-  fault_again f (of_contents {v = v} {f = e} is h) = opens v is ∙ ap (enclosed_letter v) (reads.fault_again v.contents e h)
-  fault_again f (of_signature {v = v} {m = m} {s = s} is says h) = opens v is ∙ ap (enclosed_letter v) (reads.value_again v.contents m says) ∙ ap (signed_letter v) h
+  fault_again f (of_outer {w = w} h) = ap (opened_data read) ((computes bytes).fault_again w h)
+  fault_again f (of_contents {v = v} {f = e} is h) = opens v is ∙ ap (enclosed_data v) (reads.fault_again v.contents e h)
+  fault_again f (of_signature {v = v} {m = m} {s = s} is says h) = opens v is ∙ ap (enclosed_data v) (reads.value_again v.contents m says) ∙ ap (signed_data v) h
 
   pub reads_envelope : ReadsEnvelope IsMeaning HasContentsFault (envelope_of read bytes) bytes
   reads_envelope = record {
-    value = λ letter h. opened_at (message.envelope_of bytes) refl letter h;
-    value_again = letter_again;
+    value = λ envelope h. opened_at (message.envelope_of bytes) refl envelope h;
+    value_again = envelope_again;
     fault = λ f h. opened_fault (message.envelope_of bytes) refl f h;
     fault_again = fault_again;
   }

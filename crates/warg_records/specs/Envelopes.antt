@@ -1,7 +1,7 @@
 -- What bytes say as an envelope, over what content bytes say as a record.
 use Rattle.std.specs.Prelude.{◌≡◌, ℕ, List, Option, Some, None, Result, Ok, Err}
 use Rattle.warg_crypto.specs.Keys.{signature_of}
-use Rattle.warg_crypto.specs.Tags.{Tag, tag_text}
+use Rattle.warg_crypto.specs.NamedBytes.{NamedBytes, tag_text}
 use Rattle.warg_crypto.specs.declared.coding.DecodeError.{DecodeError}
 use Rattle.warg_crypto.specs.declared.hash.AnyHashError.{AnyHashError}
 use Rattle.warg_crypto.specs.declared.signing.error.SignatureParseError.{SignatureParseError}
@@ -9,7 +9,7 @@ use Rattle.warg_protobuf.specs.Envelope.{EnvelopeValue}
 use Rattle.warg_protobuf.specs.Envelope as outer
 use Rattle.warg_protobuf.specs.declared.error.WireError.{WireError}
 use Rattle.warg_records.specs.Faults.{TellsFault}
-use Rattle.warg_records.specs.Letters.{Letter, Held}
+use Rattle.warg_records.specs.EnvelopeData.{EnvelopeData, DecodedEnvelope}
 use Rattle.warg_records.specs.declared.proto_envelope.error.ParseEnvelopeError.{ParseEnvelopeError}
 use Rattle.warg_records.specs.declared.proto_envelope.error.ParseEnvelopeError.TheVariants as error
 
@@ -34,34 +34,37 @@ envelope_fault_of fault_of (error.KeyID h) = Some (KeyID h)
 envelope_fault_of fault_of (error.Signature s) = Some (Signature s)
 envelope_fault_of fault_of error.OutOfMemory = None
 
--- the letter of an outer message whose signature reads as this
-abbrev pub signed_letter : {F : Type 0} → EnvelopeValue → Result Tag SignatureParseError → Result Letter (EnvelopeFault F)
-signed_letter v (Ok tag) = Ok (record { content = v.contents; key_id = v.key_id; signature = tag })
-signed_letter v (Err s) = Err (Signature s)
+-- the envelope of an outer message whose signature reads as this
+abbrev pub signed_data : {F : Type 0} → EnvelopeValue → Result NamedBytes SignatureParseError
+    → Result EnvelopeData (EnvelopeFault F)
+signed_data v (Ok tag) = Ok (record { content = v.contents; key_id = v.key_id; signature = tag })
+signed_data v (Err s) = Err (Signature s)
 
--- the letter of an outer message whose contents read as this
-abbrev pub enclosed_letter : {M F : Type 0} → EnvelopeValue → Result M F → Result Letter (EnvelopeFault F)
-enclosed_letter v (Ok m) = signed_letter v (signature_of v.signature)
-enclosed_letter v (Err f) = Err (Contents f)
+-- the envelope of an outer message whose contents read as this
+abbrev pub enclosed_data : {M F : Type 0} → EnvelopeValue → Result M F → Result EnvelopeData (EnvelopeFault F)
+enclosed_data v (Ok m) = signed_data v (signature_of v.signature)
+enclosed_data v (Err f) = Err (Contents f)
 
--- the letter of bytes that read as this outer message
-abbrev pub opened_letter : {M F : Type 0} → (List ℕ → Result M F) → Result EnvelopeValue WireError → Result Letter (EnvelopeFault F)
-opened_letter read (Ok v) = enclosed_letter v (read v.contents)
-opened_letter read (Err w) = Err (ProtobufEnvelope w)
+-- the envelope of bytes that read as this outer message
+abbrev pub opened_data : {M F : Type 0} → (List ℕ → Result M F) → Result EnvelopeValue WireError
+    → Result EnvelopeData (EnvelopeFault F)
+opened_data read (Ok v) = enclosed_data v (read v.contents)
+opened_data read (Err w) = Err (ProtobufEnvelope w)
 
--- the letter that bytes say, or their first fault: of the outer message, the contents, the signature's text
-abbrev pub envelope_of : {M F : Type 0} → (List ℕ → Result M F) → List ℕ → Result Letter (EnvelopeFault F)
-envelope_of read bytes = opened_letter read (outer.envelope_of bytes)
+-- the envelope that bytes say, or their first fault: of the outer message, the contents, the signature's text
+abbrev pub envelope_of : {M F : Type 0} → (List ℕ → Result M F) → List ℕ → Result EnvelopeData (EnvelopeFault F)
+envelope_of read bytes = opened_data read (outer.envelope_of bytes)
 
--- the outer message of a letter
-abbrev pub envelope_message : Letter → EnvelopeValue
-envelope_message letter = record { contents = letter.content; key_id = letter.key_id; signature = tag_text letter.signature }
+-- the outer message of a envelope
+abbrev pub envelope_message : EnvelopeData → EnvelopeValue
+envelope_message envelope = record { contents = envelope.content; key_id = envelope.key_id; signature = tag_text envelope.signature }
 
 -- the record that is held is the one that the content bytes say
-abbrev pub IsHonest : {C M F : Type 0} → (List ℕ → Result M F) → (C → M) → Held C → Type 0
-IsHonest read meaning e = read e.sealed.content ≡ Ok (meaning e.contents)
+abbrev pub IsHonest : {C M F : Type 0} → (List ℕ → Result M F) → (C → M) → DecodedEnvelope C → Type 0
+IsHonest read meaning e = read e.envelope.content ≡ Ok (meaning e.contents)
 
 -- the answer is what the bytes say, out of memory aside
-abbrev pub IsOpening : {C M F : Type 0} → (List ℕ → Result M F) → (C → M) → (DecodeError → Option F) → List ℕ → Result (Held C) ParseEnvelopeError → Type 0
-IsOpening read meaning fault_of bytes (Ok e) = (envelope_of read bytes ≡ Ok e.sealed) × IsHonest read meaning e
+abbrev pub IsOpening : {C M F : Type 0} → (List ℕ → Result M F) → (C → M) → (DecodeError → Option F) → List ℕ
+    → Result (DecodedEnvelope C) ParseEnvelopeError → Type 0
+IsOpening read meaning fault_of bytes (Ok e) = (envelope_of read bytes ≡ Ok e.envelope) × IsHonest read meaning e
 IsOpening read meaning fault_of bytes (Err e) = TellsFault (envelope_of read bytes) (envelope_fault_of fault_of e)

@@ -2,20 +2,20 @@
 use Rattle.std.specs.Prelude.{◌≡◌, ◌<◌, ◌==◌, ◌&&◌, ◌||◌, not, ℕ, nat_le, Bool, true, false, List, [], ◌∷◌, ◌++◌, length, if◌then◌else◌}
 use Rattle.std.specs.List.{list_all, join_with_byte, before_first, after_first, position_or_len}
 
--- a letter a to z
+-- a envelope a to z
 abbrev pub is_letter : ℕ → Bool
 is_letter b = nat_le 97 b && nat_le b 122
 
--- a letter a to z, or a digit 0 to 9
+-- a envelope a to z, or a digit 0 to 9
 abbrev pub is_letter_or_digit : ℕ → Bool
 is_letter_or_digit b = is_letter b || (nat_le 48 b && nat_le b 57)
 
--- a word: a letter, then letters and digits
+-- a word: a envelope, then envelopes and digits
 pub record IsWord (word : List ℕ) : Type 0 where
   pub first : ℕ
   pub others : List ℕ
   pub parts : word ≡ first ∷ others
-  pub letter : is_letter first ≡ true
+  pub envelope : is_letter first ≡ true
   pub rest : list_all is_letter_or_digit others ≡ true
 
 -- each of them is a word

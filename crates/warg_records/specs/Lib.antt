@@ -1,5 +1,5 @@
-pub mod Letters
-pub mod Readings
+pub mod EnvelopeData
+pub mod RecordData
 pub mod Faults
 pub mod ParseErrors
 pub mod Envelopes
@@ -28,5 +28,6 @@ pub mod PackageNames
 pub mod PrefixEncodings
 pub mod LogIds
 pub mod Checkpoints
+pub mod PermissionJson
 pub mod RegistryJson
-pub mod RegistryJsonLaws
+pub mod EnvelopeJson

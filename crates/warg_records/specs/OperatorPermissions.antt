@@ -66,3 +66,9 @@ pub permission_of-number_of : (p : Permission) → permission_of (pos (number_of
 permission_of-number_of Commit = refl
 permission_of-number_of DefineNamespace = refl
 permission_of-number_of ImportNamespace = refl
+
+-- a permission is read back from its text
+pub permission_in-permission_text : (p : Permission) → permission_in (permission_text p) ≡ Some p
+permission_in-permission_text Commit = refl
+permission_in-permission_text DefineNamespace = refl
+permission_in-permission_text ImportNamespace = refl

@@ -3,15 +3,15 @@ use Rattle.std.specs.Prelude.{ℕ, List, Option, Some, None, Result, Ok, Err}
 use Rattle.warg_protobuf.specs.OperatorEntry.{OperatorMember, Init, GrantFlat, RevokeFlat, DefineNamespace, ImportNamespace}
 use Rattle.warg_protobuf.specs.OperatorRecord as message
 use Rattle.warg_records.specs.Faults.{RecordFault, EmptyEntry}
-use Rattle.warg_records.specs.Readings.{Reading, Own, Said}
+use Rattle.warg_records.specs.RecordData.{EntryData, Own, RecordData}
 use Rattle.warg_records.specs.Steps.{◌>>=◌, init_of, grant_of, revoke_of, shared, message_of, record_of}
-use Rattle.warg_records.specs.OperatorEntries.{OperatorAct}
+use Rattle.warg_records.specs.OperatorEntries.{OperatorOwnEntry}
 use Rattle.warg_records.specs.OperatorEntries as act
 use Rattle.warg_records.specs.OperatorPermissions.{permission_of}
 use Rattle.warg_records.specs.declared.operator.permission.Permission.{Permission}
 
 -- what an entry's message says; any text is a namespace or a registry here
-abbrev pub operator_entry_of : Option OperatorMember → Result (Reading Permission OperatorAct) RecordFault
+abbrev pub operator_entry_of : Option OperatorMember → Result (EntryData Permission OperatorOwnEntry) RecordFault
 operator_entry_of None = Err EmptyEntry
 operator_entry_of (Some (Init m)) = shared (init_of m)
 operator_entry_of (Some (GrantFlat m)) = shared (grant_of permission_of m)
@@ -20,5 +20,5 @@ operator_entry_of (Some (DefineNamespace m)) = Ok (Own (act.DefineNamespace m.na
 operator_entry_of (Some (ImportNamespace m)) = Ok (Own (act.ImportNamespace m.namespace m.registry))
 
 -- what content bytes say, or their first fault
-unfoldable pub operator_record_of : List ℕ → Result (Said Permission OperatorAct) RecordFault
+unfoldable pub operator_record_of : List ℕ → Result (RecordData Permission OperatorOwnEntry) RecordFault
 operator_record_of content = message_of (message.operator_record_of content) >>= record_of operator_entry_of

@@ -57,3 +57,8 @@ hash-same_permission p q h = ap fed.u8 (eqb-true (number_of p) (number_of q) h)
 pub permission_of-number_of : (p : Permission) → permission_of (pos (number_of p)) ≡ Some p
 permission_of-number_of Release = refl
 permission_of-number_of Yank = refl
+
+-- a permission is read back from its text
+pub permission_in-permission_text : (p : Permission) → permission_in (permission_text p) ≡ Some p
+permission_in-permission_text Release = refl
+permission_in-permission_text Yank = refl

@@ -7,9 +7,9 @@ use Rattle.warg_protobuf.specs.PackageRecord as message
 use Rattle.warg_protobuf.specs.Release.{ReleaseValue}
 use Rattle.warg_protobuf.specs.Yank.{YankValue}
 use Rattle.warg_records.specs.Faults.{RecordFault, EmptyEntry, Version, ContentHash}
-use Rattle.warg_records.specs.Readings.{Reading, Said}
+use Rattle.warg_records.specs.RecordData.{EntryData, RecordData}
 use Rattle.warg_records.specs.Steps.{◌>>=◌, named, init_of, grant_of, revoke_of, shared, own, message_of, record_of}
-use Rattle.warg_records.specs.PackageEntries.{Parts, PackageAct}
+use Rattle.warg_records.specs.PackageEntries.{Parts, PackageOwnEntry}
 use Rattle.warg_records.specs.PackageEntries as act
 use Rattle.warg_records.specs.PackagePermissions.{permission_of}
 use Rattle.warg_records.specs.declared.package.permission.Permission.{Permission}
@@ -17,17 +17,17 @@ use Rattle.warg_records.specs.declared.package.permission.Permission.{Permission
 abbrev pub version_of : List ℕ → Result Parts RecordFault
 version_of text = named (λ e. Version) (version_parts text)
 
-abbrev pub release_of : ReleaseValue → Result PackageAct RecordFault
+abbrev pub release_of : ReleaseValue → Result PackageOwnEntry RecordFault
 release_of m = do
   version ← version_of m.version
   content ← named ContentHash (hash_of m.content_hash)
   Ok (act.Release version content)
 
-abbrev pub yank_of : YankValue → Result PackageAct RecordFault
+abbrev pub yank_of : YankValue → Result PackageOwnEntry RecordFault
 yank_of m = version_of m.version >>= λ version. Ok (act.Yank version)
 
 -- what an entry's message says
-abbrev pub package_entry_of : Option PackageMember → Result (Reading Permission PackageAct) RecordFault
+abbrev pub package_entry_of : Option PackageMember → Result (EntryData Permission PackageOwnEntry) RecordFault
 package_entry_of None = Err EmptyEntry
 package_entry_of (Some (Init m)) = shared (init_of m)
 package_entry_of (Some (GrantFlat m)) = shared (grant_of permission_of m)
@@ -36,5 +36,5 @@ package_entry_of (Some (Release m)) = own (release_of m)
 package_entry_of (Some (Yank m)) = own (yank_of m)
 
 -- what content bytes say, or their first fault
-unfoldable pub package_record_of : List ℕ → Result (Said Permission PackageAct) RecordFault
+unfoldable pub package_record_of : List ℕ → Result (RecordData Permission PackageOwnEntry) RecordFault
 package_record_of content = message_of (message.package_record_of content) >>= record_of package_entry_of

@@ -1,8 +1,8 @@
 -- The JSON of what a registry names things by.
-use Rattle.std.specs.Prelude.{◌<◌, ◌^◌, ℕ, List, codes, if◌then◌else◌, Result, Ok, Err}
-use Rattle.serde_json.specs.Data.{Data, Members, no_members, number, object, string, unsigned}
+use Rattle.std.specs.Prelude.{◌^◌, ℕ, List, codes, if◌then◌else◌, Result, Ok, Err}
+use Rattle.serde_json.specs.Data.{Data, no_members, number, object, string, unsigned}
 use Rattle.warg_crypto.specs.Json.{◌>>=◌, member_in, text_in, wrote}
-use Rattle.warg_crypto.specs.JsonTexts.{IsHash, hash_in, hash_json}
+use Rattle.warg_crypto.specs.JsonTexts.{hash_in, hash_json}
 use Rattle.warg_crypto.specs.Members.{put_json}
 use Rattle.warg_crypto.specs.Numbers.{number_below}
 use Rattle.warg_crypto.specs.declared.json.error.JsonError.{JsonError}
@@ -45,14 +45,12 @@ abbrev pub package_name_in : Data → Result (List ℕ) JsonError
 package_name_in d = text_in d >>= package_name_of
 
 -- a checkpoint: `logRoot`, `logLength`, `mapRoot`
-abbrev pub put_map_root : Checkpoint → Members → Result Data JsonError
-put_map_root c ms = put_json hash_json (codes "mapRoot") c.map_root ms >>= λ ns. wrote (object ns)
-
-abbrev pub put_log_length : Checkpoint → Members → Result Data JsonError
-put_log_length c ms = put_json number_json (codes "logLength") c.log_length ms >>= put_map_root c
-
 abbrev pub checkpoint_json : Checkpoint → Result Data JsonError
-checkpoint_json c = put_json hash_json (codes "logRoot") c.log_root no_members >>= put_log_length c
+checkpoint_json c = do
+  log_root ← put_json hash_json (codes "logRoot") c.log_root no_members
+  log_length ← put_json number_json (codes "logLength") c.log_length log_root
+  members ← put_json hash_json (codes "mapRoot") c.map_root log_length
+  wrote (object members)
 
 abbrev pub checkpoint_in : Data → Result Checkpoint JsonError
 checkpoint_in d = do
@@ -65,17 +63,13 @@ checkpoint_in d = do
   wrote (record { log_root = log_root; log_length = log_length; map_root = map_root })
 
 -- a timestamped checkpoint: the three of a checkpoint, and `timestamp` as a number
-abbrev pub put_timestamp : TimestampedCheckpoint → Members → Result Data JsonError
-put_timestamp t ms = put_json number_json (codes "timestamp") t.timestamp ms >>= λ ns. wrote (object ns)
-
-abbrev pub put_timed_map_root : TimestampedCheckpoint → Members → Result Data JsonError
-put_timed_map_root t ms = put_json hash_json (codes "mapRoot") t.checkpoint.map_root ms >>= put_timestamp t
-
-abbrev pub put_timed_log_length : TimestampedCheckpoint → Members → Result Data JsonError
-put_timed_log_length t ms = put_json number_json (codes "logLength") t.checkpoint.log_length ms >>= put_timed_map_root t
-
 abbrev pub timestamped_checkpoint_json : TimestampedCheckpoint → Result Data JsonError
-timestamped_checkpoint_json t = put_json hash_json (codes "logRoot") t.checkpoint.log_root no_members >>= put_timed_log_length t
+timestamped_checkpoint_json t = do
+  log_root ← put_json hash_json (codes "logRoot") t.checkpoint.log_root no_members
+  log_length ← put_json number_json (codes "logLength") t.checkpoint.log_length log_root
+  map_root ← put_json hash_json (codes "mapRoot") t.checkpoint.map_root log_length
+  members ← put_json number_json (codes "timestamp") t.timestamp map_root
+  wrote (object members)
 
 abbrev pub timestamped_checkpoint_in : Data → Result TimestampedCheckpoint JsonError
 timestamped_checkpoint_in d = do
@@ -85,11 +79,11 @@ timestamped_checkpoint_in d = do
   wrote (record { checkpoint = checkpoint; timestamp = timestamp })
 
 -- a leaf of the log: `logId`, `recordId`
-abbrev pub put_record_id : LogLeaf → Members → Result Data JsonError
-put_record_id l ms = put_json record_id_json (codes "recordId") l.record_id ms >>= λ ns. wrote (object ns)
-
 abbrev pub log_leaf_json : LogLeaf → Result Data JsonError
-log_leaf_json l = put_json log_id_json (codes "logId") l.log_id no_members >>= put_record_id l
+log_leaf_json l = do
+  log_id ← put_json log_id_json (codes "logId") l.log_id no_members
+  members ← put_json record_id_json (codes "recordId") l.record_id log_id
+  wrote (object members)
 
 abbrev pub log_leaf_in : Data → Result LogLeaf JsonError
 log_leaf_in d = do
@@ -98,17 +92,3 @@ log_leaf_in d = do
   id ← member_in (codes "recordId") d
   record_id ← record_id_in id
   wrote (record { log_id = log_id; record_id = record_id })
-
--- what is true of every value of the program: hashes of 32 bytes, numbers of 64 bits, names that are names
-pub record IsCheckpoint (c : Checkpoint) : Type 0 where
-  pub log_root : IsHash c.log_root
-  pub log_length : c.log_length < 2 ^ 64
-  pub map_root : IsHash c.map_root
-
-pub record IsTimestamped (t : TimestampedCheckpoint) : Type 0 where
-  pub checkpoint : IsCheckpoint t.checkpoint
-  pub timestamp : t.timestamp < 2 ^ 64
-
-pub record IsLogLeaf (l : LogLeaf) : Type 0 where
-  pub log_id : IsHash l.log_id.hash
-  pub record_id : IsHash l.record_id.hash

@@ -4,12 +4,12 @@ use Rattle.warg_protobuf.specs.Record.{RecordValue}
 use Rattle.warg_protobuf.specs.Table.{Table, HasFault}
 use Rattle.warg_protobuf.specs.declared.error.WireError.{WireError}
 use Rattle.warg_records.specs.Faults.{RecordFault, Wire}
-use Rattle.warg_records.specs.Readings.{Reading, Said}
+use Rattle.warg_records.specs.RecordData.{EntryData, RecordData}
 use Rattle.warg_records.specs.Steps.{record_of, wire_fault_of}
 
-module _ {E P O : Type 0} (table : Table) (IsMessage : List ℕ → RecordValue E → Type 0) (entry_of : E → Result (Reading P O) RecordFault) where
+module _ {E P O : Type 0} (table : Table) (IsMessage : List ℕ → RecordValue E → Type 0) (entry_of : E → Result (EntryData P O) RecordFault) where
   -- the bytes are a message that says this record
-  pub record IsRecord (content : List ℕ) (s : Said P O) : Type 0 where
+  pub record IsRecord (content : List ℕ) (s : RecordData P O) : Type 0 where
     pub message : RecordValue E
     pub is : IsMessage content message
     pub says : record_of entry_of message ≡ Ok s
@@ -17,11 +17,12 @@ module _ {E P O : Type 0} (table : Table) (IsMessage : List ℕ → RecordValue 
   -- the first fault: the bytes', or else that of what their message says
   pub data HasRecordFault (content : List ℕ) : RecordFault → Type 0 where
     of_message : {e : WireError} → HasFault table content e → HasRecordFault content (Wire (wire_fault_of e))
-    of_record : {m : RecordValue E} {f : RecordFault} → IsMessage content m → record_of entry_of m ≡ Err f → HasRecordFault content f
+    of_record : {m : RecordValue E} {f : RecordFault} → IsMessage content m → record_of entry_of m ≡ Err f
+        → HasRecordFault content f
 
   -- what is computed of the bytes is the record that they are, or their first fault
-  pub record ReadsRecord (read : Result (Said P O) RecordFault) (content : List ℕ) : Type 0 where
-    pub value : (s : Said P O) → read ≡ Ok s → IsRecord content s
-    pub value_again : (s : Said P O) → IsRecord content s → read ≡ Ok s
+  pub record ReadsRecord (read : Result (RecordData P O) RecordFault) (content : List ℕ) : Type 0 where
+    pub value : (s : RecordData P O) → read ≡ Ok s → IsRecord content s
+    pub value_again : (s : RecordData P O) → IsRecord content s → read ≡ Ok s
     pub fault : (f : RecordFault) → read ≡ Err f → HasRecordFault content f
     pub fault_again : (f : RecordFault) → HasRecordFault content f → read ≡ Err f

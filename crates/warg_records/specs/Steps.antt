@@ -3,7 +3,7 @@
 use Rattle.std.specs.Prelude.{ℕ, ℤ, List, [], ◌∷◌, Option, Some, None, Result, Ok, Err}
 use Rattle.warg_crypto.specs.HashText.{hash_of, algorithm_of}
 use Rattle.warg_crypto.specs.Keys.{public_key_of}
-use Rattle.warg_crypto.specs.Tags.{Tag}
+use Rattle.warg_crypto.specs.NamedBytes.{NamedBytes}
 use Rattle.warg_crypto.specs.Times.{Time, time_from}
 use Rattle.warg_crypto.specs.declared.hash.HashAlgorithm.{HashAlgorithm}
 use Rattle.warg_crypto.specs.declared.coding.WireFault.{WireFault}
@@ -18,7 +18,7 @@ use Rattle.warg_protobuf.specs.Record.{RecordValue}
 use Rattle.warg_protobuf.specs.RevokeFlat.{RevokeFlatValue}
 use Rattle.warg_protobuf.specs.Timestamp.{TimestampValue}
 use Rattle.warg_records.specs.Faults.{RecordFault, Wire, Prev, MissingTime, TimeOutOfRange, Algorithm, Key, Permission}
-use Rattle.warg_records.specs.Readings.{Act, Init, GrantFlat, RevokeFlat, Reading, Shared, Own, Said}
+use Rattle.warg_records.specs.RecordData.{SharedEntry, Init, GrantFlat, RevokeFlat, EntryData, Shared, Own, RecordData}
 use Rattle.warg_records.specs.declared.registry.record_id.RecordId.{RecordId}
 
 infixl 10 ◌>>=◌
@@ -50,18 +50,18 @@ time_of (Some t) = named (λ e. TimeOutOfRange) (time_from t.seconds t.nanos)
 abbrev pub hash_algorithm_of : List ℕ → Result HashAlgorithm RecordFault
 hash_algorithm_of text = named (λ e. Algorithm) (algorithm_of text)
 
-abbrev pub key_of : List ℕ → Result Tag RecordFault
+abbrev pub key_of : List ℕ → Result NamedBytes RecordFault
 key_of text = named Key (public_key_of text)
 
 -- the algorithm and the key that begin a log
-abbrev pub beginning_of : InitValue → Result (HashAlgorithm × Tag) RecordFault
+abbrev pub beginning_of : InitValue → Result (HashAlgorithm × NamedBytes) RecordFault
 beginning_of m = do
   algorithm ← hash_algorithm_of m.hash_algorithm
   key ← key_of m.key
   Ok (algorithm, key)
 
 -- the acts that both kinds have
-abbrev pub init_of : {P : Type 0} → InitValue → Result (Act P) RecordFault
+abbrev pub init_of : {P : Type 0} → InitValue → Result (SharedEntry P) RecordFault
 init_of m = beginning_of m >>= λ b. Ok (Init b.0 b.1)
 
 module _ {P : Type 0} (permission_of : ℤ → Option P) where
@@ -73,25 +73,26 @@ module _ {P : Type 0} (permission_of : ℤ → Option P) where
   abbrev pub permission_in : ℤ → Result P RecordFault
   permission_in v = known_permission v (permission_of v)
 
-  abbrev pub grant_of : GrantFlatValue → Result (Act P) RecordFault
+  abbrev pub grant_of : GrantFlatValue → Result (SharedEntry P) RecordFault
   grant_of m = do
     key ← key_of m.key
     permissions ← each permission_in m.permissions
     Ok (GrantFlat key permissions)
 
-  abbrev pub revoke_of : RevokeFlatValue → Result (Act P) RecordFault
+  abbrev pub revoke_of : RevokeFlatValue → Result (SharedEntry P) RecordFault
   revoke_of m = do
     permissions ← each permission_in m.permissions
     Ok (RevokeFlat m.key_id permissions)
 
-abbrev pub shared : {P O : Type 0} → Result (Act P) RecordFault → Result (Reading P O) RecordFault
+abbrev pub shared : {P O : Type 0} → Result (SharedEntry P) RecordFault → Result (EntryData P O) RecordFault
 shared read = read >>= λ a. Ok (Shared a)
 
-abbrev pub own : {P O : Type 0} → Result O RecordFault → Result (Reading P O) RecordFault
+abbrev pub own : {P O : Type 0} → Result O RecordFault → Result (EntryData P O) RecordFault
 own read = read >>= λ o. Ok (Own o)
 
 -- a record: its prev, its time, then its entries in order
-abbrev pub record_of : {E P O : Type 0} → (E → Result (Reading P O) RecordFault) → RecordValue E → Result (Said P O) RecordFault
+abbrev pub record_of : {E P O : Type 0} → (E → Result (EntryData P O) RecordFault) → RecordValue E
+    → Result (RecordData P O) RecordFault
 record_of entry_of m = do
   prev ← prev_of m.prev
   time ← time_of m.time

@@ -5,12 +5,12 @@ use Rattle.std.specs.List.{AllByRecursion}
 use Rattle.hex.specs.Hex.{IsBytes}
 use Rattle.semver.specs.Identifiers.{parts_text}
 use Rattle.semver.specs.Parse.{version_parts}
-use Rattle.warg_crypto.specs.Tags.{Tag, IsName}
+use Rattle.warg_crypto.specs.NamedBytes.{NamedBytes, IsName}
 use Rattle.warg_crypto.specs.Times.{Time, time_from}
 use Rattle.warg_crypto.specs.declared.hash.AnyHash.{AnyHash}
-use Rattle.warg_records.specs.Readings.{Act, Init, GrantFlat, RevokeFlat, Reading, Shared, Own, Said}
-use Rattle.warg_records.specs.PackageEntries.{Parts, PackageAct, Release, Yank}
-use Rattle.warg_records.specs.OperatorEntries.{OperatorAct}
+use Rattle.warg_records.specs.RecordData.{SharedEntry, Init, GrantFlat, RevokeFlat, EntryData, Shared, Own, RecordData}
+use Rattle.warg_records.specs.PackageEntries.{Parts, PackageOwnEntry, Release, Yank}
+use Rattle.warg_records.specs.OperatorEntries.{OperatorOwnEntry}
 use Rattle.warg_records.specs.declared.registry.record_id.RecordId.{RecordId}
 
 -- a hash of 32 bytes
@@ -19,7 +19,7 @@ pub record IsWholeHash (h : AnyHash) : Type 0 where
   pub bytes : IsBytes h.bytes
 
 -- a key or a signature: a name, and bytes
-pub record IsWholeTag (t : Tag) : Type 0 where
+pub record IsWholeNamedBytes (t : NamedBytes) : Type 0 where
   pub name : IsName t.name
   pub bytes : IsBytes t.bytes
 
@@ -35,30 +35,30 @@ abbrev pub IsWholeLink : Option RecordId → Type 0
 IsWholeLink None = Unit {0}
 IsWholeLink (Some id) = IsWholeHash id.hash
 
-abbrev pub IsWholeAct : {P : Type 0} → Act P → Type 0
-IsWholeAct (Init algorithm key) = IsWholeTag key
-IsWholeAct (GrantFlat key permissions) = IsWholeTag key
-IsWholeAct (RevokeFlat key_id permissions) = Unit {0}
+abbrev pub IsWholeSharedEntry : {P : Type 0} → SharedEntry P → Type 0
+IsWholeSharedEntry (Init algorithm key) = IsWholeNamedBytes key
+IsWholeSharedEntry (GrantFlat key permissions) = IsWholeNamedBytes key
+IsWholeSharedEntry (RevokeFlat key_id permissions) = Unit {0}
 
-abbrev pub IsWholeEntry : {P O : Type 0} → (O → Type 0) → Reading P O → Type 0
-IsWholeEntry IsWholeOwn (Shared act) = IsWholeAct act
+abbrev pub IsWholeEntry : {P O : Type 0} → (O → Type 0) → EntryData P O → Type 0
+IsWholeEntry IsWholeOwn (Shared act) = IsWholeSharedEntry act
 IsWholeEntry IsWholeOwn (Own own) = IsWholeOwn own
 
 -- each part of a record is whole
-pub record IsWhole {P O : Type 0} (IsWholeOwn : O → Type 0) (s : Said P O) : Type 0 where
+pub record IsWhole {P O : Type 0} (IsWholeOwn : O → Type 0) (s : RecordData P O) : Type 0 where
   pub prev : IsWholeLink s.prev
   pub time : IsWholeTime s.time
   pub entries : AllByRecursion (IsWholeEntry IsWholeOwn) s.entries
 
-abbrev pub IsWholePackageAct : PackageAct → Type 0
-IsWholePackageAct (Release version content) = ReadsBack version × IsWholeHash content
-IsWholePackageAct (Yank version) = ReadsBack version
+abbrev pub IsWholePackageOwnEntry : PackageOwnEntry → Type 0
+IsWholePackageOwnEntry (Release version content) = ReadsBack version × IsWholeHash content
+IsWholePackageOwnEntry (Yank version) = ReadsBack version
 
-abbrev pub IsWholeOperatorAct : OperatorAct → Type 0
-IsWholeOperatorAct own = Unit {0}
+abbrev pub IsWholeOperatorOwnEntry : OperatorOwnEntry → Type 0
+IsWholeOperatorOwnEntry own = Unit {0}
 
 -- the text of the entry's version, if it has one, reads back
-abbrev pub IsReadable : {P : Type 0} → Reading P PackageAct → Type 0
+abbrev pub IsReadable : {P : Type 0} → EntryData P PackageOwnEntry → Type 0
 IsReadable (Shared act) = Unit {0}
 IsReadable (Own (Release version content)) = ReadsBack version
 IsReadable (Own (Yank version)) = ReadsBack version

@@ -2,7 +2,7 @@
 use Rattle.std.specs.Prelude.{ℕ, ℤ, pos, List, map, Some, codes}
 use Rattle.std.specs.Option.{option_map}
 use Rattle.warg_crypto.specs.HashText.{hash_text}
-use Rattle.warg_crypto.specs.Tags.{Tag, tag_text}
+use Rattle.warg_crypto.specs.NamedBytes.{NamedBytes, tag_text}
 use Rattle.warg_crypto.specs.Times.{Time}
 use Rattle.warg_crypto.specs.declared.hash.HashAlgorithm.{HashAlgorithm}
 use Rattle.warg_crypto.specs.declared.hash.HashAlgorithm.TheVariants.{Sha256}
@@ -11,7 +11,7 @@ use Rattle.warg_protobuf.specs.Init.{InitValue}
 use Rattle.warg_protobuf.specs.Record.{RecordValue}
 use Rattle.warg_protobuf.specs.RevokeFlat.{RevokeFlatValue}
 use Rattle.warg_protobuf.specs.Timestamp.{TimestampValue}
-use Rattle.warg_records.specs.Readings.{Reading, Said}
+use Rattle.warg_records.specs.RecordData.{EntryData, RecordData}
 use Rattle.warg_records.specs.declared.registry.record_id.RecordId.{RecordId}
 
 -- the text of an id
@@ -22,11 +22,11 @@ abbrev pub algorithm_text : HashAlgorithm → List ℕ
 algorithm_text Sha256 = codes "sha256"
 
 -- the messages of the acts that both kinds have
-abbrev pub init_message : HashAlgorithm → Tag → InitValue
+abbrev pub init_message : HashAlgorithm → NamedBytes → InitValue
 init_message algorithm key = record { key = tag_text key; hash_algorithm = algorithm_text algorithm }
 
 module _ {P : Type 0} (number_of : P → ℤ) where
-  abbrev pub grant_message : Tag → List P → GrantFlatValue
+  abbrev pub grant_message : NamedBytes → List P → GrantFlatValue
   grant_message key permissions = record { key = tag_text key; permissions = map number_of permissions }
 
   abbrev pub revoke_message : List ℕ → List P → RevokeFlatValue
@@ -37,7 +37,7 @@ abbrev pub time_message : Time → TimestampValue
 time_message t = record { seconds = t.seconds; nanos = pos t.nanos }
 
 -- the message of a record, by the messages of its entries
-abbrev pub record_message : {E P O : Type 0} → (Reading P O → E) → Said P O → RecordValue E
+abbrev pub record_message : {E P O : Type 0} → (EntryData P O → E) → RecordData P O → RecordValue E
 record_message entry_message s = record {
   prev = option_map id_text s.prev;
   version = s.version;

@@ -13,10 +13,10 @@ ghost use Rattle.warg_records.specs.Relations.{HasRecordFault, IsRecord, ReadsRe
 ghost use Rattle.warg_records.specs.PrefixEncodings.{IsPrefixCode};
 ghost use Rattle.std.specs.Prelude.{◌≡◌, ◌<◌, Ok, slice_index};
 ghost use Rattle.warg_crypto.specs.Keys.{signature_of};
-ghost use Rattle.warg_crypto.specs.Tags.{tag_text};
+ghost use Rattle.warg_crypto.specs.NamedBytes.{tag_text};
 ghost use Rattle.warg_protobuf.specs.Envelope.{IsEnvelope};
 ghost use Rattle.warg_records.specs.Envelopes.{IsHonest, envelope_message};
-ghost use Rattle.warg_records.specs.Letters.{Held};
+ghost use Rattle.warg_records.specs.EnvelopeData.{DecodedEnvelope};
 
 mod equality;
 mod registry;
@@ -47,7 +47,8 @@ pub use whole::{operator_records_are_whole, package_records_are_whole};
 /// What is computed of content bytes is the record that they are, or their first fault.
 pub fn record_reading_computes()
     ensures of_package { (content : List ℕ) → ReadsRecord package_record_table IsPackageRecord package_entry_of (package_record_of content) content }
-    ensures of_operator { (content : List ℕ) → ReadsRecord operator_record_table IsOperatorRecord operator_entry_of (operator_record_of content) content }
+    ensures of_operator { (content : List ℕ) → ReadsRecord operator_record_table IsOperatorRecord operator_entry_of
+        (operator_record_of content) content }
 {
     decoding_computes();
 }
@@ -78,7 +79,7 @@ pub fn no_fault_of_memory()
     exactly_one();
 }
 
-/// What is tested of a name is the grammar: words of a letter and then letters and digits, joined by
+/// What is tested of a name is the grammar: words of a envelope and then envelopes and digits, joined by
 /// single hyphens.
 pub fn kebab_names()
     ensures { (name : List ℕ) → IsTrue (is_kebab_name name) ↔ IsKebabName name }
@@ -97,7 +98,7 @@ fn byte_range(bytes: &[u8])
 
 /// The text of an envelope's signature reads back as the signature.
 pub fn signature_reads_back<C>(envelope: &ProtoEnvelope<C>)
-    ensures { signature_of (tag_text envelope.now.sealed.signature) ≡ Ok envelope.now.sealed.signature }
+    ensures { signature_of (tag_text envelope.now.envelope.signature) ≡ Ok envelope.now.envelope.signature }
 {
     let signature = envelope.signature();
     let _algorithm = signature.algorithm();
@@ -107,8 +108,9 @@ pub fn signature_reads_back<C>(envelope: &ProtoEnvelope<C>)
 /// What is written of an envelope whose record its content bytes say reads back as the envelope. What
 /// is asked here of the bytes `ProtoEnvelope::to_protobuf` says of those it gives.
 pub fn envelopes_read_back<C: Record>()
-    ensures { (e : Held C) (bytes : List ℕ) → IsHonest C.read C.meaning e → IsEnvelope bytes (envelope_message e.sealed) →
-        signature_of (tag_text e.sealed.signature) ≡ Ok e.sealed.signature → envelope_of C.read bytes ≡ Ok e.sealed }
+    ensures { (e : DecodedEnvelope C) (bytes : List ℕ) → IsHonest C.read C.meaning e →
+        IsEnvelope bytes (envelope_message e.envelope) →
+        signature_of (tag_text e.envelope.signature) ≡ Ok e.envelope.signature → envelope_of C.read bytes ≡ Ok e.envelope }
 {
     decoding_computes();
 }

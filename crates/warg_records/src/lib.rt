@@ -64,7 +64,8 @@ pub trait Record: Decode + Drop {
         ensures { IfOk result (λ r. meaning r ≡ meaning self.now) };
 
     /// What is decoded is what the content bytes say, or an error that tells their fault.
-    ghost decodes_reading: { (b : List ℕ) (r : Result Self DecodeError) → Self.decodes b r → IsReading meaning fault_of (read b) r };
+    ghost decodes_reading: { (b : List ℕ) (r : Result Self DecodeError) → Self.decodes b r →
+        IsReading meaning fault_of (read b) r };
 
     /// Out of memory tells none.
     ghost memory_tells_none: { fault_of error.OutOfMemory ≡ None };

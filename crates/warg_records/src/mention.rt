@@ -22,7 +22,8 @@ pub(crate) trait Mention {
 
 // Inserts what the entry mentions.
 fn insert_mention<E: Mention>(items: &mut IndexSet<E::Item>, entry: &E) -> Result<(), AllocError>
-    ensures { OnOk result (items.new.keys ≡ insert_all E.Item.eq items.old.keys (filter_map E.mentioned (entry.now ∷ []))) }
+    ensures { OnOk result (items.new.keys ≡ insert_all E.Item.eq items.old.keys
+        (filter_map E.mentioned (entry.now ∷ []))) }
 {
     if let Some(item) = entry.mention() {
         items.insert(item)?;

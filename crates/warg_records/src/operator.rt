@@ -3,11 +3,11 @@
 ghost use Rattle.std.specs.Prelude.{◌≡◌, codes, IfOk, Ok, []};
 ghost use Rattle.warg_records.specs.Faults.{IsReading, fault_of};
 ghost use Rattle.warg_records.specs.FaultLaws.{fault_of-memory};
-ghost use Rattle.warg_records.specs.Readings.{Said};
+ghost use Rattle.warg_records.specs.RecordData.{RecordData};
 ghost use Rattle.warg_protobuf.specs.OperatorRecord.{IsOperatorRecord};
 ghost use Rattle.warg_records.specs.OperatorWriting.{operator_content_of, operator_record_message};
 ghost use Rattle.warg_records.specs.Faults.{RecordFault};
-ghost use Rattle.warg_records.specs.OperatorEntries.{OperatorAct, said};
+ghost use Rattle.warg_records.specs.OperatorEntries.{OperatorOwnEntry, record_data};
 ghost use Rattle.warg_records.specs.OperatorReading.{operator_record_of};
 ghost use Rattle.warg_records.specs.declared.operator.permission.Permission.{Permission};
 ghost use Rattle.std.proofs.Common.{refl};
@@ -31,7 +31,7 @@ use warg_protobuf::Message;
 pub const OPERATOR_RECORD_VERSION: u32 = RECORD_VERSION;
 
 impl Decode for OperatorRecord {
-    ghost decodes = { λ content r. IsReading said fault_of (operator_record_of content) r };
+    ghost decodes = { λ content r. IsReading record_data fault_of (operator_record_of content) r };
 
     fn decode(alloc: Global, content: &[u8]) -> Result<OperatorRecord, DecodeError> {
         reading::read_record(alloc, content)
@@ -39,15 +39,16 @@ impl Decode for OperatorRecord {
 }
 
 impl Encode for OperatorRecord {
-    ghost encoding = { λ r. operator_content_of (said r) };
+    ghost encoding = { λ r. operator_content_of (record_data r) };
 
     #[tactic(auto, unfolding(crate::specs::OperatorWriting::operator_content_of))]
     fn encode(&self, alloc: Global) -> Result<Vec<u8>, AllocError>
-        ensures spelled { IfOk result (λ v. v.items ≡ operator_content_of (said self.now)) }
+        ensures spelled { IfOk result (λ v. v.items ≡ operator_content_of (record_data self.now)) }
 
         // What is written is the message of the record, and reads back as the record.
-        ensures read_again { IfOk result (λ v. IsOperatorRecord v.items (operator_record_message (said self.now))) }
-        ensures same { IfOk result (λ v. operator_record_of v.items ≡ Ok (said self.now)) }
+        ensures read_again { IfOk result (λ v. IsOperatorRecord v.items
+            (operator_record_message (record_data self.now))) }
+        ensures same { IfOk result (λ v. operator_record_of v.items ≡ Ok (record_data self.now)) }
     {
         record_reading_computes();
         operator_records_are_whole(self);
@@ -67,9 +68,9 @@ impl Signable for OperatorRecord {
 }
 
 impl Record for OperatorRecord {
-    ghost Meaning = { Said Permission OperatorAct };
+    ghost Meaning = { RecordData Permission OperatorOwnEntry };
 
-    ghost meaning = { said };
+    ghost meaning = { record_data };
 
     ghost Fault = { RecordFault };
 
@@ -100,7 +101,7 @@ impl Record for OperatorRecord {
 }
 
 impl Clone for OperatorRecord {
-    ghost is_clone = { λ a b. said b ≡ said a };
+    ghost is_clone = { λ a b. record_data b ≡ record_data a };
 
     fn clone(&self) -> Result<OperatorRecord, AllocError> {
         self.try_clone()

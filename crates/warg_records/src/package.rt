@@ -3,13 +3,13 @@
 ghost use Rattle.std.specs.Prelude.{◌≡◌, codes, IfOk, Ok};
 ghost use Rattle.warg_records.specs.Faults.{IsReading, fault_of};
 ghost use Rattle.warg_records.specs.FaultLaws.{fault_of-memory};
-ghost use Rattle.warg_records.specs.Readings.{Said};
+ghost use Rattle.warg_records.specs.RecordData.{RecordData};
 ghost use Rattle.warg_protobuf.specs.PackageRecord.{IsPackageRecord};
 ghost use Rattle.warg_records.specs.PackageWriting.{package_content_of, package_record_message};
 ghost use Rattle.warg_records.specs.Whole.{IsReadable};
 ghost use Rattle.std.specs.List.{AllByRecursion};
 ghost use Rattle.warg_records.specs.Faults.{RecordFault};
-ghost use Rattle.warg_records.specs.PackageEntries.{PackageAct, content_of, mentions, reading, said};
+ghost use Rattle.warg_records.specs.PackageEntries.{PackageOwnEntry, content_of, mentions, entry_data, record_data};
 ghost use Rattle.warg_records.specs.PackageReading.{package_record_of};
 ghost use Rattle.warg_records.specs.declared.package.permission.Permission.{Permission};
 ghost use Rattle.std.proofs.Common.{refl};
@@ -34,7 +34,7 @@ use warg_protobuf::Message;
 pub const PACKAGE_RECORD_VERSION: u32 = RECORD_VERSION;
 
 impl Decode for PackageRecord {
-    ghost decodes = { λ content r. IsReading said fault_of (package_record_of content) r };
+    ghost decodes = { λ content r. IsReading record_data fault_of (package_record_of content) r };
 
     fn decode(alloc: Global, content: &[u8]) -> Result<PackageRecord, DecodeError> {
         reading::read_record(alloc, content)
@@ -42,15 +42,17 @@ impl Decode for PackageRecord {
 }
 
 impl Encode for PackageRecord {
-    ghost encoding = { λ r. package_content_of (said r) };
+    ghost encoding = { λ r. package_content_of (record_data r) };
 
     #[tactic(auto, unfolding(crate::specs::PackageWriting::package_content_of))]
     fn encode(&self, alloc: Global) -> Result<Vec<u8>, AllocError>
-        ensures spelled { IfOk result (λ v. v.items ≡ package_content_of (said self.now)) }
+        ensures spelled { IfOk result (λ v. v.items ≡ package_content_of (record_data self.now)) }
 
         // What is written is the message of the record, and reads back as the record.
-        ensures read_again { IfOk result (λ v. IsPackageRecord v.items (package_record_message (said self.now))) }
-        ensures same { AllByRecursion IsReadable (said self.now).entries → IfOk result (λ v. package_record_of v.items ≡ Ok (said self.now)) }
+        ensures read_again { IfOk result (λ v. IsPackageRecord v.items
+            (package_record_message (record_data self.now))) }
+        ensures same { AllByRecursion IsReadable (record_data self.now).entries →
+            IfOk result (λ v. package_record_of v.items ≡ Ok (record_data self.now)) }
     {
         record_reading_computes();
         package_records_are_whole(self);
@@ -70,9 +72,9 @@ impl Signable for PackageRecord {
 }
 
 impl Record for PackageRecord {
-    ghost Meaning = { Said Permission PackageAct };
+    ghost Meaning = { RecordData Permission PackageOwnEntry };
 
-    ghost meaning = { said };
+    ghost meaning = { record_data };
 
     ghost Fault = { RecordFault };
 
@@ -103,7 +105,7 @@ impl Record for PackageRecord {
 }
 
 impl Clone for PackageRecord {
-    ghost is_clone = { λ a b. said b ≡ said a };
+    ghost is_clone = { λ a b. record_data b ≡ record_data a };
 
     fn clone(&self) -> Result<PackageRecord, AllocError> {
         self.try_clone()
@@ -113,7 +115,7 @@ impl Clone for PackageRecord {
 impl Mention for PackageEntry {
     type Item = AnyHash;
 
-    ghost mentioned = { λ e. content_of (reading e) };
+    ghost mentioned = { λ e. content_of (entry_data e) };
 
     fn mention(&self) -> Option<AnyHash> {
         self.content().copied()

@@ -2,7 +2,7 @@
 
 ghost use Rattle.std.specs.Prelude.{◌≡◌, Err, IfOk};
 ghost use Rattle.warg_crypto.specs.Signed.{signed_message};
-ghost use Rattle.warg_crypto.specs.Tags.{fingerprint_of};
+ghost use Rattle.warg_crypto.specs.NamedBytes.{fingerprint_of};
 ghost use Rattle.warg_crypto.specs.declared.signing.error.SignatureError.TheVariants.{Refused};
 ghost use Rattle.warg_records.specs.Envelopes.{IsOpening, envelope_message};
 ghost use Rattle.warg_protobuf.specs.Envelope.{IsEnvelope, envelope_bytes};
@@ -34,11 +34,14 @@ pub struct ProtoEnvelope<C> {
 }
 
 impl<C> Model for ProtoEnvelope<C> {
-    ghost use Rattle.warg_records.specs.Letters.{Held};
+    ghost use Rattle.warg_records.specs.EnvelopeData.{DecodedEnvelope};
 
-    ghost Value = { Held C };
+    ghost Value = { DecodedEnvelope C };
 
-    ghost view = { λ e. record { contents = e.contents; sealed = record { content = e.content_bytes.items; key_id = e.key_id; signature = e.signature } } };
+    ghost view = { λ e. record {
+      contents = e.contents;
+      envelope = record { content = e.content_bytes.items; key_id = e.key_id; signature = e.signature };
+    } };
 }
 
 impl<C> ProtoEnvelope<C> {
@@ -51,21 +54,21 @@ impl<C> ProtoEnvelope<C> {
 
     /// The record's bytes, as they came.
     pub fn content_bytes(&self) -> &[u8]
-        ensures { result.now ≡ self.now.sealed.content }
+        ensures { result.now ≡ self.now.envelope.content }
     {
         self.content_bytes.as_slice()
     }
 
     /// The id of the key that is said to have signed.
     pub fn key_id(&self) -> &KeyID
-        ensures { result.now ≡ self.now.sealed.key_id }
+        ensures { result.now ≡ self.now.envelope.key_id }
     {
         &self.key_id
     }
 
     /// The signature, which nothing here verifies.
     pub fn signature(&self) -> &Signature
-        ensures { result.now ≡ self.now.sealed.signature }
+        ensures { result.now ≡ self.now.envelope.signature }
     {
         &self.signature
     }
@@ -74,8 +77,8 @@ impl<C> ProtoEnvelope<C> {
 impl<C> ProtoEnvelope<C> {
     /// The bytes of the envelope, with the content bytes as they came.
     pub fn to_protobuf(&self, alloc: Global) -> Result<Vec<u8>, AllocError>
-        ensures spelled { IfOk result (λ v. v.items ≡ envelope_bytes (envelope_message self.now.sealed)) }
-        ensures read_again { IfOk result (λ v. IsEnvelope v.items (envelope_message self.now.sealed)) }
+        ensures spelled { IfOk result (λ v. v.items ≡ envelope_bytes (envelope_message self.now.envelope)) }
+        ensures read_again { IfOk result (λ v. IsEnvelope v.items (envelope_message self.now.envelope)) }
     {
         let envelope = Envelope {
             contents: self.content_bytes.clone()?,
@@ -119,7 +122,7 @@ pub(crate) fn decode_contents<C: Record>(alloc: Global, content: &[u8]) -> Resul
 impl<C: Record> ProtoEnvelope<C> {
     /// The same envelope again.
     pub fn try_clone(&self) -> Result<ProtoEnvelope<C>, AllocError>
-        ensures letter { IfOk result (λ e. e.sealed ≡ self.now.sealed) }
+        ensures envelope { IfOk result (λ e. e.envelope ≡ self.now.envelope) }
         ensures contents { IfOk result (λ e. C.meaning e.contents ≡ C.meaning self.now.contents) }
     {
         Ok(ProtoEnvelope {
@@ -132,7 +135,7 @@ impl<C: Record> ProtoEnvelope<C> {
 }
 
 impl<C: Record> Clone for ProtoEnvelope<C> {
-    ghost is_clone = { λ a b. (b.sealed ≡ a.sealed) × (C.meaning b.contents ≡ C.meaning a.contents) };
+    ghost is_clone = { λ a b. (b.envelope ≡ a.envelope) × (C.meaning b.contents ≡ C.meaning a.contents) };
 
     fn clone(&self) -> Result<ProtoEnvelope<C>, AllocError> {
         self.try_clone()
@@ -165,10 +168,12 @@ impl<C: Signable + Drop> ProtoEnvelope<C> {
         contents: C,
     ) -> Result<ProtoEnvelope<C>, SignatureError>
         ensures contents { IfOk result (λ e. e.contents ≡ contents) }
-        ensures content { IfOk result (λ e. e.sealed.content ≡ C.encoding contents) }
-        ensures key_id { IfOk result (λ e. e.sealed.key_id ≡ fingerprint_of (S.key_of signer.now)) }
-        ensures signature { IfOk result (λ e. S.gives signer.now (signed_message C.signed_prefix (C.encoding contents)) e.sealed.signature) }
-        ensures refused { result ≡ Err Refused → S.refuses signer.now (signed_message C.signed_prefix (C.encoding contents)) }
+        ensures content { IfOk result (λ e. e.envelope.content ≡ C.encoding contents) }
+        ensures key_id { IfOk result (λ e. e.envelope.key_id ≡ fingerprint_of (S.key_of signer.now)) }
+        ensures signature { IfOk result (λ e. S.gives signer.now
+            (signed_message C.signed_prefix (C.encoding contents)) e.envelope.signature) }
+        ensures refused { result ≡ Err Refused → S.refuses signer.now
+            (signed_message C.signed_prefix (C.encoding contents)) }
     {
         let content_bytes = contents.encode(alloc)?;
         let key_id = signer.public_key().fingerprint(alloc)?;

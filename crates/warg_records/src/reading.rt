@@ -2,7 +2,7 @@
 
 ghost use Rattle.std.specs.Prelude.{◌≡◌, map, string_bytes, Result};
 ghost use Rattle.warg_crypto.specs.declared.coding.DecodeError.{DecodeError};
-ghost use Rattle.warg_protobuf.specs.Timestamp.{timestamp_seen};
+ghost use Rattle.warg_protobuf.specs.Timestamp.{timestamp_view};
 ghost use Rattle.warg_protobuf.specs.Views.{option_view};
 ghost use Rattle.warg_records.specs.Faults.{RecordFault, fault_of, IsReading};
 ghost use Rattle.warg_records.specs.Steps.{each, prev_of, time_of, key_of, beginning_of, permission_in, wire_error_of};
@@ -107,7 +107,7 @@ pub(crate) fn read_prev(prev: Option<String>) -> Result<Option<RecordId>, Decode
 
 /// The time, its nanoseconds carried.
 pub(crate) fn read_time(time: Option<TimestampPair>) -> Result<Timestamp, DecodeError>
-    ensures { IsReading (λ t. t) fault_of (time_of (option_view timestamp_seen time)) result }
+    ensures { IsReading (λ t. t) fault_of (time_of (option_view timestamp_view time)) result }
 {
     let Some(time) = time else {
         return Err(DecodeError::MissingTime);

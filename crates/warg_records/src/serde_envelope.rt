@@ -2,8 +2,10 @@
 
 ghost use Rattle.std.specs.Prelude.{◌≡◌, IfOk, Err};
 ghost use Rattle.warg_crypto.specs.Signed.{signed_message};
-ghost use Rattle.warg_crypto.specs.Tags.{fingerprint_of};
+ghost use Rattle.warg_crypto.specs.NamedBytes.{fingerprint_of};
 ghost use Rattle.warg_crypto.specs.declared.signing.error.SignatureError.TheVariants.{Refused};
+
+mod json;
 
 use std::alloc::{AllocError, Global};
 use warg_crypto::Signable;
@@ -99,8 +101,10 @@ impl<C: Signable + Drop> SerdeEnvelope<C> {
     ) -> Result<SerdeEnvelope<C>, SignatureError>
         ensures contents { IfOk result (λ e. e.contents ≡ contents) }
         ensures key_id { IfOk result (λ e. e.key_id ≡ fingerprint_of (S.key_of signer.now)) }
-        ensures signature { IfOk result (λ e. S.gives signer.now (signed_message C.signed_prefix (C.encoding contents)) e.signature) }
-        ensures refused { result ≡ Err Refused → S.refuses signer.now (signed_message C.signed_prefix (C.encoding contents)) }
+        ensures signature { IfOk result (λ e. S.gives signer.now
+            (signed_message C.signed_prefix (C.encoding contents)) e.signature) }
+        ensures refused { result ≡ Err Refused → S.refuses signer.now
+            (signed_message C.signed_prefix (C.encoding contents)) }
     {
         let key_id = signer.public_key().fingerprint(alloc)?;
         let signature = contents.sign(alloc, signer)?;

@@ -2,7 +2,7 @@
 
 ghost use Rattle.std.specs.Prelude.{◌≡◌, IfOk, Some, map, string_bytes};
 ghost use Rattle.std.specs.Option.{option_map};
-ghost use Rattle.warg_protobuf.specs.Timestamp.{timestamp_seen};
+ghost use Rattle.warg_protobuf.specs.Timestamp.{timestamp_view};
 ghost use Rattle.warg_protobuf.specs.Views.{option_view};
 ghost use Rattle.warg_records.specs.Writing.{id_text, time_message};
 
@@ -74,7 +74,7 @@ pub(crate) fn write_prev(
 
 /// The seconds and nanoseconds of a time.
 pub(crate) fn write_time(time: Timestamp) -> TimestampPair
-    ensures { timestamp_seen result ≡ time_message time }
+    ensures { timestamp_view result ≡ time_message time }
 {
     TimestampPair {
         seconds: time.seconds(),

@@ -16,7 +16,7 @@ fn opened(rt: &impl Abort, alloc: Global, bytes: &[u8]) -> ProtoEnvelope<Operato
     ProtoEnvelope::<OperatorRecord>::from_protobuf(alloc, bytes).expect(rt, "an envelope")
 }
 
-fn body(rt: &impl Abort, alloc: Global, bytes: &[u8]) -> ProtoEnvelopeBody {
+pub(crate) fn body(rt: &impl Abort, alloc: Global, bytes: &[u8]) -> ProtoEnvelopeBody {
     ProtoEnvelopeBody::from(opened(rt, alloc, bytes))
 }
 
@@ -46,7 +46,7 @@ fn published(rt: &impl Abort, alloc: Global) -> PublishedProtoEnvelope<OperatorR
     }
 }
 
-fn published_body(rt: &impl Abort, alloc: Global) -> PublishedProtoEnvelopeBody {
+pub(crate) fn published_body(rt: &impl Abort, alloc: Global) -> PublishedProtoEnvelopeBody {
     PublishedProtoEnvelopeBody::from(published(rt, alloc))
 }
 

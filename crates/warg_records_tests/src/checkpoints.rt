@@ -57,22 +57,28 @@ fn encoding_of(rt: &impl Abort, alloc: Global, timestamp: u64) -> Vec<u8> {
     timestamped(timestamp).encode(alloc).expect(rt, "memory")
 }
 
-// Tells five seconds past the epoch.
+// Stands at one time.
 #[derive(Drop)]
-struct Five;
+struct Stopped {
+    time: Timestamp,
+}
 
-impl Clock for Five {
-    ghost use Rattle.std.specs.Prelude.{◌≡◌, pos};
+impl Clock for Stopped {
+    ghost use Rattle.std.specs.Prelude.{◌≡◌};
 
-    ghost tells = { λ before time after. (time.seconds ≡ pos 5) × (time.nanos ≡ 0) };
+    ghost tells = { λ before time after. time ≡ before.time };
 
     fn now(&mut self) -> Timestamp {
-        Timestamp::new(5, 0)
+        self.time
     }
 }
 
+// The checkpoint of this time, which a clock may tell.
 fn is_timed(rt: &impl Abort, time: Timestamp, want: Result<TimestampedCheckpoint, TimeError>) {
     is(rt, TimestampedCheckpoint::new(checkpoint(0), time), want);
+    let mut clock = Stopped { time };
+    let now = TimestampedCheckpoint::now(checkpoint(0), &mut clock);
+    is(rt, now, want);
 }
 
 #[test]
@@ -81,8 +87,7 @@ fn times(rt: HostRuntime) {
     is_timed(&rt, before, Err(TimeError::TimeBeforeEpoch));
     is_timed(&rt, Timestamp::new(0, 0), Ok(timestamped(0)));
     is_timed(&rt, Timestamp::new(1, 999_999_999), Ok(timestamped(1)));
-    let now = TimestampedCheckpoint::now(checkpoint(0), &mut Five);
-    is(&rt, now, Ok(timestamped(5)));
+    is_timed(&rt, Timestamp::new(5, 0), Ok(timestamped(5)));
 }
 
 fn signature(rt: &impl Abort, alloc: Global) -> Signature {

@@ -3,9 +3,9 @@
 use crate::values::{differ, is, is_of, is_shown, same};
 use std::alloc::Global;
 use std::process::Abort;
-use warg_crypto::DecodeError;
 use warg_crypto::hash::AnyHashError;
 use warg_crypto::signing::SignatureParseError;
+use warg_crypto::{DecodeError, WireFault};
 use warg_protobuf::WireError;
 use warg_records::operator::OperatorRecord;
 use warg_records::package::PackageRecord;
@@ -26,24 +26,112 @@ fn is_refused(rt: &impl Abort, alloc: Global, bytes: &[u8], want: ParseEnvelopeE
 // A fault of the outer message is the first.
 #[test]
 fn outer_faults(rt: HostRuntime) {
-    let alloc = rt.alloc();
-    let group = ParseEnvelopeError::ProtobufEnvelope(WireError::Group);
-    is_refused(&rt, alloc, b"\x0b", group);
-    is_refused(&rt, alloc, b"\x0a\x00\x0b", group);
+    let rows: [(&[u8], WireError); 10] = [
+        (b"\x0b", WireError::Group),
+        (b"\x0a\x00\x0b", WireError::Group),
+        (b"\x0a", WireError::Truncated),
+        (b"\x0a\x02", WireError::Truncated),
+        (b"\x0a\x02\x1a", WireError::Truncated),
+        (
+            b"\x0a\xff\xff\xff\xff\xff\xff\xff\xff\xff\x01",
+            WireError::Truncated,
+        ),
+        (
+            b"\x0a\xff\xff\xff\xff\xff\xff\xff\xff\xff\x02",
+            WireError::VarintTooLong,
+        ),
+        (
+            b"\xff\xff\xff\xff\xff\xff\xff\xff\xff",
+            WireError::Truncated,
+        ),
+        (
+            b"\xff\xff\xff\xff\xff\xff\xff\xff\xff\xff",
+            WireError::VarintTooLong,
+        ),
+        (b"\x80\x80\x80\x80\x10\x00", WireError::BadKey),
+    ];
+    for (bytes, fault) in rows {
+        is_refused(
+            &rt,
+            rt.alloc(),
+            bytes,
+            ParseEnvelopeError::ProtobufEnvelope(fault),
+        );
+    }
 }
 
-// Then comes a fault of the contents, and then one of the signature.
+// Then comes a fault of the contents, and then one of the signature. What the outer message skips has no fault.
 #[test]
 fn inner_faults(rt: HostRuntime) {
-    let alloc = rt.alloc();
     let time = ParseEnvelopeError::Contents(DecodeError::MissingTime);
-    is_refused(&rt, alloc, b"", time);
-    let colon = ParseEnvelopeError::Signature(SignatureParseError::MissingColon);
-    is_refused(&rt, alloc, b"\x0a\x02\x1a\x00", colon);
-    let base64 = ParseEnvelopeError::Signature(SignatureParseError::BadBase64);
-    is_refused(&rt, alloc, b"\x0a\x02\x1a\x00\x1a\x06toy:AA", base64);
-    let entry = ParseEnvelopeError::Contents(DecodeError::EmptyEntry);
-    is_refused(&rt, alloc, b"\x0a\x04\x1a\x00\x22\x00\x1a\x01:", entry);
+    let rows: [(&[u8], ParseEnvelopeError); 7] = [
+        (b"", time),
+        (b"\xf8\xff\xff\xff\x0f\x00", time),
+        (b"\x8a\x80\x80\x00\x00", time),
+        (b"\x7a\x01\x0b", time),
+        (
+            b"\x0a\x02\x1a\x00",
+            ParseEnvelopeError::Signature(SignatureParseError::MissingColon),
+        ),
+        (
+            b"\x0a\x02\x1a\x00\x1a\x06toy:AA",
+            ParseEnvelopeError::Signature(SignatureParseError::BadBase64),
+        ),
+        (
+            b"\x0a\x04\x1a\x00\x22\x00\x1a\x01:",
+            ParseEnvelopeError::Contents(DecodeError::EmptyEntry),
+        ),
+    ];
+    for (bytes, fault) in rows {
+        is_refused(&rt, rt.alloc(), bytes, fault);
+    }
+}
+
+// The contents, shorter than 128 bytes, in an envelope.
+fn sealed(rt: &impl Abort, alloc: Global, contents: &[u8]) -> Vec<u8> {
+    let mut bytes = Vec::from_slice(alloc, b"\x12\x01k\x1a\x04toy:\x0a").expect(rt, "memory");
+    assert!(rt; contents.len() < 128);
+    bytes.push(contents.len() as u8).expect(rt, "memory");
+    bytes.extend_from_slice(contents).expect(rt, "memory");
+    bytes
+}
+
+// A time in two pieces, cut short; what follows a time.
+#[test]
+fn faults_of_contents(rt: HostRuntime) {
+    let truncated = DecodeError::Wire(WireFault::Truncated);
+    let text = DecodeError::Wire(WireFault::NotUtf8);
+    let long = DecodeError::Wire(WireFault::VarintTooLong);
+    let rows: [(&[u8], DecodeError); 13] = [
+        (b"", DecodeError::MissingTime),
+        (b"\x1a", truncated),
+        (b"\x1a\x02", truncated),
+        (b"\x1a\x02\x08", truncated),
+        (b"\x1a\x02\x08\x01\x1a", truncated),
+        (b"\x1a\x02\x08\x01\x1a\x02", truncated),
+        (b"\x1a\x02\x08\x01\x1a\x02\x10", truncated),
+        (b"\x1a\x00\x0b\x80", DecodeError::Wire(WireFault::Group)),
+        (b"\x1a\x00\x22\x05\x2a\x03\x0a\x01\xff", text),
+        (b"\x1a\x00\x22\x07\x2a\x03\x0a\x01\xff\x0a\x00", text),
+        (
+            b"\x1a\x00\x22\x0e\x12\x0c\x12\x0a\xff\xff\xff\xff\xff\xff\xff\xff\xff\x02",
+            long,
+        ),
+        (b"\x1a\x00\x22\x00", DecodeError::EmptyEntry),
+        (b"\x1a\x00\x22\x02\x0a\x00", DecodeError::Algorithm),
+    ];
+    for (contents, fault) in rows {
+        let bytes = sealed(&rt, rt.alloc(), contents);
+        is_refused(
+            &rt,
+            rt.alloc(),
+            bytes.as_slice(),
+            ParseEnvelopeError::Contents(fault),
+        );
+    }
+    let whole = sealed(&rt, rt.alloc(), b"\x1a\x02\x08\x01");
+    let envelope = opened(&rt, rt.alloc(), whole.as_slice());
+    is(&rt, envelope.contents().timestamp.seconds(), 1);
 }
 
 fn opened(rt: &impl Abort, alloc: Global, bytes: &[u8]) -> ProtoEnvelope<PackageRecord> {

@@ -12,13 +12,17 @@ use warg_records::registry::{
 };
 
 // What the JSON text is read as.
-fn read<T: JsonValue + Drop>(rt: &impl Abort, alloc: Global, json: &str) -> Result<T, JsonError> {
+pub(crate) fn read<T: JsonValue + Drop>(
+    rt: &impl Abort,
+    alloc: Global,
+    json: &str,
+) -> Result<T, JsonError> {
     let value = Value::from_str(alloc, json).expect(rt, json);
     T::from_value(alloc, &value)
 }
 
 // The JSON is written of the value, and read as it.
-fn goes_both_ways<T: JsonValue + PartialEq + Debug + Drop>(
+pub(crate) fn goes_both_ways<T: JsonValue + PartialEq + Debug + Drop>(
     rt: &impl Abort,
     alloc: Global,
     json: &str,
@@ -30,7 +34,13 @@ fn goes_both_ways<T: JsonValue + PartialEq + Debug + Drop>(
     is(rt, read::<T>(rt, alloc, json), Ok(value));
 }
 
-fn is_refused<T: JsonValue + Drop>(rt: &impl Abort, alloc: Global, json: &str, want: JsonError) {
+// The JSON is refused.
+pub(crate) fn is_refused<T: JsonValue + Drop>(
+    rt: &impl Abort,
+    alloc: Global,
+    json: &str,
+    want: JsonError,
+) {
     is_of(rt, json, read::<T>(rt, alloc, json).err(), Some(want));
 }
 

@@ -14,6 +14,10 @@ mod envelopes;
 #[cfg(test)]
 mod json;
 #[cfg(test)]
+mod json_envelopes;
+#[cfg(test)]
+mod json_hostile;
+#[cfg(test)]
 mod leaves;
 #[cfg(test)]
 mod log_ids;

@@ -14,13 +14,13 @@ use warg_records::package::PackageRecord;
 use warg_records::registry::{Checkpoint, TimestampedCheckpoint};
 use warg_records::{ProtoEnvelope, Record, SerdeEnvelope};
 
-fn sealed<C: Signable + Drop>(rt: &impl Abort, alloc: Global, contents: C) -> ProtoEnvelope<C> {
+fn envelope<C: Signable + Drop>(rt: &impl Abort, alloc: Global, contents: C) -> ProtoEnvelope<C> {
     let signed = ProtoEnvelope::signed_contents(alloc, &alice(rt, alloc), contents);
     signed.expect(rt, "an envelope")
 }
 
 fn bytes_of<C: Signable + Drop>(rt: &impl Abort, alloc: Global, contents: C) -> Vec<u8> {
-    let envelope = sealed(rt, alloc, contents);
+    let envelope = envelope(rt, alloc, contents);
     envelope.to_protobuf(alloc).expect(rt, "memory")
 }
 
@@ -36,14 +36,14 @@ fn reads_back<C: Record + PartialEq>(rt: &impl Abort, alloc: Global, envelope: &
 fn package_envelopes_read_back(rt: HostRuntime) {
     let alloc = rt.alloc();
     let record = package_record(package_entries(&rt, alloc));
-    reads_back(&rt, alloc, &sealed(&rt, alloc, record));
+    reads_back(&rt, alloc, &envelope(&rt, alloc, record));
 }
 
 #[test]
 fn operator_envelopes_read_back(rt: HostRuntime) {
     let alloc = rt.alloc();
     let record = operator_record(operator_entries(&rt, alloc));
-    reads_back(&rt, alloc, &sealed(&rt, alloc, record));
+    reads_back(&rt, alloc, &envelope(&rt, alloc, record));
 }
 
 fn init_alone(rt: &impl Abort, alloc: Global) -> PackageRecord {

@@ -1,9 +1,11 @@
 //! What is checked of any value.
 
-use std::alloc::Global;
+ghost use Rattle.std.specs.Prelude.{◌≡◌};
+
+use std::alloc::{AllocError, Global};
 use std::fmt::{Debug, Display};
 use std::process::Abort;
-use warg_crypto::VisitBytes;
+use warg_crypto::{ByteVisitor, VisitBytes};
 
 pub(crate) fn string(rt: &impl Abort, alloc: Global, text: &str) -> String {
     String::from_str(alloc, text).expect(rt, "memory")
@@ -40,9 +42,39 @@ pub(crate) fn is_shown(rt: &impl Abort, alloc: Global, value: &impl Display, wan
     is(rt, shown.as_str(), want);
 }
 
-// The bytes are what a visitor sees of the value.
+// Takes so many pieces, and refuses the next one.
+#[derive(Drop)]
+struct Stopping {
+    pieces: usize,
+    bytes: Vec<u8>,
+}
+
+impl ByteVisitor for Stopping {
+    ghost seen = { λ v m. v.bytes.items ≡ m };
+
+    fn visit_bytes(&mut self, bytes: &[u8]) -> Result<(), AllocError> {
+        if self.pieces == 0 {
+            return Err(AllocError);
+        }
+        self.pieces -= 1;
+        self.bytes.extend_from_slice(bytes)
+    }
+}
+
+// Whether a visitor of so many pieces is left with a beginning of the bytes, or sees them all.
+fn is_begun<T: VisitBytes>(alloc: Global, value: &T, want: &[u8], pieces: usize) -> bool {
+    let bytes = Vec::new(alloc);
+    let mut stopping = Stopping { pieces, bytes };
+    let is_whole = value.visit(&mut stopping).is_ok();
+    want.starts_with(stopping.bytes.as_slice()) && is_whole == (stopping.bytes.len() == want.len())
+}
+
+// The bytes are what a visitor sees of the value, or a beginning of them where it refuses a piece.
 pub(crate) fn is_encoded<T: VisitBytes>(rt: &impl Abort, alloc: Global, value: &T, want: &[u8]) {
     let mut bytes = Vec::new(alloc);
     value.visit(&mut bytes).expect(rt, "memory");
     is(rt, bytes.as_slice(), want);
+    for pieces in 0..20 {
+        assert!(rt; is_begun(alloc, value, want, pieces), "{pieces}");
+    }
 }

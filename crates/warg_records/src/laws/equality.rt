@@ -14,28 +14,28 @@ use crate::{
 
 /// Entries of a package log.
 pub fn are_same_package_entries(a: &PackageEntry, b: &PackageEntry) -> bool
-    ensures { IsTrue result ↔ (in_package.reading a.now ≡ in_package.reading b.now) }
+    ensures { IsTrue result ↔ (in_package.entry_data a.now ≡ in_package.entry_data b.now) }
 {
     a == b
 }
 
 /// Entries of an operator log.
 pub fn are_same_operator_entries(a: &OperatorEntry, b: &OperatorEntry) -> bool
-    ensures { IsTrue result ↔ (in_operator.reading a.now ≡ in_operator.reading b.now) }
+    ensures { IsTrue result ↔ (in_operator.entry_data a.now ≡ in_operator.entry_data b.now) }
 {
     a == b
 }
 
 /// Records of a package log.
 pub fn are_same_package_records(a: &PackageRecord, b: &PackageRecord) -> bool
-    ensures { IsTrue result ↔ (in_package.said a.now ≡ in_package.said b.now) }
+    ensures { IsTrue result ↔ (in_package.record_data a.now ≡ in_package.record_data b.now) }
 {
     a == b
 }
 
 /// Records of an operator log.
 pub fn are_same_operator_records(a: &OperatorRecord, b: &OperatorRecord) -> bool
-    ensures { IsTrue result ↔ (in_operator.said a.now ≡ in_operator.said b.now) }
+    ensures { IsTrue result ↔ (in_operator.record_data a.now ≡ in_operator.record_data b.now) }
 {
     a == b
 }
@@ -56,7 +56,7 @@ pub fn are_same_operator_permissions(a: operator::Permission, b: operator::Permi
 
 /// Envelopes: as their records are equal, and the bytes, the key id and the signature one.
 pub fn are_same_envelopes<C: Eq>(a: &ProtoEnvelope<C>, b: &ProtoEnvelope<C>) -> bool
-    ensures { IsTrue result ↔ ((C.eq a.now.contents b.now.contents ≡ true) × (a.now.sealed ≡ b.now.sealed)) }
+    ensures { IsTrue result ↔ ((C.eq a.now.contents b.now.contents ≡ true) × (a.now.envelope ≡ b.now.envelope)) }
 {
     a == b
 }
@@ -74,7 +74,7 @@ pub fn are_same_published_envelopes<C: Eq>(
     b: &PublishedProtoEnvelope<C>,
 ) -> bool
     ensures { IsTrue result ↔ ((C.eq a.now.envelope.contents b.now.envelope.contents ≡ true)
-        × (a.now.envelope.sealed ≡ b.now.envelope.sealed) × (a.now.registry_index ≡ b.now.registry_index)) }
+        × (a.now.envelope.envelope ≡ b.now.envelope.envelope) × (a.now.registry_index ≡ b.now.registry_index)) }
 {
     a == b
 }

@@ -3,7 +3,7 @@
 ghost use Rattle.std.specs.List.{AllByRecursion};
 ghost use Rattle.warg_records.specs.OperatorEntries as in_operator;
 ghost use Rattle.warg_records.specs.PackageEntries as in_package;
-ghost use Rattle.warg_records.specs.Whole.{IsReadable, IsWhole, IsWholeEntry, IsWholeHash, IsWholeLink, IsWholeOperatorAct, IsWholePackageAct, IsWholeTag, IsWholeTime};
+ghost use Rattle.warg_records.specs.Whole.{IsReadable, IsWhole, IsWholeEntry, IsWholeHash, IsWholeLink, IsWholeOperatorOwnEntry, IsWholePackageOwnEntry, IsWholeNamedBytes, IsWholeTime};
 
 use super::byte_range;
 use crate::operator::{OperatorEntry, OperatorRecord};
@@ -28,7 +28,7 @@ fn link_is_whole(link: &Option<RecordId>)
 }
 
 fn key_is_whole(key: &PublicKey)
-    ensures { IsWholeTag key.now }
+    ensures { IsWholeNamedBytes key.now }
 {
     let _name = key.algorithm();
     byte_range(key.bytes());
@@ -42,7 +42,8 @@ fn time_is_whole(time: Timestamp)
 }
 
 fn package_entry_is_whole(entry: &PackageEntry)
-    ensures { IsReadable (in_package.reading entry.now) → IsWholeEntry IsWholePackageAct (in_package.reading entry.now) }
+    ensures { IsReadable (in_package.entry_data entry.now) →
+        IsWholeEntry IsWholePackageOwnEntry (in_package.entry_data entry.now) }
 {
     match entry {
         PackageEntry::Init { key, .. } => key_is_whole(key),
@@ -53,7 +54,7 @@ fn package_entry_is_whole(entry: &PackageEntry)
 }
 
 fn operator_entry_is_whole(entry: &OperatorEntry)
-    ensures { IsWholeEntry IsWholeOperatorAct (in_operator.reading entry.now) }
+    ensures { IsWholeEntry IsWholeOperatorOwnEntry (in_operator.entry_data entry.now) }
 {
     match entry {
         OperatorEntry::Init { key, .. } => key_is_whole(key),
@@ -66,7 +67,7 @@ fn operator_entry_is_whole(entry: &OperatorEntry)
 
 /// A package record reads back as it is written wherever the texts of its versions do.
 pub fn package_records_are_whole(package_record: &PackageRecord)
-    ensures { AllByRecursion IsReadable (in_package.said package_record.now).entries → IsWhole IsWholePackageAct (in_package.said package_record.now) }
+    ensures { AllByRecursion IsReadable (in_package.record_data package_record.now).entries → IsWhole IsWholePackageOwnEntry (in_package.record_data package_record.now) }
 {
     link_is_whole(&package_record.prev);
     time_is_whole(package_record.timestamp);
@@ -77,7 +78,7 @@ pub fn package_records_are_whole(package_record: &PackageRecord)
 
 /// Every operator record reads back as it is written.
 pub fn operator_records_are_whole(operator_record: &OperatorRecord)
-    ensures { IsWhole IsWholeOperatorAct (in_operator.said operator_record.now) }
+    ensures { IsWhole IsWholeOperatorOwnEntry (in_operator.record_data operator_record.now) }
 {
     link_is_whole(&operator_record.prev);
     time_is_whole(operator_record.timestamp);

@@ -1,7 +1,7 @@
 //! What a record of an operator log holds.
 
 ghost use Rattle.std.specs.Prelude.{◌≡◌, IfOk};
-ghost use Rattle.warg_records.specs.OperatorEntries.{reading, required_permission_of};
+ghost use Rattle.warg_records.specs.OperatorEntries.{entry_data, required_permission_of};
 
 use crate::operator::permission::Permission;
 use crate::registry::RecordId;
@@ -64,7 +64,7 @@ pub enum OperatorEntry {
 impl OperatorEntry {
     /// The permission that the signer must hold for an entry of this kind, if any.
     pub fn required_permission(&self) -> Option<Permission>
-        ensures { result ≡ required_permission_of (reading self.now) }
+        ensures { result ≡ required_permission_of (entry_data self.now) }
     {
         match self {
             OperatorEntry::Init { .. } => None,
@@ -78,14 +78,14 @@ impl OperatorEntry {
 
     /// The same entry again.
     pub fn try_clone(&self) -> Result<OperatorEntry, AllocError>
-        ensures { IfOk result (λ e. reading e ≡ reading self.now) }
+        ensures { IfOk result (λ e. entry_data e ≡ entry_data self.now) }
     {
         self.clone()
     }
 }
 
 impl Clone for OperatorEntry {
-    ghost is_clone = { λ a b. reading b ≡ reading a };
+    ghost is_clone = { λ a b. entry_data b ≡ entry_data a };
 
     fn clone(&self) -> Result<OperatorEntry, AllocError> {
         Ok(match self {

@@ -6,6 +6,8 @@ ghost use Rattle.std.specs.Hash as fed;
 ghost use Rattle.warg_records.specs.Permissions.{named_or, numbered_or};
 ghost use Rattle.warg_records.specs.OperatorPermissions.{number_of, permission_of, permission_text, permission_in, same_permission, same_permission_equiv, hash-same_permission, permission_of-number_of};
 
+mod json;
+
 use crate::permission::{InvalidPermission, NumberedPermission, PermissionParseError};
 use std::fmt;
 use std::hash::{Hash, Hasher};
@@ -44,6 +46,17 @@ impl Permission {
             Permission::ImportNamespace => 3,
         }
     }
+
+    // The text of the permission.
+    fn as_str(self) -> &'static str
+        ensures { result.now ≡ permission_text self }
+    {
+        match self {
+            Permission::Commit => "commit",
+            Permission::DefineNamespace => "defineNamespace",
+            Permission::ImportNamespace => "importNamespace",
+        }
+    }
 }
 
 impl PartialEq for Permission {
@@ -76,11 +89,7 @@ impl fmt::Display for Permission {
     ghost styled_output = { λ p _. Some (permission_text p) };
 
     fn fmt<W: fmt::Write>(&self, f: &mut fmt::Formatter<W>) -> fmt::Result {
-        f.write_str(match self {
-            Permission::Commit => "commit",
-            Permission::DefineNamespace => "defineNamespace",
-            Permission::ImportNamespace => "importNamespace",
-        })
+        f.write_str(self.as_str())
     }
 }
 

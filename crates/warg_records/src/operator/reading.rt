@@ -1,17 +1,17 @@
 //! Reading records of operator logs from their messages.
 
 ghost use Rattle.std.specs.Prelude.{◌≡◌, Option};
-ghost use Rattle.warg_protobuf.specs.OperatorEntry.{OperatorMember, operator_entry_seen};
-ghost use Rattle.warg_protobuf.specs.OperatorRecord.{operator_record_seen};
+ghost use Rattle.warg_protobuf.specs.OperatorEntry.{OperatorMember, operator_entry_view};
+ghost use Rattle.warg_protobuf.specs.OperatorRecord.{operator_record_view};
 ghost use Rattle.warg_protobuf.specs.OperatorRecord.{operator_record_of as operator_message_of};
-ghost use Rattle.warg_protobuf.specs.GrantFlat.{grant_flat_seen};
-ghost use Rattle.warg_protobuf.specs.Init.{init_seen};
-ghost use Rattle.warg_protobuf.specs.RevokeFlat.{revoke_flat_seen};
+ghost use Rattle.warg_protobuf.specs.GrantFlat.{grant_flat_view};
+ghost use Rattle.warg_protobuf.specs.Init.{init_view};
+ghost use Rattle.warg_protobuf.specs.RevokeFlat.{revoke_flat_view};
 ghost use Rattle.warg_records.specs.Faults.{fault_of, IsReading};
-ghost use Rattle.warg_records.specs.OperatorEntries.{OperatorAct, reading, said};
+ghost use Rattle.warg_records.specs.OperatorEntries.{OperatorOwnEntry, entry_data, record_data};
 ghost use Rattle.warg_records.specs.OperatorPermissions.{permission_of};
 ghost use Rattle.warg_records.specs.OperatorReading.{operator_entry_of, operator_record_of};
-ghost use Rattle.warg_records.specs.Readings.{Reading};
+ghost use Rattle.warg_records.specs.RecordData.{EntryData};
 ghost use Rattle.warg_records.specs.Steps.{grant_of, init_of, message_of, record_of, revoke_of, shared};
 ghost use Rattle.warg_records.specs.declared.operator.permission.Permission.{Permission};
 
@@ -29,7 +29,7 @@ use warg_protobuf::{Message, OperatorGrantFlat, OperatorInit, OperatorRevokeFlat
 // A member of the entry's oneof.
 
 fn read_init_entry(alloc: Global, message: OperatorInit) -> Result<OperatorEntry, DecodeError>
-    ensures { IsReading reading fault_of (shared (init_of (init_seen message))) result }
+    ensures { IsReading entry_data fault_of (shared (init_of (init_view message))) result }
 {
     let (hash_algorithm, key) = read_init(
         alloc,
@@ -43,7 +43,7 @@ fn read_init_entry(alloc: Global, message: OperatorInit) -> Result<OperatorEntry
 }
 
 fn read_grant(alloc: Global, message: OperatorGrantFlat) -> Result<OperatorEntry, DecodeError>
-    ensures { IsReading reading fault_of (shared (grant_of permission_of (grant_flat_seen message))) result }
+    ensures { IsReading entry_data fault_of (shared (grant_of permission_of (grant_flat_view message))) result }
 {
     let key = read_key(alloc, message.key.as_str())?;
     let permissions = read_permissions::<Permission>(alloc, message.permissions)?;
@@ -51,7 +51,7 @@ fn read_grant(alloc: Global, message: OperatorGrantFlat) -> Result<OperatorEntry
 }
 
 fn read_revoke(alloc: Global, message: OperatorRevokeFlat) -> Result<OperatorEntry, DecodeError>
-    ensures { IsReading reading fault_of (shared (revoke_of permission_of (revoke_flat_seen message))) result }
+    ensures { IsReading entry_data fault_of (shared (revoke_of permission_of (revoke_flat_view message))) result }
 {
     let permissions = read_permissions::<Permission>(alloc, message.permissions)?;
     Ok(OperatorEntry::RevokeFlat {
@@ -65,11 +65,11 @@ impl FromMessage for OperatorEntry {
 
     ghost Seen = { Option OperatorMember };
 
-    ghost seen = { operator_entry_seen };
+    ghost seen = { operator_entry_view };
 
-    ghost Plain = { Reading Permission OperatorAct };
+    ghost Plain = { EntryData Permission OperatorOwnEntry };
 
-    ghost plain = { reading };
+    ghost plain = { entry_data };
 
     ghost read = { operator_entry_of };
 
@@ -107,7 +107,7 @@ impl OperatorEntry {
         alloc: Global,
         message: message::OperatorEntry,
     ) -> Result<OperatorEntry, DecodeError>
-        ensures { IsReading reading fault_of (operator_entry_of (operator_entry_seen message)) result }
+        ensures { IsReading entry_data fault_of (operator_entry_of (operator_entry_view message)) result }
     {
         OperatorEntry::from_message(alloc, message)
     }
@@ -119,7 +119,7 @@ impl OperatorRecord {
         alloc: Global,
         message: message::OperatorRecord,
     ) -> Result<OperatorRecord, DecodeError>
-        ensures { IsReading said fault_of (record_of operator_entry_of (operator_record_seen message)) result }
+        ensures { IsReading record_data fault_of (record_of operator_entry_of (operator_record_view message)) result }
     {
         let prev = read_prev(message.prev)?;
         let timestamp = read_time(message.time)?;
@@ -135,7 +135,7 @@ impl OperatorRecord {
 
 // The message that content bytes are.
 fn read_message(alloc: Global, content: &[u8]) -> Result<message::OperatorRecord, DecodeError>
-    ensures { IsReading operator_record_seen fault_of (message_of (operator_message_of content.now)) result }
+    ensures { IsReading operator_record_view fault_of (message_of (operator_message_of content.now)) result }
 {
     match message::OperatorRecord::decode(alloc, content) {
         Ok(message) => Ok(message),
@@ -146,7 +146,7 @@ fn read_message(alloc: Global, content: &[u8]) -> Result<message::OperatorRecord
 // The record that content bytes say.
 #[tactic(auto, unfolding(crate::specs::OperatorReading::operator_record_of), using(crate::proofs::Each::tells_bind))]
 pub(crate) fn read_record(alloc: Global, content: &[u8]) -> Result<OperatorRecord, DecodeError>
-    ensures { IsReading said fault_of (operator_record_of content.now) result }
+    ensures { IsReading record_data fault_of (operator_record_of content.now) result }
 {
     let message = read_message(alloc, content)?;
     OperatorRecord::from_proto(alloc, message)

@@ -3,7 +3,7 @@
 ghost use Rattle.std.specs.Prelude.{◌≡◌, IfOk};
 ghost use Rattle.semver.specs.Identifiers.{parts_of};
 ghost use Rattle.std.specs.Option.{option_copied};
-ghost use Rattle.warg_records.specs.PackageEntries.{reading, required_permission_of, content_of};
+ghost use Rattle.warg_records.specs.PackageEntries.{entry_data, required_permission_of, content_of};
 
 use crate::package::permission::Permission;
 use crate::registry::RecordId;
@@ -67,7 +67,7 @@ pub enum PackageEntry {
 impl PackageEntry {
     /// The permission that the signer must hold for an entry of this kind, if any.
     pub fn required_permission(&self) -> Option<Permission>
-        ensures { result ≡ required_permission_of (reading self.now) }
+        ensures { result ≡ required_permission_of (entry_data self.now) }
     {
         match self {
             PackageEntry::Init { .. }
@@ -80,7 +80,7 @@ impl PackageEntry {
 
     /// The hash of what is released, if the entry is a release.
     pub fn content(&self) -> Option<&AnyHash>
-        ensures { option_copied result ≡ content_of (reading self.now) }
+        ensures { option_copied result ≡ content_of (entry_data self.now) }
     {
         match self {
             PackageEntry::Release { content, .. } => Some(content),
@@ -90,7 +90,7 @@ impl PackageEntry {
 
     /// The same entry again.
     pub fn try_clone(&self) -> Result<PackageEntry, AllocError>
-        ensures { IfOk result (λ e. reading e ≡ reading self.now) }
+        ensures { IfOk result (λ e. entry_data e ≡ entry_data self.now) }
     {
         self.clone()
     }
@@ -103,7 +103,7 @@ fn clone_version(version: &Version) -> Result<Version, AllocError>
 }
 
 impl Clone for PackageEntry {
-    ghost is_clone = { λ a b. reading b ≡ reading a };
+    ghost is_clone = { λ a b. entry_data b ≡ entry_data a };
 
     fn clone(&self) -> Result<PackageEntry, AllocError> {
         Ok(match self {

@@ -6,6 +6,8 @@ ghost use Rattle.std.specs.Hash as fed;
 ghost use Rattle.warg_records.specs.Permissions.{named_or, numbered_or};
 ghost use Rattle.warg_records.specs.PackagePermissions.{number_of, permission_of, permission_text, permission_in, same_permission, same_permission_equiv, hash-same_permission, permission_of-number_of};
 
+mod json;
+
 use crate::permission::{InvalidPermission, NumberedPermission, PermissionParseError};
 use std::fmt;
 use std::hash::{Hash, Hasher};
@@ -35,6 +37,16 @@ impl Permission {
         match self {
             Permission::Release => 1,
             Permission::Yank => 2,
+        }
+    }
+
+    // The text of the permission.
+    fn as_str(self) -> &'static str
+        ensures { result.now ≡ permission_text self }
+    {
+        match self {
+            Permission::Release => "release",
+            Permission::Yank => "yank",
         }
     }
 }
@@ -69,10 +81,7 @@ impl fmt::Display for Permission {
     ghost styled_output = { λ p _. Some (permission_text p) };
 
     fn fmt<W: fmt::Write>(&self, f: &mut fmt::Formatter<W>) -> fmt::Result {
-        f.write_str(match self {
-            Permission::Release => "release",
-            Permission::Yank => "yank",
-        })
+        f.write_str(self.as_str())
     }
 }
 

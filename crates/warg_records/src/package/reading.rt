@@ -3,19 +3,19 @@
 ghost use Rattle.std.specs.Prelude.{◌≡◌, ◌↔◌, Option, IsTrue};
 ghost use Rattle.semver.specs.Parse.{memory_error};
 ghost use Rattle.semver.specs.Identifiers.{parts_of};
-ghost use Rattle.warg_protobuf.specs.Release.{release_seen};
-ghost use Rattle.warg_protobuf.specs.Yank.{yank_seen};
-ghost use Rattle.warg_protobuf.specs.PackageEntry.{PackageMember, package_entry_seen};
-ghost use Rattle.warg_protobuf.specs.PackageRecord.{package_record_seen};
+ghost use Rattle.warg_protobuf.specs.Release.{release_view};
+ghost use Rattle.warg_protobuf.specs.Yank.{yank_view};
+ghost use Rattle.warg_protobuf.specs.PackageEntry.{PackageMember, package_entry_view};
+ghost use Rattle.warg_protobuf.specs.PackageRecord.{package_record_view};
 ghost use Rattle.warg_protobuf.specs.PackageRecord.{package_record_of as package_message_of};
-ghost use Rattle.warg_protobuf.specs.GrantFlat.{grant_flat_seen};
-ghost use Rattle.warg_protobuf.specs.Init.{init_seen};
-ghost use Rattle.warg_protobuf.specs.RevokeFlat.{revoke_flat_seen};
+ghost use Rattle.warg_protobuf.specs.GrantFlat.{grant_flat_view};
+ghost use Rattle.warg_protobuf.specs.Init.{init_view};
+ghost use Rattle.warg_protobuf.specs.RevokeFlat.{revoke_flat_view};
 ghost use Rattle.warg_records.specs.Faults.{fault_of, IsReading};
-ghost use Rattle.warg_records.specs.PackageEntries.{PackageAct, reading, said};
+ghost use Rattle.warg_records.specs.PackageEntries.{PackageOwnEntry, entry_data, record_data};
 ghost use Rattle.warg_records.specs.PackagePermissions.{permission_of};
 ghost use Rattle.warg_records.specs.PackageReading.{package_entry_of, package_record_of, release_of, version_of, yank_of};
-ghost use Rattle.warg_records.specs.Readings.{Reading};
+ghost use Rattle.warg_records.specs.RecordData.{EntryData};
 ghost use Rattle.warg_records.specs.Steps.{grant_of, init_of, message_of, record_of, revoke_of, shared, own};
 ghost use Rattle.warg_records.specs.declared.package.permission.Permission.{Permission};
 
@@ -38,7 +38,7 @@ use warg_protobuf::{
 // A member of the entry's oneof.
 
 fn read_init_entry(alloc: Global, message: PackageInit) -> Result<PackageEntry, DecodeError>
-    ensures { IsReading reading fault_of (shared (init_of (init_seen message))) result }
+    ensures { IsReading entry_data fault_of (shared (init_of (init_view message))) result }
 {
     let (hash_algorithm, key) = read_init(
         alloc,
@@ -52,7 +52,7 @@ fn read_init_entry(alloc: Global, message: PackageInit) -> Result<PackageEntry, 
 }
 
 fn read_grant(alloc: Global, message: PackageGrantFlat) -> Result<PackageEntry, DecodeError>
-    ensures { IsReading reading fault_of (shared (grant_of permission_of (grant_flat_seen message))) result }
+    ensures { IsReading entry_data fault_of (shared (grant_of permission_of (grant_flat_view message))) result }
 {
     let key = read_key(alloc, message.key.as_str())?;
     let permissions = read_permissions::<Permission>(alloc, message.permissions)?;
@@ -60,7 +60,7 @@ fn read_grant(alloc: Global, message: PackageGrantFlat) -> Result<PackageEntry, 
 }
 
 fn read_revoke(alloc: Global, message: PackageRevokeFlat) -> Result<PackageEntry, DecodeError>
-    ensures { IsReading reading fault_of (shared (revoke_of permission_of (revoke_flat_seen message))) result }
+    ensures { IsReading entry_data fault_of (shared (revoke_of permission_of (revoke_flat_view message))) result }
 {
     let permissions = read_permissions::<Permission>(alloc, message.permissions)?;
     Ok(PackageEntry::RevokeFlat {
@@ -90,7 +90,7 @@ fn read_version(alloc: Global, text: &str) -> Result<Version, DecodeError>
 }
 
 fn read_release(alloc: Global, message: PackageRelease) -> Result<PackageEntry, DecodeError>
-    ensures { IsReading reading fault_of (own (release_of (release_seen message))) result }
+    ensures { IsReading entry_data fault_of (own (release_of (release_view message))) result }
 {
     let version = read_version(alloc, message.version.as_str())?;
     match AnyHash::from_str(message.content_hash.as_str()) {
@@ -100,7 +100,7 @@ fn read_release(alloc: Global, message: PackageRelease) -> Result<PackageEntry, 
 }
 
 fn read_yank(alloc: Global, message: PackageYank) -> Result<PackageEntry, DecodeError>
-    ensures { IsReading reading fault_of (own (yank_of (yank_seen message))) result }
+    ensures { IsReading entry_data fault_of (own (yank_of (yank_view message))) result }
 {
     let version = read_version(alloc, message.version.as_str())?;
     Ok(PackageEntry::Yank { version })
@@ -111,11 +111,11 @@ impl FromMessage for PackageEntry {
 
     ghost Seen = { Option PackageMember };
 
-    ghost seen = { package_entry_seen };
+    ghost seen = { package_entry_view };
 
-    ghost Plain = { Reading Permission PackageAct };
+    ghost Plain = { EntryData Permission PackageOwnEntry };
 
-    ghost plain = { reading };
+    ghost plain = { entry_data };
 
     ghost read = { package_entry_of };
 
@@ -142,7 +142,7 @@ impl PackageEntry {
         alloc: Global,
         message: message::PackageEntry,
     ) -> Result<PackageEntry, DecodeError>
-        ensures { IsReading reading fault_of (package_entry_of (package_entry_seen message)) result }
+        ensures { IsReading entry_data fault_of (package_entry_of (package_entry_view message)) result }
     {
         PackageEntry::from_message(alloc, message)
     }
@@ -154,7 +154,7 @@ impl PackageRecord {
         alloc: Global,
         message: message::PackageRecord,
     ) -> Result<PackageRecord, DecodeError>
-        ensures { IsReading said fault_of (record_of package_entry_of (package_record_seen message)) result }
+        ensures { IsReading record_data fault_of (record_of package_entry_of (package_record_view message)) result }
     {
         let prev = read_prev(message.prev)?;
         let timestamp = read_time(message.time)?;
@@ -170,7 +170,7 @@ impl PackageRecord {
 
 // The message that content bytes are.
 fn read_message(alloc: Global, content: &[u8]) -> Result<message::PackageRecord, DecodeError>
-    ensures { IsReading package_record_seen fault_of (message_of (package_message_of content.now)) result }
+    ensures { IsReading package_record_view fault_of (message_of (package_message_of content.now)) result }
 {
     match message::PackageRecord::decode(alloc, content) {
         Ok(message) => Ok(message),
@@ -181,7 +181,7 @@ fn read_message(alloc: Global, content: &[u8]) -> Result<message::PackageRecord,
 // The record that content bytes say.
 #[tactic(auto, unfolding(crate::specs::PackageReading::package_record_of), using(crate::proofs::Each::tells_bind))]
 pub(crate) fn read_record(alloc: Global, content: &[u8]) -> Result<PackageRecord, DecodeError>
-    ensures { IsReading said fault_of (package_record_of content.now) result }
+    ensures { IsReading record_data fault_of (package_record_of content.now) result }
 {
     let message = read_message(alloc, content)?;
     PackageRecord::from_proto(alloc, message)

@@ -3,7 +3,9 @@
 ghost use Rattle.std.specs.Prelude.{◌≡◌, IfOk};
 ghost use Rattle.std.specs.Cmp.{partial_equiv_from_equiv};
 ghost use Rattle.warg_records.specs.Faults.{IsReading};
-ghost use Rattle.warg_records.specs.Same.{same_letter, same_letter_equiv};
+ghost use Rattle.warg_records.specs.Same.{same_envelope_data, same_envelope_data_equiv};
+
+mod json;
 
 use crate::Record;
 use crate::proto_envelope::{ProtoEnvelope, decode_contents};
@@ -22,9 +24,9 @@ pub struct ProtoEnvelopeBody {
 }
 
 impl Model for ProtoEnvelopeBody {
-    ghost use Rattle.warg_records.specs.Letters.{Letter};
+    ghost use Rattle.warg_records.specs.EnvelopeData.{EnvelopeData};
 
-    ghost Value = { Letter };
+    ghost Value = { EnvelopeData };
 
     ghost view = { λ b. record { content = b.content_bytes.items; key_id = b.key_id; signature = b.signature } };
 }
@@ -51,9 +53,9 @@ impl Clone for ProtoEnvelopeBody {
 }
 
 impl PartialEq for ProtoEnvelopeBody {
-    ghost eq = { same_letter };
+    ghost eq = { same_envelope_data };
 
-    ghost laws = { partial_equiv_from_equiv same_letter_equiv };
+    ghost laws = { partial_equiv_from_equiv same_envelope_data_equiv };
 
     fn eq(&self, other: &ProtoEnvelopeBody) -> bool {
         self.content_bytes.as_slice() == other.content_bytes.as_slice()
@@ -63,11 +65,11 @@ impl PartialEq for ProtoEnvelopeBody {
 }
 
 impl Eq for ProtoEnvelopeBody {
-    ghost laws = { same_letter_equiv };
+    ghost laws = { same_envelope_data_equiv };
 }
 
 impl<C: Drop> From<ProtoEnvelope<C>> for ProtoEnvelopeBody {
-    ghost from_gives = { λ e b. b ≡ e.sealed };
+    ghost from_gives = { λ e b. b ≡ e.envelope };
 
     fn from(envelope: ProtoEnvelope<C>) -> ProtoEnvelopeBody {
         ProtoEnvelopeBody {
@@ -84,7 +86,7 @@ impl<C: Record> ProtoEnvelope<C> {
         alloc: Global,
         body: ProtoEnvelopeBody,
     ) -> Result<ProtoEnvelope<C>, DecodeError>
-        ensures letter { IfOk result (λ e. e.sealed ≡ body) }
+        ensures envelope { IfOk result (λ e. e.envelope ≡ body) }
         ensures contents { IsReading (λ e. C.meaning e.contents) C.fault_of (C.read body.content) result }
     {
         let contents = decode_contents::<C>(alloc, body.content_bytes.as_slice())?;
@@ -136,7 +138,7 @@ impl Clone for PublishedProtoEnvelopeBody {
 }
 
 impl<C: Drop> From<PublishedProtoEnvelope<C>> for PublishedProtoEnvelopeBody {
-    ghost from_gives = { λ e b. b ≡ record { envelope = e.envelope.sealed; registry_index = e.registry_index } };
+    ghost from_gives = { λ e b. b ≡ record { envelope = e.envelope.envelope; registry_index = e.registry_index } };
 
     fn from(published: PublishedProtoEnvelope<C>) -> PublishedProtoEnvelopeBody {
         PublishedProtoEnvelopeBody {
@@ -153,8 +155,9 @@ impl<C: Record> PublishedProtoEnvelope<C> {
         body: PublishedProtoEnvelopeBody,
     ) -> Result<PublishedProtoEnvelope<C>, DecodeError>
         ensures index { IfOk result (λ e. e.registry_index ≡ body.registry_index) }
-        ensures letter { IfOk result (λ e. e.envelope.sealed ≡ body.envelope) }
-        ensures contents { IsReading (λ e. C.meaning e.envelope.contents) C.fault_of (C.read body.envelope.content) result }
+        ensures envelope { IfOk result (λ e. e.envelope.envelope ≡ body.envelope) }
+        ensures contents { IsReading (λ e. C.meaning e.envelope.contents) C.fault_of
+            (C.read body.envelope.content) result }
     {
         let envelope = ProtoEnvelope::<C>::from_body(alloc, body.envelope)?;
         Ok(PublishedProtoEnvelope {
@@ -166,7 +169,7 @@ impl<C: Record> PublishedProtoEnvelope<C> {
     /// The same published envelope again.
     pub fn try_clone(&self) -> Result<PublishedProtoEnvelope<C>, AllocError>
         ensures index { IfOk result (λ e. e.registry_index ≡ self.now.registry_index) }
-        ensures letter { IfOk result (λ e. e.envelope.sealed ≡ self.now.envelope.sealed) }
+        ensures envelope { IfOk result (λ e. e.envelope.envelope ≡ self.now.envelope.envelope) }
         ensures contents { IfOk result (λ e. C.meaning e.envelope.contents ≡ C.meaning self.now.envelope.contents) }
     {
         Ok(PublishedProtoEnvelope {
@@ -177,7 +180,7 @@ impl<C: Record> PublishedProtoEnvelope<C> {
 }
 
 impl<C: Record> Clone for PublishedProtoEnvelope<C> {
-    ghost is_clone = { λ a b. (b.registry_index ≡ a.registry_index) × (b.envelope.sealed ≡ a.envelope.sealed)
+    ghost is_clone = { λ a b. (b.registry_index ≡ a.registry_index) × (b.envelope.envelope ≡ a.envelope.envelope)
         × (C.meaning b.envelope.contents ≡ C.meaning a.envelope.contents) };
 
     fn clone(&self) -> Result<PublishedProtoEnvelope<C>, AllocError> {

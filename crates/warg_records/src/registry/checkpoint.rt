@@ -78,7 +78,8 @@ impl TimestampedCheckpoint {
         checkpoint: Checkpoint,
         clock: &mut C,
     ) -> Result<TimestampedCheckpoint, TimeError>
-        ensures { (time : Time) × C.tells clock.old time clock.new × (result ≡ timestamped_checkpoint_of checkpoint time) }
+        ensures { (time : Time) × C.tells clock.old time clock.new ×
+            (result ≡ timestamped_checkpoint_of checkpoint time) }
     {
         TimestampedCheckpoint::new(checkpoint, clock.now())
     }

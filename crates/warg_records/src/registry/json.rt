@@ -1,10 +1,12 @@
 //! JSON of ids, names, checkpoints and leaves.
 
-ghost use Rattle.std.specs.Prelude.{◌≡◌, ◌<◌, ◌^◌, true};
-ghost use Rattle.warg_crypto.specs.JsonTexts.{IsHash};
-ghost use Rattle.warg_records.specs.KebabNames.{is_package_name};
-ghost use Rattle.warg_records.specs.RegistryJson.{IsCheckpoint, IsLogLeaf, IsTimestamped, checkpoint_in, checkpoint_json, log_id_in, log_id_json, log_leaf_in, log_leaf_json, package_name_in, package_name_json, record_id_in, record_id_json, timestamped_checkpoint_in, timestamped_checkpoint_json};
-ghost use Rattle.warg_records.specs.RegistryJsonLaws.{checkpoint_reads_back, log_id_reads_back, log_leaf_reads_back, package_name_reads_back, record_id_reads_back, timestamped_reads_back};
+ghost use Rattle.std.specs.Prelude.{◌≡◌, List, [], ℕ};
+ghost use Rattle.warg_records.specs.declared.registry.checkpoint.Checkpoint.{Checkpoint};
+ghost use Rattle.warg_records.specs.declared.registry.checkpoint.TimestampedCheckpoint.{TimestampedCheckpoint};
+ghost use Rattle.warg_records.specs.declared.registry.leaf.LogLeaf.{LogLeaf};
+ghost use Rattle.warg_records.specs.declared.registry.log_id.LogId.{LogId};
+ghost use Rattle.warg_records.specs.declared.registry.record_id.RecordId.{RecordId};
+ghost use Rattle.warg_records.specs.RegistryJson.{checkpoint_in, checkpoint_json, log_id_in, log_id_json, log_leaf_in, log_leaf_json, package_name_in, package_name_json, record_id_in, record_id_json, timestamped_checkpoint_in, timestamped_checkpoint_json};
 
 use crate::registry::{
     Checkpoint, LogId, LogLeaf, PackageName, PackageNameError, RecordId, TimestampedCheckpoint,
@@ -16,13 +18,17 @@ use warg_crypto::json::members::{member_in, object_value, put_value, text_in, te
 use warg_crypto::{JsonError, JsonValue};
 
 impl JsonValue for LogId {
+    ghost Plain = { LogId };
+
+    ghost plain = { λ x. x };
+
     ghost writes = { log_id_json };
 
     ghost reads = { log_id_in };
 
-    ghost is_written = { λ id. IsHash id.hash };
+    ghost versions = { λ _. [] };
 
-    ghost reads_back = { log_id_reads_back };
+    ghost same = { λ x y. x ≡ y };
 
     fn to_value(&self, alloc: Global) -> Result<Value, JsonError> {
         AnyHash::from(*self).to_value(alloc)
@@ -34,13 +40,17 @@ impl JsonValue for LogId {
 }
 
 impl JsonValue for RecordId {
+    ghost Plain = { RecordId };
+
+    ghost plain = { λ x. x };
+
     ghost writes = { record_id_json };
 
     ghost reads = { record_id_in };
 
-    ghost is_written = { λ id. IsHash id.hash };
+    ghost versions = { λ _. [] };
 
-    ghost reads_back = { record_id_reads_back };
+    ghost same = { λ x y. x ≡ y };
 
     fn to_value(&self, alloc: Global) -> Result<Value, JsonError> {
         AnyHash::from(*self).to_value(alloc)
@@ -52,13 +62,17 @@ impl JsonValue for RecordId {
 }
 
 impl JsonValue for PackageName {
+    ghost Plain = { List ℕ };
+
+    ghost plain = { λ x. x };
+
     ghost writes = { package_name_json };
 
     ghost reads = { package_name_in };
 
-    ghost is_written = { λ name. is_package_name name ≡ true };
+    ghost versions = { λ _. [] };
 
-    ghost reads_back = { package_name_reads_back };
+    ghost same = { λ x y. x ≡ y };
 
     fn to_value(&self, alloc: Global) -> Result<Value, JsonError> {
         text_value(alloc, self.as_str())
@@ -74,13 +88,17 @@ impl JsonValue for PackageName {
 }
 
 impl JsonValue for Checkpoint {
+    ghost Plain = { Checkpoint };
+
+    ghost plain = { λ x. x };
+
     ghost writes = { checkpoint_json };
 
     ghost reads = { checkpoint_in };
 
-    ghost is_written = { λ c. IsCheckpoint c };
+    ghost versions = { λ _. [] };
 
-    ghost reads_back = { checkpoint_reads_back };
+    ghost same = { λ x y. x ≡ y };
 
     fn to_value(&self, alloc: Global) -> Result<Value, JsonError> {
         let mut map = Map::new(alloc);
@@ -103,13 +121,17 @@ impl JsonValue for Checkpoint {
 }
 
 impl JsonValue for TimestampedCheckpoint {
+    ghost Plain = { TimestampedCheckpoint };
+
+    ghost plain = { λ x. x };
+
     ghost writes = { timestamped_checkpoint_json };
 
     ghost reads = { timestamped_checkpoint_in };
 
-    ghost is_written = { λ t. IsTimestamped t };
+    ghost versions = { λ _. [] };
 
-    ghost reads_back = { timestamped_reads_back };
+    ghost same = { λ x y. x ≡ y };
 
     fn to_value(&self, alloc: Global) -> Result<Value, JsonError> {
         let mut map = Map::new(alloc);
@@ -131,13 +153,17 @@ impl JsonValue for TimestampedCheckpoint {
 }
 
 impl JsonValue for LogLeaf {
+    ghost Plain = { LogLeaf };
+
+    ghost plain = { λ x. x };
+
     ghost writes = { log_leaf_json };
 
     ghost reads = { log_leaf_in };
 
-    ghost is_written = { λ l. IsLogLeaf l };
+    ghost versions = { λ _. [] };
 
-    ghost reads_back = { log_leaf_reads_back };
+    ghost same = { λ x y. x ≡ y };
 
     fn to_value(&self, alloc: Global) -> Result<Value, JsonError> {
         let mut map = Map::new(alloc);

@@ -1,5 +1,5 @@
 use Rattle.warg_protobuf.specs.OperatorRecord.{operator_record_table, IsOperatorRecord}
-use Rattle.warg_records.specs.OperatorEntries.{said}
+use Rattle.warg_records.specs.OperatorEntries.{record_data}
 use Rattle.warg_records.specs.OperatorReading.{operator_entry_of, operator_record_of}
 use Rattle.warg_records.specs.OperatorWriting.{operator_record_message}
 use Rattle.warg_records.proofs.WriteBack.{encoded_back, operator_back}
@@ -10,5 +10,5 @@ returns-clause-read_again c = rw c.in_ok-message.ensures at c.encode.ensures.rea
 
 pub returns-clause-same : goal.returns-clause-same
 returns-clause-same c = encoded_back operator_record_table IsOperatorRecord operator_entry_of operator_record_of c.record_reading_computes.ensures.of_operator
-    (said c.args.self.now) (operator_record_message (said c.args.self.now)) (operator_back (said c.args.self.now) c.operator_records_are_whole.ensures)
+    (record_data c.args.self.now) (operator_record_message (record_data c.args.self.now)) (operator_back (record_data c.args.self.now) c.operator_records_are_whole.ensures)
     (λ v. v.items) c.encode.result (rw c.in_ok-message.ensures at c.encode.ensures.read_again)

@@ -3,7 +3,7 @@ use Rattle.serde_json.specs.Data.{no_members, object, put}
 use Rattle.serde_json.specs.View.{members_view, view}
 use Rattle.warg_crypto.specs.MemberLaws.{read_again}
 use Rattle.warg_records.specs.RegistryJson.{log_id_in, record_id_in}
-use Rattle.warg_records.specs.RegistryJsonLaws.{log_leaf_back}
+use Rattle.warg_records.proofs.RegistryJsonLaws.{log_leaf_back}
 use Rattle.warg_records.proofs.registry.json.LogLeafJsonValue.to_value.Goals as goal
 
 pub returns-clause-back : goal.returns-clause-back

@@ -4,7 +4,7 @@ use Rattle.serde_json.specs.View.{members_view, view}
 use Rattle.warg_crypto.specs.JsonTexts.{hash_in}
 use Rattle.warg_crypto.specs.MemberLaws.{read_again}
 use Rattle.warg_records.specs.RegistryJson.{number_in}
-use Rattle.warg_records.specs.RegistryJsonLaws.{timestamped_back}
+use Rattle.warg_records.proofs.RegistryJsonLaws.{timestamped_back}
 use Rattle.warg_records.proofs.registry.json.TimestampedCheckpointJsonValue.to_value.Goals as goal
 
 pub returns-clause-back : goal.returns-clause-back
