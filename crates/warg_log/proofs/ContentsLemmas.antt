@@ -1,17 +1,17 @@
 -- What the lists of an authority say is what its maps say.
 use Rattle.std.proofs.Common.{◌≡◌, ℕ, List, [], ◌∷◌, Bool, false, map, Option, Some, None, refl, sym, ap, ◌∙◌, is_some}
 use Rattle.std.specs.List.{list_any, AllZip}
-use Rattle.std.specs.Option.{option_map_or, option_map}
+use Rattle.std.specs.Option.{option_map_or, option_map, option_or}
 use Rattle.std.specs.Str.{bytes_eq}
 use Rattle.std.proofs.lemmas.Map.Made.{lookup-map_values}
 use Rattle.std.specs.Borrow.{Bor}
 use Rattle.std.specs.Prelude.{IfSome}
 use Rattle.indexmap.specs.IndexMap.{IndexMap, get}
 use Rattle.indexmap.specs.IndexSet.{IndexSet, contains}
-use Rattle.warg_crypto.specs.Tags.{Tag}
-use Rattle.warg_log.specs.Rights.{holds_in, has_entry_in}
-use Rattle.warg_log.specs.Contents.{Contents, standing, maps_standing, maps_contents}
-use Rattle.warg_log.proofs.ActLaws.{same_standing}
+use Rattle.warg_crypto.specs.NamedBytes.{NamedBytes}
+use Rattle.warg_log.specs.Rights.{holds_in, has_entry_in, layered, held_over}
+use Rattle.warg_log.specs.Contents.{Contents, standing, standing_over, maps_standing, maps_over, maps_contents}
+use Rattle.warg_log.proofs.SignedEntryLaws.{same_standing}
 use Rattle.warg_crypto.specs.declared.hash.HashAlgorithm.{HashAlgorithm}
 
 some_mapped : {A B : Type 0} (f : A → B) (o : Option A) → is_some (option_map f o) ≡ is_some o
@@ -22,7 +22,7 @@ map_or_mapped : {A B C : Type 0} (f : A → B) (g : B → C) (d : C) (o : Option
 map_or_mapped f g d None = refl
 map_or_mapped f g d (Some x) = refl
 
-module _ {P S Z X : Type 0} (same : P → P → Bool) (algorithm : Option HashAlgorithm) (permissions : IndexMap (List ℕ) (IndexSet P S) Z) (keys : IndexMap (List ℕ) Tag X) where
+module _ {P S Z X : Type 0} (same : P → P → Bool) (algorithm : Option HashAlgorithm) (permissions : IndexMap (List ℕ) (IndexSet P S) Z) (keys : IndexMap (List ℕ) NamedBytes X) where
   pub standing-maps : standing same (maps_contents algorithm permissions keys) ≡ maps_standing same algorithm permissions keys
   standing-maps = same_standing same _ _ refl
       (λ k p. ap (λ o. option_map_or (λ ps. list_any (same p) ps) o false) (lookup-map_values (λ (s : IndexSet P S). s.keys) (bytes_eq k) permissions.entries)
@@ -40,6 +40,42 @@ module _ {P S Z X : Type 0} (same : P → P → Bool) (algorithm : Option HashAl
 
     pub entry-is : (k : List ℕ) → has_entry_in permissions k ≡ (standing same c).has_entry k
     entry-is k = ap (λ s. s.has_entry k) stands
+
+or_mapped : {A B : Type 0} (f : A → B) (o p : Option A) → option_or (option_map f o) (option_map f p) ≡ option_map f (option_or o p)
+or_mapped f None p = refl
+or_mapped f (Some x) p = refl
+
+-- the same where changes lie over the maps
+module _ {P S Z X : Type 0} (same : P → P → Bool) (algorithm algorithm' : Option HashAlgorithm) (permissions permissions' : IndexMap (List ℕ) (IndexSet P S) Z) (keys keys' : IndexMap (List ℕ) NamedBytes X) where
+  layered-sets : (k : List ℕ) → layered (map {B = List ℕ × List P} (λ e. (e.0, e.1.keys)) permissions.entries) (map {B = List ℕ × List P} (λ e. (e.0, e.1.keys)) permissions'.entries) k
+      ≡ option_map (λ (s : IndexSet P S). s.keys) (layered permissions.entries permissions'.entries k)
+  layered-sets k =
+      (λ i. option_or (lookup-map_values (λ (s : IndexSet P S). s.keys) (bytes_eq k) permissions'.entries i) (lookup-map_values (λ (s : IndexSet P S). s.keys) (bytes_eq k) permissions.entries i))
+      ∙ or_mapped (λ (s : IndexSet P S). s.keys) (get bytes_eq permissions' k) (get bytes_eq permissions k)
+
+  pub standing-over : standing_over same (maps_contents algorithm permissions keys) (maps_contents algorithm' permissions' keys') ≡ maps_over same algorithm permissions keys algorithm' permissions' keys'
+  standing-over = same_standing same _ _ refl
+      (λ k p. ap (λ o. option_map_or (λ ps. list_any (same p) ps) o false) (layered-sets k)
+      ∙ map_or_mapped (λ (s : IndexSet P S). s.keys) (λ ps. list_any (same p) ps) false (layered permissions.entries permissions'.entries k))
+      (λ k. ap is_some (layered-sets k) ∙ some_mapped (λ (s : IndexSet P S). s.keys) (layered permissions.entries permissions'.entries k))
+      (λ k. refl)
+
+  module _ (c d : Contents P) (is : maps_contents algorithm permissions keys ≡ c) (is' : maps_contents algorithm' permissions' keys' ≡ d) where
+    -- the same, of what the contents are
+    pub stands-over : maps_over same algorithm permissions keys algorithm' permissions' keys' ≡ standing_over same c d
+    stands-over = sym standing-over ∙ (λ i. standing_over same (is i) (is' i))
+
+    pub held-over-is : (k : List ℕ) (p : P) → held_over same permissions permissions' k p ≡ (standing_over same c d).holds k p
+    held-over-is k p = ap (λ s. s.holds k p) stands-over
+
+-- what the maps say with the changes, once they are made
+module _ {P S Z X : Type 0} (same : P → P → Bool) (algorithm algorithm' named : Option HashAlgorithm) (permissions permissions' new : IndexMap (List ℕ) (IndexSet P S) Z) (keys keys' new_keys : IndexMap (List ℕ) NamedBytes X) (c d e : Contents P)
+    (is : maps_contents algorithm permissions keys ≡ c) (is' : maps_contents algorithm' permissions' keys' ≡ d) (new_is : maps_contents named new new_keys ≡ e) where
+  pub made-over : named ≡ option_or algorithm' algorithm → ((k : List ℕ) → get bytes_eq new k ≡ layered permissions.entries permissions'.entries k)
+      → ((k : List ℕ) → get bytes_eq new_keys k ≡ layered keys.entries keys'.entries k) → standing same e ≡ standing_over same c d
+  made-over is_named made registered = sym (stands same named new new_keys e new_is)
+      ∙ same_standing same _ _ is_named (λ k p. ap (λ o. option_map_or (λ s. contains same s p) o false) (made k)) (λ k. ap is_some (made k)) registered
+      ∙ stands-over same algorithm algorithm' permissions permissions' keys keys' c d is is'
 
 -- what a look-up of a set of permissions gives
 pub set-entry : {A B : Type 0} (o : Option A) (f : A → B) (m : Option B) → option_map f o ≡ m → is_some o ≡ is_some m

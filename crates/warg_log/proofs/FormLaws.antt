@@ -11,21 +11,21 @@ use Rattle.std.proofs.lemmas.List.Kept.{AllPairs-cons}
 use Rattle.std.proofs.lemmas.List.MinMax.{ranks_by}
 use Rattle.warg_crypto.specs.Signed.{signed_message}
 use Rattle.warg_crypto.specs.Times.{Time, time_cmp_total}
-use Rattle.warg_records.specs.Letters.{Letter}
-use Rattle.warg_records.specs.Readings.{Init, GrantFlat, RevokeFlat, Reading, Said}
+use Rattle.warg_records.specs.EnvelopeData.{EnvelopeData}
+use Rattle.warg_records.specs.RecordData.{Init, GrantFlat, RevokeFlat, EntryData, RecordData}
 use Rattle.warg_records.specs.declared.registry.record_id.RecordId.{RecordId}
-use Rattle.warg_validator.specs.Kinds.{Belief, KindLaws, AllLawful, IsAccepted, view_after}
+use Rattle.warg_validator.specs.Kinds.{SignatureRelation, KindLaws, AllLawful, IsAccepted, view_after}
 use Rattle.warg_validator.specs.Walks as walk
 use Rattle.warg_validator.proofs.KindWalks.{accepted-lawful}
-use Rattle.warg_log.specs.Acts.{Standing, nothing, after}
+use Rattle.warg_log.specs.SignedEntries.{AccessView, nothing, after}
 use Rattle.warg_log.specs.Forms.{TimesNeverFall, FirstAloneHasNoPrev, is_init, inits, OneInitFirst, EntriesHaveKeys, HasForm}
 use Rattle.warg_log.specs.Histories.{Placed, placed_in, record_history, history_of}
-use Rattle.warg_log.specs.History.{SignedRecord, Event, Rules, Whole, View, Wrong, deed_of, record_events, head_of, whole_after, start, entry_offence, entry_fault, events_offence, unsigned_offence, record_offence, after_record, IsCoherent}
+use Rattle.warg_log.specs.History.{SignedRecord, Event, Rules, StateView, View, Wrong, deed_of, record_events, head_of, whole_after, start, entry_offence, entry_fault, events_offence, unsigned_offence, record_offence, after_record, IsCoherent}
 use Rattle.warg_log.specs.LogKind.{opened, offence_in, kind_of}
 use Rattle.warg_log.specs.Offences.{Offence, lacks_required, FirstEntryIsNotInit, InitialEntryAfterBeginning, InitialRecordDoesNotInit, TimestampLowerThanPrevious}
 use Rattle.warg_log.specs.Records.{is_before, link_offence, version_offence, time_offence, signer_offence}
 use Rattle.warg_log.specs.declared.head.Head.{Head}
-use Rattle.warg_log.proofs.ActLaws.{after-append}
+use Rattle.warg_log.proofs.SignedEntryLaws.{after-append}
 use Rattle.warg_log.proofs.Coherence.{coherent-new, record-coherent}
 use Rattle.warg_log.proofs.Firsts.{or_first, or_second, unmapped, unless_holds}
 use Rattle.warg_log.proofs.HistoryViews.{record_flat}
@@ -66,21 +66,21 @@ none_and_some : {A : Type 0} (o : Option A) → is_none o ≡ true → is_some o
 none_and_some None h g = cc
 none_and_some (Some a) h g = cc
 
-inits-none : {P O : Type 0} (h : List (Placed (Reading P O))) → AllByRecursion (λ e. is_init e.entry ≡ false) (map (λ e. e.event) h) → inits h ≡ []
+inits-none : {P O : Type 0} (h : List (Placed (EntryData P O))) → AllByRecursion (λ e. is_init e.entry ≡ false) (map (λ e. e.event) h) → inits h ≡ []
 inits-none [] each = refl
 inits-none (e ∷ h) each = ap (λ b. if b then e ∷ inits h else inits h) each.0 ∙ inits-none h each.1
 
 module _ {P O V F : Type 0} (rules : Rules P O V F) (same : P → P → Bool) where
   -- what a record has that is lawful after a view
-  pub record IsLawful (b : Belief) (v : View P V) (r : SignedRecord P O) : Type 0 where
+  pub record IsLawful (b : SignatureRelation) (v : View P V) (r : SignedRecord P O) : Type 0 where
     pub link : link_offence {P = P} v.head r.contents.prev ≡ None
     pub time : time_offence {P = P} v.head r.contents.time ≡ None
     pub events : events_offence rules same r.contents.version v.whole [] (record_events rules.id_of r) ≡ None
     pub begun : is_some (whole_after rules same v.whole (record_events rules.id_of r)).authority.algorithm ≡ true
     pub unsigned : unsigned_offence rules same v r ≡ None
-    pub signed : signer_offence b (whole_after rules same v.whole (record_events rules.id_of r)).authority r.sealed.key_id (signed_message rules.signing_prefix r.sealed.content) r.sealed.signature ≡ None
+    pub signed : signer_offence b (whole_after rules same v.whole (record_events rules.id_of r)).authority r.envelope.key_id (signed_message rules.signing_prefix r.envelope.content) r.envelope.signature ≡ None
 
-  pub lawful : (b : Belief) (v : View P V) (r : SignedRecord P O) → record_offence rules same b v r ≡ None → IsLawful b v r
+  pub lawful : (b : SignatureRelation) (v : View P V) (r : SignedRecord P O) → record_offence rules same b v r ≡ None → IsLawful b v r
   lawful b v r h =
       let w = whole_after rules same v.whole (record_events rules.id_of r) in
       let link = option_map Wrong.Shared (link_offence v.head r.contents.prev) in
@@ -97,41 +97,41 @@ module _ {P O V F : Type 0} (rules : Rules P O V F) (same : P → P → Bool) wh
         events = or_first events _ rest;
         begun = unless_holds _ InitialRecordDoesNotInit (unmapped Wrong.Shared _ (or_second events _ rest));
         unsigned = unsigned;
-        signed = unmapped Wrong.Shared (signer_offence b w.authority r.sealed.key_id (signed_message rules.signing_prefix r.sealed.content) r.sealed.signature) (or_second (unsigned_offence rules same v r) _ h);
+        signed = unmapped Wrong.Shared (signer_offence b w.authority r.envelope.key_id (signed_message rules.signing_prefix r.envelope.content) r.envelope.signature) (or_second (unsigned_offence rules same v r) _ h);
       }
 
   -- after an Init no entry is one
-  no_init : (version : ℕ) (w : Whole P V) (signer : List ℕ) (r : Reading P O) → is_some w.authority.algorithm ≡ true → entry_offence rules same version w signer r ≡ None → is_init r ≡ false
+  no_init : (version : ℕ) (w : StateView P V) (signer : List ℕ) (r : EntryData P O) → is_some w.authority.algorithm ≡ true → entry_offence rules same version w signer r ≡ None → is_init r ≡ false
   no_init version w signer r begun h = by r (or_second (option_map Wrong.Shared (lacks_required w.authority signer (rules.required r))) _ h)
     where
-      by : (r : Reading P O) → entry_fault rules same version w signer r ≡ None → is_init r ≡ false
-      by (Reading.Shared (Init algorithm key)) g = absurd (none_and_some w.authority.algorithm (unless_holds _ InitialEntryAfterBeginning (or_first _ _ (unmapped Wrong.Shared _ g))) begun)
-      by (Reading.Shared (GrantFlat key ps)) g = refl
-      by (Reading.Shared (RevokeFlat id ps)) g = refl
-      by (Reading.Own o) g = refl
+      by : (r : EntryData P O) → entry_fault rules same version w signer r ≡ None → is_init r ≡ false
+      by (EntryData.Shared (Init algorithm key)) g = absurd (none_and_some w.authority.algorithm (unless_holds _ InitialEntryAfterBeginning (or_first _ _ (unmapped Wrong.Shared _ g))) begun)
+      by (EntryData.Shared (GrantFlat key ps)) g = refl
+      by (EntryData.Shared (RevokeFlat id ps)) g = refl
+      by (EntryData.Own o) g = refl
 
   -- before it each entry has to be one
-  some_init : (version : ℕ) (w : Whole P V) (signer : List ℕ) (r : Reading P O) → is_some w.authority.algorithm ≡ false → entry_offence rules same version w signer r ≡ None → is_init r ≡ true
+  some_init : (version : ℕ) (w : StateView P V) (signer : List ℕ) (r : EntryData P O) → is_some w.authority.algorithm ≡ false → entry_offence rules same version w signer r ≡ None → is_init r ≡ true
   some_init version w signer r bare h = by r (or_second (option_map Wrong.Shared (lacks_required w.authority signer (rules.required r))) _ h)
     where
       never : is_some w.authority.algorithm ≡ true → ⊥
       never begun = true≢false (sym begun ∙ bare)
 
-      by : (r : Reading P O) → entry_fault rules same version w signer r ≡ None → is_init r ≡ true
-      by (Reading.Shared (Init algorithm key)) g = refl
-      by (Reading.Shared (GrantFlat key ps)) g = absurd (never (unless_holds _ FirstEntryIsNotInit (or_first _ _ (unmapped Wrong.Shared _ g))))
-      by (Reading.Shared (RevokeFlat id ps)) g = absurd (never (unless_holds _ FirstEntryIsNotInit (or_first _ _ (unmapped Wrong.Shared _ g))))
-      by (Reading.Own o) g = absurd (never (unless_holds _ FirstEntryIsNotInit (unmapped Wrong.Shared _ (or_first _ _ g))))
+      by : (r : EntryData P O) → entry_fault rules same version w signer r ≡ None → is_init r ≡ true
+      by (EntryData.Shared (Init algorithm key)) g = refl
+      by (EntryData.Shared (GrantFlat key ps)) g = absurd (never (unless_holds _ FirstEntryIsNotInit (or_first _ _ (unmapped Wrong.Shared _ g))))
+      by (EntryData.Shared (RevokeFlat id ps)) g = absurd (never (unless_holds _ FirstEntryIsNotInit (or_first _ _ (unmapped Wrong.Shared _ g))))
+      by (EntryData.Own o) g = absurd (never (unless_holds _ FirstEntryIsNotInit (unmapped Wrong.Shared _ (or_first _ _ g))))
 
   -- after a lawful entry an Init stands, whatever contents are read as
-  begun_after : (version : ℕ) (w : Whole P V) (x : Event (Reading P O)) → entry_offence rules same version w x.signer x.entry ≡ None → is_some (after same w.authority (filter_map deed_of (x ∷ []))).algorithm ≡ true
+  begun_after : (version : ℕ) (w : StateView P V) (x : Event (EntryData P O)) → entry_offence rules same version w x.signer x.entry ≡ None → is_some (after same w.authority (filter_map deed_of (x ∷ []))).algorithm ≡ true
   begun_after version w x h = begun_entry rules same (λ content. Err content) (rules.after rules.start) version w x h
 
   -- the records of a log, each lawful after a view
-  abbrev pub AllLawfulRecords : Belief → View P V → List (SignedRecord P O) → Type 0
+  abbrev pub AllLawfulRecords : SignatureRelation → View P V → List (SignedRecord P O) → Type 0
   AllLawfulRecords b v rs = walk.AllLawful (after_record rules same) (record_offence rules same b) v rs
 
-  module _ (b : Belief) where
+  module _ (b : SignatureRelation) where
     after_head : (v : View P V) (head : Head) (t : Time) → v.head ≡ Some head → is_before head.timestamp t ≡ false → (rs : List (SignedRecord P O)) → AllLawfulRecords b v rs → AllByRecursion (λ r. is_before r.contents.time t ≡ false) rs
     after_head v head t at later [] h = tt
     after_head v head t at later (r ∷ rs) h =
@@ -155,23 +155,23 @@ module _ {P O V F : Type 0} (rules : Rules P O V F) (same : P → P → Bool) wh
     first_alone (q ∷ rs) h (suc n) r at = (λ none. absurd (later_prev (after_record rules same (start rules same) q) rs refl h.1 n r at none), λ zero. absurd (omega (arith, zero)))
 
     -- no entry after the first is an Init
-    pub later_entries : (version : ℕ) (w : Whole P V) (before events : List (Event (Reading P O))) → is_some (whole_after rules same w before).authority.algorithm ≡ true → events_offence rules same version w before events ≡ None → AllByRecursion (λ e. is_init e.entry ≡ false) events
+    pub later_entries : (version : ℕ) (w : StateView P V) (before events : List (Event (EntryData P O))) → is_some (whole_after rules same w before).authority.algorithm ≡ true → events_offence rules same version w before events ≡ None → AllByRecursion (λ e. is_init e.entry ≡ false) events
     later_entries version w before [] begun h = tt
     later_entries version w before (e ∷ events) begun h =
         let here = or_first (entry_offence rules same version (whole_after rules same w before) e.signer e.entry) _ h in
         let next : is_some (whole_after rules same w (before ++ e ∷ [])).authority.algorithm ≡ true =
         ap (λ l. is_some (after same w.authority l).algorithm) (filter_map-append deed_of before (e ∷ []))
-        ∙ ap (λ (s : Standing P). is_some s.algorithm) (after-append same w.authority (filter_map deed_of before) (filter_map deed_of (e ∷ [])))
+        ∙ ap (λ (s : AccessView P). is_some s.algorithm) (after-append same w.authority (filter_map deed_of before) (filter_map deed_of (e ∷ [])))
         ∙ begun_after version (whole_after rules same w before) e here in
         (no_init version (whole_after rules same w before) e.signer e.entry begun here, later_entries version w (before ++ e ∷ []) events next (or_second _ _ h))
 
     record_inits : (n : ℕ) (v : View P V) (r : SignedRecord P O) → is_some v.whole.authority.algorithm ≡ true → IsLawful b v r → inits (record_history rules.id_of (n, r)) ≡ []
-    record_inits n v r begun l = inits-none (record_history rules.id_of (n, r)) (subst (AllByRecursion (λ (e : Event (Reading P O)). is_init e.entry ≡ false)) (sym (record_flat rules.id_of n 0 r r.contents.entries)) (later_entries r.contents.version v.whole [] (record_events rules.id_of r) begun l.events))
+    record_inits n v r begun l = inits-none (record_history rules.id_of (n, r)) (subst (AllByRecursion (λ (e : Event (EntryData P O)). is_init e.entry ≡ false)) (sym (record_flat rules.id_of n 0 r r.contents.entries)) (later_entries r.contents.version v.whole [] (record_events rules.id_of r) begun l.events))
 
     inits-cons : (n : ℕ) (r : SignedRecord P O) (rs : List (SignedRecord P O)) → inits (flat_map (record_history rules.id_of) (enumerate_from n (r ∷ rs))) ≡ inits (record_history rules.id_of (n, r)) ++ inits (flat_map (record_history rules.id_of) (enumerate_from (n + 1) rs))
     inits-cons n r rs =
         ap inits (flat_map-cons (record_history rules.id_of) (n, r) (enumerate_from (n + 1) rs))
-        ∙ filter-append (λ (e : Placed (Reading P O)). is_init e.event.entry) (record_history rules.id_of (n, r)) (flat_map (record_history rules.id_of) (enumerate_from (n + 1) rs))
+        ∙ filter-append (λ (e : Placed (EntryData P O)). is_init e.event.entry) (record_history rules.id_of (n, r)) (flat_map (record_history rules.id_of) (enumerate_from (n + 1) rs))
 
     later_inits : (n : ℕ) (v : View P V) (rs : List (SignedRecord P O)) → is_some v.whole.authority.algorithm ≡ true → AllLawfulRecords b v rs → inits (flat_map (record_history rules.id_of) (enumerate_from n rs)) ≡ []
     later_inits n v [] begun h = refl
@@ -180,24 +180,24 @@ module _ {P O V F : Type 0} (rules : Rules P O V F) (same : P → P → Bool) wh
         inits-cons n r rs ∙ ap (λ x. x ++ inits (flat_map (record_history rules.id_of) (enumerate_from (n + 1) rs))) (record_inits n v r begun l) ∙ later_inits (n + 1) (after_record rules same v r) rs l.begun h.1
 
     -- the first record begins with the one Init
-    begins_with : (sealed : Letter) (prev : Option RecordId) (version : ℕ) (time : Time) (entries : List (Reading P O)) → let r : SignedRecord P O = record { contents = record { prev = prev; version = version; time = time; entries = entries }; sealed = sealed } in
-        IsLawful b (start rules same) r → (e : Reading P O) × (inits (record_history rules.id_of (0, r)) ≡ placed_in rules.id_of 0 r (0, e) ∷ [])
-    begins_with sealed prev version time [] l = absurd (true≢false (sym l.begun))
-    begins_with sealed prev version time (e ∷ entries) l =
-        let r : SignedRecord P O = record { contents = record { prev = prev; version = version; time = time; entries = e ∷ entries }; sealed = sealed } in
-        let event : Event (Reading P O) = record { entry = e; signer = sealed.key_id; time = time; record_id = rules.id_of sealed.content } in
+    begins_with : (envelope : EnvelopeData) (prev : Option RecordId) (version : ℕ) (time : Time) (entries : List (EntryData P O)) → let r : SignedRecord P O = record { contents = record { prev = prev; version = version; time = time; entries = entries }; envelope = envelope } in
+        IsLawful b (start rules same) r → (e : EntryData P O) × (inits (record_history rules.id_of (0, r)) ≡ placed_in rules.id_of 0 r (0, e) ∷ [])
+    begins_with envelope prev version time [] l = absurd (true≢false (sym l.begun))
+    begins_with envelope prev version time (e ∷ entries) l =
+        let r : SignedRecord P O = record { contents = record { prev = prev; version = version; time = time; entries = e ∷ entries }; envelope = envelope } in
+        let event : Event (EntryData P O) = record { entry = e; signer = envelope.key_id; time = time; record_id = rules.id_of envelope.content } in
         let w = (start rules same).whole in
         let bare = whole_after rules same w [] in
-        let first : entry_offence rules same version bare sealed.key_id e ≡ None = or_first (entry_offence rules same version bare sealed.key_id e) _ l.events in
-        let others = later_entries version w (event ∷ []) _ (begun_after version bare event first) (or_second (entry_offence rules same version bare sealed.key_id e) _ l.events) in
+        let first : entry_offence rules same version bare envelope.key_id e ≡ None = or_first (entry_offence rules same version bare envelope.key_id e) _ l.events in
+        let others = later_entries version w (event ∷ []) _ (begun_after version bare event first) (or_second (entry_offence rules same version bare envelope.key_id e) _ l.events) in
         let rest = map (placed_in rules.id_of 0 r) (enumerate_from 1 entries) in
-        let none : inits rest ≡ [] = inits-none rest (subst (AllByRecursion (λ (x : Event (Reading P O)). is_init x.entry ≡ false)) (sym (record_flat rules.id_of 0 1 r entries)) others) in
-        (e, ap (λ t. if t then placed_in rules.id_of 0 r (0, e) ∷ inits rest else inits rest) (some_init version bare sealed.key_id e refl first) ∙ ap (λ l. placed_in rules.id_of 0 r (0, e) ∷ l) none)
+        let none : inits rest ≡ [] = inits-none rest (subst (AllByRecursion (λ (x : Event (EntryData P O)). is_init x.entry ≡ false)) (sym (record_flat rules.id_of 0 1 r entries)) others) in
+        (e, ap (λ t. if t then placed_in rules.id_of 0 r (0, e) ∷ inits rest else inits rest) (some_init version bare envelope.key_id e refl first) ∙ ap (λ l. placed_in rules.id_of 0 r (0, e) ∷ l) none)
 
     one_init : (r : SignedRecord P O) (rs : List (SignedRecord P O)) → AllLawfulRecords b (start rules same) (r ∷ rs) → OneInitFirst (history_of rules.id_of (r ∷ rs))
     one_init r rs h =
         let l = lawful b (start rules same) r h.0 in
-        let first = begins_with r.sealed r.contents.prev r.contents.version r.contents.time r.contents.entries l in
+        let first = begins_with r.envelope r.contents.prev r.contents.version r.contents.time r.contents.entries l in
         record {
           init = placed_in rules.id_of 0 r (0, first.0);
           only = inits-cons 0 r rs ∙ ap (λ x. x ++ inits (flat_map (record_history rules.id_of) (enumerate_from 1 rs))) first.1 ∙ ap (λ x. placed_in rules.id_of 0 r (0, first.0) ∷ x) (later_inits 1 (after_record rules same (start rules same) r) rs l.begun h.1);
@@ -205,24 +205,24 @@ module _ {P O V F : Type 0} (rules : Rules P O V F) (same : P → P → Bool) wh
           first_entry = refl;
         }
 
-module _ {P O V F D : Type 0} (rules : Rules P O V F) (same : P → P → Bool) (read : List ℕ → Result (Said P O) D) (matter : List (Event O) → V) (b : Belief) where
-  abbrev record_of : Letter → SignedRecord P O
+module _ {P O V F D : Type 0} (rules : Rules P O V F) (same : P → P → Bool) (read : List ℕ → Result (RecordData P O) D) (matter : List (Event O) → V) (b : SignatureRelation) where
+  abbrev record_of : EnvelopeData → SignedRecord P O
   record_of e = opened rules same read e
 
-  pub lawful_records : (v : View P V) (es : List Letter) → AllLawful (kind_of rules same read matter) b v es → AllLawfulRecords rules same b v (map record_of es)
+  pub lawful_records : (v : View P V) (es : List EnvelopeData) → AllLawful (kind_of rules same read matter) b v es → AllLawfulRecords rules same b v (map record_of es)
   lawful_records v [] h = tt
   lawful_records v (e ∷ es) h = (read_lawful rules same read matter b v e (read e.content) h.0, lawful_records (after_record rules same v (record_of e)) es h.1)
 
   -- what is no record is not lawful
-  is_read : (v : View P V) (e : Letter) (r : Result (Said P O) D) → offence_in rules same read b v e r ≡ None → IsOk r
+  is_read : (v : View P V) (e : EnvelopeData) (r : Result (RecordData P O) D) → offence_in rules same read b v e r ≡ None → IsOk r
   is_read v e (Ok s) h = refl
   is_read v e (Err fault) h = cc
 
-  all_read : (v : View P V) (es : List Letter) → AllLawful (kind_of rules same read matter) b v es → AllByRecursion (λ e. IsOk (read e.content)) es
+  all_read : (v : View P V) (es : List EnvelopeData) → AllLawful (kind_of rules same read matter) b v es → AllByRecursion (λ e. IsOk (read e.content)) es
   all_read v [] h = tt
   all_read v (e ∷ es) h = (is_read v e (read e.content) h.0, all_read (after_record rules same v (record_of e)) es h.1)
 
-  coherent : (v : View P V) (es : List Letter) → IsCoherent rules same v → AllLawful (kind_of rules same read matter) b v es → IsCoherent rules same (view_after (kind_of rules same read matter) v es)
+  coherent : (v : View P V) (es : List EnvelopeData) → IsCoherent rules same v → AllLawful (kind_of rules same read matter) b v es → IsCoherent rules same (view_after (kind_of rules same read matter) v es)
   coherent v [] c h = c
   coherent v (e ∷ es) c h =
       let r = record_of e in
@@ -230,18 +230,18 @@ module _ {P O V F D : Type 0} (rules : Rules P O V F) (same : P → P → Bool) 
       coherent (after_record rules same v r) es (record-coherent rules same b v r (whole_after rules same v.whole (record_events rules.id_of r)) refl l.unsigned (head_of rules.id_of r) refl c l.signed) h.1
 
   module _ (laws : KindLaws (kind_of rules same read matter)) where
-    -- the contents of accepted letters are records
-    pub accepted-read : (es : List Letter) → IsAccepted (kind_of rules same read matter) b es → All (λ e. IsOk (read e.content)) es
+    -- the contents of accepted envelopes are records
+    pub accepted-read : (es : List EnvelopeData) → IsAccepted (kind_of rules same read matter) b es → All (λ e. IsOk (read e.content)) es
     accepted-read es h = All-from_recursion (λ e. IsOk (read e.content)) es (all_read (start rules same) es (accepted-lawful (kind_of rules same read matter) laws b es h))
 
-    keyed : (es : List Letter) → IsAccepted (kind_of rules same read matter) b es → EntriesHaveKeys (history_of rules.id_of (map record_of es))
+    keyed : (es : List EnvelopeData) → IsAccepted (kind_of rules same read matter) b es → EntriesHaveKeys (history_of rules.id_of (map record_of es))
     keyed es h =
         let good = accepted-lawful (kind_of rules same read matter) laws b es h in
         let c = subst (IsCoherent rules same) (sym (laws.by_list b es good)) (coherent (start rules same) es (coherent-new rules same nothing rules.start refl refl) good) in
         c.keyed.known
 
-    -- accepted letters have the form of a log
-    pub accepted-form : (es : List Letter) → 0 < length es → IsAccepted (kind_of rules same read matter) b es → HasForm rules.id_of (map record_of es)
+    -- accepted envelopes have the form of a log
+    pub accepted-form : (es : List EnvelopeData) → 0 < length es → IsAccepted (kind_of rules same read matter) b es → HasForm rules.id_of (map record_of es)
     accepted-form [] some h = absurd (omega (arith, some))
     accepted-form (e ∷ es) some h =
         let good = lawful_records (start rules same) (e ∷ es) (accepted-lawful (kind_of rules same read matter) laws b (e ∷ es) h) in

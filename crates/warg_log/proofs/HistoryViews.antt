@@ -6,15 +6,15 @@ use Rattle.std.specs.Option.{option_map, option_and_then}
 use Rattle.std.proofs.lemmas.List.Elements.{filter_map-append}
 use Rattle.std.proofs.lemmas.List.Concat.{flat_map-append, flat_map-cons}
 use Rattle.warg_validator.specs.Walks.{view_after, AllLawful, IsStepwise}
-use Rattle.warg_crypto.specs.Tags.{Tag}
-use Rattle.warg_log.specs.Acts.{Deed, after, nothing, deed_on, enters, deed_key, deed_algorithm}
-use Rattle.warg_records.specs.Readings.{Reading}
-use Rattle.warg_log.specs.History.{SignedRecord, Event, View, Whole, Wrong, Rules, deed_in, deed_of, own_of, events_of, record_events, head_of, whole_after, start, entry_offence, entry_fault, events_offence, unsigned_offence, record_offence, after_record}
+use Rattle.warg_crypto.specs.NamedBytes.{NamedBytes}
+use Rattle.warg_log.specs.SignedEntries.{SignedEntry, after, nothing, deed_on, enters, deed_key, deed_algorithm}
+use Rattle.warg_records.specs.RecordData.{EntryData}
+use Rattle.warg_log.specs.History.{SignedRecord, Event, View, StateView, Wrong, Rules, deed_in, deed_of, own_of, events_of, record_events, head_of, whole_after, start, entry_offence, entry_fault, events_offence, unsigned_offence, record_offence, after_record}
 use Rattle.warg_log.specs.Offences.{lacks_required, not_begun}
 use Rattle.warg_log.specs.Records.{link_offence, version_offence, time_offence}
 use Rattle.warg_log.specs.Histories.{Placed, placed_in, record_history, history_of, reading_on, reading_enters, reading_key, reading_algorithm, standing_of, owns, view_of, own_after, own_offence}
 use Rattle.warg_log.proofs.Firsts.{or_first, or_second, unmapped}
-use Rattle.warg_log.proofs.ActLaws.{same_standing, after-append, map-join}
+use Rattle.warg_log.proofs.SignedEntryLaws.{same_standing, after-append, map-join}
 use Rattle.warg_records.specs.declared.registry.record_id.RecordId.{RecordId}
 use Rattle.warg_crypto.specs.Times.{Time}
 
@@ -53,13 +53,13 @@ last_or-push o [] y = refl
 last_or-push o (x ∷ xs) y = last_or-push (Some x) xs y
 
 module _ {P O : Type 0} (id_of : List ℕ → RecordId) where
-  abbrev event_in : List ℕ → Time → RecordId → Reading P O → Event (Reading P O)
+  abbrev event_in : List ℕ → Time → RecordId → EntryData P O → Event (EntryData P O)
   event_in signer time id e = record { entry = e; signer = signer; time = time; record_id = id }
 
   -- the events of a record, without their places
-  pub record_flat : (n m : ℕ) (r : SignedRecord P O) (es : List (Reading P O)) → map (λ e. e.event) (map (placed_in id_of n r) (enumerate_from m es)) ≡ events_of r.sealed.key_id r.contents.time (id_of r.sealed.content) es
+  pub record_flat : (n m : ℕ) (r : SignedRecord P O) (es : List (EntryData P O)) → map (λ e. e.event) (map (placed_in id_of n r) (enumerate_from m es)) ≡ events_of r.envelope.key_id r.contents.time (id_of r.envelope.content) es
   record_flat n m r [] = refl
-  record_flat n m r (e ∷ es) = ap (λ l. record { entry = e; signer = r.sealed.key_id; time = r.contents.time; record_id = id_of r.sealed.content } ∷ l) (record_flat n (m + 1) r es)
+  record_flat n m r (e ∷ es) = ap (λ l. record { entry = e; signer = r.envelope.key_id; time = r.contents.time; record_id = id_of r.envelope.content } ∷ l) (record_flat n (m + 1) r es)
 
   flat_from : (n : ℕ) (records : List (SignedRecord P O)) → map (λ e. e.event) (flat_map (record_history id_of) (enumerate_from n records)) ≡ flat_map (record_events id_of) records
   flat_from n [] = refl
@@ -72,34 +72,34 @@ module _ {P O : Type 0} (id_of : List ℕ → RecordId) where
   pub history-events : (records : List (SignedRecord P O)) → map (λ e. e.event) (history_of id_of records) ≡ flat_map (record_events id_of) records
   history-events records = flat_from 0 records
 
-  on_is : (same : P → P → Bool) (k : List ℕ) (p : P) (signer : List ℕ) (r : Reading P O) → reading_on same k p signer r ≡ option_and_then (deed_on same k p) (deed_in signer r)
-  on_is same k p signer (Reading.Shared act) = refl
-  on_is same k p signer (Reading.Own o) = refl
+  on_is : (same : P → P → Bool) (k : List ℕ) (p : P) (signer : List ℕ) (r : EntryData P O) → reading_on same k p signer r ≡ option_and_then (deed_on same k p) (deed_in signer r)
+  on_is same k p signer (EntryData.Shared act) = refl
+  on_is same k p signer (EntryData.Own o) = refl
 
-  enters_is : (k signer : List ℕ) (r : Reading P O) → reading_enters k signer r ≡ list_any (enters k) (cons_option (deed_in signer r) [])
-  enters_is k signer (Reading.Shared act) = or_false _
+  enters_is : (k signer : List ℕ) (r : EntryData P O) → reading_enters k signer r ≡ list_any (enters k) (cons_option (deed_in signer r) [])
+  enters_is k signer (EntryData.Shared act) = or_false _
     where
       or_false : (b : Bool) → b ≡ (b || false)
       or_false true = refl
       or_false false = refl
-  enters_is k signer (Reading.Own o) = refl
+  enters_is k signer (EntryData.Own o) = refl
 
-  key_is : (k signer : List ℕ) (r : Reading P O) → reading_key k r ≡ option_and_then (deed_key k) (deed_in signer r)
-  key_is k signer (Reading.Shared act) = refl
-  key_is k signer (Reading.Own o) = refl
+  key_is : (k signer : List ℕ) (r : EntryData P O) → reading_key k r ≡ option_and_then (deed_key k) (deed_in signer r)
+  key_is k signer (EntryData.Shared act) = refl
+  key_is k signer (EntryData.Own o) = refl
 
-  algorithm_is : (signer : List ℕ) (r : Reading P O) → reading_algorithm r ≡ option_and_then deed_algorithm (deed_in signer r)
-  algorithm_is signer (Reading.Shared act) = refl
-  algorithm_is signer (Reading.Own o) = refl
+  algorithm_is : (signer : List ℕ) (r : EntryData P O) → reading_algorithm r ≡ option_and_then deed_algorithm (deed_in signer r)
+  algorithm_is signer (EntryData.Shared act) = refl
+  algorithm_is signer (EntryData.Own o) = refl
 
-  abbrev pub deeds_in : List (Placed (Reading P O)) → List (Deed P)
+  abbrev pub deeds_in : List (Placed (EntryData P O)) → List (SignedEntry P)
   deeds_in h = filter_map deed_of (map (λ e. e.event) h)
 
-  said_is : {A : Type 0} (f : Event (Reading P O) → Option A) (g : Deed P → Option A) (d : A) → ((e : Event (Reading P O)) → f e ≡ option_and_then g (deed_of e))
-      → (h : List (Placed (Reading P O))) → unwrap_or (last_or None (filter_map (λ e. f e.event) h)) d ≡ unwrap_or (last_or None (filter_map g (deeds_in h))) d
+  said_is : {A : Type 0} (f : Event (EntryData P O) → Option A) (g : SignedEntry P → Option A) (d : A) → ((e : Event (EntryData P O)) → f e ≡ option_and_then g (deed_of e))
+      → (h : List (Placed (EntryData P O))) → unwrap_or (last_or None (filter_map (λ e. f e.event) h)) d ≡ unwrap_or (last_or None (filter_map g (deeds_in h))) d
   said_is f g d same h = ap (λ l. unwrap_or (last_or None l) d) (filter_map-of (λ e. e.event) f h ∙ filter_map-then deed_of g f same (map (λ e. e.event) h))
 
-  pub standing-listed : (same : P → P → Bool) (h : List (Placed (Reading P O))) → standing_of same h ≡ after same nothing (deeds_in h)
+  pub standing-listed : (same : P → P → Bool) (h : List (Placed (EntryData P O))) → standing_of same h ≡ after same nothing (deeds_in h)
   standing-listed same h = same_standing same _ _
       (said_is (λ e. reading_algorithm e.entry) deed_algorithm None (λ e. algorithm_is e.signer e.entry) h)
       (λ k p. said_is (λ e. reading_on same k p e.signer e.entry) (deed_on same k p) false (λ e. on_is same k p e.signer e.entry) h)
@@ -130,18 +130,18 @@ module _ {P O V F : Type 0} (rules : Rules P O V F) (same : P → P → Bool) (n
   lawful-join v (e ∷ es) fs h g = (h.0, lawful-join (rules.after v (e ∷ [])) es fs h.1 (subst (λ u. Lawful u fs) (append v (e ∷ []) es) g))
 
   -- an event more: what its own entry adds
-  lawful-entry : (version : ℕ) (w : Whole P V) (signer : List ℕ) (time : Time) (id : RecordId) (r : Reading P O) (fs : List (Event O)) → entry_offence rules same version w signer r ≡ None
+  lawful-entry : (version : ℕ) (w : StateView P V) (signer : List ℕ) (time : Time) (id : RecordId) (r : EntryData P O) (fs : List (Event O)) → entry_offence rules same version w signer r ≡ None
       → Lawful (rules.after w.matter (cons_option (own_of (event_in rules.id_of signer time id r)) [])) fs → Lawful w.matter (cons_option (own_of (event_in rules.id_of signer time id r)) fs)
-  lawful-entry version w signer time id (Reading.Shared act) fs h g = subst (λ u. Lawful u fs) (sym (none w.matter)) g
-  lawful-entry version w signer time id (Reading.Own o) fs h g =
-      let own = or_second (option_map Wrong.Shared (lacks_required w.authority signer (rules.required (Reading.Own o)))) (entry_fault rules same version w signer (Reading.Own o)) h in
+  lawful-entry version w signer time id (EntryData.Shared act) fs h g = subst (λ u. Lawful u fs) (sym (none w.matter)) g
+  lawful-entry version w signer time id (EntryData.Own o) fs h g =
+      let own = or_second (option_map Wrong.Shared (lacks_required w.authority signer (rules.required (EntryData.Own o)))) (entry_fault rules same version w signer (EntryData.Own o)) h in
       (unmapped Wrong.Own (rules.offence w.matter o) (or_second (option_map Wrong.Shared (not_begun w.authority)) (option_map Wrong.Own (rules.offence w.matter o)) own), g)
 
-  matter_push : (v : V) (before : List (Event (Reading P O))) (e : Event (Reading P O)) → rules.after v (filter_map own_of (before ++ e ∷ [])) ≡ rules.after (rules.after v (filter_map own_of before)) (cons_option (own_of e) [])
+  matter_push : (v : V) (before : List (Event (EntryData P O))) (e : Event (EntryData P O)) → rules.after v (filter_map own_of (before ++ e ∷ [])) ≡ rules.after (rules.after v (filter_map own_of before)) (cons_option (own_of e) [])
   matter_push v before e = ap (rules.after v) (filter_map-append own_of before (e ∷ [])) ∙ append v (filter_map own_of before) (cons_option (own_of e) [])
 
   -- the own events of a record without offence are lawful
-  lawful-events : (version : ℕ) (w : Whole P V) (before events : List (Event (Reading P O))) → events_offence rules same version w before events ≡ None → Lawful (rules.after w.matter (filter_map own_of before)) (filter_map own_of events)
+  lawful-events : (version : ℕ) (w : StateView P V) (before events : List (Event (EntryData P O))) → events_offence rules same version w before events ≡ None → Lawful (rules.after w.matter (filter_map own_of before)) (filter_map own_of events)
   lawful-events version w before [] h = tt
   lawful-events version w before (e ∷ es) h =
       let here = entry_offence rules same version (whole_after rules same w before) e.signer e.entry in
@@ -151,7 +151,7 @@ module _ {P O V F : Type 0} (rules : Rules P O V F) (same : P → P → Bool) (n
       (subst (λ v. Lawful v (filter_map own_of es)) (matter_push w.matter before e) rest)
 
   -- of a record without offence no event has one
-  events-none : (v : View P V) (r : SignedRecord P O) (belongs : Tag → List ℕ → Tag → Bool) → record_offence rules same belongs v r ≡ None → events_offence rules same r.contents.version v.whole [] (record_events rules.id_of r) ≡ None
+  events-none : (v : View P V) (r : SignedRecord P O) (belongs : NamedBytes → List ℕ → NamedBytes → Bool) → record_offence rules same belongs v r ≡ None → events_offence rules same r.contents.version v.whole [] (record_events rules.id_of r) ≡ None
   events-none v r belongs h =
       let w = whole_after rules same v.whole (record_events rules.id_of r) in
       let link = option_map Wrong.Shared (link_offence v.head r.contents.prev) in
@@ -162,7 +162,7 @@ module _ {P O V F : Type 0} (rules : Rules P O V F) (same : P → P → Bool) (n
       let checks = or_second link _ all in
       or_first events _ (or_second time _ (or_second version _ checks))
 
-  module _ (belongs : Tag → List ℕ → Tag → Bool) (matter : List (Event O) → V) (by_list : (es : List (Event O)) → AllLawful (own_after rules) (own_offence rules) rules.start es → matter es ≡ rules.after rules.start es) where
+  module _ (belongs : NamedBytes → List ℕ → NamedBytes → Bool) (matter : List (Event O) → V) (by_list : (es : List (Event O)) → AllLawful (own_after rules) (own_offence rules) rules.start es → matter es ≡ rules.after rules.start es) where
     abbrev pub Good : List (SignedRecord P O) → Type 0
     Good rs = Lawful rules.start (owns (history_of rules.id_of rs))
 
@@ -208,5 +208,5 @@ module _ {P O V F : Type 0} (rules : Rules P O V F) (same : P → P → Bool) (n
     }
 
   -- a kind whose own part is a filter from the start needs no more
-  pub plain-stepwise : (belongs : Tag → List ℕ → Tag → Bool) → IsStepwise (after_record rules same) (record_offence rules same belongs) (start rules same) (view_of rules same (rules.after rules.start)) (Good belongs (rules.after rules.start) (λ es h. refl))
+  pub plain-stepwise : (belongs : NamedBytes → List ℕ → NamedBytes → Bool) → IsStepwise (after_record rules same) (record_offence rules same belongs) (start rules same) (view_of rules same (rules.after rules.start)) (Good belongs (rules.after rules.start) (λ es h. refl))
   plain-stepwise belongs = records-stepwise belongs (rules.after rules.start) (λ es h. refl)

@@ -1,5 +1,5 @@
 pub mod Firsts
-pub mod ActLaws
+pub mod SignedEntryLaws
 pub mod ContentsLemmas
 pub mod Missing
 pub mod RightsLemmas
@@ -17,3 +17,6 @@ pub mod NextLaws
 pub mod SameLaws
 pub mod FormLaws
 pub mod AdmissionLaws
+pub mod HeadJsonLaws
+pub mod SavedParts
+pub mod SavedHead

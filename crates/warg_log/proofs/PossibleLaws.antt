@@ -3,14 +3,14 @@ use Rattle.std.proofs.Common.{◌≡◌, ℕ, List, [], ◌∷◌, ◌++◌, Boo
 use Rattle.std.specs.Prelude.{IfSome, ◌==◌, is_some, is_none, not, ◌||◌}
 use Rattle.std.specs.Option.{option_map, option_or, option_map_or}
 use Rattle.std.specs.Str.{bytes_eq}
-use Rattle.warg_crypto.specs.Tags.{Tag, fingerprint_of}
+use Rattle.warg_crypto.specs.NamedBytes.{NamedBytes, fingerprint_of}
 use Rattle.warg_crypto.specs.Times.{Time}
 use Rattle.warg_crypto.specs.Signed.{signed_message}
 use Rattle.warg_crypto.specs.declared.signing.error.SignatureError.TheVariants.{Refused}
-use Rattle.warg_records.specs.Readings.{Reading, Act, Init, GrantFlat, RevokeFlat}
+use Rattle.warg_records.specs.RecordData.{EntryData, SharedEntry, Init, GrantFlat, RevokeFlat}
 use Rattle.warg_records.specs.declared.registry.record_id.RecordId.{RecordId}
-use Rattle.warg_log.specs.Acts.{Standing}
-use Rattle.warg_log.specs.History.{Rules, Wrong, Whole, View, SignedRecord, Event, whole_after, record_events, entry_fault, entry_offence, events_offence, unsigned_offence, record_offence}
+use Rattle.warg_log.specs.SignedEntries.{AccessView}
+use Rattle.warg_log.specs.History.{Rules, Wrong, StateView, View, SignedRecord, Event, whole_after, record_events, entry_fault, entry_offence, events_offence, unsigned_offence, record_offence}
 use Rattle.warg_log.specs.Offences.{Offence, unless, not_begun, empty_grant, lacks_required, unauthorized, act_offence, InitialRecordDoesNotInit, KeyIDNotRecognized, UnauthorizedAction, PermissionNotFoundToRevoke, WrongSignature}
 use Rattle.warg_log.specs.Records.{link_offence, version_offence, time_offence, same_id}
 use Rattle.warg_log.specs.Rights.{first_missing}
@@ -33,21 +33,21 @@ module _ {P : Type 0} where
   mapped f h None = tt
   mapped f h (Some a) = h a
 
-  required : (s : Standing P) (k : List ℕ) (p : Option P) → MayBe (lacks_required s k p)
+  required : (s : AccessView P) (k : List ℕ) (p : Option P) → MayBe (lacks_required s k p)
   required s k None = tt
   required s k (Some p) = tested (s.holds k p) _ refl
 
-  begun : (s : Standing P) → MayBe (not_begun s)
+  begun : (s : AccessView P) → MayBe (not_begun s)
   begun s = tested (is_some s.algorithm) _ refl
 
-  listed : (s : Standing P) (k : List ℕ) (ps : List P) → MayBe (unauthorized s k ps)
+  listed : (s : AccessView P) (k : List ℕ) (ps : List P) → MayBe (unauthorized s k ps)
   listed s k ps = mapped (UnauthorizedAction k) (λ p. refl) _
 
   empty : (version : ℕ) (k : List ℕ) (ps : List P) → MayBe (empty_grant version k ps)
   empty version k [] = tested (version == 0) _ refl
   empty version k (p ∷ ps) = tt
 
-  act : (by_own_key : Bool) (version : ℕ) (same : P → P → Bool) (s : Standing P) (signer : List ℕ) (a : Act P) → MayBe (act_offence by_own_key version same s signer a)
+  act : (by_own_key : Bool) (version : ℕ) (same : P → P → Bool) (s : AccessView P) (signer : List ℕ) (a : SharedEntry P) → MayBe (act_offence by_own_key version same s signer a)
   act by_own_key version same s signer (Init algorithm key) = either _ _ (tested (is_none s.algorithm) _ refl) (tested (not by_own_key || bytes_eq signer (fingerprint_of key)) _ refl)
   act by_own_key version same s signer (GrantFlat key ps) = either _ _ (begun s) (either _ _ (empty version (fingerprint_of key) ps) (listed s signer ps))
   act by_own_key version same s signer (RevokeFlat id ps) =
@@ -69,7 +69,7 @@ module _ (P : Type 0) where
   time None t = tt
   time (Some head) t = tested _ _ refl
 
-  signed : (belongs : Tag → List ℕ → Tag → Bool) (message : List ℕ) (signature : Tag) (signer : List ℕ) (key : Option Tag)
+  signed : (belongs : NamedBytes → List ℕ → NamedBytes → Bool) (message : List ℕ) (signature : NamedBytes) (signer : List ℕ) (key : Option NamedBytes)
       → MayBe {P = P} (option_map_or (λ key. unless (belongs key message signature) (WrongSignature Refused)) key (Some (KeyIDNotRecognized signer)))
   signed belongs message signature signer None = refl
   signed belongs message signature signer (Some key) = tested (belongs key message signature) _ refl
@@ -90,14 +90,14 @@ module _ {P O V F : Type 0} (rules : Rules P O V F) (same : P → P → Bool) wh
   own None = tt
   own (Some x) = tt
 
-  fault : (n : ℕ) (w : Whole P V) (signer : List ℕ) (r : Reading P O) → Possible (entry_fault rules same n w signer r)
-  fault n w signer (Reading.Shared a) = shared _ (act (rules.by_own_key n) n same w.authority signer a)
-  fault n w signer (Reading.Own o) = first _ _ (shared _ (begun w.authority)) (own (rules.offence w.matter o))
+  fault : (n : ℕ) (w : StateView P V) (signer : List ℕ) (r : EntryData P O) → Possible (entry_fault rules same n w signer r)
+  fault n w signer (EntryData.Shared a) = shared _ (act (rules.by_own_key n) n same w.authority signer a)
+  fault n w signer (EntryData.Own o) = first _ _ (shared _ (begun w.authority)) (own (rules.offence w.matter o))
 
-  entry : (n : ℕ) (w : Whole P V) (signer : List ℕ) (r : Reading P O) → Possible (entry_offence rules same n w signer r)
+  entry : (n : ℕ) (w : StateView P V) (signer : List ℕ) (r : EntryData P O) → Possible (entry_offence rules same n w signer r)
   entry n w signer r = first _ _ (shared _ (required w.authority signer (rules.required r))) (fault n w signer r)
 
-  events : (n : ℕ) (w : Whole P V) (before es : List (Event (Reading P O))) → Possible (events_offence rules same n w before es)
+  events : (n : ℕ) (w : StateView P V) (before es : List (Event (EntryData P O))) → Possible (events_offence rules same n w before es)
   events n w before [] = tt
   events n w before (e ∷ es) = first _ _ (entry n (whole_after rules same w before) e.signer e.entry) (events n w (before ++ e ∷ []) es)
 
@@ -110,8 +110,8 @@ module _ {P O V F : Type 0} (rules : Rules P O V F) (same : P → P → Bool) wh
       (shared _ (tested (is_some (whole_after rules same v.whole (record_events rules.id_of e)).authority.algorithm) InitialRecordDoesNotInit refl)))))
 
   -- none is out of memory within another error, or a second algorithm, or a record that can't be read
-  pub record-possible : (belongs : Tag → List ℕ → Tag → Bool) (v : View P V) (e : SignedRecord P O) → IfSome (record_offence rules same belongs v e) IsPossible
+  pub record-possible : (belongs : NamedBytes → List ℕ → NamedBytes → Bool) (v : View P V) (e : SignedRecord P O) → IfSome (record_offence rules same belongs v e) IsPossible
   record-possible belongs v e =
       first _ _ (unsigned v e)
-      (shared _ (signed P belongs (signed_message rules.signing_prefix e.sealed.content) e.sealed.signature e.sealed.key_id
-      ((whole_after rules same v.whole (record_events rules.id_of e)).authority.key e.sealed.key_id)))
+      (shared _ (signed P belongs (signed_message rules.signing_prefix e.envelope.content) e.envelope.signature e.envelope.key_id
+      ((whole_after rules same v.whole (record_events rules.id_of e)).authority.key e.envelope.key_id)))

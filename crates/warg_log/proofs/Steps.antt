@@ -2,17 +2,17 @@
 use Rattle.std.proofs.Common.{◌≡◌, ℕ, List, [], ◌∷◌, Bool, true, false, ◌&&◌, ◌||◌, Option, Some, None, refl, sym, ap, ◌∙◌, if◌then◌else◌}
 use Rattle.std.specs.Str.{bytes_eq}
 use Rattle.std.specs.Option.{option_map, option_or}
-use Rattle.indexmap.specs.IndexMap.{IndexMap, get}
+use Rattle.indexmap.specs.IndexMap.{IndexMap}
 use Rattle.indexmap.specs.IndexSet.{IndexSet}
-use Rattle.warg_crypto.specs.Tags.{Tag, fingerprint_of}
+use Rattle.warg_crypto.specs.NamedBytes.{NamedBytes, fingerprint_of}
 use Rattle.warg_log.specs.Permissions.{lists}
-use Rattle.warg_log.specs.Rights.{holds_in, has_entry_in, first_missing}
-use Rattle.warg_records.specs.Readings.{Act, Init, GrantFlat, RevokeFlat}
-use Rattle.warg_log.specs.Acts.{after}
-use Rattle.warg_log.specs.Contents.{Contents, standing, maps_standing, maps_contents}
+use Rattle.warg_log.specs.Rights.{layered, held_over, has_entry_over, first_missing}
+use Rattle.warg_records.specs.RecordData.{SharedEntry, Init, GrantFlat, RevokeFlat}
+use Rattle.warg_log.specs.SignedEntries.{after}
+use Rattle.warg_log.specs.Contents.{Contents, standing_over, maps_over, maps_contents}
 use Rattle.warg_log.specs.Offences.{Offence, PermissionNotFoundToRevoke}
-use Rattle.warg_log.proofs.ActLaws.{same_standing, latest-one, or-none}
-use Rattle.warg_log.proofs.ContentsLemmas.{stands}
+use Rattle.warg_log.proofs.SignedEntryLaws.{same_standing, latest-one, or-none}
+use Rattle.warg_log.proofs.ContentsLemmas.{stands-over}
 use Rattle.warg_crypto.specs.declared.hash.HashAlgorithm.{HashAlgorithm}
 
 or-false : (a b : Bool) → (a || b) ≡ (a || (b || false))
@@ -24,46 +24,46 @@ and-true : (a : Bool) → (a && true) ≡ a
 and-true true = refl
 and-true false = refl
 
--- what an act has done
-module _ {P S Z X : Type 0} (same : P → P → Bool) (algorithm : Option HashAlgorithm) (old new : IndexMap (List ℕ) (IndexSet P S) Z) (old_keys new_keys : IndexMap (List ℕ) Tag X)
-    (signer : List ℕ) (c d : Contents P) (old_is : maps_contents algorithm old old_keys ≡ c) where
-  from_maps : (named : Option HashAlgorithm) → maps_contents named new new_keys ≡ d → (act : Act P)
-      → maps_standing same named new new_keys ≡ after same (maps_standing same algorithm old old_keys) (record { signer = signer; act = act } ∷ [])
-      → standing same d ≡ after same (standing same c) (record { signer = signer; act = act } ∷ [])
-  from_maps named new_is act step = sym (stands same named new new_keys d new_is) ∙ step
-      ∙ ap (λ s. after same s (record { signer = signer; act = act } ∷ [])) (stands same algorithm old old_keys c old_is)
+-- what an act has done, where c is what stands beneath the changes
+module _ {P S Z X : Type 0} (same : P → P → Bool) (algorithm algorithm' : Option HashAlgorithm) (base old new : IndexMap (List ℕ) (IndexSet P S) Z) (base_keys old_keys new_keys : IndexMap (List ℕ) NamedBytes X)
+    (signer : List ℕ) (c d e : Contents P) (base_is : maps_contents algorithm base base_keys ≡ c) (old_is : maps_contents algorithm' old old_keys ≡ d) where
+  from_maps : (named : Option HashAlgorithm) → maps_contents named new new_keys ≡ e → (act : SharedEntry P)
+      → maps_over same algorithm base base_keys named new new_keys ≡ after same (maps_over same algorithm base base_keys algorithm' old old_keys) (record { signer = signer; act = act } ∷ [])
+      → standing_over same c e ≡ after same (standing_over same c d) (record { signer = signer; act = act } ∷ [])
+  from_maps named new_is act step = sym (stands-over same algorithm named base new base_keys new_keys c e base_is new_is) ∙ step
+      ∙ ap (λ s. after same s (record { signer = signer; act = act } ∷ [])) (stands-over same algorithm algorithm' base old base_keys old_keys c d base_is old_is)
 
-  pub grant-step : maps_contents algorithm new new_keys ≡ d → (key key' : Tag) (id id' : List ℕ) (permissions : List P) → id ≡ fingerprint_of key → id' ≡ id → key' ≡ key
-      → ((k : List ℕ) → get bytes_eq new_keys k ≡ (if bytes_eq id' k then Some key' else get bytes_eq old_keys k))
-      → ((k : List ℕ) (p : P) → holds_in same new k p ≡ (if bytes_eq id k && lists same permissions p then true else holds_in same old k p))
-      → ((k : List ℕ) → has_entry_in new k ≡ (has_entry_in old k || bytes_eq id k))
-      → standing same d ≡ after same (standing same c) (record { signer = signer; act = GrantFlat key permissions } ∷ [])
+  pub grant-step : maps_contents algorithm' new new_keys ≡ e → (key key' : NamedBytes) (id id' : List ℕ) (permissions : List P) → id ≡ fingerprint_of key → id' ≡ id → key' ≡ key
+      → ((k : List ℕ) → layered base_keys.entries new_keys.entries k ≡ (if bytes_eq id' k then Some key' else layered base_keys.entries old_keys.entries k))
+      → ((k : List ℕ) (p : P) → held_over same base new k p ≡ (if bytes_eq id k && lists same permissions p then true else held_over same base old k p))
+      → ((k : List ℕ) → has_entry_over base new k ≡ (has_entry_over base old k || bytes_eq id k))
+      → standing_over same c e ≡ after same (standing_over same c d) (record { signer = signer; act = GrantFlat key permissions } ∷ [])
   grant-step new_is key key' id id' permissions printed copied alike keyed gave entered =
-      from_maps algorithm new_is (GrantFlat key permissions) (same_standing same _ _ refl
-      (λ k p. rw (gave k p, printed) (sym (latest-one (bytes_eq (fingerprint_of key) k && lists same permissions p) true (holds_in same old k p))))
-      (λ k. rw (entered k, printed) (or-false (has_entry_in old k) (bytes_eq (fingerprint_of key) k)))
-      (λ k. rw (keyed k, copied, printed, alike) (sym (latest-one (bytes_eq (fingerprint_of key) k) (Some key) (get bytes_eq old_keys k)))))
+      from_maps algorithm' new_is (GrantFlat key permissions) (same_standing same _ _ refl
+      (λ k p. rw (gave k p, printed) (sym (latest-one (bytes_eq (fingerprint_of key) k && lists same permissions p) true (held_over same base old k p))))
+      (λ k. rw (entered k, printed) (or-false (has_entry_over base old k) (bytes_eq (fingerprint_of key) k)))
+      (λ k. rw (keyed k, copied, printed, alike) (sym (latest-one (bytes_eq (fingerprint_of key) k) (Some key) (layered base_keys.entries old_keys.entries k)))))
 
-  pub init-step : (named : HashAlgorithm) → maps_contents (Some named) new new_keys ≡ d → (all : List P) → ((p : P) → lists same all p ≡ true) → (key key' : Tag) (id id' signer' : List ℕ) → id ≡ fingerprint_of key → id' ≡ id → key' ≡ key → signer' ≡ signer
-      → ((k : List ℕ) → get bytes_eq new_keys k ≡ (if bytes_eq id' k then Some key' else get bytes_eq old_keys k))
-      → ((k : List ℕ) (p : P) → holds_in same new k p ≡ (if bytes_eq signer' k && lists same all p then true else holds_in same old k p))
-      → ((k : List ℕ) → has_entry_in new k ≡ (has_entry_in old k || bytes_eq signer' k))
-      → standing same d ≡ after same (standing same c) (record { signer = signer; act = Init named key } ∷ [])
+  pub init-step : (named : HashAlgorithm) → maps_contents (Some named) new new_keys ≡ e → (all : List P) → ((p : P) → lists same all p ≡ true) → (key key' : NamedBytes) (id id' signer' : List ℕ) → id ≡ fingerprint_of key → id' ≡ id → key' ≡ key → signer' ≡ signer
+      → ((k : List ℕ) → layered base_keys.entries new_keys.entries k ≡ (if bytes_eq id' k then Some key' else layered base_keys.entries old_keys.entries k))
+      → ((k : List ℕ) (p : P) → held_over same base new k p ≡ (if bytes_eq signer' k && lists same all p then true else held_over same base old k p))
+      → ((k : List ℕ) → has_entry_over base new k ≡ (has_entry_over base old k || bytes_eq signer' k))
+      → standing_over same c e ≡ after same (standing_over same c d) (record { signer = signer; act = Init named key } ∷ [])
   init-step named new_is all whole key key' id id' signer' printed copied alike is keyed gave entered =
       from_maps (Some named) new_is (Init named key) (same_standing same _ _ refl
-      (λ k p. rw (gave k p, is, whole p, and-true (bytes_eq signer k)) (sym (latest-one (bytes_eq signer k) true (holds_in same old k p))))
-      (λ k. rw (entered k, is) (or-false (has_entry_in old k) (bytes_eq signer k)))
-      (λ k. rw (keyed k, copied, printed, alike) (sym (latest-one (bytes_eq (fingerprint_of key) k) (Some key) (get bytes_eq old_keys k)))))
+      (λ k p. rw (gave k p, is, whole p, and-true (bytes_eq signer k)) (sym (latest-one (bytes_eq signer k) true (held_over same base old k p))))
+      (λ k. rw (entered k, is) (or-false (has_entry_over base old k) (bytes_eq signer k)))
+      (λ k. rw (keyed k, copied, printed, alike) (sym (latest-one (bytes_eq (fingerprint_of key) k) (Some key) (layered base_keys.entries old_keys.entries k)))))
 
-  pub revoke-step : maps_contents algorithm new new_keys ≡ d → (id : List ℕ) (permissions : List P) → old_keys ≡ new_keys
-      → ((k : List ℕ) (p : P) → holds_in same new k p ≡ (if bytes_eq id k && lists same permissions p then false else holds_in same old k p))
-      → ((k : List ℕ) → has_entry_in new k ≡ has_entry_in old k)
-      → standing same d ≡ after same (standing same c) (record { signer = signer; act = RevokeFlat id permissions } ∷ [])
+  pub revoke-step : maps_contents algorithm' new new_keys ≡ e → (id : List ℕ) (permissions : List P) → old_keys ≡ new_keys
+      → ((k : List ℕ) (p : P) → held_over same base new k p ≡ (if bytes_eq id k && lists same permissions p then false else held_over same base old k p))
+      → ((k : List ℕ) → has_entry_over base new k ≡ has_entry_over base old k)
+      → standing_over same c e ≡ after same (standing_over same c d) (record { signer = signer; act = RevokeFlat id permissions } ∷ [])
   revoke-step new_is id permissions kept took stayed =
-      from_maps algorithm new_is (RevokeFlat id permissions) (same_standing same _ _ refl
-      (λ k p. rw (took k p) (sym (latest-one (bytes_eq id k && lists same permissions p) false (holds_in same old k p))))
-      (λ k. rw (stayed k) (or-none (has_entry_in old k)))
-      (λ k. ap (λ m. get bytes_eq m k) (sym kept)))
+      from_maps algorithm' new_is (RevokeFlat id permissions) (same_standing same _ _ refl
+      (λ k p. rw (took k p) (sym (latest-one (bytes_eq id k && lists same permissions p) false (held_over same base old k p))))
+      (λ k. rw (stayed k) (or-none (has_entry_over base old k)))
+      (λ k. ap (λ (m : IndexMap (List ℕ) NamedBytes X). layered base_keys.entries m.entries k) (sym kept)))
 
 -- what is wrong with a revoke by a signer that holds all that it lists
 pub revoke-offence : {P : Type 0} (same : P → P → Bool) (b u : Option (Offence P)) (f g : P → Bool) (id : List ℕ) (ps : List P) (m : Option P) → b ≡ None → u ≡ None → ((p : P) → g p ≡ f p)

@@ -1,5 +1,5 @@
 pub mod Permissions
-pub mod Acts
+pub mod SignedEntries
 pub mod Judging
 pub mod Rights
 pub mod Contents
@@ -18,3 +18,4 @@ pub mod Admissions
 pub mod Steps
 pub mod Equal
 pub mod EqualLaws
+pub mod HeadJson

@@ -1,12 +1,12 @@
 //! What holds of every log of every kind.
 ghost use Rattle.std.specs.Prelude.{◌≡◌, ◌↔◌, ℕ, List, Result, true, IfSome, ◌<◌, IsOk, All, length, map};
 ghost use Rattle.warg_records.specs.Faults.{RecordFault};
-ghost use Rattle.warg_records.specs.Letters.{Letter};
-ghost use Rattle.warg_records.specs.Readings.{Reading, Said};
+ghost use Rattle.warg_records.specs.EnvelopeData.{EnvelopeData};
+ghost use Rattle.warg_records.specs.RecordData.{EntryData, RecordData};
 ghost use Rattle.warg_validator.specs.declared.effect.Effect.TheVariants.{Gives};
 ghost use Rattle.warg_validator.specs.Effects as effects;
 ghost use Rattle.warg_validator.specs.Effects.{GivesWhatIsHeld};
-ghost use Rattle.warg_validator.specs.Kinds.{Belief, KindLaws, view_after, IsAccepted};
+ghost use Rattle.warg_validator.specs.Kinds.{SignatureRelation, KindLaws, view_after, IsAccepted};
 ghost use Rattle.warg_log.specs.Admissions.{NoKeyBringsItselfIn};
 ghost use Rattle.warg_log.specs.Contents.{Contents};
 ghost use Rattle.warg_log.specs.Equal.{IsSame, same_states};
@@ -22,22 +22,24 @@ ghost use Rattle.warg_log.specs.declared.head.Head.{Head};
 ghost use Rattle.warg_log.specs.declared.refusal.Refusal.{Refusal};
 
 use crate::head::Head;
-use crate::matter::Matter;
+use crate::log_kind::LogKind;
 
 /// The rules of a log are those of a kind, whatever content bytes are read as: what lawful records say
 /// together, by one list of their entries, is what they make one by one.
-pub fn is_a_kind<M: Matter>()
-    ensures { (read : List ℕ → Result (Said M.Permission M.Own) RecordFault) → KindLaws (kind_of M.rules M.Permission.eq read (M.rules.after M.rules.start)) }
+pub fn is_a_kind<M: LogKind>()
+    ensures { (read : List ℕ → Result (RecordData M.Permission M.Own) RecordFault) →
+        KindLaws (kind_of M.rules M.Permission.eq read (M.rules.after M.rules.start)) }
 {}
 
 /// What an entry of a lawful record gives, its signer held, but for the Init that begins the log.
-pub fn gives_what_is_held<M: Matter>()
-    ensures { (read : List ℕ → Result (Said M.Permission M.Own) RecordFault) → GivesWhatIsHeld (kind_of M.rules M.Permission.eq read (M.rules.after M.rules.start)) (effects_of M.rules M.Permission.eq read) }
+pub fn gives_what_is_held<M: LogKind>()
+    ensures { (read : List ℕ → Result (RecordData M.Permission M.Own) RecordFault) → GivesWhatIsHeld (kind_of M.rules M.Permission.eq read (M.rules.after M.rules.start)) (effects_of M.rules M.Permission.eq read) }
 {}
 
 /// Logs are equal exactly if they answer alike.
-pub fn equal_logs_answer_alike<M: Matter>()
-    ensures { (s t : State (Contents M.Permission) M) → (same_states M.Permission.eq M.eq s t ≡ true) ↔ IsSame M.alike (view_of_state M.Permission.eq M.view s) (view_of_state M.Permission.eq M.view t) }
+pub fn equal_logs_answer_alike<M: LogKind>()
+    ensures { (s t : State (Contents M.Permission) M) → (same_states M.Permission.eq M.eq s t ≡ true) ↔
+        IsSame M.alike (view_of_state M.Permission.eq M.view s) (view_of_state M.Permission.eq M.view t) }
 {}
 
 /// Heads are equal exactly if they are one.
@@ -52,42 +54,56 @@ pub fn refusals_tell_apart<P>()
 
 /// What is wrong with a record is never out of memory within another error, nor a second algorithm,
 /// nor that its bytes are no record: the record is held.
-pub fn offences_are_possible<M: Matter>()
-    ensures { (belongs : Belief) (v : View M.Permission M.View) (e : SignedRecord M.Permission M.Own) → IfSome (record_offence M.rules M.Permission.eq belongs v e) IsPossible }
+pub fn offences_are_possible<M: LogKind>()
+    ensures { (belongs : SignatureRelation) (v : View M.Permission M.View) (e : SignedRecord M.Permission M.Own) →
+        IfSome (record_offence M.rules M.Permission.eq belongs v e) IsPossible }
 {}
 
 /// What the entries of records do to permissions, one after another, is what the view of those records holds.
-pub fn effects_are_what_is_held<M: Matter>()
-    ensures { (read : List ℕ → Result (Said M.Permission M.Own) RecordFault) (es : List Letter) (k : List ℕ) (p : M.Permission) → effects.holds (effects_of M.rules M.Permission.eq read) es k p ≡ (view_after (kind_of M.rules M.Permission.eq read (M.rules.after M.rules.start)) (start M.rules M.Permission.eq) es).whole.authority.holds k p }
+pub fn effects_are_what_is_held<M: LogKind>()
+    ensures { (read : List ℕ → Result (RecordData M.Permission M.Own) RecordFault) (es : List EnvelopeData) (k : List ℕ)
+        (p : M.Permission) → effects.holds (effects_of M.rules M.Permission.eq read) es k p ≡
+        (view_after (kind_of M.rules M.Permission.eq read (M.rules.after M.rules.start))
+        (start M.rules M.Permission.eq) es).whole.authority.holds k p }
 {}
 
 /// A key holds a permission exactly if some entry speaks of both, and the last such entry gives.
-pub fn last_entry_decides<M: Matter>()
-    ensures { (h : List (Placed (Reading M.Permission M.Own))) (k : List ℕ) (p : M.Permission) → (holds M.Permission.eq h k p ≡ true) ↔ Holds M.Permission.eq h k p }
+pub fn last_entry_decides<M: LogKind>()
+    ensures { (h : List (Placed (EntryData M.Permission M.Own))) (k : List ℕ) (p : M.Permission) →
+        (holds M.Permission.eq h k p ≡ true) ↔ Holds M.Permission.eq h k p }
 {}
 
 /// An entry gives a permission to a key exactly if it is an Init that the key signed, or a grant to the
 /// key that lists it.
-pub fn gifts<M: Matter>()
-    ensures { (signer k : List ℕ) (p : M.Permission) (r : Reading M.Permission M.Own) → (effect_of (reading_on M.Permission.eq k p signer r) ≡ Gives) ↔ IsGift M.Permission.eq k p signer r }
+pub fn gifts<M: LogKind>()
+    ensures { (signer k : List ℕ) (p : M.Permission) (r : EntryData M.Permission M.Own) →
+        (effect_of (reading_on M.Permission.eq k p signer r) ≡ Gives) ↔ IsGift M.Permission.eq k p signer r }
 {}
 
 /// The contents of an accepted log are records. Where it has any, their times never fall, the first
 /// alone has no prev, one Init stands, as the first entry of the first, and each id with an entry has a
 /// key: whatever content bytes are read as, and whatever the kind says of its own entries.
-pub fn form<M: Matter>()
-    ensures records { (read : List ℕ → Result (Said M.Permission M.Own) RecordFault) (matter : List (Event M.Own) → M.View) → KindLaws (kind_of M.rules M.Permission.eq read matter) →
-        (b : Belief) (es : List Letter) → IsAccepted (kind_of M.rules M.Permission.eq read matter) b es → All (λ e. IsOk (read e.content)) es }
-    ensures form { (read : List ℕ → Result (Said M.Permission M.Own) RecordFault) (matter : List (Event M.Own) → M.View) → KindLaws (kind_of M.rules M.Permission.eq read matter) →
-        (b : Belief) (es : List Letter) → 0 < length es → IsAccepted (kind_of M.rules M.Permission.eq read matter) b es → HasForm M.rules.id_of (map (opened M.rules M.Permission.eq read) es) }
+pub fn form<M: LogKind>()
+    ensures records { (read : List ℕ → Result (RecordData M.Permission M.Own) RecordFault)
+        (matter : List (Event M.Own) → M.View) → KindLaws (kind_of M.rules M.Permission.eq read matter) →
+        (b : SignatureRelation) (es : List EnvelopeData) →
+        IsAccepted (kind_of M.rules M.Permission.eq read matter) b es → All (λ e. IsOk (read e.content)) es }
+    ensures form { (read : List ℕ → Result (RecordData M.Permission M.Own) RecordFault)
+        (matter : List (Event M.Own) → M.View) → KindLaws (kind_of M.rules M.Permission.eq read matter) →
+        (b : SignatureRelation) (es : List EnvelopeData) → 0 < length es →
+        IsAccepted (kind_of M.rules M.Permission.eq read matter) b es →
+        HasForm M.rules.id_of (map (opened M.rules M.Permission.eq read) es) }
 {}
 
 /// In an accepted log whose records all have version 1 no key brings itself in: each signer signed the
 /// first record, or an entry of an earlier record grants a permission to a key whose fingerprint is the
 /// signer's id. That is so in each kind that asks the signer of an Init of version 1 to own its key,
 /// whatever content bytes are read as.
-pub fn no_key_brings_itself_in<M: Matter>()
-    ensures { M.rules.by_own_key 1 ≡ true → (read : List ℕ → Result (Said M.Permission M.Own) RecordFault) (matter : List (Event M.Own) → M.View) → KindLaws (kind_of M.rules M.Permission.eq read matter) →
-        (b : Belief) (es : List Letter) → IsAccepted (kind_of M.rules M.Permission.eq read matter) b es → All (λ r. r.contents.version ≡ 1) (map (opened M.rules M.Permission.eq read) es) →
+pub fn no_key_brings_itself_in<M: LogKind>()
+    ensures { M.rules.by_own_key 1 ≡ true → (read : List ℕ → Result (RecordData M.Permission M.Own) RecordFault)
+        (matter : List (Event M.Own) → M.View) → KindLaws (kind_of M.rules M.Permission.eq read matter) →
+        (b : SignatureRelation) (es : List EnvelopeData) →
+        IsAccepted (kind_of M.rules M.Permission.eq read matter) b es →
+        All (λ r. r.contents.version ≡ 1) (map (opened M.rules M.Permission.eq read) es) →
         NoKeyBringsItselfIn (map (opened M.rules M.Permission.eq read) es) }
 {}

@@ -5,6 +5,7 @@ use Rattle.warg_log.proofs.authority.Authority.init.Goals as goal
 pub returns-clause-after : goal.returns-clause-after
 returns-clause-after g c =
     let a = c.self.inside in
-    init-step g.P.PartialEq.eq a.algorithm a.permissions c.give.new.rights a.keys c.insert_key.new.keys c.args.signer.now c.args.self.now _ c.self.view_is
+    let b = c.changes.inside in
+    init-step g.P.PartialEq.eq a.algorithm b.algorithm a.permissions b.permissions c.give.new.changes a.keys b.keys c.put.new.changes c.args.signer.now c.args.self.now c.args.changes.now _ c.self.view_is c.changes.view_is
     c.args.hash_algorithm refl c.args.all.now c.requires c.args.key.now c.in_ok-clone-3.field-0 c.in_ok-key_id.key_id c.key_id.inside.text.bytes.items c.in_ok-clone-2.field-0 c.in_ok-key_id.ensures c.key_id.view_is c.in_ok-clone-3.ensures.cases c.in_ok-clone-2.ensures.cases
-    c.in_ok-insert_key.ensures c.in_ok-give.ensures.holds c.in_ok-give.ensures.entries
+    (c.in_ok-put.ensures a.keys.entries) c.in_ok-give.ensures.holds c.in_ok-give.ensures.entries

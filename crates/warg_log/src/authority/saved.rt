@@ -1,0 +1,50 @@
+//! An authority as its maps.
+ghost use Rattle.std.specs.Prelude.{◌≡◌, map};
+ghost use Rattle.warg_log.specs.Contents.{maps_contents};
+
+use crate::authority::Authority;
+use crate::permission::LogPermission;
+use indexmap::{IndexMap, IndexSet};
+use std::alloc::Global;
+use warg_crypto::hash::HashAlgorithm;
+use warg_crypto::signing::{KeyID, PublicKey};
+
+impl<P: LogPermission> Authority<P> {
+    /// The authority of these maps.
+    pub(crate) fn restore(
+        alloc: Global,
+        algorithm: Option<HashAlgorithm>,
+        permissions: IndexMap<KeyID, IndexSet<P>>,
+        keys: IndexMap<KeyID, PublicKey>,
+    ) -> Authority<P>
+        ensures { result ≡ maps_contents algorithm permissions keys }
+    {
+        Authority {
+            alloc,
+            algorithm,
+            permissions,
+            keys,
+        }
+    }
+
+    /// How the log names records.
+    pub(crate) fn algorithm(&self) -> &Option<HashAlgorithm>
+        ensures { result.now ≡ self.now.algorithm }
+    {
+        &self.algorithm
+    }
+
+    /// The permissions of each id that has an entry.
+    pub(crate) fn permissions(&self) -> &IndexMap<KeyID, IndexSet<P>>
+        ensures { map (λ e. (e.0, e.1.keys)) result.now.entries ≡ self.now.rights }
+    {
+        &self.permissions
+    }
+
+    /// The keys by their ids.
+    pub(crate) fn keys(&self) -> &IndexMap<KeyID, PublicKey>
+        ensures { result.now.entries ≡ self.now.keys }
+    {
+        &self.keys
+    }
+}

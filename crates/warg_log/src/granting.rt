@@ -1,0 +1,215 @@
+//! What a record's entries ask of an authority. They are judged by it with the changes that the entries before them
+//! make laid over it; what they change is noted among these changes.
+ghost use Rattle.std.specs.Prelude.{◌≡◌, [], ◌∷◌, true, OnOk, is_some};
+ghost use Rattle.std.specs.Option.{option_copied};
+ghost use Rattle.warg_crypto.specs.NamedBytes.{fingerprint_of};
+ghost use Rattle.warg_log.specs.Permissions.{lists};
+ghost use Rattle.warg_records.specs.RecordData.{Init, GrantFlat, RevokeFlat};
+ghost use Rattle.warg_log.specs.SignedEntries.{after};
+ghost use Rattle.warg_log.specs.Contents.{standing_over};
+ghost use Rattle.warg_log.specs.Judging.{Judges};
+ghost use Rattle.warg_log.specs.Offences.{offence_of, unauthorized, lacks, lacks_required, not_begun, empty_grant, init_offence, grant_offence, revoke_offence};
+
+use crate::authority::Authority;
+use crate::permission::LogPermission;
+use crate::refusal::Refusal;
+use crate::rights;
+use warg_crypto::hash::HashAlgorithm;
+use warg_crypto::signing::{KeyID, PublicKey};
+
+impl<P: LogPermission> Authority<P> {
+    /// Whether an Init stands.
+    pub fn is_begun(&self, changes: &Authority<P>) -> bool
+        ensures { result ≡ is_some (standing_over P.eq self.now changes.now).algorithm }
+    {
+        changes.algorithm.is_some() || self.algorithm.is_some()
+    }
+
+    /// Whether the key holds the permission.
+    fn holds_with(&self, changes: &Authority<P>, key_id: &KeyID, permission: P) -> bool
+        ensures { result ≡ (standing_over P.eq self.now changes.now).holds key_id.now permission }
+    {
+        rights::holds_with(&self.permissions, &changes.permissions, key_id, permission)
+    }
+
+    /// The key of the id.
+    pub fn key_with<'a>(
+        &'a self,
+        changes: &'a Authority<P>,
+        key_id: &KeyID,
+    ) -> Option<&'a PublicKey>
+        ensures { option_copied result ≡ (standing_over P.eq self.now changes.now).key key_id.now }
+    {
+        rights::look(&self.keys, &changes.keys, key_id)
+    }
+
+    /// Refuses where the key lacks the permission.
+    fn check_permission(
+        &self,
+        changes: &Authority<P>,
+        key_id: &KeyID,
+        permission: P,
+    ) -> Result<(), Refusal<P>>
+        ensures { Judges offence_of (lacks (standing_over P.eq self.now changes.now) key_id.now permission) result }
+    {
+        if !self.holds_with(changes, key_id, permission) {
+            return Err(Refusal::UnauthorizedAction {
+                key_id: key_id.clone()?,
+                needed_permission: permission,
+            });
+        }
+        Ok(())
+    }
+
+    /// Refuses where the key lacks the permission that an entry asks, if it asks one.
+    pub fn check_required(
+        &self,
+        changes: &Authority<P>,
+        key_id: &KeyID,
+        required: Option<P>,
+    ) -> Result<(), Refusal<P>>
+        ensures { Judges offence_of (lacks_required (standing_over P.eq self.now changes.now) key_id.now required) result }
+    {
+        match required {
+            Some(permission) => self.check_permission(changes, key_id, permission),
+            None => Ok(()),
+        }
+    }
+
+    /// Refuses where no Init stands.
+    pub fn check_begun(&self, changes: &Authority<P>) -> Result<(), Refusal<P>>
+        ensures { Judges offence_of (not_begun (standing_over P.eq self.now changes.now)) result }
+    {
+        if self.is_begun(changes) {
+            Ok(())
+        } else {
+            Err(Refusal::FirstEntryIsNotInit)
+        }
+    }
+
+    /// Refuses the first of the permissions that the key lacks.
+    fn check_permissions(
+        &self,
+        changes: &Authority<P>,
+        key_id: &KeyID,
+        permissions: &[P],
+    ) -> Result<(), Refusal<P>>
+        ensures { Judges offence_of (unauthorized (standing_over P.eq self.now changes.now) key_id.now permissions.now) result }
+    {
+        for permission in permissions {
+            if !self.holds_with(changes, key_id, *permission) {
+                return Err(Refusal::UnauthorizedAction {
+                    key_id: key_id.clone()?,
+                    needed_permission: *permission,
+                });
+            }
+        }
+        Ok(())
+    }
+
+    /// Checks an Init and notes what it changes. `all` are all permissions of the kind.
+    pub fn init(
+        &self,
+        changes: &mut Authority<P>,
+        by_own_key: bool,
+        all: &[P],
+        signer: &KeyID,
+        hash_algorithm: HashAlgorithm,
+        key: &PublicKey,
+    ) -> Result<(), Refusal<P>>
+        requires { (p : P) → lists P.eq all.now p ≡ true }
+        ensures judges { Judges offence_of (init_offence by_own_key
+            (standing_over P.eq self.now changes.old) signer.now key.now) result }
+        ensures after { OnOk result (standing_over P.eq self.now changes.new ≡ after P.eq
+            (standing_over P.eq self.now changes.old)
+            (record { signer = signer.now; act = Init hash_algorithm key.now } ∷ [])) }
+    {
+        if self.is_begun(changes) {
+            return Err(Refusal::InitialEntryAfterBeginning);
+        }
+        let key_id = key.fingerprint(self.alloc)?;
+        if by_own_key && *signer != key_id {
+            return Err(Refusal::KeyIDNotRecognized {
+                key_id: signer.clone()?,
+            });
+        }
+        changes.algorithm = Some(hash_algorithm);
+        let given = &mut changes.permissions;
+        rights::give(self.alloc, &self.permissions, given, signer.clone()?, all)?;
+        rights::put(&mut changes.keys, key_id, key.clone()?)?;
+        Ok(())
+    }
+
+    /// Refuses a grant of no permission to the key, but in a record of version 0.
+    fn check_grant(
+        &self,
+        version: u32,
+        key: &PublicKey,
+        permissions: &[P],
+    ) -> Result<(), Refusal<P>>
+        ensures { Judges offence_of (empty_grant version (fingerprint_of key.now) permissions.now) result }
+    {
+        if version != 0 && permissions.is_empty() {
+            return Err(Refusal::EmptyGrant {
+                key_id: key.fingerprint(self.alloc)?,
+            });
+        }
+        Ok(())
+    }
+
+    /// Checks a GrantFlat of a record of this version and notes what it changes.
+    pub fn grant(
+        &self,
+        changes: &mut Authority<P>,
+        version: u32,
+        signer: &KeyID,
+        key: &PublicKey,
+        permissions: &[P],
+    ) -> Result<(), Refusal<P>>
+        ensures judges { Judges offence_of (grant_offence version
+            (standing_over P.eq self.now changes.old) signer.now key.now permissions.now) result }
+        ensures after { OnOk result (standing_over P.eq self.now changes.new ≡ after P.eq
+            (standing_over P.eq self.now changes.old)
+            (record { signer = signer.now; act = GrantFlat key.now permissions.now } ∷ [])) }
+    {
+        self.check_begun(changes)?;
+        self.check_grant(version, key, permissions)?;
+        self.check_permissions(changes, signer, permissions)?;
+        let key_id = key.fingerprint(self.alloc)?;
+        rights::put(&mut changes.keys, key_id.clone()?, key.clone()?)?;
+        let given = &mut changes.permissions;
+        rights::give(self.alloc, &self.permissions, given, key_id, permissions)?;
+        Ok(())
+    }
+
+    /// Checks a RevokeFlat and notes what it changes.
+    pub fn revoke(
+        &self,
+        changes: &mut Authority<P>,
+        signer: &KeyID,
+        key_id: &KeyID,
+        permissions: &[P],
+    ) -> Result<(), Refusal<P>>
+        ensures judges { Judges offence_of (revoke_offence P.eq
+            (standing_over P.eq self.now changes.old) signer.now key_id.now permissions.now) result }
+        ensures after { OnOk result (standing_over P.eq self.now changes.new ≡ after P.eq
+            (standing_over P.eq self.now changes.old)
+            (record { signer = signer.now; act = RevokeFlat key_id.now permissions.now } ∷ [])) }
+    {
+        self.check_begun(changes)?;
+        self.check_permissions(changes, signer, permissions)?;
+        let missing = rights::take_all(
+            &self.permissions,
+            &mut changes.permissions,
+            key_id,
+            permissions,
+        )?;
+        if let Some(permission) = missing {
+            return Err(Refusal::PermissionNotFoundToRevoke {
+                permission,
+                key_id: key_id.clone()?,
+            });
+        }
+        Ok(())
+    }
+}

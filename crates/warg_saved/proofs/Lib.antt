@@ -1,0 +1,4 @@
+pub mod Reading
+pub mod PermissionLists
+pub mod Optional
+pub mod Cases

@@ -1,0 +1,17 @@
+//! What the saved states of every kind of log share: maps as objects, sets of permissions as lists,
+//! and what does not fit together in a state.
+#![tactic(auto)]
+
+mod fit;
+mod map;
+mod members;
+mod name;
+mod permissions;
+mod value;
+
+pub use fit::{check_begun, check_empty, check_keys, check_rights, check_version};
+pub use map::{is_empty, map_member, map_value, put_map};
+pub use members::{algorithm_member, are_no_keys, keys_member, put_algorithm, put_keys};
+pub use name::SavedName;
+pub use permissions::SavedPermission;
+pub use value::SavedValue;

@@ -1,0 +1,60 @@
+//! The values of maps, as JSON.
+ghost use Rattle.std.specs.Prelude.{◌≡◌, List, [], Result, IfOk};
+ghost use Rattle.serde_json.specs.Data.{Data};
+ghost use Rattle.serde_json.specs.View.{view};
+ghost use Rattle.warg_crypto.specs.declared.json.error.JsonError.{JsonError};
+ghost use Rattle.warg_crypto.specs.Json.{AreReadBack, Gives, ReadsBack, Version};
+ghost use Rattle.warg_crypto.specs.JsonTexts.{key_in, key_json};
+ghost use Rattle.warg_crypto.specs.NamedBytes.{NamedBytes};
+
+use serde_json::Value;
+use std::alloc::Global;
+use warg_crypto::signing::PublicKey;
+use warg_crypto::{JsonError, JsonValue};
+
+/// A value of a map of a saved state. A set, which is no type of this repository's, is one too.
+pub trait SavedValue: Drop {
+    // The value as plain data.
+    ghost Plain: { Type 0 };
+
+    ghost plain: { Self → Plain };
+
+    // What is written, or why nothing is.
+    ghost writes: { Plain → Result Data JsonError };
+
+    // What is read, or the first fault.
+    ghost reads: { Data → Result Plain JsonError };
+
+    // The versions whose texts have to read back so that the value does.
+    ghost versions: { Plain → List Version };
+
+    /// The JSON of the value.
+    fn save(&self, alloc: Global) -> Result<Value, JsonError>
+        ensures written { Gives view result (writes (plain self.now)) }
+        ensures back { AreReadBack (versions (plain self.now)) →
+            IfOk result (λ v. ReadsBack reads (λ a b. a ≡ b) (plain self.now) (view v)) };
+
+    /// The value of JSON, or its first fault.
+    fn load(alloc: Global, value: &Value) -> Result<Self, JsonError>
+        ensures { Gives plain result (reads (view value.now)) };
+}
+
+impl SavedValue for PublicKey {
+    ghost Plain = { NamedBytes };
+
+    ghost plain = { λ key. key };
+
+    ghost writes = { key_json };
+
+    ghost reads = { key_in };
+
+    ghost versions = { λ _. [] };
+
+    fn save(&self, alloc: Global) -> Result<Value, JsonError> {
+        self.to_value(alloc)
+    }
+
+    fn load(alloc: Global, value: &Value) -> Result<PublicKey, JsonError> {
+        PublicKey::from_value(alloc, value)
+    }
+}
