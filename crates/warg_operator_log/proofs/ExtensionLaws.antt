@@ -5,11 +5,11 @@ use Rattle.std.specs.Option.{option_or}
 use Rattle.std.specs.Str.{bytes_eq}
 use Rattle.std.proofs.lemmas.Slice.Eq.{bytes_eq-Decides}
 use Rattle.warg_records.specs.KebabNames.{is_kebab_name}
-use Rattle.warg_records.specs.OperatorEntries.{OperatorAct, DefineNamespace, ImportNamespace}
+use Rattle.warg_records.specs.OperatorEntries.{OperatorOwnEntry, DefineNamespace, ImportNamespace}
 use Rattle.warg_validator.specs.Walks.{view_after, AllLawful}
 use Rattle.warg_log.specs.History.{Event}
 use Rattle.warg_log.specs.Offences.{unless}
-use Rattle.warg_log.proofs.ActLaws.{latest-one}
+use Rattle.warg_log.proofs.SignedEntryLaws.{latest-one}
 use Rattle.warg_operator_log.specs.Namespaces.{OwnOffence, InvalidNamespace, NamespaceAlreadyDefined, Namespace, Defined, Imported, Names, name_offence, own_offence, names_after, own_after, own_wrong}
 
 new_name : (b : Bool) (o : Option Namespace) (x y : OwnOffence) → option_or (unless b x) (unless (is_none o) y) ≡ None → o ≡ None
@@ -27,14 +27,14 @@ module _ (v : Names) (k : List ℕ) (s : Namespace) (there : v k ≡ Some s) whe
   name-kept : (n : List ℕ) (t : Namespace) → name_offence v n ≡ None → (if bytes_eq n k then Some t else v k) ≡ Some s
   name-kept n t h = other n t (bytes_eq n k) refl (new_name (is_kebab_name n) (v n) (InvalidNamespace n) (NamespaceAlreadyDefined n) h)
 
-step-kept : (v : Names) (e : Event OperatorAct) → own_offence v e.entry ≡ None → (k : List ℕ) (s : Namespace) → v k ≡ Some s → names_after v (e ∷ []) k ≡ Some s
+step-kept : (v : Names) (e : Event OperatorOwnEntry) → own_offence v e.entry ≡ None → (k : List ℕ) (s : Namespace) → v k ≡ Some s → names_after v (e ∷ []) k ≡ Some s
 step-kept v e h k s there = by e.entry h
   where
-    by : (o : OperatorAct) → own_offence v o ≡ None → names_after v (record e { entry = o } ∷ []) k ≡ Some s
+    by : (o : OperatorOwnEntry) → own_offence v o ≡ None → names_after v (record e { entry = o } ∷ []) k ≡ Some s
     by (DefineNamespace n) g = latest-one (bytes_eq n k) (Some Defined) (v k) ∙ name-kept v k s there n Defined g
     by (ImportNamespace n registry) g = latest-one (bytes_eq n k) (Some (Imported registry)) (v k) ∙ name-kept v k s there n (Imported registry) g
 
 -- lawful events keep what stands before them
-pub lawful-kept : (v : Names) (es : List (Event OperatorAct)) → AllLawful own_after own_wrong v es → (k : List ℕ) (s : Namespace) → v k ≡ Some s → view_after own_after v es k ≡ Some s
+pub lawful-kept : (v : Names) (es : List (Event OperatorOwnEntry)) → AllLawful own_after own_wrong v es → (k : List ℕ) (s : Namespace) → v k ≡ Some s → view_after own_after v es k ≡ Some s
 lawful-kept v [] h k s there = there
 lawful-kept v (e ∷ es) h k s there = lawful-kept (own_after v e) es h.1 k s (step-kept v e h.0 k s there)

@@ -1,13 +1,13 @@
--- A state that stands for letters tells their history, and `run` answers such a state.
+-- A state that stands for envelopes tells their history, and `run` answers such a state.
 use Rattle.std.proofs.Common.{◌≡◌, ℕ, List, Result, ap}
 use Rattle.std.specs.Prelude.{IfOk}
 use Rattle.warg_records.specs.Envelopes.{envelope_of, envelope_fault_of}
 use Rattle.warg_records.specs.Faults.{fault_of}
-use Rattle.warg_records.specs.Letters.{Letter}
+use Rattle.warg_records.specs.EnvelopeData.{EnvelopeData}
 use Rattle.warg_records.specs.OperatorReading.{operator_record_of}
 use Rattle.warg_records.specs.declared.operator.permission.Permission.{Permission}
 use Rattle.warg_validator.specs.declared.replay.RunError.{RunError}
-use Rattle.warg_validator.specs.Kinds.{Belief, IsAccepted, StandsFor}
+use Rattle.warg_validator.specs.Kinds.{SignatureRelation, IsAccepted, StandsFor}
 use Rattle.warg_validator.specs.Outcomes.{IsRun, IfStarted, told}
 use Rattle.warg_validator.specs.Strings.{read_all}
 use Rattle.warg_validator.proofs.RunLaws.{run-then}
@@ -19,7 +19,7 @@ use Rattle.warg_operator_log.specs.StateHistory.{TellsHistory}
 use Rattle.warg_operator_log.specs.StateLaws.{kind, state_laws}
 use Rattle.warg_operator_log.specs.declared.error.ValidationError.{ValidationError}
 
-pub stands-tells : (s : State (Contents Permission) (List (List ℕ × Namespace))) (es : List Letter) → StandsFor kind view_of s es → TellsHistory s es
+pub stands-tells : (s : State (Contents Permission) (List (List ℕ × Namespace))) (es : List EnvelopeData) → StandsFor kind view_of s es → TellsHistory s es
 stands-tells s es h = record {
   permissions = λ k p. ap (λ (v : View). v.whole.authority.holds k p) h;
   entries = λ k. ap (λ (v : View). v.whole.authority.has_entry k) h;
@@ -29,8 +29,8 @@ stands-tells s es h = record {
   head = ap (λ (v : View). v.head) h;
 }
 
-pub run-tells : (b : Belief) (strings : List (List ℕ)) (answer : Result (State (Contents Permission) (List (List ℕ × Namespace))) (RunError ValidationError)) → let read = envelope_of operator_record_of in
+pub run-tells : (b : SignatureRelation) (strings : List (List ℕ)) (answer : Result (State (Contents Permission) (List (List ℕ × Namespace))) (RunError ValidationError)) → let read = envelope_of operator_record_of in
     IfStarted (IsRun kind b read kind.view_of view_of (told (envelope_fault_of fault_of) offence_of) ◌≡◌ strings) answer → IfOk answer (λ s. IsAccepted kind b (read_all read strings) × TellsHistory s (read_all read strings))
 run-tells b strings =
-    let letters = read_all (envelope_of operator_record_of) strings in
-    run-then kind state_laws b (envelope_of operator_record_of) view_of (told (envelope_fault_of fault_of) offence_of) strings (λ s. IsAccepted kind b letters × TellsHistory s letters) (λ s accepted stands. (accepted, stands-tells s letters stands))
+    let envelopes = read_all (envelope_of operator_record_of) strings in
+    run-then kind state_laws b (envelope_of operator_record_of) view_of (told (envelope_fault_of fault_of) offence_of) strings (λ s. IsAccepted kind b envelopes × TellsHistory s envelopes) (λ s accepted stands. (accepted, stands-tells s envelopes stands))

@@ -4,7 +4,7 @@ use Rattle.std.specs.Prelude.{unwrap_or, is_none}
 use Rattle.std.specs.List.{filter_map, cons_option, last_or}
 use Rattle.std.specs.Str.{bytes_eq}
 use Rattle.std.proofs.lemmas.Slice.Eq.{bytes_eq-Decides}
-use Rattle.warg_records.specs.OperatorEntries.{OperatorAct, DefineNamespace, ImportNamespace}
+use Rattle.warg_records.specs.OperatorEntries.{OperatorOwnEntry, DefineNamespace, ImportNamespace}
 use Rattle.warg_validator.specs.Walks.{AllLawful}
 use Rattle.warg_log.specs.History.{Event}
 use Rattle.warg_log.proofs.Firsts.{or_second, unless_holds}
@@ -21,12 +21,12 @@ module _ (v : Names) (k : List ℕ) (s : Namespace) (there : v k ≡ Some s) whe
   silent_name n t h false e = refl
 
   -- a lawful entry is of no name that is taken
-  silent : (o : OperatorAct) → own_offence v o ≡ None → own_defines k o ≡ None
+  silent : (o : OperatorOwnEntry) → own_offence v o ≡ None → own_defines k o ≡ None
   silent (DefineNamespace n) h = silent_name n Defined h (bytes_eq n k) refl
   silent (ImportNamespace n registry) h = silent_name n (Imported registry) h (bytes_eq n k) refl
 
 -- no entry of a name follows where it is taken
-none_more : (v : Names) (es : List (Event OperatorAct)) (k : List ℕ) (s : Namespace) → v k ≡ Some s → AllLawful own_after own_wrong v es → filter_map (defines k) es ≡ []
+none_more : (v : Names) (es : List (Event OperatorOwnEntry)) (k : List ℕ) (s : Namespace) → v k ≡ Some s → AllLawful own_after own_wrong v es → filter_map (defines k) es ≡ []
 none_more v [] k s there h = refl
 none_more v (e ∷ es) k s there h =
     ap (λ o. cons_option o (filter_map (defines k) es)) (silent v k s there e.entry h.0)
@@ -40,12 +40,12 @@ said_name t x false h = absurd (never h)
     never : None ≡ Some x → ⊥
     never g = cc
 
-said : (k : List ℕ) (o : OperatorAct) (x : Option Namespace) → own_defines k o ≡ Some x → (s : Namespace) × (x ≡ Some s)
+said : (k : List ℕ) (o : OperatorOwnEntry) (x : Option Namespace) → own_defines k o ≡ Some x → (s : Namespace) × (x ≡ Some s)
 said k (DefineNamespace n) x h = said_name Defined x (bytes_eq n k) h
 said k (ImportNamespace n registry) x h = said_name (Imported registry) x (bytes_eq n k) h
 
 -- a name has one entry at most
-pub one-entry : (v : Names) (es : List (Event OperatorAct)) (k : List ℕ) → AllLawful own_after own_wrong v es → length (filter_map (defines k) es) ≤ 1
+pub one-entry : (v : Names) (es : List (Event OperatorOwnEntry)) (k : List ℕ) → AllLawful own_after own_wrong v es → length (filter_map (defines k) es) ≤ 1
 one-entry v [] k h = omega arith
 one-entry v (e ∷ es) k h = by (one-entry (own_after v e) es k h.1) (defines k e) refl
   where

@@ -7,3 +7,6 @@ pub mod SameNamespaces
 pub mod State
 pub mod StateHistory
 pub mod StateLaws
+pub mod NamespaceJson
+pub mod SavedState
+pub mod SavedParts

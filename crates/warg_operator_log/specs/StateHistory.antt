@@ -1,12 +1,12 @@
--- What the letters of an operator log say, by the one list of all their entries, and a state that tells it.
+-- What the envelopes of an operator log say, by the one list of all their entries, and a state that tells it.
 use Rattle.std.specs.Prelude.{◌≡◌, ◌≤◌, ℕ, List, length, map, None}
 use Rattle.std.specs.List.{filter_map, last_or}
 use Rattle.std.specs.Option.{option_map}
-use Rattle.warg_records.specs.Letters.{Letter}
-use Rattle.warg_records.specs.OperatorEntries.{OperatorAct}
+use Rattle.warg_records.specs.EnvelopeData.{EnvelopeData}
+use Rattle.warg_records.specs.OperatorEntries.{OperatorOwnEntry}
 use Rattle.warg_records.specs.OperatorPermissions.{same_permission}
 use Rattle.warg_records.specs.OperatorReading.{operator_record_of}
-use Rattle.warg_records.specs.Readings.{Reading}
+use Rattle.warg_records.specs.RecordData.{EntryData}
 use Rattle.warg_records.specs.declared.operator.permission.Permission.{Permission}
 use Rattle.warg_log.specs.Contents.{Contents}
 use Rattle.warg_log.specs.Histories.{Placed, history_of, holds, has_entry, key_of, algorithm_of, owns}
@@ -17,24 +17,24 @@ use Rattle.warg_operator_log.specs.Namespaces.{Namespace, Names, defines, rules,
 use Rattle.warg_operator_log.specs.State.{view_of}
 use Rattle.warg_operator_log.specs.StateLaws.{listed_namespaces}
 
--- the letters as records
-abbrev pub records_of : List Letter → List (SignedRecord Permission OperatorAct)
+-- the envelopes as records
+abbrev pub records_of : List EnvelopeData → List (SignedRecord Permission OperatorOwnEntry)
 records_of es = map (opened rules same_permission operator_record_of) es
 
 -- all entries in one list, each with its signer, its record's time and id, and its places
-abbrev pub history : List Letter → List (Placed (Reading Permission OperatorAct))
+abbrev pub history : List EnvelopeData → List (Placed (EntryData Permission OperatorOwnEntry))
 history es = history_of record_id_of (records_of es)
 
 -- each name has one entry at most
-abbrev pub OneEntryEach : List (Placed (Reading Permission OperatorAct)) → Type 0
+abbrev pub OneEntryEach : List (Placed (EntryData Permission OperatorOwnEntry)) → Type 0
 OneEntryEach h = (name : List ℕ) → length (filter_map (defines name) (owns h)) ≤ 1
 
 -- the namespaces of a history by name: what the entry of that name makes of it
-abbrev pub namespaces_of : List (Placed (Reading Permission OperatorAct)) → Names
+abbrev pub namespaces_of : List (Placed (EntryData Permission OperatorOwnEntry)) → Names
 namespaces_of h = listed_namespaces (owns h)
 
 -- all that the state tells is what the history says; above each line the look-up of `LogState` that answers it
-pub record TellsHistory (s : State (Contents Permission) (List (List ℕ × Namespace))) (es : List Letter) : Type 0 where
+pub record TellsHistory (s : State (Contents Permission) (List (List ℕ × Namespace))) (es : List EnvelopeData) : Type 0 where
   -- `key_has_permission_to_sign_checkpoints`, for the permission to commit
   pub permissions : (k : List ℕ) (p : Permission) → (view_of s).whole.authority.holds k p ≡ holds same_permission (history es) k p
   -- none

@@ -1,14 +1,14 @@
 //! Laws over all operator logs. They have no effect.
 ghost use Rattle.std.specs.Prelude.{◌≡◌, ◌↔◌, ◌≤◌, ℕ, List, ◌++◌, None, Some, true, ◌<◌, length, Result, IfOk, IsOk, All, IfSome};
-ghost use Rattle.warg_records.specs.Letters.{Letter};
-ghost use Rattle.warg_validator.specs.Kinds.{Belief, IsAccepted, StandsFor};
+ghost use Rattle.warg_records.specs.EnvelopeData.{EnvelopeData};
+ghost use Rattle.warg_validator.specs.Kinds.{SignatureRelation, IsAccepted, StandsFor};
 ghost use Rattle.std.specs.Prelude.{Option};
 ghost use Rattle.warg_log.specs.Records.{version_offence};
 ghost use Rattle.warg_log.specs.declared.head.Head.{Head};
 ghost use Rattle.warg_operator_log.specs.NamespaceMap.{namespace_view};
 ghost use Rattle.warg_operator_log.specs.Namespaces.{Namespace, record_id_of};
 ghost use Rattle.warg_operator_log.specs.State.{offence_of, view_of, View, record_offence};
-ghost use Rattle.warg_records.specs.OperatorEntries.{OperatorAct};
+ghost use Rattle.warg_records.specs.OperatorEntries.{OperatorOwnEntry};
 ghost use Rattle.warg_records.specs.declared.operator.permission.Permission.{Permission};
 ghost use Rattle.warg_log.specs.History.{SignedRecord};
 ghost use Rattle.warg_log.specs.Possible.{IsPossible};
@@ -33,7 +33,8 @@ use warg_records::operator::OPERATOR_RECORD_VERSION;
 
 /// Each namespace of an accepted log keeps its state in each accepted log that goes on from it.
 pub fn extension()
-    ensures { (b : Belief) (es fs : List Letter) → IsAccepted kind b (es ++ fs) → (name : List ℕ) (s : Namespace) →
+    ensures { (b : SignatureRelation) (es fs : List EnvelopeData) → IsAccepted kind b (es ++ fs) →
+        (name : List ℕ) (s : Namespace) →
         (kind.view_of es).whole.matter name ≡ Some s → (kind.view_of (es ++ fs)).whole.matter name ≡ Some s }
 {}
 
@@ -45,24 +46,27 @@ pub fn errors_tell_apart()
 
 /// Each namespace of an accepted log has one entry, which says what it is.
 pub fn one_entry_each()
-    ensures { (b : Belief) (es : List Letter) → IsAccepted kind b es → OneEntryEach (history es) }
+    ensures { (b : SignatureRelation) (es : List EnvelopeData) → IsAccepted kind b es → OneEntryEach (history es) }
 {}
 
 /// The contents of an accepted log are records. Where it has any, their times never fall, the first
 /// alone has no prev, one Init stands, as the first entry of the first, and each id with an entry has a
 /// key.
 pub fn form()
-    ensures records { (b : Belief) (es : List Letter) → IsAccepted kind b es → All (λ e. IsOk (operator_record_of e.content)) es }
-    ensures form { (b : Belief) (es : List Letter) → 0 < length es → IsAccepted kind b es → HasForm record_id_of (records_of es) }
+    ensures records { (b : SignatureRelation) (es : List EnvelopeData) → IsAccepted kind b es →
+        All (λ e. IsOk (operator_record_of e.content)) es }
+    ensures form { (b : SignatureRelation) (es : List EnvelopeData) → 0 < length es → IsAccepted kind b es → HasForm record_id_of (records_of es) }
 {}
 
 /// A state that stands for a log tells what the log's history says: who holds what, who has
 /// an entry, whose key is which, the namespaces by name and the head, from which the look-ups answer.
-/// What `run` answers as a state is one for an accepted log, the letters of the strings.
+/// What `run` answers as a state is one for an accepted log, the envelopes of the strings.
 pub fn states_tell_history()
-    ensures stands { (s : State (Contents Permission) (List (List ℕ × Namespace))) (es : List Letter) → StandsFor kind view_of s es → TellsHistory s es }
-    ensures run { let read = envelope_of operator_record_of in let told_by = told (envelope_fault_of fault_of) offence_of in
-        (b : Belief) (strings : List (List ℕ)) (answer : Result (State (Contents Permission) (List (List ℕ × Namespace))) (RunError ValidationError)) →
+    ensures stands { (s : State (Contents Permission) (List (List ℕ × Namespace))) (es : List EnvelopeData) → StandsFor kind view_of s es → TellsHistory s es }
+    ensures run { let read = envelope_of operator_record_of in
+        let told_by = told (envelope_fault_of fault_of) offence_of in
+        (b : SignatureRelation) (strings : List (List ℕ))
+        (answer : Result (State (Contents Permission) (List (List ℕ × Namespace))) (RunError ValidationError)) →
         IfStarted (IsRun kind b read kind.view_of view_of told_by ◌≡◌ strings) answer →
         IfOk answer (λ s. IsAccepted kind b (read_all read strings) × TellsHistory s (read_all read strings)) }
 {}
@@ -70,26 +74,30 @@ pub fn states_tell_history()
 /// What is wrong with a record is never out of memory within another error, nor a second algorithm:
 /// no record is refused by `IncorrectHashAlgorithm`, or by a `SignatureError` but `Refused`.
 pub fn offences_are_possible()
-    ensures { (b : Belief) (v : View) (e : SignedRecord Permission OperatorAct) → IfSome (record_offence b v e) IsPossible }
+    ensures { (b : SignatureRelation) (v : View) (e : SignedRecord Permission OperatorOwnEntry) → IfSome (record_offence b v e) IsPossible }
 {}
 
 /// Heads are equal exactly if they are one, namespaces exactly if their texts are, and states exactly if
 /// they answer alike.
 pub fn equality()
     ensures heads { (a b : Head) → (⟦<Head as PartialEq>⟧.eq a b ≡ true) ↔ (a ≡ b) }
-    ensures namespaces { (a b : NamespaceState) → (⟦<crate::namespace::NamespaceState as PartialEq>⟧.eq a b ≡ true) ↔ (namespace_view a ≡ namespace_view b) }
-    ensures states { (s t : State (Contents Permission) (List (List ℕ × Namespace))) → (⟦<crate::state::LogState as PartialEq>⟧.eq s t ≡ true) ↔ AreSame (view_of s) (view_of t) }
+    ensures namespaces { (a b : NamespaceState) → (⟦<crate::namespace::NamespaceState as PartialEq>⟧.eq a b ≡ true) ↔
+        (namespace_view a ≡ namespace_view b) }
+    ensures states { (s t : State (Contents Permission) (List (List ℕ × Namespace))) →
+        (⟦<crate::state::LogState as PartialEq>⟧.eq s t ≡ true) ↔ AreSame (view_of s) (view_of t) }
 {}
 
 /// A record's version is lawful exactly if it is at most `OPERATOR_RECORD_VERSION`, the newest, and not below the
 /// head's.
 pub fn newest_version()
-    ensures { (head : Option Head) (version : ℕ) → (version_offence {P = Permission} head version ≡ None) ↔ ((version ≤ OPERATOR_RECORD_VERSION) × IfSome head (λ h. h.version ≤ version)) }
+    ensures { (head : Option Head) (version : ℕ) → (version_offence {P = Permission} head version ≡ None) ↔
+        ((version ≤ OPERATOR_RECORD_VERSION) × IfSome head (λ h. h.version ≤ version)) }
 {}
 
 /// In an accepted log whose records all have version 1 no key brings itself in: each signer signed the
 /// first record, or an entry of an earlier record grants a permission to a key whose fingerprint is the
 /// signer's id.
 pub fn no_key_brings_itself_in()
-    ensures { (b : Belief) (es : List Letter) → IsAccepted kind b es → All (λ r. r.contents.version ≡ 1) (records_of es) → NoKeyBringsItselfIn (records_of es) }
+    ensures { (b : SignatureRelation) (es : List EnvelopeData) → IsAccepted kind b es →
+        All (λ r. r.contents.version ≡ 1) (records_of es) → NoKeyBringsItselfIn (records_of es) }
 {}

@@ -2,6 +2,8 @@
 ghost use Rattle.std.specs.Prelude.{◌≡◌, IfOk};
 ghost use Rattle.std.specs.Cmp.{partial_equiv_from_equiv};
 
+mod json;
+
 use std::alloc::AllocError;
 
 /// What a namespace is to a registry.

@@ -1,19 +1,21 @@
 //! The namespaces of a log, by name.
-ghost use Rattle.std.specs.Prelude.{◌≡◌, [], ◌∷◌, ◌++◌, ℕ, List, IfOk, OnOk, OnSome, None, Some, if◌then◌else◌, string_bytes, refl, true};
+ghost use Rattle.std.specs.Prelude.{◌≡◌, [], ◌∷◌, ◌++◌, ℕ, List, IfOk, OnOk, OnErr, OnSome, None, Some, if◌then◌else◌, string_bytes, refl, true};
 ghost use Rattle.std.specs.Str.{bytes_eq};
 ghost use Rattle.std.specs.Option.{option_copied, option_map};
 ghost use Rattle.std.specs.Cmp.{partial_equiv_from_equiv};
 ghost use Rattle.indexmap.specs.IndexMap.{get_by_text};
 ghost use Rattle.warg_records.specs.KebabNames.{IsKebabName, is_kebab_name};
-ghost use Rattle.warg_records.specs.OperatorEntries.{OperatorAct, reading, said};
+ghost use Rattle.warg_records.specs.OperatorEntries.{OperatorOwnEntry, entry_data, record_data};
 ghost use Rattle.warg_log.specs.Judging.{Judges};
 ghost use Rattle.warg_log.specs.Offences as shared;
 ghost use Rattle.warg_log.specs.History.{Wrong};
-ghost use Rattle.warg_operator_log.specs.Namespaces.{OwnOffence, Names, Namespace, names, name_offence, rules, names-none, names-append, alike_offence, alike_after};
+ghost use Rattle.warg_operator_log.specs.Namespaces.{OwnOffence, Names, Namespace, names, names_over, name_offence, rules, names-none, names-append, alike_offence, alike_after};
 ghost use Rattle.warg_operator_log.specs.NamespaceMap.{namespace_view, named, HasKebabNames};
 ghost use Rattle.warg_operator_log.specs.SameNamespaces.{same_namespaces};
 ghost use Rattle.warg_operator_log.specs.SameNamespaceLaws.{namespaces_decide, namespaces_equiv};
 ghost use Rattle.warg_operator_log.specs.State.{offence_of};
+
+mod saved;
 
 use crate::error::ValidationError;
 use crate::namespace::NamespaceState;
@@ -23,7 +25,7 @@ use std::marker::Model;
 use warg_crypto::Timestamp;
 use warg_crypto::hash::Sha256;
 use warg_crypto::signing::KeyID;
-use warg_log::{Matter, Parts, Refusal, Step};
+use warg_log::{LogKind, Parts, Refusal, Step};
 use warg_records::ProtoEnvelope;
 use warg_records::operator::{OperatorEntry, OperatorRecord, Permission};
 use warg_records::registry::{PackageName, RecordId};
@@ -55,7 +57,8 @@ fn add(
     requires new { get_by_text map.old (string_bytes name) ≡ None }
     requires kebab { is_kebab_name (string_bytes name) ≡ true }
     requires kebabs { HasKebabNames (named map.old.entries) }
-    ensures added { OnOk result (named map.new.entries ≡ named map.old.entries ++ (string_bytes name, namespace_view state) ∷ []) }
+    ensures added { OnOk result (named map.new.entries ≡ named map.old.entries ++
+        (string_bytes name, namespace_view state) ∷ []) }
     ensures kebabs { HasKebabNames (named map.new.entries) }
 {
     map.insert(name, state)?;
@@ -71,26 +74,45 @@ impl NamespaceMap {
         self.map.get(name)
     }
 
-    fn define(&mut self, name: &String, state: NamespaceState) -> Result<(), ValidationError>
-        ensures judges { Judges offence_of (option_map Wrong.Own (name_offence (names self.old) (string_bytes name.now))) result }
-        ensures after { OnOk result ((k : List ℕ) → names self.new k ≡ (if bytes_eq (string_bytes name.now) k then Some (namespace_view state) else names self.old k)) }
+    /// Adds the namespaces of the changes, or none.
+    fn add_all(&mut self, changes: NamespaceMap) -> Result<(), AllocError>
+        ensures added { OnOk result ((k : List ℕ) → names self.new k ≡ names_over self.old changes k) }
+        ensures unchanged { OnErr result (self.new ≡ self.old) }
+    {
+        let NamespaceMap { mut map } = changes;
+        self.map.append(&mut map)?;
+        Ok(())
+    }
+
+    fn define(
+        &self,
+        changes: &mut NamespaceMap,
+        name: &String,
+        state: NamespaceState,
+    ) -> Result<(), ValidationError>
+        ensures judges { Judges offence_of (option_map Wrong.Own
+            (name_offence (names_over self.now changes.old) (string_bytes name.now))) result }
+        ensures after { OnOk result ((k : List ℕ) → names_over self.now changes.new k
+            ≡ (if bytes_eq (string_bytes name.now) k then Some
+            (namespace_view state) else names_over self.now changes.old k)) }
     {
         if !PackageName::is_valid_namespace(name.as_str()) {
             return Err(ValidationError::InvalidNamespace {
                 namespace: name.clone()?,
             });
         }
-        if self.map.contains_key(name.as_str()) {
+        let noted = changes.map.get(name.as_str());
+        if noted.or(self.map.get(name.as_str())).is_some() {
             return Err(ValidationError::NamespaceAlreadyDefined {
                 namespace: name.clone()?,
             });
         }
-        add(&mut self.map, name.clone()?, state)?;
+        add(&mut changes.map, name.clone()?, state)?;
         Ok(())
     }
 }
 
-impl Matter for NamespaceMap {
+impl LogKind for NamespaceMap {
     type Permission = Permission;
 
     type Record = OperatorRecord;
@@ -99,7 +121,9 @@ impl Matter for NamespaceMap {
 
     type Error = ValidationError;
 
-    ghost Own = { OperatorAct };
+    type Change = NamespaceMap;
+
+    ghost Own = { OperatorOwnEntry };
 
     ghost View = { Names };
 
@@ -109,11 +133,13 @@ impl Matter for NamespaceMap {
 
     ghost view = { names };
 
+    ghost changed = { names_over };
+
     ghost alike = { λ v w. v ≡ w };
 
-    ghost said = { said };
+    ghost record_data = { record_data };
 
-    ghost reading = { reading };
+    ghost entry_data = { entry_data };
 
     ghost told = { offence_of };
 
@@ -132,9 +158,7 @@ impl Matter for NamespaceMap {
     ghost alike_after = { alike_after };
 
     fn new(alloc: Global) -> NamespaceMap {
-        NamespaceMap {
-            map: IndexMap::new(alloc),
-        }
+        empty(alloc)
     }
 
     fn try_clone(&self) -> Result<NamespaceMap, AllocError> {
@@ -190,8 +214,13 @@ impl Matter for NamespaceMap {
         ValidationError::from(refusal)
     }
 
+    fn no_change(alloc: Global) -> NamespaceMap {
+        empty(alloc)
+    }
+
     fn apply(
-        &mut self,
+        &self,
+        change: &mut NamespaceMap,
         entry: &OperatorEntry,
         _signer: &KeyID,
         _timestamp: Timestamp,
@@ -199,17 +228,30 @@ impl Matter for NamespaceMap {
     ) -> Result<(), ValidationError> {
         match entry {
             OperatorEntry::DefineNamespace { namespace } => {
-                self.define(namespace, NamespaceState::Defined)
+                self.define(change, namespace, NamespaceState::Defined)
             }
             OperatorEntry::ImportNamespace {
                 namespace,
                 registry,
             } => {
                 let registry = registry.clone()?;
-                self.define(namespace, NamespaceState::Imported { registry })
+                self.define(change, namespace, NamespaceState::Imported { registry })
             }
             _ => Ok(()),
         }
+    }
+
+    fn commit(&mut self, change: NamespaceMap) -> Result<(), AllocError> {
+        self.add_all(change)
+    }
+}
+
+/// No namespaces.
+fn empty(alloc: Global) -> NamespaceMap
+    ensures { result ≡ [] }
+{
+    NamespaceMap {
+        map: IndexMap::new(alloc),
     }
 }
 

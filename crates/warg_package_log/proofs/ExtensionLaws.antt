@@ -3,12 +3,12 @@ use Rattle.std.proofs.Common.{◌≡◌, inl, inr, ℕ, List, [], ◌∷◌, ◌
 use Rattle.std.specs.List.{AllByRecursion}
 use Rattle.std.specs.Option.{option_map}
 use Rattle.warg_crypto.specs.Times.{Time}
-use Rattle.warg_records.specs.PackageEntries.{Parts, PackageAct, Release, Yank}
+use Rattle.warg_records.specs.PackageEntries.{Parts, PackageOwnEntry, Release, Yank}
 use Rattle.warg_records.specs.declared.registry.record_id.RecordId.{RecordId}
 use Rattle.warg_validator.specs.Walks.{view_after, AllLawful}
-use Rattle.warg_log.specs.Acts.{latest}
+use Rattle.warg_log.specs.SignedEntries.{latest}
 use Rattle.warg_log.specs.History.{Event}
-use Rattle.warg_log.proofs.ActLaws.{latest-one}
+use Rattle.warg_log.proofs.SignedEntryLaws.{latest-one}
 use Rattle.warg_package_log.specs.Versions.{same_parts}
 use Rattle.warg_package_log.specs.Releases.{ReleaseView, yanks, turned, released, releases_after, find_parts, own_offence, unyankable, is_yanked, versions}
 use Rattle.warg_package_log.specs.Catalog.{AreDistinct}
@@ -53,7 +53,7 @@ unyanked v (Released content) h = refl
 unyanked v (Yanked by timestamp) h = cc
 
 module _ (signer : List ℕ) (time : Time) (id : RecordId) where
-  abbrev event : PackageAct → Event PackageAct
+  abbrev event : PackageOwnEntry → Event PackageOwnEntry
   event o = record { entry = o; signer = signer; time = time; record_id = id }
 
   -- a Yank keeps a release that it does not name, and one that stands
@@ -84,15 +84,15 @@ module _ (signer : List ℕ) (time : Time) (id : RecordId) where
       by true e h rest = (kept-yank v r (λ _. unyanked v r.state h), others-kept v r rs more e d.0)
       by false e h rest = (kept-yank v r (λ t. absurd (true≢false (sym t ∙ e))), rest h)
 
-  release-kept : (v : Parts) (rs more : List ReleaseView) (o : PackageAct) → ((r : ReleaseView) → IsKept r (turned (event o ∷ []) r)) → IsExtension rs (map (turned (event o ∷ [])) rs ++ more)
+  release-kept : (v : Parts) (rs more : List ReleaseView) (o : PackageOwnEntry) → ((r : ReleaseView) → IsKept r (turned (event o ∷ []) r)) → IsExtension rs (map (turned (event o ∷ [])) rs ++ more)
   release-kept v [] more o each = tt
   release-kept v (r ∷ rs) more o each = (each r, release-kept v rs more o each)
 
-  step-kept : (o : PackageAct) (rs : List ReleaseView) → AreDistinct (versions rs) → own_offence rs o ≡ None → IsExtension rs (releases_after rs (event o ∷ []))
+  step-kept : (o : PackageOwnEntry) (rs : List ReleaseView) → AreDistinct (versions rs) → own_offence rs o ≡ None → IsExtension rs (releases_after rs (event o ∷ []))
   step-kept (Release v content) rs d h = release-kept v rs (released (event (Release v content) ∷ [])) (Release v content) (λ r. kept-self r)
   step-kept (Yank v) rs d h = yank-kept v rs (released (event (Yank v) ∷ [])) d h
 
-  versions-turned : (es : List (Event PackageAct)) (rs : List ReleaseView) → versions (map (turned es) rs) ≡ versions rs
+  versions-turned : (es : List (Event PackageOwnEntry)) (rs : List ReleaseView) → versions (map (turned es) rs) ≡ versions rs
   versions-turned es [] = refl
   versions-turned es (r ∷ rs) = ap (λ l. r.version ∷ l) (versions-turned es rs)
 
@@ -116,7 +116,7 @@ module _ (signer : List ℕ) (time : Time) (id : RecordId) where
   nil_end (x ∷ xs) = ap (λ l. x ∷ l) (nil_end xs)
 
   -- and the versions stay pairwise different
-  step-distinct : (o : PackageAct) (rs : List ReleaseView) → AreDistinct (versions rs) → own_offence rs o ≡ None → AreDistinct (versions (releases_after rs (event o ∷ [])))
+  step-distinct : (o : PackageOwnEntry) (rs : List ReleaseView) → AreDistinct (versions rs) → own_offence rs o ≡ None → AreDistinct (versions (releases_after rs (event o ∷ [])))
   step-distinct (Release v content) rs d h =
       let es = event (Release v content) ∷ [] in
       let made : ReleaseView = record { record_id = id; version = v; by = signer; timestamp = time; state = Released content } in
@@ -126,7 +126,7 @@ module _ (signer : List ℕ) (time : Time) (id : RecordId) where
       subst (λ qs. AreDistinct (versions qs)) (sym (nil_end (map (turned es) rs))) (subst AreDistinct (sym (versions-turned es rs)) d)
 
 -- lawful events keep what stands before them
-pub lawful-kept : (rs : List ReleaseView) (es : List (Event PackageAct)) → AreDistinct (versions rs) → AllLawful own_after own_wrong rs es
+pub lawful-kept : (rs : List ReleaseView) (es : List (Event PackageOwnEntry)) → AreDistinct (versions rs) → AllLawful own_after own_wrong rs es
     → IsExtension rs (view_after own_after rs es) × AreDistinct (versions (view_after own_after rs es))
 lawful-kept rs [] d h = (extension-self rs, d)
 lawful-kept rs (e ∷ es) d h =

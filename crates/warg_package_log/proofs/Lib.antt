@@ -1,8 +1,12 @@
 pub mod AcceptedLaws
 pub mod CatalogLemmas
+pub mod PutLaws
 pub mod ExtensionLaws
 pub mod Greatest
 pub mod HistoryLaws
 pub mod Judging
 pub mod SameLemmas
 pub mod YankLaws
+pub mod ReleaseJsonLaws
+pub mod SavedReleases
+pub mod SavedStates

@@ -5,11 +5,11 @@ use Rattle.std.specs.List.{filter_map, cons_option}
 use Rattle.std.specs.Option.{option_map, option_map_or, option_or}
 use Rattle.std.proofs.lemmas.List.Folds.{find-append}
 use Rattle.warg_crypto.specs.Times.{Time}
-use Rattle.warg_records.specs.PackageEntries.{Parts, PackageAct, Release, Yank}
+use Rattle.warg_records.specs.PackageEntries.{Parts, PackageOwnEntry, Release, Yank}
 use Rattle.warg_records.specs.declared.registry.record_id.RecordId.{RecordId}
 use Rattle.warg_validator.specs.Walks.{AllLawful}
 use Rattle.warg_log.specs.History.{Event}
-use Rattle.warg_log.proofs.ActLaws.{latest-one}
+use Rattle.warg_log.proofs.SignedEntryLaws.{latest-one}
 use Rattle.warg_package_log.specs.AlikeLaws.{find-turned}
 use Rattle.warg_package_log.specs.ListedReleases.{own_after, own_wrong}
 use Rattle.warg_package_log.specs.Releases.{ReleaseView, yanks, turned, released, releases_after, find_parts, own_offence, unyankable, is_yanked}
@@ -48,13 +48,13 @@ found_passes t (x ∷ rs) r h = by (t x) refl h (found_passes t rs r)
     by false e g rest = rest g
 
 -- what is found stays, turned by the event
-found_after : (rs : List ReleaseView) (e : Event PackageAct) (v : Parts) (r : ReleaseView) → find_parts rs v ≡ Some r → find_parts (releases_after rs (e ∷ [])) v ≡ Some (turned (e ∷ []) r)
+found_after : (rs : List ReleaseView) (e : Event PackageOwnEntry) (v : Parts) (r : ReleaseView) → find_parts rs v ≡ Some r → find_parts (releases_after rs (e ∷ [])) v ≡ Some (turned (e ∷ []) r)
 found_after rs e v r h =
     find-append (λ q. same_parts v q.version) (map (turned (e ∷ [])) rs) (released (e ∷ []))
     ∙ ap (λ o. option_or o (find_parts (released (e ∷ [])) v)) (find-turned (e ∷ []) v rs ∙ ap (option_map (turned (e ∷ []))) h)
 
 module _ (signer : List ℕ) (time : Time) (id : RecordId) where
-  abbrev event : PackageAct → Event PackageAct
+  abbrev event : PackageOwnEntry → Event PackageOwnEntry
   event o = record { entry = o; signer = signer; time = time; record_id = id }
 
   turned_down : (b : Bool) (s : ReleaseState) → is_yanked s ≡ true → is_yanked (if b then Yanked signer time else s) ≡ true
@@ -62,11 +62,11 @@ module _ (signer : List ℕ) (time : Time) (id : RecordId) where
   turned_down false s down = down
 
   -- a yanked release stays so
-  stays_down : (o : PackageAct) (r : ReleaseView) → is_yanked r.state ≡ true → is_yanked (turned (event o ∷ []) r).state ≡ true
+  stays_down : (o : PackageOwnEntry) (r : ReleaseView) → is_yanked r.state ≡ true → is_yanked (turned (event o ∷ []) r).state ≡ true
   stays_down (Release w content) r down = down
   stays_down (Yank w) r down = ap is_yanked (latest-one (same_parts w r.version) (Yanked signer time) r.state) ∙ turned_down (same_parts w r.version) r.state down
 
-  still_down : (rs : List ReleaseView) (o : PackageAct) (v : Parts) (found : Option ReleaseView) → find_parts rs v ≡ found → option_map_or (λ r. is_yanked r.state) found false ≡ true → is_down (releases_after rs (event o ∷ [])) v ≡ true
+  still_down : (rs : List ReleaseView) (o : PackageOwnEntry) (v : Parts) (found : Option ReleaseView) → find_parts rs v ≡ found → option_map_or (λ r. is_yanked r.state) found false ≡ true → is_down (releases_after rs (event o ∷ [])) v ≡ true
   still_down rs o v None at down = cc
   still_down rs o v (Some r) at down = ap (λ f. option_map_or (λ (q : ReleaseView). is_yanked q.state) f false) (found_after rs (event o) v r at) ∙ stays_down o r down
 
@@ -79,7 +79,7 @@ module _ (signer : List ℕ) (time : Time) (id : RecordId) where
       ∙ ap is_yanked (latest-one (same_parts v r.version) (Yanked signer time) r.state ∙ ap (λ b. if b then Yanked signer time else r.state) (found_passes (λ q. same_parts v q.version) rs r found.1))
 
   -- an event is no Yank of a version whose release is yanked
-  silent : (rs : List ReleaseView) (o : PackageAct) (v : Parts) → is_down rs v ≡ true → own_offence rs o ≡ None → yanks v (event o) ≡ None
+  silent : (rs : List ReleaseView) (o : PackageOwnEntry) (v : Parts) → is_down rs v ≡ true → own_offence rs o ≡ None → yanks v (event o) ≡ None
   silent rs (Release w content) v down h = refl
   silent rs (Yank w) v down h = by (same_parts w v) refl
     where
@@ -88,7 +88,7 @@ module _ (signer : List ℕ) (time : Time) (id : RecordId) where
       by false e = ap (λ b. if b then Some (Yanked signer time) else None) e
 
   -- an event that yanks a version leaves its release yanked
-  spoken : (rs : List ReleaseView) (o : PackageAct) (v : Parts) (s : ReleaseState) → own_offence rs o ≡ None → yanks v (event o) ≡ Some s → is_down (releases_after rs (event o ∷ [])) v ≡ true
+  spoken : (rs : List ReleaseView) (o : PackageOwnEntry) (v : Parts) (s : ReleaseState) → own_offence rs o ≡ None → yanks v (event o) ≡ Some s → is_down (releases_after rs (event o ∷ [])) v ≡ true
   spoken rs (Release w content) v s h says = cc
   spoken rs (Yank w) v s h says = by (same_parts w v) refl
     where
@@ -100,14 +100,14 @@ module _ (signer : List ℕ) (time : Time) (id : RecordId) where
           never g = cc
 
 -- no Yank follows on a yanked release
-none_more : (rs : List ReleaseView) (es : List (Event PackageAct)) (v : Parts) → is_down rs v ≡ true → AllLawful own_after own_wrong rs es → filter_map (yanks v) es ≡ []
+none_more : (rs : List ReleaseView) (es : List (Event PackageOwnEntry)) (v : Parts) → is_down rs v ≡ true → AllLawful own_after own_wrong rs es → filter_map (yanks v) es ≡ []
 none_more rs [] v down h = refl
 none_more rs (e ∷ es) v down h =
     ap (λ o. cons_option o (filter_map (yanks v) es)) (silent e.signer e.time e.record_id rs e.entry v down h.0)
     ∙ none_more (releases_after rs (e ∷ [])) es v (still_down e.signer e.time e.record_id rs e.entry v (find_parts rs v) refl down) h.1
 
 -- a version has one Yank at most
-pub one-yank : (rs : List ReleaseView) (es : List (Event PackageAct)) (v : Parts) → AllLawful own_after own_wrong rs es → length (filter_map (yanks v) es) ≤ 1
+pub one-yank : (rs : List ReleaseView) (es : List (Event PackageOwnEntry)) (v : Parts) → AllLawful own_after own_wrong rs es → length (filter_map (yanks v) es) ≤ 1
 one-yank rs [] v h = omega arith
 one-yank rs (e ∷ es) v h = by (one-yank (releases_after rs (e ∷ [])) es v h.1) (yanks v e) refl
   where

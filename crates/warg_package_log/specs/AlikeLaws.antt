@@ -5,27 +5,32 @@ use Rattle.std.specs.Option.{option_map, option_or}
 use Rattle.std.proofs.lemmas.List.Folds.{find-append}
 use Rattle.warg_log.specs.Offences.{unless}
 use Rattle.warg_log.specs.History.{Event}
-use Rattle.warg_records.specs.PackageEntries.{Parts, PackageAct, Release, Yank}
+use Rattle.warg_records.specs.PackageEntries.{Parts, PackageOwnEntry, Release, Yank}
 use Rattle.warg_package_log.specs.Versions.{same_parts}
 use Rattle.warg_package_log.specs.Releases.{ReleaseView, ReleaseOfReleased, turned, released, releases_after, find_parts, own_offence, unyankable}
 use Rattle.warg_package_log.specs.SameReleases.{AreAlike}
 
-found_turned : (b : Bool) (ys : List (Event PackageAct)) (r : ReleaseView) (o : Option ReleaseView) → cond b (Some (turned ys r)) (option_map (turned ys) o) ≡ option_map (turned ys) (cond b (Some r) o)
+found_turned : (b : Bool) (ys : List (Event PackageOwnEntry)) (r : ReleaseView) (o : Option ReleaseView)
+    → cond b (Some (turned ys r)) (option_map (turned ys) o) ≡ option_map (turned ys) (cond b (Some r) o)
 found_turned true ys r o = refl
 found_turned false ys r o = refl
 
 -- a release is found, and then turned
-pub find-turned : (ys : List (Event PackageAct)) (v : Parts) (rs : List ReleaseView) → find_parts (map (turned ys) rs) v ≡ option_map (turned ys) (find_parts rs v)
+pub find-turned : (ys : List (Event PackageOwnEntry)) (v : Parts) (rs : List ReleaseView)
+    → find_parts (map (turned ys) rs) v ≡ option_map (turned ys) (find_parts rs v)
 find-turned ys v [] = refl
 find-turned ys v (r ∷ rs) = ap (cond (same_parts v r.version) (Some (turned ys r))) (find-turned ys v rs) ∙ found_turned (same_parts v r.version) ys r (find_parts rs v)
 
 -- what is found after events
-find-after : (rs : List ReleaseView) (es : List (Event PackageAct)) (v : Parts) → find_parts (releases_after rs es) v ≡ option_or (option_map (turned es) (find_parts rs v)) (find_parts (released es) v)
+find-after : (rs : List ReleaseView) (es : List (Event PackageOwnEntry)) (v : Parts)
+    → find_parts (releases_after rs es) v ≡ option_or (option_map (turned es) (find_parts rs v)) (find_parts (released es) v)
 find-after rs es v = find-append (λ r. same_parts v r.version) (map (turned es) rs) (released es) ∙ ap (λ o. option_or o (find_parts (released es) v)) (find-turned es v rs)
 
-pub alike_offence : (rs qs : List ReleaseView) → AreAlike rs qs → (o : PackageAct) → own_offence rs o ≡ own_offence qs o
+pub alike_offence : (rs qs : List ReleaseView) → AreAlike rs qs → (o : PackageOwnEntry)
+    → own_offence rs o ≡ own_offence qs o
 alike_offence rs qs alike (Release v content) = ap (λ o. unless (is_none o) (ReleaseOfReleased v)) (alike v)
 alike_offence rs qs alike (Yank v) = ap (λ (o : Option ReleaseView). unyankable v (option_map (λ r. r.state) o)) (alike v)
 
-pub alike_after : (rs qs : List ReleaseView) → AreAlike rs qs → (es : List (Event PackageAct)) → AreAlike (releases_after rs es) (releases_after qs es)
+pub alike_after : (rs qs : List ReleaseView) → AreAlike rs qs → (es : List (Event PackageOwnEntry))
+    → AreAlike (releases_after rs es) (releases_after qs es)
 alike_after rs qs alike es v = find-after rs es v ∙ ap (λ o. option_or (option_map (turned es) o) (find_parts (released es) v)) (alike v) ∙ sym (find-after qs es v)

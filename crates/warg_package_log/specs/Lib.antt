@@ -14,3 +14,6 @@ pub mod State
 pub mod StateHistory
 pub mod StateLaws
 pub mod Versions
+pub mod ReleaseJson
+pub mod SavedState
+pub mod SavedParts

@@ -7,14 +7,14 @@ use Rattle.std.proofs.lemmas.Bool.{cases_Bool}
 use Rattle.std.proofs.lemmas.List.Folds.{find-append}
 use Rattle.std.proofs.lemmas.List.Elements.{filter_map-append}
 use Rattle.warg_crypto.specs.Times.{Time}
-use Rattle.warg_records.specs.PackageEntries.{Parts, PackageAct, Release, Yank}
+use Rattle.warg_records.specs.PackageEntries.{Parts, PackageOwnEntry, Release, Yank}
 use Rattle.warg_records.specs.declared.registry.record_id.RecordId.{RecordId}
 use Rattle.warg_validator.specs.Walks.{view_after, AllLawful, IsStepwise}
 use Rattle.warg_validator.proofs.WalkLaws.{lawful-view}
-use Rattle.warg_log.specs.Acts.{latest}
+use Rattle.warg_log.specs.SignedEntries.{latest}
 use Rattle.warg_log.specs.Offences.{unless}
 use Rattle.warg_log.specs.History.{Event}
-use Rattle.warg_log.proofs.ActLaws.{latest-append, latest-one}
+use Rattle.warg_log.proofs.SignedEntryLaws.{latest-append, latest-one}
 use Rattle.warg_package_log.specs.Versions.{same_parts}
 use Rattle.warg_package_log.specs.Releases.{OwnOffence, ReleaseView, yanks, made_by, turned, released, releases_after, find_parts, own_offence, unyankable}
 use Rattle.warg_package_log.specs.ReleaseLaws.{turned-append, releases-none, releases-append}
@@ -28,14 +28,15 @@ some≢none : {A : Type 0} {x : A} → Some x ≡ None → ⊥
 some≢none h = true≢false (ap is_some h)
 
 -- no Yank is of a version that is not released
-abbrev pub NoStray : List (Event PackageAct) → Type 0
+abbrev pub NoStray : List (Event PackageOwnEntry) → Type 0
 NoStray es = (v : Parts) → find_parts (listed_releases es) v ≡ None → (s : ReleaseState) → latest (yanks v) s es ≡ s
 
-turned_cons : (ys : List (Event PackageAct)) (m : Option ReleaseView) (xs : List (Event PackageAct)) (rs : List ReleaseView) → cons_option (option_map (with_yank (xs ++ ys)) m) (map (turned ys) rs) ≡ map (turned ys) (cons_option (option_map (with_yank xs) m) rs)
+turned_cons : (ys : List (Event PackageOwnEntry)) (m : Option ReleaseView) (xs : List (Event PackageOwnEntry)) (rs : List ReleaseView) → cons_option (option_map (with_yank (xs ++ ys)) m) (map (turned ys) rs) ≡ map (turned ys) (cons_option (option_map (with_yank xs) m) rs)
 turned_cons ys None xs rs = refl
 turned_cons ys (Some r) xs rs = ap (λ x. x ∷ map (turned ys) rs) (turned-append xs ys r)
 
-turned_front : (xs ys zs : List (Event PackageAct)) → filter_map (λ e. option_map (with_yank (xs ++ ys)) (made_by e)) zs ≡ map (turned ys) (filter_map (λ e. option_map (with_yank xs) (made_by e)) zs)
+turned_front : (xs ys zs : List (Event PackageOwnEntry))
+    → filter_map (λ e. option_map (with_yank (xs ++ ys)) (made_by e)) zs ≡ map (turned ys) (filter_map (λ e. option_map (with_yank xs) (made_by e)) zs)
 turned_front xs ys [] = refl
 turned_front xs ys (z ∷ zs) = ap (cons_option (option_map (with_yank (xs ++ ys)) (made_by z))) (turned_front xs ys zs) ∙ turned_cons ys (made_by z) xs (filter_map (λ e. option_map (with_yank xs) (made_by e)) zs)
 
@@ -55,30 +56,33 @@ yank_known : (v : Parts) (o : Option ReleaseView) → unyankable v (option_map (
 yank_known v None h g = some≢none h
 yank_known v (Some r) h g = some≢none g
 
-module _ (es : List (Event PackageAct)) (stray : NoStray es) where
+module _ (es : List (Event PackageOwnEntry)) (stray : NoStray es) where
   -- what was not released before, is not after one more event, and no Yank is of it
-  found_before : (e : Event PackageAct) → listed_releases (es ++ e ∷ []) ≡ releases_after (listed_releases es) (e ∷ []) → (w : Parts) → find_parts (listed_releases (es ++ e ∷ [])) w ≡ None → find_parts (listed_releases es) w ≡ None
+  found_before : (e : Event PackageOwnEntry) → listed_releases (es ++ e ∷ []) ≡ releases_after (listed_releases es) (e ∷ []) → (w : Parts) → find_parts (listed_releases (es ++ e ∷ [])) w ≡ None → find_parts (listed_releases es) w ≡ None
   found_before e is w h =
       let whole = sym (find-append (λ r. same_parts w r.version) (map (turned (e ∷ [])) (listed_releases es)) (released (e ∷ []))) ∙ ap (λ l. find_parts l w) (sym is) ∙ h in
       none_inside (turned (e ∷ [])) (find_parts (listed_releases es) w) (sym (find-turned (e ∷ []) w (listed_releases es)) ∙ none_first _ (find_parts (released (e ∷ [])) w) whole)
 
-  push : (e : Event PackageAct) → cons_option (option_map (with_yank (es ++ e ∷ [])) (made_by e)) [] ≡ released (e ∷ []) → listed_releases (es ++ e ∷ []) ≡ releases_after (listed_releases es) (e ∷ [])
+  push : (e : Event PackageOwnEntry) → cons_option (option_map (with_yank (es ++ e ∷ [])) (made_by e)) [] ≡ released (e ∷ []) → listed_releases (es ++ e ∷ []) ≡ releases_after (listed_releases es) (e ∷ [])
   push e last = filter_map-append (λ x. option_map (with_yank (es ++ e ∷ [])) (made_by x)) es (e ∷ []) ∙ (λ i. turned_front es (e ∷ []) es i ++ last i)
 
   module _ (signer : List ℕ) (time : Time) (id : RecordId) where
-    abbrev event : PackageAct → Event PackageAct
+    abbrev event : PackageOwnEntry → Event PackageOwnEntry
     event o = record { entry = o; signer = signer; time = time; record_id = id }
 
-    last_said : (o : PackageAct) (w : Parts) → find_parts (listed_releases es) w ≡ None → (s : ReleaseState) → latest (yanks w) s (es ++ event o ∷ []) ≡ latest (yanks w) s (event o ∷ [])
+    last_said : (o : PackageOwnEntry) (w : Parts) → find_parts (listed_releases es) w ≡ None → (s : ReleaseState)
+        → latest (yanks w) s (es ++ event o ∷ []) ≡ latest (yanks w) s (event o ∷ [])
     last_said o w none s = latest-append (yanks w) s es (event o ∷ []) ∙ ap (λ t. latest (yanks w) t (event o ∷ [])) (stray w none s)
 
-    other : (v w : Parts) → own_offence (listed_releases es) (Yank v) ≡ None → find_parts (listed_releases es) w ≡ None → same_parts v w ≡ false
+    other : (v w : Parts) → own_offence (listed_releases es) (Yank v) ≡ None → find_parts (listed_releases es) w ≡ None
+        → same_parts v w ≡ false
     other v w h none = elim (cases_Bool (same_parts v w)) [
       | inl equal ↦ absurd (yank_known v (find_parts (listed_releases es) v) h (ap (find_parts (listed_releases es)) (exact_parts v w equal) ∙ none))
       | inr apart ↦ apart
     ]
 
-    one_more : (o : PackageAct) → own_offence (listed_releases es) o ≡ None → NoStray (es ++ event o ∷ []) × (listed_releases (es ++ event o ∷ []) ≡ releases_after (listed_releases es) (event o ∷ []))
+    one_more : (o : PackageOwnEntry) → own_offence (listed_releases es) o ≡ None
+        → NoStray (es ++ event o ∷ []) × (listed_releases (es ++ event o ∷ []) ≡ releases_after (listed_releases es) (event o ∷ []))
     one_more (Release v content) h =
         let fresh = unless_none (find_parts (listed_releases es) v) _ h in
         let is = push (event (Release v content)) (ap (λ s. record { record_id = id; version = v; by = signer; timestamp = time; state = s } ∷ []) (last_said (Release v content) v fresh (Released content))) in
@@ -92,7 +96,8 @@ module _ (es : List (Event PackageAct)) (stray : NoStray es) where
         )
 
 -- releases made event by event
-pub view-after : (rs : List ReleaseView) (es : List (Event PackageAct)) → view_after own_after rs es ≡ releases_after rs es
+pub view-after : (rs : List ReleaseView) (es : List (Event PackageOwnEntry))
+    → view_after own_after rs es ≡ releases_after rs es
 view-after rs [] = releases-none rs
 view-after rs (e ∷ es) = view-after (releases_after rs (e ∷ [])) es ∙ sym (releases-append rs (e ∷ []) es)
 
@@ -101,5 +106,6 @@ pub releases-stepwise : IsStepwise own_after own_wrong [] listed_releases NoStra
 releases-stepwise = record { none = refl; good = λ v none s. refl; more = λ es e stray h. one_more es stray e.signer e.time e.record_id e.entry h }
 
 -- of events without offence, the releases by filters are those made event by event
-pub releases-listed : (es : List (Event PackageAct)) → AllLawful own_after own_wrong [] es → listed_releases es ≡ releases_after [] es
+pub releases-listed : (es : List (Event PackageOwnEntry)) → AllLawful own_after own_wrong [] es
+    → listed_releases es ≡ releases_after [] es
 releases-listed es h = (lawful-view own_wrong own_after [] listed_releases NoStray releases-stepwise es h).1 ∙ view-after [] es

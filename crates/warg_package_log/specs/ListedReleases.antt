@@ -2,21 +2,21 @@
 use Rattle.std.specs.Prelude.{List, [], ◌∷◌, Option, None, unwrap_or}
 use Rattle.std.specs.List.{filter_map, last_or}
 use Rattle.std.specs.Option.{option_map}
-use Rattle.warg_records.specs.PackageEntries.{PackageAct}
+use Rattle.warg_records.specs.PackageEntries.{PackageOwnEntry}
 use Rattle.warg_log.specs.History.{Event}
 use Rattle.warg_package_log.specs.Releases.{ReleaseView, OwnOffence, made_by, yanks, releases_after, own_offence}
 
 -- the release, Yanked if a Yank of its version stands anywhere in the events
-abbrev pub with_yank : List (Event PackageAct) → ReleaseView → ReleaseView
+abbrev pub with_yank : List (Event PackageOwnEntry) → ReleaseView → ReleaseView
 with_yank events r = record r { state = unwrap_or (last_or None (filter_map (yanks r.version) events)) r.state }
 
 -- the releases of the events, in order
-abbrev pub listed_releases : List (Event PackageAct) → List ReleaseView
+abbrev pub listed_releases : List (Event PackageOwnEntry) → List ReleaseView
 listed_releases events = filter_map (λ e. option_map (with_yank events) (made_by e)) events
 
 -- one more event, and what is wrong with it
-abbrev pub own_after : List ReleaseView → Event PackageAct → List ReleaseView
+abbrev pub own_after : List ReleaseView → Event PackageOwnEntry → List ReleaseView
 own_after rs e = releases_after rs (e ∷ [])
 
-abbrev pub own_wrong : List ReleaseView → Event PackageAct → Option OwnOffence
+abbrev pub own_wrong : List ReleaseView → Event PackageOwnEntry → Option OwnOffence
 own_wrong rs e = own_offence rs e.entry

@@ -111,7 +111,8 @@ release_decides a b = (release_exact a b, λ h. ap (same_release a) (sym h) ∙ 
 pub shown_equiv : IsEquivalence (λ (a b : Release). same_release (release_view a) (release_view b))
 shown_equiv = on_equiv release_view (exact_equiv release_decides)
 
-options_exact : {A : Type 0} (E : A → A → Bool) → ((a b : A) → E a b ≡ true → a ≡ b) → (p q : Option A) → option_eq E p q ≡ true → p ≡ q
+options_exact : {A : Type 0} (E : A → A → Bool) → ((a b : A) → E a b ≡ true → a ≡ b) → (p q : Option A)
+    → option_eq E p q ≡ true → p ≡ q
 options_exact E d None None h = refl
 options_exact E d None (Some y) h = absurd (true≢false (sym h))
 options_exact E d (Some x) None h = absurd (true≢false (sym h))
@@ -126,11 +127,13 @@ all_pass t f [] = refl
 all_pass t f (x ∷ xs) = ap (λ b. b && list_all t xs) (f x) ∙ all_pass t f xs
 
 -- the list has no release of the version, or the version passes each test that all of its versions pass
-none-or-passes : (t : Parts → Bool) (rs : List ReleaseView) (v : Parts) → list_all t (versions rs) ≡ true → (find_parts rs v ≡ None) ⊎ (t v ≡ true)
+none-or-passes : (t : Parts → Bool) (rs : List ReleaseView) (v : Parts) → list_all t (versions rs) ≡ true
+    → (find_parts rs v ≡ None) ⊎ (t v ≡ true)
 none-or-passes t [] v h = inl refl
 none-or-passes t (r ∷ rs) v h = by (same_parts v r.version) refl (none-or-passes t rs v (second_so (t r.version) _ h))
   where
-    by : (b : Bool) → same_parts v r.version ≡ b → (find_parts rs v ≡ None) ⊎ (t v ≡ true) → (cond (same_parts v r.version) (Some r) (find_parts rs v) ≡ None) ⊎ (t v ≡ true)
+    by : (b : Bool) → same_parts v r.version ≡ b → (find_parts rs v ≡ None) ⊎ (t v ≡ true)
+        → (cond (same_parts v r.version) (Some r) (find_parts rs v) ≡ None) ⊎ (t v ≡ true)
     by true e rest = inr (ap t (exact_parts v r.version e) ∙ first_so (t r.version) _ h)
     by false e (inl none) = inl (ap (λ b. cond b (Some r) (find_parts rs v)) e ∙ none)
     by false e (inr passes) = inr passes
@@ -138,7 +141,8 @@ none-or-passes t (r ∷ rs) v h = by (same_parts v r.version) refl (none-or-pass
 releases-alike : (rs qs : List ReleaseView) → same_releases rs qs ≡ true → AreAlike rs qs
 releases-alike rs qs h v = by (none-or-passes (same_at rs qs) rs v (first_so _ _ h)) (none-or-passes (same_at rs qs) qs v (second_so (list_all (same_at rs qs) (versions rs)) _ h))
   where
-    by : (find_parts rs v ≡ None) ⊎ (same_at rs qs v ≡ true) → (find_parts qs v ≡ None) ⊎ (same_at rs qs v ≡ true) → find_parts rs v ≡ find_parts qs v
+    by : (find_parts rs v ≡ None) ⊎ (same_at rs qs v ≡ true) → (find_parts qs v ≡ None) ⊎ (same_at rs qs v ≡ true)
+        → find_parts rs v ≡ find_parts qs v
     by (inr passes) other = options_exact same_release release_exact (find_parts rs v) (find_parts qs v) passes
     by (inl none) (inl also) = none ∙ sym also
     by (inl none) (inr passes) = options_exact same_release release_exact (find_parts rs v) (find_parts qs v) passes

@@ -1,12 +1,12 @@
--- What the letters of a package log say, by the one list of all their entries, and a state that tells it.
+-- What the envelopes of a package log say, by the one list of all their entries, and a state that tells it.
 use Rattle.std.specs.Prelude.{◌≡◌, ◌≤◌, ℕ, List, length, map, None}
 use Rattle.std.specs.List.{filter_map, last_or}
 use Rattle.std.specs.Option.{option_map}
-use Rattle.warg_records.specs.Letters.{Letter}
-use Rattle.warg_records.specs.PackageEntries.{Parts, PackageAct}
+use Rattle.warg_records.specs.EnvelopeData.{EnvelopeData}
+use Rattle.warg_records.specs.PackageEntries.{Parts, PackageOwnEntry}
 use Rattle.warg_records.specs.PackagePermissions.{same_permission}
 use Rattle.warg_records.specs.PackageReading.{package_record_of}
-use Rattle.warg_records.specs.Readings.{Reading}
+use Rattle.warg_records.specs.RecordData.{EntryData}
 use Rattle.warg_records.specs.declared.package.permission.Permission.{Permission}
 use Rattle.warg_log.specs.Contents.{Contents}
 use Rattle.warg_log.specs.Histories.{Placed, history_of, holds, has_entry, key_of, algorithm_of, owns}
@@ -17,24 +17,24 @@ use Rattle.warg_package_log.specs.ListedReleases.{listed_releases}
 use Rattle.warg_package_log.specs.Releases.{ReleaseView, yanks, rules, record_id_of}
 use Rattle.warg_package_log.specs.State.{view_of}
 
--- the letters as records
-abbrev pub records_of : List Letter → List (SignedRecord Permission PackageAct)
+-- the envelopes as records
+abbrev pub records_of : List EnvelopeData → List (SignedRecord Permission PackageOwnEntry)
 records_of es = map (opened rules same_permission package_record_of) es
 
 -- all entries in one list, each with its signer, its record's time and id, and its places
-abbrev pub history : List Letter → List (Placed (Reading Permission PackageAct))
+abbrev pub history : List EnvelopeData → List (Placed (EntryData Permission PackageOwnEntry))
 history es = history_of record_id_of (records_of es)
 
 -- each version has one Yank at most
-abbrev pub OneYankEach : List (Placed (Reading Permission PackageAct)) → Type 0
+abbrev pub OneYankEach : List (Placed (EntryData Permission PackageOwnEntry)) → Type 0
 OneYankEach h = (v : Parts) → length (filter_map (yanks v) (owns h)) ≤ 1
 
 -- the Release entries of a history, in order, each Yanked if a Yank of its version stands in the history
-abbrev pub releases_of : List (Placed (Reading Permission PackageAct)) → List ReleaseView
+abbrev pub releases_of : List (Placed (EntryData Permission PackageOwnEntry)) → List ReleaseView
 releases_of h = listed_releases (owns h)
 
 -- all that the state tells is what the history says; above each line the look-ups of `LogState` that answer it
-pub record TellsHistory (s : State (Contents Permission) (List ReleaseView)) (es : List Letter) : Type 0 where
+pub record TellsHistory (s : State (Contents Permission) (List ReleaseView)) (es : List EnvelopeData) : Type 0 where
   -- `key_permissions`: what the set has, and whether there is a set
   pub permissions : (k : List ℕ) (p : Permission) → (view_of s).whole.authority.holds k p ≡ holds same_permission (history es) k p
   pub entries : (k : List ℕ) → (view_of s).whole.authority.has_entry k ≡ has_entry (history es) k

@@ -20,7 +20,8 @@ fn greater<'a>(
     release: &'a Release,
     req: &VersionReq,
 ) -> Option<&'a Release>
-    ensures { option_copied result ≡ greater_of (is_candidate req.now.comparators.items) release_cmp (option_copied best.entry) release.now }
+    ensures { option_copied result ≡ greater_of (is_candidate req.now.comparators.items) release_cmp
+        (option_copied best.entry) release.now }
 {
     if release.yanked() || !req.matches(&release.version) {
         return best;

@@ -2,10 +2,10 @@
 ghost use Rattle.std.specs.Prelude.{◌≡◌, ◌↔◌, ◌≤◌, List, ◌++◌, None, true, ◌<◌, ℕ, length, Result, IfOk, IsOk, All, IfSome};
 ghost use Rattle.warg_records.specs.Envelopes.{envelope_of, envelope_fault_of};
 ghost use Rattle.warg_records.specs.Faults.{fault_of};
-ghost use Rattle.warg_records.specs.Letters.{Letter};
+ghost use Rattle.warg_records.specs.EnvelopeData.{EnvelopeData};
 ghost use Rattle.warg_records.specs.PackageReading.{package_record_of};
 ghost use Rattle.warg_records.specs.declared.package.permission.Permission.{Permission};
-ghost use Rattle.warg_validator.specs.Kinds.{Belief, IsAccepted, StandsFor};
+ghost use Rattle.warg_validator.specs.Kinds.{SignatureRelation, IsAccepted, StandsFor};
 ghost use Rattle.warg_validator.specs.Outcomes.{IsRun, IfStarted, told};
 ghost use Rattle.warg_validator.specs.Strings.{read_all};
 ghost use Rattle.warg_validator.specs.declared.replay.RunError.{RunError};
@@ -20,7 +20,7 @@ ghost use Rattle.warg_package_log.specs.Catalog.{AreDistinct, release_view};
 ghost use Rattle.warg_package_log.specs.Extensions.{IsExtension};
 ghost use Rattle.warg_package_log.specs.Releases.{versions, ReleaseView, record_id_of};
 ghost use Rattle.warg_package_log.specs.State.{offence_of, view_of, View, record_offence};
-ghost use Rattle.warg_records.specs.PackageEntries.{PackageAct};
+ghost use Rattle.warg_records.specs.PackageEntries.{PackageOwnEntry};
 ghost use Rattle.warg_log.specs.History.{SignedRecord};
 ghost use Rattle.warg_log.specs.Possible.{IsPossible};
 ghost use Rattle.warg_package_log.specs.StateLaws.{kind, AreSame};
@@ -36,12 +36,12 @@ use warg_records::package::PACKAGE_RECORD_VERSION;
 /// The releases of an accepted log are the front of those of each accepted log that goes on from
 /// it: none is lost, moved or changed, but that one that stood may have been yanked.
 pub fn extension()
-    ensures { (b : Belief) (es fs : List Letter) → IsAccepted kind b (es ++ fs) → IsExtension (kind.view_of es).whole.matter (kind.view_of (es ++ fs)).whole.matter }
+    ensures { (b : SignatureRelation) (es fs : List EnvelopeData) → IsAccepted kind b (es ++ fs) → IsExtension (kind.view_of es).whole.matter (kind.view_of (es ++ fs)).whole.matter }
 {}
 
 /// No two releases of an accepted log have the same version.
 pub fn distinct_versions()
-    ensures { (b : Belief) (es : List Letter) → IsAccepted kind b es → AreDistinct (versions (kind.view_of es).whole.matter) }
+    ensures { (b : SignatureRelation) (es : List EnvelopeData) → IsAccepted kind b es → AreDistinct (versions (kind.view_of es).whole.matter) }
 {}
 
 /// Errors are equal exactly if they tell the same offence, and only out of memory tells none.
@@ -52,24 +52,27 @@ pub fn errors_tell_apart()
 
 /// No version is yanked twice in an accepted log, so the Yank of a release is one.
 pub fn one_yank_each()
-    ensures { (b : Belief) (es : List Letter) → IsAccepted kind b es → OneYankEach (history es) }
+    ensures { (b : SignatureRelation) (es : List EnvelopeData) → IsAccepted kind b es → OneYankEach (history es) }
 {}
 
 /// The contents of an accepted log are records. Where it has any, their times never fall, the first
 /// alone has no prev, one Init stands, as the first entry of the first, and each id with an entry has a
 /// key.
 pub fn form()
-    ensures records { (b : Belief) (es : List Letter) → IsAccepted kind b es → All (λ e. IsOk (package_record_of e.content)) es }
-    ensures form { (b : Belief) (es : List Letter) → 0 < length es → IsAccepted kind b es → HasForm record_id_of (records_of es) }
+    ensures records { (b : SignatureRelation) (es : List EnvelopeData) → IsAccepted kind b es →
+        All (λ e. IsOk (package_record_of e.content)) es }
+    ensures form { (b : SignatureRelation) (es : List EnvelopeData) → 0 < length es → IsAccepted kind b es → HasForm record_id_of (records_of es) }
 {}
 
 /// A state that stands for a log tells what the log's history says: who holds what, who has
 /// an entry, whose key is which, the releases in order and the head, from which the look-ups answer.
-/// What `run` answers as a state is one for an accepted log, the letters of the strings.
+/// What `run` answers as a state is one for an accepted log, the envelopes of the strings.
 pub fn states_tell_history()
-    ensures stands { (s : State (Contents Permission) (List ReleaseView)) (es : List Letter) → StandsFor kind view_of s es → TellsHistory s es }
-    ensures run { let read = envelope_of package_record_of in let told_by = told (envelope_fault_of fault_of) offence_of in
-        (b : Belief) (strings : List (List ℕ)) (answer : Result (State (Contents Permission) (List ReleaseView)) (RunError ValidationError)) →
+    ensures stands { (s : State (Contents Permission) (List ReleaseView)) (es : List EnvelopeData) → StandsFor kind view_of s es → TellsHistory s es }
+    ensures run { let read = envelope_of package_record_of in
+        let told_by = told (envelope_fault_of fault_of) offence_of in
+        (b : SignatureRelation) (strings : List (List ℕ))
+        (answer : Result (State (Contents Permission) (List ReleaseView)) (RunError ValidationError)) →
         IfStarted (IsRun kind b read kind.view_of view_of told_by ◌≡◌ strings) answer →
         IfOk answer (λ s. IsAccepted kind b (read_all read strings) × TellsHistory s (read_all read strings)) }
 {}
@@ -77,27 +80,32 @@ pub fn states_tell_history()
 /// What is wrong with a record is never out of memory within another error, nor a second algorithm:
 /// no record is refused by `IncorrectHashAlgorithm`, or by a `SignatureError` but `Refused`.
 pub fn offences_are_possible()
-    ensures { (b : Belief) (v : View) (e : SignedRecord Permission PackageAct) → IfSome (record_offence b v e) IsPossible }
+    ensures { (b : SignatureRelation) (v : View) (e : SignedRecord Permission PackageOwnEntry) → IfSome (record_offence b v e) IsPossible }
 {}
 
 /// Heads, and what became of releases, are equal exactly if they are one, releases exactly if their fields
 /// are, a version by its numbers and texts, and states exactly if they answer alike.
 pub fn equality()
     ensures heads { (a b : Head) → (⟦<Head as PartialEq>⟧.eq a b ≡ true) ↔ (a ≡ b) }
-    ensures release_states { (a b : ReleaseState) → (⟦<crate::release::ReleaseState as PartialEq>⟧.eq a b ≡ true) ↔ (a ≡ b) }
-    ensures releases { (a b : Release) → (⟦<crate::release::Release as PartialEq>⟧.eq a b ≡ true) ↔ (release_view a ≡ release_view b) }
-    ensures states { (s t : State (Contents Permission) (List ReleaseView)) → (⟦<crate::state::LogState as PartialEq>⟧.eq s t ≡ true) ↔ AreSame (view_of s) (view_of t) }
+    ensures release_states { (a b : ReleaseState) → (⟦<crate::release::ReleaseState as PartialEq>⟧.eq a b ≡ true) ↔
+        (a ≡ b) }
+    ensures releases { (a b : Release) → (⟦<crate::release::Release as PartialEq>⟧.eq a b ≡ true) ↔
+        (release_view a ≡ release_view b) }
+    ensures states { (s t : State (Contents Permission) (List ReleaseView)) →
+        (⟦<crate::state::LogState as PartialEq>⟧.eq s t ≡ true) ↔ AreSame (view_of s) (view_of t) }
 {}
 
 /// A record's version is lawful exactly if it is at most `PACKAGE_RECORD_VERSION`, the newest, and not below the
 /// head's.
 pub fn newest_version()
-    ensures { (head : Option Head) (version : ℕ) → (version_offence {P = Permission} head version ≡ None) ↔ ((version ≤ PACKAGE_RECORD_VERSION) × IfSome head (λ h. h.version ≤ version)) }
+    ensures { (head : Option Head) (version : ℕ) → (version_offence {P = Permission} head version ≡ None) ↔
+        ((version ≤ PACKAGE_RECORD_VERSION) × IfSome head (λ h. h.version ≤ version)) }
 {}
 
 /// In an accepted log whose records all have version 1 no key brings itself in: each signer signed the
 /// first record, or an entry of an earlier record grants a permission to a key whose fingerprint is the
 /// signer's id.
 pub fn no_key_brings_itself_in()
-    ensures { (b : Belief) (es : List Letter) → IsAccepted kind b es → All (λ r. r.contents.version ≡ 1) (records_of es) → NoKeyBringsItselfIn (records_of es) }
+    ensures { (b : SignatureRelation) (es : List EnvelopeData) → IsAccepted kind b es →
+        All (λ r. r.contents.version ≡ 1) (records_of es) → NoKeyBringsItselfIn (records_of es) }
 {}

@@ -1,7 +1,6 @@
 //! The log of a package: its state, record after record.
 #![tactic(auto)]
 
-mod catalog;
 mod error;
 mod latest;
 pub mod laws;

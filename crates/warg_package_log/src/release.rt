@@ -3,6 +3,9 @@ ghost use Rattle.std.specs.Prelude.{◌≡◌, IfOk};
 ghost use Rattle.std.specs.Option.{option_copied};
 ghost use Rattle.std.specs.Cmp.{partial_equiv_from_equiv};
 
+mod json;
+mod saved;
+
 use semver::Version;
 use std::alloc::AllocError;
 use warg_crypto::Timestamp;
@@ -118,6 +121,19 @@ impl Release {
             ReleaseState::Released { content } => Some(content),
             ReleaseState::Yanked { .. } => None,
         }
+    }
+
+    /// A copy, with this state in place of its own.
+    pub(crate) fn with_state(&self, state: ReleaseState) -> Result<Release, AllocError>
+        ensures { IfOk result (λ copy. release_view copy ≡ record (release_view self.now) { state = state }) }
+    {
+        Ok(Release {
+            record_id: self.record_id,
+            version: self.version.clone()?,
+            by: self.by.clone()?,
+            timestamp: self.timestamp,
+            state,
+        })
     }
 
     /// The same release again.

@@ -1,0 +1,145 @@
+//! JSON of what a namespace is.
+ghost use Rattle.std.specs.Prelude.{◌≡◌, ◌==◌, [], length, string_bytes};
+ghost use Rattle.serde_json.specs.View.{members_view, view};
+ghost use Rattle.warg_crypto.specs.Json.{Answers, Gives};
+ghost use Rattle.warg_crypto.specs.Pairs.{names_of};
+ghost use Rattle.warg_operator_log.specs.NamespaceJson.{defined_in, imported_in, namespace_in, namespace_json, only_imported, saved_namespace_in, saved_namespace_json};
+ghost use Rattle.warg_operator_log.specs.NamespaceMap.{namespace_view};
+ghost use Rattle.warg_operator_log.specs.Namespaces.{Namespace};
+
+use crate::namespace::NamespaceState;
+use serde_json::{Map, Value};
+use std::alloc::Global;
+use warg_crypto::json::members::{
+    member_in, object_value, put_member, put_value, text_in, text_value,
+};
+use warg_crypto::{JsonError, JsonValue};
+use warg_saved::SavedValue;
+
+/// The JSON of an imported namespace.
+fn imported_value(alloc: Global, registry: &str) -> Result<Value, JsonError>
+    ensures { Gives view result (namespace_json (Namespace.Imported registry.now)) }
+{
+    let mut inner = Map::new(alloc);
+    let registry = text_value(alloc, registry)?;
+    put_member(&mut inner, alloc, "registry", registry)?;
+    let mut members = Map::new(alloc);
+    put_member(&mut members, alloc, "imported", object_value(inner))?;
+    Ok(object_value(members))
+}
+
+/// The JSON of what the namespace is.
+fn namespace_value(alloc: Global, state: &NamespaceState) -> Result<Value, JsonError>
+    ensures { Gives view result (namespace_json (namespace_view state.now)) }
+{
+    match state {
+        NamespaceState::Defined => text_value(alloc, "defined"),
+        NamespaceState::Imported { registry } => imported_value(alloc, registry.as_str()),
+    }
+}
+
+/// What the text of a namespace says.
+fn defined_in(text: &str) -> Result<NamespaceState, JsonError>
+    ensures { Gives namespace_view result (defined_in text.now) }
+{
+    if text == "defined" {
+        return Ok(NamespaceState::Defined);
+    }
+    Err(JsonError::BadText)
+}
+
+/// Whether there is one member.
+fn is_one(members: &Map<String, Value>) -> bool
+    ensures { result ≡ (length (names_of (members_view members.now.entries)) == 1) }
+{
+    members.len() == 1
+}
+
+/// The value of the member `imported`, where it is the only one, else `BadText`.
+fn only_imported<'v>(value: &'v Value, members: &Map<String, Value>) -> Result<&'v Value, JsonError>
+    ensures { Answers (λ v. view v.now) result (only_imported (view value.now) (members_view members.now.entries)) }
+{
+    if !is_one(members) {
+        return Err(JsonError::BadText);
+    }
+    member_in(value, "imported").map_err(|_| JsonError::BadText)
+}
+
+/// What the object of a namespace says.
+fn imported_in(
+    alloc: Global,
+    value: &Value,
+    members: &Map<String, Value>,
+) -> Result<NamespaceState, JsonError>
+    ensures { Gives namespace_view result (imported_in (view value.now) (members_view members.now.entries)) }
+{
+    let imported = only_imported(value, members)?;
+    let registry = text_in(member_in(imported, "registry")?)?;
+    Ok(NamespaceState::Imported {
+        registry: String::from_str(alloc, registry)?,
+    })
+}
+
+/// What the namespace is, by a text or an object.
+fn namespace_of(alloc: Global, value: &Value) -> Result<NamespaceState, JsonError>
+    ensures { Gives namespace_view result (namespace_in (view value.now)) }
+{
+    if let Some(text) = value.as_str() {
+        return defined_in(text);
+    }
+    let Some(members) = value.as_object() else {
+        return Err(JsonError::WrongType);
+    };
+    imported_in(alloc, value, members)
+}
+
+impl JsonValue for NamespaceState {
+    ghost Plain = { Namespace };
+
+    ghost plain = { namespace_view };
+
+    ghost writes = { namespace_json };
+
+    ghost reads = { namespace_in };
+
+    ghost versions = { λ _. [] };
+
+    ghost same = { λ x y. x ≡ y };
+
+    fn to_value(&self, alloc: Global) -> Result<Value, JsonError> {
+        namespace_value(alloc, self)
+    }
+
+    fn from_value(alloc: Global, value: &Value) -> Result<NamespaceState, JsonError> {
+        namespace_of(alloc, value)
+    }
+}
+
+/// The JSON of a namespace in a state.
+fn saved_value(alloc: Global, state: &NamespaceState) -> Result<Value, JsonError>
+    ensures { Gives view result (saved_namespace_json (namespace_view state.now)) }
+{
+    let mut members = Map::new(alloc);
+    put_value(&mut members, alloc, "state", state)?;
+    Ok(object_value(members))
+}
+
+impl SavedValue for NamespaceState {
+    ghost Plain = { Namespace };
+
+    ghost plain = { namespace_view };
+
+    ghost writes = { saved_namespace_json };
+
+    ghost reads = { saved_namespace_in };
+
+    ghost versions = { λ _. [] };
+
+    fn save(&self, alloc: Global) -> Result<Value, JsonError> {
+        saved_value(alloc, self)
+    }
+
+    fn load(alloc: Global, value: &Value) -> Result<NamespaceState, JsonError> {
+        NamespaceState::from_value(alloc, member_in(value, "state")?)
+    }
+}

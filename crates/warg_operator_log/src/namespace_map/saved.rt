@@ -1,0 +1,26 @@
+//! The namespaces of a log as their map, which is saved and restored.
+ghost use Rattle.std.specs.Prelude.{◌≡◌, None, string_bytes};
+ghost use Rattle.warg_crypto.specs.Pairs.{plain_pairs};
+ghost use Rattle.warg_operator_log.specs.NamespaceMap.{namespace_view};
+ghost use Rattle.warg_operator_log.specs.SavedState.{namespaces_case};
+
+use crate::namespace::NamespaceState;
+use crate::namespace_map::NamespaceMap;
+use indexmap::IndexMap;
+
+impl NamespaceMap {
+    /// The namespaces by their names.
+    pub(crate) fn as_map(&self) -> &IndexMap<String, NamespaceState>
+        ensures { plain_pairs string_bytes namespace_view result.now.entries ≡ self.now }
+    {
+        &self.map
+    }
+
+    /// The namespaces of the map, whose names have to be kebab names.
+    pub(crate) fn restore(namespaces: IndexMap<String, NamespaceState>) -> NamespaceMap
+        requires { namespaces_case (plain_pairs string_bytes namespace_view namespaces.entries) ≡ None }
+        ensures { result ≡ plain_pairs string_bytes namespace_view namespaces.entries }
+    {
+        NamespaceMap { map: namespaces }
+    }
+}

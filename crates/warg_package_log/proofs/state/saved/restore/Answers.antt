@@ -1,0 +1,20 @@
+use Rattle.std.proofs.Common.{◌≡◌, List, sym, subst, ap, ◌∙◌}
+use Rattle.warg_records.specs.PackagePermissions.{same_permission}
+use Rattle.warg_log.specs.History.{IsCoherent}
+use Rattle.warg_package_log.specs.Releases.{ReleaseView, rules}
+use Rattle.warg_package_log.specs.SavedParts.{parts_view}
+use Rattle.warg_package_log.specs.SavedState.{state_of}
+use Rattle.warg_package_log.specs.State.{view_of}
+use Rattle.warg_package_log.proofs.SavedStates.{coherent_state, filed_releases}
+use Rattle.warg_package_log.proofs.state.saved.restore.Goals as goal
+
+pub restore-releases-requires : goal.restore-releases-requires
+restore-releases-requires c = filed_releases (parts_view c.args.parts) c.requires
+
+pub restore-requires : goal.restore-requires
+restore-requires c =
+    subst (λ (rs : List ReleaseView). IsCoherent rules same_permission (view_of (record (state_of (parts_view c.args.parts)) { matter = rs })))
+    (sym c.restore-releases.ensures) (coherent_state (parts_view c.args.parts) c.requires)
+
+pub returns : goal.returns
+returns c = c.restore.ensures ∙ ap (λ (rs : List ReleaseView). record (state_of (parts_view c.args.parts)) { matter = rs }) c.restore-releases.ensures

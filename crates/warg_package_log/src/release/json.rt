@@ -1,0 +1,163 @@
+//! JSON of releases.
+
+ghost use Rattle.std.specs.Prelude.{◌≡◌, [], ◌∷◌, codes, Ok, IfOk};
+ghost use Rattle.semver.specs.Identifiers.{parts_of};
+ghost use Rattle.serde_json.specs.View.{members_view, view};
+ghost use Rattle.warg_crypto.specs.Json.{AreReadBack, Gives, wrote};
+ghost use Rattle.warg_package_log.specs.Catalog.{release_view};
+ghost use Rattle.warg_package_log.specs.ReleaseJson.{release_in, release_json, release_state_in, release_state_json, released_in, state_of, status_member, version_in, version_json, yanked_in};
+ghost use Rattle.warg_package_log.specs.Releases.{ReleaseView};
+ghost use Rattle.warg_package_log.specs.declared.release.ReleaseState.{ReleaseState};
+ghost use Rattle.warg_package_log.specs.declared.release.ReleaseState.TheVariants.{Released, Yanked};
+
+use crate::release::{Release, ReleaseState};
+use semver::Version;
+use serde_json::{Map, Value};
+use std::alloc::{AllocError, Global};
+use warg_crypto::hash::AnyHash;
+use warg_crypto::json::members::{
+    member_in, object_value, put_member, put_value, string_value, text_in, text_value,
+};
+use warg_crypto::signing::KeyID;
+use warg_crypto::{JsonError, JsonValue, Timestamp};
+use warg_records::registry::RecordId;
+
+/// The text of the version.
+fn version_value(alloc: Global, version: &Version) -> Result<Value, JsonError>
+    ensures written { Gives view result (version_json (parts_of version.now)) }
+    ensures back { AreReadBack (parts_of version.now ∷ []) →
+        IfOk result (λ v. version_in (view v) ≡ Ok (parts_of version.now)) }
+{
+    Ok(string_value(version.to_string(alloc)?))
+}
+
+/// The version of a text.
+fn version_in(alloc: Global, value: &Value) -> Result<Version, JsonError>
+    ensures { Gives parts_of result (version_in (view value.now)) }
+{
+    let text = text_in(value)?;
+    match Version::parse(alloc, text) {
+        Ok(version) => Ok(version),
+        Err(error) => Err(if error == semver::Error::from(AllocError) {
+            JsonError::OutOfMemory
+        } else {
+            JsonError::BadText
+        }),
+    }
+}
+
+/// The status as the first member of a state.
+fn status_member(alloc: Global, status: &str) -> Result<Map<String, Value>, JsonError>
+    ensures { Gives (λ map. members_view map.entries) result (wrote (status_member status.now)) }
+{
+    let mut map = Map::new(alloc);
+    put_member(&mut map, alloc, "status", text_value(alloc, status)?)?;
+    Ok(map)
+}
+
+/// The state of a release that stands, as JSON.
+fn released_value(alloc: Global, content: &AnyHash) -> Result<Value, JsonError>
+    ensures written { Gives view result (release_state_json (Released content.now)) }
+    ensures back { IfOk result (λ v. release_state_in (view v) ≡ Ok (Released content.now)) }
+{
+    let mut map = status_member(alloc, "released")?;
+    put_value(&mut map, alloc, "content", content)?;
+    Ok(object_value(map))
+}
+
+/// The state of a release that was yanked, as JSON.
+fn yanked_value(alloc: Global, by: &KeyID, timestamp: &Timestamp) -> Result<Value, JsonError>
+    ensures written { Gives view result (release_state_json (Yanked by.now timestamp.now)) }
+    ensures back { IfOk result (λ v. release_state_in (view v) ≡ Ok (Yanked by.now timestamp.now)) }
+{
+    let mut map = status_member(alloc, "yanked")?;
+    put_value(&mut map, alloc, "by", by)?;
+    put_value(&mut map, alloc, "timestamp", timestamp)?;
+    Ok(object_value(map))
+}
+
+/// The state of a release that stands.
+fn released_in(alloc: Global, value: &Value) -> Result<ReleaseState, JsonError>
+    ensures { Gives (λ s. s) result (released_in (view value.now)) }
+{
+    let content = AnyHash::from_value(alloc, member_in(value, "content")?)?;
+    Ok(ReleaseState::Released { content })
+}
+
+/// The state of a release that was yanked.
+fn yanked_in(alloc: Global, value: &Value) -> Result<ReleaseState, JsonError>
+    ensures { Gives (λ s. s) result (yanked_in (view value.now)) }
+{
+    let by = KeyID::from_value(alloc, member_in(value, "by")?)?;
+    let timestamp = Timestamp::from_value(alloc, member_in(value, "timestamp")?)?;
+    Ok(ReleaseState::Yanked { by, timestamp })
+}
+
+impl JsonValue for ReleaseState {
+    ghost Plain = { ReleaseState };
+
+    ghost plain = { λ s. s };
+
+    ghost writes = { release_state_json };
+
+    ghost reads = { release_state_in };
+
+    ghost versions = { λ _. [] };
+
+    ghost same = { λ x y. x ≡ y };
+
+    fn to_value(&self, alloc: Global) -> Result<Value, JsonError> {
+        match self {
+            ReleaseState::Released { content } => released_value(alloc, content),
+            ReleaseState::Yanked { by, timestamp } => yanked_value(alloc, by, timestamp),
+        }
+    }
+
+    fn from_value(alloc: Global, value: &Value) -> Result<ReleaseState, JsonError> {
+        match text_in(member_in(value, "status")?)? {
+            "released" => released_in(alloc, value),
+            "yanked" => yanked_in(alloc, value),
+            _ => Err(JsonError::BadText),
+        }
+    }
+}
+
+impl JsonValue for Release {
+    ghost Plain = { ReleaseView };
+
+    ghost plain = { release_view };
+
+    ghost writes = { release_json };
+
+    ghost reads = { release_in };
+
+    ghost versions = { λ r. r.version ∷ [] };
+
+    ghost same = { λ x y. x ≡ y };
+
+    fn to_value(&self, alloc: Global) -> Result<Value, JsonError> {
+        let mut map = Map::new(alloc);
+        put_value(&mut map, alloc, "recordId", &self.record_id)?;
+        let version = version_value(alloc, &self.version)?;
+        put_member(&mut map, alloc, "version", version)?;
+        put_value(&mut map, alloc, "by", &self.by)?;
+        put_value(&mut map, alloc, "timestamp", &self.timestamp)?;
+        put_value(&mut map, alloc, "state", &self.state)?;
+        Ok(object_value(map))
+    }
+
+    fn from_value(alloc: Global, value: &Value) -> Result<Release, JsonError> {
+        let record_id = RecordId::from_value(alloc, member_in(value, "recordId")?)?;
+        let version = version_in(alloc, member_in(value, "version")?)?;
+        let by = KeyID::from_value(alloc, member_in(value, "by")?)?;
+        let timestamp = Timestamp::from_value(alloc, member_in(value, "timestamp")?)?;
+        let state = ReleaseState::from_value(alloc, member_in(value, "state")?)?;
+        Ok(Release {
+            record_id,
+            version,
+            by,
+            timestamp,
+            state,
+        })
+    }
+}

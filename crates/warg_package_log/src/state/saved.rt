@@ -1,0 +1,150 @@
+//! The state of a package log as JSON.
+ghost use Rattle.std.specs.Prelude.{◌≡◌, ◌&&◌, [], ◌∷◌, None};
+ghost use Rattle.std.specs.List.{list_any};
+ghost use Rattle.semver.specs.Identifiers.{parts_of};
+ghost use Rattle.serde_json.specs.View.{view};
+ghost use Rattle.warg_crypto.specs.Json.{Gives};
+ghost use Rattle.warg_crypto.specs.Pairs.{plain_pairs};
+ghost use Rattle.warg_saved.specs.Fit.{RefusesCase, first_case, is_nil, keys_case, rights_case, version_case};
+ghost use Rattle.warg_package_log.specs.Catalog.{release_view};
+ghost use Rattle.warg_package_log.specs.SavedParts.{parts_view};
+ghost use Rattle.warg_package_log.specs.SavedState.{head_version, incoherence, is_misfiled, parts_in, releases_case, state_in, state_json, state_of};
+
+use crate::release::Release;
+use crate::release_map::ReleaseMap;
+use crate::state::LogState;
+use indexmap::{IndexMap, IndexSet};
+use semver::Version;
+use serde_json::{Map, Value};
+use std::alloc::Global;
+use warg_crypto::hash::HashAlgorithm;
+use warg_crypto::json::members::object_value;
+use warg_crypto::signing::{KeyID, PublicKey};
+use warg_crypto::{Incoherence, JsonError};
+use warg_log::{Head, Log, head_member, head_version, put_head};
+use warg_records::package::Permission;
+use warg_saved::{
+    algorithm_member, are_no_keys, check_begun, check_empty, check_keys, check_rights,
+    check_version, is_empty, keys_member, map_member, put_algorithm, put_keys, put_map,
+};
+
+/// What is read of a state's members.
+#[derive(Drop)]
+pub(crate) struct SavedParts {
+    algorithm: Option<HashAlgorithm>,
+    head: Option<Head>,
+    rights: IndexMap<KeyID, IndexSet<Permission>>,
+    releases: IndexMap<Version, Release>,
+    keys: IndexMap<KeyID, PublicKey>,
+}
+
+/// The parts of a state, or the first fault of its members.
+fn read_parts(alloc: Global, value: &Value) -> Result<SavedParts, JsonError>
+    ensures { Gives parts_view result (parts_in (view value.now)) }
+{
+    let algorithm = algorithm_member(alloc, value)?;
+    let head = head_member(alloc, value)?;
+    let rights = map_member::<KeyID, IndexSet<Permission>>(alloc, value, "permissions")?;
+    let releases = map_member::<Version, Release>(alloc, value, "releases")?;
+    let keys = keys_member(alloc, value)?;
+    Ok(SavedParts {
+        algorithm,
+        head,
+        rights,
+        releases,
+        keys,
+    })
+}
+
+/// Whether some release stands under another version than its own.
+fn has_misfiled(releases: &IndexMap<Version, Release>) -> bool
+    ensures { result ≡ list_any is_misfiled (plain_pairs parts_of release_view releases.now.entries) }
+{
+    'releases: for (version, release) in releases.iter() {
+        if *version != release.version {
+            return true;
+        }
+    }
+    false
+}
+
+/// Refuses a release that stands under another version than its own.
+fn check_releases(releases: &IndexMap<Version, Release>) -> Result<(), JsonError>
+    ensures { RefusesCase (releases_case (plain_pairs parts_of release_view releases.now.entries)) result }
+{
+    if has_misfiled(releases) {
+        return Err(JsonError::Incoherent(Incoherence::ReleaseUnderOtherVersion));
+    }
+    Ok(())
+}
+
+/// Whether the maps are empty.
+fn are_empty(parts: &SavedParts) -> bool
+    ensures { result ≡ (is_nil (parts_view parts.now).rights &&
+        (is_nil (parts_view parts.now).releases && is_nil (parts_view parts.now).keys)) }
+{
+    is_empty(&parts.rights) && is_empty(&parts.releases) && are_no_keys(&parts.keys)
+}
+
+/// Refuses maps that do not fit together, then a head of a version that no log has.
+fn check_maps(alloc: Global, parts: &SavedParts) -> Result<(), JsonError>
+    ensures { RefusesCase (first_case (releases_case (parts_view parts.now).releases ∷ keys_case
+        (parts_view parts.now).keys
+        ∷ rights_case (parts_view parts.now).rights (parts_view parts.now).keys ∷ version_case (head_version (parts_view parts.now).head) ∷ [])) result }
+{
+    check_releases(&parts.releases)?;
+    check_keys(alloc, &parts.keys)?;
+    check_rights(&parts.rights, &parts.keys)?;
+    check_version(head_version(&parts.head))
+}
+
+/// Refuses parts that do not fit together.
+fn check_parts(alloc: Global, parts: &SavedParts) -> Result<(), JsonError>
+    ensures { RefusesCase (incoherence (parts_view parts.now)) result }
+{
+    check_begun(&parts.algorithm, head_version(&parts.head))?;
+    check_empty(&parts.algorithm, are_empty(parts))?;
+    check_maps(alloc, parts)
+}
+
+/// The log of parts that fit together.
+fn restore(alloc: Global, parts: SavedParts) -> Log<ReleaseMap>
+    requires { incoherence (parts_view parts) ≡ None }
+    ensures { result ≡ state_of (parts_view parts) }
+{
+    let releases = ReleaseMap::restore(parts.releases);
+    Log::restore(
+        alloc,
+        parts.algorithm,
+        parts.rights,
+        parts.keys,
+        releases,
+        parts.head,
+    )
+}
+
+impl LogState {
+    /// The JSON of the state. `TimeBeforeEpoch`: a time that is to be written lies before the epoch.
+    pub fn to_value(&self, alloc: Global) -> Result<Value, JsonError>
+        ensures { Gives view result (state_json self.now) }
+    {
+        let mut members = Map::new(alloc);
+        put_algorithm(&mut members, alloc, self.log.algorithm())?;
+        put_head(&mut members, alloc, self.log.head())?;
+        put_map(&mut members, alloc, "permissions", self.log.permissions())?;
+        put_map(&mut members, alloc, "releases", self.log.matter().as_map())?;
+        put_keys(&mut members, alloc, self.log.keys())?;
+        Ok(object_value(members))
+    }
+
+    /// The state of JSON, or its first fault, or else the first thing in it that does not fit together.
+    pub fn from_value(alloc: Global, value: &Value) -> Result<LogState, JsonError>
+        ensures { Gives (λ s. s) result (state_in (view value.now)) }
+    {
+        let parts = read_parts(alloc, value)?;
+        check_parts(alloc, &parts)?;
+        Ok(LogState {
+            log: restore(alloc, parts),
+        })
+    }
+}
