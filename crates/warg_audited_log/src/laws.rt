@@ -1,8 +1,8 @@
 //! Laws over all logs of a kind. They have no effect.
 ghost use Rattle.std.specs.Prelude.{◌≡◌, ◌↔◌, ◌⊎◌, ◌<◌, ◌+◌, ◌++◌, ℕ, List, [], length, take, Some, slice_index_or, true, false};
-ghost use Rattle.warg_records.specs.Letters.{Letter};
+ghost use Rattle.warg_records.specs.EnvelopeData.{EnvelopeData};
 ghost use Rattle.warg_validator.specs.Effects.{holds};
-ghost use Rattle.warg_validator.specs.Kinds.{Belief, IsAccepted};
+ghost use Rattle.warg_validator.specs.Kinds.{SignatureRelation, IsAccepted};
 ghost use Rattle.warg_audited_log.specs.Chains.{Entry, entries_of, held_by, IsHeld};
 ghost use Rattle.warg_audited_log.specs.Extinction.{StaysExtinct};
 ghost use Rattle.warg_audited_log.specs.Heads.{HaveCollision};
@@ -13,33 +13,37 @@ use warg_validator::Validator;
 /// Accepted logs with equal heads have equal content bytes, record for record, or two of their records
 /// collide, whoever verified them.
 pub fn equal_heads<L: Validator>()
-    ensures { (b d : Belief) (es fs : List Letter) → IsAccepted L.kind b es → IsAccepted L.kind d fs →
+    ensures { (b d : SignatureRelation) (es fs : List EnvelopeData) → IsAccepted L.kind b es → IsAccepted L.kind d fs →
         L.kind.head (L.kind.view_of es) ≡ L.kind.head (L.kind.view_of fs) →
         (contents es ≡ contents fs) ⊎ HaveCollision L.kind.id (contents es) (contents fs) }
 {}
 
 /// Accepted logs with equal content bytes, record for record, have one head.
 pub fn equal_contents<L: Validator>()
-    ensures { (b d : Belief) (es fs : List Letter) → IsAccepted L.kind b es → IsAccepted L.kind d fs →
+    ensures { (b d : SignatureRelation) (es fs : List EnvelopeData) → IsAccepted L.kind b es → IsAccepted L.kind d fs →
         contents es ≡ contents fs → L.kind.head (L.kind.view_of es) ≡ L.kind.head (L.kind.view_of fs) }
 {}
 
 /// An accepted log whose head is the id of a record of another has the contents of the other up to that
 /// record, or two of their records collide.
 pub fn fronts<L: Validator>()
-    ensures { (b d : Belief) (es fs : List Letter) (n : ℕ) → IsAccepted L.kind b es → IsAccepted L.kind d fs → n < length fs →
+    ensures { (b d : SignatureRelation) (es fs : List EnvelopeData) (n : ℕ) → IsAccepted L.kind b es →
+        IsAccepted L.kind d fs → n < length fs →
         L.kind.head (L.kind.view_of es) ≡ Some (L.kind.id (slice_index_or (contents fs) n [])) →
         (contents es ≡ take (n + 1) (contents fs)) ⊎ HaveCollision L.kind.id (contents es) (contents fs) }
 {}
 
 /// A permission that no key id holds after the records of a log that has any, none holds after more of them.
 pub fn extinction<L: Validator>()
-    ensures { (b : Belief) (es fs : List Letter) → IsAccepted L.kind b (es ++ fs) → StaysExtinct L.effects es (es ++ fs) }
+    ensures { (b : SignatureRelation) (es fs : List EnvelopeData) → IsAccepted L.kind b (es ++ fs) →
+        StaysExtinct L.effects es (es ++ fs) }
 {}
 
 /// A key id holds a permission after entries exactly if the last of them that speaks of both gives it, and the
 /// entries of records are all of theirs, in one list.
 pub fn last_entry_decides<L: Validator>()
-    ensures held { (h : List (Entry L.Permission)) (k : List ℕ) (p : L.Permission) → (held_by false h k p ≡ true) ↔ IsHeld h k p }
-    ensures records { (es : List Letter) (k : List ℕ) (p : L.Permission) → held_by false (entries_of L.effects es) k p ≡ holds L.effects es k p }
+    ensures held { (h : List (Entry L.Permission)) (k : List ℕ) (p : L.Permission) → (held_by false h k p ≡ true) ↔
+        IsHeld h k p }
+    ensures records { (es : List EnvelopeData) (k : List ℕ) (p : L.Permission) →
+        held_by false (entries_of L.effects es) k p ≡ holds L.effects es k p }
 {}

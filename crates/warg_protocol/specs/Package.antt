@@ -2,11 +2,16 @@
 -- the rules, and what content bytes are as a record
 pub use Rattle.warg_package_log.specs.StateLaws.{kind, effects}
 pub use Rattle.warg_records.specs.PackageReading.{package_record_of}
-pub use Rattle.warg_records.specs.PackageEntries.{reading, said}
+pub use Rattle.warg_records.specs.PackageEntries.{PackageOwnEntry, entry_data, record_data}
 -- what a state stands for: `(view_of s).whole.authority.holds`, `.key`, `.has_entry`, `(view_of s).whole.matter`, `(view_of s).head`
 pub use Rattle.warg_package_log.specs.State.{View, view_of, plain_envelope, offence_of, record_offence, after_record}
+pub use Rattle.warg_records.specs.declared.package.permission.Permission.{Permission}
 pub use Rattle.warg_records.specs.PackagePermissions.{same_permission}
+-- the offences that package logs alone have, and the names of all offences
+pub use Rattle.warg_package_log.specs.Releases.{OwnOffence}
+pub use Rattle.warg_package_log.specs.OffenceNames.{offence_name}
 -- the releases that a state shows
+pub use Rattle.warg_package_log.specs.declared.release.ReleaseState.{ReleaseState}
 pub use Rattle.warg_package_log.specs.Releases.{ReleaseView, versions, is_yanked, content_of}
 pub use Rattle.warg_package_log.specs.Catalog.{release_view, find_in, AreDistinct}
 pub use Rattle.warg_package_log.specs.Latest.{IsGreatest, shows_candidate, shown_cmp}

@@ -1,8 +1,8 @@
 //! The protocol of a package registry: records of operator and package logs in signed envelopes, the
 //! states that they add up to, the reading of whole logs, and logs that are kept and compared.
 //!
-//! A program that lists this crate alone reaches all that it needs: what the crates below prove is handed
-//! on here under one roof, with its laws in `laws`, and in `specs/` what a clause of one's own may cite.
+//! A program that lists this crate alone reaches all that it needs: this crate re-exports what the crates
+//! below prove, their laws in `laws`, and in `specs/` what a clause of one's own may cite.
 #![tactic(auto)]
 
 pub mod laws;
@@ -15,7 +15,8 @@ pub use semver::Error as VersionParseError;
 pub use warg_audited_log::{AuditedLog, HeadComparison, Link};
 pub use warg_crypto::{
     ByteVisitor, Clock, Decode, DecodeError, Encode, Incoherence, JsonError, JsonValue, Signable,
-    SystemClock, TimeError, Timestamp, VisitBytes, WireFault, hash, json, prefix, signing, toy,
+    SystemClock, TimeError, Timestamp, VisitBytes, WireFault, digits, hash, json, prefix, signing,
+    toy,
 };
 pub use warg_protobuf::{Envelope, EnvelopeView, Message, WireError};
 pub use warg_records::{

@@ -1,0 +1,2 @@
+-- The cases of `ReleaseState`.
+pub use Rattle.warg_package_log.specs.declared.release.ReleaseState.TheVariants.{Released, Yanked}

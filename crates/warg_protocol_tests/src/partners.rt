@@ -1,0 +1,180 @@
+//! Verifiers and signers that refuse, or that find no memory.
+ghost use Rattle.std.specs.Prelude.{false, ⊤};
+ghost use Rattle.warg_protocol.specs.Records.{toy_belongs};
+
+use crate::fault::cause;
+use crate::people::signer;
+use crate::script::{Scripted, string_of};
+use std::alloc::Global;
+use std::cell::Cell;
+use std::fmt::Debug;
+use std::process::Abort;
+use std::test::Fail;
+use warg_protocol::signing::{PublicKey, Signature, SignatureError, Signer, Verifier};
+use warg_protocol::toy::{ToySigner, ToyVerifier};
+use warg_protocol::{
+    AuditedLog, ProtoEnvelope, RunCause, RunError, Signable, Timestamp, operator, package, run,
+};
+
+// Takes no signature.
+#[derive(Drop)]
+struct Never;
+
+impl Verifier for Never {
+    ghost belongs = { λ _ _ _ _. false };
+
+    fn verify(
+        &self,
+        _alloc: Global,
+        _key: &PublicKey,
+        _message: &[u8],
+        _signature: &Signature,
+    ) -> Result<(), SignatureError> {
+        Err(SignatureError::Refused)
+    }
+}
+
+// Finds no memory once, and then judges as the toy scheme does.
+#[derive(Drop)]
+struct Poor {
+    has_memory: Cell<bool>,
+}
+
+impl Verifier for Poor {
+    ghost belongs = { λ _ key message signature. toy_belongs key message signature };
+
+    fn verify(
+        &self,
+        alloc: Global,
+        key: &PublicKey,
+        message: &[u8],
+        signature: &Signature,
+    ) -> Result<(), SignatureError> {
+        if !self.has_memory.get() {
+            self.has_memory.set(true);
+            return Err(SignatureError::OutOfMemory);
+        }
+        ToyVerifier.verify(alloc, key, message, signature)
+    }
+}
+
+fn without_memory() -> Poor {
+    Poor {
+        has_memory: Cell::new(false),
+    }
+}
+
+// The envelope that begins a log.
+fn first<L: Scripted>(alloc: Global) -> Result<Vec<u8>, Fail> {
+    string_of::<L>(alloc, &mut None, "alice 1.0: init alice")
+}
+
+// The first record is refused under this verifier, for this cause.
+fn refuses<L: Scripted, V: Verifier>(
+    rt: &impl Abort,
+    alloc: Global,
+    verifier: &V,
+    words: &str,
+) -> Result<(), Fail>
+where
+    L::Error: Debug + PartialEq,
+{
+    let strings = vec![in alloc; first::<L>(alloc)?]?;
+    let cause = cause::<L>(alloc, words)?;
+    let error = run::<L, V>(alloc, verifier, strings.as_slice()).err();
+    assert_eq!(rt; error, Some(RunError { index: 0, cause }));
+    Ok(())
+}
+
+#[test]
+fn a_verifier_may_refuse(rt: HostRuntime) -> Result<(), Fail> {
+    refuses::<package::LogState, Never>(&rt, rt.alloc(), &Never, "SignatureError")?;
+    refuses::<operator::LogState, Never>(&rt, rt.alloc(), &Never, "SignatureError")?;
+    refuses::<package::LogState, Poor>(&rt, rt.alloc(), &without_memory(), "OutOfMemory")?;
+    refuses::<operator::LogState, Poor>(&rt, rt.alloc(), &without_memory(), "OutOfMemory")
+}
+
+// Whether the cause stands for out of memory, and for nothing else.
+fn is_out_of_memory<L: Scripted>(cause: &RunCause<L::Error>) -> bool {
+    match cause {
+        RunCause::Parse(_) => false,
+        RunCause::Validation(error) => L::is_out_of_memory(error),
+    }
+}
+
+// A log whose verifier finds no memory once takes the same bytes then.
+fn takes_later<L: Scripted>(rt: &impl Abort, alloc: Global) -> Result<(), Fail>
+where
+    L::Error: Debug,
+{
+    let mut log = AuditedLog::<L, Poor>::new(alloc, without_memory())?;
+    let string = first::<L>(alloc)?;
+    let refused = log.append(string.as_slice());
+    assert!(rt; refused.is_err_and(|cause| is_out_of_memory::<L>(&cause)));
+    assert!(rt; log.records().is_empty() && *log.state() == L::new(alloc)?);
+    assert!(rt; log.append(string.as_slice()).is_ok() && log.records().len() == 1);
+    Ok(())
+}
+
+#[test]
+fn a_log_goes_on_after_refused_memory(rt: HostRuntime) -> Result<(), Fail> {
+    takes_later::<package::LogState>(&rt, rt.alloc())?;
+    takes_later::<operator::LogState>(&rt, rt.alloc())
+}
+
+// Signs nothing.
+#[derive(Drop)]
+struct Unwilling {
+    signer: ToySigner,
+    error: SignatureError,
+}
+
+impl Signer for Unwilling {
+    ghost key_of = { λ s. s.signer };
+
+    ghost gives = { λ _ _ _. ⊤ };
+
+    ghost refuses = { λ _ _. ⊤ };
+
+    fn public_key(&self) -> &PublicKey {
+        self.signer.public_key()
+    }
+
+    fn sign(&self, _alloc: Global, _message: &[u8]) -> Result<Signature, SignatureError> {
+        Err(self.error)
+    }
+}
+
+// Whether nothing comes of the contents where their signer answers this error.
+fn is_unsigned<C: Signable + Drop>(
+    alloc: Global,
+    contents: C,
+    error: SignatureError,
+) -> Result<bool, Fail> {
+    let signer = signer(alloc, "alice")?;
+    let unwilling = Unwilling { signer, error };
+    let signed = ProtoEnvelope::signed_contents(alloc, &unwilling, contents);
+    Ok(signed.is_err_and(|found| found == error))
+}
+
+#[test]
+fn a_signer_may_refuse(rt: HostRuntime) -> Result<(), Fail> {
+    let alloc = rt.alloc();
+    for error in [SignatureError::Refused, SignatureError::OutOfMemory] {
+        let record = package::PackageRecord {
+            prev: None,
+            version: 0,
+            timestamp: Timestamp::new(1, 0),
+            entries: Vec::new(alloc),
+        };
+        assert!(rt; is_unsigned(alloc, record, error)?);
+        let record = operator::OperatorRecord {
+            prev: None,
+            version: 0,
+            timestamp: Timestamp::new(1, 0),
+            entries: Vec::new(alloc),
+        };
+        assert!(rt; is_unsigned(alloc, record, error)?);
+    }
+    Ok(())
+}

@@ -1,0 +1,304 @@
+//! Saved states of package logs.
+use crate::people::signer;
+use crate::play::{log_of, makes, state_of};
+use crate::saved::{ALICE, are_refused, are_refused_begun, begun, comes_back, load, text_of};
+use crate::script::envelope_of;
+use std::alloc::Global;
+use std::process::Abort;
+use std::test::Fail;
+use warg_protocol::hash::HashAlgorithm;
+use warg_protocol::package::{LogState, PackageRecord, ValidationError};
+use warg_protocol::registry::RecordId;
+use warg_protocol::toy::ToyVerifier;
+use warg_protocol::{Decode, Incoherence, JsonError, ProtoEnvelope};
+
+const HOSTILE: &[(&str, JsonError)] = &[
+    ("[]", JsonError::WrongType),
+    ("null", JsonError::WrongType),
+    ("\"\"", JsonError::WrongType),
+    ("{\"algorithm\":\"md5\",\"head\":7}", JsonError::BadText),
+    ("{\"algorithm\":7}", JsonError::WrongType),
+    ("{\"head\":7}", JsonError::WrongType),
+    ("{\"head\":{}}", JsonError::Missing),
+    ("{\"permissions\":null}", JsonError::WrongType),
+    ("{\"releases\":null}", JsonError::WrongType),
+    ("{\"keys\":null}", JsonError::WrongType),
+    ("{\"keys\":[]}", JsonError::WrongType),
+    ("{\"keys\":{\"x\":null}}", JsonError::WrongType),
+    ("{\"keys\":{\"x\":\"toy\"}}", JsonError::BadText),
+    ("{\"permissions\":{\"x\":null}}", JsonError::WrongType),
+    ("{\"permissions\":{\"x\":\"yank\"}}", JsonError::WrongType),
+    ("{\"permissions\":{\"x\":[1]}}", JsonError::WrongType),
+    ("{\"permissions\":{\"x\":[\"commit\"]}}", JsonError::BadText),
+    ("{\"permissions\":{\"x\":[\"Yank\"]}}", JsonError::BadText),
+    ("{\"releases\":{\"1.0\":7}}", JsonError::BadText),
+    ("{\"releases\":{\"01.0.0\":7}}", JsonError::BadText),
+    ("{\"releases\":{\"1.0.0\":7}}", JsonError::WrongType),
+    ("{\"releases\":{\"1.0.0\":{}}}", JsonError::Missing),
+    ("{\"releases\":{\"1.0.0\":7,\"1\":7}}", JsonError::BadText),
+    ("{\"releases\":{\"1.0\":7},\"keys\":7}", JsonError::BadText),
+    (
+        "{\"permissions\":7,\"releases\":{\"1.0\":7}}",
+        JsonError::WrongType,
+    ),
+    (
+        "{\"algorithm\":\"sha256\"}",
+        JsonError::Incoherent(Incoherence::AlgorithmWithoutHead),
+    ),
+    (
+        "{\"algorithm\":\"md5\",\"algorithm\":\"sha256\"}",
+        JsonError::Incoherent(Incoherence::AlgorithmWithoutHead),
+    ),
+    (
+        "{\"algorithm\":\"sha256\",\"keys\":{\"x\":\"toy:\"}}",
+        JsonError::Incoherent(Incoherence::AlgorithmWithoutHead),
+    ),
+    (
+        "{\"permissions\":{\"x\":[]}}",
+        JsonError::Incoherent(Incoherence::StateWithoutInit),
+    ),
+    (
+        "{\"keys\":{\"x\":\"toy:\"}}",
+        JsonError::Incoherent(Incoherence::StateWithoutInit),
+    ),
+];
+
+const HOSTILE_BEGUN: &[(&str, JsonError)] = &[
+    (
+        ",\"keys\":{\"x\":\"toy:YWxpY2U=\"}",
+        JsonError::Incoherent(Incoherence::KeyUnderOtherFingerprint),
+    ),
+    (
+        ",\"permissions\":{\"x\":[]}",
+        JsonError::Incoherent(Incoherence::PermissionsWithoutKey),
+    ),
+    (
+        ",\"keys\":{\"x\":\"toy:YWxpY2U=\"},\"permissions\":{\"y\":[]}",
+        JsonError::Incoherent(Incoherence::KeyUnderOtherFingerprint),
+    ),
+    (
+        ",\"releases\":{\"1.0.0\":{}},\"keys\":{\"x\":\"toy\"}",
+        JsonError::Missing,
+    ),
+];
+
+#[test]
+fn hostile_texts_are_refused(rt: HostRuntime) -> Result<(), Fail> {
+    are_refused::<LogState>(&rt, rt.alloc(), HOSTILE);
+    are_refused_begun::<LogState>(&rt, rt.alloc(), HOSTILE_BEGUN)
+}
+
+const HEADS: &[(&str, JsonError)] = &[
+    ("\"digest\":7,\"timestamp\":7", JsonError::WrongType),
+    ("\"timestamp\":\"1.0\"", JsonError::Missing),
+    ("\"digest\":\"x\",\"timestamp\":7", JsonError::BadText),
+];
+
+// A head whose digest is that of no bytes, and what else it has.
+fn with_head(alloc: Global, more: &str) -> Result<String, Fail> {
+    let digest = HashAlgorithm::Sha256.digest(b"");
+    Ok(format!(in alloc; "{{\"head\":{{\"digest\":\"{digest}\"{more}}}}}")?)
+}
+
+#[test]
+fn heads_are_read_before_they_fit(rt: HostRuntime) -> Result<(), Fail> {
+    let alloc = rt.alloc();
+    for (members, want) in HEADS {
+        let json = format!(in alloc; "{{\"head\":{{{members}}}}}")?;
+        assert_eq!(&rt;
+            load::<LogState>(&rt, alloc, json.as_str()).err(),
+            Some(*want),
+            "{members}"
+        );
+    }
+    let short = with_head(alloc, "")?;
+    assert_eq!(&rt;
+        load::<LogState>(&rt, alloc, short.as_str()).err(),
+        Some(JsonError::Missing)
+    );
+    let alone = with_head(alloc, ",\"timestamp\":\"1.0\"")?;
+    let want = JsonError::Incoherent(Incoherence::HeadWithoutAlgorithm);
+    assert_eq!(&rt;
+        load::<LogState>(&rt, alloc, alone.as_str()).err(),
+        Some(want)
+    );
+    Ok(())
+}
+
+// The fault of a state whose head has this version.
+fn fault_of_version(
+    rt: &impl Abort,
+    alloc: Global,
+    version: &str,
+) -> Result<Option<JsonError>, Fail> {
+    let head = with_head(alloc, ",\"timestamp\":\"1.0\",\"version\":")?;
+    let open = head.as_str().strip_suffix("}}").unwrap_or("");
+    let json = format!(in alloc; "{open}{version}}},\"algorithm\":\"sha256\"}}")?;
+    Ok(load::<LogState>(rt, alloc, json.as_str()).err())
+}
+
+#[test]
+fn versions_of_heads(rt: HostRuntime) -> Result<(), Fail> {
+    let alloc = rt.alloc();
+    assert_eq!(&rt; fault_of_version(&rt, alloc, "0")?, None);
+    assert_eq!(&rt; fault_of_version(&rt, alloc, "1")?, None);
+    let unsupported = JsonError::Incoherent(Incoherence::UnsupportedVersion);
+    assert_eq!(&rt; fault_of_version(&rt, alloc, "2")?, Some(unsupported));
+    assert_eq!(&rt;
+        fault_of_version(&rt, alloc, "\"1\"")?,
+        Some(JsonError::WrongType)
+    );
+    assert_eq!(&rt;
+        fault_of_version(&rt, alloc, "null")?,
+        Some(JsonError::WrongType)
+    );
+    Ok(())
+}
+
+// A release under one version that has another.
+const RELEASE: &str =
+    "{\"recordId\":\"sha256:e3b0c44298fc1c149afbf4c8996fb92427ae41e4649b934ca495991b7852b855\",\"version\":\"1.0.1\",\"by\":\"x\",\"timestamp\":\"1.0\",\"state\":{\"status\":\"yanked\",\"by\":\"x\",\"timestamp\":\"1.0\"}}";
+
+#[test]
+fn releases_stand_under_their_versions(rt: HostRuntime) -> Result<(), Fail> {
+    let alloc = rt.alloc();
+    let more = format!(in alloc;
+        ",\"releases\":{{\"1.0.0\":{RELEASE}}},\"keys\":{{\"x\":\"toy:\"}}"
+    )?;
+    let json = begun(alloc, more.as_str())?;
+    let want = JsonError::Incoherent(Incoherence::ReleaseUnderOtherVersion);
+    assert_eq!(&rt;
+        load::<LogState>(&rt, alloc, json.as_str()).err(),
+        Some(want)
+    );
+    let more = format!(in alloc; ",\"releases\":{{\"1.0.1\":{RELEASE}}}")?;
+    let json = begun(alloc, more.as_str())?;
+    let state = load::<LogState>(&rt, alloc, json.as_str())?;
+    assert_eq!(&rt; state.releases().count(), 1);
+    let without = format!(in alloc; "{{\"releases\":{{\"1.0.1\":{RELEASE}}}}}")?;
+    let want = JsonError::Incoherent(Incoherence::StateWithoutInit);
+    assert_eq!(&rt;
+        load::<LogState>(&rt, alloc, without.as_str()).err(),
+        Some(want)
+    );
+    Ok(())
+}
+
+#[test]
+fn nothing_is_the_new_state(rt: HostRuntime) -> Result<(), Fail> {
+    let alloc = rt.alloc();
+    for json in [
+        "{}",
+        "{\"head\":null}",
+        "{\"algorithm\":null,\"unknown\":7}",
+        "{\"keys\":{}}",
+    ] {
+        let state = load::<LogState>(&rt, alloc, json)?;
+        assert!(&rt; state == LogState::new(alloc)?, "{json}");
+        assert_eq!(&rt; text_of(alloc, &state)?.as_str(), "{}");
+    }
+    Ok(())
+}
+
+#[test]
+fn a_saved_log_without_keys_knows_nobody(rt: HostRuntime) -> Result<(), Fail> {
+    let alloc = rt.alloc();
+    let state = load::<LogState>(&rt, alloc, begun(alloc, "")?.as_str())?;
+    let last = RecordId::from(HashAlgorithm::Sha256.digest(b""));
+    let envelope = envelope_of::<LogState>(alloc, Some(last), "alice 1.0:")?;
+    match state.validate(&envelope, &ToyVerifier) {
+        Err(ValidationError::KeyIDNotRecognized { key_id }) => {
+            assert_eq!(&rt; key_id.as_str(), ALICE);
+            Ok(())
+        }
+        _ => Err(Fail::new("known")),
+    }
+}
+
+const FIRST: &str =
+    "{\"algorithm\":\"sha256\",\"head\":{\"digest\":\"sha256:DIGEST\",\"timestamp\":\"1.0\"},\"keys\":{\"ALICE\":\"toy:YWxpY2U=\"},\"permissions\":{\"ALICE\":[\"release\",\"yank\"]}}";
+
+#[test]
+fn the_first_record_is_saved(rt: HostRuntime) -> Result<(), Fail> {
+    let alloc = rt.alloc();
+    let state = state_of::<LogState>(&rt, alloc, "alice 1.0: init alice")?;
+    let Some(head) = state.head() else {
+        return Err(Fail::new("no head"));
+    };
+    let digest = format!(in alloc; "{}", head.digest)?;
+    let want = FIRST.replace(alloc, "sha256:DIGEST", digest.as_str())?;
+    let want = want.as_str().replace(alloc, "ALICE", ALICE)?;
+    assert_eq!(&rt; text_of(alloc, &state)?.as_str(), want.as_str());
+    comes_back(&rt, alloc, &state)
+}
+
+#[test]
+fn repeated_permissions_fall_together(rt: HostRuntime) -> Result<(), Fail> {
+    let alloc = rt.alloc();
+    let more = format!(in alloc;
+        ",\"keys\":{{\"{ALICE}\":\"toy:YWxpY2U=\"}},\"permissions\":{{\"{ALICE}\":[\"yank\",\"release\",\"yank\"]}}"
+    )?;
+    let state = load::<LogState>(&rt, alloc, begun(alloc, more.as_str())?.as_str())?;
+    let text = text_of(alloc, &state)?;
+    assert!(&rt; text.as_str().contains("[\"yank\",\"release\"]"));
+    comes_back(&rt, alloc, &state)
+}
+
+const LONG: &str = "
+    alice 1.0: init alice, grant bob release yank
+    bob 2.0 v1: release 10.0.0, release 9.0.0-rc.1+b, release 9.0.0-rc.1+a
+    alice 3.000000005 v1: revoke bob yank release, yank 10.0.0
+";
+
+const REST: &str = "
+    alice 4.0 v1: release 1.0.0, grant bob yank
+    bob 4.0 v1: yank 9.0.0-rc.1+b
+";
+
+#[test]
+fn a_saved_state_resumes(rt: HostRuntime) -> Result<(), Fail> {
+    let alloc = rt.alloc();
+    let before = state_of::<LogState>(&rt, alloc, LONG)?;
+    comes_back(&rt, alloc, &before)?;
+    let whole = format!(in alloc; "{}{REST}", LONG.trim_end())?;
+    let after = log_of::<LogState>(&rt, alloc, whole.as_str())?;
+    let again = load::<LogState>(&rt, alloc, text_of(alloc, &before)?.as_str())?;
+    assert!(&rt; makes(alloc, &again, &after.strings.as_slice()[3..], &after.state)?);
+    comes_back(&rt, alloc, &after.state)
+}
+
+#[test]
+fn releases_come_back_by_their_names(rt: HostRuntime) -> Result<(), Fail> {
+    let alloc = rt.alloc();
+    let state = state_of::<LogState>(&rt, alloc, LONG)?;
+    let again = load::<LogState>(&rt, alloc, text_of(alloc, &state)?.as_str())?;
+    let mut names = String::new(alloc);
+    for release in again.releases() {
+        names.push_str(format!(in alloc; "{} ", release.version)?.as_str())?;
+    }
+    assert_eq!(&rt; names.as_str(), "10.0.0 9.0.0-rc.1+a 9.0.0-rc.1+b ");
+    Ok(())
+}
+
+// Content bytes of a record at -1 seconds and 999_999_999 nanoseconds, and its first entry, alice's Init.
+const BEFORE_THE_EPOCH: &str =
+    "1a0b10ffffffffffffffffff0122180a160a0c746f793a595778705932553d1206736861323536";
+
+#[test]
+fn a_time_before_the_epoch_is_not_saved(rt: HostRuntime) -> Result<(), Fail> {
+    let alloc = rt.alloc();
+    let contents = hex::decode(alloc, BEFORE_THE_EPOCH)?;
+    let record = PackageRecord::decode(alloc, contents.as_slice())?;
+    let envelope = ProtoEnvelope::signed_contents(alloc, &signer(alloc, "alice")?, record)?;
+    let state = LogState::new(alloc)?;
+    match state.validate(&envelope, &ToyVerifier) {
+        Ok(state) => {
+            assert_eq!(&rt;
+                state.to_value(alloc).err(),
+                Some(JsonError::TimeBeforeEpoch)
+            );
+            Ok(())
+        }
+        Err(_) => Err(Fail::new("refused")),
+    }
+}
