@@ -1,4 +1,5 @@
 pub mod AnswerLaws
+pub mod DigitLemmas
 pub mod IdAnswers
 pub mod InputLemmas
 pub mod LineLemmas

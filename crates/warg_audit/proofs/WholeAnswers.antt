@@ -1,14 +1,8 @@
 -- The lines of a log have one answer, and so have words and bytes.
-use Rattle.std.proofs.Common.{◌≡◌, ℕ, Bool, true, false, cond, nat_lt, List, length, refl, sym, ◌∙◌, ap, Option, Some, None, Result, Ok, Err}
+use Rattle.std.proofs.Common.{◌≡◌, ℕ, Bool, true, false, cond, nat_lt, List, length, refl, sym, ◌∙◌, ◌↔◌, ap, Option, Some, None, Result, Ok, Err}
 use Rattle.std.proofs.lemmas.Bool.{ltb-true, ltb-false, lt-ltb, le-ltb}
-use Rattle.warg_records.specs.Envelopes.{EnvelopeFault, envelope_of}
-use Rattle.warg_validator.specs.Kinds.{Belief, KindLaws}
-use Rattle.warg_validator.specs.Outcomes.{IsFoundBy, first_offence_from}
-use Rattle.warg_validator.specs.Strings.{Cause}
-use Rattle.warg_validator.proofs.LogLaws.{first-searched}
-use Rattle.warg_crypto.specs.Signed.{toy_belongs}
-use Rattle.warg_operator_log.specs.StateLaws as operator_rules
-use Rattle.warg_package_log.specs.StateLaws as package_rules
+use Rattle.warg_protocol.specs.Logs.{EnvelopeFault, envelope_of, SignatureRelation, IsFoundBy, first_offence_from, Cause}
+use Rattle.warg_protocol.specs.Records.{toy_belongs}
 use Rattle.warg_audit.specs.declared.command.LogType.{LogType}
 use Rattle.warg_audit.specs.declared.command.LogType.TheVariants.{Package, Operator}
 use Rattle.warg_audit.specs.declared.command.Command.{Command}
@@ -24,7 +18,12 @@ use Rattle.warg_audit.specs.Printed.{Printed, too_long}
 use Rattle.warg_audit.proofs.LineLemmas.{lines_of-are, lines_of-only}
 use Rattle.warg_audit.proofs.StringLemmas as spelled
 
-module _ {Meaning Fault View Offence : Type 0} (log : Shown Meaning Fault View Offence) (laws : KindLaws log.kind) (belief : Belief) where
+-- the first offence of strings is what the search from the front finds
+abbrev pub IsSearched : {Meaning Fault View Offence : Type 0} → Shown Meaning Fault View Offence → Type 0
+IsSearched {Meaning} {Fault} {View} {Offence} log = (belief : SignatureRelation) (strings : List (List ℕ)) (found : Option (ℕ × Cause (EnvelopeFault Fault) Offence))
+    → IsFoundBy log.kind belief (envelope_of log.read) log.kind.view_of strings found ↔ (first_offence_from log.kind belief (envelope_of log.read) log.kind.start strings ≡ found)
+
+module _ {Meaning Fault View Offence : Type 0} (log : Shown Meaning Fault View Offence) (searched : IsSearched log) (belief : SignatureRelation) where
   found_is : (strings : List (List ℕ)) (found : Option (ℕ × Cause (EnvelopeFault Fault) Offence))
       → IsFoundBy log.kind belief (envelope_of log.read) log.kind.view_of strings found → IsLogAnswer log belief strings (found_answer log belief strings found)
   found_is strings None none = all_lawful none refl
@@ -33,13 +32,13 @@ module _ {Meaning Fault View Offence : Type 0} (log : Shown Meaning Fault View O
   log_is : (strings : List (List ℕ)) → IsLogAnswer log belief strings (log_answer log belief strings)
   log_is strings =
       let found = first_offence_from log.kind belief (envelope_of log.read) log.kind.start strings in
-      found_is strings found ((first-searched log.kind laws belief (envelope_of log.read) strings found).1 refl)
+      found_is strings found ((searched belief strings found).1 refl)
 
   log_only : (strings : List (List ℕ)) (printed : Printed) → IsLogAnswer log belief strings printed → printed ≡ log_answer log belief strings
   log_only strings printed (all_lawful none e) =
-      e ∙ ap (found_answer log belief strings) (sym ((first-searched log.kind laws belief (envelope_of log.read) strings None).0 none))
+      e ∙ ap (found_answer log belief strings) (sym ((searched belief strings None).0 none))
   log_only strings printed (first_refused index cause first e) =
-      e ∙ ap (found_answer log belief strings) (sym ((first-searched log.kind laws belief (envelope_of log.read) strings (Some (index, cause))).0 first))
+      e ∙ ap (found_answer log belief strings) (sym ((searched belief strings (Some (index, cause))).0 first))
 
   spelled_is : (lines : List (List ℕ)) (strings : Result (List (List ℕ)) LineError) → strings_of lines ≡ strings → IsAuditAnswer log belief lines (spelled_answer log belief strings)
   spelled_is lines (Ok strings) e = all_spelled strings (spelled.spell_from 0 lines strings e) (log_is strings)
@@ -54,13 +53,14 @@ module _ {Meaning Fault View Offence : Type 0} (log : Shown Meaning Fault View O
   audit_only lines printed (all_spelled strings spell is) =
       log_only strings printed is ∙ ap (spelled_answer log belief) (sym (spelled.from_spell 0 lines strings spell))
 
-pub log_type_is : (log_type : LogType) (lines : List (List ℕ)) → IsLogTypeAnswer log_type lines (log_type_answer log_type lines)
-log_type_is Package lines = audit_is package_log package_rules.state_laws toy_belongs lines
-log_type_is Operator lines = audit_is operator_log operator_rules.state_laws toy_belongs lines
+module _ (of_package : IsSearched package_log) (of_operator : IsSearched operator_log) where
+  pub log_type_is : (log_type : LogType) (lines : List (List ℕ)) → IsLogTypeAnswer log_type lines (log_type_answer log_type lines)
+  log_type_is Package lines = audit_is package_log of_package toy_belongs lines
+  log_type_is Operator lines = audit_is operator_log of_operator toy_belongs lines
 
-pub log_type_only : (log_type : LogType) (lines : List (List ℕ)) (printed : Printed) → IsLogTypeAnswer log_type lines printed → printed ≡ log_type_answer log_type lines
-log_type_only Package lines printed is = audit_only package_log package_rules.state_laws toy_belongs lines printed is
-log_type_only Operator lines printed is = audit_only operator_log operator_rules.state_laws toy_belongs lines printed is
+  pub log_type_only : (log_type : LogType) (lines : List (List ℕ)) (printed : Printed) → IsLogTypeAnswer log_type lines printed → printed ≡ log_type_answer log_type lines
+  log_type_only Package lines printed is = audit_only package_log of_package toy_belongs lines printed is
+  log_type_only Operator lines printed is = audit_only operator_log of_operator toy_belongs lines printed is
 
 -- ---- words and bytes
 

@@ -1,13 +1,10 @@
 -- What the program answers to its words and the bytes of its input.
 use Rattle.std.specs.Prelude.{◌≡◌, ℕ, ◌<◌, ◌≤◌, nat_lt, if◌then◌else◌, List, [], ◌∷◌, ◌++◌, length, codes, Option, Some, None, Result, Ok, Err, IsErr}
 use Rattle.hex.specs.declared.error.FromHexError.{FromHexError}
-use Rattle.warg_protobuf.specs.Envelope.{envelope_table, EnvelopeValue, IsEnvelope, envelope_of}
-use Rattle.warg_protobuf.specs.Table.{HasFault}
-use Rattle.warg_protobuf.specs.declared.error.WireError.{WireError}
-use Rattle.warg_records.specs.FaultNames.{error_name}
-use Rattle.warg_records.specs.RecordIds.{package_record_id_of, operator_record_id_of}
-use Rattle.warg_records.specs.declared.proto_envelope.error.ParseEnvelopeError.TheVariants.{ProtobufEnvelope}
-use Rattle.warg_records.specs.declared.registry.record_id.RecordId.{RecordId}
+use Rattle.warg_protocol.specs.Messages.{envelope_table, EnvelopeValue, IsEnvelope, envelope_of, HasFault}
+use Rattle.warg_protocol.specs.Errors.{WireError}
+use Rattle.warg_protocol.specs.Records.{error_name, package_record_id_of, operator_record_id_of, RecordId}
+use Rattle.warg_protocol.specs.ParseEnvelopeErrors.{ProtobufEnvelope}
 use Rattle.warg_audit.specs.declared.command.LogType.{LogType}
 use Rattle.warg_audit.specs.declared.command.LogType.TheVariants.{Package, Operator}
 use Rattle.warg_audit.specs.declared.command.Command.{Command}
@@ -34,7 +31,8 @@ pub data IsIdAnswer (log_type : LogType) (lines : List (List ℕ)) (printed : Pr
   no_line : lines ≡ [] → printed ≡ bad_line 0 → IsIdAnswer log_type lines printed
   bad_digits : (line : List ℕ) (more : List (List ℕ)) → lines ≡ line ∷ more → IsErr (string_of line)
       → printed ≡ bad_line 0 → IsIdAnswer log_type lines printed
-  second_line : (line bytes next : List ℕ) (more : List (List ℕ)) → lines ≡ line ∷ next ∷ more → string_of line ≡ Ok bytes
+  second_line : (line bytes next : List ℕ) (more : List (List ℕ)) → lines ≡ line ∷ next ∷ more
+      → string_of line ≡ Ok bytes
       → printed ≡ bad_line 1 → IsIdAnswer log_type lines printed
   one_line : (line bytes : List ℕ) → lines ≡ line ∷ [] → string_of line ≡ Ok bytes
       → IsEnvelopeAnswer log_type bytes printed → IsIdAnswer log_type lines printed

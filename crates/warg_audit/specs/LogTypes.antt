@@ -1,24 +1,9 @@
 -- The logs of either type as the program shows them.
 use Rattle.std.specs.Prelude.{ℕ, List, []}
-use Rattle.warg_crypto.specs.Signed.{toy_belongs}
-use Rattle.warg_records.specs.FaultNames.{record_fault_name}
-use Rattle.warg_records.specs.Faults.{RecordFault}
-use Rattle.warg_records.specs.OperatorEntries.{OperatorAct}
-use Rattle.warg_records.specs.OperatorReading.{operator_record_of}
-use Rattle.warg_records.specs.PackageEntries.{PackageAct}
-use Rattle.warg_records.specs.PackageReading.{package_record_of}
-use Rattle.warg_records.specs.Readings.{Said}
-use Rattle.warg_records.specs.declared.operator.permission.Permission.{Permission as OperatorPermission}
-use Rattle.warg_records.specs.declared.package.permission.Permission.{Permission as PackagePermission}
-use Rattle.warg_log.specs.History.{Wrong}
-use Rattle.warg_operator_log.specs.Namespaces.{OwnOffence as NamespaceOffence}
-use Rattle.warg_operator_log.specs.OffenceNames.{offence_name as namespace_offence_name}
-use Rattle.warg_operator_log.specs.State.{View as OperatorView}
-use Rattle.warg_operator_log.specs.StateLaws.{kind as operator_kind}
-use Rattle.warg_package_log.specs.OffenceNames.{offence_name as release_offence_name}
-use Rattle.warg_package_log.specs.Releases.{OwnOffence as ReleaseOffence}
-use Rattle.warg_package_log.specs.State.{View as PackageView}
-use Rattle.warg_package_log.specs.StateLaws.{kind as package_kind}
+use Rattle.warg_protocol.specs.Records.{toy_belongs, record_fault_name, RecordFault, RecordData}
+use Rattle.warg_protocol.specs.Operator.{OperatorOwnEntry, operator_record_of, Permission as OperatorPermission, OwnOffence as NamespaceOffence, offence_name as namespace_offence_name, View as OperatorView, kind as operator_kind}
+use Rattle.warg_protocol.specs.Package.{PackageOwnEntry, package_record_of, Permission as PackagePermission, offence_name as release_offence_name, OwnOffence as ReleaseOffence, View as PackageView, kind as package_kind}
+use Rattle.warg_protocol.specs.Logs.{Wrong}
 use Rattle.warg_audit.specs.declared.command.LogType.{LogType}
 use Rattle.warg_audit.specs.declared.command.LogType.TheVariants.{Package, Operator}
 use Rattle.warg_audit.specs.LogAnswers.{Shown, IsAuditAnswer, audit_answer}
@@ -26,7 +11,7 @@ use Rattle.warg_audit.specs.Printed.{Printed}
 use Rattle.warg_audit.specs.ReleaseLines.{release_lines}
 
 -- a package log shows its releases
-abbrev pub package_log : Shown (Said PackagePermission PackageAct) RecordFault PackageView (Wrong PackagePermission ReleaseOffence)
+abbrev pub package_log : Shown (RecordData PackagePermission PackageOwnEntry) RecordFault PackageView (Wrong PackagePermission ReleaseOffence)
 package_log = record {
   kind = package_kind;
   read = package_record_of;
@@ -36,7 +21,7 @@ package_log = record {
 }
 
 -- an operator log shows nothing more
-abbrev pub operator_log : Shown (Said OperatorPermission OperatorAct) RecordFault OperatorView (Wrong OperatorPermission NamespaceOffence)
+abbrev pub operator_log : Shown (RecordData OperatorPermission OperatorOwnEntry) RecordFault OperatorView (Wrong OperatorPermission NamespaceOffence)
 operator_log = record {
   kind = operator_kind;
   read = operator_record_of;

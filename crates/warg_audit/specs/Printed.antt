@@ -1,8 +1,7 @@
 -- What may be printed.
 use Rattle.std.specs.Prelude.{ℕ, List, ◌++◌, codes}
 use Rattle.std.specs.Fmt.{decimal}
-use Rattle.warg_crypto.specs.HashText.{hash_text}
-use Rattle.warg_records.specs.declared.registry.record_id.RecordId.{RecordId}
+use Rattle.warg_protocol.specs.Records.{hash_text, RecordId}
 
 -- the text that is printed, and the exit status
 pub record Printed : Type 0 where

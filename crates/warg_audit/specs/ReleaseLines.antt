@@ -1,10 +1,8 @@
 -- The lines that are printed of releases.
 use Rattle.std.specs.Prelude.{ℕ, List, [], ◌∷◌, ◌++◌, codes}
-use Rattle.semver.specs.Identifiers.{parts_text}
-use Rattle.warg_crypto.specs.HashText.{hash_text}
-use Rattle.warg_package_log.specs.Releases.{ReleaseView}
-use Rattle.warg_package_log.specs.declared.release.ReleaseState.{ReleaseState}
-use Rattle.warg_package_log.specs.declared.release.ReleaseState.TheVariants.{Released, Yanked}
+use Rattle.warg_protocol.specs.Records.{parts_text, hash_text}
+use Rattle.warg_protocol.specs.Package.{ReleaseView, ReleaseState}
+use Rattle.warg_protocol.specs.ReleaseStates.{Released, Yanked}
 
 abbrev pub release_state_text : ReleaseState → List ℕ
 release_state_text (Released content) = codes " released " ++ hash_text content

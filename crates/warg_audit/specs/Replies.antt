@@ -18,7 +18,8 @@ printed_of reply = record { text = text_of reply.text; status = reply.status }
 -- The reply to words, of a reader that has these bytes left where they are known: the answer to its
 -- bytes; or the line for a failed read; or the line for refused memory.
 pub data IsReply (words : List (List ℕ)) (known : Option (List ℕ)) (ReadFailed : Type 0) (printed : Printed) : Type 0 where
-  answer : (bytes : List ℕ) → IfSome known (λ all. all ≡ bytes) → IsAnswer words bytes printed → IsReply words known ReadFailed printed
+  answer : (bytes : List ℕ) → IfSome known (λ all. all ≡ bytes) → IsAnswer words bytes printed
+      → IsReply words known ReadFailed printed
   unread : ReadFailed → printed ≡ read_fault → IsReply words known ReadFailed printed
   starved : printed ≡ out_of_memory → IsReply words known ReadFailed printed
 

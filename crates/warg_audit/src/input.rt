@@ -86,10 +86,12 @@ impl<R: Read> Input<R> {
     /// One read of the reader.
     pub fn read(&mut self, buf: &mut [u8]) -> io::Result<usize>
         ensures reads { self.new.reads ≡ min (self.old.reads + 1) (2 ^ 64 - 1) }
-        ensures failures { self.new.failures ≡ (if is_err result then min (self.old.failures + 1) (2 ^ 64 - 1) else self.old.failures) }
+        ensures failures { self.new.failures ≡ (if is_err result then min (self.old.failures + 1)
+            (2 ^ 64 - 1) else self.old.failures) }
         ensures taken { self.new.taken ≡ min (self.old.taken + given result) (2 ^ 64 - 1) }
         ensures ended { self.new.ended ≡ (self.old.ended || given result == 0) }
-        ensures late { self.new.late ≡ (if self.old.ended then min (self.old.late + 1) (2 ^ 64 - 1) else self.old.late) }
+        ensures late { self.new.late ≡ (if self.old.ended then min (self.old.late + 1)
+            (2 ^ 64 - 1) else self.old.late) }
         ensures bound { ReadsAtMost result buf.new }
         ensures bytes { ReadConsumes (R.remaining self.old.reader) (R.remaining self.new.reader) result buf.new }
     {

@@ -7,7 +7,9 @@ ghost use Rattle.warg_audit.specs.declared.command.LogType.{LogType};
 ghost use Rattle.warg_audit.specs.Printed.{Printed};
 ghost use Rattle.warg_audit.specs.Lines.{AreLines, lines_of};
 
-use warg_protobuf::laws::decoding_computes;
+use warg_protocol::laws::messages::decoding_computes;
+use warg_protocol::laws::runs::first_offence;
+use warg_protocol::{operator, package};
 
 /// Each text has lines, and no other ones.
 pub fn one_list_of_lines()
@@ -18,21 +20,28 @@ pub fn one_list_of_lines()
 /// Lines of which an id is asked have an answer, and no other one.
 pub fn one_id_answer()
     ensures some { (log_type : LogType) (lines : List (List ℕ)) → IsIdAnswer log_type lines (id_answer log_type lines) }
-    ensures only { (log_type : LogType) (lines : List (List ℕ)) (printed : Printed) → IsIdAnswer log_type lines printed → printed ≡ id_answer log_type lines }
+    ensures only { (log_type : LogType) (lines : List (List ℕ)) (printed : Printed) →
+        IsIdAnswer log_type lines printed → printed ≡ id_answer log_type lines }
 {
     decoding_computes();
 }
 
 /// The lines of a log have an answer, and no other one.
 pub fn one_log_answer()
-    ensures some { (log_type : LogType) (lines : List (List ℕ)) → IsLogTypeAnswer log_type lines (log_type_answer log_type lines) }
-    ensures only { (log_type : LogType) (lines : List (List ℕ)) (printed : Printed) → IsLogTypeAnswer log_type lines printed → printed ≡ log_type_answer log_type lines }
-{}
+    ensures some { (log_type : LogType) (lines : List (List ℕ)) →
+        IsLogTypeAnswer log_type lines (log_type_answer log_type lines) }
+    ensures only { (log_type : LogType) (lines : List (List ℕ)) (printed : Printed) →
+        IsLogTypeAnswer log_type lines printed → printed ≡ log_type_answer log_type lines }
+{
+    first_offence::<package::LogState>();
+    first_offence::<operator::LogState>();
+}
 
 /// Words and bytes have an answer, and no other one: a text, printed whole, and a status.
 pub fn one_answer()
     ensures some { (words : List (List ℕ)) (bytes : List ℕ) → IsAnswer words bytes (answer_of words bytes) }
-    ensures only { (words : List (List ℕ)) (bytes : List ℕ) (printed : Printed) → IsAnswer words bytes printed → printed ≡ answer_of words bytes }
+    ensures only { (words : List (List ℕ)) (bytes : List ℕ) (printed : Printed) → IsAnswer words bytes printed →
+        printed ≡ answer_of words bytes }
 {
     one_id_answer();
     one_log_answer();

@@ -1,12 +1,12 @@
 //! What is reported of package logs.
 
 ghost use Rattle.std.specs.Prelude.{◌≡◌, IfOk, string_bytes};
-ghost use Rattle.warg_package_log.specs.Catalog.{release_view};
+ghost use Rattle.warg_protocol.specs.Package.{release_view};
 ghost use Rattle.warg_audit.specs.ReleaseLines.{release_line};
 
 use crate::report::Report;
 use std::alloc::{AllocError, Global};
-use warg_package_log::{LogState, Release, ReleaseState, ValidationError};
+use warg_protocol::package::{LogState, Release, ReleaseState, ValidationError};
 
 // The line of one release.
 fn release_line(alloc: Global, release: &Release) -> Result<String, AllocError>
@@ -23,8 +23,7 @@ fn release_line(alloc: Global, release: &Release) -> Result<String, AllocError>
 
 impl Report for LogState {
     ghost use Rattle.std.specs.Option.{option_map};
-    ghost use Rattle.warg_package_log.specs.State.{view_of, offence_of};
-    ghost use Rattle.warg_package_log.specs.OffenceNames.{offence_name};
+    ghost use Rattle.warg_protocol.specs.Package.{view_of, offence_of, offence_name};
     ghost use Rattle.warg_audit.specs.ReleaseLines.{release_lines};
 
     ghost name_of = { λ e. option_map offence_name (offence_of e) };

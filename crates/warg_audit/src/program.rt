@@ -19,6 +19,7 @@ use crate::reading::{InputError, read_all};
 use crate::reply::Reply;
 use std::alloc::{AllocError, Global};
 use std::io::{Read, Write};
+use warg_protocol::{operator, package};
 
 /// What is printed for words that ask for nothing.
 pub const USAGE: &str = "usage: warg_audit [id] package|operator\n";
@@ -31,8 +32,8 @@ fn log_type_reply(alloc: Global, log_type: LogType, text: &[u8]) -> Result<Reply
     ensures { IfOk result (λ reply. IsLogTypeAnswer log_type (lines_of text.now) (printed_of reply)) }
 {
     match log_type {
-        LogType::Package => log_reply::<warg_package_log::LogState>(alloc, text),
-        LogType::Operator => log_reply::<warg_operator_log::LogState>(alloc, text),
+        LogType::Package => log_reply::<package::LogState>(alloc, text),
+        LogType::Operator => log_reply::<operator::LogState>(alloc, text),
     }
 }
 
@@ -49,8 +50,10 @@ fn command_reply(alloc: Global, command: Command, bytes: &[u8]) -> Result<Reply,
 /// What the program prints to the words, whole before anything is written. For words that
 /// ask for nothing, nothing is read and no memory is taken.
 pub fn make_reply<R: Read>(alloc: Global, words: &[String], input: &mut Input<R>) -> Reply
-    ensures reply { IsReply (map string_bytes words.now) (left R.remaining input.old) (ReadFailed input.old input.new) (printed_of result) }
-    ensures other_words { command_of (map string_bytes words.now) ≡ None → (input.new ≡ input.old) × (printed_of result ≡ usage) }
+    ensures reply { IsReply (map string_bytes words.now) (left R.remaining input.old) (ReadFailed input.old input.new)
+        (printed_of result) }
+    ensures other_words { command_of (map string_bytes words.now) ≡ None → (input.new ≡ input.old) ×
+        (printed_of result ≡ usage) }
     ensures faults { (input.new.failures ≡ input.old.failures) ⊎ (printed_of result ≡ read_fault) }
     ensures reading { ReadsToEnd R.remaining input.old input.new }
 {
@@ -76,10 +79,12 @@ pub fn audit<R: Read, W: Write>(
     output: &mut Output<W>,
 ) -> u8
     // Any other status than 3 is that of the answer, which was written whole and alone.
-    ensures answered { result ≢ 3 → IsAnswered (map string_bytes words.now) (left R.remaining input.old) (held W.contents output.old) (held W.contents output.new) result }
+    ensures answered { result ≢ 3 → IsAnswered (map string_bytes words.now) (left R.remaining input.old)
+        (held W.contents output.old) (held W.contents output.new) result }
 
     // Status 3: a failed read or refused memory, with its line, or a failed write.
-    ensures trouble { result ≡ 3 → IsTrouble (held W.contents output.old) (held W.contents output.new) (ReadFailed input.old input.new) (WriteFailed output.old output.new) }
+    ensures trouble { result ≡ 3 → IsTrouble (held W.contents output.old) (held W.contents output.new)
+        (ReadFailed input.old input.new) (WriteFailed output.old output.new) }
 
     // Where a read failed, its line is written, unless the write fails too.
     ensures faults { (input.new.failures ≡ input.old.failures)
@@ -90,7 +95,8 @@ pub fn audit<R: Read, W: Write>(
 
     // Words that ask for nothing: no read, and the usage line unless it can't be written.
     ensures other_words { command_of (map string_bytes words.now) ≡ None → (input.new ≡ input.old)
-        × IsPrintedOrFailed (held W.contents output.old) (held W.contents output.new) (WriteFailed output.old output.new) result usage }
+        × IsPrintedOrFailed (held W.contents output.old) (held W.contents output.new)
+        (WriteFailed output.old output.new) result usage }
     ensures reading { ReadsToEnd R.remaining input.old input.new }
 {
     let reply = make_reply(alloc, words, input);

@@ -27,7 +27,8 @@ pub(crate) fn read_all<R: Read>(alloc: Global, input: &mut Input<R>) -> Result<V
     ensures reading { ReadsToEnd R.remaining input.old input.new }
     ensures ok { IfOk result (λ v. IfSome (left R.remaining input.old) (λ bytes. bytes ≡ v.items)) }
     ensures short { IfOk result (λ v. length v.items ≤ 16_777_216) }
-    ensures long { result ≡ Err fault.TooLong → IfSome (left R.remaining input.old) (λ bytes. 16_777_216 < length bytes) }
+    ensures long { result ≡ Err fault.TooLong → IfSome (left R.remaining input.old)
+        (λ bytes. 16_777_216 < length bytes) }
     ensures failed { result ≡ Err fault.Fault → ReadFailed input.old input.new }
     ensures steady { (input.new.failures ≡ input.old.failures) ⊎ (result ≡ Err fault.Fault) }
 {

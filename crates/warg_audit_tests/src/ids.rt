@@ -18,6 +18,9 @@ fn names_records(rt: HostRuntime) -> Result<(), Fail> {
         ("0a021a00\n", SMALL),
         ("0a021a000a00", EMPTY),
         ("7d01020304", EMPTY),
+        ("f8ffffff0f00", EMPTY),
+        ("8a80800000", EMPTY),
+        ("7a010b", EMPTY),
         ("\r", EMPTY),
         ("\r\n", EMPTY),
         ("0A021A00\r", SMALL),
@@ -68,19 +71,40 @@ fn wants_one_line(rt: HostRuntime) -> Result<(), Fail> {
     )
 }
 
+/// Faults of the outer message.
+pub(crate) const OUTER_FAULTS: &str = "
+    0a = refused 0 ProtobufEnvelope.Truncated
+    0a02 = refused 0 ProtobufEnvelope.Truncated
+    0a021a = refused 0 ProtobufEnvelope.Truncated
+    80 = refused 0 ProtobufEnvelope.Truncated
+    0affffffffffffffffff01 = refused 0 ProtobufEnvelope.Truncated
+    0affffffffffffffffff02 = refused 0 ProtobufEnvelope.VarintTooLong
+    ffffffffffffffffff = refused 0 ProtobufEnvelope.Truncated
+    ffffffffffffffffffff = refused 0 ProtobufEnvelope.VarintTooLong
+    ffffffffffffffffff02 = refused 0 ProtobufEnvelope.VarintTooLong
+    808080801000 = refused 0 ProtobufEnvelope.BadKey
+    0b = refused 0 ProtobufEnvelope.Group
+    0e = refused 0 ProtobufEnvelope.BadKey
+    00 = refused 0 ProtobufEnvelope.BadKey
+    0801 = refused 0 ProtobufEnvelope.WrongWireType
+    1201ff = refused 0 ProtobufEnvelope.NotUtf8
+    1201ff120161 = refused 0 ProtobufEnvelope.NotUtf8
+";
+
 #[test]
 fn names_faults(rt: HostRuntime) -> Result<(), Fail> {
-    let lines = "
-        0a021a = refused 0 ProtobufEnvelope.Truncated
-        80 = refused 0 ProtobufEnvelope.Truncated
-        ffffffffffffffffff02 = refused 0 ProtobufEnvelope.VarintTooLong
-        0b = refused 0 ProtobufEnvelope.Group
-        0e = refused 0 ProtobufEnvelope.BadKey
-        00 = refused 0 ProtobufEnvelope.BadKey
-        0801 = refused 0 ProtobufEnvelope.WrongWireType
-        1201ff = refused 0 ProtobufEnvelope.NotUtf8
-        1201ff120161 = refused 0 ProtobufEnvelope.NotUtf8
-    ";
-    answer_lines(&rt, rt.alloc(), ["id", "package"].as_slice(), lines, 1)?;
-    answer_lines(&rt, rt.alloc(), ["id", "operator"].as_slice(), lines, 1)
+    answer_lines(
+        &rt,
+        rt.alloc(),
+        ["id", "package"].as_slice(),
+        OUTER_FAULTS,
+        1,
+    )?;
+    answer_lines(
+        &rt,
+        rt.alloc(),
+        ["id", "operator"].as_slice(),
+        OUTER_FAULTS,
+        1,
+    )
 }

@@ -19,17 +19,17 @@ fn package_line(index: usize) -> &'static str {
     }
 }
 
-/// The line of a letter: a, b and c are the package log's three, i and d the operator log's two, which begin it and
+/// The line of a envelope: a, b and c are the package log's three, i and d the operator log's two, which begin it and
 /// define a namespace; v and e are a package log's of version 1, an Init and an empty grant, and w and f an operator
-/// log's; g is no envelope, x no hex, and any other letter is an empty line.
-pub(crate) fn line(letter: u8) -> &'static str {
-    match letter {
+/// log's; g is no envelope, x no hex, and any other envelope is an empty line.
+pub(crate) fn line(envelope: u8) -> &'static str {
+    match envelope {
         b'a' => package_line(0),
         b'b' => package_line(1),
         b'c' => package_line(2),
         b'i' => operator_line(0),
         b'd' => operator_line(1),
-        b'v' | b'e' | b'w' | b'f' => newest_line(letter),
+        b'v' | b'e' | b'w' | b'f' => newest_line(envelope),
         b'g' => "0b",
         b'x' => "0g",
         _ => "",
@@ -49,8 +49,8 @@ fn operator_line(index: usize) -> &'static str {
 }
 
 // In version 1 alice begins a log, v a package's and w an operator's, and then grants mallory nothing, e and f.
-fn newest_line(letter: u8) -> &'static str {
-    match letter {
+fn newest_line(envelope: u8) -> &'static str {
+    match envelope {
         b'v' => {
             "0a2010011a02080122180a160a0c746f793a595778705932553d120673686132353612477368613235363a366630336165363164306664336466323631643430306166653939626463643631336632363631303435353262366164353238316337363636363333633665321a30746f793a5a4843716d357a694a594b613876656248614d556e3752513534524731357951626e596c747963363756513d"
         }
@@ -66,11 +66,11 @@ fn newest_line(letter: u8) -> &'static str {
     }
 }
 
-/// The lines of the letters, each with this end.
-pub(crate) fn log_of(alloc: Global, letters: &str, end: &str) -> Result<String, Fail> {
+/// The lines of the envelopes, each with this end.
+pub(crate) fn log_of(alloc: Global, envelopes: &str, end: &str) -> Result<String, Fail> {
     let mut log = String::new(alloc);
-    for letter in letters.as_bytes() {
-        log.push_str(line(*letter))?;
+    for envelope in envelopes.as_bytes() {
+        log.push_str(line(*envelope))?;
         log.push_str(end)?;
     }
     Ok(log)

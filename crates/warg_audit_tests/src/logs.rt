@@ -17,19 +17,19 @@ const ONE: &str = "ok 1 sha256:a81d0fa3471ae2d21cbfdb301daf648089c44117ca34d9b32
 const OPERATOR: &str =
     "ok 2 sha256:830514606a060a92a56e67edd1f57742cd36218908150d8de15650a8edebaf84\n";
 
-// Whether the log of these letters is answered so.
+// Whether the log of these envelopes is answered so.
 fn is_answered(
     alloc: Global,
     kind: &str,
     end: &str,
-    letters: &str,
+    envelopes: &str,
     printed: &str,
 ) -> Result<bool, Fail> {
-    let log = log_of(alloc, letters, end)?;
+    let log = log_of(alloc, envelopes, end)?;
     answers(alloc, [kind].as_slice(), log.as_bytes(), printed, 0)
 }
 
-// Answers each log so. A row is the letters of its lines and what is printed of it.
+// Answers each log so. A row is the envelopes of its lines and what is printed of it.
 fn answer_logs(
     rt: &impl Abort,
     alloc: Global,
@@ -37,22 +37,28 @@ fn answer_logs(
     end: &str,
     rows: &[(&'static str, &'static str)],
 ) -> Result<(), Fail> {
-    for (letters, printed) in rows {
+    for (envelopes, printed) in rows {
         assert!(rt;
-            is_answered(alloc, kind, end, *letters, *printed)?,
-            "{letters}"
+            is_answered(alloc, kind, end, *envelopes, *printed)?,
+            "{envelopes}"
         );
     }
     Ok(())
 }
 
-// Whether the log of these letters is answered by this line, with this exit status.
-fn is_told(alloc: Global, kind: &str, letters: &str, line: &str, status: u8) -> Result<bool, Fail> {
-    let log = log_of(alloc, letters, "\n")?;
+// Whether the log of these envelopes is answered by this line, with this exit status.
+fn is_told(
+    alloc: Global,
+    kind: &str,
+    envelopes: &str,
+    line: &str,
+    status: u8,
+) -> Result<bool, Fail> {
+    let log = log_of(alloc, envelopes, "\n")?;
     answers_line(alloc, [kind].as_slice(), log.as_bytes(), line, status)
 }
 
-// Answers each log so, with this exit status. A line is the letters of its lines and the line that is printed of it.
+// Answers each log so, with this exit status. A line is the envelopes of its lines and the line that is printed of it.
 fn tell_logs(
     rt: &impl Abort,
     alloc: Global,
@@ -61,8 +67,8 @@ fn tell_logs(
     status: u8,
 ) -> Result<(), Fail> {
     for line in lines.trim().lines() {
-        let (letters, printed) = row(line)?;
-        assert!(rt; is_told(alloc, kind, letters, printed, status)?, "{line}");
+        let (envelopes, printed) = row(line)?;
+        assert!(rt; is_told(alloc, kind, envelopes, printed, status)?, "{line}");
     }
     Ok(())
 }

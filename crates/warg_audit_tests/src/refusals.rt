@@ -1,6 +1,7 @@
 //! The names of refusals.
 
 use crate::answering::{answer_lines, answer_rows};
+use crate::ids::OUTER_FAULTS;
 use std::alloc::Global;
 use std::process::Abort;
 use std::test::Fail;
@@ -12,8 +13,28 @@ fn refuse_both(rt: &impl Abort, alloc: Global, lines: &str) -> Result<(), Fail> 
 }
 
 #[test]
+fn names_outer_faults(rt: HostRuntime) -> Result<(), Fail> {
+    refuse_both(&rt, rt.alloc(), OUTER_FAULTS)
+}
+
+#[test]
 fn names_contents(rt: HostRuntime) -> Result<(), Fail> {
     let lines = "
+        0a00 = refused 0 Contents.MissingTime
+        f8ffffff0f00 = refused 0 Contents.MissingTime
+        8a80800000 = refused 0 Contents.MissingTime
+        7a010b = refused 0 Contents.MissingTime
+        0a011a = refused 0 Contents.Wire.Truncated
+        0a021a02 = refused 0 Contents.Wire.Truncated
+        0a031a0208 = refused 0 Contents.Wire.Truncated
+        0a041a020801 = refused 0 Signature.MissingColon
+        0a051a0208011a = refused 0 Contents.Wire.Truncated
+        0a061a0208011a02 = refused 0 Contents.Wire.Truncated
+        0a071a0208011a0210 = refused 0 Contents.Wire.Truncated
+        0a041a000b80 = refused 0 Contents.Wire.Group
+        0a091a0022052a030a01ff = refused 0 Contents.Wire.NotUtf8
+        0a0b1a0022072a030a01ff0a00 = refused 0 Contents.Wire.NotUtf8
+        0a121a00220e120c120affffffffffffffffff02 = refused 0 Contents.Wire.VarintTooLong
         0a0affffffffffffffffff02 = refused 0 Contents.Wire.VarintTooLong
         0a0100 = refused 0 Contents.Wire.BadKey
         0a010b = refused 0 Contents.Wire.Group
@@ -32,6 +53,7 @@ fn names_contents(rt: HostRuntime) -> Result<(), Fail> {
 fn names_entries(rt: HostRuntime) -> Result<(), Fail> {
     let lines = "
         0a041a002200 = refused 0 Contents.EmptyEntry
+        0a061a0022020a00 = refused 0 Contents.Algorithm
         0a141a0022100a0e0a0c746f793a595778705932553d = refused 0 Contents.Algorithm
         0a0b1a00220712050a03746f79 = refused 0 Contents.Key.MissingColon
         0a0d1a00220912070a053a41414543 = refused 0 Contents.Key.EmptyAlgorithm

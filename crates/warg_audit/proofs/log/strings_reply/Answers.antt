@@ -2,8 +2,7 @@ use Rattle.std.proofs.Common.{refl, sym, length, map}
 use Rattle.std.proofs.lemmas.List.{length-map}
 use Rattle.std.proofs.lemmas.Result.{IfOk-weaker}
 use Rattle.std.specs.Vec.{vec_items}
-use Rattle.warg_records.specs.Envelopes.{envelope_fault_of}
-use Rattle.warg_validator.specs.Outcomes.{told}
+use Rattle.warg_protocol.specs.Logs.{envelope_fault_of, told}
 use Rattle.warg_audit.specs.Replies.{printed_of}
 use Rattle.warg_audit.proofs.LogLemmas.{state_answers, error_answers}
 use Rattle.warg_audit.proofs.log.strings_reply.Goals as goal
