@@ -26,7 +26,10 @@ impl Stamper {
 impl Signer for Stamper {
     ghost key_of = { λ s. s.key };
 
-    ghost gives = { λ s message signature. signature ≡ record { name = codes "stamp"; bytes = s.key.bytes ++ message } };
+    ghost gives = { λ s message signature. signature ≡ record {
+      name = codes "stamp";
+      bytes = s.key.bytes ++ message;
+    } };
 
     ghost refuses = { λ _ _. ⊥ };
 
@@ -69,7 +72,10 @@ impl Verifier for StampVerifier {
 
 /// What a `Stamper` signs, the verifier takes under its key.
 fn what_is_signed_is_taken(signer: &Stamper, verifier: &StampVerifier)
-    ensures { (message : List ℕ) (name bytes : List ℕ) → ⟦<Stamper as Signer>⟧.gives signer.now message (record { name = name; bytes = bytes }) → ⟦<StampVerifier as Verifier>⟧.belongs verifier.now (⟦<Stamper as Signer>⟧.key_of signer.now) message (record { name = name; bytes = bytes }) ≡ true }
+    ensures { (message : List ℕ) (name bytes : List ℕ) →
+        ⟦<Stamper as Signer>⟧.gives signer.now message (record { name = name; bytes = bytes }) →
+        ⟦<StampVerifier as Verifier>⟧.belongs verifier.now (⟦<Stamper as Signer>⟧.key_of signer.now) message
+        (record { name = name; bytes = bytes }) ≡ true }
 {
     let _ = &signer.key;
 }

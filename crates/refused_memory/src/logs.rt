@@ -1,0 +1,144 @@
+//! Calls on a log of three records: by `alice` an init and a grant to `bob`, then a release by `bob`, then by `alice` a
+//! revoke and a yank.
+
+use crate::refusal::Refusal;
+use std::alloc::Global;
+use warg_protocol::package::{LogState, Permission};
+use warg_protocol::signing::{KeyID, Signer};
+use warg_protocol::toy::{ToySigner, ToyVerifier};
+use warg_protocol::{AuditedLog, ProtoEnvelope, run};
+
+type Log = AuditedLog<LogState, ToyVerifier>;
+
+// The head and the releases of a state.
+fn told(alloc: Global, state: &LogState) -> Result<String, Refusal> {
+    let mut text = String::new(alloc);
+    if let Some(head) = state.head() {
+        write!(text, "{}", head.digest)?;
+    }
+    for release in state.releases() {
+        let act = if release.yanked() {
+            "yanked"
+        } else {
+            "released"
+        };
+        write!(text, ", {} {act}", release.version)?;
+    }
+    Ok(text)
+}
+
+fn state_of(alloc: Global, inputs: &[Vec<u8>]) -> Result<LogState, Refusal> {
+    match run::<LogState, ToyVerifier>(alloc, &ToyVerifier, inputs) {
+        Ok(state) => Ok(state),
+        Err(error) => Err(Refusal::from(error.cause)),
+    }
+}
+
+/// `run`: the state of the log.
+pub fn run_all(alloc: Global, inputs: &[Vec<u8>]) -> Result<String, Refusal> {
+    told(alloc, &state_of(alloc, inputs)?)
+}
+
+fn has_record(alloc: Global, log: &Log, place: usize, input: &[u8]) -> Result<bool, Refusal> {
+    let envelope = ProtoEnvelope::from_protobuf(alloc, input)?;
+    Ok(log.records().get(place) == Some(&envelope))
+}
+
+// The log has the records of the inputs, and the state that they add up to, and nothing else.
+fn check(alloc: Global, log: &Log, inputs: &[Vec<u8>]) -> Result<(), Refusal> {
+    if log.records().len() != inputs.len() || *log.state() != state_of(alloc, inputs)? {
+        return Err(Refusal::new("changed by a refusal"));
+    }
+    for (place, input) in inputs.iter().enumerate() {
+        if !has_record(alloc, log, place, input.as_slice())? {
+            return Err(Refusal::new("a record changed by a refusal"));
+        }
+    }
+    Ok(())
+}
+
+// Takes the bytes. Where they are refused, the log has to be as before, and then to take them.
+fn take(alloc: Global, log: &mut Log, before: &[Vec<u8>], input: &[u8]) -> Result<(), Refusal> {
+    let Err(cause) = log.append(input) else {
+        return Ok(());
+    };
+    check(alloc, log, before)?;
+    match log.append(input) {
+        Ok(()) => Err(Refusal::from(cause)),
+        Err(_) => Err(Refusal::new("refused again")),
+    }
+}
+
+fn take_each(alloc: Global, log: &mut Log, inputs: &[Vec<u8>]) -> Result<(), Refusal> {
+    let mut taken = Ok(());
+    for (place, input) in inputs.iter().enumerate() {
+        let (before, _) = inputs.split_at(place);
+        let next = take(alloc, log, before, input.as_slice());
+        taken = taken.and(next);
+    }
+    taken
+}
+
+/// `append` of each input. A refused one is appended once more.
+pub fn append(alloc: Global, inputs: &[Vec<u8>]) -> Result<String, Refusal> {
+    let mut log = Log::new(alloc, ToyVerifier)?;
+    let taken = take_each(alloc, &mut log, inputs);
+    check(alloc, &log, inputs)?;
+    taken?;
+    told(alloc, log.state())
+}
+
+// Takes the inputs. Where one is refused, those before it have to stand, and then the log has to take the others.
+fn take_all(alloc: Global, log: &mut Log, inputs: &[Vec<u8>]) -> Result<(), Refusal> {
+    let Err(error) = log.append_all(inputs) else {
+        return Ok(());
+    };
+    let Some((before, after)) = inputs.split_at_checked(error.index) else {
+        return Err(Refusal::new("refused past the end"));
+    };
+    check(alloc, log, before)?;
+    match log.append_all(after) {
+        Ok(()) => Err(Refusal::from(error.cause)),
+        Err(_) => Err(Refusal::new("refused again")),
+    }
+}
+
+/// `append_all` of the inputs. From a refused one on they are appended once more.
+pub fn append_all(alloc: Global, inputs: &[Vec<u8>]) -> Result<String, Refusal> {
+    let mut log = Log::new(alloc, ToyVerifier)?;
+    let taken = take_all(alloc, &mut log, inputs);
+    check(alloc, &log, inputs)?;
+    taken?;
+    told(alloc, log.state())
+}
+
+fn key_id(alloc: Global, name: &str) -> Result<KeyID, Refusal> {
+    let signer = ToySigner::new(alloc, name.as_bytes())?;
+    Ok(signer.public_key().fingerprint(alloc)?)
+}
+
+fn told_chain(
+    alloc: Global,
+    log: &Log,
+    name: &str,
+    permission: Permission,
+) -> Result<String, Refusal> {
+    let mut text = String::new(alloc);
+    let Some(links) = log.permission_chain(&key_id(alloc, name)?, permission)? else {
+        return Ok(text);
+    };
+    for (place, link) in links.iter().enumerate() {
+        let space = if place == 0 { "" } else { " " };
+        write!(text, "{space}{}.{}", link.record_index, link.entry_index)?;
+    }
+    Ok(text)
+}
+
+/// `permission_chain` of this person's permission to release, after the inputs.
+pub fn chain(alloc: Global, inputs: &[Vec<u8>], name: &str) -> Result<String, Refusal> {
+    let mut log = Log::new(alloc, ToyVerifier)?;
+    match log.append_all(inputs) {
+        Ok(()) => told_chain(alloc, &log, name, Permission::Release),
+        Err(error) => Err(Refusal::from(error.cause)),
+    }
+}

@@ -1,0 +1,68 @@
+//! Makes calls that take memory on a log of three records, and prints a line for each: what it answers, or the name of its
+//! error. `tools/check_refused_memory` runs it again and again, with another one of its requests for memory refused each time.
+#![tactic(auto)]
+
+mod logs;
+mod refusal;
+mod values;
+
+use refusal::{OUT_OF_MEMORY, Refusal};
+use std::alloc::Global;
+use std::io::ErrorKind;
+use std::rt::Files;
+use std::{fs, io};
+
+// The log's envelopes.
+fn inputs(rt: &(impl Alloc<A = Global> + Files)) -> Result<Vec<Vec<u8>>, Refusal> {
+    let mut inputs = Vec::new(rt.alloc());
+    for file in ["0.envelope", "1.envelope", "2.envelope"] {
+        match fs::read(rt, file) {
+            Ok(input) => inputs.push(input)?,
+            Err(fault) if fault.kind() == ErrorKind::OutOfMemory => return Err(OUT_OF_MEMORY),
+            Err(_) => return Err(Refusal::new("no log")),
+        }
+    }
+    Ok(inputs)
+}
+
+// Prints what a call answers.
+fn tell(rt: &impl Print, call: &str, told: Result<String, Refusal>) -> io::Result<()> {
+    match told {
+        Ok(answer) => println!(rt; "{call}: {answer}"),
+        Err(refusal) => println!(rt; "{call}: {}", refusal.name),
+    }
+}
+
+fn tell_logs(rt: &impl Print, alloc: Global, log: &[Vec<u8>]) -> io::Result<()> {
+    tell(rt, "run", logs::run_all(alloc, log))?;
+    tell(rt, "append", logs::append(alloc, log))?;
+    tell(rt, "append_all", logs::append_all(alloc, log))?;
+    tell(rt, "permission_chain", logs::chain(alloc, log, "alice"))?;
+    let (front, _) = log.split_at(log.len().min(2));
+    tell(
+        rt,
+        "permission_chain of two",
+        logs::chain(alloc, front, "bob"),
+    )
+}
+
+fn tell_values(rt: &impl Print, alloc: Global) -> io::Result<()> {
+    tell(rt, "signed_contents", values::signed_contents(alloc))?;
+    tell(rt, "to_protobuf", values::to_protobuf(alloc))?;
+    tell(rt, "record id", values::record_id(alloc))?;
+    tell(rt, "key", values::key(alloc))?;
+    tell(rt, "key id", values::key_id(alloc))?;
+    tell(rt, "package name", values::package_name(alloc))?;
+    tell(rt, "checkpoint", values::checkpoint(alloc))?;
+    tell(rt, "leaf", values::leaf(alloc))
+}
+
+fn main(rt: HostRuntime) -> io::Result<()> {
+    match inputs(&rt) {
+        Ok(log) => {
+            tell_logs(&rt, rt.alloc(), log.as_slice())?;
+            tell_values(&rt, rt.alloc())
+        }
+        Err(refusal) => println!(rt; "log: {}", refusal.name),
+    }
+}
