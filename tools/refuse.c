@@ -1,16 +1,21 @@
-// Refuses the request for memory whose number, counted from 1, is in REFUSE. For LD_PRELOAD.
+// Refuses the request for memory whose number, counted from 1, is in REFUSE, and then writes a byte to the file whose
+// descriptor is in REFUSED. For LD_PRELOAD.
 #define _GNU_SOURCE
 #include <dlfcn.h>
 #include <stdlib.h>
+#include <unistd.h>
 
 static long requests, refused_one = -1;
 
+static long number_in(const char *name) {
+    const char *text = getenv(name);
+    return text ? atol(text) : 0;
+}
+
 static int is_refused(void) {
-    if (refused_one < 0) {
-        const char *text = getenv("REFUSE");
-        refused_one = text ? atol(text) : 0;
-    }
-    return ++requests == refused_one;
+    if (refused_one < 0) refused_one = number_in("REFUSE");
+    if (++requests != refused_one) return 0;
+    return write(number_in("REFUSED"), "!", 1), 1;
 }
 
 void *malloc(size_t size) {
