@@ -35,7 +35,7 @@ fn state_of(alloc: Global, inputs: &[Vec<u8>]) -> Result<LogState, Refusal> {
 }
 
 /// `run`: the state of the log.
-pub fn run_all(alloc: Global, inputs: &[Vec<u8>]) -> Result<String, Refusal> {
+pub(crate) fn run_all(alloc: Global, inputs: &[Vec<u8>]) -> Result<String, Refusal> {
     told(alloc, &state_of(alloc, inputs)?)
 }
 
@@ -80,7 +80,7 @@ fn take_each(alloc: Global, log: &mut Log, inputs: &[Vec<u8>]) -> Result<(), Ref
 }
 
 /// `append` of each input. A refused one is appended once more.
-pub fn append(alloc: Global, inputs: &[Vec<u8>]) -> Result<String, Refusal> {
+pub(crate) fn append(alloc: Global, inputs: &[Vec<u8>]) -> Result<String, Refusal> {
     let mut log = Log::new(alloc, ToyVerifier)?;
     let taken = take_each(alloc, &mut log, inputs);
     check(alloc, &log, inputs)?;
@@ -104,7 +104,7 @@ fn take_all(alloc: Global, log: &mut Log, inputs: &[Vec<u8>]) -> Result<(), Refu
 }
 
 /// `append_all` of the inputs. From a refused one on they are appended once more.
-pub fn append_all(alloc: Global, inputs: &[Vec<u8>]) -> Result<String, Refusal> {
+pub(crate) fn append_all(alloc: Global, inputs: &[Vec<u8>]) -> Result<String, Refusal> {
     let mut log = Log::new(alloc, ToyVerifier)?;
     let taken = take_all(alloc, &mut log, inputs);
     check(alloc, &log, inputs)?;
@@ -135,7 +135,7 @@ fn told_chain(
 }
 
 /// `permission_chain` of this person's permission to release, after the inputs.
-pub fn chain(alloc: Global, inputs: &[Vec<u8>], name: &str) -> Result<String, Refusal> {
+pub(crate) fn chain(alloc: Global, inputs: &[Vec<u8>], name: &str) -> Result<String, Refusal> {
     let mut log = Log::new(alloc, ToyVerifier)?;
     match log.append_all(inputs) {
         Ok(()) => told_chain(alloc, &log, name, Permission::Release),

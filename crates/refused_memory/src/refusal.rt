@@ -8,19 +8,19 @@ use warg_protocol::{JsonError, ParseEnvelopeError, RunCause};
 
 /// The name of a call's error, from its outermost case inwards: `OutOfMemory` where that is the whole error.
 #[derive(Clone, Copy)]
-pub struct Refusal {
+pub(crate) struct Refusal {
     /// The name.
-    pub name: &'static str,
+    pub(crate) name: &'static str,
 }
 
 /// Memory was refused.
-pub const OUT_OF_MEMORY: Refusal = Refusal {
+pub(crate) const OUT_OF_MEMORY: Refusal = Refusal {
     name: "OutOfMemory",
 };
 
 impl Refusal {
     /// The refusal of this name.
-    pub fn new(name: &'static str) -> Refusal {
+    pub(crate) fn new(name: &'static str) -> Refusal {
         Refusal { name }
     }
 }

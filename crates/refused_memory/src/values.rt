@@ -33,13 +33,13 @@ fn signed(alloc: Global) -> Result<ProtoEnvelope<PackageRecord>, Refusal> {
 }
 
 /// `signed_contents`: the record's id.
-pub fn signed_contents(alloc: Global) -> Result<String, Refusal> {
+pub(crate) fn signed_contents(alloc: Global) -> Result<String, Refusal> {
     let id = RecordId::package_record::<Sha256>(&signed(alloc)?);
     Ok(id.to_string(alloc)?)
 }
 
 /// `to_protobuf`: the hash of the envelope's bytes.
-pub fn to_protobuf(alloc: Global) -> Result<String, Refusal> {
+pub(crate) fn to_protobuf(alloc: Global) -> Result<String, Refusal> {
     let bytes = signed(alloc)?.to_protobuf(alloc)?;
     let hash = HashAlgorithm::Sha256.digest(bytes.as_slice());
     Ok(hash.to_string(alloc)?)
@@ -62,29 +62,29 @@ fn hash() -> AnyHash {
 }
 
 /// The JSON of a record id.
-pub fn record_id(alloc: Global) -> Result<String, Refusal> {
+pub(crate) fn record_id(alloc: Global) -> Result<String, Refusal> {
     written(alloc, &RecordId::from(hash()))
 }
 
 /// The JSON of a key.
-pub fn key(alloc: Global) -> Result<String, Refusal> {
+pub(crate) fn key(alloc: Global) -> Result<String, Refusal> {
     let alice = ToySigner::new(alloc, b"alice")?;
     written(alloc, alice.public_key())
 }
 
 /// The JSON of a key id.
-pub fn key_id(alloc: Global) -> Result<String, Refusal> {
+pub(crate) fn key_id(alloc: Global) -> Result<String, Refusal> {
     let alice = ToySigner::new(alloc, b"alice")?;
     written(alloc, &alice.public_key().fingerprint(alloc)?)
 }
 
 /// The JSON of a package name.
-pub fn package_name(alloc: Global) -> Result<String, Refusal> {
+pub(crate) fn package_name(alloc: Global) -> Result<String, Refusal> {
     written(alloc, &PackageName::new(alloc, "foo:bar")?)
 }
 
 /// The JSON of a timestamped checkpoint.
-pub fn checkpoint(alloc: Global) -> Result<String, Refusal> {
+pub(crate) fn checkpoint(alloc: Global) -> Result<String, Refusal> {
     let checkpoint = Checkpoint {
         log_root: hash(),
         log_length: 300,
@@ -100,7 +100,7 @@ pub fn checkpoint(alloc: Global) -> Result<String, Refusal> {
 }
 
 /// The JSON of a leaf of a log.
-pub fn leaf(alloc: Global) -> Result<String, Refusal> {
+pub(crate) fn leaf(alloc: Global) -> Result<String, Refusal> {
     let leaf = LogLeaf {
         log_id: LogId::from(hash()),
         record_id: RecordId::from(hash()),
