@@ -1,0 +1,76 @@
+//! Times the phases of reading, judging, keeping and saving a package log: `warg_bench RUNS < LOG`, where the log has an
+//! envelope a line in hex, as `tools/make_log` prints them. Each row has the least and the median time of the runs.
+#![tactic(auto)]
+
+mod phase;
+
+use phase::{Inputs, PHASES, Phase};
+use std::alloc::Global;
+use std::env;
+use std::time::{Clock, Instant};
+
+/// What is printed for words that ask for nothing.
+const USAGE: &str = "usage: warg_bench RUNS < LOG";
+
+// The microseconds that one run of the phase takes.
+fn timed(clock: &impl Clock, alloc: Global, phase: Phase, inputs: &Inputs) -> anyhow::Result<u64> {
+    let start = Instant::now(clock)?;
+    let size = phase.run(alloc, inputs)?;
+    let taken = start.elapsed(clock)?;
+    anyhow::ensure!(size != usize::MAX, "too much was read");
+    Ok(u64::try_from(taken.as_micros()).unwrap_or(u64::MAX))
+}
+
+// The microseconds of each run of the phase, the least first.
+fn times(
+    clock: &impl Clock,
+    alloc: Global,
+    phase: Phase,
+    inputs: &Inputs,
+    runs: usize,
+) -> anyhow::Result<Vec<u64>> {
+    let mut times = Vec::new(alloc);
+    for _ in 0..runs {
+        times.push(timed(clock, alloc, phase, inputs)?)?;
+    }
+    times.sort()?;
+    Ok(times)
+}
+
+// The row of the phase.
+fn row(
+    clock: &impl Clock,
+    alloc: Global,
+    phase: Phase,
+    inputs: &Inputs,
+    runs: usize,
+) -> anyhow::Result<String> {
+    let times = times(clock, alloc, phase, inputs, runs)?;
+    let least = times.first().copied().unwrap_or(0);
+    let median = times.get(times.len() / 2).copied().unwrap_or(0);
+    let records = u64::try_from(inputs.strings.len().max(1)).unwrap_or(u64::MAX);
+    let each = least.saturating_mul(1000) / records;
+    let name = phase.name();
+    Ok(format!(in alloc; "{name:12} {least:8} us {median:8} us {each:8} ns a record")?)
+}
+
+fn main(rt: HostRuntime) -> anyhow::Result<()> {
+    let alloc = rt.alloc();
+    let runs = match env::args(&rt)?.nth(1) {
+        Some(word) => word.parse::<usize>().unwrap_or(0),
+        None => 0,
+    };
+    if runs == 0 {
+        println!(rt; "{USAGE}")?;
+        return Ok(());
+    }
+    let mut strings = Vec::new(alloc);
+    for line in rt.lines(alloc) {
+        strings.push(hex::decode(alloc, line?.as_bytes())?)?;
+    }
+    let inputs = Inputs::new(alloc, strings)?;
+    for phase in PHASES {
+        println!(rt; "{}", row(&rt, alloc, *phase, &inputs, runs)?)?;
+    }
+    Ok(())
+}
