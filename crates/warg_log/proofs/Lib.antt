@@ -20,3 +20,4 @@ pub mod AdmissionLaws
 pub mod HeadJsonLaws
 pub mod SavedParts
 pub mod SavedHead
+pub mod SavedSame

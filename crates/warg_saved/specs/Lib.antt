@@ -4,3 +4,4 @@ pub mod Maps
 pub mod Permissions
 pub mod PermissionLaws
 pub mod Fit
+pub mod Backs

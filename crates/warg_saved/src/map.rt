@@ -1,8 +1,9 @@
 //! Maps as objects.
-ghost use Rattle.std.specs.Prelude.{OnErr, ◌≡◌};
+ghost use Rattle.std.specs.Prelude.{OnErr, OnOk, ◌≡◌};
 ghost use Rattle.serde_json.specs.View.{members_view, view};
 ghost use Rattle.warg_crypto.specs.Json.{Gives};
 ghost use Rattle.warg_crypto.specs.Pairs.{AreAscending, names_of, pairs_json, pairs_member, pairs_of, plain_pairs};
+ghost use Rattle.warg_saved.specs.Backs.{AreBack, AreVersionsBack};
 ghost use Rattle.warg_saved.specs.Fit.{is_nil};
 ghost use Rattle.warg_saved.specs.Maps.{put_pairs};
 
@@ -19,7 +20,9 @@ pub fn map_value<K: SavedName, V: SavedValue>(
     alloc: Global,
     map: &IndexMap<K, V>,
 ) -> Result<Value, JsonError>
-    ensures { Gives view result (pairs_json K.name_of V.writes (plain_pairs K.plain V.plain map.now.entries)) }
+    ensures written { Gives view result (pairs_json K.name_of V.writes (plain_pairs K.plain V.plain map.now.entries)) }
+    ensures back { OnOk result (AreVersionsBack K.versions V.versions (plain_pairs K.plain V.plain map.now.entries)
+        → AreBack K.name_of K.named V.writes V.reads (plain_pairs K.plain V.plain map.now.entries)) }
 {
     let mut members = Map::new(alloc);
     'entries: for (key, value) in map.iter() {
@@ -46,6 +49,8 @@ pub fn put_map<K: SavedName, V: SavedValue>(
 ) -> Result<(), JsonError>
     ensures written { Gives (λ _. members_view members.new.entries) result
         (put_pairs K.name_of V.writes name.now (plain_pairs K.plain V.plain map.now.entries) (members_view members.old.entries)) }
+    ensures back { OnOk result (AreVersionsBack K.versions V.versions (plain_pairs K.plain V.plain map.now.entries)
+        → AreBack K.name_of K.named V.writes V.reads (plain_pairs K.plain V.plain map.now.entries)) }
     ensures kept { OnErr result (members_view members.new.entries ≡ members_view members.old.entries) }
 {
     if map.is_empty() {

@@ -1,10 +1,11 @@
 //! The members that states of every kind have: the algorithm, the permissions and the keys.
-ghost use Rattle.std.specs.Prelude.{◌≡◌, OnErr, codes};
+ghost use Rattle.std.specs.Prelude.{◌≡◌, OnErr, OnOk, codes};
 ghost use Rattle.serde_json.specs.View.{members_view, view};
 ghost use Rattle.warg_crypto.specs.Json.{Gives};
 ghost use Rattle.warg_crypto.specs.JsonTexts.{algorithm_in, algorithm_json, key_in, key_json};
 ghost use Rattle.warg_crypto.specs.Members.{optional_member, put_option};
 ghost use Rattle.warg_crypto.specs.Pairs.{pairs_member};
+ghost use Rattle.warg_saved.specs.Backs.{AreBack};
 ghost use Rattle.warg_saved.specs.Fit.{is_nil};
 ghost use Rattle.warg_saved.specs.Maps.{put_pairs};
 ghost use Rattle.warg_saved.specs.Names.{text_name, text_named};
@@ -49,6 +50,7 @@ pub fn put_keys(
 ) -> Result<(), JsonError>
     ensures written { Gives (λ _. members_view members.new.entries) result
         (put_pairs text_name key_json (codes "keys") keys.now.entries (members_view members.old.entries)) }
+    ensures back { OnOk result (AreBack text_name text_named key_json key_in keys.now.entries) }
     ensures kept { OnErr result (members_view members.new.entries ≡ members_view members.old.entries) }
 {
     put_map(members, alloc, "keys", keys)

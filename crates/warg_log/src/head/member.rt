@@ -1,10 +1,11 @@
 //! The head of a saved state.
-ghost use Rattle.std.specs.Prelude.{◌≡◌, OnErr, codes};
+ghost use Rattle.std.specs.Prelude.{◌≡◌, OnErr, OnOk, Some, codes};
 ghost use Rattle.std.specs.Option.{option_map};
 ghost use Rattle.serde_json.specs.View.{members_view, view};
-ghost use Rattle.warg_crypto.specs.Json.{Gives};
+ghost use Rattle.warg_crypto.specs.Json.{Gives, IsReadBack};
 ghost use Rattle.warg_crypto.specs.Members.{optional_member, put_option};
 ghost use Rattle.warg_log.specs.HeadJson.{head_in, head_json};
+ghost use Rattle.warg_log.specs.declared.head.Head.{Head as OfHead};
 
 use crate::head::Head;
 use serde_json::{Map, Value};
@@ -20,6 +21,7 @@ pub fn put_head(
 ) -> Result<(), JsonError>
     ensures written { Gives (λ _. members_view members.new.entries) result
         (put_option head_json (codes "head") head.now (members_view members.old.entries)) }
+    ensures back { OnOk result ((h : OfHead) → head.now ≡ Some h → IsReadBack head_json head_in (λ x y. x ≡ y) h) }
     ensures kept { OnErr result (members_view members.new.entries ≡ members_view members.old.entries) }
 {
     let Some(head) = head else {
