@@ -10,3 +10,5 @@ pub mod YankLaws
 pub mod ReleaseJsonLaws
 pub mod SavedReleases
 pub mod SavedStates
+pub mod SavedFound
+pub mod SavedLaws

@@ -17,3 +17,4 @@ pub mod Versions
 pub mod ReleaseJson
 pub mod SavedState
 pub mod SavedParts
+pub mod SavedBack

@@ -1,12 +1,15 @@
 //! The state of a package log as JSON.
-ghost use Rattle.std.specs.Prelude.{◌≡◌, ◌&&◌, [], ◌∷◌, None};
+ghost use Rattle.std.specs.Prelude.{◌≡◌, ◌&&◌, [], ◌∷◌, None, IfOk, OnOk};
 ghost use Rattle.std.specs.List.{list_any};
 ghost use Rattle.semver.specs.Identifiers.{parts_of};
-ghost use Rattle.serde_json.specs.View.{view};
-ghost use Rattle.warg_crypto.specs.Json.{Gives};
+ghost use Rattle.serde_json.specs.Data.{object};
+ghost use Rattle.serde_json.specs.View.{members_view, view};
+ghost use Rattle.warg_crypto.specs.Json.{AreReadBack, Gives, ReadsBack};
 ghost use Rattle.warg_crypto.specs.Pairs.{plain_pairs};
 ghost use Rattle.warg_saved.specs.Fit.{RefusesCase, first_case, is_nil, keys_case, rights_case, version_case};
 ghost use Rattle.warg_package_log.specs.Catalog.{release_view};
+ghost use Rattle.warg_package_log.specs.Releases.{versions};
+ghost use Rattle.warg_package_log.specs.SavedBack.{AreEqual, IsSavable};
 ghost use Rattle.warg_package_log.specs.SavedParts.{parts_view};
 ghost use Rattle.warg_package_log.specs.SavedState.{head_version, incoherence, is_misfiled, parts_in, releases_case, state_in, state_json, state_of};
 
@@ -123,18 +126,29 @@ fn restore(alloc: Global, parts: SavedParts) -> Log<ReleaseMap>
     )
 }
 
+/// The members of the state's JSON.
+fn members_of(alloc: Global, log: &Log<ReleaseMap>) -> Result<Map<String, Value>, JsonError>
+    ensures written { Gives (λ m. object (members_view m.entries)) result (state_json log.now) }
+    ensures savable { OnOk result (AreReadBack (versions log.now.matter) → IsSavable log.now) }
+{
+    let mut members = Map::new(alloc);
+    put_algorithm(&mut members, alloc, log.algorithm())?;
+    put_head(&mut members, alloc, log.head())?;
+    put_map(&mut members, alloc, "permissions", log.permissions())?;
+    put_map(&mut members, alloc, "releases", log.matter().as_map())?;
+    put_keys(&mut members, alloc, log.keys())?;
+    Ok(members)
+}
+
 impl LogState {
     /// The JSON of the state. `TimeBeforeEpoch`: a time that is to be written lies before the epoch.
+    /// Where the text of each release's version reads back, so does the state, as one that is `==`.
     pub fn to_value(&self, alloc: Global) -> Result<Value, JsonError>
-        ensures { Gives view result (state_json self.now) }
+        ensures written { Gives view result (state_json self.now) }
+        ensures back { AreReadBack (versions self.now.matter) →
+            IfOk result (λ v. ReadsBack state_in AreEqual self.now (view v)) }
     {
-        let mut members = Map::new(alloc);
-        put_algorithm(&mut members, alloc, self.log.algorithm())?;
-        put_head(&mut members, alloc, self.log.head())?;
-        put_map(&mut members, alloc, "permissions", self.log.permissions())?;
-        put_map(&mut members, alloc, "releases", self.log.matter().as_map())?;
-        put_keys(&mut members, alloc, self.log.keys())?;
-        Ok(object_value(members))
+        Ok(object_value(members_of(alloc, &self.log)?))
     }
 
     /// The state of JSON, or its first fault, or else the first thing in it that does not fit together.
