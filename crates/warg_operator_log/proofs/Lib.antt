@@ -6,3 +6,4 @@ pub mod NamespaceLemmas
 pub mod NamespaceJsonLaws
 pub mod SavedNamespaces
 pub mod SavedStates
+pub mod SavedLaws

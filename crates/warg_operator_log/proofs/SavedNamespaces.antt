@@ -19,3 +19,8 @@ all_kebab (e ∷ es) h =
 
 pub kebab_names : (es : List (List ℕ × Namespace)) → namespaces_case es ≡ None → HasKebabNames es
 kebab_names es h = all_kebab es (no_case _ _ h)
+
+-- no namespace of a log has another name
+pub none_misnamed : (es : List (List ℕ × Namespace)) → HasKebabNames es → list_any is_misnamed es ≡ false
+none_misnamed [] all = refl
+none_misnamed (e ∷ es) all = rw all.0 (none_misnamed es all.1)

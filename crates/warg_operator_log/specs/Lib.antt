@@ -10,3 +10,4 @@ pub mod StateLaws
 pub mod NamespaceJson
 pub mod SavedState
 pub mod SavedParts
+pub mod SavedBack

@@ -1,7 +1,7 @@
 //! The namespaces of a log as their map, which is saved and restored.
 ghost use Rattle.std.specs.Prelude.{◌≡◌, None, string_bytes};
 ghost use Rattle.warg_crypto.specs.Pairs.{plain_pairs};
-ghost use Rattle.warg_operator_log.specs.NamespaceMap.{namespace_view};
+ghost use Rattle.warg_operator_log.specs.NamespaceMap.{HasKebabNames, namespace_view};
 ghost use Rattle.warg_operator_log.specs.SavedState.{namespaces_case};
 
 use crate::namespace::NamespaceState;
@@ -9,9 +9,10 @@ use crate::namespace_map::NamespaceMap;
 use indexmap::IndexMap;
 
 impl NamespaceMap {
-    /// The namespaces by their names.
+    /// The namespaces by their names, which are kebab names.
     pub(crate) fn as_map(&self) -> &IndexMap<String, NamespaceState>
-        ensures { plain_pairs string_bytes namespace_view result.now.entries ≡ self.now }
+        ensures kebabs { HasKebabNames self.now }
+        ensures named { plain_pairs string_bytes namespace_view result.now.entries ≡ self.now }
     {
         &self.map
     }

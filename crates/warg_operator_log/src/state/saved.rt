@@ -1,11 +1,13 @@
 //! The state of an operator log as JSON.
-ghost use Rattle.std.specs.Prelude.{◌≡◌, ◌&&◌, [], ◌∷◌, None, string_bytes};
+ghost use Rattle.std.specs.Prelude.{◌≡◌, ◌&&◌, [], ◌∷◌, None, IfOk, OnOk, string_bytes};
 ghost use Rattle.std.specs.List.{list_any};
-ghost use Rattle.serde_json.specs.View.{view};
-ghost use Rattle.warg_crypto.specs.Json.{Gives};
+ghost use Rattle.serde_json.specs.Data.{object};
+ghost use Rattle.serde_json.specs.View.{members_view, view};
+ghost use Rattle.warg_crypto.specs.Json.{Gives, ReadsBack};
 ghost use Rattle.warg_crypto.specs.Pairs.{plain_pairs};
 ghost use Rattle.warg_saved.specs.Fit.{RefusesCase, first_case, is_nil, keys_case, rights_case, version_case};
 ghost use Rattle.warg_operator_log.specs.NamespaceMap.{namespace_view};
+ghost use Rattle.warg_operator_log.specs.SavedBack.{AreEqual, IsSavable};
 ghost use Rattle.warg_operator_log.specs.SavedParts.{parts_view};
 ghost use Rattle.warg_operator_log.specs.SavedState.{head_version, incoherence, is_misnamed, parts_in, namespaces_case, state_in, state_json, state_of};
 
@@ -122,23 +124,28 @@ fn restore(alloc: Global, parts: SavedParts) -> Log<NamespaceMap>
     )
 }
 
+/// The members of the state's JSON.
+fn members_of(alloc: Global, log: &Log<NamespaceMap>) -> Result<Map<String, Value>, JsonError>
+    ensures written { Gives (λ m. object (members_view m.entries)) result (state_json log.now) }
+    ensures savable { OnOk result (IsSavable log.now) }
+{
+    let mut members = Map::new(alloc);
+    put_algorithm(&mut members, alloc, log.algorithm())?;
+    put_head(&mut members, alloc, log.head())?;
+    put_map(&mut members, alloc, "permissions", log.permissions())?;
+    put_keys(&mut members, alloc, log.keys())?;
+    put_map(&mut members, alloc, "namespaces", log.matter().as_map())?;
+    Ok(members)
+}
+
 impl LogState {
     /// The JSON of the state. `TimeBeforeEpoch`: a time that is to be written lies before the epoch.
+    /// It reads back as a state that is `==`.
     pub fn to_value(&self, alloc: Global) -> Result<Value, JsonError>
-        ensures { Gives view result (state_json self.now) }
+        ensures written { Gives view result (state_json self.now) }
+        ensures back { IfOk result (λ v. ReadsBack state_in AreEqual self.now (view v)) }
     {
-        let mut members = Map::new(alloc);
-        put_algorithm(&mut members, alloc, self.log.algorithm())?;
-        put_head(&mut members, alloc, self.log.head())?;
-        put_map(&mut members, alloc, "permissions", self.log.permissions())?;
-        put_keys(&mut members, alloc, self.log.keys())?;
-        put_map(
-            &mut members,
-            alloc,
-            "namespaces",
-            self.log.matter().as_map(),
-        )?;
-        Ok(object_value(members))
+        Ok(object_value(members_of(alloc, &self.log)?))
     }
 
     /// The state of JSON, or its first fault, or else the first thing in it that does not fit together.
