@@ -1,6 +1,6 @@
 -- When what is saved of a state reads back.
 use Rattle.std.specs.Prelude.{◌≡◌, List, true, Some}
-use Rattle.warg_crypto.specs.Json.{IsReadBack}
+use Rattle.warg_crypto.specs.Json.{IsReadBack, Version}
 use Rattle.warg_crypto.specs.JsonTexts.{key_in, key_json}
 use Rattle.warg_records.specs.PackagePermissions.{permission_in, permission_text, same_permission}
 use Rattle.warg_records.specs.declared.package.permission.Permission.{Permission}
@@ -14,7 +14,7 @@ use Rattle.warg_log.specs.History.{IsCoherent}
 use Rattle.warg_log.specs.States.{State}
 use Rattle.warg_log.specs.declared.head.Head.{Head}
 use Rattle.warg_package_log.specs.ReleaseJson.{release_in, release_json}
-use Rattle.warg_package_log.specs.Releases.{ReleaseView, rules}
+use Rattle.warg_package_log.specs.Releases.{ReleaseView, rules, versions}
 use Rattle.warg_package_log.specs.SameReleases.{same_releases}
 use Rattle.warg_package_log.specs.SavedState.{named_releases}
 use Rattle.warg_package_log.specs.State.{view_of}
@@ -23,6 +23,10 @@ use Rattle.warg_package_log.specs.State.{view_of}
 abbrev pub AreEqual : State (Contents Permission) (List ReleaseView) → State (Contents Permission) (List ReleaseView)
     → Type 0
 AreEqual s t = same_states same_permission same_releases s t ≡ true
+
+-- the versions of the releases: where their texts read back, so does the state
+abbrev pub saved_versions : State (Contents Permission) (List ReleaseView) → List Version
+saved_versions s = versions s.matter
 
 -- the state is coherent, and each of its parts reads back
 pub record IsSavable (s : State (Contents Permission) (List ReleaseView)) : Type 0 where

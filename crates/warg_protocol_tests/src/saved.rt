@@ -4,7 +4,7 @@ use serde_json::Value;
 use std::alloc::Global;
 use std::process::Abort;
 use std::test::Fail;
-use warg_protocol::{JsonError, operator, package};
+use warg_protocol::{JsonError, JsonValue, operator, package};
 
 /// An algorithm and a head, as members of a state.
 pub const BEGUN: &str =

@@ -1,12 +1,16 @@
 //! The state of an operator log as JSON.
-ghost use Rattle.std.specs.Prelude.{◌≡◌, ◌&&◌, [], ◌∷◌, None, IfOk, OnOk, string_bytes};
+ghost use Rattle.std.specs.Prelude.{ℕ, List, ◌≡◌, ◌&&◌, [], ◌∷◌, None, OnOk, string_bytes};
 ghost use Rattle.std.specs.List.{list_any};
 ghost use Rattle.serde_json.specs.Data.{object};
 ghost use Rattle.serde_json.specs.View.{members_view, view};
-ghost use Rattle.warg_crypto.specs.Json.{Gives, ReadsBack};
+ghost use Rattle.warg_crypto.specs.Json.{Gives};
 ghost use Rattle.warg_crypto.specs.Pairs.{plain_pairs};
+ghost use Rattle.warg_records.specs.declared.operator.permission.Permission.{Permission as OfPermission};
 ghost use Rattle.warg_saved.specs.Fit.{RefusesCase, first_case, is_nil, keys_case, rights_case, version_case};
+ghost use Rattle.warg_log.specs.Contents.{Contents};
+ghost use Rattle.warg_log.specs.States.{State};
 ghost use Rattle.warg_operator_log.specs.NamespaceMap.{namespace_view};
+ghost use Rattle.warg_operator_log.specs.Namespaces.{Namespace};
 ghost use Rattle.warg_operator_log.specs.SavedBack.{AreEqual, IsSavable};
 ghost use Rattle.warg_operator_log.specs.SavedParts.{parts_view};
 ghost use Rattle.warg_operator_log.specs.SavedState.{head_version, incoherence, is_misnamed, parts_in, namespaces_case, state_in, state_json, state_of};
@@ -20,7 +24,7 @@ use std::alloc::Global;
 use warg_crypto::hash::HashAlgorithm;
 use warg_crypto::json::members::object_value;
 use warg_crypto::signing::{KeyID, PublicKey};
-use warg_crypto::{Incoherence, JsonError};
+use warg_crypto::{Incoherence, JsonError, JsonValue};
 use warg_log::{Head, Log, head_member, head_version, put_head};
 use warg_records::operator::Permission;
 use warg_records::registry::PackageName;
@@ -138,20 +142,26 @@ fn members_of(alloc: Global, log: &Log<NamespaceMap>) -> Result<Map<String, Valu
     Ok(members)
 }
 
-impl LogState {
-    /// The JSON of the state. `TimeBeforeEpoch`: a time that is to be written lies before the epoch.
-    /// It reads back as a state that is `==`.
-    pub fn to_value(&self, alloc: Global) -> Result<Value, JsonError>
-        ensures written { Gives view result (state_json self.now) }
-        ensures back { IfOk result (λ v. ReadsBack state_in AreEqual self.now (view v)) }
-    {
+/// A state as JSON. `TimeBeforeEpoch`: a time that is to be written lies before the epoch. What is read is the
+/// state, or its first fault, or else the first thing in it that does not fit together.
+impl JsonValue for LogState {
+    ghost Plain = { State (Contents OfPermission) (List (List ℕ × Namespace)) };
+
+    ghost plain = { λ s. s };
+
+    ghost writes = { state_json };
+
+    ghost reads = { state_in };
+
+    ghost versions = { λ _. [] };
+
+    ghost same = { AreEqual };
+
+    fn to_value(&self, alloc: Global) -> Result<Value, JsonError> {
         Ok(object_value(members_of(alloc, &self.log)?))
     }
 
-    /// The state of JSON, or its first fault, or else the first thing in it that does not fit together.
-    pub fn from_value(alloc: Global, value: &Value) -> Result<LogState, JsonError>
-        ensures { Gives (λ s. s) result (state_in (view value.now)) }
-    {
+    fn from_value(alloc: Global, value: &Value) -> Result<LogState, JsonError> {
         let parts = read_parts(alloc, value)?;
         check_parts(alloc, &parts)?;
         Ok(LogState {

@@ -1,15 +1,18 @@
 //! The state of a package log as JSON.
-ghost use Rattle.std.specs.Prelude.{◌≡◌, ◌&&◌, [], ◌∷◌, None, IfOk, OnOk};
+ghost use Rattle.std.specs.Prelude.{List, ◌≡◌, ◌&&◌, [], ◌∷◌, None, OnOk};
 ghost use Rattle.std.specs.List.{list_any};
 ghost use Rattle.semver.specs.Identifiers.{parts_of};
 ghost use Rattle.serde_json.specs.Data.{object};
 ghost use Rattle.serde_json.specs.View.{members_view, view};
-ghost use Rattle.warg_crypto.specs.Json.{AreReadBack, Gives, ReadsBack};
+ghost use Rattle.warg_crypto.specs.Json.{AreReadBack, Gives};
 ghost use Rattle.warg_crypto.specs.Pairs.{plain_pairs};
+ghost use Rattle.warg_records.specs.declared.package.permission.Permission.{Permission as OfPermission};
 ghost use Rattle.warg_saved.specs.Fit.{RefusesCase, first_case, is_nil, keys_case, rights_case, version_case};
+ghost use Rattle.warg_log.specs.Contents.{Contents};
+ghost use Rattle.warg_log.specs.States.{State};
 ghost use Rattle.warg_package_log.specs.Catalog.{release_view};
-ghost use Rattle.warg_package_log.specs.Releases.{versions};
-ghost use Rattle.warg_package_log.specs.SavedBack.{AreEqual, IsSavable};
+ghost use Rattle.warg_package_log.specs.Releases.{ReleaseView};
+ghost use Rattle.warg_package_log.specs.SavedBack.{AreEqual, IsSavable, saved_versions};
 ghost use Rattle.warg_package_log.specs.SavedParts.{parts_view};
 ghost use Rattle.warg_package_log.specs.SavedState.{head_version, incoherence, is_misfiled, parts_in, releases_case, state_in, state_json, state_of};
 
@@ -23,7 +26,7 @@ use std::alloc::Global;
 use warg_crypto::hash::HashAlgorithm;
 use warg_crypto::json::members::object_value;
 use warg_crypto::signing::{KeyID, PublicKey};
-use warg_crypto::{Incoherence, JsonError};
+use warg_crypto::{Incoherence, JsonError, JsonValue};
 use warg_log::{Head, Log, head_member, head_version, put_head};
 use warg_records::package::Permission;
 use warg_saved::{
@@ -129,7 +132,7 @@ fn restore(alloc: Global, parts: SavedParts) -> Log<ReleaseMap>
 /// The members of the state's JSON.
 fn members_of(alloc: Global, log: &Log<ReleaseMap>) -> Result<Map<String, Value>, JsonError>
     ensures written { Gives (λ m. object (members_view m.entries)) result (state_json log.now) }
-    ensures savable { OnOk result (AreReadBack (versions log.now.matter) → IsSavable log.now) }
+    ensures savable { OnOk result (AreReadBack (saved_versions log.now) → IsSavable log.now) }
 {
     let mut members = Map::new(alloc);
     put_algorithm(&mut members, alloc, log.algorithm())?;
@@ -140,21 +143,26 @@ fn members_of(alloc: Global, log: &Log<ReleaseMap>) -> Result<Map<String, Value>
     Ok(members)
 }
 
-impl LogState {
-    /// The JSON of the state. `TimeBeforeEpoch`: a time that is to be written lies before the epoch.
-    /// Where the text of each release's version reads back, so does the state, as one that is `==`.
-    pub fn to_value(&self, alloc: Global) -> Result<Value, JsonError>
-        ensures written { Gives view result (state_json self.now) }
-        ensures back { AreReadBack (versions self.now.matter) →
-            IfOk result (λ v. ReadsBack state_in AreEqual self.now (view v)) }
-    {
+/// A state as JSON. `TimeBeforeEpoch`: a time that is to be written lies before the epoch. What is read is the
+/// state, or its first fault, or else the first thing in it that does not fit together.
+impl JsonValue for LogState {
+    ghost Plain = { State (Contents OfPermission) (List ReleaseView) };
+
+    ghost plain = { λ s. s };
+
+    ghost writes = { state_json };
+
+    ghost reads = { state_in };
+
+    ghost versions = { saved_versions };
+
+    ghost same = { AreEqual };
+
+    fn to_value(&self, alloc: Global) -> Result<Value, JsonError> {
         Ok(object_value(members_of(alloc, &self.log)?))
     }
 
-    /// The state of JSON, or its first fault, or else the first thing in it that does not fit together.
-    pub fn from_value(alloc: Global, value: &Value) -> Result<LogState, JsonError>
-        ensures { Gives (λ s. s) result (state_in (view value.now)) }
-    {
+    fn from_value(alloc: Global, value: &Value) -> Result<LogState, JsonError> {
         let parts = read_parts(alloc, value)?;
         check_parts(alloc, &parts)?;
         Ok(LogState {

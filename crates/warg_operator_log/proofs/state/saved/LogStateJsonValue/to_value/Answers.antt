@@ -1,6 +1,6 @@
-use Rattle.std.proofs.Common.{ℕ, List, ap, sym, subst, ◌∙◌}
+use Rattle.std.proofs.Common.{ℕ, List, [], ap, sym, subst, ◌∙◌}
 use Rattle.serde_json.specs.View.{view}
-use Rattle.warg_crypto.specs.Json.{ReadsBack, wrote}
+use Rattle.warg_crypto.specs.Json.{AreReadBack, ReadsBack, wrote}
 use Rattle.warg_records.specs.declared.operator.permission.Permission.{Permission}
 use Rattle.warg_log.specs.Contents.{Contents}
 use Rattle.warg_log.specs.States.{State}
@@ -8,10 +8,12 @@ use Rattle.warg_operator_log.specs.Namespaces.{Namespace}
 use Rattle.warg_operator_log.specs.SavedBack.{AreEqual}
 use Rattle.warg_operator_log.specs.SavedState.{state_in}
 use Rattle.warg_operator_log.proofs.SavedLaws.{state_back}
-use Rattle.warg_operator_log.proofs.state.LogState.to_value.Goals as goal
+use Rattle.warg_operator_log.proofs.state.saved.LogStateJsonValue.to_value.Goals as goal
 
 pub returns-clause-back : goal.returns-clause-back
 returns-clause-back c =
-    subst (λ (s : State (Contents Permission) (List (List ℕ × Namespace))). ReadsBack state_in AreEqual s (view c.object_value.result)) c.self.view_is
-    (state_back c.self.inside.log (view c.object_value.result) c.in_ok-members_of.ensures.savable
+    subst (λ (s : State (Contents Permission) (List (List ℕ × Namespace))).
+    AreReadBack [] → ReadsBack state_in AreEqual s (view c.object_value.result))
+    c.self.view_is
+    (λ back. state_back c.self.inside.log (view c.object_value.result) c.in_ok-members_of.ensures.savable
     (c.in_ok-members_of.ensures.written ∙ ap wrote (sym c.object_value.ensures)))

@@ -4,14 +4,16 @@ use Rattle.warg_crypto.specs.Json.{AreReadBack, ReadsBack, wrote}
 use Rattle.warg_records.specs.declared.package.permission.Permission.{Permission}
 use Rattle.warg_log.specs.Contents.{Contents}
 use Rattle.warg_log.specs.States.{State}
-use Rattle.warg_package_log.specs.Releases.{ReleaseView, versions}
-use Rattle.warg_package_log.specs.SavedBack.{AreEqual}
+use Rattle.warg_package_log.specs.Releases.{ReleaseView}
+use Rattle.warg_package_log.specs.SavedBack.{AreEqual, saved_versions}
 use Rattle.warg_package_log.specs.SavedState.{state_in}
 use Rattle.warg_package_log.proofs.SavedLaws.{state_back}
-use Rattle.warg_package_log.proofs.state.LogState.to_value.Goals as goal
+use Rattle.warg_package_log.proofs.state.saved.LogStateJsonValue.to_value.Goals as goal
 
 pub returns-clause-back : goal.returns-clause-back
 returns-clause-back c =
-    subst (λ (s : State (Contents Permission) (List ReleaseView)). AreReadBack (versions s.matter) → ReadsBack state_in AreEqual s (view c.object_value.result)) c.self.view_is
+    subst (λ (s : State (Contents Permission) (List ReleaseView)).
+    AreReadBack (saved_versions s) → ReadsBack state_in AreEqual s (view c.object_value.result))
+    c.self.view_is
     (λ back. state_back c.self.inside.log (view c.object_value.result) (c.in_ok-members_of.ensures.savable back)
     (c.in_ok-members_of.ensures.written ∙ ap wrote (sym c.object_value.ensures)))
