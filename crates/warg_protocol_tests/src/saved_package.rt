@@ -10,7 +10,7 @@ use warg_protocol::hash::HashAlgorithm;
 use warg_protocol::package::{LogState, PackageRecord, ValidationError};
 use warg_protocol::registry::RecordId;
 use warg_protocol::toy::ToyVerifier;
-use warg_protocol::{Decode, Incoherence, JsonError, ProtoEnvelope};
+use warg_protocol::{Decode, Incoherence, JsonError, JsonValue, ProtoEnvelope};
 
 const HOSTILE: &[(&str, JsonError)] = &[
     ("[]", JsonError::WrongType),
