@@ -51,7 +51,7 @@ pub fn determination<L: Validator>()
 /// States that stand for one log are equal, also where one only answers as such a state does.
 pub fn one_state<L: Validator>()
     ensures same { (es : List EnvelopeData) (s t : L) → StandsFor L.kind L.view s es → StandsFor L.kind L.view t es → L.eq s t ≡ true }
-    ensures alike { (es : List EnvelopeData) (s t : L) → L.same (L.view s) (L.kind.view_of es) →
+    ensures alike { (es : List EnvelopeData) (s t : L) → L.Validator.same (L.view s) (L.kind.view_of es) →
         StandsFor L.kind L.view t es → L.eq s t ≡ true }
 {}
 
