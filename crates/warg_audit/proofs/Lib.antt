@@ -2,6 +2,7 @@ pub mod AnswerLaws
 pub mod DigitLemmas
 pub mod IdAnswers
 pub mod InputLemmas
+pub mod JudgeLemmas
 pub mod LineLemmas
 pub mod LogLemmas
 pub mod NameLemmas

@@ -9,7 +9,7 @@ ghost use Rattle.warg_audit.specs.Lines.{lines_of};
 ghost use Rattle.warg_audit.specs.Replies.{printed_of};
 
 use crate::command::LogType;
-use crate::lines::{cut_line, line_bytes};
+use crate::lines::{cut_line, decode_line};
 use crate::reply::{Reply, bad_line_reply, refused_reply};
 use std::alloc::{AllocError, Global};
 use warg_protocol::hash::Sha256;
@@ -54,9 +54,10 @@ pub(crate) fn id_reply(alloc: Global, log_type: LogType, text: &[u8]) -> Result<
         return bad_line_reply(alloc, 0);
     }
     let (line, more) = cut_line(text);
-    let Some(bytes) = line_bytes(alloc, line)? else {
+    let mut bytes = Vec::new(alloc);
+    if !decode_line(line, &mut bytes)? {
         return bad_line_reply(alloc, 0);
-    };
+    }
     if !more.is_empty() {
         return bad_line_reply(alloc, 1);
     }

@@ -1,17 +1,27 @@
-use Rattle.std.proofs.Common.{map}
 use Rattle.std.proofs.lemmas.Result.{IfOk-weaker}
-use Rattle.std.specs.Vec.{vec_items}
 use Rattle.warg_audit.specs.Lines.{lines_of}
 use Rattle.warg_audit.specs.Replies.{printed_of}
-use Rattle.warg_audit.proofs.LogLemmas.{spelled_answers, bad_answers}
+use Rattle.warg_audit.proofs.LogLemmas.{lawful_answers, spelled_answers, bad_answers}
 use Rattle.warg_audit.proofs.log.log_reply.Goals as goal
 
-pub returns-in-Ok : goal.returns-in-Ok
-returns-in-Ok g c =
-    IfOk-weaker c.strings_reply.result _ _
+pub returns-in-Ok-Ok : goal.returns-in-Ok-Ok
+returns-in-Ok-Ok g c =
+    let judged = rw c.in-Ok-Ok.field-0-is at c.in-Ok-Ok.ensures.ok in
+    let run = judged.1.1 in
+    IfOk-weaker c.accepted_reply.result _ _
     (λ reply is fault_name offence_name shown reports.
-    spelled_answers _ _ (lines_of c.args.text.now) (printed_of reply) (map vec_items c.in-Ok.strings.items) c.in-Ok.ensures.ok (is fault_name offence_name shown reports))
-    (rw c.as_slice.ensures.value at c.strings_reply.ensures)
+    spelled_answers _ _ (lines_of c.args.text.now) (printed_of reply) judged.0 judged.1.0
+    (lawful_answers _ _ judged.0 (printed_of reply) (g.L.Validator.view c.in-Ok-Ok.state) run.0 run.1 c.in-Ok-Ok.count judged.1.2 (g.L.Report.lines_of c.in-Ok-Ok.state) (reports.lines c.in-Ok-Ok.state) is))
+    c.accepted_reply.ensures
+
+pub returns-in-Ok-Err : goal.returns-in-Ok-Err
+returns-in-Ok-Err g c =
+    let judged = rw c.in-Ok-Err.field-0-is at c.in-Ok-Err.ensures.ok in
+    IfOk-weaker c.refusal_reply.result _ _
+    (λ reply is fault_name offence_name shown reports.
+    spelled_answers _ _ (lines_of c.args.text.now) (printed_of reply) judged.0 judged.1.0
+    (is fault_name offence_name shown reports judged.0 judged.1.1))
+    c.refusal_reply.ensures
 
 pub returns-in-Err-Bad : goal.returns-in-Err-Bad
 returns-in-Err-Bad g c =

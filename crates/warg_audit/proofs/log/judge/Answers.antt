@@ -1,0 +1,33 @@
+use Rattle.std.proofs.Common.{◌≡◌, true, [], ◌∷◌, ◌++◌, ◌+◌, Ok, ap, arith}
+use Rattle.std.proofs.lemmas.Grind.{common_steps}
+use Rattle.warg_protocol.specs.Logs.{envelope_of, envelope_fault_of, told}
+use Rattle.warg_protocol.specs.Records.{toy_belongs}
+use Rattle.warg_audit.specs.Lines.{lines_of, strings_from}
+use Rattle.warg_audit.proofs.JudgeLemmas.{none_judged, still_refused}
+use Rattle.warg_audit.proofs.StringLemmas.{one_read, rest_read, some_strings}
+use Rattle.warg_audit.proofs.log.judge.Goals as goal
+
+pub loop-rest-init : goal.loop-rest-init
+loop-rest-init g c = record {
+  judged = none_judged g.L.Validator.kind toy_belongs (envelope_of g.L.Record.Record.read) (lines_of c.args.text.now) (g.L.Validator.view c.in_ok-state.state) c.in_ok-state.ensures (g.met.L.Validator.laws.by_list toy_belongs [] tt);
+  short = omega arith;
+}
+
+pub returns-in-Err-clause-ok : goal.returns-in-Err-clause-ok
+returns-in-Err-clause-ok g c =
+    let good : c.in_ok-decode_line.field-0 ≡ true = grind (arith, common_steps) in
+    let judged = c.loop-rest.invariant.judged in
+    let lines = lines_of c.args.text.now in
+    let rest = lines_of c.cut_line.result.1.now in
+    let string = c.decode_line.new.buffer.items in
+    let read = one_read 0 lines c.loop-rest.count c.cut_line.result.0.now rest judged.strings (rw c.cut_line.ensures.line at judged.whole) string (c.in_ok-decode_line.ensures.bytes (ap Ok good)) in
+    let more = some_strings (strings_from (c.loop-rest.count + 1) rest) c.in_ok-test_lines-in-Err.ensures.ok in
+    let strings = judged.strings ++ string ∷ [] in (
+      strings ++ more.0,
+      (
+        rest_read 0 lines (c.loop-rest.count + 1) rest strings more.0 read more.1,
+        still_refused g.L.Validator.kind toy_belongs (envelope_of g.L.Record.Record.read) g.L.Validator.kind.view_of strings more.0 (told (envelope_fault_of g.L.Record.Record.fault_of) g.L.Validator.offence_of) c.in-Err.error
+            (c.in-Err.ensures judged.strings judged.many judged.lawful judged.stands),
+        tt,
+      ),
+    )
