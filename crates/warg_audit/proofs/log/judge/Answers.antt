@@ -3,7 +3,7 @@ use Rattle.std.proofs.lemmas.Grind.{common_steps}
 use Rattle.warg_protocol.specs.Logs.{envelope_of, envelope_fault_of, told}
 use Rattle.warg_protocol.specs.Records.{toy_belongs}
 use Rattle.warg_audit.specs.Lines.{lines_of, strings_from}
-use Rattle.warg_audit.proofs.JudgeLemmas.{none_judged, still_refused}
+use Rattle.warg_audit.proofs.JudgeLemmas.{none_judged, one_judged, still_refused}
 use Rattle.warg_audit.proofs.StringLemmas.{one_read, rest_read, some_strings}
 use Rattle.warg_audit.proofs.log.judge.Goals as goal
 
@@ -12,6 +12,16 @@ loop-rest-init g c = record {
   judged = none_judged g.L.Validator.kind toy_belongs (envelope_of g.L.Record.Record.read) (lines_of c.args.text.now) (g.L.Validator.view c.in_ok-state.state) c.in_ok-state.ensures (g.met.L.Validator.laws.by_list toy_belongs [] tt);
   short = omega arith;
 }
+
+pub loop-rest-preserved : goal.loop-rest-preserved
+loop-rest-preserved g c =
+    let good : c.in_ok-decode_line.field-0 ≡ true = grind (arith, common_steps) in
+    let so_far = rw c.cut_line.ensures.line at c.loop-rest.invariant.judged in
+    let string = c.decode_line.new.buffer.items in record {
+      judged = one_judged g.L.Validator.kind toy_belongs (envelope_of g.L.Record.Record.read) g.L.Validator.view (told (envelope_fault_of g.L.Record.Record.fault_of) g.L.Validator.offence_of) (lines_of c.args.text.now) c.loop-rest.count c.cut_line.result.0.now (lines_of c.cut_line.result.1.now) (g.L.Validator.view c.loop-rest.state) so_far
+          string (c.in_ok-decode_line.ensures.bytes (ap Ok good)) c.in-Ok.next (c.in-Ok.ensures so_far.strings so_far.many so_far.lawful so_far.stands);
+      short = omega arith;
+    }
 
 pub returns-in-Err-clause-ok : goal.returns-in-Err-clause-ok
 returns-in-Err-clause-ok g c =
