@@ -4,7 +4,9 @@ use serde_json::Value;
 use std::alloc::Global;
 use warg_protocol::package::{LogState, PackageRecord, Permission};
 use warg_protocol::toy::ToyVerifier;
-use warg_protocol::{AuditedLog, Decode, Envelope, HeadComparison, ProtoEnvelope, RunCause, run};
+use warg_protocol::{
+    AuditedLog, Decode, Envelope, HeadComparison, JsonValue, ProtoEnvelope, RunCause, run,
+};
 
 type Log = AuditedLog<LogState, ToyVerifier>;
 

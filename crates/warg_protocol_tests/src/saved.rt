@@ -4,7 +4,7 @@ use serde_json::Value;
 use std::alloc::Global;
 use std::process::Abort;
 use std::test::Fail;
-use warg_protocol::{JsonError, JsonValue, operator, package};
+use warg_protocol::{JsonError, JsonValue};
 
 /// An algorithm and a head, as members of a state.
 pub const BEGUN: &str =
@@ -13,48 +13,19 @@ pub const BEGUN: &str =
 /// The id of alice's key.
 pub const ALICE: &str = "sha256:6f03ae61d0fd3df261d400afe99bdcd613f266104552b6ad5281c7666633c6e2";
 
-/// A state that is saved.
-pub trait Saved: Scripted {
-    /// Its JSON.
-    fn save(&self, alloc: Global) -> Result<Value, JsonError>;
-
-    /// The state of JSON.
-    fn load(alloc: Global, value: &Value) -> Result<Self, JsonError>;
-}
-
-impl Saved for package::LogState {
-    fn save(&self, alloc: Global) -> Result<Value, JsonError> {
-        self.to_value(alloc)
-    }
-
-    fn load(alloc: Global, value: &Value) -> Result<package::LogState, JsonError> {
-        package::LogState::from_value(alloc, value)
-    }
-}
-
-impl Saved for operator::LogState {
-    fn save(&self, alloc: Global) -> Result<Value, JsonError> {
-        self.to_value(alloc)
-    }
-
-    fn load(alloc: Global, value: &Value) -> Result<operator::LogState, JsonError> {
-        operator::LogState::from_value(alloc, value)
-    }
-}
-
 /// What the text of a saved state is read as.
-pub fn load<L: Saved>(rt: &impl Abort, alloc: Global, json: &str) -> Result<L, JsonError> {
+pub fn load<L: Scripted>(rt: &impl Abort, alloc: Global, json: &str) -> Result<L, JsonError> {
     let value = Value::from_str(alloc, json).expect(rt, json);
-    L::load(alloc, &value)
+    L::from_value(alloc, &value)
 }
 
 /// The text of the state.
-pub fn text_of<L: Saved>(alloc: Global, state: &L) -> Result<String, Fail> {
-    Ok(state.save(alloc)?.to_string(alloc)?)
+pub fn text_of<L: Scripted>(alloc: Global, state: &L) -> Result<String, Fail> {
+    Ok(state.to_value(alloc)?.to_string(alloc)?)
 }
 
 /// Each text is refused for its fault.
-pub fn are_refused<L: Saved>(rt: &impl Abort, alloc: Global, rows: &[(&str, JsonError)]) {
+pub fn are_refused<L: Scripted>(rt: &impl Abort, alloc: Global, rows: &[(&str, JsonError)]) {
     for (json, want) in rows {
         let fault = load::<L>(rt, alloc, json).err();
         assert_eq!(rt; fault, Some(*want), "{json}");
@@ -67,7 +38,7 @@ pub fn begun(alloc: Global, more: &str) -> Result<String, Fail> {
 }
 
 /// Each text, its members after an algorithm and a head, is refused for its fault.
-pub fn are_refused_begun<L: Saved>(
+pub fn are_refused_begun<L: Scripted>(
     rt: &impl Abort,
     alloc: Global,
     rows: &[(&str, JsonError)],
@@ -81,7 +52,7 @@ pub fn are_refused_begun<L: Saved>(
 }
 
 /// The state is saved, and what is read of it is equal.
-pub fn comes_back<L: Saved>(rt: &impl Abort, alloc: Global, state: &L) -> Result<(), Fail> {
+pub fn comes_back<L: Scripted>(rt: &impl Abort, alloc: Global, state: &L) -> Result<(), Fail> {
     let json = text_of(alloc, state)?;
     let again = load::<L>(rt, alloc, json.as_str())?;
     assert!(rt; again == *state, "{json}");
