@@ -32,6 +32,7 @@ saved_versions s = versions s.matter
 pub record IsSavable (s : State (Contents Permission) (List ReleaseView)) : Type 0 where
   pub coherent : IsCoherent rules same_permission (view_of s)
   pub head : (h : Head) → s.head ≡ Some h → IsReadBack head_json head_in (λ x y. x ≡ y) h
-  pub rights : AreBack text_name text_named (permissions_json permission_text) (permissions_in same_permission permission_in) s.authority.rights
+  pub rights : AreBack text_name text_named (permissions_json permission_text)
+      (permissions_in same_permission permission_in) s.authority.rights
   pub releases : AreBack version_name version_named release_json release_in (named_releases s.matter)
   pub keys : AreBack text_name text_named key_json key_in s.authority.keys

@@ -5,3 +5,4 @@ pub mod Cases
 pub mod MapsBack
 pub mod ReadAgain
 pub mod FitBack
+pub mod PutMembers

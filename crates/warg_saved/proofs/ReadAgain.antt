@@ -1,12 +1,10 @@
 -- What is read of a map that was saved: at each name the same value.
-use Rattle.std.specs.Prelude.{ℕ, ◌≡◌, List, [], ◌∷◌, Bool, true, false, ◌||◌, cond, Option, Some, None, Result, Ok, Err, refl}
+use Rattle.std.specs.Prelude.{ℕ, ◌≡◌, List, [], ◌∷◌, Bool, true, false, cond, Option, Some, None, Result, Ok, Err, refl}
 use Rattle.std.specs.List.{AllByRecursion, list_any}
 use Rattle.std.specs.Str.{bytes_eq}
-use Rattle.std.proofs.Common.{sym, ap, ◌∙◌, subst, true≢false}
+use Rattle.std.proofs.Common.{sym, ap, ◌∙◌, subst}
 use Rattle.std.proofs.lemmas.Slice.Eq.{bytes_eq-Decides}
 use Rattle.serde_json.specs.Data.{Data, Members, no_members, member, null}
-use Rattle.serde_json.specs.Find.{get_member}
-use Rattle.serde_json.proofs.Views.{get_member-put, get_member-put_other}
 use Rattle.warg_crypto.specs.declared.hash.HashAlgorithm.{HashAlgorithm}
 use Rattle.warg_crypto.specs.declared.hash.HashAlgorithm.TheVariants.{Sha256}
 use Rattle.warg_crypto.specs.declared.json.error.JsonError.{JsonError}
@@ -20,19 +18,7 @@ use Rattle.warg_crypto.specs.Steps.{ok_same, bind_ok}
 use Rattle.warg_saved.specs.Backs.{AreBack, IsBack}
 use Rattle.warg_saved.specs.Fit.{is_nil}
 use Rattle.warg_saved.specs.Maps.{put_pairs}
-
--- a member that was put last is found, and one put after it does not hide it
-pub found : (name : List ℕ) (o : Option Data) (ms : Members) → get_member name ms ≡ None → get_member name (put_some name o ms) ≡ o
-found name None ms h = h
-found name (Some d) ms h = get_member-put name d ms
-
-pub passed : (q name : List ℕ) (o : Option Data) (ms : Members) → bytes_eq q name ≡ false → get_member q (put_some name o ms) ≡ get_member q ms
-passed q name None ms h = refl
-passed q name (Some d) ms h = get_member-put_other q name d ms (λ e. true≢false (sym ((bytes_eq-Decides q name).1 e) ∙ h))
-
-one_fails : (a b : Bool) → (a || b) ≡ false → (a ≡ false) × (b ≡ false)
-one_fails true b h = cc h
-one_fails false b h = (refl, h)
+use Rattle.warg_saved.proofs.PutMembers.{one_fails}
 
 none_false : {X : Type 0} (xs : List X) → list_any (λ _. false) xs ≡ false
 none_false [] = refl

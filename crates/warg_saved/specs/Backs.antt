@@ -10,8 +10,8 @@ use Rattle.warg_crypto.specs.PairsLaws.{IsUniquePairs}
 abbrev pub AreVersionsBack : {K A : Type 0} → (K → List Version) → (A → List Version) → List (K × A) → Type 0
 AreVersionsBack of_name of_value es = AllByRecursion (λ e. AreReadBack (of_name e.0) × AreReadBack (of_value e.1)) es
 
-module _ {K A : Type 0} (name_of : K → List ℕ) (named : List ℕ → Result K JsonError) (writes : A → Result Data JsonError)
-    (reads : Data → Result A JsonError) where
+module _ {K A : Type 0} (name_of : K → List ℕ) (named : List ℕ → Result K JsonError)
+    (writes : A → Result Data JsonError) (reads : Data → Result A JsonError) where
   -- the pair's name is read as it was, and so is its value
   pub record IsBack (e : K × A) : Type 0 where
     pub name : named (name_of e.0) ≡ Ok e.0
