@@ -9,7 +9,8 @@ use Rattle.warg_protocol.specs.Logs.{EnvelopeData, SignatureRelation, Kind, Caus
 use Rattle.warg_audit.specs.Lines.{string_of}
 use Rattle.warg_audit.proofs.StringLemmas.{IsReadTo, none_read, one_read}
 
-slice_get-front : {X : Type 0} (xs ys : List X) (i : ℕ) → i < length xs → slice_get (xs ++ ys) i ≡ slice_get xs i
+slice_get-front : {X : Type 0} (xs ys : List X) (i : ℕ) → i < length xs
+    → slice_get (xs ++ ys) i ≡ slice_get xs i
 slice_get-front [] ys i low = absurd (omega (arith, low))
 slice_get-front (x ∷ xs) ys zero low = refl
 slice_get-front (x ∷ xs) ys (suc i) low = slice_get-front xs ys i (omega (arith, low))
@@ -17,14 +18,17 @@ slice_get-front (x ∷ xs) ys (suc i) low = slice_get-front xs ys i (omega (arit
 nothing_at : {X : Type 0} (i : ℕ) (x : X) → slice_get [] i ≡ Some x → ⊥
 nothing_at i x at = cc
 
-IfTold-map : {C : Type 0} (told : Option C) (P Q : C → Type 0) → ((c : C) → P c → Q c) → IfTold told P → IfTold told Q
+IfTold-map : {C : Type 0} (told : Option C) (P Q : C → Type 0) → ((c : C) → P c → Q c) → IfTold told P
+    → IfTold told Q
 IfTold-map None P Q f h = tt
 IfTold-map (Some c) P Q f h = f c h
 
-module _ {F View Offence : Type 0} (k : Kind View Offence) (b : SignatureRelation) (read : List ℕ → Result EnvelopeData F) where
+module _ {F View Offence : Type 0} (k : Kind View Offence) (b : SignatureRelation)
+    (read : List ℕ → Result EnvelopeData F) where
   -- a first offence is still the first where more strings follow
   module _ (seen : List EnvelopeData → View) (ss ts : List (List ℕ)) where
-    still_first : (i : ℕ) (c : Cause F Offence) → IsFirstOffence k b read seen ss i c → IsFirstOffence k b read seen (ss ++ ts) i c
+    still_first : (i : ℕ) (c : Cause F Offence) → IsFirstOffence k b read seen ss i c
+        → IsFirstOffence k b read seen (ss ++ ts) i c
     still_first i c first =
         let low : i < length ss = slice_get_within ss i first.item first.at in record {
           item = first.item;
@@ -32,7 +36,8 @@ module _ {F View Offence : Type 0} (k : Kind View Offence) (b : SignatureRelatio
           wrong = rw (take-append-le i ss ts (omega arith)) first.wrong;
           least = λ j s below at.
               let near : j < length ss = omega (arith, below, low) in
-              rw (take-append-le j ss ts (omega (arith, near))) (first.least j s below (sym (slice_get-front ss ts j near) ∙ at));
+              let there = sym (slice_get-front ss ts j near) ∙ at in
+              rw (take-append-le j ss ts (omega (arith, near))) (first.least j s below there);
         }
 
     pub still_refused : {E : Type 0} (told_by : RunCause E → Option (Cause F Offence)) (error : RunError E)
@@ -43,31 +48,39 @@ module _ {F View Offence : Type 0} (k : Kind View Offence) (b : SignatureRelatio
       first = IfTold-map (told_by error.cause) _ _ (still_first error.index) refusal.first;
     }
 
-  -- the envelopes that strings are, with those of one string more
+  -- the envelopes that strings are, and then those of more strings
   read_more : (ss ts : List (List ℕ)) → read_all read (ss ++ ts) ≡ read_all read ss ++ read_all read ts
   read_more ss ts = filter_map-append _ ss ts
 
   -- one string after strings without offence, judged by what they are
-  module _ (ss : List (List ℕ)) (s : List ℕ) (lawful : HasNoOffence k b read k.view_of ss) {S E : Type 0} (view : S → View) (told_by : RunCause E → Option (Cause F Offence)) where
-    -- what the string is judged by
+  module _ (ss : List (List ℕ)) (s : List ℕ) (lawful : HasNoOffence k b read k.view_of ss)
+      {S E : Type 0} (view : S → View) (told_by : RunCause E → Option (Cause F Offence)) where
+    -- what envelopes behind the strings are seen as
     abbrev behind_them : List EnvelopeData → View
     behind_them fs = k.view_of (read_all read ss ++ fs)
 
-    pub next_lawful : (HasNoOffence k b read k.view_of (ss ++ s ∷ []) ↔ (HasNoOffence k b read k.view_of ss × HasNoOffence k b read behind_them (s ∷ [])))
-        → (next : S) → IsRun k b read behind_them view told_by ◌≡◌ (s ∷ []) (Ok next) → IsRun k b read k.view_of view told_by ◌≡◌ (ss ++ s ∷ []) (Ok next)
+    pub next_lawful : (HasNoOffence k b read k.view_of (ss ++ s ∷ [])
+        ↔ (HasNoOffence k b read k.view_of ss × HasNoOffence k b read behind_them (s ∷ [])))
+        → (next : S) → IsRun k b read behind_them view told_by ◌≡◌ (s ∷ []) (Ok next)
+        → IsRun k b read k.view_of view told_by ◌≡◌ (ss ++ s ∷ []) (Ok next)
     next_lawful law next run = (law.1 (lawful, run.0), run.1 ∙ ap k.view_of (sym (read_more ss (s ∷ []))))
 
-    pub next_refused : ((i : ℕ) (c : Cause F Offence) → IsFirstOffence k b read behind_them (s ∷ []) i c → IsFirstOffence k b read k.view_of (ss ++ s ∷ []) (length ss + i) c)
-        → (place : ℕ) → length ss ≡ place → (error : RunError E) → IsRefusal k b read behind_them told_by (s ∷ []) error
+    pub next_refused : ((i : ℕ) (c : Cause F Offence) → IsFirstOffence k b read behind_them (s ∷ []) i c
+        → IsFirstOffence k b read k.view_of (ss ++ s ∷ []) (length ss + i) c)
+        → (place : ℕ) → length ss ≡ place → (error : RunError E)
+        → IsRefusal k b read behind_them told_by (s ∷ []) error
         → IsRefusal k b read k.view_of told_by (ss ++ s ∷ []) (record { index = place; cause = error.cause })
     next_refused law place many error refusal =
+        let whole = ss ++ s ∷ [] in
         let here : length ss + error.index ≡ place = omega (arith, refusal.in_range, many) in record {
           in_range = omega (arith, length-append ss (s ∷ []), many);
           before = rw (← many) (rw (take-append_seam ss (s ∷ [])) lawful);
-          first = IfTold-map (told_by error.cause) _ _ (λ c first. subst (λ n. IsFirstOffence k b read k.view_of (ss ++ s ∷ []) n c) here (law error.index c first)) refusal.first;
+          first = IfTold-map (told_by error.cause) _ _
+              (λ c first. subst (λ n. IsFirstOffence k b read k.view_of whole n c) here (law error.index c first))
+              refusal.first;
         }
 
-  -- what is known before a line is read: the lines before it spell strings without offence, and the view stands for them
+  -- what is known before a line is read: the lines before it spell strings without offence, for which the view stands
   pub record IsJudgedTo (lines : List (List ℕ)) (count : ℕ) (rest : List (List ℕ)) (now : View) : Type 0 where
     pub strings : List (List ℕ)
     pub many : length strings ≡ count
@@ -75,7 +88,8 @@ module _ {F View Offence : Type 0} (k : Kind View Offence) (b : SignatureRelatio
     pub lawful : HasNoOffence k b read k.view_of strings
     pub stands : now ≡ k.view_of (read_all read strings)
 
-  pub none_judged : (lines : List (List ℕ)) (now : View) → now ≡ k.start → k.view_of [] ≡ k.start → IsJudgedTo lines 0 lines now
+  pub none_judged : (lines : List (List ℕ)) (now : View) → now ≡ k.start → k.view_of [] ≡ k.start
+      → IsJudgedTo lines 0 lines now
   none_judged lines now is start = record {
     strings = [];
     many = refl;
@@ -84,9 +98,11 @@ module _ {F View Offence : Type 0} (k : Kind View Offence) (b : SignatureRelatio
     stands = is ∙ sym start;
   }
 
-  pub one_judged : {S E : Type 0} (view : S → View) (told_by : RunCause E → Option (Cause F Offence)) (lines : List (List ℕ)) (count : ℕ) (line : List ℕ) (rest : List (List ℕ)) (now : View)
+  pub one_judged : {S E : Type 0} (view : S → View) (told_by : RunCause E → Option (Cause F Offence))
+      (lines : List (List ℕ)) (count : ℕ) (line : List ℕ) (rest : List (List ℕ)) (now : View)
       → (so_far : IsJudgedTo lines count (line ∷ rest) now) → (s : List ℕ) → string_of line ≡ Ok s
-      → (next : S) → IsRun k b read k.view_of view told_by ◌≡◌ (so_far.strings ++ s ∷ []) (Ok next) → IsJudgedTo lines (count + 1) rest (view next)
+      → (next : S) → IsRun k b read k.view_of view told_by ◌≡◌ (so_far.strings ++ s ∷ []) (Ok next)
+      → IsJudgedTo lines (count + 1) rest (view next)
   one_judged view told_by lines count line rest now so_far s e next run = record {
     strings = so_far.strings ++ s ∷ [];
     many = omega (arith, length-append so_far.strings (s ∷ []), so_far.many);

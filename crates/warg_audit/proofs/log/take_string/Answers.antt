@@ -9,7 +9,8 @@ returns-in-Ok g c = λ strings many lawful stands.
     let k = g.L.Validator.kind in
     let read = envelope_of g.L.Record.Record.read in
     let run = rw c.from_ref.ensures.value at c.in-Ok.ensures.continued in
-    next_lawful k toy_belongs read strings c.args.string.now.items lawful g.L.Validator.view (told (envelope_fault_of g.L.Record.Record.fault_of) g.L.Validator.offence_of)
+    next_lawful k toy_belongs read strings c.args.string.now.items lawful g.L.Validator.view
+    (told (envelope_fault_of g.L.Record.Record.fault_of) g.L.Validator.offence_of)
     (c.resumption.ensures.lawful toy_belongs strings (c.args.string.now.items ∷ [])) c.in-Ok.next
     (run toy_belongs (read_all read strings) (c.strings_are_accepted.ensures toy_belongs strings lawful) stands)
 
@@ -18,6 +19,8 @@ returns-in-Err g c = λ strings many lawful stands.
     let k = g.L.Validator.kind in
     let read = envelope_of g.L.Record.Record.read in
     let run = rw c.from_ref.ensures.value at c.in-Err.ensures.continued in
-    next_refused k toy_belongs read strings c.args.string.now.items lawful g.L.Validator.view (told (envelope_fault_of g.L.Record.Record.fault_of) g.L.Validator.offence_of)
-    (c.resumption.ensures.first toy_belongs strings (c.args.string.now.items ∷ []) lawful) c.args.place many c.in-Err.error
+    next_refused k toy_belongs read strings c.args.string.now.items lawful g.L.Validator.view
+    (told (envelope_fault_of g.L.Record.Record.fault_of) g.L.Validator.offence_of)
+    (c.resumption.ensures.first toy_belongs strings (c.args.string.now.items ∷ []) lawful)
+    c.args.place many c.in-Err.error
     (run toy_belongs (read_all read strings) (c.strings_are_accepted.ensures toy_belongs strings lawful) stands)
