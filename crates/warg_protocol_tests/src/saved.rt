@@ -1,7 +1,9 @@
 //! States saved as JSON and read back: what both kinds share.
+use crate::play::{Player, log_of, makes, state_of};
 use crate::script::Scripted;
 use serde_json::Value;
 use std::alloc::Global;
+use std::fmt::Debug;
 use std::process::Abort;
 use std::test::Fail;
 use warg_protocol::{JsonError, JsonValue};
@@ -57,4 +59,40 @@ pub fn comes_back<L: Scripted>(rt: &impl Abort, alloc: Global, state: &L) -> Res
     let again = load::<L>(rt, alloc, json.as_str())?;
     assert!(rt; again == *state, "{json}");
     Ok(())
+}
+
+// What is read of the saved state goes on, with the strings behind so many of the log, to the log's state.
+fn goes_on<L: Scripted>(
+    rt: &impl Abort,
+    alloc: Global,
+    before: &L,
+    count: usize,
+    log: &Player<L>,
+) -> Result<(), Fail> {
+    let json = text_of(alloc, before)?;
+    let again = load::<L>(rt, alloc, json.as_str())?;
+    let Some((_, rest)) = log.strings.as_slice().split_at_checked(count) else {
+        return Err(Fail::new("a short log"));
+    };
+    assert!(rt; makes(alloc, &again, rest, &log.state)?);
+    Ok(())
+}
+
+/// The state of a script of so many records comes back, and goes on with the rest as the whole log does.
+pub fn resumes<L: Scripted>(
+    rt: &impl Abort,
+    alloc: Global,
+    script: &str,
+    count: usize,
+    rest: &str,
+) -> Result<(), Fail>
+where
+    L::Error: Debug + PartialEq,
+{
+    let before = state_of::<L>(rt, alloc, script)?;
+    comes_back(rt, alloc, &before)?;
+    let whole = format!(in alloc; "{}{rest}", script.trim_end())?;
+    let log = log_of::<L>(rt, alloc, whole.as_str())?;
+    goes_on(rt, alloc, &before, count, &log)?;
+    comes_back(rt, alloc, &log.state)
 }

@@ -1,6 +1,6 @@
 //! Saved states of operator logs.
-use crate::play::{log_of, makes, state_of};
-use crate::saved::{are_refused, are_refused_begun, comes_back, load, text_of};
+use crate::play::state_of;
+use crate::saved::{are_refused, are_refused_begun, comes_back, resumes, text_of};
 use serde_json::Value;
 use std::alloc::Global;
 use std::process::Abort;
@@ -124,14 +124,7 @@ const REST: &str = "
 
 #[test]
 fn a_saved_state_resumes(rt: HostRuntime) -> Result<(), Fail> {
-    let alloc = rt.alloc();
-    let before = state_of::<LogState>(&rt, alloc, LOG)?;
-    comes_back(&rt, alloc, &before)?;
-    let whole = format!(in alloc; "{}{REST}", LOG.trim_end())?;
-    let after = log_of::<LogState>(&rt, alloc, whole.as_str())?;
-    let again = load::<LogState>(&rt, alloc, text_of(alloc, &before)?.as_str())?;
-    assert!(&rt; makes(alloc, &again, &after.strings.as_slice()[2..], &after.state)?);
-    comes_back(&rt, alloc, &after.state)
+    resumes::<LogState>(&rt, rt.alloc(), LOG, 2, REST)
 }
 
 #[test]

@@ -1,7 +1,9 @@
 //! Saved states of package logs.
 use crate::people::signer;
-use crate::play::{log_of, makes, state_of};
-use crate::saved::{ALICE, are_refused, are_refused_begun, begun, comes_back, load, text_of};
+use crate::play::state_of;
+use crate::saved::{
+    ALICE, are_refused, are_refused_begun, begun, comes_back, load, resumes, text_of,
+};
 use crate::script::envelope_of;
 use std::alloc::Global;
 use std::process::Abort;
@@ -257,14 +259,7 @@ const REST: &str = "
 
 #[test]
 fn a_saved_state_resumes(rt: HostRuntime) -> Result<(), Fail> {
-    let alloc = rt.alloc();
-    let before = state_of::<LogState>(&rt, alloc, LONG)?;
-    comes_back(&rt, alloc, &before)?;
-    let whole = format!(in alloc; "{}{REST}", LONG.trim_end())?;
-    let after = log_of::<LogState>(&rt, alloc, whole.as_str())?;
-    let again = load::<LogState>(&rt, alloc, text_of(alloc, &before)?.as_str())?;
-    assert!(&rt; makes(alloc, &again, &after.strings.as_slice()[3..], &after.state)?);
-    comes_back(&rt, alloc, &after.state)
+    resumes::<LogState>(&rt, rt.alloc(), LONG, 3, REST)
 }
 
 #[test]
