@@ -48,10 +48,10 @@ fn row(
     let times = times(clock, alloc, phase, inputs, runs)?;
     let least = times.first().copied().unwrap_or(0);
     let median = times.get(times.len() / 2).copied().unwrap_or(0);
-    let records = u64::try_from(inputs.strings.len().max(1)).unwrap_or(u64::MAX);
-    let each = least.saturating_mul(1000) / records;
+    let records = u64::try_from(inputs.strings.len()).unwrap_or(u64::MAX);
+    let each = least.saturating_mul(1000).checked_div(records).unwrap_or(0);
     let name = phase.name();
-    Ok(format!(in alloc; "{name:12} {least:8} us {median:8} us {each:8} ns a record")?)
+    Ok(format!(in alloc; "{name}: {least} us, median {median} us, {each} ns a record")?)
 }
 
 fn main(rt: HostRuntime) -> anyhow::Result<()> {
