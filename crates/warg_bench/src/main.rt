@@ -54,23 +54,46 @@ fn row(
     Ok(format!(in alloc; "{name}: {least} us, median {median} us, {each} ns a record")?)
 }
 
-fn main(rt: HostRuntime) -> anyhow::Result<()> {
-    let alloc = rt.alloc();
-    let runs = match env::args(&rt)?.nth(1) {
-        Some(word) => word.parse::<usize>().unwrap_or(0),
-        None => 0,
-    };
-    if runs == 0 {
-        println!(rt; "{USAGE}")?;
-        return Ok(());
-    }
-    let mut strings = Vec::new(alloc);
-    for line in rt.lines(alloc) {
-        strings.push(hex::decode(alloc, line?.as_bytes())?)?;
-    }
-    let inputs = Inputs::new(alloc, strings)?;
+// The bytes of an envelope that a line spells.
+fn string_of(alloc: Global, line: &str) -> anyhow::Result<Vec<u8>> {
+    Ok(hex::decode(alloc, line.as_bytes())?)
+}
+
+// Prints a row for each phase.
+fn print_rows(
+    rt: &(impl Print + Clock),
+    alloc: Global,
+    inputs: &Inputs,
+    runs: usize,
+) -> anyhow::Result<()> {
     for phase in PHASES {
-        println!(rt; "{}", row(&rt, alloc, *phase, &inputs, runs)?)?;
+        println!(rt; "{}", row(rt, alloc, *phase, inputs, runs)?)?;
     }
     Ok(())
+}
+
+// Times the log of these envelopes.
+fn time_log(
+    rt: &(impl Print + Clock),
+    alloc: Global,
+    strings: Vec<Vec<u8>>,
+    runs: usize,
+) -> anyhow::Result<()> {
+    print_rows(rt, alloc, &Inputs::new(alloc, strings)?, runs)
+}
+
+fn main(rt: HostRuntime) -> anyhow::Result<()> {
+    let mut runs = 0usize;
+    for word in env::args(&rt)?.skip(1) {
+        runs = word.as_str().parse::<usize>().unwrap_or(0);
+    }
+    if runs == 0 {
+        println!(&rt; "{USAGE}")?;
+        return Ok(());
+    }
+    let mut strings = Vec::new(rt.alloc());
+    for line in rt.lines(rt.alloc()) {
+        strings.push(string_of(rt.alloc(), line?.as_str())?)?;
+    }
+    time_log(&rt, rt.alloc(), strings, runs)
 }
