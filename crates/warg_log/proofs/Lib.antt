@@ -1,6 +1,7 @@
 pub mod Firsts
 pub mod SignedEntryLaws
 pub mod ContentsLemmas
+pub mod MapLaws
 pub mod Missing
 pub mod RightsLemmas
 pub mod Steps

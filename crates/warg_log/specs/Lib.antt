@@ -3,6 +3,7 @@ pub mod SignedEntries
 pub mod Judging
 pub mod Rights
 pub mod Contents
+pub mod Changes
 pub mod Offences
 pub mod Records
 pub mod History

@@ -12,6 +12,7 @@ ghost use Rattle.warg_log.specs.EqualLaws.{contents_equiv};
 mod saved;
 
 use crate::log_kind::LogKind;
+use crate::maps::{lay_over, make_room};
 use crate::permission::LogPermission;
 use crate::rights;
 use indexmap::{IndexMap, IndexSet};
@@ -93,11 +94,11 @@ impl<P: LogPermission> Authority<P> {
             mut keys,
             ..
         } = changes;
-        self.permissions.reserve(permissions.len())?;
-        self.keys.reserve(keys.len())?;
+        make_room(&mut self.permissions, &mut permissions)?;
+        make_room(&mut self.keys, &mut keys)?;
         matter.commit(change)?;
-        self.permissions.append(&mut permissions).unwrap();
-        self.keys.append(&mut keys).unwrap();
+        lay_over(&mut self.permissions, permissions);
+        lay_over(&mut self.keys, keys);
         self.algorithm = algorithm.or(self.algorithm);
         Ok(())
     }

@@ -74,16 +74,15 @@ fn copy_set<P: LogPermission>(set: &IndexSet<P>) -> Result<IndexSet<P>, AllocErr
     set.clone()
 }
 
-/// A copy of what the key holds with the changes, or the empty set.
+/// A copy of what the key holds, or the empty set.
 fn set_at<P: LogPermission>(
     alloc: Global,
-    base: &IndexMap<KeyID, IndexSet<P>>,
-    changes: &IndexMap<KeyID, IndexSet<P>>,
+    rights: &IndexMap<KeyID, IndexSet<P>>,
     key_id: &KeyID,
 ) -> Result<IndexSet<P>, AllocError>
-    ensures { IfOk result (λ set. (p : P) → contains P.eq set p ≡ held_over P.eq base.now changes.now key_id.now p) }
+    ensures { IfOk result (λ set. (p : P) → contains P.eq set p ≡ holds_in P.eq rights.now key_id.now p) }
 {
-    match look(base, changes, key_id) {
+    match rights.get(key_id) {
         Some(set) => copy_set(set),
         None => Ok(IndexSet::new(alloc)),
     }
@@ -113,7 +112,10 @@ pub(crate) fn give<P: LogPermission>(
     ensures entries { OnOk result ((k : List ℕ) → has_entry_over base.now changes.new k ≡
         (has_entry_over base.now changes.old k || bytes_eq key_id k)) }
 {
-    let mut set = set_at(alloc, base, changes, &key_id)?;
+    if let Some(set) = changes.get_mut(&key_id) {
+        return add_all(set, permissions);
+    }
+    let mut set = set_at(alloc, base, &key_id)?;
     add_all(&mut set, permissions)?;
     put(changes, key_id, set)?;
     Ok(())
@@ -148,7 +150,10 @@ pub(crate) fn take_all<P: LogPermission>(
     ensures entries { IfOk result (λ missing. IfNone missing
         ((k : List ℕ) → has_entry_over base.now changes.new k ≡ has_entry_over base.now changes.old k)) }
 {
-    let Some(held) = look(base, changes, key_id) else {
+    if let Some(set) = changes.get_mut(key_id) {
+        return Ok(remove_all(set, permissions));
+    }
+    let Some(held) = base.get(key_id) else {
         return Ok(permissions.first().copied());
     };
     let mut set = copy_set(held)?;

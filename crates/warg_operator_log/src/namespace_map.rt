@@ -25,7 +25,7 @@ use std::marker::Model;
 use warg_crypto::Timestamp;
 use warg_crypto::hash::Sha256;
 use warg_crypto::signing::KeyID;
-use warg_log::{LogKind, Parts, Refusal, Step};
+use warg_log::{LogKind, Parts, Refusal, Step, put_all};
 use warg_records::ProtoEnvelope;
 use warg_records::operator::{OperatorEntry, OperatorRecord, Permission};
 use warg_records::registry::{PackageName, RecordId};
@@ -79,8 +79,8 @@ impl NamespaceMap {
         ensures added { OnOk result ((k : List ℕ) → names self.new k ≡ names_over self.old changes k) }
         ensures unchanged { OnErr result (self.new ≡ self.old) }
     {
-        let NamespaceMap { mut map } = changes;
-        self.map.append(&mut map)?;
+        let NamespaceMap { map } = changes;
+        put_all(&mut self.map, map)?;
         Ok(())
     }
 
