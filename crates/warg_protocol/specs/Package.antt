@@ -17,3 +17,6 @@ pub use Rattle.warg_package_log.specs.Catalog.{release_view, find_in, AreDistinc
 pub use Rattle.warg_package_log.specs.Latest.{IsGreatest, shows_candidate, shown_cmp}
 -- what the history of a log says
 pub use Rattle.warg_package_log.specs.StateHistory.{TellsHistory, records_of, history, releases_of}
+-- what a state is written as in JSON, what JSON is read as, and that what was written reads back equal
+pub use Rattle.warg_package_log.specs.SavedState.{state_json, state_in}
+pub use Rattle.warg_package_log.specs.SavedBack.{AreEqual, saved_versions}

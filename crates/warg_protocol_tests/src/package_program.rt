@@ -2,18 +2,21 @@
 ghost use Rattle.std.specs.Prelude.{◌≡◌, IfOk, map};
 ghost use Rattle.std.specs.Option.{option_map, option_copied};
 ghost use Rattle.std.specs.Vec.{vec_items};
+ghost use Rattle.serde_json.specs.View.{view};
+ghost use Rattle.warg_protocol.specs.Json.{Gives};
 ghost use Rattle.warg_protocol.specs.Logs.{IsAccepted, envelope_of, read_all};
-ghost use Rattle.warg_protocol.specs.Package.{TellsHistory, kind, package_record_of, view_of, IsGreatest, shows_candidate, shown_cmp, release_view};
+ghost use Rattle.warg_protocol.specs.Package.{TellsHistory, kind, package_record_of, view_of, IsGreatest, shows_candidate, shown_cmp, release_view, state_json, state_in};
 
 use crate::people::id;
 use crate::play::log_of;
+use serde_json::Value;
 use std::alloc::Global;
 use std::process::Abort;
 use std::test::Fail;
 use warg_protocol::package::{LogState, Permission, Release, ValidationError};
 use warg_protocol::signing::{KeyID, Verifier};
 use warg_protocol::toy::ToyVerifier;
-use warg_protocol::{RunError, Validator, VersionReq, laws, run};
+use warg_protocol::{JsonError, JsonValue, RunError, Validator, VersionReq, laws, run};
 
 /// The state of a package's log: what its history says.
 fn audited<V: Verifier>(
@@ -40,6 +43,20 @@ fn resolved<'a>(state: &'a LogState, wanted: &VersionReq) -> Option<&'a Release>
     ensures { IsGreatest (shows_candidate wanted.now.comparators.items) shown_cmp (view_of state.now).whole.matter (option_map release_view (option_copied result)) }
 {
     state.find_latest_release(wanted)
+}
+
+/// The state as JSON, to be kept.
+fn saved(alloc: Global, state: &LogState) -> Result<Value, JsonError>
+    ensures { Gives view result (state_json state.now) }
+{
+    state.to_value(alloc)
+}
+
+/// The state that was kept.
+fn restored(alloc: Global, value: &Value) -> Result<LogState, JsonError>
+    ensures { Gives (λ s. s) result (state_in (view value.now)) }
+{
+    LogState::from_value(alloc, value)
 }
 
 const LOG: &str = "
@@ -69,6 +86,11 @@ fn best(alloc: Global, state: &LogState, wanted: &str) -> Result<String, Fail> {
     Ok(release.version.to_string(alloc)?)
 }
 
+fn comes_back(alloc: Global, state: &LogState) -> Result<bool, Fail> {
+    let value = saved(alloc, state)?;
+    Ok(restored(alloc, &value)? == *state)
+}
+
 #[test]
 fn a_program_asks_a_package_log(rt: HostRuntime) -> Result<(), Fail> {
     let alloc = rt.alloc();
@@ -76,5 +98,6 @@ fn a_program_asks_a_package_log(rt: HostRuntime) -> Result<(), Fail> {
     assert!(rt; may_release_in(alloc, &state, "bob")?);
     assert!(rt; !may_release_in(alloc, &state, "mallory")?);
     assert_eq!(rt; best(alloc, &state, "^1")?.as_str(), "1.1.0");
+    assert!(rt; comes_back(alloc, &state)?);
     Ok(())
 }
