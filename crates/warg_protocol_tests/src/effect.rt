@@ -6,6 +6,24 @@ use std::test::Fail;
 use warg_protocol::signing::KeyID;
 use warg_protocol::{Effect, ProtoEnvelope};
 
+// What stands of the permission in the list of all that the entry does, where it may stand once.
+fn listed_effect<L: Scripted>(
+    events: &[(KeyID, L::Permission, Effect)],
+    key_id: &KeyID,
+    permission: L::Permission,
+) -> Result<Effect, Fail> {
+    let mut listed = Effect::Nothing;
+    for event in events {
+        if event.0 == *key_id && event.1 == permission {
+            if listed != Effect::Nothing {
+                return Err(Fail::from("an effect is listed twice"));
+            }
+            listed = event.2;
+        }
+    }
+    Ok(listed)
+}
+
 fn effect_at<L: Scripted>(
     alloc: Global,
     envelope: &ProtoEnvelope<L::Record>,
@@ -16,13 +34,16 @@ fn effect_at<L: Scripted>(
     if place >= L::entry_count(envelope) {
         return Ok("past the end");
     }
-    Ok(
-        match L::effect(alloc, envelope, place, key_id, permission)? {
-            Effect::Gives => "gives",
-            Effect::Takes => "takes",
-            Effect::Nothing => "nothing",
-        },
-    )
+    let effect = L::effect(alloc, envelope, place, key_id, permission)?;
+    let events = L::effects(alloc, envelope, place)?;
+    if listed_effect::<L>(events.as_slice(), key_id, permission)? != effect {
+        return Err(Fail::from("the list of effects says otherwise"));
+    }
+    Ok(match effect {
+        Effect::Gives => "gives",
+        Effect::Takes => "takes",
+        Effect::Nothing => "nothing",
+    })
 }
 
 /// What the entry does to a permission of a person. The subject is the entry's place, the person and the
