@@ -2,6 +2,7 @@
 //! revoke and a yank.
 
 use crate::refusal::Refusal;
+use crate::values::written;
 use std::alloc::Global;
 use warg_protocol::package::{LogState, Permission};
 use warg_protocol::signing::{KeyID, Signer};
@@ -32,6 +33,11 @@ fn state_of(alloc: Global, inputs: &[Vec<u8>]) -> Result<LogState, Refusal> {
         Ok(state) => Ok(state),
         Err(error) => Err(Refusal::from(error.cause)),
     }
+}
+
+/// The JSON of the state of the log.
+pub(crate) fn saved(alloc: Global, inputs: &[Vec<u8>]) -> Result<String, Refusal> {
+    written(alloc, &state_of(alloc, inputs)?)
 }
 
 /// `run`: the state of the log.

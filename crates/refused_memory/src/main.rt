@@ -43,7 +43,8 @@ fn tell_logs(rt: &impl Print, alloc: Global, log: &[Vec<u8>]) -> io::Result<()> 
         rt,
         "permission_chain of two",
         logs::chain(alloc, front, "bob"),
-    )
+    )?;
+    tell(rt, "state", logs::saved(alloc, log))
 }
 
 fn tell_values(rt: &impl Print, alloc: Global) -> io::Result<()> {
