@@ -37,6 +37,11 @@ fn chain<L: Scripted>(
     Ok(text)
 }
 
+fn answer<L: Scripted>(alloc: Global, state: &L, question: &str) -> Result<String, Fail> {
+    let (look_up, subject, _) = words_of(question);
+    state.answer(alloc, look_up, subject)
+}
+
 fn told<L: Scripted>(
     alloc: Global,
     log: &AuditedLog<L, ToyVerifier>,
@@ -44,11 +49,18 @@ fn told<L: Scripted>(
 ) -> Result<String, Fail> {
     match question.strip_prefix("chain ") {
         Some(subject) => chain(alloc, log, subject),
-        None => {
-            let (look_up, subject, _) = words_of(question);
-            log.state().answer(alloc, look_up, subject)
-        }
+        None => answer(alloc, log.state(), question),
     }
+}
+
+// The string of the line's record, which comes after the log's last one.
+fn next_string<L: Scripted>(
+    alloc: Global,
+    log: &AuditedLog<L, ToyVerifier>,
+    line: &str,
+) -> Result<Vec<u8>, Fail> {
+    let mut last = log.state().head_digest().copied();
+    string_of::<L>(alloc, &mut last, line)
 }
 
 fn ask<L: Scripted>(
@@ -76,11 +88,16 @@ where
         })
     }
 
+    // The last line was refused for this cause.
+    fn expect(&mut self, rt: &impl Abort, alloc: Global, words: &str) -> Result<(), Fail> {
+        let cause = cause::<L>(alloc, words)?;
+        assert_eq!(rt; self.refusal.take(), Some(cause));
+        Ok(())
+    }
+
     fn keep_line(&mut self, rt: &impl Abort, alloc: Global, line: &str) -> Result<(), Fail> {
         if let Some(words) = line.strip_prefix("! ") {
-            let cause = cause::<L>(alloc, words)?;
-            assert_eq!(rt; self.refusal.take(), Some(cause), "{line}");
-            return Ok(());
+            return self.expect(rt, alloc, words);
         }
         assert!(rt; self.refusal.is_none(), "refused before {line}");
         match line.strip_prefix("? ") {
@@ -89,18 +106,20 @@ where
         }
     }
 
+    fn keep_lines(&mut self, rt: &impl Abort, alloc: Global, script: &str) -> Result<(), Fail> {
+        for line in script.trim().lines() {
+            self.keep_line(rt, alloc, line.trim())?;
+        }
+        Ok(())
+    }
+
     // A record more stands exactly if it is not refused.
     fn append(&mut self, rt: &impl Abort, alloc: Global, line: &str) -> Result<(), Fail> {
-        let mut last = self.log.state().head_digest().copied();
-        let string = string_of::<L>(alloc, &mut last, line)?;
+        let string = next_string(alloc, &self.log, line)?;
         let before = self.log.records().len();
         self.refusal = self.log.append(string.as_slice()).err();
         let more = if self.refusal.is_none() { 1 } else { 0 };
-        assert_eq!(rt;
-            Some(self.log.records().len()),
-            before.checked_add(more),
-            "{line}"
-        );
+        assert!(rt; before.checked_add(more) == Some(self.log.records().len()));
         Ok(())
     }
 }
@@ -111,9 +130,7 @@ where
     L::Error: Debug + PartialEq,
 {
     let mut keeper = Keeper::new(alloc)?;
-    for line in script.trim().lines() {
-        keeper.keep_line(rt, alloc, line.trim())?;
-    }
+    keeper.keep_lines(rt, alloc, script)?;
     Ok(keeper)
 }
 

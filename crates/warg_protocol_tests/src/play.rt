@@ -44,9 +44,7 @@ where
         strings: Vec::new(alloc),
         refusal: None,
     };
-    for line in script.trim().lines() {
-        player.play_line(rt, alloc, line.trim())?;
-    }
+    player.play_lines(rt, alloc, script)?;
     assert!(rt; player.refusal.is_none(), "the last record is refused");
     let again = run::<L, ToyVerifier>(alloc, &ToyVerifier, player.strings.as_slice());
     assert!(rt; again.is_ok_and(|state| state == player.state));
@@ -102,11 +100,23 @@ impl<L: Scripted> Player<L>
 where
     L::Error: Debug + PartialEq,
 {
+    fn play_lines(&mut self, rt: &impl Abort, alloc: Global, script: &str) -> Result<(), Fail> {
+        for line in script.trim().lines() {
+            self.play_line(rt, alloc, line.trim())?;
+        }
+        Ok(())
+    }
+
+    // The last line was refused for this cause.
+    fn expect(&mut self, rt: &impl Abort, alloc: Global, words: &str) -> Result<(), Fail> {
+        let cause = cause::<L>(alloc, words)?;
+        assert_eq!(rt; self.refusal.take(), Some(cause));
+        Ok(())
+    }
+
     fn play_line(&mut self, rt: &impl Abort, alloc: Global, line: &str) -> Result<(), Fail> {
         if let Some(words) = line.strip_prefix("! ") {
-            let cause = cause::<L>(alloc, words)?;
-            assert_eq!(rt; self.refusal.take(), Some(cause), "{line}");
-            return Ok(());
+            return self.expect(rt, alloc, words);
         }
         assert!(rt; self.refusal.is_none(), "refused before {line}");
         match line.strip_prefix("? ") {

@@ -16,18 +16,23 @@ where
     shown(alloc, &error)
 }
 
-// Each line is an error in words, and what it says.
+// The line is an error in words, and what it says.
+fn say_line<L: Scripted>(rt: &impl Abort, alloc: Global, line: &str) -> Result<(), Fail>
+where
+    L::Error: Display,
+{
+    let (words, text) = line.split_once(" = ").ok_or("an error without a text")?;
+    let told = text_of::<L>(alloc, words)?;
+    assert_eq!(rt; told.as_str(), text);
+    Ok(())
+}
+
 fn say<L: Scripted>(rt: &impl Abort, alloc: Global, lines: &str) -> Result<(), Fail>
 where
     L::Error: Display,
 {
     for line in lines.trim().lines() {
-        let (words, text) = line
-            .trim()
-            .split_once(" = ")
-            .ok_or("an error without a text")?;
-        let told = text_of::<L>(alloc, words)?;
-        assert_eq!(rt; told.as_str(), text, "{words}");
+        say_line::<L>(rt, alloc, line.trim())?;
     }
     Ok(())
 }
