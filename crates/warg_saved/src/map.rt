@@ -70,7 +70,7 @@ fn map_of<K: SavedName, V: SavedValue>(
     ensures { Gives (λ m. plain_pairs K.plain V.plain m.entries) result
         (pairs_of K.named V.reads (members_view object.now.entries)) }
 {
-    let mut map = IndexMap::new(alloc);
+    let mut map = IndexMap::with_capacity(alloc, object.len())?;
     'members: for (name, value) in object.iter() {
         let key = K::from_name(alloc, name.as_str())?;
         let value = V::load(alloc, value)?;
