@@ -1,6 +1,8 @@
 //! Maps as objects.
-ghost use Rattle.std.specs.Prelude.{OnErr, OnOk, ◌≡◌};
+ghost use Rattle.std.specs.Prelude.{IfErr, OnErr, OnOk, ◌≡◌, string_bytes};
+ghost use Rattle.serde_json.specs.Data.{put};
 ghost use Rattle.serde_json.specs.View.{members_view, view};
+ghost use Rattle.warg_crypto.specs.declared.json.error.JsonError.TheVariants as fault;
 ghost use Rattle.warg_crypto.specs.Json.{Gives};
 ghost use Rattle.warg_crypto.specs.Pairs.{AreAscending, names_of, pairs_json, pairs_member, pairs_of, plain_pairs};
 ghost use Rattle.warg_saved.specs.Backs.{AreBack, AreVersionsBack};
@@ -15,6 +17,15 @@ use std::alloc::Global;
 use warg_crypto::JsonError;
 use warg_crypto::json::members::{members_in, put_member};
 
+/// Puts a member under a name of its own, of which no copy is made. The error is `OutOfMemory`.
+fn put_named(members: &mut Map<String, Value>, name: String, value: Value) -> Result<(), JsonError>
+    ensures ok { OnOk result (members_view members.new.entries ≡ put (string_bytes name) (view value) (members_view members.old.entries)) }
+    ensures err { IfErr result (λ e. e ≡ fault.OutOfMemory) }
+{
+    drop(members.insert(name, value)?);
+    Ok(())
+}
+
 /// The map as an object: where names repeat, the last entry counts.
 pub fn map_value<K: SavedName, V: SavedValue>(
     alloc: Global,
@@ -28,7 +39,7 @@ pub fn map_value<K: SavedName, V: SavedValue>(
     'entries: for (key, value) in map.iter() {
         let json = value.save(alloc)?;
         let name = key.to_name(alloc)?;
-        put_member(&mut members, alloc, name.as_str(), json)?;
+        put_named(&mut members, name, json)?;
     }
     Ok(Value::Object(members))
 }
