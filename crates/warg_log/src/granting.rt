@@ -1,7 +1,8 @@
 //! What a record's entries ask of an authority. They are judged by it with the changes that the entries before them
 //! make laid over it; what they change is noted among these changes.
-ghost use Rattle.std.specs.Prelude.{◌≡◌, [], ◌∷◌, true, OnOk, is_some};
-ghost use Rattle.std.specs.Option.{option_copied};
+ghost use Rattle.std.specs.Prelude.{◌≡◌, [], ◌∷◌, true, false, OnOk, is_some};
+ghost use Rattle.std.specs.Option.{option_copied, option_map_or};
+ghost use Rattle.indexmap.specs.IndexSet.{contains};
 ghost use Rattle.warg_crypto.specs.NamedBytes.{fingerprint_of};
 ghost use Rattle.warg_log.specs.Permissions.{lists};
 ghost use Rattle.warg_records.specs.RecordData.{Init, GrantFlat, RevokeFlat};
@@ -14,6 +15,7 @@ use crate::authority::Authority;
 use crate::permission::LogPermission;
 use crate::refusal::Refusal;
 use crate::rights;
+use indexmap::IndexSet;
 use warg_crypto::hash::HashAlgorithm;
 use warg_crypto::signing::{KeyID, PublicKey};
 
@@ -30,6 +32,18 @@ impl<P: LogPermission> Authority<P> {
         ensures { result ≡ (standing_over P.eq self.now changes.now).holds key_id.now permission }
     {
         rights::holds_with(&self.permissions, &changes.permissions, key_id, permission)
+    }
+
+    /// The permissions of the key, if it has an entry.
+    fn rights_with<'a>(
+        &'a self,
+        changes: &'a Authority<P>,
+        key_id: &KeyID,
+    ) -> Option<&'a IndexSet<P>>
+        ensures { (p : P) → option_map_or (λ s. contains P.eq s p) (option_copied result) false
+            ≡ (standing_over P.eq self.now changes.now).holds key_id.now p }
+    {
+        rights::look(&self.permissions, &changes.permissions, key_id)
     }
 
     /// The key of the id.
@@ -96,8 +110,9 @@ impl<P: LogPermission> Authority<P> {
     ) -> Result<(), Refusal<P>>
         ensures { Judges offence_of (unauthorized (standing_over P.eq self.now changes.now) key_id.now permissions.now) result }
     {
+        let held = self.rights_with(changes, key_id);
         for permission in permissions {
-            if !self.holds_with(changes, key_id, *permission) {
+            if !rights::is_among(held, *permission) {
                 return Err(Refusal::UnauthorizedAction {
                     key_id: key_id.clone()?,
                     needed_permission: *permission,

@@ -1,6 +1,6 @@
 //! The permissions of each key, with changes laid over them.
 ghost use Rattle.std.specs.Prelude.{◌≡◌, List, ℕ, ◌&&◌, ◌||◌, true, false, Some, if◌then◌else◌, OnOk, IfOk, IfNone, []};
-ghost use Rattle.std.specs.Option.{option_copied};
+ghost use Rattle.std.specs.Option.{option_copied, option_map_or};
 ghost use Rattle.std.specs.Str.{bytes_eq};
 ghost use Rattle.indexmap.specs.IndexSet.{contains};
 ghost use Rattle.warg_log.specs.Permissions.{lists};
@@ -20,6 +20,16 @@ pub(crate) fn holds<P: LogPermission>(
     ensures { result ≡ holds_in P.eq rights.now key_id.now permission }
 {
     match rights.get(key_id) {
+        Some(set) => set.contains(&permission),
+        None => false,
+    }
+}
+
+/// Whether the permission is among those held.
+pub(crate) fn is_among<P: LogPermission>(held: Option<&IndexSet<P>>, permission: P) -> bool
+    ensures { result ≡ option_map_or (λ s. contains P.eq s permission) (option_copied held.entry) false }
+{
+    match held {
         Some(set) => set.contains(&permission),
         None => false,
     }
