@@ -4,6 +4,7 @@
 
 mod logs;
 mod refusal;
+mod saved;
 mod values;
 
 use refusal::{OUT_OF_MEMORY, Refusal};
@@ -58,11 +59,30 @@ fn tell_values(rt: &impl Print, alloc: Global) -> io::Result<()> {
     tell(rt, "leaf", values::leaf(alloc))
 }
 
+fn tell_saved(rt: &impl Print, alloc: Global) -> io::Result<()> {
+    for (name, text) in saved::TEXTS {
+        tell(rt, name, saved::state(alloc, text))?;
+    }
+    for (name, members) in saved::MEMBERS {
+        tell(rt, name, saved::begun(alloc, members))?;
+    }
+    tell(
+        rt,
+        "begun, a namespace of a bad name",
+        saved::bad_namespace(alloc),
+    )?;
+    for (name, text) in saved::CHECKPOINTS {
+        tell(rt, name, saved::checkpoint(alloc, text))?;
+    }
+    Ok(())
+}
+
 fn main(rt: HostRuntime) -> io::Result<()> {
     match inputs(&rt) {
         Ok(log) => {
             tell_logs(&rt, rt.alloc(), log.as_slice())?;
-            tell_values(&rt, rt.alloc())
+            tell_values(&rt, rt.alloc())?;
+            tell_saved(&rt, rt.alloc())
         }
         Err(refusal) => println!(rt; "log: {}", refusal.name),
     }

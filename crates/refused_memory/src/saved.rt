@@ -1,0 +1,125 @@
+//! Saved texts, read back: some as a state, and some refused.
+
+use crate::refusal::{OUT_OF_MEMORY, Refusal};
+use serde_json::Value;
+use std::alloc::Global;
+use warg_protocol::registry::Checkpoint;
+use warg_protocol::{Incoherence, JsonError, JsonValue, operator, package};
+
+// An algorithm and a head, as members of a state.
+const BEGUN: &str =
+    "\"algorithm\":\"sha256\",\"head\":{\"digest\":\"sha256:e3b0c44298fc1c149afbf4c8996fb92427ae41e4649b934ca495991b7852b855\",\"timestamp\":\"1.0\"}";
+
+/// Whole texts, each with what it is.
+pub(crate) const TEXTS: &[(&str, &str)] = &[
+    ("no members", "{}"),
+    ("a head of null", "{\"head\":null}"),
+    ("a list", "[]"),
+    (
+        "an unknown algorithm, and a number as head",
+        "{\"algorithm\":\"md5\",\"head\":7}",
+    ),
+    (
+        "a head without a time",
+        "{\"head\":{\"digest\":\"sha256:e3b0c44298fc1c149afbf4c8996fb92427ae41e4649b934ca495991b7852b855\"}}",
+    ),
+    ("an algorithm alone", "{\"algorithm\":\"sha256\"}"),
+    (
+        "a head alone",
+        "{\"head\":{\"digest\":\"sha256:e3b0c44298fc1c149afbf4c8996fb92427ae41e4649b934ca495991b7852b855\",\"timestamp\":\"1.0\"}}",
+    ),
+    ("a key of no bytes", "{\"keys\":{\"x\":\"toy\"}}"),
+];
+
+/// Members behind an algorithm and a head, each with what they are.
+pub(crate) const MEMBERS: &[(&str, &str)] = &[
+    ("begun", ""),
+    (
+        "begun, a key under another id",
+        ",\"keys\":{\"x\":\"toy:YWxpY2U=\"}",
+    ),
+    (
+        "begun, permissions of no key",
+        ",\"permissions\":{\"x\":[]}",
+    ),
+    (
+        "begun, a key under another id, and permissions of no key",
+        ",\"keys\":{\"x\":\"toy:YWxpY2U=\"},\"permissions\":{\"y\":[]}",
+    ),
+];
+
+/// Checkpoints, each with what it is.
+pub(crate) const CHECKPOINTS: &[(&str, &str)] = &[
+    (
+        "a checkpoint of length -1",
+        "{\"logLength\":-1,\"logRoot\":\"sha256:e3b0c44298fc1c149afbf4c8996fb92427ae41e4649b934ca495991b7852b855\",\"mapRoot\":\"sha256:e3b0c44298fc1c149afbf4c8996fb92427ae41e4649b934ca495991b7852b855\"}",
+    ),
+    (
+        "a checkpoint of length 1.5",
+        "{\"logLength\":1.5,\"logRoot\":\"sha256:e3b0c44298fc1c149afbf4c8996fb92427ae41e4649b934ca495991b7852b855\",\"mapRoot\":\"sha256:e3b0c44298fc1c149afbf4c8996fb92427ae41e4649b934ca495991b7852b855\"}",
+    ),
+];
+
+fn incoherence_name(incoherence: Incoherence) -> &'static str {
+    match incoherence {
+        Incoherence::AlgorithmWithoutHead => "AlgorithmWithoutHead",
+        Incoherence::HeadWithoutAlgorithm => "HeadWithoutAlgorithm",
+        Incoherence::KeyUnderOtherFingerprint => "KeyUnderOtherFingerprint",
+        Incoherence::InvalidNamespace => "InvalidNamespace",
+        Incoherence::PermissionsWithoutKey => "PermissionsWithoutKey",
+        _ => "another incoherence",
+    }
+}
+
+fn fault_name(error: JsonError) -> &'static str {
+    match error {
+        JsonError::WrongType => "WrongType",
+        JsonError::Missing => "Missing",
+        JsonError::BadText => "BadText",
+        JsonError::Incoherent(incoherence) => incoherence_name(incoherence),
+        _ => "another fault",
+    }
+}
+
+// The JSON of a text.
+fn value_of(alloc: Global, text: &str) -> Result<Value, Refusal> {
+    match Value::from_str(alloc, text) {
+        Ok(value) => Ok(value),
+        Err(error) if error.is_memory() => Err(OUT_OF_MEMORY),
+        Err(_) => Err(Refusal::new("no JSON")),
+    }
+}
+
+// What the text is read as: a value, or the name of its fault.
+fn read<T: JsonValue + Drop>(alloc: Global, text: &str) -> Result<&'static str, Refusal> {
+    let value = value_of(alloc, text)?;
+    match T::from_value(alloc, &value) {
+        Ok(_) => Ok("read"),
+        Err(JsonError::OutOfMemory) => Err(OUT_OF_MEMORY),
+        Err(error) => Ok(fault_name(error)),
+    }
+}
+
+/// What the text is read as, as a package log's state.
+pub(crate) fn state(alloc: Global, text: &str) -> Result<String, Refusal> {
+    Ok(String::from_str(alloc, read::<package::LogState>(alloc, text)?)?)
+}
+
+/// What an algorithm and a head with these members behind them are read as, as a package log's state.
+pub(crate) fn begun(alloc: Global, members: &str) -> Result<String, Refusal> {
+    let text = format!(in alloc; "{{{BEGUN}{members}}}")?;
+    state(alloc, text.as_str())
+}
+
+/// The same with a namespace of a bad name, as an operator log's state.
+pub(crate) fn bad_namespace(alloc: Global) -> Result<String, Refusal> {
+    let text = format!(in alloc;
+        "{{{BEGUN},\"namespaces\":{{\"my-NAMESPACE\":{{\"state\":\"defined\"}}}}}}"
+    )?;
+    Ok(String::from_str(alloc, read::<operator::LogState>(alloc, text.as_str())?)?)
+}
+
+/// What the text is read as, as a checkpoint.
+pub(crate) fn checkpoint(alloc: Global, text: &str) -> Result<String, Refusal> {
+    Ok(String::from_str(alloc, read::<Checkpoint>(alloc, text)?)?)
+}
