@@ -1,5 +1,5 @@
--- What insertion in turn gives where no two keys are equal.
-use Rattle.std.proofs.Common.{◌≡◌, length, Bool, true, false, cond, not, Option, Some, None, is_some, List, [], ◌∷◌, ◌++◌, refl, sym, ap, subst, append_assoc, ◌∙◌}
+-- What a map says after entries are inserted in turn, and after changes are laid over it.
+use Rattle.std.proofs.Common.{◌≡◌, Bool, true, false, cond, not, Option, Some, None, is_some, List, [], ◌∷◌, ◌++◌, refl, sym, ap, subst, append_assoc, ◌∙◌}
 use Rattle.std.proofs.lemmas.List.{append-nil}
 use Rattle.std.specs.Cmp.{IsEquivalence}
 use Rattle.std.specs.Option.{option_or}
@@ -18,6 +18,7 @@ module _ {K X : Type 0} {eq : K → K → Bool} (laws : IsEquivalence eq) where
   absent [] xs x d = tt
   absent (e ∷ es) xs x d = (laws.symm x.0 e.0 ∙ apart e.0 es xs x d.0, absent es xs x d.1)
 
+  -- where no two keys are equal, entries inserted in turn go last
   pub insert_all-apart : (es xs : List (K × X)) → IsDistinct eq (keys_of (es ++ xs)) → insert_all eq es xs ≡ es ++ xs
   insert_all-apart es [] d = sym (append-nil es)
   insert_all-apart es (x ∷ xs) d =
@@ -25,10 +26,6 @@ module _ {K X : Type 0} {eq : K → K → Bool} (laws : IsEquivalence eq) where
       ap (λ l. insert_all eq l xs) (insert_entry-absent eq x.0 x.1 es (absent es xs x d))
       ∙ insert_all-apart (es ++ x ∷ []) xs (subst (λ l. IsDistinct eq (keys_of l)) (sym moved) d)
       ∙ moved
-
-pub none_there : {X : Type 0} (xs : List X) → length xs ≡ 0 → xs ≡ []
-none_there [] h = refl
-none_there (x ∷ xs) h = cc
 
 pub unless_there : {X : Type 0} (there : Bool) (o : Option X) → cond (not there) o None ≡ cond there None o
 unless_there true o = refl

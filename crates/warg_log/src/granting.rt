@@ -27,13 +27,6 @@ impl<P: LogPermission> Authority<P> {
         changes.algorithm.is_some() || self.algorithm.is_some()
     }
 
-    /// Whether the key holds the permission.
-    fn holds_with(&self, changes: &Authority<P>, key_id: &KeyID, permission: P) -> bool
-        ensures { result ≡ (standing_over P.eq self.now changes.now).holds key_id.now permission }
-    {
-        rights::holds_with(&self.permissions, &changes.permissions, key_id, permission)
-    }
-
     /// The permissions of the key, if it has an entry.
     fn rights_with<'a>(
         &'a self,
@@ -44,6 +37,13 @@ impl<P: LogPermission> Authority<P> {
             ≡ (standing_over P.eq self.now changes.now).holds key_id.now p }
     {
         rights::look(&self.permissions, &changes.permissions, key_id)
+    }
+
+    /// Whether the key holds the permission.
+    fn holds_with(&self, changes: &Authority<P>, key_id: &KeyID, permission: P) -> bool
+        ensures { result ≡ (standing_over P.eq self.now changes.now).holds key_id.now permission }
+    {
+        rights::is_among(self.rights_with(changes, key_id), permission)
     }
 
     /// The key of the id.

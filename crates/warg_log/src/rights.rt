@@ -11,20 +11,6 @@ use indexmap::{IndexMap, IndexSet};
 use std::alloc::{AllocError, Global};
 use warg_crypto::signing::KeyID;
 
-/// Whether the key holds the permission.
-pub(crate) fn holds<P: LogPermission>(
-    rights: &IndexMap<KeyID, IndexSet<P>>,
-    key_id: &KeyID,
-    permission: P,
-) -> bool
-    ensures { result ≡ holds_in P.eq rights.now key_id.now permission }
-{
-    match rights.get(key_id) {
-        Some(set) => set.contains(&permission),
-        None => false,
-    }
-}
-
 /// Whether the permission is among those held.
 pub(crate) fn is_among<P: LogPermission>(held: Option<&IndexSet<P>>, permission: P) -> bool
     ensures { result ≡ option_map_or (λ s. contains P.eq s permission) (option_copied held.entry) false }
@@ -33,6 +19,17 @@ pub(crate) fn is_among<P: LogPermission>(held: Option<&IndexSet<P>>, permission:
         Some(set) => set.contains(&permission),
         None => false,
     }
+}
+
+/// Whether the key holds the permission.
+pub(crate) fn holds<P: LogPermission>(
+    rights: &IndexMap<KeyID, IndexSet<P>>,
+    key_id: &KeyID,
+    permission: P,
+) -> bool
+    ensures { result ≡ holds_in P.eq rights.now key_id.now permission }
+{
+    is_among(rights.get(key_id), permission)
 }
 
 /// What stands at the key id: as the changes say, else as it stood.
@@ -60,21 +57,6 @@ pub(crate) fn put<X: Drop>(
 {
     changes.insert(key_id, value)?;
     Ok(())
-}
-
-/// Whether the key holds the permission, with the changes.
-pub(crate) fn holds_with<P: LogPermission>(
-    base: &IndexMap<KeyID, IndexSet<P>>,
-    changes: &IndexMap<KeyID, IndexSet<P>>,
-    key_id: &KeyID,
-    permission: P,
-) -> bool
-    ensures { result ≡ held_over P.eq base.now changes.now key_id.now permission }
-{
-    match look(base, changes, key_id) {
-        Some(set) => set.contains(&permission),
-        None => false,
-    }
 }
 
 /// A copy of the permissions.

@@ -1,6 +1,4 @@
-use Rattle.std.proofs.Common.{refl, ap, ◌∙◌, ◌≡◌, List, ℕ, rules}
-use Rattle.std.specs.Map.{lookup}
-use Rattle.std.specs.Str.{bytes_eq}
+use Rattle.std.proofs.Common.{refl, ◌∙◌, rules}
 use Rattle.warg_log.specs.Rights.{layered}
 use Rattle.warg_log.proofs.ContentsLemmas.{made-over}
 use Rattle.warg_log.proofs.authority.Authority.commit.Goals as goal
