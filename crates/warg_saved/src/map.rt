@@ -19,7 +19,8 @@ use warg_crypto::json::members::{members_in, put_member};
 
 /// Puts a member under a name of its own, of which no copy is made. The error is `OutOfMemory`.
 fn put_named(members: &mut Map<String, Value>, name: String, value: Value) -> Result<(), JsonError>
-    ensures ok { OnOk result (members_view members.new.entries ≡ put (string_bytes name) (view value) (members_view members.old.entries)) }
+    ensures ok { OnOk result (members_view members.new.entries
+        ≡ put (string_bytes name) (view value) (members_view members.old.entries)) }
     ensures err { IfErr result (λ e. e ≡ fault.OutOfMemory) }
 {
     drop(members.insert(name, value)?);
