@@ -2,7 +2,7 @@
 //! `? chain carol yank = 0.0 0.1` asks by which entries, a record's place and an entry's each, a person came to hold a
 //! permission.
 use crate::answers::none;
-use crate::fault::cause;
+use crate::fault::{cause, expect};
 use crate::people::id;
 use crate::script::{Scripted, string_of, words_of};
 use std::alloc::Global;
@@ -88,16 +88,9 @@ where
         })
     }
 
-    // The last line was refused for this cause.
-    fn expect(&mut self, rt: &impl Abort, alloc: Global, words: &str) -> Result<(), Fail> {
-        let cause = cause::<L>(alloc, words)?;
-        assert_eq!(rt; self.refusal.take(), Some(cause));
-        Ok(())
-    }
-
     fn keep_line(&mut self, rt: &impl Abort, alloc: Global, line: &str) -> Result<(), Fail> {
         if let Some(words) = line.strip_prefix("! ") {
-            return self.expect(rt, alloc, words);
+            return expect::<L>(rt, alloc, &mut self.refusal, words);
         }
         assert!(rt; self.refusal.is_none(), "refused before {line}");
         match line.strip_prefix("? ") {

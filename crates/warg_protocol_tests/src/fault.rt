@@ -1,6 +1,8 @@
 //! The causes of refusals, in words.
 use crate::script::{Scripted, words_of};
 use std::alloc::Global;
+use std::fmt::Debug;
+use std::process::Abort;
 use std::test::Fail;
 use warg_protocol::signing::SignatureParseError;
 use warg_protocol::{DecodeError, ParseEnvelopeError, RunCause, WireError, WireFault};
@@ -12,6 +14,21 @@ pub fn cause<L: Scripted>(alloc: Global, words: &str) -> Result<RunCause<L::Erro
         return Ok(RunCause::Parse(fault(subject)?));
     }
     Ok(RunCause::Validation(L::error(alloc, case, subject, permission)?))
+}
+
+/// Takes the refusal, which has to be for the cause that words say.
+pub fn expect<L: Scripted>(
+    rt: &impl Abort,
+    alloc: Global,
+    refusal: &mut Option<RunCause<L::Error>>,
+    words: &str,
+) -> Result<(), Fail>
+where
+    L::Error: Debug + PartialEq,
+{
+    let cause = cause::<L>(alloc, words)?;
+    assert_eq!(rt; refusal.take(), Some(cause));
+    Ok(())
 }
 
 fn fault(name: &str) -> Result<ParseEnvelopeError, Fail> {

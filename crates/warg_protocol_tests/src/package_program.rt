@@ -5,7 +5,8 @@ ghost use Rattle.std.specs.Vec.{vec_items};
 ghost use Rattle.serde_json.specs.View.{view};
 ghost use Rattle.warg_protocol.specs.Json.{Gives};
 ghost use Rattle.warg_protocol.specs.Logs.{IsAccepted, envelope_of, read_all};
-ghost use Rattle.warg_protocol.specs.Package.{TellsHistory, kind, package_record_of, view_of, IsGreatest, shows_candidate, shown_cmp, release_view, state_json, state_in};
+ghost use Rattle.warg_protocol.specs.Package.{TellsHistory, kind, package_record_of, view_of, state_json, state_in};
+ghost use Rattle.warg_protocol.specs.Package.{IsGreatest, shows_candidate, shown_cmp, release_view};
 
 use crate::people::id;
 use crate::play::log_of;

@@ -5,7 +5,7 @@
 //! - `! YankOfYanked 1.0.0`, after a line: that line was refused with this error. The log is as before it.
 //! - `? permissions bob = release yank`: the log's answer to a question.
 use crate::effect::effect_of;
-use crate::fault::cause;
+use crate::fault::expect;
 use crate::script::{Scripted, string_of, words_of};
 use std::alloc::Global;
 use std::fmt::Debug;
@@ -107,16 +107,9 @@ where
         Ok(())
     }
 
-    // The last line was refused for this cause.
-    fn expect(&mut self, rt: &impl Abort, alloc: Global, words: &str) -> Result<(), Fail> {
-        let cause = cause::<L>(alloc, words)?;
-        assert_eq!(rt; self.refusal.take(), Some(cause));
-        Ok(())
-    }
-
     fn play_line(&mut self, rt: &impl Abort, alloc: Global, line: &str) -> Result<(), Fail> {
         if let Some(words) = line.strip_prefix("! ") {
-            return self.expect(rt, alloc, words);
+            return expect::<L>(rt, alloc, &mut self.refusal, words);
         }
         assert!(rt; self.refusal.is_none(), "refused before {line}");
         match line.strip_prefix("? ") {

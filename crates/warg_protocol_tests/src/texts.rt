@@ -37,51 +37,46 @@ where
     Ok(())
 }
 
+// What refusals of both kinds say alike.
+const SHARED: &str = "
+    FirstEntryIsNotInit = the first entry of the log is not \"init\"
+    InitialRecordDoesNotInit = the initial record is empty and does not \"init\"
+    InitialEntryAfterBeginning = a second \"init\" entry was found
+    IncorrectHashAlgorithm = record hash uses sha256 algorithm but sha256 was expected
+    RecordHashDoesNotMatch = previous record hash does not match
+    PreviousHashOnFirstRecord = the first record contained a previous hash value
+    NoPreviousHashAfterInit = non-initial record contained no previous hash
+    ProtocolVersionNotAllowed 7 = protocol version 7 not allowed
+    TimestampLowerThanPrevious = record has lower timestamp than previous
+    EmptyGrant x = an entry granted no permission to key x
+    OutOfMemory = OutOfMemory
+";
+
 #[test]
 fn a_refusal_of_a_package_says_why(rt: HostRuntime) -> Result<(), Fail> {
     let lines = "
-        FirstEntryIsNotInit = the first entry of the log is not \"init\"
-        InitialRecordDoesNotInit = the initial record is empty and does not \"init\"
         KeyIDNotRecognized x = the Key ID used to sign this envelope is not known to this package log
-        InitialEntryAfterBeginning = a second \"init\" entry was found
         UnauthorizedAction x release = the key with ID x did not have required permission release
         PermissionNotFoundToRevoke x yank = attempted to remove permission yank from key x which did not have it
         SignatureError = unable to verify signature
-        IncorrectHashAlgorithm = record hash uses sha256 algorithm but sha256 was expected
-        RecordHashDoesNotMatch = previous record hash does not match
-        PreviousHashOnFirstRecord = the first record contained a previous hash value
-        NoPreviousHashAfterInit = non-initial record contained no previous hash
-        ProtocolVersionNotAllowed 7 = protocol version 7 not allowed
-        TimestampLowerThanPrevious = record has lower timestamp than previous
-        EmptyGrant x = an entry granted no permission to key x
         ReleaseOfReleased 1.0.0 = an entry attempted to release version 1.0.0 which is already released
         YankOfUnreleased 1.0.0 = an entry attempted to yank version 1.0.0 which had not yet been released
         YankOfYanked 1.0.0 = an entry attempted to yank version 1.0.0 which is already yanked
-        OutOfMemory = OutOfMemory
     ";
+    say::<package::LogState>(&rt, rt.alloc(), SHARED)?;
     say::<package::LogState>(&rt, rt.alloc(), lines)
 }
 
 #[test]
 fn a_refusal_of_an_operator_says_why(rt: HostRuntime) -> Result<(), Fail> {
     let lines = "
-        FirstEntryIsNotInit = the first entry of the log is not \"init\"
-        InitialRecordDoesNotInit = the initial record is empty and does not \"init\"
         KeyIDNotRecognized x = the Key ID used to sign this envelope is not known to this operator log
-        InitialEntryAfterBeginning = a second \"init\" entry was found
         UnauthorizedAction x defineNamespace = the key with ID x did not have required permission defineNamespace
         PermissionNotFoundToRevoke x commit = attempted to remove permission commit from key x which did not have it
         SignatureError = unable to verify signature: Refused
-        IncorrectHashAlgorithm = record hash uses sha256 algorithm but sha256 was expected
-        RecordHashDoesNotMatch = previous record hash does not match
-        PreviousHashOnFirstRecord = the first record contained a previous hash value
-        NoPreviousHashAfterInit = non-initial record contained no previous hash
-        ProtocolVersionNotAllowed 7 = protocol version 7 not allowed
-        TimestampLowerThanPrevious = record has lower timestamp than previous
-        EmptyGrant x = an entry granted no permission to key x
         InvalidNamespace A = the namespace `A` is invalid; namespace must be a lowercased kebab case string
         NamespaceAlreadyDefined a = the namespace `a` is already defined and cannot be redefined
-        OutOfMemory = OutOfMemory
     ";
+    say::<operator::LogState>(&rt, rt.alloc(), SHARED)?;
     say::<operator::LogState>(&rt, rt.alloc(), lines)
 }
