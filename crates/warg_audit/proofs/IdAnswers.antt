@@ -1,12 +1,12 @@
 -- The answers to an input, by what was found of its lines.
-use Rattle.std.proofs.Common.{◌≡◌, ◌≢◌, ◌<◌, ◌≤◌, ℕ, Bool, true, false, cond, List, [], ◌∷◌, ◌++◌, length, codes, refl, sym, ◌∙◌, ap, arith, append_assoc, zero, suc, Option, Some, None, IfSome, Ok, IsErr}
+use Rattle.std.proofs.Common.{◌≡◌, ◌≢◌, ◌<◌, ◌≤◌, ℕ, Bool, true, false, cond, List, [], ◌∷◌, length, refl, ◌∙◌, ap, arith, zero, suc, Option, Some, None, IfSome, Ok, IsErr}
 use Rattle.std.specs.Io.KnownBytes.{Appends}
 use Rattle.warg_audit.specs.declared.command.LogType.{LogType}
 use Rattle.warg_audit.specs.declared.command.Command.{Command}
 use Rattle.warg_audit.specs.Commands.{command_of}
 use Rattle.warg_audit.specs.Lines.{lines_of, string_of, is_line_feed, onto}
 use Rattle.warg_audit.specs.Answers.{IsEnvelopeAnswer, IsIdAnswer, no_line, bad_digits, second_line, one_line, IsCommandAnswer, other_words, over_limit, of_lines}
-use Rattle.warg_audit.specs.Printed.{Printed, usage, too_long, bad_line, refused}
+use Rattle.warg_audit.specs.Printed.{Printed, usage, too_long, bad_line}
 use Rattle.warg_audit.specs.Replies.{IsReply, answer, unread, starved, IsAnswered}
 use Rattle.warg_audit.proofs.LineLemmas.{lines_of-are}
 

@@ -28,8 +28,8 @@ pub const USAGE: &str = "usage: warg_audit [id] package|operator\n";
 pub const OUT_OF_MEMORY: &str = "out of memory\n";
 
 // The answer to the text of a log of this type.
-fn log_type_reply(alloc: Global, log_type: LogType, text: &[u8]) -> Result<Reply, AllocError>
-    ensures { IfOk result (λ reply. IsLogTypeAnswer log_type (lines_of text.now) (printed_of reply)) }
+fn log_type_reply(alloc: Global, log_type: LogType, text: Vec<u8>) -> Result<Reply, AllocError>
+    ensures { IfOk result (λ reply. IsLogTypeAnswer log_type (lines_of text.items) (printed_of reply)) }
 {
     match log_type {
         LogType::Package => log_reply::<package::LogState>(alloc, text),
@@ -38,11 +38,11 @@ fn log_type_reply(alloc: Global, log_type: LogType, text: &[u8]) -> Result<Reply
 }
 
 // The answer to an input of no more than the limit.
-fn command_reply(alloc: Global, command: Command, bytes: &[u8]) -> Result<Reply, AllocError>
-    ensures { IfOk result (λ reply. IsCommandAnswer command (lines_of bytes.now) (printed_of reply)) }
+fn command_reply(alloc: Global, command: Command, bytes: Vec<u8>) -> Result<Reply, AllocError>
+    ensures { IfOk result (λ reply. IsCommandAnswer command (lines_of bytes.items) (printed_of reply)) }
 {
     match command {
-        Command::Id(log_type) => id_reply(alloc, log_type, bytes),
+        Command::Id(log_type) => id_reply(alloc, log_type, bytes.as_slice()),
         Command::Audit(log_type) => log_type_reply(alloc, log_type, bytes),
     }
 }
@@ -61,7 +61,7 @@ pub fn make_reply<R: Read>(alloc: Global, words: &[String], input: &mut Input<R>
         return Reply::fixed(USAGE, 2);
     };
     match read_all(alloc, input) {
-        Ok(bytes) => match command_reply(alloc, command, bytes.as_slice()) {
+        Ok(bytes) => match command_reply(alloc, command, bytes) {
             Ok(reply) => reply,
             Err(_) => Reply::fixed(OUT_OF_MEMORY, 3),
         },

@@ -9,9 +9,10 @@ use Rattle.warg_audit.proofs.log.judge.Goals as goal
 
 pub loop-rest-init : goal.loop-rest-init
 loop-rest-init g c = record {
-  judged = none_judged g.L.Validator.kind toy_belongs (envelope_of g.L.Record.Record.read) (lines_of c.args.text.now)
-      (g.L.Validator.view c.in_ok-state.state) c.in_ok-state.ensures (g.met.L.Validator.laws.by_list toy_belongs [] tt);
-  short = omega arith;
+  judged = rw c.as_slice-rest.ensures.value (none_judged g.L.Validator.kind toy_belongs (envelope_of g.L.Record.Record.read)
+      (lines_of c.args.text.items) (g.L.Validator.view c.in_ok-state.state) c.in_ok-state.ensures
+      (g.met.L.Validator.laws.by_list toy_belongs [] tt));
+  short = rw c.as_slice-rest.ensures.value (omega arith);
 }
 
 pub loop-rest-preserved : goal.loop-rest-preserved
@@ -20,30 +21,30 @@ loop-rest-preserved g c =
     let so_far = rw c.cut_line.ensures.line at c.loop-rest.invariant.judged in
     let string = c.decode_line.new.buffer.items in record {
       judged = one_judged g.L.Validator.kind toy_belongs (envelope_of g.L.Record.Record.read) g.L.Validator.view
-          (told (envelope_fault_of g.L.Record.Record.fault_of) g.L.Validator.offence_of) (lines_of c.args.text.now)
+          (told (envelope_fault_of g.L.Record.Record.fault_of) g.L.Validator.offence_of) (lines_of c.args.text.items)
           c.loop-rest.count c.cut_line.result.0.now (lines_of c.cut_line.result.1.now)
           (g.L.Validator.view c.loop-rest.state) so_far string (c.in_ok-decode_line.ensures.bytes (ap Ok good))
-          c.in-Ok.next (c.in-Ok.ensures so_far.strings so_far.many so_far.lawful so_far.stands);
+          c.in-Ok-take_string.next (c.in-Ok-take_string.ensures so_far.strings so_far.many so_far.lawful so_far.stands);
       short = omega arith;
     }
 
-pub returns-in-Err-clause-ok : goal.returns-in-Err-clause-ok
-returns-in-Err-clause-ok g c =
+pub returns-in-Err-take_string-clause-ok : goal.returns-in-Err-take_string-clause-ok
+returns-in-Err-take_string-clause-ok g c =
     let good : c.in_ok-decode_line.field-0 ≡ true = grind (arith, common_steps) in
     let judged = c.loop-rest.invariant.judged in
-    let lines = lines_of c.args.text.now in
+    let lines = lines_of c.args.text.items in
     let rest = lines_of c.cut_line.result.1.now in
     let string = c.decode_line.new.buffer.items in
     let read = one_read 0 lines c.loop-rest.count c.cut_line.result.0.now rest judged.strings
     (rw c.cut_line.ensures.line at judged.whole) string (c.in_ok-decode_line.ensures.bytes (ap Ok good)) in
-    let more = some_strings (strings_from (c.loop-rest.count + 1) rest) c.in_ok-test_lines-in-Err.ensures.ok in
+    let more = some_strings (strings_from (c.loop-rest.count + 1) rest) c.in_ok-test_lines-in-Err-take_string.ensures.ok in
     let strings = judged.strings ++ string ∷ [] in (
       strings ++ more.0,
       (
         rest_read 0 lines (c.loop-rest.count + 1) rest strings more.0 read more.1,
-        still_refused g.L.Validator.kind toy_belongs (envelope_of g.L.Record.Record.read) g.L.Validator.kind.view_of
+        rw c.in_ok-refusal-in-Err-take_string.ensures.ok (still_refused g.L.Validator.kind toy_belongs (envelope_of g.L.Record.Record.read) g.L.Validator.kind.view_of
             strings more.0 (told (envelope_fault_of g.L.Record.Record.fault_of) g.L.Validator.offence_of)
-            c.in-Err.error (c.in-Err.ensures judged.strings judged.many judged.lawful judged.stands),
+            c.in-Err-take_string.error (c.in-Err-take_string.ensures judged.strings judged.many judged.lawful judged.stands)),
         tt,
       ),
     )

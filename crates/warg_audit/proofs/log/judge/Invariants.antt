@@ -8,9 +8,9 @@ use Rattle.warg_audit.proofs.log.judge.Given as goal
 -- the lines so far spell strings that may all come, and the state stands for them
 abbrev pub invariant-loop-rest : goal.invariant-loop-rest
 invariant-loop-rest g l = record {
-  judged : IsJudgedTo g.L.Validator.kind toy_belongs (envelope_of g.L.Record.Record.read) (lines_of l.fn.text) l.count
+  judged : IsJudgedTo g.L.Validator.kind toy_belongs (envelope_of g.L.Record.Record.read) (lines_of l.fn.text.items) l.count
       (lines_of l.rest) (g.L.Validator.view l.state);
-  short : l.count + length l.rest ≤ length l.fn.text;
+  short : l.count + length l.rest ≤ length l.fn.text.items;
 }
 
 abbrev pub decreases-loop-rest : goal.decreases-loop-rest

@@ -10,7 +10,7 @@ returns-in-Ok-Ok g c =
     let run = judged.1.1 in
     IfOk-weaker c.accepted_reply.result _ _
     (λ reply is fault_name offence_name shown reports.
-    spelled_answers _ _ (lines_of c.args.text.now) (printed_of reply) judged.0 judged.1.0
+    spelled_answers _ _ (lines_of c.args.text.items) (printed_of reply) judged.0 judged.1.0
     (lawful_answers _ _ judged.0 (printed_of reply) (g.L.Validator.view c.in-Ok-Ok.state) run.0 run.1 c.in-Ok-Ok.count
     judged.1.2 (g.L.Report.lines_of c.in-Ok-Ok.state) (reports.lines c.in-Ok-Ok.state) is))
     c.accepted_reply.ensures
@@ -20,7 +20,7 @@ returns-in-Ok-Err g c =
     let judged = rw c.in-Ok-Err.field-0-is at c.in-Ok-Err.ensures.ok in
     IfOk-weaker c.refusal_reply.result _ _
     (λ reply is fault_name offence_name shown reports.
-    spelled_answers _ _ (lines_of c.args.text.now) (printed_of reply) judged.0 judged.1.0
+    spelled_answers _ _ (lines_of c.args.text.items) (printed_of reply) judged.0 judged.1.0
     (is fault_name offence_name shown reports judged.0 judged.1.1))
     c.refusal_reply.ensures
 
@@ -28,6 +28,6 @@ pub returns-in-Err-Bad : goal.returns-in-Err-Bad
 returns-in-Err-Bad g c =
     IfOk-weaker c.bad_line_reply.result _ _
     (λ reply is fault_name offence_name shown reports.
-    bad_answers _ _ (lines_of c.args.text.now) (printed_of reply) c.in-Err-Bad.index
+    bad_answers _ _ (lines_of c.args.text.items) (printed_of reply) c.in-Err-Bad.index
     c.in-Err-Bad.field-0 c.in-Err-Bad.field-0-is c.in-Err-Bad.ensures.err is)
     c.bad_line_reply.ensures

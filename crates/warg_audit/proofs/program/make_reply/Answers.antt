@@ -8,7 +8,7 @@ returns-in_default-clause-reply g c =
 
 pub returns-in-Ok-command_reply-clause-reply : goal.returns-in-Ok-command_reply-clause-reply
 returns-in-Ok-command_reply-clause-reply g c =
-    lines_reply (map string_bytes c.args.words.now) _ _ (g.R.Read.remaining c.args.input.now.reader) c.in-Some.command c.in-Ok.bytes.items (sym c.in-Some.ensures) c.in-Ok.ensures.ok c.in-Ok.ensures.short (rw c.as_slice.ensures.value at c.in-Ok-command_reply.ensures)
+    lines_reply (map string_bytes c.args.words.now) _ _ (g.R.Read.remaining c.args.input.now.reader) c.in-Some.command c.in-Ok.bytes.items (sym c.in-Some.ensures) c.in-Ok.ensures.ok c.in-Ok.ensures.short c.in-Ok-command_reply.ensures
 
 pub returns-in-Err-TooLong-clause-reply : goal.returns-in-Err-TooLong-clause-reply
 returns-in-Err-TooLong-clause-reply g c =
