@@ -136,44 +136,46 @@ where
     Ok(())
 }
 
+const CHAINS: &[&str] = &[
+    "
+    ? chain alice yank = none
+    alice 1.0: init alice, grant bob release yank
+    bob 2.0: grant carol yank
+    ? chain carol yank = 0.0 0.1 1.0
+    ? chain carol release = none
+    ? chain alice yank = 0.0
+    carol 3.0: grant alice yank
+    ? chain alice yank = 0.0 0.1 1.0 2.0
+    ? chain alice release = 0.0
+    ",
+    // A permission listed twice is given once.
+    "
+    alice 1.0: init alice, grant bob release yank
+    bob 2.0: grant carol yank
+    alice 3.0: grant carol yank yank
+    ? chain carol yank = 0.0 2.0
+    alice 4.0: revoke carol yank
+    ? chain carol yank = none
+    bob 5.0: grant carol yank, grant mallory
+    ? chain carol yank = 0.0 0.1 4.0
+    ? chain mallory yank = none
+    ",
+    // What a key gives itself is a chain over what it held.
+    "
+    alice 1.0: init alice
+    alice 2.0: grant alice yank, grant bob yank
+    ? chain alice yank = 0.0 1.0
+    ? chain bob yank = 0.0 1.0 1.1
+    alice 3.0: revoke alice yank
+    ? chain alice yank = none
+    ? chain alice release = 0.0
+    ? chain bob yank = 0.0 1.0 1.1
+    ",
+];
+
 #[test]
 fn a_chain_says_who_gave_a_permission(rt: HostRuntime) -> Result<(), Fail> {
-    for script in [
-        "
-        ? chain alice yank = none
-        alice 1.0: init alice, grant bob release yank
-        bob 2.0: grant carol yank
-        ? chain carol yank = 0.0 0.1 1.0
-        ? chain carol release = none
-        ? chain alice yank = 0.0
-        carol 3.0: grant alice yank
-        ? chain alice yank = 0.0 0.1 1.0 2.0
-        ? chain alice release = 0.0
-        ",
-        // A permission listed twice is given once.
-        "
-        alice 1.0: init alice, grant bob release yank
-        bob 2.0: grant carol yank
-        alice 3.0: grant carol yank yank
-        ? chain carol yank = 0.0 2.0
-        alice 4.0: revoke carol yank
-        ? chain carol yank = none
-        bob 5.0: grant carol yank, grant mallory
-        ? chain carol yank = 0.0 0.1 4.0
-        ? chain mallory yank = none
-        ",
-        // What a key gives itself is a chain over what it held.
-        "
-        alice 1.0: init alice
-        alice 2.0: grant alice yank, grant bob yank
-        ? chain alice yank = 0.0 1.0
-        ? chain bob yank = 0.0 1.0 1.1
-        alice 3.0: revoke alice yank
-        ? chain alice yank = none
-        ? chain alice release = 0.0
-        ? chain bob yank = 0.0 1.0 1.1
-        ",
-    ] {
+    for script in CHAINS {
         keep::<package::LogState>(&rt, rt.alloc(), script)?;
     }
     Ok(())
@@ -279,7 +281,20 @@ fn heads_are_compared(rt: HostRuntime) -> Result<(), Fail> {
     Ok(())
 }
 
-// The strings are appended up to the one at the place, which is no envelope.
+// The log takes the strings up to the one at the place, which is no envelope.
+fn is_stopped(
+    rt: &impl Abort,
+    alloc: Global,
+    log: &mut AuditedLog<package::LogState, ToyVerifier>,
+    inputs: &[Vec<u8>],
+    index: usize,
+) -> Result<(), Fail> {
+    let cause = cause::<package::LogState>(alloc, "Parse ProtobufEnvelope.Group")?;
+    assert_eq!(rt; log.append_all(inputs), Err(RunError { index, cause }));
+    Ok(())
+}
+
+// The strings are appended up to the one at the place.
 fn stops_at(
     rt: &impl Abort,
     alloc: Global,
@@ -288,8 +303,7 @@ fn stops_at(
     stand: usize,
 ) -> Result<(), Fail> {
     let mut log = AuditedLog::<package::LogState, ToyVerifier>::new(alloc, ToyVerifier)?;
-    let cause = cause::<package::LogState>(alloc, "Parse ProtobufEnvelope.Group")?;
-    assert_eq!(rt; log.append_all(inputs), Err(RunError { index, cause }));
+    is_stopped(rt, alloc, &mut log, inputs, index)?;
     assert_eq!(rt; log.records().len(), stand);
     Ok(())
 }

@@ -1,7 +1,8 @@
 //! Records that come next.
-use crate::people::{key, signer};
+use crate::people::{key, signed};
 use crate::play::state_of;
 use std::alloc::Global;
+use std::process::Abort;
 use std::test::Fail;
 use warg_protocol::hash::HashAlgorithm;
 use warg_protocol::toy::ToyVerifier;
@@ -19,7 +20,7 @@ fn yanked(
     time: &str,
 ) -> Result<Result<package::LogState, package::ValidationError>, Fail> {
     let record = state.next_record(Timestamp::parse_text(time)?, yank(alloc)?);
-    let envelope = ProtoEnvelope::signed_contents(alloc, &signer(alloc, "alice")?, record)?;
+    let envelope = signed(alloc, "alice", record)?;
     Ok(state.clone()?.validate(&envelope, &ToyVerifier))
 }
 
@@ -33,15 +34,22 @@ fn is_too_old(alloc: Global, state: &package::LogState, time: &str) -> Result<bo
     Ok(next.is_err_and(|error| error == package::ValidationError::TimestampLowerThanPrevious))
 }
 
+fn is_continued(rt: &impl Abort, alloc: Global, state: &package::LogState) -> Result<(), Fail> {
+    assert!(rt; is_yanked(alloc, state, "2.0")?);
+    assert!(rt; is_yanked(alloc, state, "3.5")?);
+    assert!(rt; is_too_old(alloc, state, "1.9")?);
+    Ok(())
+}
+
 #[test]
 fn a_next_record_is_taken(rt: HostRuntime) -> Result<(), Fail> {
     let alloc = rt.alloc();
     let script = "alice 2.0: init alice, release 1.0.0";
-    let state = state_of::<package::LogState>(&rt, alloc, script)?;
-    assert!(rt; is_yanked(alloc, &state, "2.0")?);
-    assert!(rt; is_yanked(alloc, &state, "3.5")?);
-    assert!(rt; is_too_old(alloc, &state, "1.9")?);
-    Ok(())
+    is_continued(
+        &rt,
+        alloc,
+        &state_of::<package::LogState>(&rt, alloc, script)?,
+    )
 }
 
 fn init(alloc: Global) -> Result<Vec<operator::OperatorEntry>, Fail> {
@@ -53,21 +61,30 @@ fn init(alloc: Global) -> Result<Vec<operator::OperatorEntry>, Fail> {
     ]?)
 }
 
+fn first_envelope(
+    alloc: Global,
+    state: &operator::LogState,
+) -> Result<ProtoEnvelope<operator::OperatorRecord>, Fail> {
+    let record = state.next_record(Timestamp::parse_text("1.0")?, init(alloc)?);
+    signed(alloc, "alice", record)
+}
+
 // The state after a first record.
 fn begun(alloc: Global) -> Result<operator::LogState, Fail> {
     let state = operator::LogState::new(alloc)?;
-    let record = state.next_record(Timestamp::parse_text("1.0")?, init(alloc)?);
-    let envelope = ProtoEnvelope::signed_contents(alloc, &signer(alloc, "alice")?, record)?;
-    match state.validate(&envelope, &ToyVerifier) {
-        Ok(next) => Ok(next),
-        Err(error) => Err(Fail::from(error)),
+    let envelope = first_envelope(alloc, &state)?;
+    Ok(state.validate(&envelope, &ToyVerifier)?)
+}
+
+fn is_copied(head: &Option<operator::Head>) -> Result<bool, Fail> {
+    match head {
+        Some(head) => Ok(head.try_clone()? == *head),
+        None => Ok(false),
     }
 }
 
 #[test]
 fn a_first_record_is_a_next_one(rt: HostRuntime) -> Result<(), Fail> {
-    let state = begun(rt.alloc())?;
-    let head = state.head().ok_or("no head")?;
-    assert_eq!(rt; head.try_clone()?, head);
+    assert!(rt; is_copied(begun(rt.alloc())?.head())?);
     Ok(())
 }

@@ -5,6 +5,7 @@ ghost use Rattle.warg_protocol.specs.Operator.{view_of};
 use crate::people::id;
 use crate::play::state_of;
 use std::alloc::Global;
+use std::process::Abort;
 use std::test::Fail;
 use warg_protocol::operator::{LogState, Permission};
 use warg_protocol::signing::KeyID;
@@ -20,10 +21,18 @@ fn may_sign_in(alloc: Global, state: &LogState, name: &str) -> Result<bool, Fail
     Ok(may_sign(state, &id(alloc, name)?))
 }
 
+fn asks(rt: &impl Abort, alloc: Global, state: &LogState) -> Result<(), Fail> {
+    assert!(rt; may_sign_in(alloc, state, "alice")?);
+    assert!(rt; !may_sign_in(alloc, state, "bob")?);
+    Ok(())
+}
+
 #[test]
 fn a_program_asks_an_operator_log(rt: HostRuntime) -> Result<(), Fail> {
-    let state = state_of::<LogState>(&rt, rt.alloc(), "alice 1.0: init alice")?;
-    assert!(rt; may_sign_in(rt.alloc(), &state, "alice")?);
-    assert!(rt; !may_sign_in(rt.alloc(), &state, "bob")?);
-    Ok(())
+    let alloc = rt.alloc();
+    asks(
+        &rt,
+        alloc,
+        &state_of::<LogState>(&rt, alloc, "alice 1.0: init alice")?,
+    )
 }

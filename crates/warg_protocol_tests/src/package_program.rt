@@ -92,13 +92,16 @@ fn comes_back(alloc: Global, state: &LogState) -> Result<bool, Fail> {
     Ok(restored(alloc, &value)? == *state)
 }
 
+fn asks(rt: &impl Abort, alloc: Global, state: &LogState) -> Result<(), Fail> {
+    assert!(rt; may_release_in(alloc, state, "bob")?);
+    assert!(rt; !may_release_in(alloc, state, "mallory")?);
+    assert_eq!(rt; best(alloc, state, "^1")?.as_str(), "1.1.0");
+    assert!(rt; comes_back(alloc, state)?);
+    Ok(())
+}
+
 #[test]
 fn a_program_asks_a_package_log(rt: HostRuntime) -> Result<(), Fail> {
     let alloc = rt.alloc();
-    let state = state(&rt, alloc)?;
-    assert!(rt; may_release_in(alloc, &state, "bob")?);
-    assert!(rt; !may_release_in(alloc, &state, "mallory")?);
-    assert_eq!(rt; best(alloc, &state, "^1")?.as_str(), "1.1.0");
-    assert!(rt; comes_back(alloc, &state)?);
-    Ok(())
+    asks(&rt, alloc, &state(&rt, alloc)?)
 }

@@ -2,7 +2,7 @@
 use crate::draft::Draft;
 use crate::package_answers::answer;
 use crate::package_errors::error;
-use crate::people::{id, key, signer};
+use crate::people::{id, key, signed};
 use crate::script::{Scripted, permissions_of};
 use std::alloc::Global;
 use std::test::Fail;
@@ -55,14 +55,13 @@ impl Scripted for LogState {
         draft: &Draft<'_>,
         entries: Vec<PackageEntry>,
     ) -> Result<ProtoEnvelope<PackageRecord>, Fail> {
-        let signer = signer(alloc, draft.signer)?;
         let record = PackageRecord {
             prev,
             version: draft.version,
             timestamp: draft.timestamp()?,
             entries,
         };
-        Ok(ProtoEnvelope::signed_contents(alloc, &signer, record)?)
+        signed(alloc, draft.signer, record)
     }
 
     fn error(

@@ -102,6 +102,22 @@ fn is_out_of_memory<L: Scripted>(cause: &RunCause<L::Error>) -> bool {
     }
 }
 
+// The log, which is empty, finds no memory for the string, and stays as it is.
+fn lacks_memory<L: Scripted>(
+    rt: &impl Abort,
+    alloc: Global,
+    log: &mut AuditedLog<L, Poor>,
+    string: &[u8],
+) -> Result<(), Fail>
+where
+    L::Error: Debug,
+{
+    let refused = log.append(string);
+    assert!(rt; refused.is_err_and(|cause| is_out_of_memory::<L>(&cause)));
+    assert!(rt; log.records().is_empty() && *log.state() == L::new(alloc)?);
+    Ok(())
+}
+
 // A log whose verifier finds no memory once takes the same bytes then.
 fn takes_later<L: Scripted>(rt: &impl Abort, alloc: Global) -> Result<(), Fail>
 where
@@ -109,9 +125,7 @@ where
 {
     let mut log = AuditedLog::<L, Poor>::new(alloc, without_memory())?;
     let string = first::<L>(alloc)?;
-    let refused = log.append(string.as_slice());
-    assert!(rt; refused.is_err_and(|cause| is_out_of_memory::<L>(&cause)));
-    assert!(rt; log.records().is_empty() && *log.state() == L::new(alloc)?);
+    lacks_memory(rt, alloc, &mut log, string.as_slice())?;
     assert!(rt; log.append(string.as_slice()).is_ok() && log.records().len() == 1);
     Ok(())
 }

@@ -4,6 +4,7 @@ use std::alloc::{AllocError, Global};
 use std::test::Fail;
 use warg_protocol::signing::{KeyID, PublicKey, Signer};
 use warg_protocol::toy::ToySigner;
+use warg_protocol::{ProtoEnvelope, Signable};
 
 const PEOPLE: [(&str, &str); 4] = [
     (
@@ -27,6 +28,16 @@ const PEOPLE: [(&str, &str); 4] = [
 /// Who signs by the key of this name.
 pub fn signer(alloc: Global, name: &str) -> Result<ToySigner, AllocError> {
     ToySigner::new(alloc, name.as_bytes())
+}
+
+/// The record in an envelope that the person signed.
+pub fn signed<C: Signable + Drop>(
+    alloc: Global,
+    name: &str,
+    record: C,
+) -> Result<ProtoEnvelope<C>, Fail> {
+    let signer = signer(alloc, name)?;
+    Ok(ProtoEnvelope::signed_contents(alloc, &signer, record)?)
 }
 
 /// The person's key.

@@ -3,6 +3,7 @@ ghost use Rattle.std.specs.Iterator.{IsFinite};
 
 use crate::play::state_of;
 use std::alloc::Global;
+use std::process::Abort;
 use std::test::Fail;
 use warg_protocol::package::{LogState, Release};
 
@@ -24,10 +25,7 @@ fn versions<'a, I: Iterator<Item = &'a Release>>(alloc: Global, releases: I) -> 
     Ok(text)
 }
 
-#[test]
-fn releases_come_from_both_ends(rt: HostRuntime) -> Result<(), Fail> {
-    let alloc = rt.alloc();
-    let state = state_of::<LogState>(&rt, alloc, LOG)?;
+fn come_from_both_ends(rt: &impl Abort, alloc: Global, state: &LogState) -> Result<(), Fail> {
     let releases = state.releases();
     assert_eq!(rt; releases.len(), 3);
     assert_eq!(rt;
@@ -42,11 +40,20 @@ fn releases_come_from_both_ends(rt: HostRuntime) -> Result<(), Fail> {
 }
 
 #[test]
-fn releases_are_shown_as_a_list(rt: HostRuntime) -> Result<(), Fail> {
+fn releases_come_from_both_ends(rt: HostRuntime) -> Result<(), Fail> {
     let alloc = rt.alloc();
-    let state = state_of::<LogState>(&rt, alloc, LOG)?;
+    come_from_both_ends(&rt, alloc, &state_of::<LogState>(&rt, alloc, LOG)?)
+}
+
+fn are_shown_as_a_list(rt: &impl Abort, alloc: Global, state: &LogState) -> Result<(), Fail> {
     let shown = format!(in alloc; "{:?}", state.releases())?;
     assert!(rt; shown.as_str().starts_with("[Release { record_id: "));
     assert!(rt; shown.as_str().ends_with(" }]"));
     Ok(())
+}
+
+#[test]
+fn releases_are_shown_as_a_list(rt: HostRuntime) -> Result<(), Fail> {
+    let alloc = rt.alloc();
+    are_shown_as_a_list(&rt, alloc, &state_of::<LogState>(&rt, alloc, LOG)?)
 }

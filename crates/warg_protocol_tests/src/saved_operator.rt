@@ -127,6 +127,15 @@ fn a_saved_state_resumes(rt: HostRuntime) -> Result<(), Fail> {
     resumes::<LogState>(&rt, rt.alloc(), LOG, 2, REST)
 }
 
+fn are_in_order(rt: &impl Abort, alloc: Global, state: &LogState) -> Result<(), Fail> {
+    let text = text_of(alloc, state)?;
+    assert!(rt;
+        text.as_str()
+            .contains("[\"importNamespace\",\"defineNamespace\"]")
+    );
+    comes_back(rt, alloc, state)
+}
+
 #[test]
 fn the_last_permission_takes_the_place_of_one_that_was_taken(rt: HostRuntime) -> Result<(), Fail> {
     let alloc = rt.alloc();
@@ -134,12 +143,5 @@ fn the_last_permission_takes_the_place_of_one_that_was_taken(rt: HostRuntime) ->
         alice 1.0: init alice
         alice 2.0: grant bob commit defineNamespace importNamespace, revoke bob commit
     ";
-    let state = state_of::<LogState>(&rt, alloc, script)?;
-    let text = text_of(alloc, &state)?;
-    assert!(&rt;
-        text.as_str()
-            .contains("[\"importNamespace\",\"defineNamespace\"]"),
-        "{text}"
-    );
-    comes_back(&rt, alloc, &state)
+    are_in_order(&rt, alloc, &state_of::<LogState>(&rt, alloc, script)?)
 }

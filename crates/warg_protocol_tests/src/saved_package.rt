@@ -1,5 +1,5 @@
 //! Saved states of package logs.
-use crate::people::signer;
+use crate::people::signed;
 use crate::play::state_of;
 use crate::saved::{
     ALICE, are_refused, are_refused_begun, begun, comes_back, load, resumes, text_of,
@@ -11,6 +11,7 @@ use std::test::Fail;
 use warg_protocol::hash::HashAlgorithm;
 use warg_protocol::package::{LogState, PackageRecord, ValidationError};
 use warg_protocol::registry::RecordId;
+use warg_protocol::signing::KeyID;
 use warg_protocol::toy::ToyVerifier;
 use warg_protocol::{Decode, Incoherence, JsonError, JsonValue, ProtoEnvelope};
 
@@ -186,64 +187,95 @@ fn releases_stand_under_their_versions(rt: HostRuntime) -> Result<(), Fail> {
     Ok(())
 }
 
+const NOTHING: &[&str] = &[
+    "{}",
+    "{\"head\":null}",
+    "{\"algorithm\":null,\"unknown\":7}",
+    "{\"keys\":{}}",
+];
+
+fn is_new(rt: &impl Abort, alloc: Global, state: &LogState) -> Result<(), Fail> {
+    assert!(rt; *state == LogState::new(alloc)?);
+    assert_eq!(rt; text_of(alloc, state)?.as_str(), "{}");
+    Ok(())
+}
+
 #[test]
 fn nothing_is_the_new_state(rt: HostRuntime) -> Result<(), Fail> {
     let alloc = rt.alloc();
-    for json in [
-        "{}",
-        "{\"head\":null}",
-        "{\"algorithm\":null,\"unknown\":7}",
-        "{\"keys\":{}}",
-    ] {
-        let state = load::<LogState>(&rt, alloc, json)?;
-        assert!(&rt; state == LogState::new(alloc)?, "{json}");
-        assert_eq!(&rt; text_of(alloc, &state)?.as_str(), "{}");
+    for json in NOTHING {
+        is_new(&rt, alloc, &load::<LogState>(&rt, alloc, json)?)?;
     }
     Ok(())
+}
+
+// Who signed the envelope, where the state knows no such key.
+fn unknown_signer(state: LogState, envelope: &ProtoEnvelope<PackageRecord>) -> Result<KeyID, Fail> {
+    match state.validate(envelope, &ToyVerifier) {
+        Err(ValidationError::KeyIDNotRecognized { key_id }) => Ok(key_id),
+        _ => Err(Fail::new("known")),
+    }
 }
 
 #[test]
 fn a_saved_log_without_keys_knows_nobody(rt: HostRuntime) -> Result<(), Fail> {
     let alloc = rt.alloc();
-    let state = load::<LogState>(&rt, alloc, begun(alloc, "")?.as_str())?;
     let last = RecordId::from(HashAlgorithm::Sha256.digest(b""));
     let envelope = envelope_of::<LogState>(alloc, Some(last), "alice 1.0:")?;
-    match state.validate(&envelope, &ToyVerifier) {
-        Err(ValidationError::KeyIDNotRecognized { key_id }) => {
-            assert_eq!(&rt; key_id.as_str(), ALICE);
-            Ok(())
-        }
-        _ => Err(Fail::new("known")),
-    }
+    let json = begun(alloc, "")?;
+    let key_id = unknown_signer(load::<LogState>(&rt, alloc, json.as_str())?, &envelope)?;
+    assert_eq!(rt; key_id.as_str(), ALICE);
+    Ok(())
 }
 
 const FIRST: &str =
     "{\"algorithm\":\"sha256\",\"head\":{\"digest\":\"sha256:DIGEST\",\"timestamp\":\"1.0\"},\"keys\":{\"ALICE\":\"toy:YWxpY2U=\"},\"permissions\":{\"ALICE\":[\"release\",\"yank\"]}}";
 
-#[test]
-fn the_first_record_is_saved(rt: HostRuntime) -> Result<(), Fail> {
-    let alloc = rt.alloc();
-    let state = state_of::<LogState>(&rt, alloc, "alice 1.0: init alice")?;
+// The text of a state with this digest.
+fn first(alloc: Global, digest: &str) -> Result<String, Fail> {
+    let text = FIRST.replace(alloc, "sha256:DIGEST", digest)?;
+    Ok(text.as_str().replace(alloc, "ALICE", ALICE)?)
+}
+
+fn is_first(rt: &impl Abort, alloc: Global, state: &LogState) -> Result<(), Fail> {
     let Some(head) = state.head() else {
         return Err(Fail::new("no head"));
     };
     let digest = format!(in alloc; "{}", head.digest)?;
-    let want = FIRST.replace(alloc, "sha256:DIGEST", digest.as_str())?;
-    let want = want.as_str().replace(alloc, "ALICE", ALICE)?;
-    assert_eq!(&rt; text_of(alloc, &state)?.as_str(), want.as_str());
-    comes_back(&rt, alloc, &state)
+    let want = first(alloc, digest.as_str())?;
+    assert_eq!(rt; text_of(alloc, state)?.as_str(), want.as_str());
+    comes_back(rt, alloc, state)
+}
+
+#[test]
+fn the_first_record_is_saved(rt: HostRuntime) -> Result<(), Fail> {
+    let alloc = rt.alloc();
+    is_first(
+        &rt,
+        alloc,
+        &state_of::<LogState>(&rt, alloc, "alice 1.0: init alice")?,
+    )
+}
+
+// A state in which alice holds a permission twice.
+fn repeated(alloc: Global) -> Result<String, Fail> {
+    let more = format!(in alloc;
+        ",\"keys\":{{\"{ALICE}\":\"toy:YWxpY2U=\"}},\"permissions\":{{\"{ALICE}\":[\"yank\",\"release\",\"yank\"]}}"
+    )?;
+    begun(alloc, more.as_str())
+}
+
+fn are_written_once(rt: &impl Abort, alloc: Global, state: &LogState) -> Result<(), Fail> {
+    let text = text_of(alloc, state)?;
+    assert!(rt; text.as_str().contains("[\"yank\",\"release\"]"));
+    comes_back(rt, alloc, state)
 }
 
 #[test]
 fn repeated_permissions_fall_together(rt: HostRuntime) -> Result<(), Fail> {
     let alloc = rt.alloc();
-    let more = format!(in alloc;
-        ",\"keys\":{{\"{ALICE}\":\"toy:YWxpY2U=\"}},\"permissions\":{{\"{ALICE}\":[\"yank\",\"release\",\"yank\"]}}"
-    )?;
-    let state = load::<LogState>(&rt, alloc, begun(alloc, more.as_str())?.as_str())?;
-    let text = text_of(alloc, &state)?;
-    assert!(&rt; text.as_str().contains("[\"yank\",\"release\"]"));
-    comes_back(&rt, alloc, &state)
+    let json = repeated(alloc)?;
+    are_written_once(&rt, alloc, &load::<LogState>(&rt, alloc, json.as_str())?)
 }
 
 const LONG: &str = "
@@ -262,15 +294,19 @@ fn a_saved_state_resumes(rt: HostRuntime) -> Result<(), Fail> {
     resumes::<LogState>(&rt, rt.alloc(), LONG, 3, REST)
 }
 
+fn names(alloc: Global, state: &LogState) -> Result<String, Fail> {
+    let mut names = String::new(alloc);
+    for release in state.releases() {
+        names.push_str(format!(in alloc; "{} ", release.version)?.as_str())?;
+    }
+    Ok(names)
+}
+
 #[test]
 fn releases_come_back_by_their_names(rt: HostRuntime) -> Result<(), Fail> {
     let alloc = rt.alloc();
-    let state = state_of::<LogState>(&rt, alloc, LONG)?;
-    let again = load::<LogState>(&rt, alloc, text_of(alloc, &state)?.as_str())?;
-    let mut names = String::new(alloc);
-    for release in again.releases() {
-        names.push_str(format!(in alloc; "{} ", release.version)?.as_str())?;
-    }
+    let json = text_of(alloc, &state_of::<LogState>(&rt, alloc, LONG)?)?;
+    let names = names(alloc, &load::<LogState>(&rt, alloc, json.as_str())?)?;
     assert_eq!(&rt; names.as_str(), "10.0.0 9.0.0-rc.1+a 9.0.0-rc.1+b ");
     Ok(())
 }
@@ -279,21 +315,20 @@ fn releases_come_back_by_their_names(rt: HostRuntime) -> Result<(), Fail> {
 const BEFORE_THE_EPOCH: &str =
     "1a0b10ffffffffffffffffff0122180a160a0c746f793a595778705932553d1206736861323536";
 
+fn record_before_the_epoch(alloc: Global) -> Result<PackageRecord, Fail> {
+    let contents = hex::decode(alloc, BEFORE_THE_EPOCH)?;
+    Ok(PackageRecord::decode(alloc, contents.as_slice())?)
+}
+
+fn state_before_the_epoch(alloc: Global) -> Result<LogState, Fail> {
+    let envelope = signed(alloc, "alice", record_before_the_epoch(alloc)?)?;
+    Ok(LogState::new(alloc)?.validate(&envelope, &ToyVerifier)?)
+}
+
 #[test]
 fn a_time_before_the_epoch_is_not_saved(rt: HostRuntime) -> Result<(), Fail> {
     let alloc = rt.alloc();
-    let contents = hex::decode(alloc, BEFORE_THE_EPOCH)?;
-    let record = PackageRecord::decode(alloc, contents.as_slice())?;
-    let envelope = ProtoEnvelope::signed_contents(alloc, &signer(alloc, "alice")?, record)?;
-    let state = LogState::new(alloc)?;
-    match state.validate(&envelope, &ToyVerifier) {
-        Ok(state) => {
-            assert_eq!(&rt;
-                state.to_value(alloc).err(),
-                Some(JsonError::TimeBeforeEpoch)
-            );
-            Ok(())
-        }
-        Err(_) => Err(Fail::new("refused")),
-    }
+    let written = state_before_the_epoch(alloc)?.to_value(alloc);
+    assert_eq!(rt; written.err(), Some(JsonError::TimeBeforeEpoch));
+    Ok(())
 }
