@@ -4,7 +4,7 @@
 
 mod phase;
 
-use phase::{Inputs, PHASES, Phase};
+use phase::{Inputs, Log, PHASES, Phase, kept, written};
 use std::alloc::Global;
 use std::env;
 use std::time::{Clock, Instant};
@@ -13,7 +13,12 @@ use std::time::{Clock, Instant};
 const USAGE: &str = "usage: warg_bench RUNS < LOG";
 
 // The microseconds that one run of the phase takes.
-fn timed(clock: &impl Clock, alloc: Global, phase: Phase, inputs: &Inputs) -> anyhow::Result<u64> {
+fn timed(
+    clock: &impl Clock,
+    alloc: Global,
+    phase: Phase,
+    inputs: Inputs<'_>,
+) -> anyhow::Result<u64> {
     let start = Instant::now(clock)?;
     let size = phase.run(alloc, inputs)?;
     let taken = start.elapsed(clock)?;
@@ -26,7 +31,7 @@ fn times(
     clock: &impl Clock,
     alloc: Global,
     phase: Phase,
-    inputs: &Inputs,
+    inputs: Inputs<'_>,
     runs: usize,
 ) -> anyhow::Result<Vec<u64>> {
     let mut times = Vec::new(alloc);
@@ -42,7 +47,7 @@ fn row(
     clock: &impl Clock,
     alloc: Global,
     phase: Phase,
-    inputs: &Inputs,
+    inputs: Inputs<'_>,
     runs: usize,
 ) -> anyhow::Result<String> {
     let times = times(clock, alloc, phase, inputs, runs)?;
@@ -63,7 +68,7 @@ fn string_of(alloc: Global, line: &str) -> anyhow::Result<Vec<u8>> {
 fn print_rows(
     rt: &(impl Print + Clock),
     alloc: Global,
-    inputs: &Inputs,
+    inputs: Inputs<'_>,
     runs: usize,
 ) -> anyhow::Result<()> {
     for phase in PHASES {
@@ -72,14 +77,47 @@ fn print_rows(
     Ok(())
 }
 
-// Times the log of these envelopes.
+// Times a log that is kept, beside one that is equal.
+fn time_logs(
+    rt: &(impl Print + Clock),
+    alloc: Global,
+    strings: &[Vec<u8>],
+    log: &Log,
+    other: &Log,
+    runs: usize,
+) -> anyhow::Result<()> {
+    let json = written(alloc, log.state())?;
+    let json = json.as_str();
+    let inputs = Inputs {
+        strings,
+        log,
+        other,
+        json,
+    };
+    print_rows(rt, alloc, inputs, runs)
+}
+
+// Times the log.
 fn time_log(
     rt: &(impl Print + Clock),
     alloc: Global,
-    strings: Vec<Vec<u8>>,
+    strings: &[Vec<u8>],
+    log: &Log,
     runs: usize,
 ) -> anyhow::Result<()> {
-    print_rows(rt, alloc, &Inputs::new(alloc, strings)?, runs)
+    let other = kept(alloc, strings)?;
+    time_logs(rt, alloc, strings, log, &other, runs)
+}
+
+// Times the log of these envelopes.
+fn time_strings(
+    rt: &(impl Print + Clock),
+    alloc: Global,
+    strings: &[Vec<u8>],
+    runs: usize,
+) -> anyhow::Result<()> {
+    let log = kept(alloc, strings)?;
+    time_log(rt, alloc, strings, &log, runs)
 }
 
 fn main(rt: HostRuntime) -> anyhow::Result<()> {
@@ -95,5 +133,5 @@ fn main(rt: HostRuntime) -> anyhow::Result<()> {
     for line in rt.lines(rt.alloc()) {
         strings.push(string_of(rt.alloc(), line?.as_str())?)?;
     }
-    time_log(&rt, rt.alloc(), strings, runs)
+    time_strings(&rt, rt.alloc(), strings.as_slice(), runs)
 }

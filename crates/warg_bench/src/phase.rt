@@ -4,56 +4,31 @@ use serde_json::Value;
 use std::alloc::Global;
 use warg_protocol::package::{LogState, PackageRecord, Permission};
 use warg_protocol::toy::ToyVerifier;
-use warg_protocol::{
-    AuditedLog, Decode, Envelope, HeadComparison, JsonValue, ProtoEnvelope, RunCause, run,
-};
+use warg_protocol::{AuditedLog, Decode, Envelope, HeadComparison, JsonValue, ProtoEnvelope, run};
 
-type Log = AuditedLog<LogState, ToyVerifier>;
+pub(crate) type Log = AuditedLog<LogState, ToyVerifier>;
 
 /// A log in the forms that the phases begin with.
-#[derive(Drop)]
-pub(crate) struct Inputs {
-    pub(crate) strings: Vec<Vec<u8>>,
-    envelopes: Vec<ProtoEnvelope<PackageRecord>>,
-    log: Log,
-    other: Log,
-    json: String,
+#[derive(Clone, Copy)]
+pub(crate) struct Inputs<'a> {
+    pub(crate) strings: &'a [Vec<u8>],
+    pub(crate) log: &'a Log,
+    pub(crate) other: &'a Log,
+    pub(crate) json: &'a str,
 }
 
-fn kept(alloc: Global, strings: &[Vec<u8>]) -> anyhow::Result<Log> {
+/// The audited log of the strings.
+pub(crate) fn kept(alloc: Global, strings: &[Vec<u8>]) -> anyhow::Result<Log> {
     let mut log = Log::new(alloc, ToyVerifier)?;
-    for string in strings {
-        match log.append(string.as_slice()) {
-            Ok(()) => {}
-            Err(RunCause::Parse(fault)) => anyhow::bail!("{fault}"),
-            Err(RunCause::Validation(offence)) => anyhow::bail!("{offence}"),
-        }
+    match log.append_all(strings) {
+        Ok(()) => Ok(log),
+        Err(error) => anyhow::bail!("record {} is refused", error.index),
     }
-    Ok(log)
 }
 
-fn written(alloc: Global, state: &LogState) -> anyhow::Result<String> {
+/// The state's JSON.
+pub(crate) fn written(alloc: Global, state: &LogState) -> anyhow::Result<String> {
     Ok(state.to_value(alloc)?.to_string(alloc)?)
-}
-
-impl Inputs {
-    /// The forms of the log of these envelopes.
-    pub(crate) fn new(alloc: Global, strings: Vec<Vec<u8>>) -> anyhow::Result<Inputs> {
-        let mut envelopes = Vec::new(alloc);
-        for string in &strings {
-            envelopes.push(ProtoEnvelope::from_protobuf(alloc, string.as_slice())?)?;
-        }
-        let log = kept(alloc, strings.as_slice())?;
-        let other = kept(alloc, strings.as_slice())?;
-        let json = written(alloc, log.state())?;
-        Ok(Inputs {
-            strings,
-            envelopes,
-            log,
-            other,
-            json,
-        })
-    }
 }
 
 /// What is timed of a log.
@@ -114,14 +89,18 @@ fn envelopes(alloc: Global, strings: &[Vec<u8>]) -> anyhow::Result<usize> {
     Ok(size)
 }
 
+fn next(state: LogState, envelope: &ProtoEnvelope<PackageRecord>) -> anyhow::Result<LogState> {
+    match state.validate(envelope, &ToyVerifier) {
+        Ok(next) => Ok(next),
+        Err(offence) => anyhow::bail!("{offence}"),
+    }
+}
+
 // The releases of the log of these envelopes.
 fn validate(alloc: Global, envelopes: &[ProtoEnvelope<PackageRecord>]) -> anyhow::Result<usize> {
     let mut state = LogState::new(alloc)?;
     for envelope in envelopes {
-        match state.validate(envelope, &ToyVerifier) {
-            Ok(next) => state = next,
-            Err(offence) => anyhow::bail!("{offence}"),
-        }
+        state = next(state, envelope)?;
     }
     Ok(state.releases().count())
 }
@@ -131,6 +110,10 @@ fn run_all(alloc: Global, strings: &[Vec<u8>]) -> anyhow::Result<usize> {
         Ok(state) => Ok(state.releases().count()),
         Err(error) => anyhow::bail!("record {} is refused", error.index),
     }
+}
+
+fn append(alloc: Global, strings: &[Vec<u8>]) -> anyhow::Result<usize> {
+    Ok(kept(alloc, strings)?.records().len())
 }
 
 fn compare(log: &Log, other: &Log) -> anyhow::Result<usize> {
@@ -174,18 +157,18 @@ impl Phase {
     }
 
     /// Runs the phase once, and gives the size of what came of it.
-    pub(crate) fn run(&self, alloc: Global, inputs: &Inputs) -> anyhow::Result<usize> {
+    pub(crate) fn run(&self, alloc: Global, inputs: Inputs<'_>) -> anyhow::Result<usize> {
         match self {
-            Phase::Outer => outer(inputs.strings.as_slice()),
-            Phase::Contents => contents(alloc, inputs.envelopes.as_slice()),
-            Phase::Envelopes => envelopes(alloc, inputs.strings.as_slice()),
-            Phase::Validate => validate(alloc, inputs.envelopes.as_slice()),
-            Phase::Run => run_all(alloc, inputs.strings.as_slice()),
-            Phase::Append => Ok(kept(alloc, inputs.strings.as_slice())?.records().len()),
-            Phase::Compare => compare(&inputs.log, &inputs.other),
-            Phase::Chain => chain(&inputs.log),
+            Phase::Outer => outer(inputs.strings),
+            Phase::Contents => contents(alloc, inputs.log.records()),
+            Phase::Envelopes => envelopes(alloc, inputs.strings),
+            Phase::Validate => validate(alloc, inputs.log.records()),
+            Phase::Run => run_all(alloc, inputs.strings),
+            Phase::Append => append(alloc, inputs.strings),
+            Phase::Compare => compare(inputs.log, inputs.other),
+            Phase::Chain => chain(inputs.log),
             Phase::Write => Ok(written(alloc, inputs.log.state())?.len()),
-            Phase::Read => read(alloc, inputs.json.as_str()),
+            Phase::Read => read(alloc, inputs.json),
         }
     }
 }
