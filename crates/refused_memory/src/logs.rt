@@ -40,6 +40,11 @@ pub(crate) fn saved(alloc: Global, inputs: &[Vec<u8>]) -> Result<String, Refusal
     written(alloc, &state_of(alloc, inputs)?)
 }
 
+/// The same, written with no value of the whole.
+pub(crate) fn saved_text(alloc: Global, inputs: &[Vec<u8>]) -> Result<String, Refusal> {
+    Ok(state_of(alloc, inputs)?.to_json(alloc)?)
+}
+
 /// `run`: the state of the log.
 pub(crate) fn run_all(alloc: Global, inputs: &[Vec<u8>]) -> Result<String, Refusal> {
     told(alloc, &state_of(alloc, inputs)?)

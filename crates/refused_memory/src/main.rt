@@ -45,7 +45,8 @@ fn tell_logs(rt: &impl Print, alloc: Global, log: &[Vec<u8>]) -> io::Result<()> 
         "permission_chain of two",
         logs::chain(alloc, front, "bob"),
     )?;
-    tell(rt, "state", logs::saved(alloc, log))
+    tell(rt, "state", logs::saved(alloc, log))?;
+    tell(rt, "state as text", logs::saved_text(alloc, log))
 }
 
 fn tell_values(rt: &impl Print, alloc: Global) -> io::Result<()> {

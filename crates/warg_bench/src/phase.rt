@@ -28,7 +28,7 @@ pub(crate) fn kept(alloc: Global, strings: &[Vec<u8>]) -> anyhow::Result<Log> {
 
 /// The state's JSON.
 pub(crate) fn written(alloc: Global, state: &LogState) -> anyhow::Result<String> {
-    Ok(state.to_value(alloc)?.to_string(alloc)?)
+    Ok(state.to_json(alloc)?)
 }
 
 /// What is timed of a log.

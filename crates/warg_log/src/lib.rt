@@ -16,7 +16,7 @@ mod permission;
 mod refusal;
 mod rights;
 
-pub use head::{Head, head_member, head_version, put_head};
+pub use head::{Head, head_member, head_version, put_head, put_head_text};
 pub use log::Log;
 pub use log_kind::{LogKind, Parts, Step};
 pub use maps::put_all;

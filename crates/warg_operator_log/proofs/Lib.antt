@@ -7,3 +7,4 @@ pub mod NamespaceJsonLaws
 pub mod SavedNamespaces
 pub mod SavedStates
 pub mod SavedLaws
+pub mod SavedTexts

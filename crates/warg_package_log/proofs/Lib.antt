@@ -12,3 +12,4 @@ pub mod SavedReleases
 pub mod SavedStates
 pub mod SavedFound
 pub mod SavedLaws
+pub mod SavedTexts

@@ -6,12 +6,12 @@ use crate::people::{id, key, signed};
 use crate::script::{Scripted, permissions_of};
 use std::alloc::Global;
 use std::test::Fail;
-use warg_protocol::ProtoEnvelope;
 use warg_protocol::hash::HashAlgorithm;
 use warg_protocol::operator::{
     LogState, OperatorEntry, OperatorRecord, Permission, ValidationError,
 };
 use warg_protocol::registry::RecordId;
+use warg_protocol::{JsonError, ProtoEnvelope};
 
 // Reads `init alice`, `grant bob commit`, `revoke bob commit`, `define name` and `import name registry`.
 fn entry(alloc: Global, verb: &str, subject: &str, rest: &str) -> Result<OperatorEntry, Fail> {
@@ -72,6 +72,10 @@ impl Scripted for LogState {
         permission: &str,
     ) -> Result<ValidationError, Fail> {
         error(alloc, case, subject, permission)
+    }
+
+    fn json(&self, alloc: Global) -> Result<String, JsonError> {
+        self.to_json(alloc)
     }
 
     fn answer(&self, alloc: Global, look_up: &str, subject: &str) -> Result<String, Fail> {

@@ -21,9 +21,11 @@ pub fn load<L: Scripted>(rt: &impl Abort, alloc: Global, json: &str) -> Result<L
     L::from_value(alloc, &value)
 }
 
-/// The text of the state.
-pub fn text_of<L: Scripted>(alloc: Global, state: &L) -> Result<String, Fail> {
-    Ok(state.to_value(alloc)?.to_string(alloc)?)
+/// The text of the state, which is the same by its value and without.
+pub fn text_of<L: Scripted>(rt: &impl Abort, alloc: Global, state: &L) -> Result<String, Fail> {
+    let text = state.to_value(alloc)?.to_string(alloc)?;
+    assert_eq!(rt; state.json(alloc)?.as_str(), text.as_str());
+    Ok(text)
 }
 
 /// Each text is refused for its fault.
@@ -55,7 +57,7 @@ pub fn are_refused_begun<L: Scripted>(
 
 /// The state is saved, and what is read of it is equal.
 pub fn comes_back<L: Scripted>(rt: &impl Abort, alloc: Global, state: &L) -> Result<(), Fail> {
-    let json = text_of(alloc, state)?;
+    let json = text_of(rt, alloc, state)?;
     let again = load::<L>(rt, alloc, json.as_str())?;
     assert!(rt; again == *state, "{json}");
     Ok(())
@@ -69,7 +71,7 @@ fn goes_on<L: Scripted>(
     count: usize,
     log: &Player<L>,
 ) -> Result<(), Fail> {
-    let json = text_of(alloc, before)?;
+    let json = text_of(rt, alloc, before)?;
     let again = load::<L>(rt, alloc, json.as_str())?;
     let Some((_, rest)) = log.strings.as_slice().split_at_checked(count) else {
         return Err(Fail::new("a short log"));

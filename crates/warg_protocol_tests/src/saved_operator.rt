@@ -128,7 +128,7 @@ fn a_saved_state_resumes(rt: HostRuntime) -> Result<(), Fail> {
 }
 
 fn are_in_order(rt: &impl Abort, alloc: Global, state: &LogState) -> Result<(), Fail> {
-    let text = text_of(alloc, state)?;
+    let text = text_of(rt, alloc, state)?;
     assert!(rt;
         text.as_str()
             .contains("[\"importNamespace\",\"defineNamespace\"]")

@@ -196,7 +196,7 @@ const NOTHING: &[&str] = &[
 
 fn is_new(rt: &impl Abort, alloc: Global, state: &LogState) -> Result<(), Fail> {
     assert!(rt; *state == LogState::new(alloc)?);
-    assert_eq!(rt; text_of(alloc, state)?.as_str(), "{}");
+    assert_eq!(rt; text_of(rt, alloc, state)?.as_str(), "{}");
     Ok(())
 }
 
@@ -243,7 +243,7 @@ fn is_first(rt: &impl Abort, alloc: Global, state: &LogState) -> Result<(), Fail
     };
     let digest = format!(in alloc; "{}", head.digest)?;
     let want = first(alloc, digest.as_str())?;
-    assert_eq!(rt; text_of(alloc, state)?.as_str(), want.as_str());
+    assert_eq!(rt; text_of(rt, alloc, state)?.as_str(), want.as_str());
     comes_back(rt, alloc, state)
 }
 
@@ -266,7 +266,7 @@ fn repeated(alloc: Global) -> Result<String, Fail> {
 }
 
 fn are_written_once(rt: &impl Abort, alloc: Global, state: &LogState) -> Result<(), Fail> {
-    let text = text_of(alloc, state)?;
+    let text = text_of(rt, alloc, state)?;
     assert!(rt; text.as_str().contains("[\"yank\",\"release\"]"));
     comes_back(rt, alloc, state)
 }
@@ -305,7 +305,7 @@ fn names(alloc: Global, state: &LogState) -> Result<String, Fail> {
 #[test]
 fn releases_come_back_by_their_names(rt: HostRuntime) -> Result<(), Fail> {
     let alloc = rt.alloc();
-    let json = text_of(alloc, &state_of::<LogState>(&rt, alloc, LONG)?)?;
+    let json = text_of(&rt, alloc, &state_of::<LogState>(&rt, alloc, LONG)?)?;
     let names = names(alloc, &load::<LogState>(&rt, alloc, json.as_str())?)?;
     assert_eq!(&rt; names.as_str(), "10.0.0 9.0.0-rc.1+a 9.0.0-rc.1+b ");
     Ok(())
@@ -328,7 +328,14 @@ fn state_before_the_epoch(alloc: Global) -> Result<LogState, Fail> {
 #[test]
 fn a_time_before_the_epoch_is_not_saved(rt: HostRuntime) -> Result<(), Fail> {
     let alloc = rt.alloc();
-    let written = state_before_the_epoch(alloc)?.to_value(alloc);
-    assert_eq!(rt; written.err(), Some(JsonError::TimeBeforeEpoch));
+    let state = state_before_the_epoch(alloc)?;
+    assert_eq!(&rt;
+        state.to_value(alloc).err(),
+        Some(JsonError::TimeBeforeEpoch)
+    );
+    assert_eq!(&rt;
+        state.to_json(alloc).err(),
+        Some(JsonError::TimeBeforeEpoch)
+    );
     Ok(())
 }

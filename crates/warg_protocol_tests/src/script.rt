@@ -5,7 +5,7 @@ use std::fmt::Debug;
 use std::str::FromStr;
 use std::test::Fail;
 use warg_protocol::registry::RecordId;
-use warg_protocol::{ProtoEnvelope, Validator};
+use warg_protocol::{JsonError, ProtoEnvelope, Validator};
 
 /// A kind of log that scripts speak of.
 pub trait Scripted: Validator {
@@ -33,6 +33,9 @@ pub trait Scripted: Validator {
         subject: &str,
         permission: &str,
     ) -> Result<Self::Error, Fail>;
+
+    /// The state's JSON as text, written with no value of the whole.
+    fn json(&self, alloc: Global) -> Result<String, JsonError>;
 
     /// What the state answers: to which look-up, of whom or what.
     fn answer(&self, alloc: Global, look_up: &str, subject: &str) -> Result<String, Fail>;

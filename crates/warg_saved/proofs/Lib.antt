@@ -6,3 +6,5 @@ pub mod MapsBack
 pub mod ReadAgain
 pub mod FitBack
 pub mod PutMembers
+pub mod TextLaws
+pub mod TextSteps

@@ -7,7 +7,7 @@ use Rattle.warg_crypto.specs.Json.{Gives}
 use Rattle.warg_crypto.specs.Pairs.{plain_pairs}
 use Rattle.warg_saved.specs.Fit.{is_nil}
 
-same_option : {A : Type 0} (o : Option A) → option_map (λ x. x) o ≡ o
+pub same_option : {A : Type 0} (o : Option A) → option_map (λ x. x) o ≡ o
 same_option None = refl
 same_option (Some x) = refl
 

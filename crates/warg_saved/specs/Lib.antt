@@ -5,3 +5,5 @@ pub mod Permissions
 pub mod PermissionLaws
 pub mod Fit
 pub mod Backs
+pub mod NoFloat
+pub mod Texts

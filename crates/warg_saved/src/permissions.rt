@@ -5,6 +5,7 @@ ghost use Rattle.warg_crypto.specs.Json.{Gives};
 ghost use Rattle.warg_records.specs.PackagePermissions as package_permission;
 ghost use Rattle.warg_records.specs.OperatorPermissions as operator_permission;
 ghost use Rattle.warg_saved.specs.PermissionLaws.{operator_permission_back, package_permission_back};
+ghost use Rattle.warg_saved.specs.NoFloat.{texts_no_float};
 ghost use Rattle.warg_saved.specs.Permissions.{permission_in, permissions_from, permissions_in, permissions_json};
 
 use crate::value::SavedValue;
@@ -85,6 +86,8 @@ impl<P: SavedPermission> SavedValue for IndexSet<P> {
     ghost reads = { permissions_in P.eq P.named };
 
     ghost versions = { λ _. [] };
+
+    ghost no_float = { λ ps. texts_no_float P.text_of ps };
 
     fn save(&self, alloc: Global) -> Result<Value, JsonError> {
         let _permissions = self.iter();

@@ -1,11 +1,12 @@
 //! The values of maps, as JSON.
-ghost use Rattle.std.specs.Prelude.{◌≡◌, List, [], Result, IfOk};
+ghost use Rattle.std.specs.Prelude.{◌≡◌, List, [], Result, IfOk, refl};
 ghost use Rattle.serde_json.specs.Data.{Data};
 ghost use Rattle.serde_json.specs.View.{view};
 ghost use Rattle.warg_crypto.specs.declared.json.error.JsonError.{JsonError};
 ghost use Rattle.warg_crypto.specs.Json.{AreReadBack, Gives, ReadsBack, Version};
 ghost use Rattle.warg_crypto.specs.JsonTexts.{key_in, key_json};
 ghost use Rattle.warg_crypto.specs.NamedBytes.{NamedBytes};
+ghost use Rattle.warg_saved.specs.NoFloat.{HasNoFloat};
 
 use serde_json::Value;
 use std::alloc::Global;
@@ -28,6 +29,9 @@ pub trait SavedValue: Drop {
     // The versions whose texts have to read back so that the value does.
     ghost versions: { Plain → List Version };
 
+    // Nothing that is written is a float.
+    ghost no_float: { (x : Plain) → HasNoFloat (writes x) };
+
     /// The JSON of the value.
     fn save(&self, alloc: Global) -> Result<Value, JsonError>
         ensures written { Gives view result (writes (plain self.now)) }
@@ -49,6 +53,8 @@ impl SavedValue for PublicKey {
     ghost reads = { key_in };
 
     ghost versions = { λ _. [] };
+
+    ghost no_float = { λ key. refl };
 
     fn save(&self, alloc: Global) -> Result<Value, JsonError> {
         self.to_value(alloc)

@@ -4,6 +4,7 @@ ghost use Rattle.std.specs.Option.{option_map};
 ghost use Rattle.serde_json.specs.View.{members_view, view};
 ghost use Rattle.warg_crypto.specs.Json.{Gives, IsReadBack};
 ghost use Rattle.warg_crypto.specs.Members.{optional_member, put_option};
+ghost use Rattle.warg_saved.specs.Texts.{PutsText};
 ghost use Rattle.warg_log.specs.HeadJson.{head_in, head_json};
 ghost use Rattle.warg_log.specs.declared.head.Head.{Head as OfHead};
 
@@ -12,6 +13,7 @@ use serde_json::{Map, Value};
 use std::alloc::Global;
 use warg_crypto::JsonError;
 use warg_crypto::json::members::{optional_member, put_value};
+use warg_saved::MemberTexts;
 
 /// Puts the head, if there is one. Where that fails, the object is as it was.
 pub fn put_head(
@@ -28,6 +30,13 @@ pub fn put_head(
         return Ok(());
     };
     put_value(members, alloc, "head", head)
+}
+
+/// Puts the head as text, if there is one.
+pub fn put_head_text(members: &mut MemberTexts, head: &Option<Head>) -> Result<(), JsonError>
+    ensures { PutsText (put_option head_json (codes "head") head.now) result members.old members.new }
+{
+    members.put_optional("head", head)
 }
 
 /// The head of a state, where a missing one and null are none.

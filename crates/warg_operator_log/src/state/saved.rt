@@ -7,6 +7,7 @@ ghost use Rattle.warg_crypto.specs.Json.{Gives};
 ghost use Rattle.warg_crypto.specs.Pairs.{plain_pairs};
 ghost use Rattle.warg_records.specs.declared.operator.permission.Permission.{Permission as OfPermission};
 ghost use Rattle.warg_saved.specs.Fit.{RefusesCase, first_case, is_nil, keys_case, rights_case, version_case};
+ghost use Rattle.warg_saved.specs.Texts.{text_of};
 ghost use Rattle.warg_log.specs.Contents.{Contents};
 ghost use Rattle.warg_log.specs.States.{State};
 ghost use Rattle.warg_operator_log.specs.NamespaceMap.{namespace_view};
@@ -25,11 +26,11 @@ use warg_crypto::hash::HashAlgorithm;
 use warg_crypto::json::members::object_value;
 use warg_crypto::signing::{KeyID, PublicKey};
 use warg_crypto::{Incoherence, JsonError, JsonValue};
-use warg_log::{Head, Log, head_member, head_version, put_head};
+use warg_log::{Head, Log, head_member, head_version, put_head, put_head_text};
 use warg_records::operator::Permission;
 use warg_records::registry::PackageName;
 use warg_saved::{
-    algorithm_member, are_no_keys, check_begun, check_empty, check_keys, check_rights,
+    MemberTexts, algorithm_member, are_no_keys, check_begun, check_empty, check_keys, check_rights,
     check_version, is_empty, keys_member, map_member, put_algorithm, put_keys, put_map,
 };
 
@@ -140,6 +141,30 @@ fn members_of(alloc: Global, log: &Log<NamespaceMap>) -> Result<Map<String, Valu
     put_keys(&mut members, alloc, log.keys())?;
     put_map(&mut members, alloc, "namespaces", log.matter().as_map())?;
     Ok(members)
+}
+
+/// The text of the state's JSON.
+fn log_text(alloc: Global, log: &Log<NamespaceMap>) -> Result<String, JsonError>
+    ensures { Gives string_bytes result (text_of (state_json log.now)) }
+{
+    let mut members = MemberTexts::new(alloc);
+    members.put_optional("algorithm", log.algorithm())?;
+    put_head_text(&mut members, log.head())?;
+    members.put_map("permissions", log.permissions())?;
+    members.put_keys(log.keys())?;
+    members.put_map("namespaces", log.matter().as_map())?;
+    members.text()
+}
+
+impl LogState {
+    /// The state's JSON as text, with no space: what [`JsonValue::to_value`] gives, written. It takes a third of
+    /// the time, since no value of the whole state is made. `TimeBeforeEpoch`: a time that is to be written lies
+    /// before the epoch.
+    pub fn to_json(&self, alloc: Global) -> Result<String, JsonError>
+        ensures { Gives string_bytes result (text_of (state_json self.now)) }
+    {
+        log_text(alloc, &self.log)
+    }
 }
 
 /// A state as JSON. `TimeBeforeEpoch`: a time that is to be written lies before the epoch. What is read is the

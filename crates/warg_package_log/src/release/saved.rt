@@ -2,6 +2,7 @@
 ghost use Rattle.std.specs.Prelude.{[], ◌∷◌};
 ghost use Rattle.warg_package_log.specs.Catalog.{release_view};
 ghost use Rattle.warg_package_log.specs.ReleaseJson.{release_in, release_json};
+ghost use Rattle.warg_package_log.specs.ReleaseFloats.{release_no_float};
 ghost use Rattle.warg_package_log.specs.Releases.{ReleaseView};
 
 use crate::release::Release;
@@ -20,6 +21,8 @@ impl SavedValue for Release {
     ghost reads = { release_in };
 
     ghost versions = { λ r. r.version ∷ [] };
+
+    ghost no_float = { release_no_float };
 
     fn save(&self, alloc: Global) -> Result<Value, JsonError> {
         self.to_value(alloc)

@@ -1,0 +1,36 @@
+-- The JSON of a state, by the members that were put one after another.
+use Rattle.std.specs.Prelude.{ℕ, ◌≡◌, List, codes, Ok, Err, refl}
+use Rattle.serde_json.specs.Data.{Members, no_members, object}
+use Rattle.warg_crypto.specs.JsonTexts.{algorithm_json, key_json}
+use Rattle.warg_crypto.specs.Members.{put_option}
+use Rattle.warg_crypto.specs.declared.json.error.JsonError.{JsonError}
+use Rattle.warg_records.specs.OperatorPermissions.{permission_text}
+use Rattle.warg_records.specs.declared.operator.permission.Permission.{Permission}
+use Rattle.warg_saved.specs.Maps.{put_pairs}
+use Rattle.warg_saved.specs.Names.{text_name}
+use Rattle.warg_saved.specs.Permissions.{permissions_json}
+use Rattle.warg_log.specs.Contents.{Contents}
+use Rattle.warg_log.specs.HeadJson.{head_json}
+use Rattle.warg_log.specs.States.{State}
+use Rattle.warg_operator_log.specs.NamespaceJson.{saved_namespace_json}
+use Rattle.warg_operator_log.specs.Namespaces.{Namespace}
+use Rattle.warg_operator_log.specs.SavedState.{state_json}
+
+module _ (s : State (Contents Permission) (List (List ℕ × Namespace))) (a b c d : Members)
+    (algorithm : put_option algorithm_json (codes "algorithm") s.authority.algorithm no_members ≡ Ok a)
+    (head : put_option head_json (codes "head") s.head a ≡ Ok b) where
+  pub rights_fault : (e : JsonError)
+      → put_pairs text_name (permissions_json permission_text) (codes "permissions") s.authority.rights b ≡ Err e → state_json s ≡ Err e
+  rights_fault e h = rw (algorithm, head, h) refl
+
+  module _ (rights : put_pairs text_name (permissions_json permission_text) (codes "permissions") s.authority.rights b ≡ Ok c) where
+    pub keys_fault : (e : JsonError) → put_pairs text_name key_json (codes "keys") s.authority.keys c ≡ Err e → state_json s ≡ Err e
+    keys_fault e h = rw (algorithm, head, rights, h) refl
+
+    module _ (keys : put_pairs text_name key_json (codes "keys") s.authority.keys c ≡ Ok d) where
+      pub namespaces_fault : (e : JsonError) → put_pairs text_name saved_namespace_json (codes "namespaces") s.matter d ≡ Err e → state_json s ≡ Err e
+      namespaces_fault e h = rw (algorithm, head, rights, keys, h) refl
+
+      pub whole : (ms : Members) → put_pairs text_name saved_namespace_json (codes "namespaces") s.matter d ≡ Ok ms
+          → state_json s ≡ Ok (object ms)
+      whole ms h = rw (algorithm, head, rights, keys, h) refl

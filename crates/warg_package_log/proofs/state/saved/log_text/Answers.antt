@@ -1,0 +1,93 @@
+use Rattle.std.proofs.Common.{◌≡◌, ap, ◌∙◌, sym, codes}
+use Rattle.std.specs.Prelude.{Ok}
+use Rattle.std.proofs.lemmas.Result.{err_from_is_err_and}
+use Rattle.serde_json.specs.Data.{no_members}
+use Rattle.warg_crypto.specs.JsonTexts.{algorithm_json, key_json}
+use Rattle.warg_crypto.specs.Members.{put_option}
+use Rattle.warg_records.specs.PackagePermissions.{permission_text}
+use Rattle.warg_saved.specs.Maps.{put_pairs}
+use Rattle.warg_saved.specs.Names.{text_name, version_name}
+use Rattle.warg_saved.specs.Permissions.{permissions_json}
+use Rattle.warg_saved.proofs.Optional.{same_option}
+use Rattle.warg_saved.proofs.TextSteps.{gives_fault, gives_text, written}
+use Rattle.warg_log.specs.HeadJson.{head_json}
+use Rattle.warg_package_log.specs.ReleaseJson.{release_json}
+use Rattle.warg_package_log.specs.SavedState.{named_releases}
+use Rattle.warg_package_log.proofs.SavedTexts.{keys_fault, releases_fault, rights_fault, whole}
+use Rattle.warg_package_log.proofs.state.saved.log_text.Goals as goal
+
+pub returns-in_err-put_map : goal.returns-in_err-put_map
+returns-in_err-put_map c =
+    let s = c.args.log.now in
+    let a = written _ _ (c.in_ok-put_optional.ensures no_members c.new-members.ensures) in
+    let b = written _ _ (c.in_ok-put_head_text.ensures a.members a.are) in
+    let algorithm : put_option algorithm_json (codes "algorithm") s.authority.algorithm no_members ≡ Ok a.members =
+    ap (λ o. put_option algorithm_json (codes "algorithm") o no_members) (sym (same_option c.algorithm.result.now ∙ c.algorithm.ensures)) ∙ a.is in
+    let head : put_option head_json (codes "head") s.head a.members ≡ Ok b.members =
+    ap (λ o. put_option head_json (codes "head") o a.members) (sym c.head.ensures.value) ∙ b.is in
+    let p = err_from_is_err_and c.from_residual-in_err-put_map.result c.from_residual-in_err-put_map.ensures.1 in
+    rw (p.1, p.2) (gives_fault _ _ _ (c.in_err-put_map.ensures b.members b.are) (λ h.
+    rights_fault s a.members b.members b.members b.members algorithm head _
+    (ap (λ es. put_pairs text_name (permissions_json permission_text) (codes "permissions") es b.members) (sym c.permissions.ensures) ∙ h)))
+
+pub returns-in_err-put_map-2 : goal.returns-in_err-put_map-2
+returns-in_err-put_map-2 c =
+    let s = c.args.log.now in
+    let a = written _ _ (c.in_ok-put_optional.ensures no_members c.new-members.ensures) in
+    let b = written _ _ (c.in_ok-put_head_text.ensures a.members a.are) in
+    let d = written _ _ (c.in_ok-put_map.ensures b.members b.are) in
+    let algorithm : put_option algorithm_json (codes "algorithm") s.authority.algorithm no_members ≡ Ok a.members =
+    ap (λ o. put_option algorithm_json (codes "algorithm") o no_members) (sym (same_option c.algorithm.result.now ∙ c.algorithm.ensures)) ∙ a.is in
+    let head : put_option head_json (codes "head") s.head a.members ≡ Ok b.members =
+    ap (λ o. put_option head_json (codes "head") o a.members) (sym c.head.ensures.value) ∙ b.is in
+    let rights : put_pairs text_name (permissions_json permission_text) (codes "permissions") s.authority.rights b.members ≡ Ok d.members =
+    ap (λ es. put_pairs text_name (permissions_json permission_text) (codes "permissions") es b.members) (sym c.permissions.ensures) ∙ d.is in
+    let as_saved = c.as_map.ensures ∙ ap named_releases c.matter.ensures in
+    let p = err_from_is_err_and c.from_residual-in_err-put_map-2.result c.from_residual-in_err-put_map-2.ensures.1 in
+    rw (p.1, p.2) (gives_fault _ _ _ (c.in_err-put_map-2.ensures d.members d.are) (λ h.
+    releases_fault s a.members b.members d.members d.members algorithm head rights _
+    (ap (λ es. put_pairs version_name release_json (codes "releases") es d.members) (sym as_saved) ∙ h)))
+
+pub returns-in_err-put_keys : goal.returns-in_err-put_keys
+returns-in_err-put_keys c =
+    let s = c.args.log.now in
+    let a = written _ _ (c.in_ok-put_optional.ensures no_members c.new-members.ensures) in
+    let b = written _ _ (c.in_ok-put_head_text.ensures a.members a.are) in
+    let d = written _ _ (c.in_ok-put_map.ensures b.members b.are) in
+    let e = written _ _ (c.in_ok-put_map-2.ensures d.members d.are) in
+    let algorithm : put_option algorithm_json (codes "algorithm") s.authority.algorithm no_members ≡ Ok a.members =
+    ap (λ o. put_option algorithm_json (codes "algorithm") o no_members) (sym (same_option c.algorithm.result.now ∙ c.algorithm.ensures)) ∙ a.is in
+    let head : put_option head_json (codes "head") s.head a.members ≡ Ok b.members =
+    ap (λ o. put_option head_json (codes "head") o a.members) (sym c.head.ensures.value) ∙ b.is in
+    let rights : put_pairs text_name (permissions_json permission_text) (codes "permissions") s.authority.rights b.members ≡ Ok d.members =
+    ap (λ es. put_pairs text_name (permissions_json permission_text) (codes "permissions") es b.members) (sym c.permissions.ensures) ∙ d.is in
+    let as_saved = c.as_map.ensures ∙ ap named_releases c.matter.ensures in
+    let releases : put_pairs version_name release_json (codes "releases") (named_releases s.matter) d.members ≡ Ok e.members =
+    ap (λ es. put_pairs version_name release_json (codes "releases") es d.members) (sym as_saved) ∙ e.is in
+    let p = err_from_is_err_and c.from_residual-in_err-put_keys.result c.from_residual-in_err-put_keys.ensures.1 in
+    rw (p.1, p.2) (gives_fault _ _ _ (c.in_err-put_keys.ensures e.members e.are) (λ h.
+    keys_fault s a.members b.members d.members e.members algorithm head rights releases _
+    (ap (λ es. put_pairs text_name key_json (codes "keys") es e.members) (sym c.keys.ensures) ∙ h)))
+
+pub returns : goal.returns
+returns c =
+    let s = c.args.log.now in
+    let a = written _ _ (c.in_ok-put_optional.ensures no_members c.new-members.ensures) in
+    let b = written _ _ (c.in_ok-put_head_text.ensures a.members a.are) in
+    let d = written _ _ (c.in_ok-put_map.ensures b.members b.are) in
+    let e = written _ _ (c.in_ok-put_map-2.ensures d.members d.are) in
+    let f = written _ _ (c.in_ok-put_keys.ensures e.members e.are) in
+    let algorithm : put_option algorithm_json (codes "algorithm") s.authority.algorithm no_members ≡ Ok a.members =
+    ap (λ o. put_option algorithm_json (codes "algorithm") o no_members) (sym (same_option c.algorithm.result.now ∙ c.algorithm.ensures)) ∙ a.is in
+    let head : put_option head_json (codes "head") s.head a.members ≡ Ok b.members =
+    ap (λ o. put_option head_json (codes "head") o a.members) (sym c.head.ensures.value) ∙ b.is in
+    let rights : put_pairs text_name (permissions_json permission_text) (codes "permissions") s.authority.rights b.members ≡ Ok d.members =
+    ap (λ es. put_pairs text_name (permissions_json permission_text) (codes "permissions") es b.members) (sym c.permissions.ensures) ∙ d.is in
+    let as_saved = c.as_map.ensures ∙ ap named_releases c.matter.ensures in
+    let releases : put_pairs version_name release_json (codes "releases") (named_releases s.matter) d.members ≡ Ok e.members =
+    ap (λ es. put_pairs version_name release_json (codes "releases") es d.members) (sym as_saved) ∙ e.is in
+    let keys : put_pairs text_name key_json (codes "keys") s.authority.keys e.members ≡ Ok f.members =
+    ap (λ es. put_pairs text_name key_json (codes "keys") es e.members) (sym c.keys.ensures) ∙ f.is in
+    gives_text c.text.result _ _ f.members c.text.ensures.ok c.text.ensures.err
+    (whole s a.members b.members d.members e.members algorithm head rights releases f.members keys)
+    f.are

@@ -1,0 +1,35 @@
+-- The members of an object as texts, of which the object's text is joined.
+use Rattle.std.specs.Prelude.{ℕ, ◌≡◌, List, [], ◌∷◌, ◌++◌, map, String, string_bytes, Bool, true, Result}
+use Rattle.std.specs.declared.alloc.Global.{Global}
+use Rattle.serde_json.specs.Data.{Data, Members, no_members, member, string}
+use Rattle.serde_json.specs.Written.{comma_if, compact_text}
+use Rattle.warg_crypto.specs.declared.json.error.JsonError.{JsonError}
+use Rattle.warg_crypto.specs.Json.{◌>>=◌, Gives, wrote}
+
+-- the text of what is written, with no space
+abbrev pub text_of : Result Data JsonError → Result (List ℕ) JsonError
+text_of r = r >>= λ d. wrote (compact_text d)
+
+-- the members in order, each its name and the text of its value
+abbrev pub texts_of : Members → List (List ℕ × List ℕ)
+texts_of no_members = []
+texts_of (member name d more) = (name, compact_text d) ∷ texts_of more
+
+-- the texts of members, where they could be written
+abbrev pub texts_in : Result Members JsonError → Result (List (List ℕ × List ℕ)) JsonError
+texts_in r = r >>= λ ms. wrote (texts_of ms)
+
+-- the members as text: each its name, a colon and its text, with commas between them and the closing brace
+abbrev pub joined : Bool → List (List ℕ × List ℕ) → List ℕ
+joined later [] = 125 ∷ []
+joined later (e ∷ es) = comma_if later ++ (compact_text (string e.0) ++ 58 ∷ (e.1 ++ joined true es))
+
+-- what a map from names to texts holds
+abbrev pub texts_view : List (String Global × String Global) → List (List ℕ × List ℕ)
+texts_view es = map (λ e. (string_bytes e.0, string_bytes e.1)) es
+
+-- What a call did to members that are held as texts is what `puts` does to the members, unless memory ran out.
+abbrev pub PutsText : {X : Type 0} → (Members → Result Members JsonError) → Result X JsonError
+    → List (List ℕ × List ℕ) → List (List ℕ × List ℕ) → Type 0
+PutsText puts result old new =
+    (ms : Members) → old ≡ texts_of ms → Gives (λ _. new) result (texts_in (puts ms))

@@ -1,0 +1,171 @@
+//! Objects written as text member by member, with no value of the whole.
+ghost use Rattle.std.specs.Prelude.{IfErr, IfOk, OnOk, ◌≡◌, [], List, false, codes, string_bytes};
+ghost use Rattle.std.specs.Option.{option_map};
+ghost use Rattle.serde_json.specs.Data.{Data, Members, no_members, object, put, string};
+ghost use Rattle.serde_json.specs.View.{view};
+ghost use Rattle.serde_json.specs.Written.{compact_text, has_float};
+ghost use Rattle.warg_crypto.specs.declared.json.error.JsonError.TheVariants as fault;
+ghost use Rattle.warg_crypto.specs.Json.{Gives, wrote};
+ghost use Rattle.warg_crypto.specs.JsonTexts.{key_json};
+ghost use Rattle.warg_crypto.specs.Members.{put_option};
+ghost use Rattle.warg_crypto.specs.Pairs.{pairs_onto, plain_pairs};
+ghost use Rattle.warg_saved.specs.Maps.{put_pairs};
+ghost use Rattle.warg_saved.specs.Names.{text_name};
+ghost use Rattle.warg_saved.specs.NoFloat.{HasNoFloat};
+ghost use Rattle.warg_saved.specs.Texts.{PutsText, texts_in, texts_of};
+
+use crate::name::SavedName;
+use crate::value::SavedValue;
+use indexmap::IndexMap;
+use serde_json::Value;
+use std::alloc::Global;
+use std::collections::BTreeMap;
+use std::marker::Model;
+use warg_crypto::json::members::text_value;
+use warg_crypto::signing::{KeyID, PublicKey};
+use warg_crypto::{JsonError, JsonValue};
+
+/// The members of an object, each as its text: the object's text is joined of them, and no value of the whole object is
+/// ever held.
+#[derive(Drop)]
+pub struct MemberTexts {
+    alloc: Global,
+    texts: BTreeMap<String, String>,
+}
+
+impl Model for MemberTexts {
+    ghost use Rattle.std.specs.Prelude.{ℕ, List};
+    ghost use Rattle.warg_saved.specs.Texts.{texts_view};
+
+    ghost Value = { List (List ℕ × List ℕ) };
+
+    ghost view = { λ m. texts_view m.texts.entries };
+}
+
+/// A text as JSON writes it.
+fn quoted(alloc: Global, text: &str) -> Result<String, JsonError>
+    ensures { Gives string_bytes result (wrote (compact_text (string text.now))) }
+{
+    let value = text_value(alloc, text)?;
+    Ok(value.to_string(alloc)?)
+}
+
+impl MemberTexts {
+    /// No members.
+    pub fn new(alloc: Global) -> MemberTexts
+        ensures { result ≡ [] }
+    {
+        MemberTexts {
+            alloc,
+            texts: BTreeMap::new(alloc),
+        }
+    }
+
+    /// Puts a member whose value has this text. The error is `OutOfMemory`.
+    fn put(&mut self, name: String, value: String) -> Result<(), JsonError>
+        ensures ok { OnOk result ((d : Data) (ms : Members) → string_bytes value ≡ compact_text d → self.old ≡ texts_of ms
+            → self.new ≡ texts_of (put (string_bytes name) d ms)) }
+        ensures err { IfErr result (λ e. e ≡ fault.OutOfMemory) }
+    {
+        drop(self.texts.insert(name, value)?);
+        Ok(())
+    }
+
+    /// Puts a member with this value. The error is `OutOfMemory`.
+    fn put_value(&mut self, name: String, value: &Value) -> Result<(), JsonError>
+        requires { has_float (view value.now) ≡ false }
+        ensures ok { OnOk result ((ms : Members) → self.old ≡ texts_of ms
+            → self.new ≡ texts_of (put (string_bytes name) (view value.now) ms)) }
+        ensures err { IfErr result (λ e. e ≡ fault.OutOfMemory) }
+    {
+        let text = value.to_string(self.alloc)?;
+        self.put(name, text)
+    }
+
+    /// Puts the JSON of a value as a member, and nothing where there is none.
+    pub fn put_optional<T: JsonValue>(
+        &mut self,
+        name: &str,
+        value: &Option<T>,
+    ) -> Result<(), JsonError>
+        requires { (x : T.Plain) → HasNoFloat (T.writes x) }
+        ensures { PutsText (put_option T.writes name.now (option_map T.plain value.now)) result self.old self.new }
+    {
+        let Some(value) = value else {
+            return Ok(());
+        };
+        let json = value.to_value(self.alloc)?;
+        self.put_value(String::from_str(self.alloc, name)?, &json)
+    }
+
+    /// The members of a map: where names repeat, the last entry counts.
+    fn of_map<K: SavedName, V: SavedValue>(
+        alloc: Global,
+        map: &IndexMap<K, V>,
+    ) -> Result<MemberTexts, JsonError>
+        ensures { Gives (λ t. t) result (texts_in (pairs_onto K.name_of V.writes no_members
+            (plain_pairs K.plain V.plain map.now.entries))) }
+    {
+        let mut members = MemberTexts::new(alloc);
+        'entries: for (key, value) in map.iter() {
+            let json = value.save(alloc)?;
+            let name = key.to_name(alloc)?;
+            members.put_value(name, &json)?;
+        }
+        Ok(members)
+    }
+
+    /// Puts the map as a member, unless it is empty.
+    pub fn put_map<K: SavedName, V: SavedValue>(
+        &mut self,
+        name: &str,
+        map: &IndexMap<K, V>,
+    ) -> Result<(), JsonError>
+        ensures { PutsText (put_pairs K.name_of V.writes name.now (plain_pairs K.plain V.plain map.now.entries)) result self.old self.new }
+    {
+        if map.is_empty() {
+            return Ok(());
+        }
+        let text = MemberTexts::of_map(self.alloc, map)?.text()?;
+        self.put(String::from_str(self.alloc, name)?, text)
+    }
+
+    /// Puts the keys, unless there are none.
+    pub fn put_keys(&mut self, keys: &IndexMap<KeyID, PublicKey>) -> Result<(), JsonError>
+        ensures { PutsText (put_pairs text_name key_json (codes "keys") keys.now.entries) result self.old self.new }
+    {
+        self.put_map("keys", keys)
+    }
+
+    /// How many bytes the text of the object has, or a few more, where no name has to be escaped.
+    fn room(&self) -> usize {
+        let mut room = 2_usize;
+        for (name, text) in self.texts.iter() {
+            room = room.saturating_add(name.len()).saturating_add(text.len());
+            room = room.saturating_add(4);
+        }
+        room
+    }
+
+    /// The text of the object, with no space. The error is `OutOfMemory`.
+    pub fn text(&self) -> Result<String, JsonError>
+        ensures ok { IfOk result (λ s. (ms : Members) → self.now ≡ texts_of ms → string_bytes s ≡ compact_text (object ms)) }
+        ensures err { IfErr result (λ e. e ≡ fault.OutOfMemory) }
+    {
+        let mut text = String::with_capacity(self.alloc, self.room())?;
+        text.push('{')?;
+        let mut later = false;
+        'members: for (name, value) in self.texts.iter() {
+            if later {
+                text.push(',')?;
+            }
+            let name = quoted(self.alloc, name.as_str())?;
+            text.push_str(name.as_str())?;
+            text.push(':')?;
+            text.push_str(value.as_str())?;
+            later = true;
+        }
+        text.push('}')?;
+        Ok(text)
+    }
+}
