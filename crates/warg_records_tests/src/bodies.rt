@@ -1,6 +1,6 @@
 //! Envelopes whose contents are not read.
 
-use crate::values::{is, same};
+use crate::values::{is, is_made, same};
 use std::alloc::Global;
 use std::process::Abort;
 use warg_crypto::{Decode, DecodeError};
@@ -24,18 +24,22 @@ fn copied(rt: &impl Abort, body: &ProtoEnvelopeBody) -> ProtoEnvelopeBody {
     body.try_clone().expect(rt, "memory")
 }
 
+fn is_smallest(rt: &impl Abort, alloc: Global, envelope: &ProtoEnvelope<OperatorRecord>) {
+    same(rt, envelope, &opened(rt, alloc, SMALLEST));
+}
+
 // The envelope of the body; its own body is a copy.
 fn is_opened(rt: &impl Abort, alloc: Global, body: &ProtoEnvelopeBody) {
     let read = ProtoEnvelope::<OperatorRecord>::from_body(alloc, copied(rt, body));
     let envelope = read.expect(rt, "an envelope");
-    same(rt, &envelope, &opened(rt, alloc, SMALLEST));
+    is_smallest(rt, alloc, &envelope);
     same(rt, &ProtoEnvelopeBody::from(envelope), body);
 }
 
 #[test]
 fn bodies_read_back(rt: HostRuntime) {
     let body = body(&rt, rt.alloc(), SMALLEST);
-    same(&rt, &copied(&rt, &body), &body);
+    is_made(&rt, body.try_clone(), "memory", &body);
     is_opened(&rt, rt.alloc(), &body);
 }
 
@@ -53,16 +57,14 @@ pub(crate) fn published_body(rt: &impl Abort, alloc: Global) -> PublishedProtoEn
 #[test]
 fn published_copies(rt: HostRuntime) {
     let published = published(&rt, rt.alloc());
-    let copy = published.try_clone().expect(&rt, "memory");
-    same(&rt, &copy, &published);
+    is_made(&rt, published.try_clone(), "memory", &published);
 }
 
 #[test]
 fn published_bodies(rt: HostRuntime) {
     let body = published_body(&rt, rt.alloc());
     is(&rt, body.registry_index, 7);
-    let copy = body.try_clone().expect(&rt, "memory");
-    same(&rt, &copy, &body);
+    is_made(&rt, body.try_clone(), "memory", &body);
 }
 
 #[test]
@@ -70,8 +72,7 @@ fn published_bodies_read_back(rt: HostRuntime) {
     let alloc = rt.alloc();
     let body = published_body(&rt, alloc);
     let read = PublishedProtoEnvelope::<OperatorRecord>::from_body(alloc, body);
-    let again = read.expect(&rt, "an envelope");
-    same(&rt, &again, &published(&rt, alloc));
+    is_made(&rt, read, "an envelope", &published(&rt, alloc));
 }
 
 // An operator's entry that is none of a package's, in an operator's body.

@@ -1,7 +1,7 @@
 //! Entries and their messages.
 
 use crate::samples::{ALICE, operator_entries, package_entries, package_grant};
-use crate::values::{is, same, string};
+use crate::values::{is, is_made, string};
 use std::alloc::Global;
 use std::process::Abort;
 use warg_crypto::DecodeError;
@@ -60,15 +60,16 @@ fn refused_permissions(rt: HostRuntime) {
     is_refused(&rt, alloc, ones, -1);
 }
 
-// The entry that its message says.
-fn package_entry_again(rt: &impl Abort, alloc: Global, entry: &PackageEntry) -> PackageEntry {
-    let message = entry.to_proto(alloc).expect(rt, "memory");
-    PackageEntry::from_proto(alloc, message).expect(rt, "an entry")
-}
-
+// The entry's message says it.
 fn package_entry_reads_back(rt: &impl Abort, alloc: Global, entry: &PackageEntry) {
-    same(rt, &package_entry_again(rt, alloc, entry), entry);
-    same(rt, &entry.try_clone().expect(rt, "memory"), entry);
+    let message = entry.to_proto(alloc).expect(rt, "memory");
+    is_made(
+        rt,
+        PackageEntry::from_proto(alloc, message),
+        "an entry",
+        entry,
+    );
+    is_made(rt, entry.try_clone(), "memory", entry);
 }
 
 #[test]
@@ -78,15 +79,16 @@ fn package_entries_read_back(rt: HostRuntime) {
     }
 }
 
-// The entry that its message says.
-fn operator_entry_again(rt: &impl Abort, alloc: Global, entry: &OperatorEntry) -> OperatorEntry {
-    let message = entry.to_proto(alloc).expect(rt, "memory");
-    OperatorEntry::from_proto(alloc, message).expect(rt, "an entry")
-}
-
+// The entry's message says it.
 fn operator_entry_reads_back(rt: &impl Abort, alloc: Global, entry: &OperatorEntry) {
-    same(rt, &operator_entry_again(rt, alloc, entry), entry);
-    same(rt, &entry.try_clone().expect(rt, "memory"), entry);
+    let message = entry.to_proto(alloc).expect(rt, "memory");
+    is_made(
+        rt,
+        OperatorEntry::from_proto(alloc, message),
+        "an entry",
+        entry,
+    );
+    is_made(rt, entry.try_clone(), "memory", entry);
 }
 
 #[test]

@@ -1,6 +1,6 @@
 //! What bytes say as an envelope, and their first fault.
 
-use crate::values::{differ, is, is_of, is_shown, same};
+use crate::values::{differ, is, is_made, is_of, is_shown, same};
 use std::alloc::Global;
 use std::process::Abort;
 use warg_crypto::hash::AnyHashError;
@@ -96,6 +96,16 @@ fn sealed(rt: &impl Abort, alloc: Global, contents: &[u8]) -> Vec<u8> {
     bytes
 }
 
+fn has_fault(rt: &impl Abort, alloc: Global, contents: &[u8], fault: DecodeError) {
+    let bytes = sealed(rt, alloc, contents);
+    is_refused(
+        rt,
+        alloc,
+        bytes.as_slice(),
+        ParseEnvelopeError::Contents(fault),
+    );
+}
+
 // A time in two pieces, cut short; what follows a time.
 #[test]
 fn faults_of_contents(rt: HostRuntime) {
@@ -121,14 +131,12 @@ fn faults_of_contents(rt: HostRuntime) {
         (b"\x1a\x00\x22\x02\x0a\x00", DecodeError::Algorithm),
     ];
     for (contents, fault) in rows {
-        let bytes = sealed(&rt, rt.alloc(), contents);
-        is_refused(
-            &rt,
-            rt.alloc(),
-            bytes.as_slice(),
-            ParseEnvelopeError::Contents(fault),
-        );
+        has_fault(&rt, rt.alloc(), contents, fault);
     }
+}
+
+#[test]
+fn whole_contents(rt: HostRuntime) {
     let whole = sealed(&rt, rt.alloc(), b"\x1a\x02\x08\x01");
     let envelope = opened(&rt, rt.alloc(), whole.as_slice());
     is(&rt, envelope.contents().timestamp.seconds(), 1);
@@ -153,8 +161,8 @@ fn says_nothing(rt: &impl Abort, record: &PackageRecord) {
 }
 
 fn is_copied(rt: &impl Abort, envelope: &ProtoEnvelope<PackageRecord>) {
-    same(rt, &envelope.try_clone().expect(rt, "memory"), envelope);
-    same(rt, &envelope.clone().expect(rt, "memory"), envelope);
+    is_made(rt, envelope.try_clone(), "memory", envelope);
+    is_made(rt, envelope.clone(), "memory", envelope);
 }
 
 #[test]
@@ -165,23 +173,39 @@ fn parts(rt: HostRuntime) {
     is_copied(&rt, &envelope);
 }
 
+fn is_written(
+    rt: &impl Abort,
+    alloc: Global,
+    envelope: &ProtoEnvelope<PackageRecord>,
+    want: &[u8],
+) {
+    let written = envelope.to_protobuf(alloc).expect(rt, "memory");
+    is(rt, written.as_slice(), want);
+}
+
 // The content bytes are kept also where a shorter form says the same record.
 #[test]
 fn kept_bytes(rt: HostRuntime) {
-    let alloc = rt.alloc();
-    let envelope = opened(&rt, alloc, LONG);
+    let envelope = opened(&rt, rt.alloc(), LONG);
     let content = b"\x1a\x00\x10\x80\x00";
     is(&rt, envelope.content_bytes(), content.as_slice());
-    let written = envelope.to_protobuf(alloc).expect(&rt, "memory");
-    is(&rt, written.as_slice(), LONG);
+    is_written(&rt, rt.alloc(), &envelope, LONG);
+}
+
+fn says_as_much(
+    rt: &impl Abort,
+    long: &ProtoEnvelope<PackageRecord>,
+    short: &ProtoEnvelope<PackageRecord>,
+) {
+    same(rt, long.contents(), short.contents());
+    differ(rt, long, short);
 }
 
 #[test]
 fn envelopes_of_one_record(rt: HostRuntime) {
     let long = opened(&rt, rt.alloc(), LONG);
     let short = opened(&rt, rt.alloc(), SMALLEST);
-    same(&rt, long.contents(), short.contents());
-    differ(&rt, &long, &short);
+    says_as_much(&rt, &long, &short);
 }
 
 #[test]

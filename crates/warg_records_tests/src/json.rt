@@ -1,7 +1,7 @@
 //! JSON of what a registry names things by.
 
 use crate::samples::{EMPTY, empty_hash};
-use crate::values::{is, is_of};
+use crate::values::{is, is_of, is_printed};
 use serde_json::Value;
 use std::alloc::Global;
 use std::fmt::Debug;
@@ -29,8 +29,7 @@ pub(crate) fn goes_both_ways<T: JsonValue + PartialEq + Debug + Drop>(
     value: T,
 ) {
     let written = value.to_value(alloc).expect(rt, json);
-    let text = written.to_string(alloc).expect(rt, json);
-    is(rt, text.as_str(), json);
+    is_printed(rt, written.to_string(alloc), json);
     is(rt, read::<T>(rt, alloc, json), Ok(value));
 }
 

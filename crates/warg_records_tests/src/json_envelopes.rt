@@ -95,6 +95,11 @@ fn refused_envelopes(rt: HostRuntime) {
     }
 }
 
+fn is_no_envelope_behind(rt: &impl Abort, alloc: Global, rest: &str, want: JsonError) {
+    let json = format!(in alloc; "{{\"contents\":\"{EMPTY}\"{rest}}}").expect(rt, rest);
+    is_no_envelope(rt, alloc, json.as_str(), want);
+}
+
 // The same behind contents that are read.
 #[test]
 fn refused_behind_the_contents(rt: HostRuntime) {
@@ -110,8 +115,7 @@ fn refused_behind_the_contents(rt: HostRuntime) {
         (",\"keyId\":\"k\",\"signature\":\"toy\"", JsonError::BadText),
         (",\"keyId\":\"k\",\"signature\":7", JsonError::WrongType),
     ] {
-        let json = format!(in alloc; "{{\"contents\":\"{EMPTY}\"{rest}}}").expect(&rt, rest);
-        is_no_envelope(&rt, alloc, json.as_str(), want);
+        is_no_envelope_behind(&rt, alloc, rest, want);
     }
 }
 

@@ -106,11 +106,9 @@ fn members_of_bodies(rt: HostRuntime) {
 fn behind(rt: &impl Abort, alloc: Global, members: &[&str], name: &str) -> String {
     let mut front = String::from_str(alloc, "{").expect(rt, "memory");
     for member in members.iter() {
-        let next = format!(in alloc; "\"{member}\":\"{EMPTY}\",").expect(rt, "memory");
-        front.push_str(next.as_str()).expect(rt, "memory");
+        write!(front, "\"{member}\":\"{EMPTY}\",").expect(rt, "memory");
     }
-    let last = format!(in alloc; "\"{name}\":").expect(rt, "memory");
-    front.push_str(last.as_str()).expect(rt, "memory");
+    write!(front, "\"{name}\":").expect(rt, "memory");
     front
 }
 
@@ -149,14 +147,25 @@ fn members_of_checkpoints(rt: HostRuntime) {
     are_refused::<Checkpoint>(&rt, alloc, &NO_TEXTS, front, "}");
 }
 
-// A checkpoint whose time is this, and one whose members stand twice.
-#[test]
-fn times_of_checkpoints(rt: HostRuntime) {
-    let alloc = rt.alloc();
+// What stands before the time of a checkpoint.
+fn behind_roots(rt: &impl Abort, alloc: Global) -> String {
     let front = format!(in alloc;
         "{{\"logRoot\":\"{EMPTY}\",\"logLength\":0,\"mapRoot\":\"{EMPTY}\",\"timestamp\":"
-    ).expect(&rt, "memory");
-    are_refused::<TimestampedCheckpoint>(&rt, alloc, &NO_NUMBERS, front.as_str(), "}");
+    );
+    front.expect(rt, "memory")
+}
+
+#[test]
+fn times_of_checkpoints(rt: HostRuntime) {
+    let front = behind_roots(&rt, rt.alloc());
+    are_refused::<TimestampedCheckpoint>(&rt, rt.alloc(), &NO_NUMBERS, front.as_str(), "}");
+}
+
+// Of a time that stands twice the last one counts, and a member of another name is passed over.
+#[test]
+fn times_that_stand_twice(rt: HostRuntime) {
+    let alloc = rt.alloc();
+    let front = behind_roots(&rt, alloc);
     let twice = format!(in alloc;
         "{front}7,\"other\":{DEEP},\"timestamp\":18446744073709551615}}"
     ).expect(&rt, "memory");

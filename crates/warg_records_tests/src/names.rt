@@ -1,6 +1,6 @@
 //! The names of packages.
 
-use crate::values::{is, is_encoded, is_shown, same, string};
+use crate::values::{is, is_encoded, is_made, is_shown, string};
 use std::alloc::Global;
 use std::process::Abort;
 use warg_records::registry::{PackageName, PackageNameError};
@@ -29,9 +29,8 @@ fn parts(rt: HostRuntime) {
 fn copies(rt: HostRuntime) {
     let alloc = rt.alloc();
     let name = named(&rt, alloc, "foo:bar");
-    same(&rt, &name.try_clone().expect(&rt, "memory"), &name);
-    let parsed = PackageName::parse(alloc, "foo:bar").expect(&rt, "a name");
-    same(&rt, &parsed, &name);
+    is_made(&rt, name.try_clone(), "memory", &name);
+    is_made(&rt, PackageName::parse(alloc, "foo:bar"), "a name", &name);
     is_shown(&rt, alloc, &name, "foo:bar");
 }
 

@@ -1,6 +1,6 @@
 //! Texts under formatting options, which change none of them, and the order of ids and names.
 
-use crate::values::{differ, is, same, string};
+use crate::values::{differ, is, is_printed, same, string};
 use std::alloc::Global;
 use std::fmt::{Debug, Display};
 use std::hash::{FoldHasher, Hash, Hasher};
@@ -11,27 +11,19 @@ use warg_records::{InvalidPermission, PermissionParseError, operator, package};
 
 // The value's text is this one, whatever options it is printed under.
 fn keeps_text<T: Display>(rt: &impl Abort, alloc: Global, value: &T, want: &str) {
-    let plain = format!(in alloc; "{value}").expect(rt, want);
-    is(rt, plain.as_str(), want);
-    let right = format!(in alloc; "{value:>200}").expect(rt, want);
-    is(rt, right.as_str(), want);
-    let centered = format!(in alloc; "{value:*^200}").expect(rt, want);
-    is(rt, centered.as_str(), want);
-    let other = format!(in alloc; "{value:#}").expect(rt, want);
-    is(rt, other.as_str(), want);
-    let cut = format!(in alloc; "{value:.1}").expect(rt, want);
-    is(rt, cut.as_str(), want);
-    let padded = format!(in alloc; "{value:+0200.1}").expect(rt, want);
-    is(rt, padded.as_str(), want);
+    is_printed(rt, format!(in alloc; "{value}"), want);
+    is_printed(rt, format!(in alloc; "{value:>200}"), want);
+    is_printed(rt, format!(in alloc; "{value:*^200}"), want);
+    is_printed(rt, format!(in alloc; "{value:#}"), want);
+    is_printed(rt, format!(in alloc; "{value:.1}"), want);
+    is_printed(rt, format!(in alloc; "{value:+0200.1}"), want);
 }
 
 // So is what is printed for programmers.
 fn keeps_both<T: Display + Debug>(rt: &impl Abort, alloc: Global, value: &T, want: &str) {
     keeps_text(rt, alloc, value, want);
-    let shown = format!(in alloc; "{value:?}").expect(rt, want);
-    is(rt, shown.as_str(), want);
-    let other = format!(in alloc; "{value:#?}").expect(rt, want);
-    is(rt, other.as_str(), want);
+    is_printed(rt, format!(in alloc; "{value:?}"), want);
+    is_printed(rt, format!(in alloc; "{value:#?}"), want);
 }
 
 #[test]

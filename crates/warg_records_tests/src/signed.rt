@@ -4,7 +4,7 @@ use crate::samples::{
     ALICE_ID, alice, empty_hash, key_id, operator_entries, operator_record, package_entries,
     package_init, package_record,
 };
-use crate::values::{differ, is, is_shown, same};
+use crate::values::{differ, is, is_made, is_shown, same};
 use std::alloc::Global;
 use std::process::Abort;
 use warg_crypto::Signable;
@@ -28,8 +28,7 @@ fn bytes_of<C: Signable + Drop>(rt: &impl Abort, alloc: Global, contents: C) -> 
 fn reads_back<C: Record + PartialEq>(rt: &impl Abort, alloc: Global, envelope: &ProtoEnvelope<C>) {
     let bytes = envelope.to_protobuf(alloc).expect(rt, "memory");
     let read = ProtoEnvelope::<C>::from_protobuf(alloc, bytes.as_slice());
-    let again = read.expect(rt, "an envelope");
-    same(rt, &again, envelope);
+    is_made(rt, read, "an envelope", envelope);
 }
 
 #[test]
@@ -156,12 +155,15 @@ fn unsigned(
     SerdeEnvelope::from_parts_unchecked(timestamped(), key_id, signature)
 }
 
+// The envelope is neither the signed one nor one by another key.
+fn is_another(rt: &impl Abort, alloc: Global, envelope: &SerdeEnvelope<TimestampedCheckpoint>) {
+    differ(rt, envelope, &checkpoint_without_bytes(rt, alloc));
+    differ(rt, envelope, &unsigned(rt, alloc, "k"));
+}
+
 #[test]
 fn unsigned_checkpoints(rt: HostRuntime) {
-    let alloc = rt.alloc();
-    let envelope = unsigned(&rt, alloc, ALICE_ID);
-    differ(&rt, &envelope, &checkpoint_without_bytes(&rt, alloc));
-    differ(&rt, &envelope, &unsigned(&rt, alloc, "k"));
-    let copy = envelope.try_clone().expect(&rt, "memory");
-    same(&rt, &copy, &envelope);
+    let envelope = unsigned(&rt, rt.alloc(), ALICE_ID);
+    is_another(&rt, rt.alloc(), &envelope);
+    is_made(&rt, envelope.try_clone(), "memory", &envelope);
 }

@@ -31,15 +31,30 @@ pub(crate) fn same<T: PartialEq>(rt: &impl Abort, value: &T, other: &T) {
     assert!(rt; *value == *other);
 }
 
+// What was made is the same as this value.
+pub(crate) fn is_made<T: PartialEq + Drop, E: Debug + Drop>(
+    rt: &impl Abort,
+    made: Result<T, E>,
+    what: &str,
+    want: &T,
+) {
+    same(rt, &made.expect(rt, what), want);
+}
+
 // The value is another than this one.
 pub(crate) fn differ<T: PartialEq>(rt: &impl Abort, value: &T, other: &T) {
     assert!(rt; *value != *other);
 }
 
+// What was printed is this text.
+pub(crate) fn is_printed(rt: &impl Abort, printed: Result<String, AllocError>, want: &str) {
+    let text = printed.expect(rt, want);
+    is(rt, text.as_str(), want);
+}
+
 // The value's text is this one.
 pub(crate) fn is_shown(rt: &impl Abort, alloc: Global, value: &impl Display, want: &str) {
-    let shown = value.to_string(alloc).expect(rt, want);
-    is(rt, shown.as_str(), want);
+    is_printed(rt, value.to_string(alloc), want);
 }
 
 // Takes so many pieces, and refuses the next one.

@@ -1,7 +1,7 @@
 //! Records as content bytes, and what they mention.
 
 use crate::samples::{operator_entries, operator_record, package_entries, package_record, release};
-use crate::values::{is, is_shown, same};
+use crate::values::{is, is_made, is_shown};
 use std::alloc::Global;
 use std::process::Abort;
 use warg_crypto::hash::{AnyHash, HashAlgorithm};
@@ -55,8 +55,7 @@ fn bytes_of_all_kinds(rt: HostRuntime) {
 // The record's content bytes say it.
 fn reads_back<C: Encode + Decode + PartialEq>(rt: &impl Abort, alloc: Global, record: &C) {
     let content = record.encode(alloc).expect(rt, "memory");
-    let again = C::decode(alloc, content.as_slice()).expect(rt, "a record");
-    same(rt, &again, record);
+    is_made(rt, C::decode(alloc, content.as_slice()), "a record", record);
 }
 
 #[test]
@@ -65,7 +64,7 @@ fn package_records_read_back(rt: HostRuntime) {
     reads_back(&rt, rt.alloc(), &record);
     let message = record.to_proto(rt.alloc()).expect(&rt, "memory");
     let read = PackageRecord::from_proto(rt.alloc(), message);
-    same(&rt, &read.expect(&rt, "a record"), &record);
+    is_made(&rt, read, "a record", &record);
 }
 
 #[test]
@@ -74,14 +73,12 @@ fn operator_records_read_back(rt: HostRuntime) {
     reads_back(&rt, rt.alloc(), &record);
     let message = record.to_proto(rt.alloc()).expect(&rt, "memory");
     let read = OperatorRecord::from_proto(rt.alloc(), message);
-    same(&rt, &read.expect(&rt, "a record"), &record);
+    is_made(&rt, read, "a record", &record);
 }
 
 fn is_copied<C: Record + Clone + PartialEq>(rt: &impl Abort, record: &C) {
-    let copy = Record::try_clone(record).expect(rt, "memory");
-    same(rt, &copy, record);
-    let copy = record.clone().expect(rt, "memory");
-    same(rt, &copy, record);
+    is_made(rt, Record::try_clone(record), "memory", record);
+    is_made(rt, record.clone(), "memory", record);
 }
 
 #[test]
