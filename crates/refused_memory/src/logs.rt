@@ -55,9 +55,13 @@ fn has_record(alloc: Global, log: &Log, place: usize, input: &[u8]) -> Result<bo
     Ok(log.records().get(place) == Some(&envelope))
 }
 
+fn has_state(alloc: Global, log: &Log, inputs: &[Vec<u8>]) -> Result<bool, Refusal> {
+    Ok(*log.state() == state_of(alloc, inputs)?)
+}
+
 // The log has the records of the inputs, and the state that they add up to, and nothing else.
 fn check(alloc: Global, log: &Log, inputs: &[Vec<u8>]) -> Result<(), Refusal> {
-    if log.records().len() != inputs.len() || *log.state() != state_of(alloc, inputs)? {
+    if log.records().len() != inputs.len() || !has_state(alloc, log, inputs)? {
         return Err(Refusal::new("changed by a refusal"));
     }
     for (place, input) in inputs.iter().enumerate() {
@@ -68,14 +72,18 @@ fn check(alloc: Global, log: &Log, inputs: &[Vec<u8>]) -> Result<(), Refusal> {
     Ok(())
 }
 
+fn appended(log: &mut Log, input: &[u8]) -> Result<(), Refusal> {
+    Ok(log.append(input)?)
+}
+
 // Takes the bytes. Where they are refused, the log has to be as before, and then to take them.
 fn take(alloc: Global, log: &mut Log, before: &[Vec<u8>], input: &[u8]) -> Result<(), Refusal> {
-    let Err(cause) = log.append(input) else {
+    let Err(refusal) = appended(log, input) else {
         return Ok(());
     };
     check(alloc, log, before)?;
-    match log.append(input) {
-        Ok(()) => Err(Refusal::from(cause)),
+    match appended(log, input) {
+        Ok(()) => Err(refusal),
         Err(_) => Err(Refusal::new("refused again")),
     }
 }
@@ -90,26 +98,44 @@ fn take_each(alloc: Global, log: &mut Log, inputs: &[Vec<u8>]) -> Result<(), Ref
     taken
 }
 
-/// `append` of each input. A refused one is appended once more.
-pub(crate) fn append(alloc: Global, inputs: &[Vec<u8>]) -> Result<String, Refusal> {
-    let mut log = Log::new(alloc, ToyVerifier)?;
-    let taken = take_each(alloc, &mut log, inputs);
-    check(alloc, &log, inputs)?;
+// What came of the inputs, all of which the log has by now.
+fn told_after(
+    alloc: Global,
+    log: &Log,
+    inputs: &[Vec<u8>],
+    taken: Result<(), Refusal>,
+) -> Result<String, Refusal> {
+    check(alloc, log, inputs)?;
     taken?;
     told(alloc, log.state())
 }
 
+/// `append` of each input. A refused one is appended once more.
+pub(crate) fn append(alloc: Global, inputs: &[Vec<u8>]) -> Result<String, Refusal> {
+    let mut log = Log::new(alloc, ToyVerifier)?;
+    let taken = take_each(alloc, &mut log, inputs);
+    told_after(alloc, &log, inputs, taken)
+}
+
+// Where an input is refused, its place comes with the refusal.
+fn appended_all(log: &mut Log, inputs: &[Vec<u8>]) -> Result<(), (usize, Refusal)> {
+    match log.append_all(inputs) {
+        Ok(()) => Ok(()),
+        Err(error) => Err((error.index, Refusal::from(error.cause))),
+    }
+}
+
 // Takes the inputs. Where one is refused, those before it have to stand, and then the log has to take the others.
 fn take_all(alloc: Global, log: &mut Log, inputs: &[Vec<u8>]) -> Result<(), Refusal> {
-    let Err(error) = log.append_all(inputs) else {
+    let Err((index, refusal)) = appended_all(log, inputs) else {
         return Ok(());
     };
-    let Some((before, after)) = inputs.split_at_checked(error.index) else {
+    let Some((before, after)) = inputs.split_at_checked(index) else {
         return Err(Refusal::new("refused past the end"));
     };
     check(alloc, log, before)?;
-    match log.append_all(after) {
-        Ok(()) => Err(Refusal::from(error.cause)),
+    match appended_all(log, after) {
+        Ok(()) => Err(refusal),
         Err(_) => Err(Refusal::new("refused again")),
     }
 }
@@ -118,9 +144,7 @@ fn take_all(alloc: Global, log: &mut Log, inputs: &[Vec<u8>]) -> Result<(), Refu
 pub(crate) fn append_all(alloc: Global, inputs: &[Vec<u8>]) -> Result<String, Refusal> {
     let mut log = Log::new(alloc, ToyVerifier)?;
     let taken = take_all(alloc, &mut log, inputs);
-    check(alloc, &log, inputs)?;
-    taken?;
-    told(alloc, log.state())
+    told_after(alloc, &log, inputs, taken)
 }
 
 fn key_id(alloc: Global, name: &str) -> Result<KeyID, Refusal> {
@@ -145,11 +169,21 @@ fn told_chain(
     Ok(text)
 }
 
+// The chain after the inputs, which the log has to take.
+fn told_chain_after(
+    alloc: Global,
+    log: &mut Log,
+    inputs: &[Vec<u8>],
+    name: &str,
+) -> Result<String, Refusal> {
+    match appended_all(log, inputs) {
+        Ok(()) => told_chain(alloc, log, name, Permission::Release),
+        Err((_, refusal)) => Err(refusal),
+    }
+}
+
 /// `permission_chain` of this person's permission to release, after the inputs.
 pub(crate) fn chain(alloc: Global, inputs: &[Vec<u8>], name: &str) -> Result<String, Refusal> {
     let mut log = Log::new(alloc, ToyVerifier)?;
-    match log.append_all(inputs) {
-        Ok(()) => told_chain(alloc, &log, name, Permission::Release),
-        Err(error) => Err(Refusal::from(error.cause)),
-    }
+    told_chain_after(alloc, &mut log, inputs, name)
 }
