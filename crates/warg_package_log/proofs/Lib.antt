@@ -13,3 +13,4 @@ pub mod SavedStates
 pub mod SavedFound
 pub mod SavedLaws
 pub mod SavedTexts
+pub mod SavableReleases

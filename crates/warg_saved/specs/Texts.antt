@@ -1,5 +1,6 @@
 -- The members of an object as texts, of which the object's text is joined.
-use Rattle.std.specs.Prelude.{ℕ, ◌≡◌, List, [], ◌∷◌, ◌++◌, map, String, string_bytes, Bool, true, Result}
+use Rattle.std.specs.Prelude.{ℕ, ◌≡◌, List, [], ◌∷◌, ◌++◌, map, String, string_bytes, Bool, true, ⊤, Result, Ok}
+use Rattle.std.specs.Borrow.{Bor}
 use Rattle.std.specs.declared.alloc.Global.{Global}
 use Rattle.serde_json.specs.Data.{Data, Members, no_members, member, string}
 use Rattle.serde_json.specs.Written.{comma_if, compact_text}
@@ -33,3 +34,11 @@ abbrev pub PutsText : {X : Type 0} → (Members → Result Members JsonError) �
     → List (List ℕ × List ℕ) → List (List ℕ × List ℕ) → Type 0
 PutsText puts result old new =
     (ms : Members) → old ≡ texts_of ms → Gives (λ _. new) result (texts_in (puts ms))
+
+module _ {V A : Type 0} (plain : V → A) (writes : A → Result Data JsonError) where
+  -- the members are the JSON of the values by these names
+  abbrev pub AreMembers : List (String Global × Bor V) → Members → Type 0
+  AreMembers [] no_members = ⊤
+  AreMembers (e ∷ es) (member name d more) = (string_bytes e.0 ≡ name) × (writes (plain e.1.now) ≡ Ok d) × AreMembers es more
+  AreMembers [] (member name d more) = ⊥
+  AreMembers (e ∷ es) no_members = ⊥

@@ -4,6 +4,7 @@
 
 mod fit;
 mod map;
+mod map_text;
 mod members;
 mod name;
 mod permissions;

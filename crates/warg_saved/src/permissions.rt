@@ -89,6 +89,10 @@ impl<P: SavedPermission> SavedValue for IndexSet<P> {
 
     ghost no_float = { λ ps. texts_no_float P.text_of ps };
 
+    fn can_save(&self) -> Result<(), JsonError> {
+        Ok(())
+    }
+
     fn save(&self, alloc: Global) -> Result<Value, JsonError> {
         let _permissions = self.iter();
         permissions_value(alloc, self)

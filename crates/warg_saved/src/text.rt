@@ -1,19 +1,20 @@
 //! Objects written as text member by member, with no value of the whole.
 ghost use Rattle.std.specs.Prelude.{IfErr, IfOk, OnOk, ◌≡◌, [], List, false, codes, string_bytes};
 ghost use Rattle.std.specs.Option.{option_map};
-ghost use Rattle.serde_json.specs.Data.{Data, Members, no_members, object, put, string};
+ghost use Rattle.serde_json.specs.Data.{Data, Members, object, put, string};
 ghost use Rattle.serde_json.specs.View.{view};
 ghost use Rattle.serde_json.specs.Written.{compact_text, has_float};
 ghost use Rattle.warg_crypto.specs.declared.json.error.JsonError.TheVariants as fault;
 ghost use Rattle.warg_crypto.specs.Json.{Gives, wrote};
 ghost use Rattle.warg_crypto.specs.JsonTexts.{key_json};
 ghost use Rattle.warg_crypto.specs.Members.{put_option};
-ghost use Rattle.warg_crypto.specs.Pairs.{pairs_onto, plain_pairs};
+ghost use Rattle.warg_crypto.specs.Pairs.{plain_pairs};
 ghost use Rattle.warg_saved.specs.Maps.{put_pairs};
 ghost use Rattle.warg_saved.specs.Names.{text_name};
 ghost use Rattle.warg_saved.specs.NoFloat.{HasNoFloat};
-ghost use Rattle.warg_saved.specs.Texts.{PutsText, texts_in, texts_of};
+ghost use Rattle.warg_saved.specs.Texts.{PutsText, texts_of};
 
+use crate::map_text::map_text;
 use crate::name::SavedName;
 use crate::value::SavedValue;
 use indexmap::IndexMap;
@@ -43,7 +44,7 @@ impl Model for MemberTexts {
 }
 
 /// A text as JSON writes it.
-fn quoted(alloc: Global, text: &str) -> Result<String, JsonError>
+pub(crate) fn quoted(alloc: Global, text: &str) -> Result<String, JsonError>
     ensures { Gives string_bytes result (wrote (compact_text (string text.now))) }
 {
     let value = text_value(alloc, text)?;
@@ -98,23 +99,6 @@ impl MemberTexts {
         self.put_value(String::from_str(self.alloc, name)?, &json)
     }
 
-    /// The members of a map: where names repeat, the last entry counts.
-    fn of_map<K: SavedName, V: SavedValue>(
-        alloc: Global,
-        map: &IndexMap<K, V>,
-    ) -> Result<MemberTexts, JsonError>
-        ensures { Gives (λ t. t) result (texts_in (pairs_onto K.name_of V.writes no_members
-            (plain_pairs K.plain V.plain map.now.entries))) }
-    {
-        let mut members = MemberTexts::new(alloc);
-        'entries: for (key, value) in map.iter() {
-            let json = value.save(alloc)?;
-            let name = key.to_name(alloc)?;
-            members.put_value(name, &json)?;
-        }
-        Ok(members)
-    }
-
     /// Puts the map as a member, unless it is empty.
     pub fn put_map<K: SavedName, V: SavedValue>(
         &mut self,
@@ -126,7 +110,7 @@ impl MemberTexts {
         if map.is_empty() {
             return Ok(());
         }
-        let text = MemberTexts::of_map(self.alloc, map)?.text()?;
+        let text = map_text(self.alloc, map)?;
         self.put(String::from_str(self.alloc, name)?, text)
     }
 

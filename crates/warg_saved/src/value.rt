@@ -1,5 +1,5 @@
 //! The values of maps, as JSON.
-ghost use Rattle.std.specs.Prelude.{◌≡◌, List, [], Result, IfOk, refl};
+ghost use Rattle.std.specs.Prelude.{◌≡◌, List, [], Result, Ok, Err, IfOk, IfErr, OnOk, refl};
 ghost use Rattle.serde_json.specs.Data.{Data};
 ghost use Rattle.serde_json.specs.View.{view};
 ghost use Rattle.warg_crypto.specs.declared.json.error.JsonError.{JsonError};
@@ -32,6 +32,11 @@ pub trait SavedValue: Drop {
     // Nothing that is written is a float.
     ghost no_float: { (x : Plain) → HasNoFloat (writes x) };
 
+    /// Whether there is JSON of the value, or why there is none.
+    fn can_save(&self) -> Result<(), JsonError>
+        ensures ok { OnOk result ((d : Data) × (writes (plain self.now) ≡ Ok d)) }
+        ensures err { IfErr result (λ e. writes (plain self.now) ≡ Err e) };
+
     /// The JSON of the value.
     fn save(&self, alloc: Global) -> Result<Value, JsonError>
         ensures written { Gives view result (writes (plain self.now)) }
@@ -55,6 +60,10 @@ impl SavedValue for PublicKey {
     ghost versions = { λ _. [] };
 
     ghost no_float = { λ key. refl };
+
+    fn can_save(&self) -> Result<(), JsonError> {
+        Ok(())
+    }
 
     fn save(&self, alloc: Global) -> Result<Value, JsonError> {
         self.to_value(alloc)

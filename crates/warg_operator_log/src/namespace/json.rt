@@ -138,6 +138,10 @@ impl SavedValue for NamespaceState {
 
     ghost no_float = { namespace_no_float };
 
+    fn can_save(&self) -> Result<(), JsonError> {
+        Ok(())
+    }
+
     fn save(&self, alloc: Global) -> Result<Value, JsonError> {
         saved_value(alloc, self)
     }

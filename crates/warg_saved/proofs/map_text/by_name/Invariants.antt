@@ -1,12 +1,12 @@
 use Rattle.std.proofs.Common.{◌≡◌}
 use Rattle.serde_json.specs.Data.{Members, no_members}
 use Rattle.warg_crypto.specs.Pairs.{pairs_onto, plain_pairs}
-use Rattle.warg_saved.specs.Texts.{texts_of}
-use Rattle.warg_saved.proofs.text.MemberTexts.of_map.Given as goal
+use Rattle.warg_saved.specs.Texts.{AreMembers}
+use Rattle.warg_saved.proofs.map_text.by_name.Given as goal
 
--- the texts are those of the members so far, onto which the rest is put
+-- the values so far are the members onto which the rest is put
 abbrev pub invariant-entries : goal.invariant-entries
 invariant-entries g l =
-    (ms : Members) × (l.members ≡ texts_of ms)
+    (ms : Members) × AreMembers g.V.SavedValue.plain g.V.SavedValue.writes l.named.entries ms
     × (pairs_onto g.K.SavedName.name_of g.V.SavedValue.writes ms (plain_pairs g.K.SavedName.plain g.V.SavedValue.plain l.key-iterator)
     ≡ pairs_onto g.K.SavedName.name_of g.V.SavedValue.writes no_members (plain_pairs g.K.SavedName.plain g.V.SavedValue.plain l.fn.map.entries))

@@ -1,0 +1,81 @@
+//! Maps written as the text of an object, one value after another.
+ghost use Rattle.std.specs.Prelude.{IfErr, IfOk, ◌≡◌, ◌⊎◌, Err, Ok, string_bytes};
+ghost use Rattle.serde_json.specs.Data.{Members, no_members, object};
+ghost use Rattle.serde_json.specs.Written.{compact_text};
+ghost use Rattle.warg_crypto.specs.declared.json.error.JsonError.TheVariants as fault;
+ghost use Rattle.warg_crypto.specs.Json.{Gives};
+ghost use Rattle.warg_crypto.specs.Pairs.{pairs_json, pairs_onto, plain_pairs};
+ghost use Rattle.warg_saved.specs.Texts.{AreMembers, text_of};
+
+use crate::name::SavedName;
+use crate::text::quoted;
+use crate::value::SavedValue;
+use indexmap::IndexMap;
+use std::alloc::Global;
+use std::collections::BTreeMap;
+use warg_crypto::JsonError;
+
+/// The text of the value's JSON.
+fn value_text<V: SavedValue>(alloc: Global, value: &V) -> Result<String, JsonError>
+    ensures { Gives string_bytes result (text_of (V.writes (V.plain value.now))) }
+{
+    let json = value.save(alloc)?;
+    Ok(json.to_string(alloc)?)
+}
+
+/// The values by their names: where names repeat, the last entry counts. The fault is that of the first value
+/// that cannot be written.
+fn by_name<'m, K: SavedName, V: SavedValue>(
+    alloc: Global,
+    map: &'m IndexMap<K, V>,
+) -> Result<BTreeMap<String, &'m V>, JsonError>
+    ensures ok { IfOk result (λ named. (ms : Members) × AreMembers V.plain V.writes named.entries ms
+        × (pairs_onto K.name_of V.writes no_members (plain_pairs K.plain V.plain map.now.entries) ≡ Ok ms)) }
+    ensures err { IfErr result (λ e. (e ≡ fault.OutOfMemory)
+        ⊎ (pairs_onto K.name_of V.writes no_members (plain_pairs K.plain V.plain map.now.entries) ≡ Err e)) }
+{
+    let mut named = BTreeMap::new(alloc);
+    'entries: for (key, value) in map.iter() {
+        value.can_save()?;
+        let name = key.to_name(alloc)?;
+        drop(named.insert(name, value)?);
+    }
+    Ok(named)
+}
+
+/// The text of the object whose members are those of the values. The error is `OutOfMemory`.
+fn joined<V: SavedValue>(alloc: Global, named: &BTreeMap<String, &V>) -> Result<String, JsonError>
+    requires { (ms : Members) × AreMembers V.plain V.writes named.now.entries ms }
+    ensures ok { IfOk result (λ s. (ms : Members) → AreMembers V.plain V.writes named.now.entries ms
+        → string_bytes s ≡ compact_text (object ms)) }
+    ensures err { IfErr result (λ e. e ≡ fault.OutOfMemory) }
+{
+    let mut text = String::new(alloc);
+    text.push('{')?;
+    let mut later = false;
+    'members: for (name, value) in named.iter() {
+        if later {
+            text.push(',')?;
+        }
+        let name = quoted(alloc, name.as_str())?;
+        text.push_str(name.as_str())?;
+        text.push(':')?;
+        let value = value_text(alloc, *value)?;
+        text.push_str(value.as_str())?;
+        later = true;
+    }
+    text.push('}')?;
+    Ok(text)
+}
+
+/// The text of the map as an object. One value after another is made and written: a value of the whole would take
+/// several times the memory of the text.
+pub(crate) fn map_text<K: SavedName, V: SavedValue>(
+    alloc: Global,
+    map: &IndexMap<K, V>,
+) -> Result<String, JsonError>
+    ensures { Gives string_bytes result (text_of (pairs_json K.name_of V.writes (plain_pairs K.plain V.plain map.now.entries))) }
+{
+    let named = by_name(alloc, map)?;
+    joined(alloc, &named)
+}
