@@ -158,7 +158,7 @@ fn log_text(alloc: Global, log: &Log<ReleaseMap>) -> Result<String, JsonError>
 }
 
 impl LogState {
-    /// The state's JSON as text, with no space: what [`JsonValue::to_value`] gives, written. It takes a third of
+    /// The state's JSON as text, with no space: what [`JsonValue::to_value`] gives, written. It takes less than half
     /// the time, since no value of the whole state is made. `TimeBeforeEpoch`: a time that is to be written lies
     /// before the epoch.
     pub fn to_json(&self, alloc: Global) -> Result<String, JsonError>
