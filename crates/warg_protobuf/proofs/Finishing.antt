@@ -1,6 +1,7 @@
 -- What is made of what is kept is what the fields say: for each message whose fields fit.
-use Rattle.std.proofs.Common.{◌≡◌, ℕ, List, [], ◌∷◌, ◌++◌, Bool, true, false, cond, eqb, Option, Some, None, Result, Ok, Err, refl, sym, ap, subst, ◌∙◌}
+use Rattle.std.proofs.Common.{◌≡◌, ℕ, List, [], ◌∷◌, ◌++◌, Bool, true, false, cond, eqb, Option, Some, None, Result, Ok, Err, refl, sym, ap, subst, ◌∙◌, append_assoc}
 use Rattle.std.specs.List.{fold}
+use Rattle.std.proofs.lemmas.List.{append-nil}
 use Rattle.std.proofs.lemmas.Bool.{eqb-true}
 use Rattle.warg_protobuf.specs.declared.error.WireError.{WireError}
 use Rattle.warg_protobuf.specs.declared.error.WireError.TheVariants.{Truncated, VarintTooLong, BadKey, Group, WrongWireType, NotUtf8, OutOfMemory}
@@ -17,10 +18,10 @@ use Rattle.warg_protobuf.specs.Yank.{yank_table, yank_from}
 use Rattle.warg_protobuf.specs.DefineNamespace.{define_namespace_table, define_namespace_from}
 use Rattle.warg_protobuf.specs.ImportNamespace.{import_namespace_table, import_namespace_from}
 use Rattle.warg_protobuf.specs.Timestamp.{timestamp_table, TimestampValue, timestamp_from}
-use Rattle.warg_protobuf.specs.Record.{record_table, record_from}
+use Rattle.warg_protobuf.specs.Record.{record_table, RecordValue, record_from, gathered_of}
 use Rattle.warg_protobuf.specs.Meaning.{Agrees, Computes}
 use Rattle.warg_protobuf.specs.Views.{Fails, option_view}
-use Rattle.warg_protobuf.specs.Drafts.{kept_after, no_text, one_text_with, no_texts, two_texts_with, nothing_kept, text_and_numbers_with, TimestampKept, timestamp_with, no_time, time_made, no_parts, envelope_with, no_record, time_with, record_with, init_made, release_made, import_namespace_made, yank_made, define_namespace_made, grant_flat_made, revoke_flat_made, record_made}
+use Rattle.warg_protobuf.specs.Drafts.{kept_after, no_text, one_text_with, no_texts, two_texts_with, nothing_kept, text_and_numbers_with, TimestampKept, timestamp_with, no_time, time_made, no_parts, envelope_with, RecordKept, no_record, with_last, time_with, record_with, init_made, release_made, import_namespace_made, yank_made, define_namespace_made, grant_flat_made, revoke_flat_made, record_made}
 use Rattle.warg_protobuf.proofs.Kept.{one_text_after, two_texts_after, text_and_numbers_after, timestamp_after, envelope_after, record_after, splits, fold-joined}
 use Rattle.warg_protobuf.proofs.Meanings.{ok_same, ok_err, err_same, signed_has, pieces_fit, pieces_have, listed_has}
 use Rattle.warg_protobuf.proofs.Decoding.{Fails-at, computes}
@@ -152,17 +153,41 @@ time_finishes entry fs fit =
     by ps e is true = ap (λ (r : Result (List Field) WireError). r >>= timestamp_from >>= λ v. Ok (Some v)) e ∙ ap (λ (r : Result TimestampValue WireError). r >>= λ v. Ok (Some v)) is
     by ps e is false = refl
 
-pub record_finishes : {E : Type 0} (entry : Table) (entry_from : List Field → Result E WireError) (IsEntryOf : List Field → E → Type 0) → Agrees entry entry_from IsEntryOf
-    → Finishes (record_table entry) (record_from entry entry_from) (record_with entry entry_from) no_record record_made
+pub record_finishes : {E H : Type 0} (with_entry : H → E → H) (nothing : H) (entry : Table) (entry_from : List Field → Result E WireError) (IsEntryOf : List Field → E → Type 0) → Agrees entry entry_from IsEntryOf
+    → Finishes (record_table entry) (λ fs. gathered_of with_entry nothing (record_from entry entry_from fs)) (record_with with_entry entry entry_from) (no_record nothing) record_made
 unfolding record_from
-record_finishes entry entry_from IsEntryOf agrees fs fit =
+record_finishes with_entry nothing entry entry_from IsEntryOf agrees fs fit =
     let T = record_table entry in
     let es = listed_has entry entry_from IsEntryOf agrees T 4 (λ p h. h) fs fit in
-    rw (optional_at T 1 (λ p h. h) fs fit, time_finishes entry fs fit, es.gives, record_after entry entry_from no_record fs es.value es.gives) refl
+    rw (optional_at T 1 (λ p h. h) fs fit, time_finishes entry fs fit, es.gives, record_after with_entry entry entry_from (no_record nothing) fs es.value es.gives) refl
+
+-- what is read, and then gathered
+gathers : {E H : Type 0} (with_entry : H → E → H) (nothing : H) (value : List Field → Result (RecordValue (List E)) WireError) (fields : Result (List Field) WireError)
+    → (fields >>= λ fs. gathered_of with_entry nothing (value fs)) ≡ gathered_of with_entry nothing (fields >>= value)
+gathers with_entry nothing value (Ok fs) = refl
+gathers with_entry nothing value (Err e) = refl
+
+pub record_gathered : {E H : Type 0} (with_entry : H → E → H) (nothing : H) (entry : Table) (entry_from : List Field → Result E WireError) (IsEntryOf : List Field → E → Type 0) → Agrees entry entry_from IsEntryOf
+    → (bytes : List ℕ) (k : RecordKept H) (v : RecordValue H) → kept_of (record_with with_entry entry entry_from) (no_record nothing) (fields_of (record_table entry) bytes) ≡ Ok k → v ≡ record_made k
+    → gathered_of with_entry nothing (message_of (record_table entry) (record_from entry entry_from) bytes) ≡ Ok v
+record_gathered with_entry nothing entry entry_from IsEntryOf agrees bytes k v e is =
+    let T = record_table entry in
+    sym (gathers with_entry nothing (record_from entry entry_from) (fields_of T bytes))
+    ∙ finished_as T (λ fs. gathered_of with_entry nothing (record_from entry entry_from fs)) (record_with with_entry entry entry_from) (no_record nothing) record_made
+    (record_finishes with_entry nothing entry entry_from IsEntryOf agrees) bytes k v e is
+
+-- a list takes the entries as they are
+in_list : {E : Type 0} (front es : List E) → fold with_last front es ≡ front ++ es
+in_list front [] = sym (append-nil front)
+in_list front (e ∷ es) = in_list (front ++ e ∷ []) es ∙ append_assoc front (e ∷ []) es
+
+pub listed_as_it_is : {E : Type 0} (read : Result (RecordValue (List E)) WireError) → gathered_of with_last [] read ≡ read
+listed_as_it_is (Ok v) = ap (λ (es : List _). Ok (record { prev = v.prev; version = v.version; time = v.time; entries = es })) (in_list [] v.entries)
+listed_as_it_is (Err e) = refl
 
 -- an entry whose fields fit has a value: it fails where they do
-module _ {V K : Type 0} (T : Table) (value : List Field → Result V WireError) (Is : List Field → V → Type 0) (agrees : Agrees T value Is) (bytes : List ℕ) (new : K) where
-  never : (e : WireError) (v : V) → Fails e (Ok v) → Fails e (Ok new)
+module _ {V H K : Type 0} (T : Table) (value : List Field → Result V WireError) (Is : List Field → V → Type 0) (agrees : Agrees T value Is) (taken : V → H) (bytes : List ℕ) (new : K) where
+  never : (e : WireError) (v : H) → Fails e (Ok v) → Fails e (Ok new)
   never OutOfMemory v h = tt
   never Truncated v h = ok_err v Truncated h
   never VarintTooLong v h = ok_err v VarintTooLong h
@@ -171,7 +196,7 @@ module _ {V K : Type 0} (T : Table) (value : List Field → Result V WireError) 
   never WrongWireType v h = ok_err v WrongWireType h
   never NotUtf8 v h = ok_err v NotUtf8 h
 
-  moved : (e d : WireError) → Fails {Y = V} e (Err d) → Fails {Y = K} e (Err d)
+  moved : (e d : WireError) → Fails {Y = H} e (Err d) → Fails {Y = K} e (Err d)
   moved OutOfMemory d h = tt
   moved Truncated d h = ap (λ (x : WireError). Err x) (err_same d Truncated h)
   moved VarintTooLong d h = ap (λ (x : WireError). Err x) (err_same d VarintTooLong h)
@@ -180,11 +205,11 @@ module _ {V K : Type 0} (T : Table) (value : List Field → Result V WireError) 
   moved WrongWireType d h = ap (λ (x : WireError). Err x) (err_same d WrongWireType h)
   moved NotUtf8 d h = ap (λ (x : WireError). Err x) (err_same d NotUtf8 h)
 
-  fails_at : (e : WireError) (read : Result (List Field) WireError) → AnswerSays T bytes read → Fails e (read >>= value) → Fails e (unless (fault_in read) (Ok new))
-  fails_at e (Ok fs) says h = let v = agrees fs says.fit in never e v.value (subst (Fails e) v.gives h)
+  fails_at : (e : WireError) (read : Result (List Field) WireError) → AnswerSays T bytes read → Fails e (read >>= value >>= λ v. Ok (taken v)) → Fails e (unless (fault_in read) (Ok new))
+  fails_at e (Ok fs) says h = let v = agrees fs says.fit in never e (taken v.value) (subst (λ (r : Result V WireError). Fails e (r >>= λ w. Ok (taken w))) v.gives h)
   fails_at e (Err d) says h = moved e d h
 
   -- at the number of a record's entries
-  pub entry_fails : (e : WireError) (n : ℕ) (p : Payload) → n ≡ 4 → p ≡ Bytes bytes → Fails e (message_of T value bytes) → Fails e (unless (payload_fault (record_table T) n p) (Ok new))
+  pub entry_fails : (e : WireError) (n : ℕ) (p : Payload) → n ≡ 4 → p ≡ Bytes bytes → Fails e (message_of T value bytes >>= λ v. Ok (taken v)) → Fails e (unless (payload_fault (record_table T) n p) (Ok new))
   unfolding payload_fault
   entry_fails e n p four is h = rw (four, is) (fails_at e (fields_of T bytes) (answer_says T bytes) h)

@@ -92,15 +92,19 @@ pub envelope_after : (k : EnvelopeValue) (fs : List Field) → fold envelope_wit
 envelope_after k [] = refl
 envelope_after k (f ∷ fs) = envelope_after (envelope_with k f) fs ∙ envelope_same _ _ _ _ _ _ (last_on 1 k.contents f fs) (last_on 2 k.key_id f fs) (last_on 3 k.signature f fs)
 
-module _ {E : Type 0} (entry : Table) (entry_from : List Field → Result E WireError) where
-  record_same : (p q : Option (List ℕ)) (v u : ℕ) (t s : Option TimestampKept) (xs ys : List E) → p ≡ q → v ≡ u → t ≡ s → xs ≡ ys
-      → ◌≡◌ {A = RecordKept E} (record { prev = p; version = v; time = t; entries = xs }) (record { prev = q; version = u; time = s; entries = ys })
+module _ {E H : Type 0} (with_entry : H → E → H) (entry : Table) (entry_from : List Field → Result E WireError) where
+  record_same : (p q : Option (List ℕ)) (v u : ℕ) (t s : Option TimestampKept) (xs ys : H) → p ≡ q → v ≡ u → t ≡ s → xs ≡ ys
+      → ◌≡◌ {A = RecordKept H} (record { prev = p; version = v; time = t; entries = xs }) (record { prev = q; version = u; time = s; entries = ys })
   record_same p q v u t s xs ys a b c d = rw (a, b, c, d) refl
 
-  pub record_after : (k : RecordKept E) (fs : List Field) (xs : List E) → listed_of entry entry_from 4 fs ≡ Ok xs
-      → fold (record_with entry entry_from) k fs ≡ record { prev = last_option_from k.prev (held 1 fs); version = last_from k.version (numbers 2 fs); time = fold time_with k.time (held 3 fs); entries = k.entries ++ xs }
-  record_after k [] xs e = record_same _ _ _ _ _ _ _ _ refl refl refl (no_items k.entries xs e)
+  taken_on : (start : H) (us ws xs : List E) (first : Result (List E) WireError) → first ≡ Ok us → xs ≡ us ++ ws
+      → fold with_entry (fold with_entry start (items_of first)) ws ≡ fold with_entry start xs
+  taken_on start us ws xs first e is = rw (e, is) (fold-joined with_entry start us ws)
+
+  pub record_after : (k : RecordKept H) (fs : List Field) (xs : List E) → listed_of entry entry_from 4 fs ≡ Ok xs
+      → fold (record_with with_entry entry entry_from) k fs ≡ record { prev = last_option_from k.prev (held 1 fs); version = last_from k.version (numbers 2 fs); time = fold time_with k.time (held 3 fs); entries = fold with_entry k.entries xs }
+  record_after k [] xs e = record_same _ _ _ _ _ _ _ _ refl refl refl (ap (fold with_entry k.entries) (ok_same [] xs e))
   record_after k (f ∷ fs) xs e =
       let s = splits (item_at entry entry_from 4 f) (listed_of entry entry_from 4 fs) xs e in
-      record_after (record_with entry entry_from k f) fs s.1 s.3
-      ∙ record_same _ _ _ _ _ _ _ _ (option_on 1 k.prev f fs) (number_on 2 k.version f fs) (pieces_on time_with 3 k.time f fs) (items_on k.entries s.0 s.1 xs (item_at entry entry_from 4 f) s.2 s.4)
+      record_after (record_with with_entry entry entry_from k f) fs s.1 s.3
+      ∙ record_same _ _ _ _ _ _ _ _ (option_on 1 k.prev f fs) (number_on 2 k.version f fs) (pieces_on time_with 3 k.time f fs) (taken_on k.entries s.0 s.1 xs (item_at entry entry_from 4 f) s.2 s.4)

@@ -179,6 +179,10 @@ module _ {F G : Type 0} (fourth : Table) (fourth_with : F → Field → F) (no_f
 
 -- ---- envelopes and records
 
+-- one entry more in a list
+abbrev pub with_last : {E : Type 0} → List E → E → List E
+with_last es e = es ++ e ∷ []
+
 abbrev pub no_parts : EnvelopeValue
 no_parts = record { contents = []; key_id = []; signature = [] }
 
@@ -189,22 +193,22 @@ envelope_with k f = record {
   signature = last_from k.signature (held 3 (f ∷ []));
 }
 
-pub record RecordKept (E : Type 0) : Type 0 where
+pub record RecordKept (H : Type 0) : Type 0 where
   pub prev : Option (List ℕ)
   pub version : ℕ
   pub time : Option TimestampKept
-  pub entries : List E
+  pub entries : H
 
-abbrev pub record_kept : {E D : Type 0} → (E → D) → RecordDraft E → RecordKept D
-record_kept entry_view d = record {
+abbrev pub record_kept : {S H : Type 0} → (S → H) → RecordDraft S → RecordKept H
+record_kept held d = record {
   prev = option_view (λ t. t.now) d.prev;
   version = d.version;
   time = option_view timestamp_kept d.time;
-  entries = map entry_view d.entries.items;
+  entries = held d.entries;
 }
 
-abbrev pub no_record : {E : Type 0} → RecordKept E
-no_record = record { prev = None; version = 0; time = None; entries = [] }
+abbrev pub no_record : {H : Type 0} → H → RecordKept H
+no_record nothing = record { prev = None; version = 0; time = None; entries = nothing }
 
 abbrev pub time_so_far : Option TimestampKept → TimestampKept
 time_so_far None = no_time
@@ -218,12 +222,12 @@ time_grown o b = kept_of timestamp_with (time_so_far o) (fields_of timestamp_tab
 abbrev pub time_with : Option TimestampKept → List ℕ → Option TimestampKept
 time_with o b = Some (grown timestamp_with timestamp_table (time_so_far o) b)
 
-abbrev pub record_with : {E : Type 0} → Table → (List Field → Result E WireError) → RecordKept E → Field → RecordKept E
-record_with entry entry_from k f = record {
+abbrev pub record_with : {E H : Type 0} → (H → E → H) → Table → (List Field → Result E WireError) → RecordKept H → Field → RecordKept H
+record_with with_entry entry entry_from k f = record {
   prev = last_option_from k.prev (held 1 (f ∷ []));
   version = last_from k.version (numbers 2 (f ∷ []));
   time = fold time_with k.time (held 3 (f ∷ []));
-  entries = k.entries ++ items_of (item_at entry entry_from 4 f);
+  entries = fold with_entry k.entries (items_of (item_at entry entry_from 4 f));
 }
 
 -- ---- the messages of what is kept
@@ -265,5 +269,5 @@ operator_entry_made (RevokeFlat k) = Some (in_operator.RevokeFlat (revoke_flat_m
 operator_entry_made (Fourth k) = Some (in_operator.DefineNamespace (define_namespace_made k))
 operator_entry_made (Fifth k) = Some (in_operator.ImportNamespace (import_namespace_made k))
 
-abbrev pub record_made : {E : Type 0} → RecordKept E → RecordValue E
+abbrev pub record_made : {H : Type 0} → RecordKept H → RecordValue H
 record_made k = record { prev = k.prev; version = k.version % 2 ^ 32; time = option_view time_made k.time; entries = k.entries }

@@ -35,7 +35,7 @@ pub use init::{OperatorInit, PackageInit};
 pub use message::Message;
 pub use operator_entry::OperatorEntry;
 pub use package_entry::PackageEntry;
-pub use record::{OperatorRecord, PackageRecord, Record};
+pub use record::{EntrySink, OperatorRecord, PackageRecord, Record};
 pub use release::PackageRelease;
 pub use revoke_flat::{OperatorRevokeFlat, PackageRevokeFlat};
 pub use timestamp::TimestampPair;

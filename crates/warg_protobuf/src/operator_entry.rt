@@ -17,19 +17,19 @@ use crate::revoke_flat::OperatorRevokeFlat;
 use crate::shape::{OneText, TwoTexts};
 use std::alloc::{AllocError, Global};
 
-/// The members of the oneof, each in a box, so that a list of entries stays small.
+/// The members of the oneof.
 #[derive(Debug, Drop, PartialEq, Eq)]
 pub enum Contents {
     /// Field 1.
-    Init(Box<OperatorInit>),
+    Init(OperatorInit),
     /// Field 2.
-    GrantFlat(Box<OperatorGrantFlat>),
+    GrantFlat(OperatorGrantFlat),
     /// Field 3.
-    RevokeFlat(Box<OperatorRevokeFlat>),
+    RevokeFlat(OperatorRevokeFlat),
     /// Field 4.
-    DefineNamespace(Box<OperatorDefineNamespace>),
+    DefineNamespace(OperatorDefineNamespace),
     /// Field 5.
-    ImportNamespace(Box<OperatorImportNamespace>),
+    ImportNamespace(OperatorImportNamespace),
 }
 
 /// An entry of an operator record; without a member it has no contents.
@@ -50,25 +50,18 @@ impl OperatorEntry {
     {
         let contents = match draft.member {
             MemberDraft::Absent => return Ok(OperatorEntry { contents: None }),
-            MemberDraft::Init(draft) => Contents::Init(Box::new(
-                alloc,
-                OperatorInit::finish(alloc, draft)?,
+            MemberDraft::Init(draft) => Contents::Init(OperatorInit::finish(alloc, draft)?),
+            MemberDraft::GrantFlat(draft) => Contents::GrantFlat(OperatorGrantFlat::finish(
+                alloc, draft,
             )?),
-            MemberDraft::GrantFlat(draft) => Contents::GrantFlat(Box::new(
-                alloc,
-                OperatorGrantFlat::finish(alloc, draft)?,
+            MemberDraft::RevokeFlat(draft) => Contents::RevokeFlat(OperatorRevokeFlat::finish(
+                alloc, draft,
             )?),
-            MemberDraft::RevokeFlat(draft) => Contents::RevokeFlat(Box::new(
-                alloc,
-                OperatorRevokeFlat::finish(alloc, draft)?,
+            MemberDraft::Fourth(draft) => Contents::DefineNamespace(OperatorDefineNamespace::finish(
+                alloc, draft,
             )?),
-            MemberDraft::Fourth(draft) => Contents::DefineNamespace(Box::new(
-                alloc,
-                OperatorDefineNamespace::finish(alloc, draft)?,
-            )?),
-            MemberDraft::Fifth(draft) => Contents::ImportNamespace(Box::new(
-                alloc,
-                OperatorImportNamespace::finish(alloc, draft)?,
+            MemberDraft::Fifth(draft) => Contents::ImportNamespace(OperatorImportNamespace::finish(
+                alloc, draft,
             )?),
         };
         Ok(OperatorEntry {

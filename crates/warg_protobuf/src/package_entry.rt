@@ -17,19 +17,19 @@ use crate::shape::{OneText, TwoTexts};
 use crate::yank::PackageYank;
 use std::alloc::{AllocError, Global};
 
-/// The members of the oneof, each in a box, so that a list of entries stays small.
+/// The members of the oneof.
 #[derive(Debug, Drop, PartialEq, Eq)]
 pub enum Contents {
     /// Field 1.
-    Init(Box<PackageInit>),
+    Init(PackageInit),
     /// Field 2.
-    GrantFlat(Box<PackageGrantFlat>),
+    GrantFlat(PackageGrantFlat),
     /// Field 3.
-    RevokeFlat(Box<PackageRevokeFlat>),
+    RevokeFlat(PackageRevokeFlat),
     /// Field 4.
-    Release(Box<PackageRelease>),
+    Release(PackageRelease),
     /// Field 5.
-    Yank(Box<PackageYank>),
+    Yank(PackageYank),
 }
 
 /// An entry of a package record; without a member it has no contents.
@@ -50,26 +50,15 @@ impl PackageEntry {
     {
         let contents = match draft.member {
             MemberDraft::Absent => return Ok(PackageEntry { contents: None }),
-            MemberDraft::Init(draft) => Contents::Init(Box::new(
-                alloc,
-                PackageInit::finish(alloc, draft)?,
+            MemberDraft::Init(draft) => Contents::Init(PackageInit::finish(alloc, draft)?),
+            MemberDraft::GrantFlat(draft) => Contents::GrantFlat(PackageGrantFlat::finish(
+                alloc, draft,
             )?),
-            MemberDraft::GrantFlat(draft) => Contents::GrantFlat(Box::new(
-                alloc,
-                PackageGrantFlat::finish(alloc, draft)?,
+            MemberDraft::RevokeFlat(draft) => Contents::RevokeFlat(PackageRevokeFlat::finish(
+                alloc, draft,
             )?),
-            MemberDraft::RevokeFlat(draft) => Contents::RevokeFlat(Box::new(
-                alloc,
-                PackageRevokeFlat::finish(alloc, draft)?,
-            )?),
-            MemberDraft::Fourth(draft) => Contents::Release(Box::new(
-                alloc,
-                PackageRelease::finish(alloc, draft)?,
-            )?),
-            MemberDraft::Fifth(draft) => Contents::Yank(Box::new(
-                alloc,
-                PackageYank::finish(alloc, draft)?,
-            )?),
+            MemberDraft::Fourth(draft) => Contents::Release(PackageRelease::finish(alloc, draft)?),
+            MemberDraft::Fifth(draft) => Contents::Yank(PackageYank::finish(alloc, draft)?),
         };
         Ok(PackageEntry {
             contents: Some(contents),

@@ -1,10 +1,14 @@
 //! Records of both kinds of log.
 
-ghost use Rattle.std.specs.Prelude.{◌≡◌, ◌++◌, map, OnOk, IfOk, string_bytes};
-ghost use Rattle.warg_protobuf.specs.Drafts.{timestamp_kept, time_grown, RecordKept, record_kept, no_record, record_with, time_made, record_made};
-ghost use Rattle.warg_protobuf.specs.Record.{RecordValue, record_table, record_value, record_view, record_from, record_fields, IsRecordOf, IsSoundRecord};
+ghost use Rattle.std.specs.Prelude.{◌≡◌, ◌++◌, List, [], map, Result, Ok, OnOk, IfOk, string_bytes};
+ghost use Rattle.warg_protobuf.specs.declared.error.WireError.{WireError};
+ghost use Rattle.warg_protobuf.specs.Drafts.{timestamp_kept, time_grown, RecordKept, record_kept, no_record, record_with, time_made, record_made, with_last};
+ghost use Rattle.warg_protobuf.specs.Field.{Field};
+ghost use Rattle.warg_protobuf.specs.Meaning.{GivesValues};
+ghost use Rattle.warg_protobuf.specs.Record.{RecordValue, record_table, record_value, record_view, record_from, record_fields, taken_of, gathered_of, IsRecordOf, IsSoundRecord};
 ghost use Rattle.warg_protobuf.specs.Timestamp.{timestamp_view};
-ghost use Rattle.warg_protobuf.specs.Table.{takes};
+ghost use Rattle.warg_protobuf.specs.Table.{Table, takes};
+ghost use Rattle.warg_protobuf.specs.Values.{message_of};
 ghost use Rattle.warg_protobuf.specs.Views.{option_view, ReturnsOrNoMemory};
 ghost use Rattle.warg_protobuf.specs.Writing.{bytes_of};
 
@@ -20,9 +24,9 @@ use crate::timestamp::{TimestampDraft, TimestampPair};
 use crate::writing::{push_number, push_optional_text};
 use std::alloc::{AllocError, Global};
 
-/// A record of a log: what an envelope's contents say.
+/// A record of a log: what an envelope's contents say. `L` is where its entries are: a list, or another sink.
 #[derive(Debug, Drop, PartialEq, Eq)]
-pub struct Record<E> {
+pub struct Record<L> {
     /// Field 1: the text of the id of the record before.
     pub prev: Option<String>,
     /// Field 2: the protocol's version.
@@ -30,26 +34,91 @@ pub struct Record<E> {
     /// Field 3.
     pub time: Option<TimestampPair>,
     /// Field 4, in order.
-    pub entries: Vec<E>,
+    pub entries: L,
 }
 
 /// A record of a package log.
-pub type PackageRecord = Record<PackageEntry>;
+pub type PackageRecord = Record<Vec<PackageEntry>>;
 
 /// A record of an operator log.
-pub type OperatorRecord = Record<OperatorEntry>;
+pub type OperatorRecord = Record<Vec<OperatorEntry>>;
+
+/// Where a record's entries go while the record is read: a list of their messages, or what makes something of each
+/// at once, so that no list of messages is kept.
+pub trait EntrySink: Drop {
+    /// The fields of an entry.
+    ghost table: { Table };
+
+    /// An entry as plain data.
+    ghost Entry: { Type 0 };
+
+    /// What the fields of an entry say, computed.
+    ghost entry_from: { List Field → Result Entry WireError };
+
+    /// What the sink holds, as plain data.
+    ghost Held: { Type 0 };
+
+    ghost held: { Self → Held };
+
+    /// What it holds of no entries.
+    ghost nothing: { Held };
+
+    /// What it holds once this entry came, by what it held before.
+    ghost with_entry: { Held → Entry → Held };
+
+    fn new(alloc: Global) -> Self
+        ensures { held result ≡ nothing };
+
+    /// Takes the next entry, all of the bytes.
+    fn take(&mut self, alloc: Global, bytes: &[u8]) -> Result<(), WireError>
+        ensures { ReturnsOrNoMemory (λ _. held self.new) result
+            (taken_of with_entry (held self.old) (message_of table entry_from bytes.now)) };
+
+    /// Fields that fit say an entry. This has no effect.
+    fn laws()
+        ensures { GivesValues table entry_from };
+}
+
+impl<E: Codec> EntrySink for Vec<E> {
+    ghost table = { E.table };
+
+    ghost Entry = { E.View };
+
+    ghost entry_from = { E.value };
+
+    ghost Held = { List E.View };
+
+    ghost held = { λ v. map E.view v.items };
+
+    ghost nothing = { [] };
+
+    ghost with_entry = { with_last };
+
+    fn new(alloc: Global) -> Vec<E> {
+        Vec::new(alloc)
+    }
+
+    fn take(&mut self, alloc: Global, bytes: &[u8]) -> Result<(), WireError> {
+        self.push(E::read(alloc, bytes)?)?;
+        Ok(())
+    }
+
+    fn laws() {
+        E::laws();
+    }
+}
 
 /// A record that is read: its entries are whole, the rest is where it stands in the bytes.
 #[derive(Drop)]
-struct RecordDraft<'a, E> {
+struct RecordDraft<'a, S> {
     alloc: Global,
     prev: Option<&'a str>,
     version: u64,
     time: Option<TimestampDraft>,
-    entries: Vec<E>,
+    entries: S,
 }
 
-impl<'a, E: Codec> RecordDraft<'a, E> {
+impl<'a, S: EntrySink> RecordDraft<'a, S> {
     fn grow_time(&mut self, bytes: &'a [u8]) -> Result<(), WireError>
         ensures given { ReturnsOrNoMemory (λ _. option_view timestamp_kept self.new.time) result
             (time_grown (option_view timestamp_kept self.old.time) bytes.now) }
@@ -66,16 +135,16 @@ impl<'a, E: Codec> RecordDraft<'a, E> {
     }
 }
 
-impl<'a, E: Codec> Draft<'a> for RecordDraft<'a, E> {
-    ghost table = { record_table E.table };
+impl<'a, S: EntrySink> Draft<'a> for RecordDraft<'a, S> {
+    ghost table = { record_table S.table };
 
-    ghost Kept = { RecordKept E.View };
+    ghost Kept = { RecordKept S.Held };
 
-    ghost kept = { record_kept E.view };
+    ghost kept = { record_kept S.held };
 
-    ghost empty = { no_record };
+    ghost empty = { no_record S.nothing };
 
-    ghost with_field = { record_with E.table E.value };
+    ghost with_field = { record_with S.with_entry S.table S.entry_from };
 
     ghost TakesMemory = { Unit {0} };
 
@@ -85,12 +154,12 @@ impl<'a, E: Codec> Draft<'a> for RecordDraft<'a, E> {
             prev: None,
             version: 0,
             time: None,
-            entries: Vec::new(alloc),
+            entries: S::new(alloc),
         }
     }
 
     fn takes(number: u32, wire_type: u32) -> bool
-        ensures { result ≡ takes (record_table E.table) number wire_type }
+        ensures { result ≡ takes (record_table S.table) number wire_type }
     {
         match number {
             1 | 3 | 4 => wire_type == 2,
@@ -101,24 +170,32 @@ impl<'a, E: Codec> Draft<'a> for RecordDraft<'a, E> {
 
     #[tactic(auto, unfolding(crate::specs::Reading::payload_fault))]
     fn grow(&mut self, field: RawField<'a>) -> Result<(), WireError> {
-        E::laws();
+        S::laws();
         match field.payload {
             RawPayload::Number(value) if field.number == 2 => self.version = value,
             RawPayload::Bytes(bytes) if field.number == 1 => self.prev = Some(read_text(bytes)?),
             RawPayload::Bytes(bytes) if field.number == 3 => self.grow_time(bytes)?,
-            RawPayload::Bytes(bytes) if field.number == 4 => self
-                .entries
-                .push(E::read(self.alloc, bytes)?)?,
+            RawPayload::Bytes(bytes) if field.number == 4 => self.entries.take(self.alloc, bytes)?,
             _ => {}
         }
         Ok(())
     }
 }
 
-impl<E: Codec> Record<E> {
+impl<S: EntrySink> Record<S> {
+    /// Reads a record, all of the bytes, in one pass; each entry goes into the sink as it is read.
+    pub fn gather(alloc: Global, bytes: &[u8]) -> Result<Record<S>, WireError>
+        ensures { ReturnsOrNoMemory (record_view S.held) result (gathered_of S.with_entry S.nothing
+            (message_of (record_table S.table) (record_from S.table S.entry_from) bytes.now)) }
+    {
+        S::laws();
+        let draft = read_draft::<RecordDraft<'_, S>>(alloc, bytes)?;
+        Ok(Record::finish(alloc, draft)?)
+    }
+
     /// The message of what is kept.
-    fn finish(alloc: Global, draft: RecordDraft<'_, E>) -> Result<Record<E>, AllocError>
-        ensures { IfOk result (λ v. record_view E.view v ≡ record_made (record_kept E.view draft.entry)) }
+    fn finish(alloc: Global, draft: RecordDraft<'_, S>) -> Result<Record<S>, AllocError>
+        ensures { IfOk result (λ v. record_view S.held v ≡ record_made (record_kept S.held draft.entry)) }
     {
         Ok(Record {
             prev: own_text(alloc, draft.prev)?,
@@ -145,21 +222,19 @@ fn finish_time(time: Option<TimestampDraft>) -> Option<TimestampPair>
     Some(time.finish())
 }
 
-impl<E: Codec> Codec for Record<E> {
+impl<E: Codec> Codec for Record<Vec<E>> {
     ghost table = { record_table E.table };
 
-    ghost View = { RecordValue E.View };
+    ghost View = { RecordValue (List E.View) };
 
-    ghost view = { record_view E.view };
+    ghost view = { record_view (λ es. map E.view es.items) };
 
     ghost Says = { IsRecordOf E.table E.Says };
 
     ghost value = { record_from E.table E.value };
 
-    fn read(alloc: Global, bytes: &[u8]) -> Result<Record<E>, WireError> {
-        E::laws();
-        let draft = read_draft::<RecordDraft<'_, E>>(alloc, bytes)?;
-        Ok(Record::finish(alloc, draft)?)
+    fn read(alloc: Global, bytes: &[u8]) -> Result<Record<Vec<E>>, WireError> {
+        Record::<Vec<E>>::gather(alloc, bytes)
     }
 
     ghost written = { record_fields (λ v. bytes_of (E.written v)) };

@@ -1,7 +1,7 @@
 //! Entries: the oneof's final run, and lists of entries.
 
 use crate::message::{goes_both_ways, reads_as};
-use crate::values::{boxed, grant, numbers, record_at, text};
+use crate::values::{grant, numbers, record_at, text};
 use std::alloc::Global;
 use std::process::Abort;
 use warg_protobuf::{
@@ -16,14 +16,14 @@ fn init(rt: &impl Abort, alloc: Global, key: &str, hash_algorithm: &str) -> Pack
         hash_algorithm: text(rt, alloc, hash_algorithm),
     };
     PackageEntry {
-        contents: Some(package_entry::Contents::Init(boxed(rt, alloc, init))),
+        contents: Some(package_entry::Contents::Init(init)),
     }
 }
 
 fn grant_entry(rt: &impl Abort, alloc: Global) -> PackageEntry {
     let grant = grant(rt, alloc, &[1, 2]);
     PackageEntry {
-        contents: Some(package_entry::Contents::GrantFlat(boxed(rt, alloc, grant))),
+        contents: Some(package_entry::Contents::GrantFlat(grant)),
     }
 }
 
@@ -33,7 +33,7 @@ fn revoke_entry(rt: &impl Abort, alloc: Global) -> PackageEntry {
         permissions: numbers(rt, alloc, &[]),
     };
     PackageEntry {
-        contents: Some(package_entry::Contents::RevokeFlat(boxed(rt, alloc, revoke))),
+        contents: Some(package_entry::Contents::RevokeFlat(revoke)),
     }
 }
 
@@ -43,7 +43,7 @@ fn release_entry(rt: &impl Abort, alloc: Global) -> PackageEntry {
         content_hash: text(rt, alloc, "c"),
     };
     PackageEntry {
-        contents: Some(package_entry::Contents::Release(boxed(rt, alloc, release))),
+        contents: Some(package_entry::Contents::Release(release)),
     }
 }
 
@@ -52,7 +52,7 @@ fn yank_entry(rt: &impl Abort, alloc: Global, version: &str) -> PackageEntry {
         version: text(rt, alloc, version),
     };
     PackageEntry {
-        contents: Some(package_entry::Contents::Yank(boxed(rt, alloc, yank))),
+        contents: Some(package_entry::Contents::Yank(yank)),
     }
 }
 
@@ -138,7 +138,7 @@ fn operator_init(rt: &impl Abort, alloc: Global) -> OperatorEntry {
         hash_algorithm: text(rt, alloc, "h"),
     };
     OperatorEntry {
-        contents: Some(operator_entry::Contents::Init(boxed(rt, alloc, init))),
+        contents: Some(operator_entry::Contents::Init(init)),
     }
 }
 
@@ -148,7 +148,7 @@ fn operator_grant(rt: &impl Abort, alloc: Global) -> OperatorEntry {
         permissions: numbers(rt, alloc, &[1, 2]),
     };
     OperatorEntry {
-        contents: Some(operator_entry::Contents::GrantFlat(boxed(rt, alloc, grant))),
+        contents: Some(operator_entry::Contents::GrantFlat(grant)),
     }
 }
 
@@ -158,7 +158,7 @@ fn operator_revoke(rt: &impl Abort, alloc: Global) -> OperatorEntry {
         permissions: numbers(rt, alloc, &[]),
     };
     OperatorEntry {
-        contents: Some(operator_entry::Contents::RevokeFlat(boxed(rt, alloc, revoke))),
+        contents: Some(operator_entry::Contents::RevokeFlat(revoke)),
     }
 }
 
@@ -167,7 +167,7 @@ fn define(rt: &impl Abort, alloc: Global) -> OperatorEntry {
         namespace: text(rt, alloc, "n"),
     };
     OperatorEntry {
-        contents: Some(operator_entry::Contents::DefineNamespace(boxed(rt, alloc, define))),
+        contents: Some(operator_entry::Contents::DefineNamespace(define)),
     }
 }
 
@@ -177,7 +177,7 @@ fn import(rt: &impl Abort, alloc: Global) -> OperatorEntry {
         registry: text(rt, alloc, "r"),
     };
     OperatorEntry {
-        contents: Some(operator_entry::Contents::ImportNamespace(boxed(rt, alloc, import))),
+        contents: Some(operator_entry::Contents::ImportNamespace(import)),
     }
 }
 

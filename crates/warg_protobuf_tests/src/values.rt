@@ -12,11 +12,6 @@ pub fn numbers(rt: &impl Abort, alloc: Global, numbers: &[i32]) -> Vec<i32> {
     Vec::from_slice(alloc, numbers).expect(rt, "memory")
 }
 
-pub fn boxed<T: Drop>(rt: &impl Abort, alloc: Global, value: T) -> Box<T> {
-    let made = Box::new(alloc, value).ok();
-    made.expect(rt, "memory")
-}
-
 /// An envelope of contents alone.
 pub fn contents(rt: &impl Abort, alloc: Global, contents: &[u8]) -> Envelope {
     Envelope {

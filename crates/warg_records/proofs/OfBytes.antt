@@ -131,14 +131,14 @@ operator_entry_within (Some (operator_member.DefineNamespace m)) = tt
 operator_entry_within (Some (operator_member.ImportNamespace m)) = tt
 
 module _ {E P O : Type 0} (entry_of : E → Result (EntryData P O) RecordFault) (entry_within : (x : E) → IfErr (entry_of x) IsOfContent) where
-  record_within : (m : RecordValue E) → IfErr (record_of entry_of m) IsOfContent
+  record_within : (m : RecordValue (List E)) → IfErr (record_of entry_of m) IsOfContent
   record_within m =
       then_within IsOfContent (prev_of m.prev) _ (prev_within m.prev)
       (λ p. then_within IsOfContent (time_of m.time) _ (time_within m.time)
       (λ t. then_within IsOfContent (each entry_of m.entries) _ (each_within IsOfContent entry_of entry_within m.entries) (λ es. tt)))
 
-  module _ (table : Table) (IsMessage : List ℕ → RecordValue E → Type 0) (messages : List ℕ → Result (RecordValue E) WireError) (content : List ℕ) (computes : Computes table messages IsMessage content) (no_memory : HasFault table content error.OutOfMemory → ⊥) where
-    message_within : (m : Result (RecordValue E) WireError) → messages content ≡ m → IfErr (message_of m) IsOfContent
+  module _ (table : Table) (IsMessage : List ℕ → RecordValue (List E) → Type 0) (messages : List ℕ → Result (RecordValue (List E)) WireError) (content : List ℕ) (computes : Computes table messages IsMessage content) (no_memory : HasFault table content error.OutOfMemory → ⊥) where
+    message_within : (m : Result (RecordValue (List E)) WireError) → messages content ≡ m → IfErr (message_of m) IsOfContent
     message_within (Ok v) e = tt
     message_within (Err error.Truncated) e = tt
     message_within (Err error.VarintTooLong) e = tt

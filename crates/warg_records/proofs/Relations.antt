@@ -33,26 +33,26 @@ module _ {Y F : Type 0} where
   ok_same : (x y : Y) → an_ok x ≡ an_ok y → x ≡ y
   ok_same x y h = cc
 
-module _ {E P O : Type 0} (table : Table) (IsMessage : List ℕ → RecordValue E → Type 0) (entry_of : E → Result (EntryData P O) RecordFault) (messages : List ℕ → Result (RecordValue E) WireError) (computes : (b : List ℕ) → Computes table messages IsMessage b) (content : List ℕ) where
-  record_at : Result (RecordValue E) WireError → Result (RecordData P O) RecordFault
+module _ {E P O : Type 0} (table : Table) (IsMessage : List ℕ → RecordValue (List E) → Type 0) (entry_of : E → Result (EntryData P O) RecordFault) (messages : List ℕ → Result (RecordValue (List E)) WireError) (computes : (b : List ℕ) → Computes table messages IsMessage b) (content : List ℕ) where
+  record_at : Result (RecordValue (List E)) WireError → Result (RecordData P O) RecordFault
   record_at m = message_of m >>= record_of entry_of
 
-  value_at : (m : Result (RecordValue E) WireError) → messages content ≡ m → (s : RecordData P O) → (message_of m >>= record_of entry_of) ≡ Ok s → IsRecord table IsMessage entry_of content s
+  value_at : (m : Result (RecordValue (List E)) WireError) → messages content ≡ m → (s : RecordData P O) → (message_of m >>= record_of entry_of) ≡ Ok s → IsRecord table IsMessage entry_of content s
   value_at (Ok v) e s h = record { message = v; is = (computes content).value v e; says = h }
   value_at (Err w) e s h = ok_err s (Wire (wire_fault_of w)) (sym h)
 
-  fault_at : (m : Result (RecordValue E) WireError) → messages content ≡ m → (f : RecordFault) → (message_of m >>= record_of entry_of) ≡ Err f → HasRecordFault table IsMessage entry_of content f
+  fault_at : (m : Result (RecordValue (List E)) WireError) → messages content ≡ m → (f : RecordFault) → (message_of m >>= record_of entry_of) ≡ Err f → HasRecordFault table IsMessage entry_of content f
   fault_at (Ok v) e f h = of_record ((computes content).value v e) h
   fault_at (Err w) e f h = subst (HasRecordFault table IsMessage entry_of content) (err_same {Y = RecordData P O} (Wire (wire_fault_of w)) f h) (of_message ((computes content).fault w e))
 
   again_at : (f : RecordFault) → HasRecordFault table IsMessage entry_of content f → (message_of (messages content) >>= record_of entry_of) ≡ Err f
-  again_at f (of_message {e = w} h) = ap (λ (m : Result (RecordValue E) WireError). message_of m >>= record_of entry_of) ((computes content).fault_again w h)
-  again_at f (of_record {m = v} is says) = ap (λ (m : Result (RecordValue E) WireError). message_of m >>= record_of entry_of) ((computes content).value_again v is) ∙ says
+  again_at f (of_message {e = w} h) = ap (λ (m : Result (RecordValue (List E)) WireError). message_of m >>= record_of entry_of) ((computes content).fault_again w h)
+  again_at f (of_record {m = v} is says) = ap (λ (m : Result (RecordValue (List E)) WireError). message_of m >>= record_of entry_of) ((computes content).value_again v is) ∙ says
 
   pub reads_record : ReadsRecord table IsMessage entry_of (message_of (messages content) >>= record_of entry_of) content
   reads_record = record {
     value = λ s h. value_at (messages content) refl s h;
-    value_again = λ s r. ap (λ (m : Result (RecordValue E) WireError). message_of m >>= record_of entry_of) ((computes content).value_again r.message r.is) ∙ r.says;
+    value_again = λ s r. ap (λ (m : Result (RecordValue (List E)) WireError). message_of m >>= record_of entry_of) ((computes content).value_again r.message r.is) ∙ r.says;
     fault = λ f h. fault_at (messages content) refl f h;
     fault_again = again_at;
   }

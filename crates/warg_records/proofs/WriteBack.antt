@@ -87,9 +87,9 @@ operator_entry_back (Own (DefineNamespace n)) w = refl
 operator_entry_back (Own (ImportNamespace n r)) w = refl
 
 -- what is written as this message reads back as the record
-pub encoded_back : {E P O T X : Type 0} (table : Table) (IsMessage : List ℕ → RecordValue E → Type 0) (entry_of : E → Result (EntryData P O) RecordFault) (read : List ℕ → Result (RecordData P O) RecordFault)
+pub encoded_back : {E P O T X : Type 0} (table : Table) (IsMessage : List ℕ → RecordValue (List E) → Type 0) (entry_of : E → Result (EntryData P O) RecordFault) (read : List ℕ → Result (RecordData P O) RecordFault)
     → ((content : List ℕ) → ReadsRecord table IsMessage entry_of (read content) content)
-    → (s : RecordData P O) (m : RecordValue E) → record_of entry_of m ≡ Ok s
+    → (s : RecordData P O) (m : RecordValue (List E)) → record_of entry_of m ≡ Ok s
     → (items : T → List ℕ) (r : Result T X) → IfOk r (λ v. IsMessage (items v) m) → IfOk r (λ v. read (items v) ≡ Ok s)
 encoded_back table IsMessage entry_of read reads s m says items (Ok v) h = (reads (items v)).value_again s (record { message = m; is = h; says = says })
 encoded_back table IsMessage entry_of read reads s m says items (Err e) h = tt

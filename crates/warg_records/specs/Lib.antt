@@ -10,6 +10,7 @@ pub mod OperatorPermissions
 pub mod PackageEntries
 pub mod OperatorEntries
 pub mod Steps
+pub mod Entries
 pub mod FaultLaws
 pub mod PackageReading
 pub mod OperatorReading

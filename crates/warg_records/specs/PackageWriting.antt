@@ -24,7 +24,7 @@ package_entry_message (Own (Release version content)) = Some (member.Release (re
 package_entry_message (Own (Yank version)) = Some (member.Yank (record { version = parts_text version }))
 
 -- the message of a record
-abbrev pub package_record_message : RecordData Permission PackageOwnEntry → RecordValue (Option PackageMember)
+abbrev pub package_record_message : RecordData Permission PackageOwnEntry → RecordValue (List (Option PackageMember))
 package_record_message s = record_message package_entry_message s
 
 -- the content bytes that are written of a record

@@ -7,17 +7,17 @@ use Rattle.warg_records.specs.Faults.{RecordFault, Wire}
 use Rattle.warg_records.specs.RecordData.{EntryData, RecordData}
 use Rattle.warg_records.specs.Steps.{record_of, wire_fault_of}
 
-module _ {E P O : Type 0} (table : Table) (IsMessage : List ℕ → RecordValue E → Type 0) (entry_of : E → Result (EntryData P O) RecordFault) where
+module _ {E P O : Type 0} (table : Table) (IsMessage : List ℕ → RecordValue (List E) → Type 0) (entry_of : E → Result (EntryData P O) RecordFault) where
   -- the bytes are a message that says this record
   pub record IsRecord (content : List ℕ) (s : RecordData P O) : Type 0 where
-    pub message : RecordValue E
+    pub message : RecordValue (List E)
     pub is : IsMessage content message
     pub says : record_of entry_of message ≡ Ok s
 
   -- the first fault: the bytes', or else that of what their message says
   pub data HasRecordFault (content : List ℕ) : RecordFault → Type 0 where
     of_message : {e : WireError} → HasFault table content e → HasRecordFault content (Wire (wire_fault_of e))
-    of_record : {m : RecordValue E} {f : RecordFault} → IsMessage content m → record_of entry_of m ≡ Err f
+    of_record : {m : RecordValue (List E)} {f : RecordFault} → IsMessage content m → record_of entry_of m ≡ Err f
         → HasRecordFault content f
 
   -- what is computed of the bytes is the record that they are, or their first fault

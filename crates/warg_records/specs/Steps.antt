@@ -91,7 +91,7 @@ abbrev pub own : {P O : Type 0} → Result O RecordFault → Result (EntryData P
 own read = read >>= λ o. Ok (Own o)
 
 -- a record: its prev, its time, then its entries in order
-abbrev pub record_of : {E P O : Type 0} → (E → Result (EntryData P O) RecordFault) → RecordValue E
+abbrev pub record_of : {E P O : Type 0} → (E → Result (EntryData P O) RecordFault) → RecordValue (List E)
     → Result (RecordData P O) RecordFault
 record_of entry_of m = do
   prev ← prev_of m.prev

@@ -37,7 +37,7 @@ abbrev pub time_message : Time → TimestampValue
 time_message t = record { seconds = t.seconds; nanos = pos t.nanos }
 
 -- the message of a record, by the messages of its entries
-abbrev pub record_message : {E P O : Type 0} → (EntryData P O → E) → RecordData P O → RecordValue E
+abbrev pub record_message : {E P O : Type 0} → (EntryData P O → E) → RecordData P O → RecordValue (List E)
 record_message entry_message s = record {
   prev = option_map id_text s.prev;
   version = s.version;

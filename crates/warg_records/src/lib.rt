@@ -9,6 +9,7 @@ ghost use Rattle.warg_crypto.specs.declared.hash.AnyHash.{AnyHash};
 ghost use Rattle.warg_records.specs.Faults.{IsReading};
 ghost use Rattle.warg_records.specs.Mentions.{distinct};
 
+mod entries;
 pub mod laws;
 mod mention;
 pub mod operator;

@@ -1,10 +1,9 @@
 //! What both kinds of record share in reading from their messages.
 
-ghost use Rattle.std.specs.Prelude.{◌≡◌, map, string_bytes, Result};
-ghost use Rattle.warg_crypto.specs.declared.coding.DecodeError.{DecodeError};
+ghost use Rattle.std.specs.Prelude.{◌≡◌, string_bytes};
 ghost use Rattle.warg_protobuf.specs.Timestamp.{timestamp_view};
 ghost use Rattle.warg_protobuf.specs.Views.{option_view};
-ghost use Rattle.warg_records.specs.Faults.{RecordFault, fault_of, IsReading};
+ghost use Rattle.warg_records.specs.Faults.{fault_of, IsReading};
 ghost use Rattle.warg_records.specs.Steps.{each, prev_of, time_of, key_of, beginning_of, permission_in, wire_error_of};
 
 use crate::permission::NumberedPermission;
@@ -15,42 +14,6 @@ use warg_crypto::hash::{AnyHash, HashAlgorithm};
 use warg_crypto::signing::PublicKey;
 use warg_crypto::{DecodeError, Timestamp, WireFault};
 use warg_protobuf::{TimestampPair, WireError};
-
-/// A part of a record that is read from its message.
-pub(crate) trait FromMessage: Drop {
-    type Message: Drop;
-
-    // The message as plain data.
-    ghost Seen: { Type 0 };
-
-    ghost seen: { Self.Message → Seen };
-
-    // The part as plain data.
-    ghost Plain: { Type 0 };
-
-    ghost plain: { Self → Plain };
-
-    // What a message says, or its first fault.
-    ghost read: { Seen → Result Plain RecordFault };
-
-    fn from_message(alloc: Global, message: Self::Message) -> Result<Self, DecodeError>
-        ensures { IsReading plain fault_of (read (seen message)) result };
-}
-
-/// Reads all messages, in order, up to the first fault.
-pub(crate) fn read_each<T: FromMessage>(
-    alloc: Global,
-    messages: Vec<T::Message>,
-) -> Result<Vec<T>, DecodeError>
-    ensures { IsReading (λ v. map T.plain v.items) fault_of (each T.read (map T.seen messages.items)) result }
-{
-    let mut parts = Vec::new(alloc);
-    for message in messages {
-        let part = T::from_message(alloc, message)?;
-        parts.push(part)?;
-    }
-    Ok(parts)
-}
 
 /// The permission of a number.
 fn read_permission<P: NumberedPermission>(number: i32) -> Result<P, DecodeError>

@@ -135,6 +135,10 @@ fn first_faults_of_records(rt: HostRuntime) {
     is_neither(&rt, alloc, b"\x0a\x00\x0b", group);
     let algorithm = DecodeError::Prev(AnyHashError::MissingAlgorithm);
     is_neither(&rt, alloc, b"\x0a\x00", algorithm);
+
+    // What stands behind a bad entry.
+    is_neither(&rt, alloc, b"\x1a\x00\x22\x00\x0b", group);
+    is_neither(&rt, alloc, b"\x1a\x00\x22\x00\x0a\x00", algorithm);
     let length = DecodeError::Prev(AnyHashError::BadLength);
     is_neither(&rt, alloc, b"\x0a\x09sha256:00\x22\x00", length);
     is_neither(&rt, alloc, b"\x22\x00", DecodeError::MissingTime);

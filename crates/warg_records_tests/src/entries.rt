@@ -24,9 +24,8 @@ fn is_packed(rt: &impl Abort, alloc: Global, bytes: &[u8]) {
 fn granting(rt: &impl Abort, alloc: Global, bytes: &[u8]) -> message::PackageEntry {
     let mut grant = grant(rt, alloc, bytes);
     grant.key = string(rt, alloc, ALICE);
-    let boxed = Box::new(alloc, grant).expect(rt, "memory");
     message::PackageEntry {
-        contents: Some(message::package_entry::Contents::GrantFlat(boxed)),
+        contents: Some(message::package_entry::Contents::GrantFlat(grant)),
     }
 }
 

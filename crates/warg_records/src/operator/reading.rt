@@ -1,30 +1,31 @@
 //! Reading records of operator logs from their messages.
 
 ghost use Rattle.std.specs.Prelude.{◌≡◌, Option};
-ghost use Rattle.warg_protobuf.specs.OperatorEntry.{OperatorMember, operator_entry_view};
+ghost use Rattle.warg_protobuf.specs.OperatorEntry.{OperatorMember, operator_entry_view, operator_entry_table, operator_entry_from};
 ghost use Rattle.warg_protobuf.specs.OperatorRecord.{operator_record_view};
-ghost use Rattle.warg_protobuf.specs.OperatorRecord.{operator_record_of as operator_message_of};
 ghost use Rattle.warg_protobuf.specs.GrantFlat.{grant_flat_view};
 ghost use Rattle.warg_protobuf.specs.Init.{init_view};
 ghost use Rattle.warg_protobuf.specs.RevokeFlat.{revoke_flat_view};
+ghost use Rattle.warg_protobuf.specs.Record.{record_view};
+ghost use Rattle.warg_records.specs.Entries.{entries_held, record_in};
 ghost use Rattle.warg_records.specs.Faults.{fault_of, IsReading};
 ghost use Rattle.warg_records.specs.OperatorEntries.{OperatorOwnEntry, entry_data, record_data};
 ghost use Rattle.warg_records.specs.OperatorPermissions.{permission_of};
 ghost use Rattle.warg_records.specs.OperatorReading.{operator_entry_of, operator_record_of};
 ghost use Rattle.warg_records.specs.RecordData.{EntryData};
-ghost use Rattle.warg_records.specs.Steps.{grant_of, init_of, message_of, record_of, revoke_of, shared};
+ghost use Rattle.warg_records.specs.Steps.{grant_of, init_of, record_of, revoke_of, shared};
 ghost use Rattle.warg_records.specs.declared.operator.permission.Permission.{Permission};
 
+use crate::entries::{Entries, FromMessage, read_content, read_each};
 use crate::operator::{OperatorEntry, OperatorRecord, Permission};
-use crate::reading::{
-    FromMessage, read_each, read_init, read_key, read_permissions, read_prev, read_time, wire_error,
-};
+use crate::reading::{read_init, read_key, read_permissions, read_prev, read_time};
 use std::alloc::Global;
 use warg_crypto::DecodeError;
 use warg_crypto::signing::KeyID;
 use warg_protobuf as message;
+use warg_protobuf::laws::fields_give_values;
 use warg_protobuf::operator_entry::Contents;
-use warg_protobuf::{Message, OperatorGrantFlat, OperatorInit, OperatorRevokeFlat};
+use warg_protobuf::{Message, OperatorGrantFlat, OperatorInit, OperatorRevokeFlat, WireError};
 
 // A member of the entry's oneof.
 
@@ -71,6 +72,10 @@ impl FromMessage for OperatorEntry {
 
     ghost plain = { entry_data };
 
+    ghost table = { operator_entry_table };
+
+    ghost seen_from = { operator_entry_from };
+
     ghost read = { operator_entry_of };
 
     fn from_message(
@@ -81,23 +86,29 @@ impl FromMessage for OperatorEntry {
             return Err(DecodeError::EmptyEntry);
         };
         match contents {
-            Contents::Init(init) => read_init_entry(alloc, Box::into_inner(init)),
-            Contents::GrantFlat(grant) => read_grant(alloc, Box::into_inner(grant)),
-            Contents::RevokeFlat(revoke) => read_revoke(alloc, Box::into_inner(revoke)),
+            Contents::Init(init) => read_init_entry(alloc, init),
+            Contents::GrantFlat(grant) => read_grant(alloc, grant),
+            Contents::RevokeFlat(revoke) => read_revoke(alloc, revoke),
             Contents::DefineNamespace(define) => {
-                let define = Box::into_inner(define);
                 Ok(OperatorEntry::DefineNamespace {
                     namespace: define.namespace,
                 })
             }
             Contents::ImportNamespace(import) => {
-                let import = Box::into_inner(import);
                 Ok(OperatorEntry::ImportNamespace {
                     namespace: import.namespace,
                     registry: import.registry,
                 })
             }
         }
+    }
+
+    fn decode_message(alloc: Global, bytes: &[u8]) -> Result<message::OperatorEntry, WireError> {
+        message::OperatorEntry::decode(alloc, bytes)
+    }
+
+    fn laws() {
+        fields_give_values::<message::OperatorEntry>();
     }
 }
 
@@ -121,25 +132,29 @@ impl OperatorRecord {
     ) -> Result<OperatorRecord, DecodeError>
         ensures { IsReading record_data fault_of (record_of operator_entry_of (operator_record_view message)) result }
     {
-        let prev = read_prev(message.prev)?;
-        let timestamp = read_time(message.time)?;
-        let entries = read_each::<OperatorEntry>(alloc, message.entries)?;
+        OperatorRecord::from_entries(message::Record {
+            prev: message.prev,
+            version: message.version,
+            time: message.time,
+            entries: read_each(alloc, message.entries)?,
+        })
+    }
+
+    // The record whose entries were read.
+    fn from_entries(
+        read: message::Record<Entries<OperatorEntry>>,
+    ) -> Result<OperatorRecord, DecodeError>
+        ensures { IsReading record_data fault_of (record_in (record_view (entries_held entry_data) read)) result }
+    {
+        let prev = read_prev(read.prev)?;
+        let timestamp = read_time(read.time)?;
+        let entries = read.entries.finish()?;
         Ok(OperatorRecord {
             prev,
-            version: message.version,
+            version: read.version,
             timestamp,
             entries,
         })
-    }
-}
-
-// The message that content bytes are.
-fn read_message(alloc: Global, content: &[u8]) -> Result<message::OperatorRecord, DecodeError>
-    ensures { IsReading operator_record_view fault_of (message_of (operator_message_of content.now)) result }
-{
-    match message::OperatorRecord::decode(alloc, content) {
-        Ok(message) => Ok(message),
-        Err(error) => Err(wire_error(error)),
     }
 }
 
@@ -148,6 +163,6 @@ fn read_message(alloc: Global, content: &[u8]) -> Result<message::OperatorRecord
 pub(crate) fn read_record(alloc: Global, content: &[u8]) -> Result<OperatorRecord, DecodeError>
     ensures { IsReading record_data fault_of (operator_record_of content.now) result }
 {
-    let message = read_message(alloc, content)?;
-    OperatorRecord::from_proto(alloc, message)
+    let read = read_content::<OperatorEntry>(alloc, content)?;
+    OperatorRecord::from_entries(read)
 }

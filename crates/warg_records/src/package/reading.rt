@@ -5,24 +5,24 @@ ghost use Rattle.semver.specs.Parse.{memory_error};
 ghost use Rattle.semver.specs.Identifiers.{parts_of};
 ghost use Rattle.warg_protobuf.specs.Release.{release_view};
 ghost use Rattle.warg_protobuf.specs.Yank.{yank_view};
-ghost use Rattle.warg_protobuf.specs.PackageEntry.{PackageMember, package_entry_view};
+ghost use Rattle.warg_protobuf.specs.PackageEntry.{PackageMember, package_entry_view, package_entry_table, package_entry_from};
 ghost use Rattle.warg_protobuf.specs.PackageRecord.{package_record_view};
-ghost use Rattle.warg_protobuf.specs.PackageRecord.{package_record_of as package_message_of};
 ghost use Rattle.warg_protobuf.specs.GrantFlat.{grant_flat_view};
 ghost use Rattle.warg_protobuf.specs.Init.{init_view};
 ghost use Rattle.warg_protobuf.specs.RevokeFlat.{revoke_flat_view};
+ghost use Rattle.warg_protobuf.specs.Record.{record_view};
+ghost use Rattle.warg_records.specs.Entries.{entries_held, record_in};
 ghost use Rattle.warg_records.specs.Faults.{fault_of, IsReading};
 ghost use Rattle.warg_records.specs.PackageEntries.{PackageOwnEntry, entry_data, record_data};
 ghost use Rattle.warg_records.specs.PackagePermissions.{permission_of};
 ghost use Rattle.warg_records.specs.PackageReading.{package_entry_of, package_record_of, release_of, version_of, yank_of};
 ghost use Rattle.warg_records.specs.RecordData.{EntryData};
-ghost use Rattle.warg_records.specs.Steps.{grant_of, init_of, message_of, record_of, revoke_of, shared, own};
+ghost use Rattle.warg_records.specs.Steps.{grant_of, init_of, record_of, revoke_of, shared, own};
 ghost use Rattle.warg_records.specs.declared.package.permission.Permission.{Permission};
 
+use crate::entries::{Entries, FromMessage, read_content, read_each};
 use crate::package::{PackageEntry, PackageRecord, Permission};
-use crate::reading::{
-    FromMessage, read_each, read_init, read_key, read_permissions, read_prev, read_time, wire_error,
-};
+use crate::reading::{read_init, read_key, read_permissions, read_prev, read_time};
 use semver::Version;
 use std::alloc::{AllocError, Global};
 use std::str::FromStr;
@@ -30,9 +30,11 @@ use warg_crypto::DecodeError;
 use warg_crypto::hash::AnyHash;
 use warg_crypto::signing::KeyID;
 use warg_protobuf as message;
+use warg_protobuf::laws::fields_give_values;
 use warg_protobuf::package_entry::Contents;
 use warg_protobuf::{
     Message, PackageGrantFlat, PackageInit, PackageRelease, PackageRevokeFlat, PackageYank,
+    WireError,
 };
 
 // A member of the entry's oneof.
@@ -117,6 +119,10 @@ impl FromMessage for PackageEntry {
 
     ghost plain = { entry_data };
 
+    ghost table = { package_entry_table };
+
+    ghost seen_from = { package_entry_from };
+
     ghost read = { package_entry_of };
 
     fn from_message(
@@ -127,12 +133,20 @@ impl FromMessage for PackageEntry {
             return Err(DecodeError::EmptyEntry);
         };
         match contents {
-            Contents::Init(init) => read_init_entry(alloc, Box::into_inner(init)),
-            Contents::GrantFlat(grant) => read_grant(alloc, Box::into_inner(grant)),
-            Contents::RevokeFlat(revoke) => read_revoke(alloc, Box::into_inner(revoke)),
-            Contents::Release(release) => read_release(alloc, Box::into_inner(release)),
-            Contents::Yank(yank) => read_yank(alloc, Box::into_inner(yank)),
+            Contents::Init(init) => read_init_entry(alloc, init),
+            Contents::GrantFlat(grant) => read_grant(alloc, grant),
+            Contents::RevokeFlat(revoke) => read_revoke(alloc, revoke),
+            Contents::Release(release) => read_release(alloc, release),
+            Contents::Yank(yank) => read_yank(alloc, yank),
         }
+    }
+
+    fn decode_message(alloc: Global, bytes: &[u8]) -> Result<message::PackageEntry, WireError> {
+        message::PackageEntry::decode(alloc, bytes)
+    }
+
+    fn laws() {
+        fields_give_values::<message::PackageEntry>();
     }
 }
 
@@ -156,25 +170,29 @@ impl PackageRecord {
     ) -> Result<PackageRecord, DecodeError>
         ensures { IsReading record_data fault_of (record_of package_entry_of (package_record_view message)) result }
     {
-        let prev = read_prev(message.prev)?;
-        let timestamp = read_time(message.time)?;
-        let entries = read_each::<PackageEntry>(alloc, message.entries)?;
+        PackageRecord::from_entries(message::Record {
+            prev: message.prev,
+            version: message.version,
+            time: message.time,
+            entries: read_each(alloc, message.entries)?,
+        })
+    }
+
+    // The record whose entries were read.
+    fn from_entries(
+        read: message::Record<Entries<PackageEntry>>,
+    ) -> Result<PackageRecord, DecodeError>
+        ensures { IsReading record_data fault_of (record_in (record_view (entries_held entry_data) read)) result }
+    {
+        let prev = read_prev(read.prev)?;
+        let timestamp = read_time(read.time)?;
+        let entries = read.entries.finish()?;
         Ok(PackageRecord {
             prev,
-            version: message.version,
+            version: read.version,
             timestamp,
             entries,
         })
-    }
-}
-
-// The message that content bytes are.
-fn read_message(alloc: Global, content: &[u8]) -> Result<message::PackageRecord, DecodeError>
-    ensures { IsReading package_record_view fault_of (message_of (package_message_of content.now)) result }
-{
-    match message::PackageRecord::decode(alloc, content) {
-        Ok(message) => Ok(message),
-        Err(error) => Err(wire_error(error)),
     }
 }
 
@@ -183,6 +201,6 @@ fn read_message(alloc: Global, content: &[u8]) -> Result<message::PackageRecord,
 pub(crate) fn read_record(alloc: Global, content: &[u8]) -> Result<PackageRecord, DecodeError>
     ensures { IsReading record_data fault_of (package_record_of content.now) result }
 {
-    let message = read_message(alloc, content)?;
-    PackageRecord::from_proto(alloc, message)
+    let read = read_content::<PackageEntry>(alloc, content)?;
+    PackageRecord::from_entries(read)
 }
