@@ -256,7 +256,7 @@ pub fn write_operator_entry(alloc: Global, message: &OperatorEntry) -> Result<Ve
 pub fn read_package_record(alloc: Global, bytes: &[u8]) -> Result<PackageRecord, WireError>
     ensures found { IfOk result (λ v. IsPackageRecord bytes.now (package_record_view v)) }
     ensures fault { IfErr result (λ e. e ≢ OutOfMemory → HasFault package_record_table bytes.now e) }
-    ensures only { (v : RecordValue (Option PackageMember)) → IsPackageRecord bytes.now v → ReturnsOrNoMemory package_record_view result (Ok v) }
+    ensures only { (v : RecordValue (List (Option PackageMember))) → IsPackageRecord bytes.now v → ReturnsOrNoMemory package_record_view result (Ok v) }
     ensures only_fault { (e : WireError) → HasFault package_record_table bytes.now e → ReturnsOrNoMemory package_record_view result (Err e) }
     ensures computed { ReturnsOrNoMemory package_record_view result (package_record_of bytes.now) }
 {
@@ -273,7 +273,7 @@ pub fn write_package_record(alloc: Global, message: &PackageRecord) -> Result<Ve
 pub fn read_operator_record(alloc: Global, bytes: &[u8]) -> Result<OperatorRecord, WireError>
     ensures found { IfOk result (λ v. IsOperatorRecord bytes.now (operator_record_view v)) }
     ensures fault { IfErr result (λ e. e ≢ OutOfMemory → HasFault operator_record_table bytes.now e) }
-    ensures only { (v : RecordValue (Option OperatorMember)) → IsOperatorRecord bytes.now v → ReturnsOrNoMemory operator_record_view result (Ok v) }
+    ensures only { (v : RecordValue (List (Option OperatorMember))) → IsOperatorRecord bytes.now v → ReturnsOrNoMemory operator_record_view result (Ok v) }
     ensures only_fault { (e : WireError) → HasFault operator_record_table bytes.now e → ReturnsOrNoMemory operator_record_view result (Err e) }
     ensures computed { ReturnsOrNoMemory operator_record_view result (operator_record_of bytes.now) }
 {
