@@ -1,4 +1,4 @@
--- What is kept of a message's fields while they are read. No public clause names any of this.
+-- What is kept of a message's fields while they are read. Of all this, public clauses name `with_last` alone.
 use Rattle.std.specs.Prelude.{ℕ, ℤ, ◌%◌, ◌^◌, map, List, [], ◌∷◌, ◌++◌, fold, Option, Some, None, Result, Ok, Err, ◌==◌, if◌then◌else◌}
 use Rattle.std.specs.Int.{w64, cast_signed}
 use Rattle.warg_protobuf.specs.declared.error.WireError.{WireError}
