@@ -7,7 +7,6 @@ pub mod RightsLemmas
 pub mod Steps
 pub mod HistoryLaws
 pub mod Coherence
-pub mod EqualLemmas
 pub mod SameStates
 pub mod RefusalLaws
 pub mod PossibleLaws

@@ -3,13 +3,12 @@ use Rattle.std.proofs.Common.{◌≡◌, ℕ, List, [], ◌∷◌, Bool, true, f
 use Rattle.std.specs.Str.{bytes_eq}
 use Rattle.std.specs.Option.{option_map, option_or}
 use Rattle.indexmap.specs.IndexMap.{IndexMap}
-use Rattle.indexmap.specs.IndexSet.{IndexSet}
 use Rattle.warg_crypto.specs.NamedBytes.{NamedBytes, fingerprint_of}
 use Rattle.warg_log.specs.Permissions.{lists}
 use Rattle.warg_log.specs.Rights.{layered, held_over, has_entry_over, first_missing}
 use Rattle.warg_records.specs.RecordData.{SharedEntry, Init, GrantFlat, RevokeFlat}
 use Rattle.warg_log.specs.SignedEntries.{after}
-use Rattle.warg_log.specs.Contents.{Contents, standing_over, maps_over, maps_contents}
+use Rattle.warg_log.specs.Contents.{Contents, standing_over, maps_contents}
 use Rattle.warg_log.specs.Offences.{Offence, PermissionNotFoundToRevoke}
 use Rattle.warg_log.proofs.SignedEntryLaws.{same_standing, latest-one, or-none}
 use Rattle.warg_log.proofs.ContentsLemmas.{stands-over}
@@ -25,10 +24,11 @@ and-true true = refl
 and-true false = refl
 
 -- what an act has done, where c is what stands beneath the changes
-module _ {P S Z X : Type 0} (same : P → P → Bool) (algorithm algorithm' : Option HashAlgorithm) (base old new : IndexMap (List ℕ) (IndexSet P S) Z) (base_keys old_keys new_keys : IndexMap (List ℕ) NamedBytes X)
+module _ {P Z X : Type 0} (same : P → P → Bool) (algorithm algorithm' : Option HashAlgorithm) (base old new : IndexMap (List ℕ) (List P) Z) (base_keys old_keys new_keys : IndexMap (List ℕ) NamedBytes X)
     (signer : List ℕ) (c d e : Contents P) (base_is : maps_contents algorithm base base_keys ≡ c) (old_is : maps_contents algorithm' old old_keys ≡ d) where
   from_maps : (named : Option HashAlgorithm) → maps_contents named new new_keys ≡ e → (act : SharedEntry P)
-      → maps_over same algorithm base base_keys named new new_keys ≡ after same (maps_over same algorithm base base_keys algorithm' old old_keys) (record { signer = signer; act = act } ∷ [])
+      → standing_over same (maps_contents algorithm base base_keys) (maps_contents named new new_keys)
+      ≡ after same (standing_over same (maps_contents algorithm base base_keys) (maps_contents algorithm' old old_keys)) (record { signer = signer; act = act } ∷ [])
       → standing_over same c e ≡ after same (standing_over same c d) (record { signer = signer; act = act } ∷ [])
   from_maps named new_is act step = sym (stands-over same algorithm named base new base_keys new_keys c e base_is new_is) ∙ step
       ∙ ap (λ s. after same s (record { signer = signer; act = act } ∷ [])) (stands-over same algorithm algorithm' base old base_keys old_keys c d base_is old_is)

@@ -1,31 +1,31 @@
--- What a map from key ids to sets of permissions says, as functions.
+-- What a map from key ids to the permissions of their keys says, as functions.
 use Rattle.std.specs.Prelude.{ℕ, List, Bool, false, Option, Some, None, is_some, [], ◌∷◌, ◌++◌, ◌&&◌, not, if◌then◌else◌}
 use Rattle.std.specs.Map.{lookup}
 use Rattle.std.specs.Option.{option_map_or, option_or}
 use Rattle.std.specs.Str.{bytes_eq}
 use Rattle.indexmap.specs.IndexMap.{IndexMap, get}
-use Rattle.indexmap.specs.IndexSet.{IndexSet, contains}
+use Rattle.std.specs.List.{list_any}
 use Rattle.warg_log.specs.Permissions.{lists}
 
 -- what stands at k where changes lie over a map: as they say, else as it stood
 abbrev pub layered : {X : Type 0} → List (List ℕ × X) → List (List ℕ × X) → List ℕ → Option X
 layered base changes k = option_or (lookup (bytes_eq k) changes) (lookup (bytes_eq k) base)
 
-module _ {P S Z : Type 0} where
+module _ {P Z : Type 0} where
   -- whether the map gives k the permission p
-  abbrev pub holds_in : (P → P → Bool) → IndexMap (List ℕ) (IndexSet P S) Z → List ℕ → P → Bool
-  holds_in same m k p = option_map_or (λ s. contains same s p) (get bytes_eq m k) false
+  abbrev pub holds_in : (P → P → Bool) → IndexMap (List ℕ) (List P) Z → List ℕ → P → Bool
+  holds_in same m k p = option_map_or (λ ps. list_any (same p) ps) (get bytes_eq m k) false
 
   -- whether the map has an entry for k
-  abbrev pub has_entry_in : IndexMap (List ℕ) (IndexSet P S) Z → List ℕ → Bool
+  abbrev pub has_entry_in : IndexMap (List ℕ) (List P) Z → List ℕ → Bool
   has_entry_in m k = is_some (get bytes_eq m k)
 
   -- the same where the changes lie over the map
-  abbrev pub held_over : (P → P → Bool) → IndexMap (List ℕ) (IndexSet P S) Z → IndexMap (List ℕ) (IndexSet P S) Z
+  abbrev pub held_over : (P → P → Bool) → IndexMap (List ℕ) (List P) Z → IndexMap (List ℕ) (List P) Z
       → List ℕ → P → Bool
-  held_over same m changes k p = option_map_or (λ s. contains same s p) (layered m.entries changes.entries k) false
+  held_over same m changes k p = option_map_or (λ ps. list_any (same p) ps) (layered m.entries changes.entries k) false
 
-  abbrev pub has_entry_over : IndexMap (List ℕ) (IndexSet P S) Z → IndexMap (List ℕ) (IndexSet P S) Z → List ℕ → Bool
+  abbrev pub has_entry_over : IndexMap (List ℕ) (List P) Z → IndexMap (List ℕ) (List P) Z → List ℕ → Bool
   has_entry_over m changes k = is_some (layered m.entries changes.entries k)
 
 -- the first of the permissions that is not held, or that is listed earlier

@@ -1,5 +1,5 @@
 //! Who may do what in a log, and whose key is which.
-ghost use Rattle.std.specs.Prelude.{◌≡◌, ℕ, List, OnOk, OnErr, IfOk, IfSome, is_some, map};
+ghost use Rattle.std.specs.Prelude.{◌≡◌, ℕ, List, OnOk, OnErr, IfOk, IfSome, is_some};
 ghost use Rattle.std.specs.Cmp.{partial_equiv_from_equiv};
 ghost use Rattle.std.specs.Option.{option_copied, option_eq};
 ghost use Rattle.indexmap.specs.IndexSet.{contains};
@@ -14,6 +14,7 @@ mod saved;
 use crate::log_kind::LogKind;
 use crate::maps::{lay_over, make_room};
 use crate::permission::LogPermission;
+use crate::permission_set::{PermissionSet, keep};
 use crate::rights;
 use indexmap::{IndexMap, IndexSet};
 use std::alloc::{AllocError, Global};
@@ -27,8 +28,10 @@ use warg_crypto::signing::{KeyID, PublicKey};
 pub struct Authority<P: LogPermission> {
     pub(crate) alloc: Global,
     pub(crate) algorithm: Option<HashAlgorithm>,
-    pub(crate) permissions: IndexMap<KeyID, IndexSet<P>>,
+    pub(crate) permissions: IndexMap<KeyID, PermissionSet<P>>,
     pub(crate) keys: IndexMap<KeyID, PublicKey>,
+    /// The sets that are shared.
+    pub(crate) sets: Vec<PermissionSet<P>>,
 }
 
 impl<P: LogPermission> Model for Authority<P> {
@@ -50,6 +53,7 @@ impl<P: LogPermission> Authority<P> {
             algorithm: None,
             permissions: IndexMap::new(alloc),
             keys: IndexMap::new(alloc),
+            sets: Vec::new(alloc),
         }
     }
 
@@ -73,7 +77,7 @@ impl<P: LogPermission> Authority<P> {
         ensures holds { IfSome result (λ set. (p : P) →
             contains P.eq set.now p ≡ (standing P.eq self.now).holds key_id.now p) }
     {
-        self.permissions.get(key_id)
+        Some(self.permissions.get(key_id)?.as_set())
     }
 
     /// Makes the changes here, and the kind's beside, or none.
@@ -92,6 +96,7 @@ impl<P: LogPermission> Authority<P> {
             algorithm,
             mut permissions,
             mut keys,
+            sets,
             ..
         } = changes;
         make_room(&mut self.permissions, &mut permissions)?;
@@ -99,6 +104,7 @@ impl<P: LogPermission> Authority<P> {
         matter.commit(change)?;
         lay_over(&mut self.permissions, permissions);
         lay_over(&mut self.keys, keys);
+        keep(&mut self.sets, sets);
         self.algorithm = algorithm.or(self.algorithm);
         Ok(())
     }
@@ -112,6 +118,7 @@ impl<P: LogPermission> Authority<P> {
             algorithm: self.algorithm,
             permissions: self.permissions.clone()?,
             keys: self.keys.clone()?,
+            sets: self.sets.clone()?,
         })
     }
 }
@@ -151,11 +158,10 @@ fn same_algorithms(a: &Option<HashAlgorithm>, b: &Option<HashAlgorithm>) -> bool
 
 /// Whether the two have the same entries, with the same permissions.
 fn same_rights<P: LogPermission>(
-    a: &IndexMap<KeyID, IndexSet<P>>,
-    b: &IndexMap<KeyID, IndexSet<P>>,
+    a: &IndexMap<KeyID, PermissionSet<P>>,
+    b: &IndexMap<KeyID, PermissionSet<P>>,
 ) -> bool
-    ensures { result ≡ same_maps (same_sets P.eq) (map (λ e. (e.0, e.1.keys)) a.now.entries)
-        (map (λ e. (e.0, e.1.keys)) b.now.entries) }
+    ensures { result ≡ same_maps (same_sets P.eq) a.now.entries b.now.entries }
 {
     *a == *b
 }

@@ -2,7 +2,7 @@
 //! make laid over it; what they change is noted among these changes.
 ghost use Rattle.std.specs.Prelude.{◌≡◌, [], ◌∷◌, true, false, OnOk, is_some};
 ghost use Rattle.std.specs.Option.{option_copied, option_map_or};
-ghost use Rattle.indexmap.specs.IndexSet.{contains};
+ghost use Rattle.std.specs.List.{list_any};
 ghost use Rattle.warg_crypto.specs.NamedBytes.{fingerprint_of};
 ghost use Rattle.warg_log.specs.Permissions.{lists};
 ghost use Rattle.warg_records.specs.RecordData.{Init, GrantFlat, RevokeFlat};
@@ -13,9 +13,9 @@ ghost use Rattle.warg_log.specs.Offences.{offence_of, unauthorized, lacks, lacks
 
 use crate::authority::Authority;
 use crate::permission::LogPermission;
+use crate::permission_set::{PermissionSet, know};
 use crate::refusal::Refusal;
 use crate::rights;
-use indexmap::IndexSet;
 use warg_crypto::hash::HashAlgorithm;
 use warg_crypto::signing::{KeyID, PublicKey};
 
@@ -32,8 +32,8 @@ impl<P: LogPermission> Authority<P> {
         &'a self,
         changes: &'a Authority<P>,
         key_id: &KeyID,
-    ) -> Option<&'a IndexSet<P>>
-        ensures { (p : P) → option_map_or (λ s. contains P.eq s p) (option_copied result) false
+    ) -> Option<&'a PermissionSet<P>>
+        ensures { (p : P) → option_map_or (λ ps. list_any (P.eq p) ps) (option_copied result) false
             ≡ (standing_over P.eq self.now changes.now).holds key_id.now p }
     {
         rights::look(&self.permissions, &changes.permissions, key_id)
@@ -149,8 +149,17 @@ impl<P: LogPermission> Authority<P> {
             });
         }
         changes.algorithm = Some(hash_algorithm);
+        know(&mut changes.sets, &self.sets)?;
+        let sets = &mut changes.sets;
         let given = &mut changes.permissions;
-        rights::give(self.alloc, &self.permissions, given, signer.clone()?, all)?;
+        rights::give(
+            self.alloc,
+            sets,
+            &self.permissions,
+            given,
+            signer.clone()?,
+            all,
+        )?;
         rights::put(&mut changes.keys, key_id, key.clone()?)?;
         Ok(())
     }
@@ -192,8 +201,17 @@ impl<P: LogPermission> Authority<P> {
         self.check_permissions(changes, signer, permissions)?;
         let key_id = key.fingerprint(self.alloc)?;
         rights::put(&mut changes.keys, key_id.clone()?, key.clone()?)?;
+        know(&mut changes.sets, &self.sets)?;
+        let sets = &mut changes.sets;
         let given = &mut changes.permissions;
-        rights::give(self.alloc, &self.permissions, given, key_id, permissions)?;
+        rights::give(
+            self.alloc,
+            sets,
+            &self.permissions,
+            given,
+            key_id,
+            permissions,
+        )?;
         Ok(())
     }
 
@@ -213,7 +231,10 @@ impl<P: LogPermission> Authority<P> {
     {
         self.check_begun(changes)?;
         self.check_permissions(changes, signer, permissions)?;
+        know(&mut changes.sets, &self.sets)?;
         let missing = rights::take_all(
+            self.alloc,
+            &mut changes.sets,
             &self.permissions,
             &mut changes.permissions,
             key_id,

@@ -13,6 +13,7 @@ mod log;
 mod log_kind;
 mod maps;
 mod permission;
+mod permission_set;
 mod refusal;
 mod rights;
 
@@ -21,4 +22,5 @@ pub use log::Log;
 pub use log_kind::{LogKind, Parts, Step};
 pub use maps::put_all;
 pub use permission::LogPermission;
+pub use permission_set::PermissionSet;
 pub use refusal::Refusal;

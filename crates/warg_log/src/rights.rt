@@ -1,5 +1,6 @@
 //! The permissions of each key, with changes laid over them.
 ghost use Rattle.std.specs.Prelude.{◌≡◌, List, ℕ, ◌&&◌, ◌||◌, true, false, Some, if◌then◌else◌, OnOk, IfOk, IfNone, []};
+ghost use Rattle.std.specs.List.{list_any};
 ghost use Rattle.std.specs.Option.{option_copied, option_map_or};
 ghost use Rattle.std.specs.Str.{bytes_eq};
 ghost use Rattle.indexmap.specs.IndexSet.{contains};
@@ -7,23 +8,24 @@ ghost use Rattle.warg_log.specs.Permissions.{lists};
 ghost use Rattle.warg_log.specs.Rights.{holds_in, layered, held_over, has_entry_over, first_missing};
 
 use crate::permission::LogPermission;
+use crate::permission_set::{PermissionSet, share};
 use indexmap::{IndexMap, IndexSet};
 use std::alloc::{AllocError, Global};
 use warg_crypto::signing::KeyID;
 
 /// Whether the permission is among those held.
-pub(crate) fn is_among<P: LogPermission>(held: Option<&IndexSet<P>>, permission: P) -> bool
-    ensures { result ≡ option_map_or (λ s. contains P.eq s permission) (option_copied held.entry) false }
+pub(crate) fn is_among<P: LogPermission>(held: Option<&PermissionSet<P>>, permission: P) -> bool
+    ensures { result ≡ option_map_or (λ ps. list_any (P.eq permission) ps) (option_copied held.entry) false }
 {
     match held {
-        Some(set) => set.contains(&permission),
+        Some(set) => set.as_set().contains(&permission),
         None => false,
     }
 }
 
 /// Whether the key holds the permission.
 pub(crate) fn holds<P: LogPermission>(
-    rights: &IndexMap<KeyID, IndexSet<P>>,
+    rights: &IndexMap<KeyID, PermissionSet<P>>,
     key_id: &KeyID,
     permission: P,
 ) -> bool
@@ -60,21 +62,21 @@ pub(crate) fn put<X: Drop>(
 }
 
 /// A copy of the permissions.
-fn copy_set<P: LogPermission>(set: &IndexSet<P>) -> Result<IndexSet<P>, AllocError>
-    ensures { IfOk result (λ copy. (p : P) → contains P.eq copy p ≡ contains P.eq set.now p) }
+fn copy_set<P: LogPermission>(set: &PermissionSet<P>) -> Result<IndexSet<P>, AllocError>
+    ensures { IfOk result (λ copy. (p : P) → contains P.eq copy p ≡ list_any (P.eq p) set.now) }
 {
-    set.clone()
+    set.as_set().clone()
 }
 
-/// A copy of what the key holds, or the empty set.
-fn set_at<P: LogPermission>(
+/// A copy of what is held, or the empty set.
+fn copy_held<P: LogPermission>(
     alloc: Global,
-    rights: &IndexMap<KeyID, IndexSet<P>>,
-    key_id: &KeyID,
+    held: Option<&PermissionSet<P>>,
 ) -> Result<IndexSet<P>, AllocError>
-    ensures { IfOk result (λ set. (p : P) → contains P.eq set p ≡ holds_in P.eq rights.now key_id.now p) }
+    ensures { IfOk result (λ set. (p : P) →
+        contains P.eq set p ≡ option_map_or (λ ps. list_any (P.eq p) ps) (option_copied held.entry) false) }
 {
-    match rights.get(key_id) {
+    match held {
         Some(set) => copy_set(set),
         None => Ok(IndexSet::new(alloc)),
     }
@@ -91,11 +93,27 @@ fn add_all<P: LogPermission>(set: &mut IndexSet<P>, permissions: &[P]) -> Result
     Ok(())
 }
 
+/// What is held, if anything is, and the permissions beside.
+fn with_permissions<P: LogPermission>(
+    alloc: Global,
+    sets: &mut Vec<PermissionSet<P>>,
+    held: Option<&PermissionSet<P>>,
+    permissions: &[P],
+) -> Result<PermissionSet<P>, AllocError>
+    ensures { IfOk result (λ set. (p : P) → list_any (P.eq p) set
+        ≡ (option_map_or (λ ps. list_any (P.eq p) ps) (option_copied held.entry) false || lists P.eq permissions.now p)) }
+{
+    let mut set = copy_held(alloc, held)?;
+    add_all(&mut set, permissions)?;
+    share(alloc, sets, set)
+}
+
 /// Gives the key the permissions, among the changes, and an entry even where there are none.
 pub(crate) fn give<P: LogPermission>(
     alloc: Global,
-    base: &IndexMap<KeyID, IndexSet<P>>,
-    changes: &mut IndexMap<KeyID, IndexSet<P>>,
+    sets: &mut Vec<PermissionSet<P>>,
+    base: &IndexMap<KeyID, PermissionSet<P>>,
+    changes: &mut IndexMap<KeyID, PermissionSet<P>>,
     key_id: KeyID,
     permissions: &[P],
 ) -> Result<(), AllocError>
@@ -104,11 +122,11 @@ pub(crate) fn give<P: LogPermission>(
     ensures entries { OnOk result ((k : List ℕ) → has_entry_over base.now changes.new k ≡
         (has_entry_over base.now changes.old k || bytes_eq key_id k)) }
 {
-    if let Some(set) = changes.get_mut(&key_id) {
-        return add_all(set, permissions);
+    if let Some(held) = changes.get_mut(&key_id) {
+        *held = with_permissions(alloc, sets, Some(&*held), permissions)?;
+        return Ok(());
     }
-    let mut set = set_at(alloc, base, &key_id)?;
-    add_all(&mut set, permissions)?;
+    let set = with_permissions(alloc, sets, base.get(&key_id), permissions)?;
     put(changes, key_id, set)?;
     Ok(())
 }
@@ -127,10 +145,31 @@ fn remove_all<P: LogPermission>(set: &mut IndexSet<P>, permissions: &[P]) -> Opt
     None
 }
 
+/// Takes the permissions from what is held, or answers the first that is not held any more.
+fn take_from<P: LogPermission>(
+    alloc: Global,
+    sets: &mut Vec<PermissionSet<P>>,
+    held: &mut PermissionSet<P>,
+    permissions: &[P],
+) -> Result<Option<P>, AllocError>
+    ensures missing { IfOk result (λ missing. missing ≡ first_missing P.eq (λ p. list_any (P.eq p) held.old) [] permissions.now) }
+    ensures taken { IfOk result (λ missing. IfNone missing ((p : P) → list_any (P.eq p) held.new
+        ≡ (if lists P.eq permissions.now p then false else list_any (P.eq p) held.old))) }
+{
+    let mut set = copy_set(held)?;
+    let missing = remove_all(&mut set, permissions);
+    if missing.is_none() {
+        *held = share(alloc, sets, set)?;
+    }
+    Ok(missing)
+}
+
 /// Takes the permissions from the key, among the changes, or answers the first that it does not hold any more.
 pub(crate) fn take_all<P: LogPermission>(
-    base: &IndexMap<KeyID, IndexSet<P>>,
-    changes: &mut IndexMap<KeyID, IndexSet<P>>,
+    alloc: Global,
+    sets: &mut Vec<PermissionSet<P>>,
+    base: &IndexMap<KeyID, PermissionSet<P>>,
+    changes: &mut IndexMap<KeyID, PermissionSet<P>>,
     key_id: &KeyID,
     permissions: &[P],
 ) -> Result<Option<P>, AllocError>
@@ -142,14 +181,14 @@ pub(crate) fn take_all<P: LogPermission>(
     ensures entries { IfOk result (λ missing. IfNone missing
         ((k : List ℕ) → has_entry_over base.now changes.new k ≡ has_entry_over base.now changes.old k)) }
 {
-    if let Some(set) = changes.get_mut(key_id) {
-        return Ok(remove_all(set, permissions));
+    if let Some(held) = changes.get_mut(key_id) {
+        return take_from(alloc, sets, held, permissions);
     }
     let Some(held) = base.get(key_id) else {
         return Ok(permissions.first().copied());
     };
-    let mut set = copy_set(held)?;
-    if let Some(missing) = remove_all(&mut set, permissions) {
+    let mut set = held.try_clone()?;
+    if let Some(missing) = take_from(alloc, sets, &mut set, permissions)? {
         return Ok(Some(missing));
     }
     put(changes, key_id.clone()?, set)?;

@@ -1,6 +1,6 @@
 -- What was written of a namespace reads back.
 use Rattle.std.specs.Prelude.{◌≡◌, List, [], ◌∷◌, length, Result, Ok, Err, IfOk, refl, suc}
-use Rattle.std.proofs.Common.{subst, ap, add-one, sym, ◌∙◌}
+use Rattle.std.proofs.Common.{subst, ap}
 use Rattle.std.specs.declared.alloc.Global.{Global}
 use Rattle.serde_json.specs.Data.{Data}
 use Rattle.serde_json.specs.View.{members_view}

@@ -1,19 +1,13 @@
 -- Parts of a state that fit together stand for a coherent log.
-use Rattle.std.proofs.Common.{◌≡◌, ◌≤◌, ℕ, List, [], ◌∷◌, map, Bool, true, false, ◌&&◌, ◌||◌, not, Option, Some, None, refl, sym, ap, ◌∙◌, is_some}
-use Rattle.std.specs.Prelude.{nat_le, is_none}
+use Rattle.std.proofs.Common.{◌≡◌, ◌&&◌, None, ap}
 use Rattle.std.specs.Cmp.{first_so, second_so}
-use Rattle.std.specs.Option.{option_map, option_or}
-use Rattle.std.proofs.Common.{arith}
-use Rattle.std.proofs.lemmas.Bool.{leb-true}
-use Rattle.warg_crypto.specs.declared.hash.HashAlgorithm.{HashAlgorithm}
-use Rattle.warg_crypto.specs.declared.json.error.Incoherence.{Incoherence}
 use Rattle.warg_records.specs.OperatorPermissions.{same_permission}
-use Rattle.warg_saved.specs.Fit.{begun_case, case_if, empty_case, first_case, is_nil, keys_case, rights_case, version_case}
+use Rattle.warg_saved.specs.Fit.{begun_case, empty_case, is_nil, keys_case, rights_case, version_case}
 use Rattle.warg_saved.proofs.Cases.{begun_both, empty_then, head_taken, nil, no_case, none_first, none_rest}
 use Rattle.warg_log.specs.History.{IsCoherent}
 use Rattle.warg_log.specs.declared.head.Head.{Head}
 use Rattle.warg_log.proofs.SavedParts.{coherent_parts}
-use Rattle.warg_operator_log.specs.Namespaces.{Namespace, names, rules}
+use Rattle.warg_operator_log.specs.Namespaces.{names, rules}
 use Rattle.warg_operator_log.specs.SavedState.{SavedParts, head_version, incoherence, namespaces_case, state_of}
 use Rattle.warg_operator_log.specs.State.{view_of}
 

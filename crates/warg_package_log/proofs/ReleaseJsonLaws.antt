@@ -1,5 +1,5 @@
 -- What was written of releases reads back.
-use Rattle.std.specs.Prelude.{◌≡◌, ℕ, List, codes, Result, Ok, refl}
+use Rattle.std.specs.Prelude.{◌≡◌, ℕ, List, codes, Ok, refl}
 use Rattle.std.proofs.Common.{subst}
 use Rattle.serde_json.specs.Data.{Data, no_members, object, put}
 use Rattle.warg_crypto.specs.declared.hash.AnyHash.{AnyHash}
@@ -9,7 +9,6 @@ use Rattle.warg_crypto.specs.Times.{Time}
 use Rattle.warg_records.specs.RegistryJson.{record_id_in}
 use Rattle.warg_package_log.specs.ReleaseJson.{release_in, release_state_in, status_member, version_in}
 use Rattle.warg_package_log.specs.Releases.{ReleaseView}
-use Rattle.warg_package_log.specs.declared.release.ReleaseState.{ReleaseState}
 use Rattle.warg_package_log.specs.declared.release.ReleaseState.TheVariants.{Released, Yanked}
 
 released_read : (content : AnyHash) (a : Data) → hash_in a ≡ Ok content

@@ -1,14 +1,9 @@
 -- Releases of which there is JSON.
-use Rattle.std.specs.Prelude.{◌≡◌, ℕ, ℤ, pos, negsuc, List, false, true, Result, Ok, OnOk, Err, refl}
-use Rattle.std.proofs.Common.{sym, true≢false, ◌∙◌}
+use Rattle.std.specs.Prelude.{◌≡◌, ℕ, ℤ, pos, negsuc, List, false, Ok, refl}
+use Rattle.std.proofs.Common.{true≢false}
 use Rattle.std.specs.Int.{is_negative}
-use Rattle.serde_json.specs.Data.{Data}
-use Rattle.warg_crypto.specs.declared.json.error.JsonError.{JsonError}
 use Rattle.warg_crypto.specs.TimeText.{time_text}
 use Rattle.warg_crypto.specs.Times.{Time}
-use Rattle.warg_package_log.specs.ReleaseJson.{release_json}
-use Rattle.warg_package_log.specs.Releases.{ReleaseView}
-use Rattle.warg_package_log.specs.declared.release.ReleaseState.TheVariants.{Released, Yanked}
 
 -- a time that is not before the epoch has a text
 text_from : (s : ℤ) (n : ℕ) → is_negative s ≡ false → (text : List ℕ) × (time_text (record { seconds = s; nanos = n }) ≡ Ok text)

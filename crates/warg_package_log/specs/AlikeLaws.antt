@@ -1,6 +1,6 @@
 -- Releases that answer alike for every version go on alike.
 use Rattle.std.proofs.Common.{◌≡◌, refl, sym, ap, ◌∙◌}
-use Rattle.std.specs.Prelude.{ℕ, List, [], ◌∷◌, map, Bool, true, false, cond, is_none, Option, Some}
+use Rattle.std.specs.Prelude.{List, [], ◌∷◌, map, Bool, true, false, cond, is_none, Option, Some}
 use Rattle.std.specs.Option.{option_map, option_or}
 use Rattle.std.proofs.lemmas.List.Folds.{find-append}
 use Rattle.warg_log.specs.Offences.{unless}

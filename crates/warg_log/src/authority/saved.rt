@@ -1,10 +1,11 @@
 //! An authority as its maps.
-ghost use Rattle.std.specs.Prelude.{◌≡◌, map};
+ghost use Rattle.std.specs.Prelude.{◌≡◌};
 ghost use Rattle.warg_log.specs.Contents.{maps_contents};
 
 use crate::authority::Authority;
 use crate::permission::LogPermission;
-use indexmap::{IndexMap, IndexSet};
+use crate::permission_set::PermissionSet;
+use indexmap::IndexMap;
 use std::alloc::Global;
 use warg_crypto::hash::HashAlgorithm;
 use warg_crypto::signing::{KeyID, PublicKey};
@@ -14,7 +15,7 @@ impl<P: LogPermission> Authority<P> {
     pub(crate) fn restore(
         alloc: Global,
         algorithm: Option<HashAlgorithm>,
-        permissions: IndexMap<KeyID, IndexSet<P>>,
+        permissions: IndexMap<KeyID, PermissionSet<P>>,
         keys: IndexMap<KeyID, PublicKey>,
     ) -> Authority<P>
         ensures { result ≡ maps_contents algorithm permissions keys }
@@ -24,6 +25,7 @@ impl<P: LogPermission> Authority<P> {
             algorithm,
             permissions,
             keys,
+            sets: Vec::new(alloc),
         }
     }
 
@@ -35,8 +37,8 @@ impl<P: LogPermission> Authority<P> {
     }
 
     /// The permissions of each id that has an entry.
-    pub(crate) fn permissions(&self) -> &IndexMap<KeyID, IndexSet<P>>
-        ensures { map (λ e. (e.0, e.1.keys)) result.now.entries ≡ self.now.rights }
+    pub(crate) fn permissions(&self) -> &IndexMap<KeyID, PermissionSet<P>>
+        ensures { result.now.entries ≡ self.now.rights }
     {
         &self.permissions
     }

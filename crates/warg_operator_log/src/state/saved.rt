@@ -19,14 +19,14 @@ ghost use Rattle.warg_operator_log.specs.SavedState.{head_version, incoherence, 
 use crate::namespace::NamespaceState;
 use crate::namespace_map::NamespaceMap;
 use crate::state::LogState;
-use indexmap::{IndexMap, IndexSet};
+use indexmap::IndexMap;
 use serde_json::{Map, Value};
 use std::alloc::Global;
 use warg_crypto::hash::HashAlgorithm;
 use warg_crypto::json::members::object_value;
 use warg_crypto::signing::{KeyID, PublicKey};
 use warg_crypto::{Incoherence, JsonError, JsonValue};
-use warg_log::{Head, Log, head_member, head_version, put_head, put_head_text};
+use warg_log::{Head, Log, PermissionSet, head_member, head_version, put_head, put_head_text};
 use warg_records::operator::Permission;
 use warg_records::registry::PackageName;
 use warg_saved::{
@@ -39,7 +39,7 @@ use warg_saved::{
 pub(crate) struct SavedParts {
     algorithm: Option<HashAlgorithm>,
     head: Option<Head>,
-    rights: IndexMap<KeyID, IndexSet<Permission>>,
+    rights: IndexMap<KeyID, PermissionSet<Permission>>,
     keys: IndexMap<KeyID, PublicKey>,
     namespaces: IndexMap<String, NamespaceState>,
 }
@@ -50,7 +50,7 @@ fn read_parts(alloc: Global, value: &Value) -> Result<SavedParts, JsonError>
 {
     let algorithm = algorithm_member(alloc, value)?;
     let head = head_member(alloc, value)?;
-    let rights = map_member::<KeyID, IndexSet<Permission>>(alloc, value, "permissions")?;
+    let rights = map_member::<KeyID, PermissionSet<Permission>>(alloc, value, "permissions")?;
     let keys = keys_member(alloc, value)?;
     let namespaces = map_member::<String, NamespaceState>(alloc, value, "namespaces")?;
     Ok(SavedParts {

@@ -20,7 +20,7 @@ ghost use Rattle.warg_package_log.specs.SavedState.{head_version, incoherence, i
 use crate::release::Release;
 use crate::release_map::ReleaseMap;
 use crate::state::LogState;
-use indexmap::{IndexMap, IndexSet};
+use indexmap::IndexMap;
 use semver::Version;
 use serde_json::{Map, Value};
 use std::alloc::Global;
@@ -28,7 +28,7 @@ use warg_crypto::hash::HashAlgorithm;
 use warg_crypto::json::members::object_value;
 use warg_crypto::signing::{KeyID, PublicKey};
 use warg_crypto::{Incoherence, JsonError, JsonValue};
-use warg_log::{Head, Log, head_member, head_version, put_head, put_head_text};
+use warg_log::{Head, Log, PermissionSet, head_member, head_version, put_head, put_head_text};
 use warg_records::package::Permission;
 use warg_saved::{
     MemberTexts, algorithm_member, are_no_keys, check_begun, check_empty, check_keys, check_rights,
@@ -40,7 +40,7 @@ use warg_saved::{
 pub(crate) struct SavedParts {
     algorithm: Option<HashAlgorithm>,
     head: Option<Head>,
-    rights: IndexMap<KeyID, IndexSet<Permission>>,
+    rights: IndexMap<KeyID, PermissionSet<Permission>>,
     releases: IndexMap<Version, Release>,
     keys: IndexMap<KeyID, PublicKey>,
 }
@@ -51,7 +51,7 @@ fn read_parts(alloc: Global, value: &Value) -> Result<SavedParts, JsonError>
 {
     let algorithm = algorithm_member(alloc, value)?;
     let head = head_member(alloc, value)?;
-    let rights = map_member::<KeyID, IndexSet<Permission>>(alloc, value, "permissions")?;
+    let rights = map_member::<KeyID, PermissionSet<Permission>>(alloc, value, "permissions")?;
     let releases = map_member::<Version, Release>(alloc, value, "releases")?;
     let keys = keys_member(alloc, value)?;
     Ok(SavedParts {

@@ -27,7 +27,7 @@ returns-in_err-put_map c =
     let p = err_from_is_err_and c.from_residual-in_err-put_map.result c.from_residual-in_err-put_map.ensures.1 in
     rw (p.1, p.2) (gives_fault _ _ _ (c.in_err-put_map.ensures b.members b.are) (λ h.
     rights_fault s a.members b.members b.members b.members algorithm head _
-    (ap (λ es. put_pairs text_name (permissions_json permission_text) (codes "permissions") es b.members) (sym c.permissions.ensures) ∙ h)))
+    (ap (λ es. put_pairs text_name (permissions_json permission_text) (codes "permissions") es b.members) (sym c.permissions.ensures.plain) ∙ h)))
 
 pub returns-in_err-put_keys : goal.returns-in_err-put_keys
 returns-in_err-put_keys c =
@@ -40,7 +40,7 @@ returns-in_err-put_keys c =
     let head : put_option head_json (codes "head") s.head a.members ≡ Ok b.members =
     ap (λ o. put_option head_json (codes "head") o a.members) (sym c.head.ensures.value) ∙ b.is in
     let rights : put_pairs text_name (permissions_json permission_text) (codes "permissions") s.authority.rights b.members ≡ Ok d.members =
-    ap (λ es. put_pairs text_name (permissions_json permission_text) (codes "permissions") es b.members) (sym c.permissions.ensures) ∙ d.is in
+    ap (λ es. put_pairs text_name (permissions_json permission_text) (codes "permissions") es b.members) (sym c.permissions.ensures.plain) ∙ d.is in
     let p = err_from_is_err_and c.from_residual-in_err-put_keys.result c.from_residual-in_err-put_keys.ensures.1 in
     rw (p.1, p.2) (gives_fault _ _ _ (c.in_err-put_keys.ensures d.members d.are) (λ h.
     keys_fault s a.members b.members d.members d.members algorithm head rights _
@@ -58,7 +58,7 @@ returns-in_err-put_map-2 c =
     let head : put_option head_json (codes "head") s.head a.members ≡ Ok b.members =
     ap (λ o. put_option head_json (codes "head") o a.members) (sym c.head.ensures.value) ∙ b.is in
     let rights : put_pairs text_name (permissions_json permission_text) (codes "permissions") s.authority.rights b.members ≡ Ok d.members =
-    ap (λ es. put_pairs text_name (permissions_json permission_text) (codes "permissions") es b.members) (sym c.permissions.ensures) ∙ d.is in
+    ap (λ es. put_pairs text_name (permissions_json permission_text) (codes "permissions") es b.members) (sym c.permissions.ensures.plain) ∙ d.is in
     let keys : put_pairs text_name key_json (codes "keys") s.authority.keys d.members ≡ Ok e.members =
     ap (λ es. put_pairs text_name key_json (codes "keys") es d.members) (sym c.keys.ensures) ∙ e.is in
     let p = err_from_is_err_and c.from_residual-in_err-put_map-2.result c.from_residual-in_err-put_map-2.ensures.1 in
@@ -79,7 +79,7 @@ returns c =
     let head : put_option head_json (codes "head") s.head a.members ≡ Ok b.members =
     ap (λ o. put_option head_json (codes "head") o a.members) (sym c.head.ensures.value) ∙ b.is in
     let rights : put_pairs text_name (permissions_json permission_text) (codes "permissions") s.authority.rights b.members ≡ Ok d.members =
-    ap (λ es. put_pairs text_name (permissions_json permission_text) (codes "permissions") es b.members) (sym c.permissions.ensures) ∙ d.is in
+    ap (λ es. put_pairs text_name (permissions_json permission_text) (codes "permissions") es b.members) (sym c.permissions.ensures.plain) ∙ d.is in
     let keys : put_pairs text_name key_json (codes "keys") s.authority.keys d.members ≡ Ok e.members =
     ap (λ es. put_pairs text_name key_json (codes "keys") es d.members) (sym c.keys.ensures) ∙ e.is in
     let namespaces : put_pairs text_name saved_namespace_json (codes "namespaces") s.matter e.members ≡ Ok f.members =

@@ -1,4 +1,4 @@
-use Rattle.std.proofs.Common.{◌≡◌, ℕ, List, ap, subst, ◌∙◌}
+use Rattle.std.proofs.Common.{ℕ, List, subst, ◌∙◌}
 use Rattle.warg_crypto.specs.JsonTexts.{key_in, key_json}
 use Rattle.warg_crypto.specs.NamedBytes.{NamedBytes}
 use Rattle.warg_records.specs.OperatorPermissions.{permission_in, permission_text, same_permission}
@@ -18,7 +18,7 @@ returns-clause-savable c = record {
   kebabs = subst HasKebabNames c.matter.ensures c.as_map.ensures.kebabs;
   head = λ h at. c.in_ok-put_head.ensures.back h (c.head.ensures.value ∙ at);
   rights = subst (λ (es : List (List ℕ × List Permission)). AreBack text_name text_named (permissions_json permission_text) (permissions_in same_permission permission_in) es)
-      c.permissions.ensures (c.in_ok-put_map.ensures.back (no_versions _));
+      c.permissions.ensures.plain (c.in_ok-put_map.ensures.back (no_versions _));
   keys = subst (λ (es : List (List ℕ × NamedBytes)). AreBack text_name text_named key_json key_in es) c.keys.ensures c.in_ok-put_keys.ensures.back;
   namespaces = subst (λ (es : List (List ℕ × Namespace)). AreBack text_name text_named saved_namespace_json saved_namespace_in es) (c.as_map.ensures.named ∙ c.matter.ensures)
       (c.in_ok-put_map-2.ensures.back (no_versions _));

@@ -1,5 +1,7 @@
-use Rattle.std.proofs.Common.{◌≡◌, ℕ, List, sym, subst, ap, ◌∙◌}
+use Rattle.std.proofs.Common.{ℕ, List, sym, subst, ◌∙◌}
 use Rattle.warg_records.specs.OperatorPermissions.{same_permission}
+use Rattle.warg_records.specs.declared.operator.permission.Permission.{Permission}
+use Rattle.warg_saved.proofs.Optional.{same_pairs}
 use Rattle.warg_log.specs.History.{IsCoherent}
 use Rattle.warg_operator_log.specs.Namespaces.{Namespace, rules}
 use Rattle.warg_operator_log.specs.SavedParts.{parts_view}
@@ -13,8 +15,13 @@ restore-namespaces-requires c = named_namespaces (parts_view c.args.parts) c.req
 
 pub restore-requires : goal.restore-requires
 restore-requires c =
-    subst (λ (ns : List (List ℕ × Namespace)). IsCoherent rules same_permission (view_of (record (state_of (parts_view c.args.parts)) { matter = ns })))
-    (sym c.restore-namespaces.ensures) (coherent_state (parts_view c.args.parts) c.requires)
+    let s = state_of (parts_view c.args.parts) in
+    subst (λ (es : List (List ℕ × List Permission)). IsCoherent rules same_permission (view_of (record { authority = record s.authority { rights = es }; matter = c.restore-namespaces.result; head = s.head })))
+    (same_pairs c.args.parts.rights.entries)
+    (subst (λ (ns : List (List ℕ × Namespace)). IsCoherent rules same_permission (view_of (record s { matter = ns })))
+    (sym c.restore-namespaces.ensures) (coherent_state (parts_view c.args.parts) c.requires))
 
 pub returns : goal.returns
-returns c = c.restore.ensures ∙ ap (λ (ns : List (List ℕ × Namespace)). record (state_of (parts_view c.args.parts)) { matter = ns }) c.restore-namespaces.ensures
+returns c =
+    let s = state_of (parts_view c.args.parts) in
+    c.restore.ensures ∙ (λ i. record { authority = record s.authority { rights = sym (same_pairs c.args.parts.rights.entries) i }; matter = c.restore-namespaces.ensures i; head = s.head })

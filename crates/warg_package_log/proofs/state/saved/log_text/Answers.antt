@@ -28,7 +28,7 @@ returns-in_err-put_map c =
     let p = err_from_is_err_and c.from_residual-in_err-put_map.result c.from_residual-in_err-put_map.ensures.1 in
     rw (p.1, p.2) (gives_fault _ _ _ (c.in_err-put_map.ensures b.members b.are) (λ h.
     rights_fault s a.members b.members b.members b.members algorithm head _
-    (ap (λ es. put_pairs text_name (permissions_json permission_text) (codes "permissions") es b.members) (sym c.permissions.ensures) ∙ h)))
+    (ap (λ es. put_pairs text_name (permissions_json permission_text) (codes "permissions") es b.members) (sym c.permissions.ensures.plain) ∙ h)))
 
 pub returns-in_err-put_map-2 : goal.returns-in_err-put_map-2
 returns-in_err-put_map-2 c =
@@ -41,7 +41,7 @@ returns-in_err-put_map-2 c =
     let head : put_option head_json (codes "head") s.head a.members ≡ Ok b.members =
     ap (λ o. put_option head_json (codes "head") o a.members) (sym c.head.ensures.value) ∙ b.is in
     let rights : put_pairs text_name (permissions_json permission_text) (codes "permissions") s.authority.rights b.members ≡ Ok d.members =
-    ap (λ es. put_pairs text_name (permissions_json permission_text) (codes "permissions") es b.members) (sym c.permissions.ensures) ∙ d.is in
+    ap (λ es. put_pairs text_name (permissions_json permission_text) (codes "permissions") es b.members) (sym c.permissions.ensures.plain) ∙ d.is in
     let as_saved = c.as_map.ensures ∙ ap named_releases c.matter.ensures in
     let p = err_from_is_err_and c.from_residual-in_err-put_map-2.result c.from_residual-in_err-put_map-2.ensures.1 in
     rw (p.1, p.2) (gives_fault _ _ _ (c.in_err-put_map-2.ensures d.members d.are) (λ h.
@@ -60,7 +60,7 @@ returns-in_err-put_keys c =
     let head : put_option head_json (codes "head") s.head a.members ≡ Ok b.members =
     ap (λ o. put_option head_json (codes "head") o a.members) (sym c.head.ensures.value) ∙ b.is in
     let rights : put_pairs text_name (permissions_json permission_text) (codes "permissions") s.authority.rights b.members ≡ Ok d.members =
-    ap (λ es. put_pairs text_name (permissions_json permission_text) (codes "permissions") es b.members) (sym c.permissions.ensures) ∙ d.is in
+    ap (λ es. put_pairs text_name (permissions_json permission_text) (codes "permissions") es b.members) (sym c.permissions.ensures.plain) ∙ d.is in
     let as_saved = c.as_map.ensures ∙ ap named_releases c.matter.ensures in
     let releases : put_pairs version_name release_json (codes "releases") (named_releases s.matter) d.members ≡ Ok e.members =
     ap (λ es. put_pairs version_name release_json (codes "releases") es d.members) (sym as_saved) ∙ e.is in
@@ -82,7 +82,7 @@ returns c =
     let head : put_option head_json (codes "head") s.head a.members ≡ Ok b.members =
     ap (λ o. put_option head_json (codes "head") o a.members) (sym c.head.ensures.value) ∙ b.is in
     let rights : put_pairs text_name (permissions_json permission_text) (codes "permissions") s.authority.rights b.members ≡ Ok d.members =
-    ap (λ es. put_pairs text_name (permissions_json permission_text) (codes "permissions") es b.members) (sym c.permissions.ensures) ∙ d.is in
+    ap (λ es. put_pairs text_name (permissions_json permission_text) (codes "permissions") es b.members) (sym c.permissions.ensures.plain) ∙ d.is in
     let as_saved = c.as_map.ensures ∙ ap named_releases c.matter.ensures in
     let releases : put_pairs version_name release_json (codes "releases") (named_releases s.matter) d.members ≡ Ok e.members =
     ap (λ es. put_pairs version_name release_json (codes "releases") es d.members) (sym as_saved) ∙ e.is in

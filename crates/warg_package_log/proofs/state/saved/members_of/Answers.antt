@@ -21,7 +21,7 @@ returns-clause-savable c = λ back.
       coherent = c.head.ensures.coherent;
       head = λ h at. c.in_ok-put_head.ensures.back h (c.head.ensures.value ∙ at);
       rights = subst (λ (es : List (List ℕ × List Permission)). AreBack text_name text_named (permissions_json permission_text) (permissions_in same_permission permission_in) es)
-          c.permissions.ensures (c.in_ok-put_map.ensures.back (no_versions _));
+          c.permissions.ensures.plain (c.in_ok-put_map.ensures.back (no_versions _));
       releases = subst (λ (es : List (Version × ReleaseView)). AreBack version_name version_named release_json release_in es) as_saved
           (c.in_ok-put_map-2.ensures.back (subst (λ (es : List (Version × ReleaseView)). AreVersionsBack (λ v. v ∷ []) (λ r. r.version ∷ []) es)
           (sym as_saved) (versions_back c.args.log.now.matter back)));

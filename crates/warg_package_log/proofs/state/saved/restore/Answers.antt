@@ -1,5 +1,7 @@
-use Rattle.std.proofs.Common.{◌≡◌, List, sym, subst, ap, ◌∙◌}
+use Rattle.std.proofs.Common.{ℕ, List, sym, subst, ◌∙◌}
 use Rattle.warg_records.specs.PackagePermissions.{same_permission}
+use Rattle.warg_records.specs.declared.package.permission.Permission.{Permission}
+use Rattle.warg_saved.proofs.Optional.{same_pairs}
 use Rattle.warg_log.specs.History.{IsCoherent}
 use Rattle.warg_package_log.specs.Releases.{ReleaseView, rules}
 use Rattle.warg_package_log.specs.SavedParts.{parts_view}
@@ -13,8 +15,13 @@ restore-releases-requires c = filed_releases (parts_view c.args.parts) c.require
 
 pub restore-requires : goal.restore-requires
 restore-requires c =
-    subst (λ (rs : List ReleaseView). IsCoherent rules same_permission (view_of (record (state_of (parts_view c.args.parts)) { matter = rs })))
-    (sym c.restore-releases.ensures) (coherent_state (parts_view c.args.parts) c.requires)
+    let s = state_of (parts_view c.args.parts) in
+    subst (λ (es : List (List ℕ × List Permission)). IsCoherent rules same_permission (view_of (record { authority = record s.authority { rights = es }; matter = c.restore-releases.result; head = s.head })))
+    (same_pairs c.args.parts.rights.entries)
+    (subst (λ (rs : List ReleaseView). IsCoherent rules same_permission (view_of (record s { matter = rs })))
+    (sym c.restore-releases.ensures) (coherent_state (parts_view c.args.parts) c.requires))
 
 pub returns : goal.returns
-returns c = c.restore.ensures ∙ ap (λ (rs : List ReleaseView). record (state_of (parts_view c.args.parts)) { matter = rs }) c.restore-releases.ensures
+returns c =
+    let s = state_of (parts_view c.args.parts) in
+    c.restore.ensures ∙ (λ i. record { authority = record s.authority { rights = sym (same_pairs c.args.parts.rights.entries) i }; matter = c.restore-releases.ensures i; head = s.head })

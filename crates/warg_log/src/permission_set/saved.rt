@@ -1,0 +1,39 @@
+//! A set of permissions as JSON: the list of their names.
+ghost use Rattle.std.specs.Prelude.{List, []};
+ghost use Rattle.warg_saved.specs.NoFloat.{texts_no_float};
+ghost use Rattle.warg_saved.specs.Permissions.{permissions_in, permissions_json};
+
+use crate::permission::LogPermission;
+use crate::permission_set::PermissionSet;
+use indexmap::IndexSet;
+use serde_json::Value;
+use std::alloc::Global;
+use warg_crypto::JsonError;
+use warg_saved::{SavedPermission, SavedValue};
+
+impl<P: LogPermission + SavedPermission> SavedValue for PermissionSet<P> {
+    ghost Plain = { List P };
+
+    ghost plain = { λ s. s };
+
+    ghost writes = { permissions_json P.text_of };
+
+    ghost reads = { permissions_in P.eq P.named };
+
+    ghost versions = { λ _. [] };
+
+    ghost no_float = { λ ps. texts_no_float P.text_of ps };
+
+    fn can_save(&self) -> Result<(), JsonError> {
+        self.as_set().can_save()
+    }
+
+    fn save(&self, alloc: Global) -> Result<Value, JsonError> {
+        self.as_set().save(alloc)
+    }
+
+    fn load(alloc: Global, value: &Value) -> Result<PermissionSet<P>, JsonError> {
+        let set = IndexSet::<P>::load(alloc, value)?;
+        Ok(PermissionSet::new(alloc, set)?)
+    }
+}
