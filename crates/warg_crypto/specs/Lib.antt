@@ -2,6 +2,7 @@ pub mod HashText
 pub mod RecordIds
 pub mod Visits
 pub mod NamedBytes
+pub mod KeyTexts
 pub mod Same
 pub mod Keys
 pub mod Signed

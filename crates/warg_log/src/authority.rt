@@ -80,6 +80,23 @@ impl<P: LogPermission> Authority<P> {
         Some(self.permissions.get(key_id)?.as_set())
     }
 
+    /// The id as the keys here hold it, or the one given where none has it.
+    fn known_id<'a>(&'a self, key_id: &'a KeyID) -> &'a KeyID
+        ensures { result.now ≡ key_id.now }
+    {
+        match self.keys.get_key_value(key_id) {
+            Some((known, _)) => known,
+            None => key_id,
+        }
+    }
+
+    /// A copy of the id that shares its text with the key of this id, if there is one.
+    pub fn shared_id(&self, key_id: &KeyID) -> Result<KeyID, AllocError>
+        ensures { IfOk result (λ id. id ≡ key_id.now) }
+    {
+        self.known_id(key_id).try_clone()?.share()
+    }
+
     /// Makes the changes here, and the kind's beside, or none.
     pub fn commit<M: LogKind>(
         &mut self,

@@ -142,7 +142,7 @@ impl<P: LogPermission> Authority<P> {
         if self.is_begun(changes) {
             return Err(Refusal::InitialEntryAfterBeginning);
         }
-        let key_id = key.fingerprint(self.alloc)?;
+        let key_id = key.fingerprint(self.alloc)?.share()?;
         if by_own_key && *signer != key_id {
             return Err(Refusal::KeyIDNotRecognized {
                 key_id: signer.clone()?,
@@ -199,7 +199,7 @@ impl<P: LogPermission> Authority<P> {
         self.check_begun(changes)?;
         self.check_grant(version, key, permissions)?;
         self.check_permissions(changes, signer, permissions)?;
-        let key_id = key.fingerprint(self.alloc)?;
+        let key_id = key.fingerprint(self.alloc)?.share()?;
         rights::put(&mut changes.keys, key_id.clone()?, key.clone()?)?;
         know(&mut changes.sets, &self.sets)?;
         let sets = &mut changes.sets;

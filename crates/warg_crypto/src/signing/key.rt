@@ -15,20 +15,29 @@ use std::cmp::Ordering;
 use std::fmt;
 use std::hash::{Hash, Hasher};
 use std::marker::Model;
+use std::sync::ArcStr;
 
-/// The id of a key: any text. Ids are ordered by the bytes of their texts.
+/// The id of a key: any text. Ids are ordered by the bytes of their texts. An id that
+/// [`share`](KeyID::share) gave shares its text with each copy of it.
 #[derive(Drop)]
 pub struct KeyID {
-    text: String,
+    text: KeyText,
 }
 
 impl Model for KeyID {
     ghost use Rattle.std.specs.Prelude.{List, ℕ};
-    ghost use Rattle.std.specs.String.{string_bytes};
+    ghost use Rattle.warg_crypto.specs.KeyTexts.{key_text_bytes};
 
     ghost Value = { List ℕ };
 
-    ghost view = { λ k. string_bytes k.text };
+    ghost view = { λ k. key_text_bytes k.text };
+}
+
+/// The text of a key's id: its own, or one that copies share.
+#[derive(Drop)]
+enum KeyText {
+    Own(String),
+    Shared(ArcStr),
 }
 
 impl KeyID {
@@ -36,7 +45,10 @@ impl KeyID {
     pub fn as_str(&self) -> &str
         ensures { result.now ≡ self.now }
     {
-        self.text.as_str()
+        match &self.text {
+            KeyText::Own(text) => text.as_str(),
+            KeyText::Shared(text) => text.as_str(),
+        }
     }
 
     /// The same id again.
@@ -45,13 +57,28 @@ impl KeyID {
     {
         self.clone()
     }
+
+    /// The same id, whose copies share its text from now on.
+    pub fn share(self) -> Result<KeyID, AllocError>
+        ensures { IfOk result (λ k. k ≡ self) }
+    {
+        let text = match self.text {
+            KeyText::Own(text) => ArcStr::from_string(text)?,
+            KeyText::Shared(text) => text,
+        };
+        Ok(KeyID {
+            text: KeyText::Shared(text),
+        })
+    }
 }
 
 impl From<String> for KeyID {
     ghost from_gives = { λ s k. k ≡ string_bytes s };
 
     fn from(text: String) -> KeyID {
-        KeyID { text }
+        KeyID {
+            text: KeyText::Own(text),
+        }
     }
 }
 
@@ -134,7 +161,7 @@ impl Hash for KeyID {
     ghost respects_eq = { Prim.search (hashing, rules) };
 
     fn hash<H: Hasher>(&self, state: &mut H) {
-        self.text.hash(state);
+        self.as_str().hash(state);
     }
 }
 
@@ -142,9 +169,11 @@ impl Clone for KeyID {
     ghost is_clone = { λ a b. b ≡ a };
 
     fn clone(&self) -> Result<KeyID, AllocError> {
-        Ok(KeyID {
-            text: self.text.clone()?,
-        })
+        let text = match &self.text {
+            KeyText::Own(text) => KeyText::Own(text.clone()?),
+            KeyText::Shared(text) => KeyText::Shared(text.clone()?),
+        };
+        Ok(KeyID { text })
     }
 }
 
