@@ -1,4 +1,3 @@
-pub mod Permissions
 pub mod SignedEntries
 pub mod Judging
 pub mod Rights

@@ -13,7 +13,6 @@ mod saved;
 
 use crate::log_kind::LogKind;
 use crate::maps::{lay_over, make_room};
-use crate::permission::LogPermission;
 use crate::permission_set::{PermissionSet, keep};
 use crate::rights;
 use indexmap::{IndexMap, IndexSet};
@@ -22,6 +21,7 @@ use std::fmt;
 use std::marker::Model;
 use warg_crypto::hash::HashAlgorithm;
 use warg_crypto::signing::{KeyID, PublicKey};
+use warg_records::LogPermission;
 
 /// Who may do what in a log, and whose key is which.
 #[derive(Drop)]

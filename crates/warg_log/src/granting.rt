@@ -4,7 +4,7 @@ ghost use Rattle.std.specs.Prelude.{◌≡◌, [], ◌∷◌, true, false, OnOk,
 ghost use Rattle.std.specs.Option.{option_copied, option_map_or};
 ghost use Rattle.std.specs.List.{list_any};
 ghost use Rattle.warg_crypto.specs.NamedBytes.{fingerprint_of};
-ghost use Rattle.warg_log.specs.Permissions.{lists};
+ghost use Rattle.warg_records.specs.Permissions.{lists};
 ghost use Rattle.warg_records.specs.RecordData.{Init, GrantFlat, RevokeFlat};
 ghost use Rattle.warg_log.specs.SignedEntries.{after};
 ghost use Rattle.warg_log.specs.Contents.{standing_over};
@@ -12,12 +12,12 @@ ghost use Rattle.warg_log.specs.Judging.{Judges};
 ghost use Rattle.warg_log.specs.Offences.{offence_of, unauthorized, lacks, lacks_required, not_begun, empty_grant, init_offence, grant_offence, revoke_offence};
 
 use crate::authority::Authority;
-use crate::permission::LogPermission;
 use crate::permission_set::{PermissionSet, know};
 use crate::refusal::Refusal;
 use crate::rights;
 use warg_crypto::hash::HashAlgorithm;
 use warg_crypto::signing::{KeyID, PublicKey};
+use warg_records::LogPermission;
 
 impl<P: LogPermission> Authority<P> {
     /// Whether an Init stands.

@@ -6,12 +6,12 @@ ghost use Rattle.warg_log.specs.EqualLaws.{sets_equiv};
 
 mod saved;
 
-use crate::permission::LogPermission;
 use indexmap::IndexSet;
 use std::alloc::{AllocError, Global};
 use std::fmt;
 use std::marker::Model;
 use std::sync::Arc;
+use warg_records::LogPermission;
 
 /// A set of permissions. Keys that hold the same permissions share one set, so that a key takes a few bytes for it.
 #[derive(Drop)]

@@ -4,14 +4,14 @@ ghost use Rattle.std.specs.List.{list_any};
 ghost use Rattle.std.specs.Option.{option_copied, option_map_or};
 ghost use Rattle.std.specs.Str.{bytes_eq};
 ghost use Rattle.indexmap.specs.IndexSet.{contains};
-ghost use Rattle.warg_log.specs.Permissions.{lists};
+ghost use Rattle.warg_records.specs.Permissions.{lists};
 ghost use Rattle.warg_log.specs.Rights.{holds_in, layered, held_over, has_entry_over, first_missing};
 
-use crate::permission::LogPermission;
 use crate::permission_set::{PermissionSet, share};
 use indexmap::{IndexMap, IndexSet};
 use std::alloc::{AllocError, Global};
 use warg_crypto::signing::KeyID;
+use warg_records::LogPermission;
 
 /// Whether the permission is among those held.
 pub(crate) fn is_among<P: LogPermission>(held: Option<&PermissionSet<P>>, permission: P) -> bool

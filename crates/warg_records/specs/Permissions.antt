@@ -1,7 +1,12 @@
--- What is answered where a text or a number names no permission.
-use Rattle.std.specs.Prelude.{ℤ, Option, Some, None, Result, Ok, Err}
+-- Lists of permissions, and what is answered where a text or a number names none.
+use Rattle.std.specs.Prelude.{ℤ, Bool, List, Option, Some, None, Result, Ok, Err}
+use Rattle.std.specs.List.{list_any}
 use Rattle.warg_records.specs.declared.permission.InvalidPermission.{InvalidPermission}
 use Rattle.warg_records.specs.declared.permission.PermissionParseError.{PermissionParseError}
+
+-- whether the permissions have p among them, where same compares two
+abbrev pub lists : {P : Type 0} → (P → P → Bool) → List P → P → Bool
+lists same permissions p = list_any (λ x. same x p) permissions
 
 -- the permission that is named, or else that none is
 abbrev pub named_or : {P : Type 0} → Option P → Result P InvalidPermission

@@ -22,7 +22,7 @@ mod serde_envelope;
 mod writing;
 
 use indexmap::IndexSet;
-pub use permission::{InvalidPermission, PermissionParseError};
+pub use permission::{InvalidPermission, LogPermission, PermissionParseError};
 pub use proto_envelope::{
     ParseEnvelopeError, ProtoEnvelope, ProtoEnvelopeBody, PublishedProtoEnvelope,
     PublishedProtoEnvelopeBody,

@@ -6,7 +6,7 @@ ghost use Rattle.warg_protobuf.specs.Views.{option_view};
 ghost use Rattle.warg_records.specs.Faults.{fault_of, IsReading};
 ghost use Rattle.warg_records.specs.Steps.{each, prev_of, time_of, key_of, beginning_of, permission_in, wire_error_of};
 
-use crate::permission::NumberedPermission;
+use crate::permission::LogPermission;
 use crate::registry::RecordId;
 use std::alloc::Global;
 use std::str::FromStr;
@@ -16,7 +16,7 @@ use warg_crypto::{DecodeError, Timestamp, WireFault};
 use warg_protobuf::{TimestampPair, WireError};
 
 /// The permission of a number.
-fn read_permission<P: NumberedPermission>(number: i32) -> Result<P, DecodeError>
+fn read_permission<P: LogPermission>(number: i32) -> Result<P, DecodeError>
     ensures { IsReading (λ p. p) fault_of (permission_in P.permission_of number) result }
 {
     match P::from_number(number) {
@@ -26,7 +26,7 @@ fn read_permission<P: NumberedPermission>(number: i32) -> Result<P, DecodeError>
 }
 
 /// Reads all permissions, in order, up to the first number that is none.
-pub(crate) fn read_permissions<P: NumberedPermission>(
+pub(crate) fn read_permissions<P: LogPermission>(
     alloc: Global,
     numbers: Vec<i32>,
 ) -> Result<Vec<P>, DecodeError>

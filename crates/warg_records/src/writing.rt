@@ -6,7 +6,7 @@ ghost use Rattle.warg_protobuf.specs.Timestamp.{timestamp_view};
 ghost use Rattle.warg_protobuf.specs.Views.{option_view};
 ghost use Rattle.warg_records.specs.Writing.{id_text, time_message};
 
-use crate::permission::NumberedPermission;
+use crate::permission::LogPermission;
 use crate::registry::RecordId;
 use std::alloc::{AllocError, Global};
 use std::fmt;
@@ -45,7 +45,7 @@ pub(crate) fn write_each<T: ToMessage>(
 }
 
 /// Writes the numbers of all permissions, in order.
-pub(crate) fn write_permissions<P: NumberedPermission>(
+pub(crate) fn write_permissions<P: LogPermission>(
     alloc: Global,
     permissions: &[P],
 ) -> Result<Vec<i32>, AllocError>

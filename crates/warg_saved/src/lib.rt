@@ -15,6 +15,5 @@ pub use fit::{check_begun, check_empty, check_keys, check_rights, check_version}
 pub use map::{is_empty, map_member, map_value, put_map};
 pub use members::{algorithm_member, are_no_keys, keys_member, put_algorithm, put_keys};
 pub use name::SavedName;
-pub use permissions::SavedPermission;
 pub use text::MemberTexts;
 pub use value::SavedValue;

@@ -3,12 +3,12 @@ ghost use Rattle.std.specs.Prelude.{◌≡◌};
 ghost use Rattle.warg_log.specs.Contents.{maps_contents};
 
 use crate::authority::Authority;
-use crate::permission::LogPermission;
 use crate::permission_set::PermissionSet;
 use indexmap::IndexMap;
 use std::alloc::Global;
 use warg_crypto::hash::HashAlgorithm;
 use warg_crypto::signing::{KeyID, PublicKey};
+use warg_records::LogPermission;
 
 impl<P: LogPermission> Authority<P> {
     /// The authority of these maps.

@@ -3,15 +3,15 @@ ghost use Rattle.std.specs.Prelude.{List, []};
 ghost use Rattle.warg_saved.specs.NoFloat.{texts_no_float};
 ghost use Rattle.warg_saved.specs.Permissions.{permissions_in, permissions_json};
 
-use crate::permission::LogPermission;
 use crate::permission_set::PermissionSet;
 use indexmap::IndexSet;
 use serde_json::Value;
 use std::alloc::Global;
 use warg_crypto::JsonError;
-use warg_saved::{SavedPermission, SavedValue};
+use warg_records::LogPermission;
+use warg_saved::SavedValue;
 
-impl<P: LogPermission + SavedPermission> SavedValue for PermissionSet<P> {
+impl<P: LogPermission> SavedValue for PermissionSet<P> {
     ghost Plain = { List P };
 
     ghost plain = { λ s. s };

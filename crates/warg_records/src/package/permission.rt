@@ -4,11 +4,12 @@ ghost use Rattle.std.specs.Prelude.{◌≡◌, [], ◌∷◌, pos, Option, Some,
 ghost use Rattle.std.specs.Cmp.{partial_equiv_from_equiv};
 ghost use Rattle.std.specs.Hash as fed;
 ghost use Rattle.warg_records.specs.Permissions.{named_or, numbered_or};
-ghost use Rattle.warg_records.specs.PackagePermissions.{number_of, permission_of, permission_text, permission_in, same_permission, same_permission_equiv, hash-same_permission, permission_of-number_of};
+ghost use Rattle.warg_records.specs.PackagePermissions.{number_of, permission_of, permission_text, permission_in, same_permission, same_permission_equiv, same_permission-is, hash-same_permission, permission_of-number_of, permission_in-permission_text};
 
 mod json;
 
-use crate::permission::{InvalidPermission, NumberedPermission, PermissionParseError};
+use crate::permission::{InvalidPermission, LogPermission, PermissionParseError};
+use std::alloc::{AllocError, Global};
 use std::fmt;
 use std::hash::{Hash, Hasher};
 use std::str::FromStr;
@@ -99,12 +100,26 @@ impl FromStr for Permission {
     }
 }
 
-impl NumberedPermission for Permission {
+impl LogPermission for Permission {
     ghost permission_of = { permission_of };
 
     ghost number_of = { λ p. pos (number_of p) };
 
-    ghost reads_back = { permission_of-number_of };
+    ghost named = { permission_in };
+
+    ghost text_of = { permission_text };
+
+    ghost number_reads_back = { permission_of-number_of };
+
+    ghost text_reads_back = { permission_in-permission_text };
+
+    ghost clones = { λ x y h. h };
+
+    ghost same_is = { same_permission-is };
+
+    fn all(alloc: Global) -> Result<Vec<Permission>, AllocError> {
+        Permission::all().to_vec(alloc)
+    }
 
     fn from_number(number: i32) -> Option<Permission> {
         match number {
@@ -116,6 +131,14 @@ impl NumberedPermission for Permission {
 
     fn to_number(self) -> i32 {
         self.number() as i32
+    }
+
+    fn from_text(text: &str) -> Option<Permission> {
+        text.parse::<Permission>().ok()
+    }
+
+    fn as_text(self) -> &'static str {
+        self.as_str()
     }
 }
 

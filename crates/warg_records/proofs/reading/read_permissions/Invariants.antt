@@ -4,6 +4,6 @@ use Rattle.warg_records.specs.Steps.{each, permission_in}
 use Rattle.warg_records.proofs.reading.read_permissions.Given as goal
 
 abbrev pub invariant-loop-number : goal.invariant-loop-number
-invariant-loop-number g l = (each (permission_in g.P.NumberedPermission.permission_of) l.yielded ≡ Ok l.permissions.items)
+invariant-loop-number g l = (each (permission_in g.P.LogPermission.permission_of) l.yielded ≡ Ok l.permissions.items)
     × (l.yielded ++ into_iter_items l.number-iterator ≡ into_iter_items l.initial.number-iterator)
     × (into_iter_len l.number-iterator ≡ length (into_iter_items l.number-iterator))
