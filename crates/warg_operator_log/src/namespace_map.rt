@@ -48,6 +48,19 @@ impl Model for NamespaceMap {
     ghost invariant = { λ a. HasKebabNames (named a.map.entries) };
 }
 
+/// Whether the entry defines or imports a namespace.
+fn adds(entry: &OperatorEntry) -> bool {
+    matches!(
+        entry,
+        OperatorEntry::DefineNamespace { .. } | OperatorEntry::ImportNamespace { .. }
+    )
+}
+
+/// How many namespaces the last entries of a record add at most.
+fn most_added(entries: &[OperatorEntry]) -> usize {
+    entries.iter().rev().take_while(|entry| adds(entry)).count()
+}
+
 /// Adds a namespace of a new name.
 fn add(
     map: &mut IndexMap<String, NamespaceState>,
@@ -214,8 +227,13 @@ impl LogKind for NamespaceMap {
         ValidationError::from(refusal)
     }
 
-    fn no_change(alloc: Global) -> NamespaceMap {
-        empty(alloc)
+    fn no_change(
+        &self,
+        alloc: Global,
+        entries: &[OperatorEntry],
+    ) -> Result<NamespaceMap, AllocError> {
+        let map = IndexMap::with_capacity(alloc, most_added(entries))?;
+        Ok(NamespaceMap { map })
     }
 
     fn apply(
