@@ -110,6 +110,23 @@ fn ids(rt: HostRuntime) {
     same(&rt, &any.try_clone().expect(&rt, "memory"), &any);
 }
 
+// An id that shares its text is the same id, with the same text; so are its copies.
+fn is_shared(rt: &impl Abort, alloc: Global, name: &str) {
+    let shared = id(rt, alloc, name).share().expect(rt, "memory");
+    is_shown(rt, alloc, &shared, name);
+    same(rt, &shared, &id(rt, alloc, name));
+    let copy = shared.try_clone().expect(rt, "memory");
+    same(rt, &copy, &shared);
+    same(rt, &copy.share().expect(rt, "memory"), &shared);
+}
+
+#[test]
+fn shared_ids(rt: HostRuntime) {
+    let alloc = rt.alloc();
+    is_shared(&rt, alloc, "any text: at all");
+    is_shared(&rt, alloc, "");
+}
+
 #[test]
 fn fingerprints(rt: HostRuntime) {
     let alloc = rt.alloc();

@@ -2,9 +2,25 @@
 
 use crate::values::{is, is_shown};
 use std::alloc::Global;
+use std::fmt::Debug;
 use std::process::Abort;
 use std::str::FromStr;
-use warg_records::{InvalidPermission, PermissionParseError, operator, package};
+use warg_records::{InvalidPermission, LogPermission, PermissionParseError, operator, package};
+
+// The kind lists the permission, and names it by this text and this number.
+fn is_named<P: LogPermission + Debug + Drop>(
+    rt: &impl Abort,
+    alloc: Global,
+    permission: P,
+    text: &str,
+    number: i32,
+) {
+    assert!(rt; P::all(alloc).expect(rt, "memory").contains(&permission));
+    is(rt, permission.as_text(), text);
+    is(rt, P::from_text(text), Some(permission));
+    is(rt, permission.to_number(), number);
+    is(rt, P::from_number(number), Some(permission));
+}
 
 fn of_package(
     rt: &impl Abort,
@@ -17,6 +33,7 @@ fn of_package(
     is(rt, package::Permission::from_str(text), Ok(permission));
     is(rt, i32::from(&permission), number);
     is(rt, package::Permission::try_from(number), Ok(permission));
+    is_named(rt, alloc, permission, text, number);
 }
 
 #[test]
@@ -37,6 +54,7 @@ fn of_operator(
     is(rt, operator::Permission::from_str(text), Ok(permission));
     is(rt, i32::from(&permission), number);
     is(rt, operator::Permission::try_from(number), Ok(permission));
+    is_named(rt, alloc, permission, text, number);
 }
 
 #[test]
