@@ -72,6 +72,9 @@ fn tell_saved(rt: &impl Print, alloc: Global) -> io::Result<()> {
         "begun, a namespace of a bad name",
         saved::bad_namespace(alloc),
     )?;
+    for (name, text) in saved::STATES {
+        tell(rt, name, saved::text_state(alloc, text))?;
+    }
     for (name, text) in saved::CHECKPOINTS {
         tell(rt, name, saved::checkpoint(alloc, text))?;
     }

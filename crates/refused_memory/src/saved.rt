@@ -4,7 +4,7 @@ use crate::refusal::{OUT_OF_MEMORY, Refusal};
 use serde_json::Value;
 use std::alloc::Global;
 use warg_protocol::registry::Checkpoint;
-use warg_protocol::{Incoherence, JsonError, JsonValue, operator, package};
+use warg_protocol::{Incoherence, JsonError, JsonTextError, JsonValue, operator, package};
 
 // An algorithm and a head, as members of a state.
 const BEGUN: &str =
@@ -46,6 +46,20 @@ pub(crate) const MEMBERS: &[(&str, &str)] = &[
         "begun, a key under another id, and permissions of no key",
         ",\"keys\":{\"x\":\"toy:YWxpY2U=\"},\"permissions\":{\"y\":[]}",
     ),
+];
+
+/// Texts of which a state is read with no value of the whole, each with what it is.
+pub(crate) const STATES: &[(&str, &str)] = &[
+    (
+        "from_json",
+        "{\"algorithm\":\"sha256\",\"head\":{\"digest\":\"sha256:88e63a3e22d45d5304a601e1f3f96e4c8edb3772b5250b528a833bfbf3c3c718\",\"timestamp\":\"3.0\"},\"keys\":{\"sha256:41217e6dcb8c0694d904eb6ff3e4098d479db7c8f90cd8db737d85701d464db0\":\"toy:Ym9i\",\"sha256:6f03ae61d0fd3df261d400afe99bdcd613f266104552b6ad5281c7666633c6e2\":\"toy:YWxpY2U=\"},\"permissions\":{\"sha256:41217e6dcb8c0694d904eb6ff3e4098d479db7c8f90cd8db737d85701d464db0\":[],\"sha256:6f03ae61d0fd3df261d400afe99bdcd613f266104552b6ad5281c7666633c6e2\":[\"release\",\"yank\"]},\"releases\":{\"1.1.0\":{\"by\":\"sha256:41217e6dcb8c0694d904eb6ff3e4098d479db7c8f90cd8db737d85701d464db0\",\"recordId\":\"sha256:980dfd23c944eebfbcc477c24acde9b1c3838478faa48d4f9e13e947740a3482\",\"state\":{\"by\":\"sha256:6f03ae61d0fd3df261d400afe99bdcd613f266104552b6ad5281c7666633c6e2\",\"status\":\"yanked\",\"timestamp\":\"3.0\"},\"timestamp\":\"2.0\",\"version\":\"1.1.0\"}}}",
+    ),
+    (
+        "from_json, a release without members",
+        "{\"releases\":{\"1.1.0\":{}}}",
+    ),
+    ("from_json, a list", "[]"),
+    ("from_json, no end", "{\"releases\":{"),
 ];
 
 /// Checkpoints, each with what it is.
@@ -98,6 +112,17 @@ fn read<T: JsonValue + Drop>(alloc: Global, text: &str) -> Result<&'static str, 
         Err(JsonError::OutOfMemory) => Err(OUT_OF_MEMORY),
         Err(error) => Ok(fault_name(error)),
     }
+}
+
+/// What the text is read as, as a package log's state, with no value of the whole.
+pub(crate) fn text_state(alloc: Global, text: &str) -> Result<String, Refusal> {
+    let told = match package::LogState::from_json(alloc, text) {
+        Ok(_) => "read",
+        Err(JsonTextError::NotJson) => "no JSON",
+        Err(JsonTextError::Value(JsonError::OutOfMemory)) => return Err(OUT_OF_MEMORY),
+        Err(JsonTextError::Value(error)) => fault_name(error),
+    };
+    Ok(String::from_str(alloc, told)?)
 }
 
 /// What the text is read as, as a package log's state.

@@ -1,10 +1,9 @@
 //! What is timed.
 
-use serde_json::Value;
 use std::alloc::Global;
 use warg_protocol::package::{LogState, PackageRecord, Permission};
 use warg_protocol::toy::ToyVerifier;
-use warg_protocol::{AuditedLog, Decode, Envelope, HeadComparison, JsonValue, ProtoEnvelope, run};
+use warg_protocol::{AuditedLog, Decode, Envelope, HeadComparison, ProtoEnvelope, run};
 
 pub(crate) type Log = AuditedLog<LogState, ToyVerifier>;
 
@@ -135,8 +134,7 @@ fn chain(log: &Log) -> anyhow::Result<usize> {
 }
 
 fn read(alloc: Global, json: &str) -> anyhow::Result<usize> {
-    let value = Value::from_str(alloc, json)?;
-    Ok(LogState::from_value(alloc, &value)?.releases().count())
+    Ok(LogState::from_json(alloc, json)?.releases().count())
 }
 
 impl Phase {

@@ -14,3 +14,4 @@ pub mod SavedFound
 pub mod SavedLaws
 pub mod SavedTexts
 pub mod SavableReleases
+pub mod ApartParts

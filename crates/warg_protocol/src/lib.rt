@@ -23,4 +23,5 @@ pub use warg_records::{
     InvalidPermission, ParseEnvelopeError, PermissionParseError, ProtoEnvelope, ProtoEnvelopeBody,
     PublishedProtoEnvelope, PublishedProtoEnvelopeBody, Record, SerdeEnvelope, Version, VersionReq,
 };
+pub use warg_saved::JsonTextError;
 pub use warg_validator::{Effect, RunCause, RunError, Validator, run, run_from};

@@ -11,7 +11,7 @@ use warg_protocol::operator::{
     LogState, OperatorEntry, OperatorRecord, Permission, ValidationError,
 };
 use warg_protocol::registry::RecordId;
-use warg_protocol::{JsonError, ProtoEnvelope};
+use warg_protocol::{JsonError, JsonTextError, ProtoEnvelope};
 
 // Reads `init alice`, `grant bob commit`, `revoke bob commit`, `define name` and `import name registry`.
 fn entry(alloc: Global, verb: &str, subject: &str, rest: &str) -> Result<OperatorEntry, Fail> {
@@ -76,6 +76,10 @@ impl Scripted for LogState {
 
     fn json(&self, alloc: Global) -> Result<String, JsonError> {
         self.to_json(alloc)
+    }
+
+    fn of_json(alloc: Global, json: &str) -> Result<LogState, JsonTextError> {
+        LogState::from_json(alloc, json)
     }
 
     fn answer(&self, alloc: Global, look_up: &str, subject: &str) -> Result<String, Fail> {

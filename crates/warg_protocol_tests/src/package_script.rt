@@ -9,7 +9,7 @@ use std::test::Fail;
 use warg_protocol::hash::HashAlgorithm;
 use warg_protocol::package::{LogState, PackageEntry, PackageRecord, Permission, ValidationError};
 use warg_protocol::registry::RecordId;
-use warg_protocol::{JsonError, ProtoEnvelope, Version};
+use warg_protocol::{JsonError, JsonTextError, ProtoEnvelope, Version};
 
 // Reads `init alice`, `grant bob release yank`, `revoke bob yank`, `release 1.0.0 content` and `yank 1.0.0`.
 // A content is hashed; without one it is empty.
@@ -75,6 +75,10 @@ impl Scripted for LogState {
 
     fn json(&self, alloc: Global) -> Result<String, JsonError> {
         self.to_json(alloc)
+    }
+
+    fn of_json(alloc: Global, json: &str) -> Result<LogState, JsonTextError> {
+        LogState::from_json(alloc, json)
     }
 
     fn answer(&self, alloc: Global, look_up: &str, subject: &str) -> Result<String, Fail> {

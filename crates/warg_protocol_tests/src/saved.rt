@@ -6,7 +6,7 @@ use std::alloc::Global;
 use std::fmt::Debug;
 use std::process::Abort;
 use std::test::Fail;
-use warg_protocol::{JsonError, JsonValue};
+use warg_protocol::{JsonError, JsonTextError, JsonValue};
 
 /// An algorithm and a head, as members of a state.
 pub const BEGUN: &str =
@@ -15,10 +15,16 @@ pub const BEGUN: &str =
 /// The id of alice's key.
 pub const ALICE: &str = "sha256:6f03ae61d0fd3df261d400afe99bdcd613f266104552b6ad5281c7666633c6e2";
 
-/// What the text of a saved state is read as.
+/// What the text of a saved state is read as, which is the same by its value and without.
 pub fn load<L: Scripted>(rt: &impl Abort, alloc: Global, json: &str) -> Result<L, JsonError> {
     let value = Value::from_str(alloc, json).expect(rt, json);
-    L::from_value(alloc, &value)
+    let state = L::from_value(alloc, &value);
+    match (&state, L::of_json(alloc, json)) {
+        (Ok(state), Ok(same)) => assert!(rt; *state == same, "{json}"),
+        (Err(fault), Err(JsonTextError::Value(same))) => assert_eq!(rt; *fault, same, "{json}"),
+        _ => rt.abort(),
+    }
+    state
 }
 
 /// The text of the state, which is the same by its value and without.

@@ -5,7 +5,7 @@ use std::fmt::Debug;
 use std::str::FromStr;
 use std::test::Fail;
 use warg_protocol::registry::RecordId;
-use warg_protocol::{JsonError, ProtoEnvelope, Validator};
+use warg_protocol::{JsonError, JsonTextError, ProtoEnvelope, Validator};
 
 /// A kind of log that scripts speak of.
 pub trait Scripted: Validator {
@@ -36,6 +36,9 @@ pub trait Scripted: Validator {
 
     /// The state's JSON as text, written with no value of the whole.
     fn json(&self, alloc: Global) -> Result<String, JsonError>;
+
+    /// The state of a text of JSON, read with no value of the whole.
+    fn of_json(alloc: Global, json: &str) -> Result<Self, JsonTextError>;
 
     /// What the state answers: to which look-up, of whom or what.
     fn answer(&self, alloc: Global, look_up: &str, subject: &str) -> Result<String, Fail>;

@@ -8,3 +8,7 @@ pub mod FitBack
 pub mod PutMembers
 pub mod TextLaws
 pub mod TextSteps
+pub mod Taken
+pub mod TextReading
+pub mod NextMembers
+pub mod OtherMembers

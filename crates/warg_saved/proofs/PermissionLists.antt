@@ -4,11 +4,11 @@ use Rattle.std.specs.Cmp.{IsEquivalence}
 use Rattle.std.specs.List.{AllByRecursion, IsDistinct, list_any}
 use Rattle.std.proofs.Common.{sym, ap, ◌∙◌, subst, append_assoc, append-nil}
 use Rattle.indexmap.specs.IndexSet.{insert_key}
-use Rattle.serde_json.specs.Data.{Data, array, string}
+use Rattle.serde_json.specs.Data.{Data, string}
 use Rattle.serde_json.specs.View.{items_of}
 use Rattle.warg_crypto.specs.declared.json.error.JsonError.{JsonError}
-use Rattle.warg_crypto.specs.Json.{AreReadBack, Gives, ReadsBack, some_or, wrote}
-use Rattle.warg_saved.specs.Permissions.{permission_in, permissions_from, permissions_in, permissions_json}
+use Rattle.warg_crypto.specs.Json.{AreReadBack, Gives, ReadsBack, wrote}
+use Rattle.warg_saved.specs.Permissions.{permissions_from, permissions_in, permissions_json}
 
 written_same : {A : Type 0} (x y : A) → wrote x ≡ Ok y → x ≡ y
 written_same x y e = cc

@@ -13,7 +13,6 @@ use Rattle.std.proofs.lemmas.Slice.Eq.{bytes_eq-Decides}
 use Rattle.indexmap.specs.IndexMap.{insert_entry}
 use Rattle.serde_json.specs.Data.{Data, Members, member}
 use Rattle.warg_crypto.specs.declared.json.error.JsonError.{JsonError}
-use Rattle.warg_crypto.specs.Json.{◌>>=◌, wrote}
 use Rattle.warg_crypto.specs.Pairs.{AreAscending, names_of, pairs_of, plain_pairs}
 use Rattle.warg_crypto.proofs.Lists.{before, before_one}
 
@@ -29,11 +28,11 @@ names_differ (m ∷ ns) n rest h =
     let less : slice_cmp nat_cmp m n ≡ Less = at_seam (λ y. slice_cmp nat_cmp m y ≡ Less) ns n rest h.0 in
     (nat_list_eq_equiv.symm n m ∙ sym (is_eq-slice_cmp m n) ∙ ap is_eq less, names_differ ns n rest h.1)
 
-new_last : {K V : Type 0} (eq : K → K → Bool) (es : List (K × V)) (k : K) (v : V) → AllByRecursion (λ x. eq k x ≡ false) (keys_of es) → insert_entry eq es k v ≡ es ++ (k, v) ∷ []
+pub new_last : {K V : Type 0} (eq : K → K → Bool) (es : List (K × V)) (k : K) (v : V) → AllByRecursion (λ x. eq k x ≡ false) (keys_of es) → insert_entry eq es k v ≡ es ++ (k, v) ∷ []
 new_last eq [] k v h = refl
 new_last eq (e ∷ es) k v h = ap (λ b. if b then (e.0, v) ∷ es else e ∷ insert_entry eq es k v) h.0 ∙ ap (λ l. e ∷ l) (new_last eq es k v h.1)
 
-map-last : {X Y : Type 0} (f : X → Y) (xs : List X) (y : X) → map f (xs ++ y ∷ []) ≡ map f xs ++ f y ∷ []
+pub map-last : {X Y : Type 0} (f : X → Y) (xs : List X) (y : X) → map f (xs ++ y ∷ []) ≡ map f xs ++ f y ∷ []
 map-last f [] y = refl
 map-last f (x ∷ xs) y = ap (λ l. f x ∷ l) (map-last f xs y)
 
@@ -44,7 +43,7 @@ module _ {K V A B : Type 0} (plain : K → A) (value : V → B) (name_of : A →
     pub names : map (λ e. name_of (plain e.0)) es ++ names_of rest ≡ names_of all
 
   module _ (eq : K → K → Bool) (one_key : (a b : K) → eq a b ≡ true → plain a ≡ plain b) (back : (name : List ℕ) (k : A) → named name ≡ Ok k → name_of k ≡ name) where
-    keys_differ : (es : List (K × V)) (k : K) → AllByRecursion (λ m. bytes_eq (name_of (plain k)) m ≡ false) (map (λ e. name_of (plain e.0)) es) → AllByRecursion (λ x. eq k x ≡ false) (keys_of es)
+    pub keys_differ : (es : List (K × V)) (k : K) → AllByRecursion (λ m. bytes_eq (name_of (plain k)) m ≡ false) (map (λ e. name_of (plain e.0)) es) → AllByRecursion (λ x. eq k x ≡ false) (keys_of es)
     keys_differ [] k h = tt
     keys_differ (e ∷ es) k h = (by (eq k e.0) refl, keys_differ es k h.1)
       where

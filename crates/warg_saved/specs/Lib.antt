@@ -6,3 +6,6 @@ pub mod Fit
 pub mod Backs
 pub mod NoFloat
 pub mod Texts
+pub mod Apart
+pub mod JsonText
+pub mod JsonTextLaws

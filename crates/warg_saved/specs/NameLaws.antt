@@ -12,7 +12,6 @@ use Rattle.semver.specs.declared.error.Error.{Error}
 use Rattle.semver.specs.Identifiers.{parts_of, parts_text}
 use Rattle.semver.specs.Parse.{version_parts}
 use Rattle.semver.proofs.Grammar.{version_parts-sound}
-use Rattle.warg_crypto.specs.declared.json.error.JsonError.{JsonError}
 use Rattle.warg_crypto.specs.Json.{AreReadBack, Version, or_bad_text, wrote}
 use Rattle.warg_saved.specs.Names.{text_name, text_named, version_name, version_named}
 

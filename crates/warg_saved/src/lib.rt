@@ -2,18 +2,25 @@
 //! and what does not fit together in a state.
 #![tactic(auto)]
 
+mod error;
 mod fit;
 mod map;
 mod map_text;
 mod members;
 mod name;
+mod owned;
 mod permissions;
 mod text;
+mod text_map;
+mod text_value;
 mod value;
 
+pub use error::JsonTextError;
 pub use fit::{check_begun, check_empty, check_keys, check_rights, check_version};
 pub use map::{is_empty, map_member, map_value, put_map};
 pub use members::{algorithm_member, are_no_keys, keys_member, put_algorithm, put_keys};
 pub use name::SavedName;
 pub use text::MemberTexts;
+pub use text_map::read_apart;
+pub use text_value::read_value;
 pub use value::SavedValue;

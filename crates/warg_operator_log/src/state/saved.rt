@@ -1,12 +1,13 @@
 //! The state of an operator log as JSON.
-ghost use Rattle.std.specs.Prelude.{ℕ, List, ◌≡◌, ◌&&◌, [], ◌∷◌, None, OnOk, string_bytes};
+ghost use Rattle.std.specs.Prelude.{ℕ, List, ◌≡◌, ◌&&◌, [], ◌∷◌, None, Ok, IfSome, OnOk, string_bytes};
 ghost use Rattle.std.specs.List.{list_any};
 ghost use Rattle.serde_json.specs.Data.{object};
 ghost use Rattle.serde_json.specs.View.{members_view, view};
 ghost use Rattle.warg_crypto.specs.Json.{Gives};
 ghost use Rattle.warg_crypto.specs.Pairs.{plain_pairs};
 ghost use Rattle.warg_records.specs.declared.operator.permission.Permission.{Permission as OfPermission};
-ghost use Rattle.warg_saved.specs.Fit.{RefusesCase, first_case, is_nil, keys_case, rights_case, version_case};
+ghost use Rattle.warg_saved.specs.Fit.{RefusesCase, first_case, is_nil, keys_case, rights_case, unless_case, version_case};
+ghost use Rattle.warg_saved.specs.JsonText.{GivesOfText, in_text};
 ghost use Rattle.warg_saved.specs.Texts.{text_of};
 ghost use Rattle.warg_log.specs.Contents.{Contents};
 ghost use Rattle.warg_log.specs.States.{State};
@@ -30,8 +31,9 @@ use warg_log::{Head, Log, PermissionSet, head_member, head_version, put_head, pu
 use warg_records::operator::Permission;
 use warg_records::registry::PackageName;
 use warg_saved::{
-    MemberTexts, algorithm_member, are_no_keys, check_begun, check_empty, check_keys, check_rights,
-    check_version, is_empty, keys_member, map_member, put_algorithm, put_keys, put_map,
+    JsonTextError, MemberTexts, algorithm_member, are_no_keys, check_begun, check_empty,
+    check_keys, check_rights, check_version, is_empty, keys_member, map_member, put_algorithm,
+    put_keys, put_map, read_apart, read_value,
 };
 
 /// What is read of a state's members.
@@ -60,6 +62,28 @@ fn read_parts(alloc: Global, value: &Value) -> Result<SavedParts, JsonError>
         keys,
         namespaces,
     })
+}
+
+/// The parts of a state's text, its namespaces read one after another. `None`: some part has a fault, or what [`read_apart`]
+/// answers with `None`.
+fn parts_apart(alloc: Global, text: &str) -> Option<SavedParts>
+    ensures { IfSome result (λ parts. in_text parts_in text.now ≡ Ok (parts_view parts)) }
+{
+    let (others, namespaces) = read_apart::<String, NamespaceState>(alloc, text, "namespaces")?;
+    let mut parts = read_parts(alloc, &others).ok()?;
+    parts.namespaces = namespaces;
+    Some(parts)
+}
+
+/// The parts of a state's text, or its first fault.
+fn text_parts(alloc: Global, text: &str) -> Result<SavedParts, JsonTextError>
+    ensures { GivesOfText parts_view result (in_text parts_in text.now) }
+{
+    if let Some(parts) = parts_apart(alloc, text) {
+        return Ok(parts);
+    }
+    let value = read_value(alloc, text)?;
+    Ok(read_parts(alloc, &value)?)
 }
 
 /// Whether some name is no kebab name.
@@ -129,6 +153,16 @@ fn restore(alloc: Global, parts: SavedParts) -> Log<NamespaceMap>
     )
 }
 
+/// The state of the parts, or the first thing that does not fit together.
+fn state_of_parts(alloc: Global, parts: SavedParts) -> Result<LogState, JsonError>
+    ensures { Gives (λ s. s) result (unless_case (incoherence (parts_view parts)) (state_of (parts_view parts))) }
+{
+    check_parts(alloc, &parts)?;
+    Ok(LogState {
+        log: restore(alloc, parts),
+    })
+}
+
 /// The members of the state's JSON.
 fn members_of(alloc: Global, log: &Log<NamespaceMap>) -> Result<Map<String, Value>, JsonError>
     ensures written { Gives (λ m. object (members_view m.entries)) result (state_json log.now) }
@@ -165,6 +199,18 @@ impl LogState {
     {
         log_text(alloc, &self.log)
     }
+
+    /// The state of a text of JSON: what [`JsonValue::from_value`] reads of its value. It takes about half the time, since
+    /// no value of the whole state is made: each namespace is read for itself.
+    pub fn from_json(alloc: Global, text: &str) -> Result<LogState, JsonTextError>
+        ensures { GivesOfText (λ s. s) result (in_text state_in text.now) }
+    {
+        let parts = text_parts(alloc, text)?;
+        match state_of_parts(alloc, parts) {
+            Ok(state) => Ok(state),
+            Err(error) => Err(JsonTextError::Value(error)),
+        }
+    }
 }
 
 /// A state as JSON. `TimeBeforeEpoch`: a time that is to be written lies before the epoch. What is read is the
@@ -187,10 +233,6 @@ impl JsonValue for LogState {
     }
 
     fn from_value(alloc: Global, value: &Value) -> Result<LogState, JsonError> {
-        let parts = read_parts(alloc, value)?;
-        check_parts(alloc, &parts)?;
-        Ok(LogState {
-            log: restore(alloc, parts),
-        })
+        state_of_parts(alloc, read_parts(alloc, value)?)
     }
 }

@@ -1,7 +1,6 @@
 use Rattle.std.proofs.Common.{◌≡◌, List, ℕ, Ok, string_bytes, subst}
-use Rattle.serde_json.specs.Data.{Members}
 use Rattle.serde_json.specs.View.{members_view, view}
-use Rattle.warg_saved.proofs.Reading.{IsReading, one_more}
+use Rattle.warg_saved.proofs.Reading.{one_more}
 use Rattle.warg_saved.proofs.map.map_of.Goals as goal
 
 pub members-preserved : goal.members-preserved

@@ -1,4 +1,4 @@
-use Rattle.std.proofs.Common.{◌≡◌, [], ◌∷◌, ◌++◌, refl, sym, ap, ◌∙◌, subst, rules, string_bytes, true, append-nil}
+use Rattle.std.proofs.Common.{◌≡◌, [], ◌∷◌, ◌++◌, sym, ap, ◌∙◌, subst, rules, string_bytes, true, append-nil}
 use Rattle.serde_json.specs.Data.{string as text}
 use Rattle.serde_json.specs.Written.{comma_if, compact_text, members_text}
 use Rattle.warg_crypto.specs.Steps.{ok_same}

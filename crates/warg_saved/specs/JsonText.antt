@@ -1,0 +1,25 @@
+-- What is read of a text of JSON.
+use Rattle.std.specs.Prelude.{ℕ, ◌≡◌, ◌⊎◌, List, Option, Some, None, Result, Ok, Err, MatchResult}
+use Rattle.serde_json.specs.Data.{Data}
+use Rattle.serde_json.specs.Read.{read}
+use Rattle.warg_crypto.specs.declared.json.error.JsonError.{JsonError}
+use Rattle.warg_crypto.specs.declared.json.error.JsonError.TheVariants.{OutOfMemory}
+use Rattle.warg_saved.specs.declared.error.JsonTextError.{JsonTextError}
+use Rattle.warg_saved.specs.declared.error.JsonTextError.TheVariants.{NotJson, Value}
+
+-- the fault is one of the text's value
+abbrev pub or_fault : {A : Type 0} → Result A JsonError → Result A JsonTextError
+or_fault (Ok x) = Ok x
+or_fault (Err e) = Err (Value e)
+
+abbrev pub of_json_in : {A : Type 0} → (Data → Result A JsonError) → Option Data → Result A JsonTextError
+of_json_in reads None = Err NotJson
+of_json_in reads (Some d) = or_fault (reads d)
+
+-- what is read of the text's JSON
+abbrev pub in_text : {A : Type 0} → (Data → Result A JsonError) → List ℕ → Result A JsonTextError
+in_text reads text = of_json_in reads (read text)
+
+-- What a call answered, seen by view, is want, unless memory ran out.
+abbrev pub GivesOfText : {X Y : Type 0} → (X → Y) → Result X JsonTextError → Result Y JsonTextError → Type 0
+GivesOfText view r want = MatchResult r (λ x. want ≡ Ok (view x)) (λ e. (e ≡ Value OutOfMemory) ⊎ (want ≡ Err e))
