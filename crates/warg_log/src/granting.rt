@@ -110,6 +110,9 @@ impl<P: LogPermission> Authority<P> {
     ) -> Result<(), Refusal<P>>
         ensures { Judges offence_of (unauthorized (standing_over P.eq self.now changes.now) key_id.now permissions.now) result }
     {
+        if permissions.is_empty() {
+            return Ok(());
+        }
         let held = self.rights_with(changes, key_id);
         for permission in permissions {
             if !rights::is_among(held, *permission) {

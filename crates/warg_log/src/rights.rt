@@ -42,6 +42,9 @@ pub(crate) fn look<'a, X>(
 ) -> Option<&'a X>
     ensures { option_copied result ≡ layered base.now.entries changes.now.entries key_id.now }
 {
+    if changes.is_empty() {
+        return base.get(key_id);
+    }
     if let Some(value) = changes.get(key_id) {
         return Some(value);
     }
@@ -181,6 +184,9 @@ pub(crate) fn take_all<P: LogPermission>(
     ensures entries { IfOk result (λ missing. IfNone missing
         ((k : List ℕ) → has_entry_over base.now changes.new k ≡ has_entry_over base.now changes.old k)) }
 {
+    if permissions.is_empty() {
+        return Ok(None);
+    }
     if let Some(held) = changes.get_mut(key_id) {
         return take_from(alloc, sets, held, permissions);
     }
