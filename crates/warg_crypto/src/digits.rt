@@ -3,26 +3,22 @@
 ghost use Rattle.std.specs.Prelude.{◌≡◌, ◌*◌, length, is_ok, IsTrue, unwrap_or, Ok};
 ghost use Rattle.hex.specs.Hex.{decode_of, hex_digit_value};
 
-// For each byte the value of the digit, of either case, that it is; 16 where it is none.
-const VALUES: [u8; 256] = [
-    16, 16, 16, 16, 16, 16, 16, 16, 16, 16, 16, 16, 16, 16, 16, 16, 16, 16, 16, 16, 16, 16, 16, 16,
-    16, 16, 16, 16, 16, 16, 16, 16, 16, 16, 16, 16, 16, 16, 16, 16, 16, 16, 16, 16, 16, 16, 16, 16,
-    0, 1, 2, 3, 4, 5, 6, 7, 8, 9, 16, 16, 16, 16, 16, 16, 16, 10, 11, 12, 13, 14, 15, 16, 16, 16,
-    16, 16, 16, 16, 16, 16, 16, 16, 16, 16, 16, 16, 16, 16, 16, 16, 16, 16, 16, 16, 16, 16, 16, 10,
-    11, 12, 13, 14, 15, 16, 16, 16, 16, 16, 16, 16, 16, 16, 16, 16, 16, 16, 16, 16, 16, 16, 16, 16,
-    16, 16, 16, 16, 16, 16, 16, 16, 16, 16, 16, 16, 16, 16, 16, 16, 16, 16, 16, 16, 16, 16, 16, 16,
-    16, 16, 16, 16, 16, 16, 16, 16, 16, 16, 16, 16, 16, 16, 16, 16, 16, 16, 16, 16, 16, 16, 16, 16,
-    16, 16, 16, 16, 16, 16, 16, 16, 16, 16, 16, 16, 16, 16, 16, 16, 16, 16, 16, 16, 16, 16, 16, 16,
-    16, 16, 16, 16, 16, 16, 16, 16, 16, 16, 16, 16, 16, 16, 16, 16, 16, 16, 16, 16, 16, 16, 16, 16,
-    16, 16, 16, 16, 16, 16, 16, 16, 16, 16, 16, 16, 16, 16, 16, 16, 16, 16, 16, 16, 16, 16, 16, 16,
-    16, 16, 16, 16, 16, 16, 16, 16, 16, 16, 16, 16, 16, 16,
-];
-
-// The value of a digit of either case; 16 for another byte.
+// The value of a digit of either case; 16 for another byte. Without a table, so that many digits can be read at once.
 fn digit_value(byte: u8) -> u8
     ensures { result ≡ unwrap_or (hex_digit_value byte) 16 }
 {
-    VALUES[byte as usize]
+    let decimal = byte.wrapping_sub(b'0');
+    let small = byte.wrapping_sub(b'a');
+    let capital = byte.wrapping_sub(b'A');
+    if decimal < 10 {
+        decimal
+    } else if small < 6 {
+        small + 10
+    } else if capital < 6 {
+        capital + 10
+    } else {
+        16
+    }
 }
 
 /// Writes the bytes that the pairs of digits spell, and tells whether all are digits.

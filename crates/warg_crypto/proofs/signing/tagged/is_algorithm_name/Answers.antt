@@ -1,4 +1,4 @@
-use Rattle.std.proofs.Common.{rules, arith, ◌≡◌, ◌<◌, Bool, IsTrue, false, true, not, length}
+use Rattle.std.proofs.Common.{rules, arith, ◌≡◌, Bool, IsTrue, false, not}
 use Rattle.warg_crypto.specs.Names.{some_bytes}
 use Rattle.warg_crypto.proofs.signing.tagged.is_algorithm_name.Goals as goal
 
