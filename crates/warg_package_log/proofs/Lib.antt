@@ -15,3 +15,4 @@ pub mod SavedLaws
 pub mod SavedTexts
 pub mod SavableReleases
 pub mod ApartParts
+pub mod ReleaseTokens

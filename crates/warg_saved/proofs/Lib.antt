@@ -12,3 +12,4 @@ pub mod Taken
 pub mod TextReading
 pub mod NextMembers
 pub mod OtherMembers
+pub mod MemberTokens

@@ -6,6 +6,8 @@ pub mod Fit
 pub mod Backs
 pub mod NoFloat
 pub mod Texts
+pub mod Writes
+pub mod WriteLaws
 pub mod Apart
 pub mod JsonText
 pub mod JsonTextLaws

@@ -17,6 +17,7 @@ mod value;
 
 pub use error::JsonTextError;
 pub use fit::{check_begun, check_empty, check_keys, check_rights, check_version};
+pub use json::Writer;
 pub use map::{is_empty, map_member, map_value, put_map};
 pub use members::{algorithm_member, are_no_keys, keys_member, put_algorithm, put_keys};
 pub use name::SavedName;

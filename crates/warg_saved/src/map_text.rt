@@ -1,5 +1,6 @@
 //! Maps written as the text of an object, one value after another.
-ghost use Rattle.std.specs.Prelude.{IfErr, IfOk, ◌≡◌, ◌⊎◌, Err, Ok, string_bytes};
+ghost use Rattle.std.specs.Prelude.{IfErr, IfOk, ◌≡◌, ◌⊎◌, [], Err, Ok, string_bytes};
+ghost use Rattle.json.specs.Print.{print};
 ghost use Rattle.serde_json.specs.Data.{Members, no_members, object};
 ghost use Rattle.serde_json.specs.Written.{compact_text};
 ghost use Rattle.warg_crypto.specs.declared.json.error.JsonError.TheVariants as fault;
@@ -8,20 +9,12 @@ ghost use Rattle.warg_crypto.specs.Pairs.{pairs_json, pairs_onto, plain_pairs};
 ghost use Rattle.warg_saved.specs.Texts.{AreMembers, text_of};
 
 use crate::name::SavedName;
-use crate::text::quoted;
 use crate::value::SavedValue;
 use indexmap::IndexMap;
+use json::Writer;
 use std::alloc::Global;
 use std::collections::BTreeMap;
 use warg_crypto::JsonError;
-
-/// The text of the value's JSON.
-fn value_text<V: SavedValue>(alloc: Global, value: &V) -> Result<String, JsonError>
-    ensures { Gives string_bytes result (text_of (V.writes (V.plain value.now))) }
-{
-    let json = value.save(alloc)?;
-    Ok(json.to_string(alloc)?)
-}
 
 /// The values by their names: where names repeat, the last entry counts. The fault is that of the first value
 /// that cannot be written.
@@ -43,6 +36,15 @@ fn by_name<'m, K: SavedName, V: SavedValue>(
     Ok(named)
 }
 
+/// What was written, where nothing stood before it.
+fn written(out: Writer) -> String
+    requires { out.before ≡ [] }
+    ensures { string_bytes result ≡ print out.tokens }
+{
+    let bytes = out.into_inner();
+    unsafe { String::from_utf8_unchecked(bytes) }
+}
+
 /// The text of the object whose members are those of the values. The error is `OutOfMemory`.
 fn joined<V: SavedValue>(alloc: Global, named: &BTreeMap<String, &V>) -> Result<String, JsonError>
     requires { (ms : Members) × AreMembers V.plain V.writes named.now.entries ms }
@@ -50,26 +52,17 @@ fn joined<V: SavedValue>(alloc: Global, named: &BTreeMap<String, &V>) -> Result<
         → string_bytes s ≡ compact_text (object ms)) }
     ensures err { IfErr result (λ e. e ≡ fault.OutOfMemory) }
 {
-    let mut text = String::new(alloc);
-    text.push('{')?;
-    let mut later = false;
+    let mut out = Writer::new(Vec::new(alloc));
+    out.begin_object()?;
     'members: for (name, value) in named.iter() {
-        if later {
-            text.push(',')?;
-        }
-        let name = quoted(alloc, name.as_str())?;
-        text.push_str(name.as_str())?;
-        text.push(':')?;
-        let value = value_text(alloc, *value)?;
-        text.push_str(value.as_str())?;
-        later = true;
+        out.key(name.as_str())?;
+        value.write(alloc, &mut out)?;
     }
-    text.push('}')?;
-    Ok(text)
+    out.end_object()?;
+    Ok(written(out))
 }
 
-/// The text of the map as an object. One value after another is made and written: a value of the whole would take
-/// several times the memory of the text.
+/// The text of the map as an object. One value after another is written, and no JSON value of any is made.
 pub(crate) fn map_text<K: SavedName, V: SavedValue>(
     alloc: Global,
     map: &IndexMap<K, V>,

@@ -4,9 +4,11 @@ ghost use Rattle.serde_json.specs.View.{items_view, view};
 ghost use Rattle.warg_crypto.specs.Json.{Gives};
 ghost use Rattle.warg_saved.specs.NoFloat.{texts_no_float};
 ghost use Rattle.warg_saved.specs.Permissions.{permission_in, permissions_from, permissions_in, permissions_json};
+ghost use Rattle.warg_saved.specs.Writes.{WritesText};
 
 use crate::value::SavedValue;
 use indexmap::IndexSet;
+use json::Writer;
 use serde_json::Value;
 use std::alloc::Global;
 use warg_crypto::JsonError;
@@ -49,6 +51,18 @@ fn permissions_value<P: LogPermission>(alloc: Global, set: &IndexSet<P>) -> Resu
     Ok(Value::Array(items))
 }
 
+/// Writes the list of the permissions' names.
+fn write_permissions<P: LogPermission>(set: &IndexSet<P>, out: &mut Writer) -> Result<(), JsonError>
+    ensures { WritesText result out.old out.new (permissions_json P.text_of set.now.keys) }
+{
+    out.begin_array()?;
+    'permissions: for permission in set.iter() {
+        out.string(permission.as_text())?;
+    }
+    out.end_array()?;
+    Ok(())
+}
+
 impl<P: LogPermission> SavedValue for IndexSet<P> {
     ghost Plain = { List P };
 
@@ -69,6 +83,10 @@ impl<P: LogPermission> SavedValue for IndexSet<P> {
     fn save(&self, alloc: Global) -> Result<Value, JsonError> {
         let _permissions = self.iter();
         permissions_value(alloc, self)
+    }
+
+    fn write(&self, _alloc: Global, out: &mut Writer) -> Result<(), JsonError> {
+        write_permissions(self, out)
     }
 
     fn load(alloc: Global, value: &Value) -> Result<IndexSet<P>, JsonError> {

@@ -44,7 +44,7 @@ impl Model for MemberTexts {
 }
 
 /// A text as JSON writes it.
-pub(crate) fn quoted(alloc: Global, text: &str) -> Result<String, JsonError>
+fn quoted(alloc: Global, text: &str) -> Result<String, JsonError>
     ensures { Gives string_bytes result (wrote (compact_text (string text.now))) }
 {
     let value = text_value(alloc, text)?;

@@ -7,7 +7,9 @@ ghost use Rattle.warg_crypto.specs.Json.{AreReadBack, Gives, ReadsBack, Version}
 ghost use Rattle.warg_crypto.specs.JsonTexts.{key_in, key_json};
 ghost use Rattle.warg_crypto.specs.NamedBytes.{NamedBytes};
 ghost use Rattle.warg_saved.specs.NoFloat.{HasNoFloat};
+ghost use Rattle.warg_saved.specs.Writes.{WritesText};
 
+use json::Writer;
 use serde_json::Value;
 use std::alloc::Global;
 use warg_crypto::signing::PublicKey;
@@ -43,6 +45,10 @@ pub trait SavedValue: Drop {
         ensures back { AreReadBack (versions (plain self.now)) →
             IfOk result (λ v. ReadsBack reads (λ a b. a ≡ b) (plain self.now) (view v)) };
 
+    /// Writes the JSON of the value behind what `out` holds. After an error `out` may hold a front of it.
+    fn write(&self, alloc: Global, out: &mut Writer) -> Result<(), JsonError>
+        ensures { WritesText result out.old out.new (writes (plain self.now)) };
+
     /// The value of JSON, or its first fault.
     fn load(alloc: Global, value: &Value) -> Result<Self, JsonError>
         ensures { Gives plain result (reads (view value.now)) };
@@ -67,6 +73,12 @@ impl SavedValue for PublicKey {
 
     fn save(&self, alloc: Global) -> Result<Value, JsonError> {
         self.to_value(alloc)
+    }
+
+    fn write(&self, alloc: Global, out: &mut Writer) -> Result<(), JsonError> {
+        let text = self.to_string(alloc)?;
+        out.string(text.as_str())?;
+        Ok(())
     }
 
     fn load(alloc: Global, value: &Value) -> Result<PublicKey, JsonError> {

@@ -9,7 +9,7 @@ use serde_json::Value;
 use std::alloc::Global;
 use warg_crypto::JsonError;
 use warg_records::LogPermission;
-use warg_saved::SavedValue;
+use warg_saved::{SavedValue, Writer};
 
 impl<P: LogPermission> SavedValue for PermissionSet<P> {
     ghost Plain = { List P };
@@ -30,6 +30,10 @@ impl<P: LogPermission> SavedValue for PermissionSet<P> {
 
     fn save(&self, alloc: Global) -> Result<Value, JsonError> {
         self.as_set().save(alloc)
+    }
+
+    fn write(&self, alloc: Global, out: &mut Writer) -> Result<(), JsonError> {
+        self.as_set().write(alloc, out)
     }
 
     fn load(alloc: Global, value: &Value) -> Result<PermissionSet<P>, JsonError> {

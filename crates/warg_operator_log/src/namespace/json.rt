@@ -7,6 +7,7 @@ ghost use Rattle.warg_operator_log.specs.NamespaceFloats.{namespace_no_float};
 ghost use Rattle.warg_operator_log.specs.NamespaceJson.{defined_in, imported_in, namespace_in, namespace_json, only_imported, saved_namespace_in, saved_namespace_json};
 ghost use Rattle.warg_operator_log.specs.NamespaceMap.{namespace_view};
 ghost use Rattle.warg_operator_log.specs.Namespaces.{Namespace};
+ghost use Rattle.warg_saved.specs.Writes.{WritesText};
 
 use crate::namespace::NamespaceState;
 use serde_json::{Map, Value};
@@ -15,7 +16,7 @@ use warg_crypto::json::members::{
     member_in, object_value, put_member, put_value, text_in, text_value,
 };
 use warg_crypto::{JsonError, JsonValue};
-use warg_saved::SavedValue;
+use warg_saved::{SavedValue, Writer};
 
 /// The JSON of an imported namespace.
 fn imported_value(alloc: Global, registry: &str) -> Result<Value, JsonError>
@@ -125,6 +126,41 @@ fn saved_value(alloc: Global, state: &NamespaceState) -> Result<Value, JsonError
     Ok(object_value(members))
 }
 
+/// Writes the JSON of an imported namespace.
+fn write_imported(registry: &str, out: &mut Writer) -> Result<(), JsonError>
+    ensures { WritesText result out.old out.new (namespace_json (Namespace.Imported registry.now)) }
+{
+    out.begin_object()?;
+    out.key("imported")?;
+    out.begin_object()?;
+    out.key("registry")?;
+    out.string(registry)?;
+    out.end_object()?;
+    out.end_object()?;
+    Ok(())
+}
+
+/// Writes the JSON of what the namespace is.
+fn write_namespace(state: &NamespaceState, out: &mut Writer) -> Result<(), JsonError>
+    ensures { WritesText result out.old out.new (namespace_json (namespace_view state.now)) }
+{
+    match state {
+        NamespaceState::Defined => Ok(out.string("defined")?),
+        NamespaceState::Imported { registry } => write_imported(registry.as_str(), out),
+    }
+}
+
+/// Writes the JSON of a namespace in a state.
+fn write_saved(state: &NamespaceState, out: &mut Writer) -> Result<(), JsonError>
+    ensures { WritesText result out.old out.new (saved_namespace_json (namespace_view state.now)) }
+{
+    out.begin_object()?;
+    out.key("state")?;
+    write_namespace(state, out)?;
+    out.end_object()?;
+    Ok(())
+}
+
 impl SavedValue for NamespaceState {
     ghost Plain = { Namespace };
 
@@ -144,6 +180,10 @@ impl SavedValue for NamespaceState {
 
     fn save(&self, alloc: Global) -> Result<Value, JsonError> {
         saved_value(alloc, self)
+    }
+
+    fn write(&self, _alloc: Global, out: &mut Writer) -> Result<(), JsonError> {
+        write_saved(self, out)
     }
 
     fn load(alloc: Global, value: &Value) -> Result<NamespaceState, JsonError> {

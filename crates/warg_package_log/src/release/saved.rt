@@ -2,15 +2,19 @@
 ghost use Rattle.std.specs.Prelude.{◌≡◌, ℕ, List, [], ◌∷◌, Ok, Err, OnOk, IfErr};
 ghost use Rattle.warg_crypto.specs.TimeText.{time_text};
 ghost use Rattle.warg_package_log.specs.Catalog.{release_view};
-ghost use Rattle.warg_package_log.specs.ReleaseJson.{release_in, release_json};
+ghost use Rattle.warg_package_log.specs.ReleaseJson.{release_in, release_json, release_state_json};
 ghost use Rattle.warg_package_log.specs.ReleaseFloats.{release_no_float};
 ghost use Rattle.warg_package_log.specs.Releases.{ReleaseView};
+ghost use Rattle.warg_package_log.specs.declared.release.ReleaseState.TheVariants.{Released, Yanked};
+ghost use Rattle.warg_saved.specs.Writes.{WritesText};
 
 use crate::release::{Release, ReleaseState};
 use serde_json::Value;
 use std::alloc::Global;
+use warg_crypto::hash::AnyHash;
+use warg_crypto::signing::KeyID;
 use warg_crypto::{JsonError, JsonValue, Timestamp};
-use warg_saved::SavedValue;
+use warg_saved::{SavedValue, Writer};
 
 /// Refuses a time before the epoch.
 fn check_time(time: &Timestamp) -> Result<(), JsonError>
@@ -20,6 +24,73 @@ fn check_time(time: &Timestamp) -> Result<(), JsonError>
     if time.seconds().is_negative() {
         return Err(JsonError::TimeBeforeEpoch);
     }
+    Ok(())
+}
+
+/// Writes the state of a release that stands.
+fn write_released(content: &AnyHash, out: &mut Writer) -> Result<(), JsonError>
+    ensures { WritesText result out.old out.new (release_state_json (Released content.now)) }
+{
+    let mut buffer = [0u8; 71];
+    out.begin_object()?;
+    out.key("content")?;
+    out.string(content.write_text(&mut buffer))?;
+    out.key("status")?;
+    out.string("released")?;
+    out.end_object()?;
+    Ok(())
+}
+
+/// Writes the state of a release that was yanked.
+fn write_yanked(
+    alloc: Global,
+    by: &KeyID,
+    timestamp: &Timestamp,
+    out: &mut Writer,
+) -> Result<(), JsonError>
+    ensures { WritesText result out.old out.new (release_state_json (Yanked by.now timestamp.now)) }
+{
+    let time = timestamp.to_text(alloc)?;
+    out.begin_object()?;
+    out.key("by")?;
+    out.string(by.as_str())?;
+    out.key("status")?;
+    out.string("yanked")?;
+    out.key("timestamp")?;
+    out.string(time.as_str())?;
+    out.end_object()?;
+    Ok(())
+}
+
+/// Writes what became of a release.
+fn write_state(alloc: Global, state: &ReleaseState, out: &mut Writer) -> Result<(), JsonError>
+    ensures { WritesText result out.old out.new (release_state_json state.now) }
+{
+    match state {
+        ReleaseState::Released { content } => write_released(content, out),
+        ReleaseState::Yanked { by, timestamp } => write_yanked(alloc, by, timestamp, out),
+    }
+}
+
+/// Writes a release: its members in the order of their names.
+fn write_release(alloc: Global, release: &Release, out: &mut Writer) -> Result<(), JsonError>
+    ensures { WritesText result out.old out.new (release_json (release_view release.now)) }
+{
+    let time = release.timestamp.to_text(alloc)?;
+    let version = release.version.to_string(alloc)?;
+    let mut buffer = [0u8; 71];
+    out.begin_object()?;
+    out.key("by")?;
+    out.string(release.by.as_str())?;
+    out.key("recordId")?;
+    out.string(AnyHash::from(release.record_id).write_text(&mut buffer))?;
+    out.key("state")?;
+    write_state(alloc, &release.state, out)?;
+    out.key("timestamp")?;
+    out.string(time.as_str())?;
+    out.key("version")?;
+    out.string(version.as_str())?;
+    out.end_object()?;
     Ok(())
 }
 
@@ -46,6 +117,10 @@ impl SavedValue for Release {
 
     fn save(&self, alloc: Global) -> Result<Value, JsonError> {
         self.to_value(alloc)
+    }
+
+    fn write(&self, alloc: Global, out: &mut Writer) -> Result<(), JsonError> {
+        write_release(alloc, self, out)
     }
 
     fn load(alloc: Global, value: &Value) -> Result<Release, JsonError> {

@@ -1,12 +1,16 @@
-use Rattle.std.proofs.Common.{◌≡◌, false, ◌∷◌, ◌++◌, string_bytes}
+use Rattle.std.proofs.Common.{◌≡◌, [], ◌∷◌, ◌++◌}
+use Rattle.json.specs.Token.{begin_object}
+use Rattle.json.specs.Tree.{members_tokens}
 use Rattle.serde_json.specs.Data.{Members}
-use Rattle.serde_json.specs.Written.{members_text}
+use Rattle.serde_json.specs.Written.{members_outline}
 use Rattle.warg_saved.specs.Texts.{AreMembers}
 use Rattle.warg_saved.proofs.map_text.joined.Given as goal
 
--- what is written, and then the text of the members that are left, is the whole
+-- nothing stood before, and what is written, and then the members that are left, is the whole
 abbrev pub invariant-members : goal.invariant-members
-invariant-members g l =
-    (all : Members) → AreMembers g.V.SavedValue.plain g.V.SavedValue.writes l.fn.named.entries all
-    → (ms : Members) × AreMembers g.V.SavedValue.plain g.V.SavedValue.writes l.name-iterator ms
-    × (string_bytes l.text ++ members_text l.later ms ≡ 123 ∷ members_text false all)
+invariant-members g l = record {
+  before : l.out.before ≡ [];
+  tokens : (all : Members) → AreMembers g.V.SavedValue.plain g.V.SavedValue.writes l.fn.named.entries all
+      → (ms : Members) × AreMembers g.V.SavedValue.plain g.V.SavedValue.writes l.name-iterator ms
+      × (l.out.tokens ++ members_tokens (members_outline ms) ≡ begin_object ∷ members_tokens (members_outline all));
+}
