@@ -1,12 +1,10 @@
-use Rattle.std.proofs.Common.{◌≡◌, ◌∷◌, [], ◌++◌, ap, ◌∙◌, codes, string_bytes, sym, append_assoc}
-use Rattle.std.specs.Prelude.{List, ℕ}
-use Rattle.json.specs.Token.{Token, begin_object, end_object, key, string}
+use Rattle.std.proofs.Common.{◌++◌, ap, ◌∙◌, string_bytes}
 use Rattle.semver.specs.Identifiers.{parts_text}
 use Rattle.warg_crypto.specs.HashText.{hash_text}
+use Rattle.warg_saved.specs.WriteLaws.{after, after_all, nothing}
 use Rattle.warg_saved.specs.Writes.{tokens_of}
 use Rattle.warg_package_log.specs.Catalog.{release_view}
-use Rattle.warg_package_log.proofs.ReleaseTokens.{front_tokens, release_object, release_whole, rest_tokens}
-use Rattle.warg_saved.specs.WriteLaws.{after, after_all, nothing}
+use Rattle.warg_package_log.proofs.ReleaseTokens.{release_object, release_whole}
 use Rattle.warg_package_log.proofs.release.saved.write_release.Goals as goal
 
 pub returns : goal.returns
@@ -27,15 +25,19 @@ returns c =
     let k = after inner _ _ _ _ _ j c.in_ok-key-5.ensures in
     let l = after inner _ _ _ _ _ k c.in_ok-string-4.ensures in
     let m = after inner _ _ _ _ _ l c.in_ok-end_object.ensures in
-    let whole = after_all out _ _ _ _ h (after_all _ _ _ _ _ state.2 m) in
-    let by = c.as_str.ensures in
-    let record_id = c.write_text.ensures ∙ ap hash_text c.from.ensures in
-    let version = c.as_str-3.ensures.value ∙ c.in_ok-version.ensures.ok in (
-      release_object release time state.0,
+    let last = c.end_object.new.self in
+    let whole = after_all out c.key-3.new.self last _ _ h (after_all c.key-3.new.self inner last _ _ state.2 m) in
+    let by = c.as_str.result.now in
+    let id = c.write_text.result.now in
+    let at = c.as_str-2.result.now in
+    let number = c.as_str-3.result.now in
+    let record_id = hash_text release.record_id.hash in
+    let version = parts_text release.version in (
+      release_object release.by record_id state.0 time version,
       release_whole release time state.0 c.in_ok-time.ensures.text state.1,
       (whole.0, whole.1
-          ∙ ap (λ id. out.tokens ++ (front_tokens id c.write_text.result.now ++ (tokens_of state.0 ++ rest_tokens c.as_str-2.result.now c.as_str-3.result.now))) by
-          ∙ ap (λ id. out.tokens ++ (front_tokens release.by id ++ (tokens_of state.0 ++ rest_tokens c.as_str-2.result.now c.as_str-3.result.now))) record_id
-          ∙ ap (λ text. out.tokens ++ (front_tokens release.by (hash_text release.record_id.hash) ++ (tokens_of state.0 ++ rest_tokens text c.as_str-3.result.now))) c.as_str-2.ensures.value
-          ∙ ap (λ text. out.tokens ++ (front_tokens release.by (hash_text release.record_id.hash) ++ (tokens_of state.0 ++ rest_tokens time text))) version),
+          ∙ ap (λ t. out.tokens ++ tokens_of (release_object t id state.0 at number)) c.as_str.ensures
+          ∙ ap (λ t. out.tokens ++ tokens_of (release_object release.by t state.0 at number)) (c.write_text.ensures ∙ ap hash_text c.from.ensures)
+          ∙ ap (λ t. out.tokens ++ tokens_of (release_object release.by record_id state.0 t number)) c.as_str-2.ensures.value
+          ∙ ap (λ t. out.tokens ++ tokens_of (release_object release.by record_id state.0 time t)) (c.as_str-3.ensures.value ∙ c.in_ok-version.ensures.ok)),
     )
