@@ -145,7 +145,10 @@ fn write_namespace(state: &NamespaceState, out: &mut Writer) -> Result<(), JsonE
     ensures { WritesText result out.old out.new (namespace_json (namespace_view state.now)) }
 {
     match state {
-        NamespaceState::Defined => Ok(out.string("defined")?),
+        NamespaceState::Defined => {
+            out.string("defined")?;
+            Ok(())
+        }
         NamespaceState::Imported { registry } => write_imported(registry.as_str(), out),
     }
 }

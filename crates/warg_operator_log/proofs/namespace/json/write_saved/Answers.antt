@@ -12,7 +12,7 @@ returns c =
     let a = after out _ _ _ _ _ (nothing out) c.in_ok-begin_object.ensures in
     let b = after out _ _ _ _ _ a c.in_ok-key.ensures in
     let state = c.in_ok-write_namespace.ensures in
-    let d = after_all out _ _ _ _ b state.2 in
+    let d = after_all out c.key.new.self c.write_namespace.new.out _ _ b state.2 in
     let e = after out _ _ _ _ _ d c.in_ok-end_object.ensures in
     let whole : saved_namespace_json (namespace_view c.args.state.now) ≡ Ok (object (member (codes "state") state.0 no_members)) = rw state.1 refl in (
       object (member (codes "state") state.0 no_members),
