@@ -1,24 +1,35 @@
 //! What is reported of package logs.
 
-ghost use Rattle.std.specs.Prelude.{◌≡◌, IfOk, string_bytes};
+ghost use Rattle.std.specs.Prelude.{◌≡◌, ◌++◌, OnOk, string_bytes};
 ghost use Rattle.warg_protocol.specs.Package.{release_view};
-ghost use Rattle.warg_audit.specs.ReleaseLines.{release_line};
+ghost use Rattle.warg_audit.specs.ReleaseLines.{release_line, release_state_text};
 
 use crate::report::Report;
 use std::alloc::{AllocError, Global};
 use warg_protocol::package::{LogState, Release, ReleaseState, ValidationError};
 
-// The line of one release.
-fn release_line(alloc: Global, release: &Release) -> Result<String, AllocError>
-    ensures { IfOk result (λ line. string_bytes line ≡ release_line (release_view release.now)) }
+// Appends what became of a release.
+fn append_state(state: &ReleaseState, text: &mut String) -> Result<(), AllocError>
+    ensures { OnOk result (string_bytes text.new ≡ string_bytes text.old ++ release_state_text state.now) }
 {
-    let version = &release.version;
-    match &release.state {
+    match state {
         ReleaseState::Released { content } => {
-            Ok(format!(in alloc; "{version} released {content}\n")?)
+            let mut buffer = [0u8; 71];
+            text.push_str(" released ")?;
+            text.push_str(content.write_text(&mut buffer))
         }
-        ReleaseState::Yanked { .. } => Ok(format!(in alloc; "{version} yanked\n")?),
+        ReleaseState::Yanked { .. } => text.push_str(" yanked"),
     }
+}
+
+// Appends the line of one release.
+fn append_line(alloc: Global, release: &Release, text: &mut String) -> Result<(), AllocError>
+    ensures { OnOk result (string_bytes text.new ≡ string_bytes text.old ++ release_line (release_view release.now)) }
+{
+    let version = release.version.to_string(alloc)?;
+    text.push_str(version.as_str())?;
+    append_state(&release.state, text)?;
+    text.push('\n')
 }
 
 impl Report for LogState {
@@ -39,7 +50,7 @@ impl Report for LogState {
 
     fn append_lines(&self, alloc: Global, text: &mut String) -> Result<(), AllocError> {
         'releases: for release in self.releases() {
-            text.push_str(release_line(alloc, release)?.as_str())?;
+            append_line(alloc, release, text)?;
         }
         Ok(())
     }

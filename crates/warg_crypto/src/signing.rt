@@ -128,7 +128,8 @@ pub trait Signer {
 fn message_of(alloc: Global, prefix: &str, content: &[u8]) -> Result<Vec<u8>, AllocError>
     ensures { IfOk result (λ v. v.items ≡ signed_message prefix.now content.now) }
 {
-    let mut message = Vec::new(alloc);
+    let length = prefix.len().saturating_add(1).saturating_add(content.len());
+    let mut message = Vec::with_capacity(alloc, length)?;
     message.extend_from_slice(prefix.as_bytes())?;
     message.push(b':')?;
     message.extend_from_slice(content)?;

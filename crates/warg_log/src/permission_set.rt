@@ -83,7 +83,7 @@ impl<P: LogPermission> Eq for PermissionSet<P> {
 }
 
 /// The first of the sets that lists just these permissions, in this order.
-fn find_set<'a, P: LogPermission>(
+pub(crate) fn find_set<'a, P: LogPermission>(
     sets: &'a [PermissionSet<P>],
     permissions: &[P],
 ) -> Option<&'a PermissionSet<P>>

@@ -7,7 +7,7 @@ ghost use Rattle.indexmap.specs.IndexSet.{contains};
 ghost use Rattle.warg_records.specs.Permissions.{lists};
 ghost use Rattle.warg_log.specs.Rights.{holds_in, layered, held_over, has_entry_over, first_missing};
 
-use crate::permission_set::{PermissionSet, share};
+use crate::permission_set::{PermissionSet, find_set, share};
 use indexmap::{IndexMap, IndexSet};
 use std::alloc::{AllocError, Global};
 use warg_crypto::signing::KeyID;
@@ -96,7 +96,8 @@ fn add_all<P: LogPermission>(set: &mut IndexSet<P>, permissions: &[P]) -> Result
     Ok(())
 }
 
-/// What is held, if anything is, and the permissions beside.
+/// What is held, if anything is, and the permissions beside. Where nothing is held, no set is made if one that is known
+/// lists just these.
 fn with_permissions<P: LogPermission>(
     alloc: Global,
     sets: &mut Vec<PermissionSet<P>>,
@@ -106,6 +107,11 @@ fn with_permissions<P: LogPermission>(
     ensures { IfOk result (λ set. (p : P) → list_any (P.eq p) set
         ≡ (option_map_or (λ ps. list_any (P.eq p) ps) (option_copied held.entry) false || lists P.eq permissions.now p)) }
 {
+    if held.is_none() {
+        if let Some(known) = find_set(sets.as_slice(), permissions) {
+            return known.try_clone();
+        }
+    }
     let mut set = copy_held(alloc, held)?;
     add_all(&mut set, permissions)?;
     share(alloc, sets, set)

@@ -61,6 +61,16 @@ fn most_added(entries: &[OperatorEntry]) -> usize {
     entries.iter().rev().take_while(|entry| adds(entry)).count()
 }
 
+/// The namespace of the name. An empty map is not searched: no hash is made of the name.
+fn find<'a>(map: &'a IndexMap<String, NamespaceState>, name: &str) -> Option<&'a NamespaceState>
+    ensures { option_copied result ≡ get_by_text map.now name.now }
+{
+    if map.is_empty() {
+        return None;
+    }
+    map.get(name)
+}
+
 /// Adds a namespace of a new name.
 fn add(
     map: &mut IndexMap<String, NamespaceState>,
@@ -114,8 +124,8 @@ impl NamespaceMap {
                 namespace: name.clone()?,
             });
         }
-        let noted = changes.map.get(name.as_str());
-        if noted.or(self.map.get(name.as_str())).is_some() {
+        let noted = find(&changes.map, name.as_str());
+        if noted.or(find(&self.map, name.as_str())).is_some() {
             return Err(ValidationError::NamespaceAlreadyDefined {
                 namespace: name.clone()?,
             });

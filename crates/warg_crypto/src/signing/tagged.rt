@@ -94,11 +94,18 @@ impl Tagged {
         bytes
     }
 
+    /// How many bytes the text has at most.
+    fn text_room(&self) -> usize {
+        let digits = (self.bytes.len() / 3).saturating_add(1).saturating_mul(4);
+        self.name.len().saturating_add(1).saturating_add(digits)
+    }
+
     /// The name, a colon, and the bytes in base64.
     pub fn to_text(&self, alloc: Global) -> Result<String, AllocError>
         ensures { IfOk result (λ text. string_bytes text ≡ tag_text self.now) }
     {
-        let mut text = String::from_str(alloc, self.name.as_str())?;
+        let mut text = String::with_capacity(alloc, self.text_room())?;
+        text.push_str(self.name.as_str())?;
         text.push_str(":")?;
         STANDARD.encode_string(self.bytes.as_slice(), &mut text)?;
         Ok(text)
