@@ -1,5 +1,5 @@
 //! States read of texts of JSON, with no value of the whole.
-use crate::saved::{begun, load};
+use crate::saved::{begun, load, text_of};
 use std::alloc::Global;
 use std::test::Fail;
 use warg_protocol::{JsonTextError, operator, package};
@@ -106,5 +106,26 @@ fn nesting(rt: HostRuntime) -> Result<(), Fail> {
         let operator = operator::LogState::from_json(alloc, text.as_str()).err();
         assert_eq!(&rt; operator, want, "{depth}");
     }
+    Ok(())
+}
+
+// Bytes that RFC 8259 has escaped in a text, each by its shortest escape, and three that are not.
+const ODD: &str = "\\\"\\\\\\b\\f\\n\\r\\t\\u0001\\u001f/\u{7f}\u{e9}";
+
+#[test]
+fn odd_texts_are_escaped(rt: HostRuntime) -> Result<(), Fail> {
+    let alloc = rt.alloc();
+    let releases = format!(in alloc;
+        ",\"releases\":{{\"1.0.0\":{{\"by\":\"{ODD}\",\"recordId\":\"{E}\",\"state\":{{\"by\":\"{ODD}\",\"status\":\"yanked\",\"timestamp\":\"2.5\"}},\"timestamp\":\"1.0\",\"version\":\"1.0.0\"}}}}"
+    )?;
+    let text = begun(alloc, releases.as_str())?;
+    let state = load::<package::LogState>(&rt, alloc, text.as_str())?;
+    assert_eq!(&rt; text_of(&rt, alloc, &state)?.as_str(), text.as_str());
+    let namespaces = format!(in alloc;
+        ",\"namespaces\":{{\"a\":{{\"state\":{{\"imported\":{{\"registry\":\"{ODD}\"}}}}}},\"b\":{{\"state\":\"defined\"}}}}"
+    )?;
+    let text = begun(alloc, namespaces.as_str())?;
+    let state = load::<operator::LogState>(&rt, alloc, text.as_str())?;
+    assert_eq!(&rt; text_of(&rt, alloc, &state)?.as_str(), text.as_str());
     Ok(())
 }

@@ -192,9 +192,9 @@ fn log_text(alloc: Global, log: &Log<ReleaseMap>) -> Result<String, JsonError>
 }
 
 impl LogState {
-    /// The state's JSON as text, with no space: what [`JsonValue::to_value`] gives, written. It takes less than half
-    /// the time, since no value of the whole state is made. `TimeBeforeEpoch`: a time that is to be written lies
-    /// before the epoch.
+    /// The state's JSON as text, with no space: what [`JsonValue::to_value`] gives, written. It takes a fraction of
+    /// the time, since each release is written for itself, and no value is made of it. `TimeBeforeEpoch`: a time that is
+    /// to be written lies before the epoch.
     pub fn to_json(&self, alloc: Global) -> Result<String, JsonError>
         ensures { Gives string_bytes result (text_of (state_json self.now)) }
     {

@@ -15,9 +15,9 @@ pub returns-then-is_some-clause-judges : goal.returns-then-is_some-clause-judges
 returns-then-is_some-clause-judges c =
     let n = string_bytes c.args.name.now in
     let kebab : is_kebab_name n ≡ true = search rules in
-    let noted = c.get-noted.ensures.value ∙ ap (λ m. lookup (λ k. bytes_eq m (string_bytes k)) c.changes.inside.map.entries) c.as_str-2.ensures.value in
-    let stood = c.get.ensures.value ∙ ap (λ m. lookup (λ k. bytes_eq m (string_bytes k)) c.self.inside.map.entries) c.as_str-3.ensures.value in
-    let known = over-there (λ x. x.now) n c.args.self.now c.args.changes.now c.self.inside.map.entries c.changes.inside.map.entries c.get-noted.result c.get.result c.self.view_is c.changes.view_is noted stood
+    let noted = c.find-noted.ensures ∙ ap (λ m. lookup (λ k. bytes_eq m (string_bytes k)) c.changes.inside.map.entries) c.as_str-2.ensures.value in
+    let stood = c.find.ensures ∙ ap (λ m. lookup (λ k. bytes_eq m (string_bytes k)) c.self.inside.map.entries) c.as_str-3.ensures.value in
+    let known = over-there (λ x. x.now) n c.args.self.now c.args.changes.now c.self.inside.map.entries c.changes.inside.map.entries c.find-noted.result c.find.result c.self.view_is c.changes.view_is noted stood
     (sym (c.is_some.ensures ∙ ap is_some c.or.ensures) ∙ c.if-is_some.true) in
     (λ i. option_map Wrong.Own (option_or (unless (kebab i) (InvalidNamespace n)) (unless (known i) (NamespaceAlreadyDefined n))))
     ∙ ap (λ m. Some (Wrong.Own (NamespaceAlreadyDefined m))) (sym c.in_ok-clone-2.ensures.cases)
@@ -26,9 +26,9 @@ pub returns-clause-judges : goal.returns-clause-judges
 returns-clause-judges c =
     let n = string_bytes c.args.name.now in
     let kebab : is_kebab_name n ≡ true = search rules in
-    let noted = c.get-noted.ensures.value ∙ ap (λ m. lookup (λ k. bytes_eq m (string_bytes k)) c.changes.inside.map.entries) c.as_str-2.ensures.value in
-    let stood = c.get.ensures.value ∙ ap (λ m. lookup (λ k. bytes_eq m (string_bytes k)) c.self.inside.map.entries) c.as_str-3.ensures.value in
-    let none = over-missing (λ x. x.now) n c.args.self.now c.args.changes.now c.self.inside.map.entries c.changes.inside.map.entries c.get-noted.result c.get.result c.self.view_is c.changes.view_is noted stood
+    let noted = c.find-noted.ensures ∙ ap (λ m. lookup (λ k. bytes_eq m (string_bytes k)) c.changes.inside.map.entries) c.as_str-2.ensures.value in
+    let stood = c.find.ensures ∙ ap (λ m. lookup (λ k. bytes_eq m (string_bytes k)) c.self.inside.map.entries) c.as_str-3.ensures.value in
+    let none = over-missing (λ x. x.now) n c.args.self.now c.args.changes.now c.self.inside.map.entries c.changes.inside.map.entries c.find-noted.result c.find.result c.self.view_is c.changes.view_is noted stood
     (sym (c.is_some.ensures ∙ ap is_some c.or.ensures) ∙ c.if-is_some.false) in
     λ i. option_map Wrong.Own (option_or (unless (kebab i) (InvalidNamespace n)) (unless (is_none (none i)) (NamespaceAlreadyDefined n)))
 

@@ -35,9 +35,12 @@ returns c =
     let version = parts_text release.version in (
       release_object release.by record_id state.0 time version,
       release_whole release time state.0 c.in_ok-time.ensures.text state.1,
-      (whole.0, whole.1
-          ∙ ap (λ t. out.tokens ++ tokens_of (release_object t id state.0 at number)) c.as_str.ensures
-          ∙ ap (λ t. out.tokens ++ tokens_of (release_object release.by t state.0 at number)) (c.write_text.ensures ∙ ap hash_text c.from.ensures)
-          ∙ ap (λ t. out.tokens ++ tokens_of (release_object release.by record_id state.0 t number)) c.as_str-2.ensures.value
-          ∙ ap (λ t. out.tokens ++ tokens_of (release_object release.by record_id state.0 time t)) (c.as_str-3.ensures.value ∙ c.in_ok-version.ensures.ok)),
+      (
+        whole.0,
+        whole.1
+            ∙ ap (λ t. out.tokens ++ tokens_of (release_object t id state.0 at number)) c.as_str.ensures
+            ∙ ap (λ t. out.tokens ++ tokens_of (release_object release.by t state.0 at number)) (c.write_text.ensures ∙ ap hash_text c.from.ensures)
+            ∙ ap (λ t. out.tokens ++ tokens_of (release_object release.by record_id state.0 t number)) c.as_str-2.ensures.value
+            ∙ ap (λ t. out.tokens ++ tokens_of (release_object release.by record_id state.0 time t)) (c.as_str-3.ensures.value ∙ c.in_ok-version.ensures.ok),
+      ),
     )

@@ -19,6 +19,9 @@ returns c =
     let j = after out _ _ _ _ _ i c.in_ok-end_object.ensures in (
       yanked_object by time,
       yanked_whole by c.args.timestamp.now time c.in_ok-time.ensures.text,
-      (j.0, j.1 ∙ ap (λ id. out.tokens ++ tokens_of (yanked_object id c.as_str-2.result.now)) c.as_str.ensures
-          ∙ ap (λ text. out.tokens ++ tokens_of (yanked_object by text)) c.as_str-2.ensures.value),
+      (
+        j.0,
+        j.1 ∙ ap (λ id. out.tokens ++ tokens_of (yanked_object id c.as_str-2.result.now)) c.as_str.ensures
+            ∙ ap (λ text. out.tokens ++ tokens_of (yanked_object by text)) c.as_str-2.ensures.value,
+      ),
     )
