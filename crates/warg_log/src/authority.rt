@@ -1,7 +1,9 @@
 //! Who may do what in a log, and whose key is which.
-ghost use Rattle.std.specs.Prelude.{◌≡◌, ℕ, List, OnOk, OnErr, IfOk, IfSome, is_some};
+ghost use Rattle.std.specs.Prelude.{◌≡◌, OnOk, OnErr, IfOk, IfSome, is_some};
 ghost use Rattle.std.specs.Cmp.{partial_equiv_from_equiv};
+ghost use Rattle.std.specs.Map.{lookup};
 ghost use Rattle.std.specs.Option.{option_copied, option_eq};
+ghost use Rattle.std.specs.Str.{bytes_eq};
 ghost use Rattle.indexmap.specs.IndexSet.{contains};
 ghost use Rattle.warg_crypto.specs.NamedBytes.{same_tag};
 ghost use Rattle.warg_log.specs.SignedEntries.{nothing};
@@ -30,7 +32,7 @@ pub struct Authority<P: LogPermission> {
     pub(crate) algorithm: Option<HashAlgorithm>,
     pub(crate) permissions: IndexMap<KeyID, PermissionSet<P>>,
     pub(crate) keys: IndexMap<KeyID, PublicKey>,
-    /// The sets that are shared.
+    /// The sets that are shared; among changes, those that are not among the log's yet.
     pub(crate) sets: Vec<PermissionSet<P>>,
 }
 
@@ -71,13 +73,20 @@ impl<P: LogPermission> Authority<P> {
         self.keys.get(key_id)
     }
 
+    /// What the key holds, if it has an entry.
+    pub(crate) fn held(&self, key_id: &KeyID) -> Option<&PermissionSet<P>>
+        ensures { option_copied result ≡ lookup (bytes_eq key_id.now) self.now.rights }
+    {
+        self.permissions.get(key_id)
+    }
+
     /// The permissions of the key, if it has an entry.
     pub fn key_permissions(&self, key_id: &KeyID) -> Option<&IndexSet<P>>
         ensures entry { is_some result ≡ (standing P.eq self.now).has_entry key_id.now }
         ensures holds { IfSome result (λ set. (p : P) →
             contains P.eq set.now p ≡ (standing P.eq self.now).holds key_id.now p) }
     {
-        Some(self.permissions.get(key_id)?.as_set())
+        Some(self.held(key_id)?.as_set())
     }
 
     /// The id as the keys here hold it, or the one given where none has it.
@@ -118,10 +127,10 @@ impl<P: LogPermission> Authority<P> {
         } = changes;
         make_room(&mut self.permissions, &mut permissions)?;
         make_room(&mut self.keys, &mut keys)?;
+        keep(&mut self.sets, sets)?;
         matter.commit(change)?;
         lay_over(&mut self.permissions, permissions);
         lay_over(&mut self.keys, keys);
-        keep(&mut self.sets, sets);
         self.algorithm = algorithm.or(self.algorithm);
         Ok(())
     }

@@ -1,8 +1,11 @@
 //! What a record's entries ask of an authority. They are judged by it with the changes that the entries before them
-//! make laid over it; what they change is noted among these changes.
+//! make laid over it; what they change is noted among these changes. `before` is what the signer held before them, so
+//! that it is looked up once a record.
 ghost use Rattle.std.specs.Prelude.{◌≡◌, [], ◌∷◌, true, false, OnOk, is_some};
 ghost use Rattle.std.specs.Option.{option_copied, option_map_or};
 ghost use Rattle.std.specs.List.{list_any};
+ghost use Rattle.std.specs.Map.{lookup};
+ghost use Rattle.std.specs.Str.{bytes_eq};
 ghost use Rattle.warg_crypto.specs.NamedBytes.{fingerprint_of};
 ghost use Rattle.warg_records.specs.Permissions.{lists};
 ghost use Rattle.warg_records.specs.RecordData.{Init, GrantFlat, RevokeFlat};
@@ -12,7 +15,7 @@ ghost use Rattle.warg_log.specs.Judging.{Judges};
 ghost use Rattle.warg_log.specs.Offences.{offence_of, unauthorized, lacks, lacks_required, not_begun, empty_grant, init_offence, grant_offence, revoke_offence};
 
 use crate::authority::Authority;
-use crate::permission_set::{PermissionSet, know};
+use crate::permission_set::PermissionSet;
 use crate::refusal::Refusal;
 use crate::rights;
 use warg_crypto::hash::HashAlgorithm;
@@ -32,18 +35,27 @@ impl<P: LogPermission> Authority<P> {
         &'a self,
         changes: &'a Authority<P>,
         key_id: &KeyID,
+        before: Option<&'a PermissionSet<P>>,
     ) -> Option<&'a PermissionSet<P>>
+        requires { option_copied before ≡ lookup (bytes_eq key_id.now) self.now.rights }
         ensures { (p : P) → option_map_or (λ ps. list_any (P.eq p) ps) (option_copied result) false
             ≡ (standing_over P.eq self.now changes.now).holds key_id.now p }
     {
-        rights::look(&self.permissions, &changes.permissions, key_id)
+        rights::look(before, &changes.permissions, key_id)
     }
 
     /// Whether the key holds the permission.
-    fn holds_with(&self, changes: &Authority<P>, key_id: &KeyID, permission: P) -> bool
+    fn holds_with(
+        &self,
+        changes: &Authority<P>,
+        key_id: &KeyID,
+        before: Option<&PermissionSet<P>>,
+        permission: P,
+    ) -> bool
+        requires { option_copied before ≡ lookup (bytes_eq key_id.now) self.now.rights }
         ensures { result ≡ (standing_over P.eq self.now changes.now).holds key_id.now permission }
     {
-        rights::is_among(self.rights_with(changes, key_id), permission)
+        rights::is_among(self.rights_with(changes, key_id, before), permission)
     }
 
     /// The key of the id.
@@ -54,7 +66,7 @@ impl<P: LogPermission> Authority<P> {
     ) -> Option<&'a PublicKey>
         ensures { option_copied result ≡ (standing_over P.eq self.now changes.now).key key_id.now }
     {
-        rights::look(&self.keys, &changes.keys, key_id)
+        rights::look(self.keys.get(key_id), &changes.keys, key_id)
     }
 
     /// Refuses where the key lacks the permission.
@@ -62,11 +74,13 @@ impl<P: LogPermission> Authority<P> {
         &self,
         changes: &Authority<P>,
         key_id: &KeyID,
+        before: Option<&PermissionSet<P>>,
         permission: P,
     ) -> Result<(), Refusal<P>>
+        requires { option_copied before ≡ lookup (bytes_eq key_id.now) self.now.rights }
         ensures { Judges offence_of (lacks (standing_over P.eq self.now changes.now) key_id.now permission) result }
     {
-        if !self.holds_with(changes, key_id, permission) {
+        if !self.holds_with(changes, key_id, before, permission) {
             return Err(Refusal::UnauthorizedAction {
                 key_id: key_id.clone()?,
                 needed_permission: permission,
@@ -80,12 +94,14 @@ impl<P: LogPermission> Authority<P> {
         &self,
         changes: &Authority<P>,
         key_id: &KeyID,
+        before: Option<&PermissionSet<P>>,
         required: Option<P>,
     ) -> Result<(), Refusal<P>>
+        requires { option_copied before ≡ lookup (bytes_eq key_id.now) self.now.rights }
         ensures { Judges offence_of (lacks_required (standing_over P.eq self.now changes.now) key_id.now required) result }
     {
         match required {
-            Some(permission) => self.check_permission(changes, key_id, permission),
+            Some(permission) => self.check_permission(changes, key_id, before, permission),
             None => Ok(()),
         }
     }
@@ -106,14 +122,16 @@ impl<P: LogPermission> Authority<P> {
         &self,
         changes: &Authority<P>,
         key_id: &KeyID,
+        before: Option<&PermissionSet<P>>,
         permissions: &[P],
     ) -> Result<(), Refusal<P>>
+        requires { option_copied before ≡ lookup (bytes_eq key_id.now) self.now.rights }
         ensures { Judges offence_of (unauthorized (standing_over P.eq self.now changes.now) key_id.now permissions.now) result }
     {
         if permissions.is_empty() {
             return Ok(());
         }
-        let held = self.rights_with(changes, key_id);
+        let held = self.rights_with(changes, key_id, before);
         for permission in permissions {
             if !rights::is_among(held, *permission) {
                 return Err(Refusal::UnauthorizedAction {
@@ -152,12 +170,12 @@ impl<P: LogPermission> Authority<P> {
             });
         }
         changes.algorithm = Some(hash_algorithm);
-        know(&mut changes.sets, &self.sets)?;
-        let sets = &mut changes.sets;
+        let added = &mut changes.sets;
         let given = &mut changes.permissions;
         rights::give(
             self.alloc,
-            sets,
+            self.sets.as_slice(),
+            added,
             &self.permissions,
             given,
             signer.clone()?,
@@ -190,9 +208,11 @@ impl<P: LogPermission> Authority<P> {
         changes: &mut Authority<P>,
         version: u32,
         signer: &KeyID,
+        before: Option<&PermissionSet<P>>,
         key: &PublicKey,
         permissions: &[P],
     ) -> Result<(), Refusal<P>>
+        requires { option_copied before ≡ lookup (bytes_eq signer.now) self.now.rights }
         ensures judges { Judges offence_of (grant_offence version
             (standing_over P.eq self.now changes.old) signer.now key.now permissions.now) result }
         ensures after { OnOk result (standing_over P.eq self.now changes.new ≡ after P.eq
@@ -201,15 +221,15 @@ impl<P: LogPermission> Authority<P> {
     {
         self.check_begun(changes)?;
         self.check_grant(version, key, permissions)?;
-        self.check_permissions(changes, signer, permissions)?;
+        self.check_permissions(changes, signer, before, permissions)?;
         let key_id = key.fingerprint(self.alloc)?.share()?;
         rights::put(&mut changes.keys, key_id.clone()?, key.clone()?)?;
-        know(&mut changes.sets, &self.sets)?;
-        let sets = &mut changes.sets;
+        let added = &mut changes.sets;
         let given = &mut changes.permissions;
         rights::give(
             self.alloc,
-            sets,
+            self.sets.as_slice(),
+            added,
             &self.permissions,
             given,
             key_id,
@@ -223,9 +243,11 @@ impl<P: LogPermission> Authority<P> {
         &self,
         changes: &mut Authority<P>,
         signer: &KeyID,
+        before: Option<&PermissionSet<P>>,
         key_id: &KeyID,
         permissions: &[P],
     ) -> Result<(), Refusal<P>>
+        requires { option_copied before ≡ lookup (bytes_eq signer.now) self.now.rights }
         ensures judges { Judges offence_of (revoke_offence P.eq
             (standing_over P.eq self.now changes.old) signer.now key_id.now permissions.now) result }
         ensures after { OnOk result (standing_over P.eq self.now changes.new ≡ after P.eq
@@ -233,10 +255,10 @@ impl<P: LogPermission> Authority<P> {
             (record { signer = signer.now; act = RevokeFlat key_id.now permissions.now } ∷ [])) }
     {
         self.check_begun(changes)?;
-        self.check_permissions(changes, signer, permissions)?;
-        know(&mut changes.sets, &self.sets)?;
+        self.check_permissions(changes, signer, before, permissions)?;
         let missing = rights::take_all(
             self.alloc,
+            self.sets.as_slice(),
             &mut changes.sets,
             &self.permissions,
             &mut changes.permissions,

@@ -83,7 +83,7 @@ impl<P: LogPermission> Eq for PermissionSet<P> {
 }
 
 /// The first of the sets that lists just these permissions, in this order.
-pub(crate) fn find_set<'a, P: LogPermission>(
+fn find_set<'a, P: LogPermission>(
     sets: &'a [PermissionSet<P>],
     permissions: &[P],
 ) -> Option<&'a PermissionSet<P>>
@@ -97,39 +97,44 @@ pub(crate) fn find_set<'a, P: LogPermission>(
     None
 }
 
-/// The set, as one of those that are known where it is among them, else as a new one, which is known from now on.
+/// The first of the known sets, or of those added beside, that lists just these permissions, in this order.
+pub(crate) fn find_shared<'a, P: LogPermission>(
+    known: &'a [PermissionSet<P>],
+    added: &'a [PermissionSet<P>],
+    permissions: &[P],
+) -> Option<&'a PermissionSet<P>>
+    ensures { IfSome result (λ set. set.now ≡ permissions.now) }
+{
+    match find_set(known, permissions) {
+        Some(set) => Some(set),
+        None => find_set(added, permissions),
+    }
+}
+
+/// The set, as one of those that are known or added where it is among them, else as a new one, which is added.
 pub(crate) fn share<P: LogPermission>(
     alloc: Global,
-    sets: &mut Vec<PermissionSet<P>>,
+    known: &[PermissionSet<P>],
+    added: &mut Vec<PermissionSet<P>>,
     set: IndexSet<P>,
 ) -> Result<PermissionSet<P>, AllocError>
     ensures { IfOk result (λ shared. shared ≡ set.keys) }
 {
-    if let Some(known) = find_set(sets.as_slice(), set.as_slice()) {
-        return known.try_clone();
+    if let Some(shared) = find_shared(known, added.as_slice(), set.as_slice()) {
+        return shared.try_clone();
     }
     let shared = PermissionSet::new(alloc, set)?;
-    sets.push(shared.try_clone()?)?;
+    added.push(shared.try_clone()?)?;
     Ok(shared)
 }
 
-/// Begins with the sets that are known before, where none are known yet.
-pub(crate) fn know<P: LogPermission>(
-    sets: &mut Vec<PermissionSet<P>>,
-    before: &Vec<PermissionSet<P>>,
+/// Keeps the sets that a record's entries added.
+pub(crate) fn keep<P: LogPermission>(
+    known: &mut Vec<PermissionSet<P>>,
+    added: Vec<PermissionSet<P>>,
 ) -> Result<(), AllocError> {
-    if sets.is_empty() {
-        *sets = before.clone()?;
+    for set in added {
+        known.push(set)?;
     }
     Ok(())
-}
-
-/// Keeps the sets that a record's entries know, if they know any: they know those before too.
-pub(crate) fn keep<P: LogPermission>(
-    sets: &mut Vec<PermissionSet<P>>,
-    known: Vec<PermissionSet<P>>,
-) {
-    if !known.is_empty() {
-        *sets = known;
-    }
 }

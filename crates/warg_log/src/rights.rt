@@ -1,13 +1,14 @@
 //! The permissions of each key, with changes laid over them.
 ghost use Rattle.std.specs.Prelude.{◌≡◌, List, ℕ, ◌&&◌, ◌||◌, true, false, Some, if◌then◌else◌, OnOk, IfOk, IfNone, []};
 ghost use Rattle.std.specs.List.{list_any};
-ghost use Rattle.std.specs.Option.{option_copied, option_map_or};
+ghost use Rattle.std.specs.Map.{lookup};
+ghost use Rattle.std.specs.Option.{option_copied, option_map_or, option_or};
 ghost use Rattle.std.specs.Str.{bytes_eq};
 ghost use Rattle.indexmap.specs.IndexSet.{contains};
 ghost use Rattle.warg_records.specs.Permissions.{lists};
 ghost use Rattle.warg_log.specs.Rights.{holds_in, layered, held_over, has_entry_over, first_missing};
 
-use crate::permission_set::{PermissionSet, find_set, share};
+use crate::permission_set::{PermissionSet, find_shared, share};
 use indexmap::{IndexMap, IndexSet};
 use std::alloc::{AllocError, Global};
 use warg_crypto::signing::KeyID;
@@ -34,21 +35,21 @@ pub(crate) fn holds<P: LogPermission>(
     is_among(rights.get(key_id), permission)
 }
 
-/// What stands at the key id: as the changes say, else as it stood.
+/// What is at the key id: as the changes say, else as it stood before them.
 pub(crate) fn look<'a, X>(
-    base: &'a IndexMap<KeyID, X>,
+    stood: Option<&'a X>,
     changes: &'a IndexMap<KeyID, X>,
     key_id: &KeyID,
 ) -> Option<&'a X>
-    ensures { option_copied result ≡ layered base.now.entries changes.now.entries key_id.now }
+    ensures { option_copied result ≡ option_or (lookup (bytes_eq key_id.now) changes.now.entries) (option_copied stood.entry) }
 {
     if changes.is_empty() {
-        return base.get(key_id);
+        return stood;
     }
     if let Some(value) = changes.get(key_id) {
         return Some(value);
     }
-    base.get(key_id)
+    stood
 }
 
 /// Puts a value at the key id, among the changes.
@@ -100,7 +101,8 @@ fn add_all<P: LogPermission>(set: &mut IndexSet<P>, permissions: &[P]) -> Result
 /// lists just these.
 fn with_permissions<P: LogPermission>(
     alloc: Global,
-    sets: &mut Vec<PermissionSet<P>>,
+    known: &[PermissionSet<P>],
+    added: &mut Vec<PermissionSet<P>>,
     held: Option<&PermissionSet<P>>,
     permissions: &[P],
 ) -> Result<PermissionSet<P>, AllocError>
@@ -108,19 +110,20 @@ fn with_permissions<P: LogPermission>(
         ≡ (option_map_or (λ ps. list_any (P.eq p) ps) (option_copied held.entry) false || lists P.eq permissions.now p)) }
 {
     if held.is_none() {
-        if let Some(known) = find_set(sets.as_slice(), permissions) {
-            return known.try_clone();
+        if let Some(set) = find_shared(known, added.as_slice(), permissions) {
+            return set.try_clone();
         }
     }
     let mut set = copy_held(alloc, held)?;
     add_all(&mut set, permissions)?;
-    share(alloc, sets, set)
+    share(alloc, known, added, set)
 }
 
 /// Gives the key the permissions, among the changes, and an entry even where there are none.
 pub(crate) fn give<P: LogPermission>(
     alloc: Global,
-    sets: &mut Vec<PermissionSet<P>>,
+    known: &[PermissionSet<P>],
+    added: &mut Vec<PermissionSet<P>>,
     base: &IndexMap<KeyID, PermissionSet<P>>,
     changes: &mut IndexMap<KeyID, PermissionSet<P>>,
     key_id: KeyID,
@@ -132,10 +135,10 @@ pub(crate) fn give<P: LogPermission>(
         (has_entry_over base.now changes.old k || bytes_eq key_id k)) }
 {
     if let Some(held) = changes.get_mut(&key_id) {
-        *held = with_permissions(alloc, sets, Some(&*held), permissions)?;
+        *held = with_permissions(alloc, known, added, Some(&*held), permissions)?;
         return Ok(());
     }
-    let set = with_permissions(alloc, sets, base.get(&key_id), permissions)?;
+    let set = with_permissions(alloc, known, added, base.get(&key_id), permissions)?;
     put(changes, key_id, set)?;
     Ok(())
 }
@@ -157,7 +160,8 @@ fn remove_all<P: LogPermission>(set: &mut IndexSet<P>, permissions: &[P]) -> Opt
 /// Takes the permissions from what is held, or answers the first that is not held any more.
 fn take_from<P: LogPermission>(
     alloc: Global,
-    sets: &mut Vec<PermissionSet<P>>,
+    known: &[PermissionSet<P>],
+    added: &mut Vec<PermissionSet<P>>,
     held: &mut PermissionSet<P>,
     permissions: &[P],
 ) -> Result<Option<P>, AllocError>
@@ -168,7 +172,7 @@ fn take_from<P: LogPermission>(
     let mut set = copy_set(held)?;
     let missing = remove_all(&mut set, permissions);
     if missing.is_none() {
-        *held = share(alloc, sets, set)?;
+        *held = share(alloc, known, added, set)?;
     }
     Ok(missing)
 }
@@ -176,7 +180,8 @@ fn take_from<P: LogPermission>(
 /// Takes the permissions from the key, among the changes, or answers the first that it does not hold any more.
 pub(crate) fn take_all<P: LogPermission>(
     alloc: Global,
-    sets: &mut Vec<PermissionSet<P>>,
+    known: &[PermissionSet<P>],
+    added: &mut Vec<PermissionSet<P>>,
     base: &IndexMap<KeyID, PermissionSet<P>>,
     changes: &mut IndexMap<KeyID, PermissionSet<P>>,
     key_id: &KeyID,
@@ -194,13 +199,13 @@ pub(crate) fn take_all<P: LogPermission>(
         return Ok(None);
     }
     if let Some(held) = changes.get_mut(key_id) {
-        return take_from(alloc, sets, held, permissions);
+        return take_from(alloc, known, added, held, permissions);
     }
     let Some(held) = base.get(key_id) else {
         return Ok(permissions.first().copied());
     };
     let mut set = held.try_clone()?;
-    if let Some(missing) = take_from(alloc, sets, &mut set, permissions)? {
+    if let Some(missing) = take_from(alloc, known, added, &mut set, permissions)? {
         return Ok(Some(missing));
     }
     put(changes, key_id.clone()?, set)?;

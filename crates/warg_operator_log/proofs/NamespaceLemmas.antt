@@ -1,8 +1,8 @@
 -- What a map from names to namespaces says as a list.
-use Rattle.std.proofs.Common.{◌≡◌, ℕ, List, [], ◌∷◌, ◌++◌, Bool, true, false, cond, ◌&&◌, Option, Some, None, refl, sym, ap, ◌∙◌, true≢false, if◌then◌else◌, is_some}
+use Rattle.std.proofs.Common.{◌≡◌, ℕ, List, [], ◌∷◌, ◌++◌, Bool, true, false, cond, ◌&&◌, Option, Some, None, refl, sym, ap, ◌∙◌, true≢false, is_some, not, IsTrue}
 use Rattle.std.specs.Prelude.{string_bytes, is_none, IfSome}
 use Rattle.std.specs.declared.string.String.{String}
-use Rattle.std.specs.Option.{option_map, option_eq, option_or}
+use Rattle.std.specs.Option.{option_map, option_eq}
 use Rattle.std.specs.Str.{bytes_eq}
 use Rattle.std.specs.String.{string_eq}
 use Rattle.std.specs.HashMap.{entries_eq}
@@ -72,42 +72,6 @@ module _ {Z : Type 0} where
       = λ k. sym (eq-shown (lookup_entry (string_eq k) es) (lookup_entry (string_eq k) fs)) ∙ (λ i. option_eq shows (sym (entry-named k es) i) (sym (entry-named k fs) i)) in
       (λ i. list_all (λ k. at k i) (keys_of es) && list_all (λ k. at k i) (keys_of fs)) ∙ (λ i. all-named test es i && all-named test fs i)
 
--- a look-up in a list with one more
-pub names-push : (n k : List ℕ) (s : Namespace) (es : List (List ℕ × Namespace)) → names es n ≡ None → names (es ++ (n, s) ∷ []) k ≡ (if bytes_eq n k then Some s else names es k)
-names-push n k s [] none = by (bytes_eq k n) (bytes_eq n k) (nat_list_eq_equiv.symm k n)
-  where
-    by : (a b : Bool) → a ≡ b → cond a (Some s) None ≡ (if b then Some s else None)
-    by true b h = ap (λ b. if b then Some s else None) h
-    by false b h = ap (λ b. if b then Some s else None) h
-names-push n k s (e ∷ es) none = by (bytes_eq n e.0) refl none (bytes_eq k e.0) refl (names-push n k s es)
-  where
-    by : (b : Bool) → bytes_eq n e.0 ≡ b → cond b (Some e.1) (names es n) ≡ None → (c : Bool) → bytes_eq k e.0 ≡ c → (names es n ≡ None → names (es ++ (n, s) ∷ []) k ≡ (if bytes_eq n k then Some s else names es k))
-        → cond c (Some e.1) (names (es ++ (n, s) ∷ []) k) ≡ (if bytes_eq n k then Some s else cond c (Some e.1) (names es k))
-    by true m h c is rest = cc h
-    by false m h false is rest = rest h
-    by false m h true is rest = sym (ap (λ b. if b then Some s else Some e.1) (ap (bytes_eq n) ((bytes_eq-Decides k e.0).0 is) ∙ m))
-
--- a name that a look-up by text does not find
-pub names-none : {Z : Type 0} (n : List ℕ) (rs : List (List ℕ × Namespace)) (es : List (String Z × NamespaceState)) → named es ≡ rs → is_some (lookup (λ k. bytes_eq n (string_bytes k)) es) ≡ false → names rs n ≡ None
-names-none n rs es is h = ap (λ rs. names rs n) (sym is) ∙ names-lookup n es ∙ by (lookup (λ k. bytes_eq n (string_bytes k)) es) h
-  where
-    by : (o : Option NamespaceState) → is_some o ≡ false → option_map namespace_view o ≡ None
-    by None h = refl
-    by (Some x) h = absurd (true≢false h)
-
--- and one that it finds
-pub names-known : {Z : Type 0} (n : List ℕ) (rs : List (List ℕ × Namespace)) (es : List (String Z × NamespaceState)) → named es ≡ rs → is_some (lookup (λ k. bytes_eq n (string_bytes k)) es) ≡ true → is_none (names rs n) ≡ false
-names-known n rs es is h = ap (λ rs. is_none (names rs n)) (sym is) ∙ ap is_none (names-lookup n es) ∙ by (lookup (λ k. bytes_eq n (string_bytes k)) es) h
-  where
-    by : (o : Option NamespaceState) → is_some o ≡ true → is_none (option_map namespace_view o) ≡ false
-    by None h = absurd (true≢false (sym h))
-    by (Some x) h = refl
-
--- one more kebab name
-pub kebabs-push : (es : List (List ℕ × Namespace)) (n : List ℕ) (s : Namespace) → HasKebabNames es → is_kebab_name n ≡ true → HasKebabNames (es ++ (n, s) ∷ [])
-kebabs-push [] n s all is = (is, tt)
-kebabs-push (e ∷ es) n s all is = (all.0, kebabs-push es n s all.1 is)
-
 -- a name that is known is a kebab name
 pub known-kebab : (k : List ℕ) (es : List (List ℕ × Namespace)) → HasKebabNames es → is_some (names es k) ≡ true → is_kebab_name k ≡ true
 known-kebab k [] all h = absurd (true≢false (sym h))
@@ -152,57 +116,45 @@ module _ (n : List ℕ) where
       by true e g rest = over-known cs (update bytes_eq f c.0 (Some c.1)) (ap (λ b. is_some (cond b (Some c.1) (f n))) (nat_list_eq_equiv.symm c.0 n ∙ e))
       by false e g rest = rest g
 
--- one more change
-pub over-push : (cs : List (List ℕ × Namespace)) (f : Names) (n k : List ℕ) (s : Namespace) → update_all bytes_eq f (cs ++ (n, s) ∷ []) k ≡ (if bytes_eq n k then Some s else update_all bytes_eq f cs k)
-over-push [] f n k s = refl
-over-push (c ∷ cs) f n k s = over-push cs (update bytes_eq f c.0 (Some c.1)) n k s
+-- whether a name is known with the changes
+module _ (n : List ℕ) (rs cs : List (List ℕ × Namespace)) where
+  known : (o p : Option Namespace) → (is_some o ≡ true → is_some p ≡ true) → is_none o ≡ false → is_none p ≡ false
+  known None p more h = absurd (true≢false h)
+  known (Some x) None more h = absurd (true≢false (sym (more refl)))
+  known (Some x) (Some y) more h = refl
 
-missing : {Z : Type 0} (n : List ℕ) (es : List (String Z × NamespaceState)) → is_some (lookup (λ k. bytes_eq n (string_bytes k)) es) ≡ false → names (named es) n ≡ None
-missing n es h = names-none n (named es) es refl h
+  pub over-there : is_none (names rs n) ≡ false → is_none (names_over rs cs n) ≡ false
+  over-there = known (names rs n) (names_over rs cs n) (over-known n cs (names rs))
 
-there : {Z : Type 0} (n : List ℕ) (es : List (String Z × NamespaceState)) → is_some (lookup (λ k. bytes_eq n (string_bytes k)) es) ≡ true → is_some (names (named es) n) ≡ true
-there n es h = ap is_some (names-lookup n es) ∙ by (lookup (λ k. bytes_eq n (string_bytes k)) es) h
+  pub over-noted : is_none (names cs n) ≡ false → is_none (names_over rs cs n) ≡ false
+  over-noted = known (names cs n) (names_over rs cs n) (over-changed n cs (names rs))
+
+  none_of : (o : Option Namespace) → is_none o ≡ true → o ≡ None
+  none_of None h = refl
+  none_of (Some x) h = absurd (true≢false (sym h))
+
+  pub over-missing : is_none (names rs n) ≡ true → is_none (names cs n) ≡ true → names_over rs cs n ≡ None
+  over-missing h g = over-none n cs (names rs) (none_of (names cs n) g) (none_of (names rs n) h)
+
+-- whether a name is known where a look-up finds something
+pub known-as : {A B C : Type 0} (f : A → B) (g : B → C) (o : Option A) (x : Option C) → option_map g (option_map f o) ≡ x → is_none x ≡ not (is_some o)
+known-as f g None x h = ap is_none (sym h)
+known-as f g (Some y) x h = ap is_none (sym h)
+
+-- whether an insertion is of a new name
+pub new-name : {Z : Type 0} (n : String Z) (rs : List (List ℕ × Namespace)) (es : List (String Z × NamespaceState)) (b : Bool) → named es ≡ rs → is_some (lookup (string_eq n) es) ≡ not b → b ≡ is_none (names rs (string_bytes n))
+new-name n rs es b is h = by (lookup (λ k. bytes_eq (string_bytes n) (string_bytes k)) es) b h ∙ ap is_none (sym (names-lookup (string_bytes n) es)) ∙ ap (λ rs. is_none (names rs (string_bytes n))) is
   where
-    by : (o : Option NamespaceState) → is_some o ≡ true → is_some (option_map namespace_view o) ≡ true
-    by None h = absurd (true≢false (sym h))
-    by (Some x) h = refl
+    by : (o : Option NamespaceState) (b : Bool) → is_some o ≡ not b → b ≡ is_none (option_map namespace_view o)
+    by None true h = refl
+    by None false h = absurd (true≢false (sym h))
+    by (Some x) true h = absurd (true≢false h)
+    by (Some x) false h = refl
 
-some_none : {X : Type 0} (o : Option X) → is_some o ≡ true → is_none o ≡ false
-some_none None h = absurd (true≢false (sym h))
-some_none (Some x) h = refl
-
-some_or : {A B : Type 0} (f : A → B) (o p : Option A) → is_some (option_or (option_map f o) (option_map f p)) ≡ is_some (option_or o p)
-some_or f None None = refl
-some_or f None (Some x) = refl
-some_or f (Some x) p = refl
-
--- whether a name is known with the changes: by a look-up in either map
-module _ {Z X : Type 0} (value : X → NamespaceState) (n : List ℕ) (rs cs : List (List ℕ × Namespace)) (es fs : List (String Z × NamespaceState)) (o p : Option X)
-    (is : named es ≡ rs) (is' : named fs ≡ cs) (at : option_map value o ≡ lookup (λ k. bytes_eq n (string_bytes k)) fs) (at' : option_map value p ≡ lookup (λ k. bytes_eq n (string_bytes k)) es) where
-  looked : (x y : Option NamespaceState) → lookup (λ k. bytes_eq n (string_bytes k)) fs ≡ x → lookup (λ k. bytes_eq n (string_bytes k)) es ≡ y → is_some (names_over (named es) (named fs) n) ≡ is_some (option_or x y)
-  looked (Some x) y h g = over-changed n (named fs) (names (named es)) (there n fs (ap is_some h))
-  looked None (Some y) h g = over-known n (named fs) (names (named es)) (there n es (ap is_some g))
-  looked None None h g = ap is_some (over-none n (named fs) (names (named es)) (missing n fs (ap is_some h)) (missing n es (ap is_some g)))
-
-  over-is : is_some (names_over rs cs n) ≡ is_some (option_or o p)
-  over-is = (λ i. is_some (names_over (sym is i) (sym is' i) n)) ∙ looked _ _ refl refl ∙ (λ i. is_some (option_or (sym at i) (sym at' i))) ∙ some_or value o p
-
-  pub over-there : is_some (option_or o p) ≡ true → is_none (names_over rs cs n) ≡ false
-  over-there h = some_none (names_over rs cs n) (over-is ∙ h)
-
-  pub over-missing : is_some (option_or o p) ≡ false → names_over rs cs n ≡ None
-  over-missing h = none_of (names_over rs cs n) (over-is ∙ h)
-    where
-      none_of : {A : Type 0} (o : Option A) → is_some o ≡ false → o ≡ None
-      none_of None h = refl
-      none_of (Some x) h = absurd (true≢false h)
-
-  pub not-noted : is_some (option_or o p) ≡ false → lookup (λ k. bytes_eq n (string_bytes k)) fs ≡ None
-  not-noted h = sym at ∙ by o h
-    where
-      by : (o : Option X) → is_some (option_or o p) ≡ false → option_map value o ≡ None
-      by None h = refl
-      by (Some x) h = absurd (true≢false h)
+pub nothing : {A : Type 0} (o : Option A) (b : Bool) → is_some o ≡ not b → IsTrue b → o ≡ None
+nothing None b h t = refl
+nothing (Some x) true h t = absurd (true≢false h)
+nothing (Some x) false h t = absurd (true≢false (sym t))
 
 -- an insertion into the map, as it is known by name
 module _ {Z : Type 0} where
@@ -223,7 +175,7 @@ module _ {Z : Type 0} where
           past false g = rest
           past true g = ap (λ b. cond b (Some (namespace_view s)) (Some (namespace_view e.1))) (sym (ap (bytes_eq (string_bytes n)) ((bytes_eq-Decides k (string_bytes e.0)).0 g) ∙ is))
 
-  kebabs-insert : (n : String Z) (s : NamespaceState) (es : List (String Z × NamespaceState)) → HasKebabNames (named es) → is_kebab_name (string_bytes n) ≡ true → HasKebabNames (named (insert_entry string_eq es n s))
+  pub kebabs-insert : (n : String Z) (s : NamespaceState) (es : List (String Z × NamespaceState)) → HasKebabNames (named es) → is_kebab_name (string_bytes n) ≡ true → HasKebabNames (named (insert_entry string_eq es n s))
   kebabs-insert n s [] all is = (is, tt)
   kebabs-insert n s (e ∷ es) all is = by (string_eq n e.0) (kebabs-insert n s es all.1 is)
     where

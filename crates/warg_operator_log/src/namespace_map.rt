@@ -1,5 +1,5 @@
 //! The namespaces of a log, by name.
-ghost use Rattle.std.specs.Prelude.{◌≡◌, [], ◌∷◌, ◌++◌, ℕ, List, IfOk, OnOk, OnErr, OnSome, None, Some, if◌then◌else◌, string_bytes, refl, true};
+ghost use Rattle.std.specs.Prelude.{◌≡◌, [], ◌∷◌, ◌++◌, ℕ, List, IfOk, OnOk, OnErr, OnSome, None, Some, if◌then◌else◌, string_bytes, refl, true, is_none, IsTrue};
 ghost use Rattle.std.specs.Str.{bytes_eq};
 ghost use Rattle.std.specs.Option.{option_copied, option_map};
 ghost use Rattle.std.specs.Cmp.{partial_equiv_from_equiv};
@@ -10,7 +10,7 @@ ghost use Rattle.warg_log.specs.Judging.{Judges};
 ghost use Rattle.warg_log.specs.Offences as shared;
 ghost use Rattle.warg_log.specs.History.{Wrong};
 ghost use Rattle.warg_operator_log.specs.Namespaces.{OwnOffence, Names, Namespace, names, names_over, name_offence, rules, names-none, names-append, alike_offence, alike_after};
-ghost use Rattle.warg_operator_log.specs.NamespaceMap.{namespace_view, named, HasKebabNames};
+ghost use Rattle.warg_operator_log.specs.NamespaceMap.{namespace_view};
 ghost use Rattle.warg_operator_log.specs.SameNamespaces.{same_namespaces};
 ghost use Rattle.warg_operator_log.specs.SameNamespaceLaws.{namespaces_decide, namespaces_equiv};
 ghost use Rattle.warg_operator_log.specs.State.{offence_of};
@@ -71,30 +71,23 @@ fn find<'a>(map: &'a IndexMap<String, NamespaceState>, name: &str) -> Option<&'a
     map.get(name)
 }
 
-/// Adds a namespace of a new name.
-fn add(
-    map: &mut IndexMap<String, NamespaceState>,
-    name: String,
-    state: NamespaceState,
-) -> Result<(), AllocError>
-    requires new { get_by_text map.old (string_bytes name) ≡ None }
-    requires kebab { is_kebab_name (string_bytes name) ≡ true }
-    requires kebabs { HasKebabNames (named map.old.entries) }
-    ensures added { OnOk result (named map.new.entries ≡ named map.old.entries ++
-        (string_bytes name, namespace_view state) ∷ []) }
-    ensures kebabs { HasKebabNames (named map.new.entries) }
-{
-    map.insert(name, state)?;
-    Ok(())
-}
-
 impl NamespaceMap {
     /// What the namespace of this name is.
     pub fn get(&self, name: &str) -> Option<&NamespaceState>
         ensures value { option_map namespace_view (option_copied result) ≡ names self.now name.now }
         ensures kebab { OnSome result (IsKebabName name.now) }
     {
-        self.map.get(name)
+        find(&self.map, name)
+    }
+
+    /// Puts a namespace in the place of the one of its name, or last. The answer is whether its name is new.
+    fn put(&mut self, name: String, state: NamespaceState) -> Result<bool, AllocError>
+        requires kebab { is_kebab_name (string_bytes name) ≡ true }
+        ensures new { IfOk result (λ new. new ≡ is_none (names self.old (string_bytes name))) }
+        ensures added { IfOk result (λ new. IsTrue new → self.new ≡ self.old ++ (string_bytes name, namespace_view state) ∷ []) }
+    {
+        let before = self.map.insert(name, state)?;
+        Ok(before.is_none())
     }
 
     /// Adds the namespaces of the changes, or none.
@@ -124,13 +117,12 @@ impl NamespaceMap {
                 namespace: name.clone()?,
             });
         }
-        let noted = find(&changes.map, name.as_str());
-        if noted.or(find(&self.map, name.as_str())).is_some() {
+        // Behind a refusal the changes count for nothing, also where a namespace among them was replaced.
+        if self.get(name.as_str()).is_some() || !changes.put(name.clone()?, state)? {
             return Err(ValidationError::NamespaceAlreadyDefined {
                 namespace: name.clone()?,
             });
         }
-        add(&mut changes.map, name.clone()?, state)?;
         Ok(())
     }
 }
