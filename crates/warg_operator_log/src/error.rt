@@ -78,8 +78,8 @@ pub enum ValidationError {
         /// The id of the key that it names.
         key_id: KeyID,
     },
-    /// The name is not one or more words of lower-case envelopes and digits, each beginning with a
-    /// envelope, joined by single hyphens.
+    /// The name is not one or more words of lower-case letters and digits, each beginning with a
+    /// letter, joined by single hyphens.
     #[error("the namespace `{namespace}` is invalid; namespace must be a lowercased kebab case string")]
     InvalidNamespace {
         /// The name.

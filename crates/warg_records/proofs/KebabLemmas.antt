@@ -13,7 +13,7 @@ joined-cons : (word : List ℕ) (words : List (List ℕ)) → join_with_byte 45 
 joined-cons word [] = sym (append-nil word)
 joined-cons word (next ∷ words) = refl
 
--- a word that goes on: envelopes and digits, and what follows
+-- a word that goes on: letters and digits, and what follows
 record GoesOn (bytes : List ℕ) : Type 0 where
   run : List ℕ
   words : List (List ℕ)
@@ -37,10 +37,10 @@ pub and_both : (a b : Bool) → a ≡ true → b ≡ true → (a && b) ≡ true
 and_both a b p q = rw (p, q) refl
 
 first_word : (b : ℕ) (bs : List ℕ) → is_letter b ≡ true → GoesOn bs → IsKebabName (b ∷ bs)
-first_word b bs envelope g = record {
+first_word b bs letter g = record {
   words = (b ∷ g.run) ∷ g.words;
   some = omega arith;
-  each = (record { first = b; others = g.run; parts = refl; envelope = envelope; rest = g.fits }, g.each);
+  each = (record { first = b; others = g.run; parts = refl; letter = letter; rest = g.fits }, g.each);
   joined = ap (λ (x : List ℕ). b ∷ x) g.parts ∙ sym (joined-cons (b ∷ g.run) g.words);
 }
 
@@ -82,7 +82,7 @@ run_passes [] rest fits = refl
 run_passes (b ∷ run) rest fits = passes_at (b == 45) b (run ++ rest) rest refl (and_first _ _ fits) (run_passes run rest (and_second _ _ fits))
 
 word_ends : (word rest : List ℕ) → IsWord word → ends_kebab false rest ≡ true → ends_kebab true (word ++ rest) ≡ true
-word_ends word rest w h = rw w.parts (and_both _ _ w.envelope (run_passes w.others rest w.rest ∙ h))
+word_ends word rest w h = rw w.parts (and_both _ _ w.letter (run_passes w.others rest w.rest ∙ h))
 
 behind_ends : (words : List (List ℕ)) → AreWords words → ends_kebab false (behind words) ≡ true
 behind_ends [] each = refl

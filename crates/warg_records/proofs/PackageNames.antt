@@ -14,8 +14,8 @@ not_colon b h = at (b == 58) refl
     at false e = refl
     at true e = let is : b ≡ 58 = grind (arith, common_steps) in let impossible : is_letter_or_digit 58 ≡ true = rw is at h in absurd (grind (arith))
 
-envelope_fits : (b : ℕ) → is_letter b ≡ true → is_letter_or_digit b ≡ true
-envelope_fits b h = rw h refl
+letter_fits : (b : ℕ) → is_letter b ≡ true → is_letter_or_digit b ≡ true
+letter_fits b h = rw h refl
 
 no_colon_behind : (hyphen : Bool) (b : ℕ) (bs : List ℕ) → (b == 45) ≡ hyphen → (if hyphen then ends_kebab true bs else is_letter_or_digit b && ends_kebab false bs) ≡ true
     → (ends_kebab true bs ≡ true → list_any is_colon bs ≡ false) → (ends_kebab false bs ≡ true → list_any is_colon bs ≡ false) → list_any is_colon (b ∷ bs) ≡ false
@@ -25,7 +25,7 @@ no_colon_behind false b bs e h begins goes_on = rw (not_colon b (and_first _ _ h
 -- a kebab name holds no colon
 no_colon : (starts : Bool) (bs : List ℕ) → ends_kebab starts bs ≡ true → list_any is_colon bs ≡ false
 no_colon starts [] h = refl
-no_colon true (b ∷ bs) h = rw (not_colon b (envelope_fits b (and_first _ _ h))) (no_colon false bs (and_second _ _ h))
+no_colon true (b ∷ bs) h = rw (not_colon b (letter_fits b (and_first _ _ h))) (no_colon false bs (and_second _ _ h))
 no_colon false (b ∷ bs) h = no_colon_behind (b == 45) b bs refl h (no_colon true bs) (no_colon false bs)
 
 -- the first colon stands after a part that holds none

@@ -15,7 +15,7 @@ pub record IsWord (word : List ℕ) : Type 0 where
   pub first : ℕ
   pub others : List ℕ
   pub parts : word ≡ first ∷ others
-  pub envelope : is_letter first ≡ true
+  pub letter : is_letter first ≡ true
   pub rest : list_all is_letter_or_digit others ≡ true
 
 -- each of them is a word

@@ -79,7 +79,7 @@ pub fn no_fault_of_memory()
     exactly_one();
 }
 
-/// What is tested of a name is the grammar: words of a envelope and then envelopes and digits, joined by
+/// What is tested of a name is the grammar: words of a letter and then letters and digits, joined by
 /// single hyphens.
 pub fn kebab_names()
     ensures { (name : List ℕ) → IsTrue (is_kebab_name name) ↔ IsKebabName name }

@@ -43,7 +43,7 @@ impl From<AllocError> for PackageNameError {
     }
 }
 
-/// A package's name: a namespace, a colon and a name, both of lower-case envelopes, digits and hyphens.
+/// A package's name: a namespace, a colon and a name, both of lower-case letters, digits and hyphens.
 /// Names are ordered by the bytes of their texts.
 #[derive(Debug, Drop)]
 pub struct PackageName {
@@ -61,21 +61,21 @@ impl Model for PackageName {
     ghost invariant = { λ n. is_package_name (string_bytes n.text) ≡ true };
 }
 
-/// Whether the byte is a envelope a to z.
+/// Whether the byte is a letter a to z.
 fn is_letter(byte: u8) -> bool
     ensures { result ≡ is_letter byte }
 {
     97 <= byte && byte <= 122
 }
 
-/// Whether the byte is a envelope a to z or a digit 0 to 9.
+/// Whether the byte is a letter a to z or a digit 0 to 9.
 fn is_letter_or_digit(byte: u8) -> bool
     ensures { result ≡ is_letter_or_digit byte }
 {
     is_letter(byte) || (48 <= byte && byte <= 57)
 }
 
-/// Whether the bytes are words of a envelope and then envelopes and digits, joined by single hyphens.
+/// Whether the bytes are words of a letter and then letters and digits, joined by single hyphens.
 fn is_kebab_name(text: &[u8]) -> bool
     ensures { result ≡ is_kebab_name text.now }
 {
@@ -168,7 +168,7 @@ impl PackageName {
         self.clone()
     }
 
-    /// Whether the text is words of a envelope a to z and then envelopes a to z and digits, joined by single hyphens.
+    /// Whether the text is words of a letter a to z and then letters a to z and digits, joined by single hyphens.
     pub fn is_valid_namespace(text: &str) -> bool
         ensures grammar { IsTrue result ↔ IsKebabName text.now }
         ensures computed { result ≡ is_kebab_name text.now }
