@@ -119,7 +119,7 @@ pub(crate) fn text_state(alloc: Global, text: &str) -> Result<String, Refusal> {
     let told = match package::LogState::from_json(alloc, text) {
         Ok(_) => "read",
         Err(JsonTextError::NotJson) => "no JSON",
-        Err(JsonTextError::Value(JsonError::OutOfMemory)) => return Err(OUT_OF_MEMORY),
+        Err(JsonTextError::OutOfMemory) => return Err(OUT_OF_MEMORY),
         Err(JsonTextError::Value(error)) => fault_name(error),
     };
     Ok(String::from_str(alloc, told)?)

@@ -3,15 +3,21 @@ use Rattle.std.specs.Prelude.{ℕ, ◌≡◌, ◌⊎◌, List, Option, Some, Non
 use Rattle.serde_json.specs.Data.{Data}
 use Rattle.serde_json.specs.Read.{read}
 use Rattle.warg_crypto.specs.declared.json.error.JsonError.{JsonError}
-use Rattle.warg_crypto.specs.declared.json.error.JsonError.TheVariants.{OutOfMemory}
+use Rattle.warg_crypto.specs.declared.json.error.JsonError.TheVariants as json
 use Rattle.warg_saved.specs.declared.error.JsonTextError.{JsonTextError}
-use Rattle.warg_saved.specs.declared.error.JsonTextError.TheVariants.{NotJson, Value}
+use Rattle.warg_saved.specs.declared.error.JsonTextError.TheVariants.{NotJson, OutOfMemory, Value}
 
--- the fault is one of the text's value
+-- a fault of a text's value; out of memory stays out of memory
+abbrev pub text_fault : JsonError → JsonTextError
+text_fault json.OutOfMemory = OutOfMemory
+text_fault e = Value e
+
+-- what is read of a text's value, or the text's fault
 abbrev pub or_fault : {A : Type 0} → Result A JsonError → Result A JsonTextError
 or_fault (Ok x) = Ok x
-or_fault (Err e) = Err (Value e)
+or_fault (Err e) = Err (text_fault e)
 
+-- what is read where a text has this JSON, if it has any
 abbrev pub of_json_in : {A : Type 0} → (Data → Result A JsonError) → Option Data → Result A JsonTextError
 of_json_in reads None = Err NotJson
 of_json_in reads (Some d) = or_fault (reads d)
@@ -20,6 +26,6 @@ of_json_in reads (Some d) = or_fault (reads d)
 abbrev pub in_text : {A : Type 0} → (Data → Result A JsonError) → List ℕ → Result A JsonTextError
 in_text reads text = of_json_in reads (read text)
 
--- What a call answered, seen by view, is want, unless memory ran out.
+-- what a call answered, seen by view, is want, unless memory ran out
 abbrev pub GivesOfText : {X Y : Type 0} → (X → Y) → Result X JsonTextError → Result Y JsonTextError → Type 0
-GivesOfText view r want = MatchResult r (λ x. want ≡ Ok (view x)) (λ e. (e ≡ Value OutOfMemory) ⊎ (want ≡ Err e))
+GivesOfText view r want = MatchResult r (λ x. want ≡ Ok (view x)) (λ e. (e ≡ OutOfMemory) ⊎ (want ≡ Err e))

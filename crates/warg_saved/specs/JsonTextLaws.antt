@@ -4,11 +4,11 @@ use Rattle.std.proofs.Common.{ap, ◌∙◌, inl, inr, sym}
 use Rattle.serde_json.specs.Data.{Data}
 use Rattle.serde_json.specs.Read.{read}
 use Rattle.warg_crypto.specs.declared.json.error.JsonError.{JsonError}
-use Rattle.warg_crypto.specs.declared.json.error.JsonError.TheVariants.{OutOfMemory}
+use Rattle.warg_crypto.specs.declared.json.error.JsonError.TheVariants as json
 use Rattle.warg_crypto.specs.Json.{◌>>=◌, wrote}
 use Rattle.warg_saved.specs.declared.error.JsonTextError.{JsonTextError}
-use Rattle.warg_saved.specs.declared.error.JsonTextError.TheVariants.{Value}
-use Rattle.warg_saved.specs.JsonText.{in_text, of_json_in, or_fault}
+use Rattle.warg_saved.specs.declared.error.JsonTextError.TheVariants.{OutOfMemory}
+use Rattle.warg_saved.specs.JsonText.{in_text, of_json_in, or_fault, text_fault}
 
 module _ {A : Type 0} (reads : Data → Result A JsonError) where
   -- of a text whose JSON is d, what is read of d
@@ -64,7 +64,7 @@ module _ {A : Type 0} (reads : Data → Result A JsonError) where
         by (Some d) h = by_read (reads d) h
 
     -- a fault of what comes of it
-    pub or_fault_then : (text : List ℕ) (x : A) (e : JsonError) → in_text reads text ≡ Ok x → (e ≡ OutOfMemory) ⊎ (f x ≡ Err e)
-        → (Value e ≡ Value OutOfMemory) ⊎ (in_text (λ d. reads d >>= f) text ≡ Err (Value e))
-    or_fault_then text x e is (inl none) = inl (ap Value none)
+    pub or_fault_then : (text : List ℕ) (x : A) (e : JsonError) → in_text reads text ≡ Ok x → (e ≡ json.OutOfMemory) ⊎ (f x ≡ Err e)
+        → (text_fault e ≡ OutOfMemory) ⊎ (in_text (λ d. reads d >>= f) text ≡ Err (text_fault e))
+    or_fault_then text x e is (inl none) = inl (ap text_fault none)
     or_fault_then text x e is (inr fault) = inr (and_then text x is ∙ ap or_fault fault)

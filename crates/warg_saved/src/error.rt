@@ -1,6 +1,6 @@
 //! Why the text of a value's JSON gives no value.
 ghost use Rattle.std.specs.Prelude.{◌≡◌};
-ghost use Rattle.warg_saved.specs.declared.error.JsonTextError.TheVariants as fault;
+ghost use Rattle.warg_saved.specs.JsonText.{text_fault};
 
 use thiserror::Error;
 use warg_crypto::JsonError;
@@ -11,15 +11,22 @@ pub enum JsonTextError {
     /// The text is no JSON, or a number in it is past the greatest float.
     #[error("NotJson")]
     NotJson,
-    /// The JSON is no value, or memory ran out.
+    /// The JSON is no value.
     #[error("{0}")]
     Value(JsonError),
+    /// There was no memory for the value.
+    #[error("OutOfMemory")]
+    OutOfMemory,
 }
 
 impl From<JsonError> for JsonTextError {
-    ghost from_gives = { λ e f. f ≡ fault.Value e };
+    ghost from_gives = { λ e f. f ≡ text_fault e };
 
+    /// Out of memory stays out of memory.
     fn from(error: JsonError) -> JsonTextError {
-        JsonTextError::Value(error)
+        match error {
+            JsonError::OutOfMemory => JsonTextError::OutOfMemory,
+            fault => JsonTextError::Value(fault),
+        }
     }
 }

@@ -6,7 +6,6 @@ ghost use Rattle.warg_saved.specs.JsonText.{GivesOfText, in_text};
 use crate::error::JsonTextError;
 use serde_json::{Category, Value};
 use std::alloc::Global;
-use warg_crypto::JsonError;
 
 /// The value that the text is, with texts of its own.
 pub fn read_value(alloc: Global, text: &str) -> Result<Value, JsonTextError>
@@ -15,7 +14,7 @@ pub fn read_value(alloc: Global, text: &str) -> Result<Value, JsonTextError>
     match Value::from_str(alloc, text) {
         Ok(value) => Ok(value),
         Err(error) => match error.classify() {
-            Category::Memory => Err(JsonTextError::Value(JsonError::OutOfMemory)),
+            Category::Memory => Err(JsonTextError::OutOfMemory),
             _ => Err(JsonTextError::NotJson),
         },
     }

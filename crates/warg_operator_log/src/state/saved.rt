@@ -208,7 +208,7 @@ impl LogState {
         let parts = text_parts(alloc, text)?;
         match state_of_parts(alloc, parts) {
             Ok(state) => Ok(state),
-            Err(error) => Err(JsonTextError::Value(error)),
+            Err(error) => Err(JsonTextError::from(error)),
         }
     }
 }
