@@ -1,10 +1,15 @@
--- Which error a part's fault is.
+-- What bytes are read as, and which error a part's fault is.
+use Rattle.std.specs.Prelude.{◌≡◌, ◌⊎◌, Result, Ok, Err, MatchResult}
 use Rattle.warg_crypto.specs.declared.coding.WireFault.{WireFault}
 use Rattle.warg_crypto.specs.declared.coding.WireFault.TheVariants as wire
 use Rattle.warg_crypto.specs.declared.coding.DecodeError.{DecodeError}
 use Rattle.warg_crypto.specs.declared.coding.DecodeError.TheVariants as fault
 use Rattle.warg_crypto.specs.declared.signing.error.KeyParseError.{KeyParseError}
 use Rattle.warg_crypto.specs.declared.signing.error.KeyParseError.TheVariants as key
+
+-- what was read, seen by view, is what the bytes say, unless memory ran out
+abbrev pub IsDecoded : {X Y : Type 0} → (X → Y) → Result Y DecodeError → Result X DecodeError → Type 0
+IsDecoded view said r = MatchResult r (λ x. said ≡ Ok (view x)) (λ e. (e ≡ fault.OutOfMemory) ⊎ (said ≡ Err e))
 
 -- a message's fault; out of memory stays out of memory
 abbrev pub wire_error : WireFault → DecodeError

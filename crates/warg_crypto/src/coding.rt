@@ -1,7 +1,7 @@
 //! Values that are written as bytes and read from them, and why bytes say no value.
 
 ghost use Rattle.std.specs.Prelude.{◌≡◌, ℕ, List, Result, IfOk};
-ghost use Rattle.warg_crypto.specs.Coding.{wire_error, key_error};
+ghost use Rattle.warg_crypto.specs.Coding.{IsDecoded, wire_error, key_error};
 ghost use Rattle.warg_crypto.specs.declared.coding.DecodeError.{DecodeError};
 ghost use Rattle.warg_crypto.specs.declared.coding.DecodeError.TheVariants as fault;
 ghost use Rattle.warg_crypto.specs.declared.coding.WireFault.TheVariants as wire;
@@ -23,12 +23,17 @@ pub trait Encode {
 
 /// A value that is read from bytes.
 pub trait Decode: Drop {
-    // These bytes are read as this value, or refused with this error.
-    ghost decodes: { List ℕ → Result Self DecodeError → Type 0 };
+    // The value as plain data, which is what bytes say.
+    ghost Plain: { Type 0 };
+
+    ghost plain: { Self → Plain };
+
+    // What bytes say: a value, or why they say none.
+    ghost decodes: { List ℕ → Result Plain DecodeError };
 
     /// The value that the bytes say, or their first fault.
     fn decode(alloc: Global, bytes: &[u8]) -> Result<Self, DecodeError>
-        ensures { decodes bytes.now result };
+        ensures { IsDecoded plain (decodes bytes.now) result };
 }
 
 /// Why bytes are no message of the proto3 wire format.

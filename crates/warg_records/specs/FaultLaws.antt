@@ -1,9 +1,10 @@
--- A law of the errors that tell faults.
-use Rattle.std.specs.Prelude.{◌≡◌, Option, Some, None}
-use Rattle.std.proofs.Common.{refl, subst}
+-- Laws of the errors that tell faults.
+use Rattle.std.specs.Prelude.{◌≡◌, ◌⊎◌, Option, Some, None, Result, Ok, Err}
+use Rattle.std.proofs.Common.{ap, cc, inl, inr, refl, subst, sym}
+use Rattle.warg_crypto.specs.Coding.{IsDecoded}
 use Rattle.warg_crypto.specs.declared.coding.DecodeError.{DecodeError}
 use Rattle.warg_crypto.specs.declared.coding.DecodeError.TheVariants as error
-use Rattle.warg_records.specs.Faults.{RecordFault, fault_of}
+use Rattle.warg_records.specs.Faults.{RecordFault, IsReading, TellsFault, decoded, error_of, fault_of}
 
 abbrev IsTold : Option RecordFault → Type 0
 IsTold (Some f) = Unit {0}
@@ -22,3 +23,45 @@ fault_of-memory (error.Permission v) h = absurd (subst IsTold h tt)
 fault_of-memory error.Version h = absurd (subst IsTold h tt)
 fault_of-memory (error.ContentHash x) h = absurd (subst IsTold h tt)
 fault_of-memory error.OutOfMemory h = refl
+
+-- the error that tells a fault tells it
+error_tells : (f : RecordFault) {X : Type 0} → TellsFault {X} (Err f) (fault_of (error_of f))
+error_tells (RecordFault.Wire w) = refl
+error_tells (RecordFault.Prev h) = refl
+error_tells RecordFault.MissingTime = refl
+error_tells RecordFault.TimeOutOfRange = refl
+error_tells RecordFault.EmptyEntry = refl
+error_tells RecordFault.Algorithm = refl
+error_tells (RecordFault.Key k) = refl
+error_tells (RecordFault.Permission v) = refl
+error_tells RecordFault.Version = refl
+error_tells (RecordFault.ContentHash h) = refl
+
+module _ {X Y : Type 0} (view : X → Y) where
+  -- what tells the fault that is said is the error of what is said
+  pub reading_decodes : (said : Result Y RecordFault) (r : Result X DecodeError) → IsReading view fault_of said r
+      → IsDecoded view (decoded said) r
+  reading_decodes said (Ok x) h = ap decoded h
+  reading_decodes said (Err (error.Wire w)) h = inr (ap decoded h)
+  reading_decodes said (Err (error.Prev w)) h = inr (ap decoded h)
+  reading_decodes said (Err error.MissingTime) h = inr (ap decoded h)
+  reading_decodes said (Err error.TimeOutOfRange) h = inr (ap decoded h)
+  reading_decodes said (Err error.EmptyEntry) h = inr (ap decoded h)
+  reading_decodes said (Err error.Algorithm) h = inr (ap decoded h)
+  reading_decodes said (Err (error.Key k)) h = inr (ap decoded h)
+  reading_decodes said (Err (error.Permission v)) h = inr (ap decoded h)
+  reading_decodes said (Err error.Version) h = inr (ap decoded h)
+  reading_decodes said (Err (error.ContentHash x)) h = inr (ap decoded h)
+  reading_decodes said (Err error.OutOfMemory) h = inl refl
+
+  -- and the other way round
+  pub decoded_is_read : (said : Result Y RecordFault) (r : Result X DecodeError) → IsDecoded view (decoded said) r
+      → IsReading view fault_of said r
+  decoded_is_read (Ok y) (Ok x) h = h
+  decoded_is_read (Err f) (Ok x) h = absurd cc
+  decoded_is_read said (Err e) (inl none) = subst (λ x. TellsFault said (fault_of x)) (sym none) tt
+  decoded_is_read (Ok y) (Err e) (inr h) = absurd cc
+  decoded_is_read (Err f) (Err e) (inr h) = subst (λ x. TellsFault {Y} (Err f) (fault_of x)) (same h) (error_tells f)
+    where
+      same : decoded {Y} (Err f) ≡ Err e → error_of f ≡ e
+      same h = cc

@@ -33,6 +33,24 @@ fault_of error.Version = Some Version
 fault_of (error.ContentHash h) = Some (ContentHash h)
 fault_of error.OutOfMemory = None
 
+-- the error that tells a fault
+abbrev pub error_of : RecordFault → DecodeError
+error_of (Wire w) = error.Wire w
+error_of (Prev h) = error.Prev h
+error_of MissingTime = error.MissingTime
+error_of TimeOutOfRange = error.TimeOutOfRange
+error_of EmptyEntry = error.EmptyEntry
+error_of Algorithm = error.Algorithm
+error_of (Key k) = error.Key k
+error_of (Permission v) = error.Permission v
+error_of Version = error.Version
+error_of (ContentHash h) = error.ContentHash h
+
+-- what is said, its fault as the error that tells it
+abbrev pub decoded : {X : Type 0} → Result X RecordFault → Result X DecodeError
+decoded (Ok x) = Ok x
+decoded (Err f) = Err (error_of f)
+
 -- what is said ends with this fault; an error that tells none says nothing
 abbrev pub TellsFault : {X F : Type 0} → Result X F → Option F → Type 0
 TellsFault record_data None = Unit {0}

@@ -3,6 +3,7 @@
 #![tactic(auto)]
 
 ghost use Rattle.std.specs.Prelude.{◌≡◌, ℕ, List, Result, Ok, Err, Option, None, IfOk};
+ghost use Rattle.warg_crypto.specs.Coding.{IsDecoded};
 ghost use Rattle.warg_crypto.specs.declared.coding.DecodeError.{DecodeError};
 ghost use Rattle.warg_crypto.specs.declared.coding.DecodeError.TheVariants as error;
 ghost use Rattle.warg_crypto.specs.declared.hash.AnyHash.{AnyHash};
@@ -65,7 +66,7 @@ pub trait Record: Decode + Drop {
         ensures { IfOk result (λ r. meaning r ≡ meaning self.now) };
 
     /// What is decoded is what the content bytes say, or an error that tells their fault.
-    ghost decodes_reading: { (b : List ℕ) (r : Result Self DecodeError) → Self.decodes b r →
+    ghost decodes_reading: { (b : List ℕ) (r : Result Self DecodeError) → IsDecoded Self.plain (Self.decodes b) r →
         IsReading meaning fault_of (read b) r };
 
     /// Out of memory tells none.

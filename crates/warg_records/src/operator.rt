@@ -1,8 +1,8 @@
 //! Records of operator logs.
 
 ghost use Rattle.std.specs.Prelude.{◌≡◌, codes, IfOk, Ok, []};
-ghost use Rattle.warg_records.specs.Faults.{IsReading, fault_of};
-ghost use Rattle.warg_records.specs.FaultLaws.{fault_of-memory};
+ghost use Rattle.warg_records.specs.Faults.{decoded, fault_of};
+ghost use Rattle.warg_records.specs.FaultLaws.{decoded_is_read, fault_of-memory};
 ghost use Rattle.warg_records.specs.RecordData.{RecordData};
 ghost use Rattle.warg_protobuf.specs.OperatorRecord.{IsOperatorRecord};
 ghost use Rattle.warg_records.specs.OperatorWriting.{operator_content_of, operator_record_message};
@@ -31,8 +31,13 @@ use warg_protobuf::Message;
 pub const OPERATOR_RECORD_VERSION: u32 = RECORD_VERSION;
 
 impl Decode for OperatorRecord {
-    ghost decodes = { λ content r. IsReading record_data fault_of (operator_record_of content) r };
+    ghost Plain = { RecordData Permission OperatorOwnEntry };
 
+    ghost plain = { record_data };
+
+    ghost decodes = { λ content. decoded (operator_record_of content) };
+
+    #[tactic(auto, using(crate::specs::FaultLaws::reading_decodes))]
     fn decode(alloc: Global, content: &[u8]) -> Result<OperatorRecord, DecodeError> {
         reading::read_record(alloc, content)
     }
@@ -78,7 +83,7 @@ impl Record for OperatorRecord {
 
     ghost read = { operator_record_of };
 
-    ghost decodes_reading = { λ b r h. h };
+    ghost decodes_reading = { λ b r h. decoded_is_read record_data (operator_record_of b) r h };
 
     ghost memory_tells_none = { refl };
 

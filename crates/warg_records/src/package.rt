@@ -1,8 +1,8 @@
 //! Records of package logs.
 
 ghost use Rattle.std.specs.Prelude.{◌≡◌, codes, IfOk, Ok};
-ghost use Rattle.warg_records.specs.Faults.{IsReading, fault_of};
-ghost use Rattle.warg_records.specs.FaultLaws.{fault_of-memory};
+ghost use Rattle.warg_records.specs.Faults.{decoded, fault_of};
+ghost use Rattle.warg_records.specs.FaultLaws.{decoded_is_read, fault_of-memory};
 ghost use Rattle.warg_records.specs.RecordData.{RecordData};
 ghost use Rattle.warg_protobuf.specs.PackageRecord.{IsPackageRecord};
 ghost use Rattle.warg_records.specs.PackageWriting.{package_content_of, package_record_message};
@@ -34,8 +34,13 @@ use warg_protobuf::Message;
 pub const PACKAGE_RECORD_VERSION: u32 = RECORD_VERSION;
 
 impl Decode for PackageRecord {
-    ghost decodes = { λ content r. IsReading record_data fault_of (package_record_of content) r };
+    ghost Plain = { RecordData Permission PackageOwnEntry };
 
+    ghost plain = { record_data };
+
+    ghost decodes = { λ content. decoded (package_record_of content) };
+
+    #[tactic(auto, using(crate::specs::FaultLaws::reading_decodes))]
     fn decode(alloc: Global, content: &[u8]) -> Result<PackageRecord, DecodeError> {
         reading::read_record(alloc, content)
     }
@@ -82,7 +87,7 @@ impl Record for PackageRecord {
 
     ghost read = { package_record_of };
 
-    ghost decodes_reading = { λ b r h. h };
+    ghost decodes_reading = { λ b r h. decoded_is_read record_data (package_record_of b) r h };
 
     ghost memory_tells_none = { refl };
 
