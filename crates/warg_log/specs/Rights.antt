@@ -11,20 +11,25 @@ use Rattle.warg_records.specs.Permissions.{lists}
 abbrev pub layered : {X : Type 0} → List (List ℕ × X) → List (List ℕ × X) → List ℕ → Option X
 layered base changes k = option_or (lookup (bytes_eq k) changes) (lookup (bytes_eq k) base)
 
+-- whether p is among the permissions listed, if any are
+abbrev pub is_listed : {P : Type 0} → (P → P → Bool) → Option (List P) → P → Bool
+is_listed same listed p = option_map_or (λ ps. list_any (same p) ps) listed false
+
 module _ {P Z : Type 0} where
   -- whether the map gives k the permission p
   abbrev pub holds_in : (P → P → Bool) → IndexMap (List ℕ) (List P) Z → List ℕ → P → Bool
-  holds_in same m k p = option_map_or (λ ps. list_any (same p) ps) (get bytes_eq m k) false
+  holds_in same m k p = is_listed same (get bytes_eq m k) p
 
   -- whether the map has an entry for k
   abbrev pub has_entry_in : IndexMap (List ℕ) (List P) Z → List ℕ → Bool
   has_entry_in m k = is_some (get bytes_eq m k)
 
-  -- the same where the changes lie over the map
+  -- whether k holds p where the changes lie over the map
   abbrev pub held_over : (P → P → Bool) → IndexMap (List ℕ) (List P) Z → IndexMap (List ℕ) (List P) Z
       → List ℕ → P → Bool
-  held_over same m changes k p = option_map_or (λ ps. list_any (same p) ps) (layered m.entries changes.entries k) false
+  held_over same m changes k p = is_listed same (layered m.entries changes.entries k) p
 
+  -- whether k has an entry where the changes lie over the map
   abbrev pub has_entry_over : IndexMap (List ℕ) (List P) Z → IndexMap (List ℕ) (List P) Z → List ℕ → Bool
   has_entry_over m changes k = is_some (layered m.entries changes.entries k)
 

@@ -1,13 +1,11 @@
 //! Who may do what in a log, and whose key is which.
 ghost use Rattle.std.specs.Prelude.{◌≡◌, OnOk, OnErr, IfOk, IfSome, is_some};
 ghost use Rattle.std.specs.Cmp.{partial_equiv_from_equiv};
-ghost use Rattle.std.specs.Map.{lookup};
 ghost use Rattle.std.specs.Option.{option_copied, option_eq};
-ghost use Rattle.std.specs.Str.{bytes_eq};
 ghost use Rattle.indexmap.specs.IndexSet.{contains};
 ghost use Rattle.warg_crypto.specs.NamedBytes.{same_tag};
 ghost use Rattle.warg_log.specs.SignedEntries.{nothing};
-ghost use Rattle.warg_log.specs.Contents.{Contents, standing, standing_over};
+ghost use Rattle.warg_log.specs.Contents.{Contents, rights_at, standing, standing_over};
 ghost use Rattle.warg_log.specs.Equal.{same_contents, same_maps, same_sets, same_algorithm};
 ghost use Rattle.warg_log.specs.EqualLaws.{contents_equiv};
 
@@ -75,7 +73,7 @@ impl<P: LogPermission> Authority<P> {
 
     /// What the key holds, if it has an entry.
     pub(crate) fn held(&self, key_id: &KeyID) -> Option<&PermissionSet<P>>
-        ensures { option_copied result ≡ lookup (bytes_eq key_id.now) self.now.rights }
+        ensures { option_copied result ≡ rights_at self.now key_id.now }
     {
         self.permissions.get(key_id)
     }

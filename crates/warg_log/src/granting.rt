@@ -1,17 +1,15 @@
 //! What a record's entries ask of an authority. They are judged by it with the changes that the entries before them
 //! make laid over it; what they change is noted among these changes. `before` is what the signer held before them, so
 //! that it is looked up once a record.
-ghost use Rattle.std.specs.Prelude.{◌≡◌, [], ◌∷◌, true, false, OnOk, is_some};
-ghost use Rattle.std.specs.Option.{option_copied, option_map_or};
-ghost use Rattle.std.specs.List.{list_any};
-ghost use Rattle.std.specs.Map.{lookup};
-ghost use Rattle.std.specs.Str.{bytes_eq};
+ghost use Rattle.std.specs.Prelude.{◌≡◌, [], ◌∷◌, true, OnOk, is_some};
+ghost use Rattle.std.specs.Option.{option_copied};
 ghost use Rattle.warg_crypto.specs.NamedBytes.{fingerprint_of};
 ghost use Rattle.warg_records.specs.Permissions.{lists};
 ghost use Rattle.warg_records.specs.RecordData.{Init, GrantFlat, RevokeFlat};
 ghost use Rattle.warg_log.specs.SignedEntries.{after};
-ghost use Rattle.warg_log.specs.Contents.{standing_over};
+ghost use Rattle.warg_log.specs.Contents.{rights_at, standing_over};
 ghost use Rattle.warg_log.specs.Judging.{Judges};
+ghost use Rattle.warg_log.specs.Rights.{is_listed};
 ghost use Rattle.warg_log.specs.Offences.{offence_of, unauthorized, lacks, lacks_required, not_begun, empty_grant, init_offence, grant_offence, revoke_offence};
 
 use crate::authority::Authority;
@@ -37,8 +35,8 @@ impl<P: LogPermission> Authority<P> {
         key_id: &KeyID,
         before: Option<&'a PermissionSet<P>>,
     ) -> Option<&'a PermissionSet<P>>
-        requires { option_copied before ≡ lookup (bytes_eq key_id.now) self.now.rights }
-        ensures { (p : P) → option_map_or (λ ps. list_any (P.eq p) ps) (option_copied result) false
+        requires { option_copied before ≡ rights_at self.now key_id.now }
+        ensures { (p : P) → is_listed P.eq (option_copied result) p
             ≡ (standing_over P.eq self.now changes.now).holds key_id.now p }
     {
         rights::look(before, &changes.permissions, key_id)
@@ -52,7 +50,7 @@ impl<P: LogPermission> Authority<P> {
         before: Option<&PermissionSet<P>>,
         permission: P,
     ) -> bool
-        requires { option_copied before ≡ lookup (bytes_eq key_id.now) self.now.rights }
+        requires { option_copied before ≡ rights_at self.now key_id.now }
         ensures { result ≡ (standing_over P.eq self.now changes.now).holds key_id.now permission }
     {
         rights::is_among(self.rights_with(changes, key_id, before), permission)
@@ -77,7 +75,7 @@ impl<P: LogPermission> Authority<P> {
         before: Option<&PermissionSet<P>>,
         permission: P,
     ) -> Result<(), Refusal<P>>
-        requires { option_copied before ≡ lookup (bytes_eq key_id.now) self.now.rights }
+        requires { option_copied before ≡ rights_at self.now key_id.now }
         ensures { Judges offence_of (lacks (standing_over P.eq self.now changes.now) key_id.now permission) result }
     {
         if !self.holds_with(changes, key_id, before, permission) {
@@ -97,7 +95,7 @@ impl<P: LogPermission> Authority<P> {
         before: Option<&PermissionSet<P>>,
         required: Option<P>,
     ) -> Result<(), Refusal<P>>
-        requires { option_copied before ≡ lookup (bytes_eq key_id.now) self.now.rights }
+        requires { option_copied before ≡ rights_at self.now key_id.now }
         ensures { Judges offence_of (lacks_required (standing_over P.eq self.now changes.now) key_id.now required) result }
     {
         match required {
@@ -125,7 +123,7 @@ impl<P: LogPermission> Authority<P> {
         before: Option<&PermissionSet<P>>,
         permissions: &[P],
     ) -> Result<(), Refusal<P>>
-        requires { option_copied before ≡ lookup (bytes_eq key_id.now) self.now.rights }
+        requires { option_copied before ≡ rights_at self.now key_id.now }
         ensures { Judges offence_of (unauthorized (standing_over P.eq self.now changes.now) key_id.now permissions.now) result }
     {
         if permissions.is_empty() {
@@ -212,7 +210,7 @@ impl<P: LogPermission> Authority<P> {
         key: &PublicKey,
         permissions: &[P],
     ) -> Result<(), Refusal<P>>
-        requires { option_copied before ≡ lookup (bytes_eq signer.now) self.now.rights }
+        requires { option_copied before ≡ rights_at self.now signer.now }
         ensures judges { Judges offence_of (grant_offence version
             (standing_over P.eq self.now changes.old) signer.now key.now permissions.now) result }
         ensures after { OnOk result (standing_over P.eq self.now changes.new ≡ after P.eq
@@ -247,7 +245,7 @@ impl<P: LogPermission> Authority<P> {
         key_id: &KeyID,
         permissions: &[P],
     ) -> Result<(), Refusal<P>>
-        requires { option_copied before ≡ lookup (bytes_eq signer.now) self.now.rights }
+        requires { option_copied before ≡ rights_at self.now signer.now }
         ensures judges { Judges offence_of (revoke_offence P.eq
             (standing_over P.eq self.now changes.old) signer.now key_id.now permissions.now) result }
         ensures after { OnOk result (standing_over P.eq self.now changes.new ≡ after P.eq

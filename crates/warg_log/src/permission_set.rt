@@ -1,5 +1,5 @@
 //! Sets of permissions that keys share.
-ghost use Rattle.std.specs.Prelude.{◌≡◌, IfOk, IfSome};
+ghost use Rattle.std.specs.Prelude.{◌≡◌, ◌++◌, IfOk, IfSome, OnOk};
 ghost use Rattle.std.specs.Cmp.{partial_equiv_from_equiv};
 ghost use Rattle.warg_log.specs.Equal.{same_sets};
 ghost use Rattle.warg_log.specs.EqualLaws.{sets_equiv};
@@ -132,7 +132,9 @@ pub(crate) fn share<P: LogPermission>(
 pub(crate) fn keep<P: LogPermission>(
     known: &mut Vec<PermissionSet<P>>,
     added: Vec<PermissionSet<P>>,
-) -> Result<(), AllocError> {
+) -> Result<(), AllocError>
+    ensures { OnOk result (known.new.items ≡ known.old.items ++ added.items) }
+{
     for set in added {
         known.push(set)?;
     }

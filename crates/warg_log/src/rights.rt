@@ -2,11 +2,11 @@
 ghost use Rattle.std.specs.Prelude.{◌≡◌, List, ℕ, ◌&&◌, ◌||◌, true, false, Some, if◌then◌else◌, OnOk, IfOk, IfNone, []};
 ghost use Rattle.std.specs.List.{list_any};
 ghost use Rattle.std.specs.Map.{lookup};
-ghost use Rattle.std.specs.Option.{option_copied, option_map_or, option_or};
+ghost use Rattle.std.specs.Option.{option_copied, option_or};
 ghost use Rattle.std.specs.Str.{bytes_eq};
 ghost use Rattle.indexmap.specs.IndexSet.{contains};
 ghost use Rattle.warg_records.specs.Permissions.{lists};
-ghost use Rattle.warg_log.specs.Rights.{holds_in, layered, held_over, has_entry_over, first_missing};
+ghost use Rattle.warg_log.specs.Rights.{is_listed, holds_in, layered, held_over, has_entry_over, first_missing};
 
 use crate::permission_set::{PermissionSet, find_shared, share};
 use indexmap::{IndexMap, IndexSet};
@@ -16,7 +16,7 @@ use warg_records::LogPermission;
 
 /// Whether the permission is among those held.
 pub(crate) fn is_among<P: LogPermission>(held: Option<&PermissionSet<P>>, permission: P) -> bool
-    ensures { result ≡ option_map_or (λ ps. list_any (P.eq permission) ps) (option_copied held.entry) false }
+    ensures { result ≡ is_listed P.eq (option_copied held.entry) permission }
 {
     match held {
         Some(set) => set.as_set().contains(&permission),
@@ -78,7 +78,7 @@ fn copy_held<P: LogPermission>(
     held: Option<&PermissionSet<P>>,
 ) -> Result<IndexSet<P>, AllocError>
     ensures { IfOk result (λ set. (p : P) →
-        contains P.eq set p ≡ option_map_or (λ ps. list_any (P.eq p) ps) (option_copied held.entry) false) }
+        contains P.eq set p ≡ is_listed P.eq (option_copied held.entry) p) }
 {
     match held {
         Some(set) => copy_set(set),
@@ -107,7 +107,7 @@ fn with_permissions<P: LogPermission>(
     permissions: &[P],
 ) -> Result<PermissionSet<P>, AllocError>
     ensures { IfOk result (λ set. (p : P) → list_any (P.eq p) set
-        ≡ (option_map_or (λ ps. list_any (P.eq p) ps) (option_copied held.entry) false || lists P.eq permissions.now p)) }
+        ≡ (is_listed P.eq (option_copied held.entry) p || lists P.eq permissions.now p)) }
 {
     if held.is_none() {
         if let Some(set) = find_shared(known, added.as_slice(), permissions) {
