@@ -13,7 +13,7 @@ mod saved;
 
 use crate::log_kind::LogKind;
 use crate::maps::{lay_over, make_room};
-use crate::permission_set::{PermissionSet, keep};
+use crate::permission_set::PermissionSet;
 use crate::rights;
 use indexmap::{IndexMap, IndexSet};
 use std::alloc::{AllocError, Global};
@@ -120,12 +120,12 @@ impl<P: LogPermission> Authority<P> {
             algorithm,
             mut permissions,
             mut keys,
-            sets,
+            mut sets,
             ..
         } = changes;
         make_room(&mut self.permissions, &mut permissions)?;
         make_room(&mut self.keys, &mut keys)?;
-        keep(&mut self.sets, sets)?;
+        self.sets.append(&mut sets)?;
         matter.commit(change)?;
         lay_over(&mut self.permissions, permissions);
         lay_over(&mut self.keys, keys);

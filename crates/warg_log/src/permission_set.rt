@@ -1,5 +1,5 @@
 //! Sets of permissions that keys share.
-ghost use Rattle.std.specs.Prelude.{◌≡◌, ◌++◌, IfOk, IfSome, OnOk};
+ghost use Rattle.std.specs.Prelude.{◌≡◌, IfOk, IfSome};
 ghost use Rattle.std.specs.Cmp.{partial_equiv_from_equiv};
 ghost use Rattle.warg_log.specs.Equal.{same_sets};
 ghost use Rattle.warg_log.specs.EqualLaws.{sets_equiv};
@@ -126,17 +126,4 @@ pub(crate) fn share<P: LogPermission>(
     let shared = PermissionSet::new(alloc, set)?;
     added.push(shared.try_clone()?)?;
     Ok(shared)
-}
-
-/// Keeps the sets that a record's entries added.
-pub(crate) fn keep<P: LogPermission>(
-    known: &mut Vec<PermissionSet<P>>,
-    added: Vec<PermissionSet<P>>,
-) -> Result<(), AllocError>
-    ensures { OnOk result (known.new.items ≡ known.old.items ++ added.items) }
-{
-    for set in added {
-        known.push(set)?;
-    }
-    Ok(())
 }
