@@ -14,6 +14,7 @@ use Rattle.warg_log.specs.declared.head.Head.{Head}
 abbrev pub unless_zero : ℕ → Option ℕ
 unless_zero n = if n == 0 then None else Some n
 
+-- how a head is saved: its record's id and time, and its version unless that is 0
 abbrev pub head_json : Head → Result Data JsonError
 head_json h = do
   digest ← put_json record_id_json (codes "digest") h.digest no_members
@@ -26,9 +27,11 @@ abbrev pub version_or_zero : Option Data → Result ℕ JsonError
 version_or_zero None = Ok 0
 version_or_zero (Some d) = number_below (2 ^ 32) d
 
+-- the version of a saved head, or why it has none that can be taken
 abbrev pub version_in : Data → Result ℕ JsonError
 version_in d = members_in d >>= λ members. version_or_zero (get_member (codes "version") members)
 
+-- the head that was saved, or the first fault in it
 abbrev pub head_in : Data → Result Head JsonError
 head_in d = do
   id ← member_in (codes "digest") d

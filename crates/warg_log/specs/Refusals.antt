@@ -4,6 +4,7 @@ use Rattle.warg_crypto.specs.declared.signing.error.SignatureError.TheVariants a
 use Rattle.warg_log.specs.declared.refusal.Refusal.{Refusal}
 use Rattle.warg_log.specs.declared.refusal.Refusal.TheVariants as refusal
 
+-- the refusal of a record whose signature is not taken: as wrong, or because memory ran out
 abbrev pub refusal_of_signature : {P : Type 0} → SignatureError → Refusal P
 refusal_of_signature signature.Refused = refusal.SignatureError signature.Refused
 refusal_of_signature signature.OutOfMemory = refusal.OutOfMemory

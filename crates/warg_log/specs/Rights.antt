@@ -29,7 +29,7 @@ module _ {P Z : Type 0} where
       → List ℕ → P → Bool
   held_over same m changes k p = is_listed same (layered m.entries changes.entries k) p
 
-  -- whether k has an entry where the changes lie over the map
+  -- whether k has an entry of permissions where the changes lie over the map
   abbrev pub has_entry_over : IndexMap (List ℕ) (List P) Z → IndexMap (List ℕ) (List P) Z → List ℕ → Bool
   has_entry_over m changes k = is_some (layered m.entries changes.entries k)
 
