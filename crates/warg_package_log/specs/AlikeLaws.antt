@@ -26,11 +26,13 @@ find-after : (rs : List ReleaseView) (es : List (Event PackageOwnEntry)) (v : Pa
     → find_parts (releases_after rs es) v ≡ option_or (option_map (turned es) (find_parts rs v)) (find_parts (released es) v)
 find-after rs es v = find-append (λ r. same_parts v r.version) (map (turned es) rs) (released es) ∙ ap (λ o. option_or o (find_parts (released es) v)) (find-turned es v rs)
 
+-- releases that answer alike find the same wrong with a release or a yank
 pub alike_offence : (rs qs : List ReleaseView) → AreAlike rs qs → (o : PackageOwnEntry)
     → own_offence rs o ≡ own_offence qs o
 alike_offence rs qs alike (Release v content) = ap (λ o. unless (is_none o) (ReleaseOfReleased v)) (alike v)
 alike_offence rs qs alike (Yank v) = ap (λ (o : Option ReleaseView). unyankable v (option_map (λ r. r.state) o)) (alike v)
 
+-- releases that answer alike still do after the same events
 pub alike_after : (rs qs : List ReleaseView) → AreAlike rs qs → (es : List (Event PackageOwnEntry))
     → AreAlike (releases_after rs es) (releases_after qs es)
 alike_after rs qs alike es v = find-after rs es v ∙ ap (λ o. option_or (option_map (turned es) o) (find_parts (released es) v)) (alike v) ∙ sym (find-after qs es v)

@@ -26,6 +26,7 @@ IsGreatest test cmp xs (Some best) = Contains xs best × (test best ≡ true) ×
 abbrev pub is_candidate : List Comparator → Release → Bool
 is_candidate cs r = not (is_yanked r.state) && matches_all cs r.version
 
+-- the order of releases: that of their versions
 abbrev pub release_cmp : Release → Release → Ordering
 release_cmp a b = parts_cmp (parts_of a.version) (parts_of b.version)
 
@@ -34,9 +35,10 @@ abbrev pub greater_of : {A : Type 0} → (A → Bool) → (A → A → Ordering)
 greater_of test cmp None x = if test x then Some x else None
 greater_of test cmp (Some best) x = if test x && not (is_lt (cmp x best)) then Some x else Some best
 
--- the same two of what a state shows of a release
+-- a release, as a state shows it, that meets the requirement and was not yanked
 abbrev pub shows_candidate : List Comparator → ReleaseView → Bool
 shows_candidate cs r = not (is_yanked r.state) && matches_views (map comparator_view cs) r.version
 
+-- the order of releases as a state shows them: that of their versions
 abbrev pub shown_cmp : ReleaseView → ReleaseView → Ordering
 shown_cmp a b = parts_cmp a.version b.version

@@ -48,6 +48,7 @@ none_inside : {A B : Type 0} (f : A → B) (o : Option A) → option_map f o ≡
 none_inside f None h = refl
 none_inside f (Some x) h = absurd (some≢none h)
 
+-- where a find is an offence and there is no offence, nothing was found
 pub unless_none : {A : Type 0} (o : Option A) (x : OwnOffence) → unless (is_none o) x ≡ None → o ≡ None
 unless_none None x h = refl
 unless_none (Some a) x h = absurd (some≢none h)
@@ -67,6 +68,7 @@ module _ (es : List (Event PackageOwnEntry)) (stray : NoStray es) where
   push e last = filter_map-append (λ x. option_map (with_yank (es ++ e ∷ [])) (made_by x)) es (e ∷ []) ∙ (λ i. turned_front es (e ∷ []) es i ++ last i)
 
   module _ (signer : List ℕ) (time : Time) (id : RecordId) where
+    -- an own entry as an event of this signer, time and record
     abbrev event : PackageOwnEntry → Event PackageOwnEntry
     event o = record { entry = o; signer = signer; time = time; record_id = id }
 

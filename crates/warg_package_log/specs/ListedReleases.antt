@@ -14,9 +14,10 @@ with_yank events r = record r { state = unwrap_or (last_or None (filter_map (yan
 abbrev pub listed_releases : List (Event PackageOwnEntry) → List ReleaseView
 listed_releases events = filter_map (λ e. option_map (with_yank events) (made_by e)) events
 
--- one more event, and what is wrong with it
+-- the releases after one more event
 abbrev pub own_after : List ReleaseView → Event PackageOwnEntry → List ReleaseView
 own_after rs e = releases_after rs (e ∷ [])
 
+-- what is wrong with one more event
 abbrev pub own_wrong : List ReleaseView → Event PackageOwnEntry → Option OwnOffence
 own_wrong rs e = own_offence rs e.entry

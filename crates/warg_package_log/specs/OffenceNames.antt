@@ -15,6 +15,7 @@ release_offence_name (own.ReleaseOfReleased version) = codes "ReleaseOfReleased"
 release_offence_name (own.YankOfUnreleased version) = codes "YankOfUnreleased"
 release_offence_name (own.YankOfYanked version) = codes "YankOfYanked"
 
+-- the name of any offence that a package log may have
 abbrev pub offence_name : Wrong Permission OwnOffence → List ℕ
 offence_name offence = wrong_name release_offence_name offence
 

@@ -20,6 +20,7 @@ release_state_no_float (Yanked by timestamp) =
     then_value (put_json time_json (codes "timestamp") timestamp before) (λ ms. wrote (object ms))
     (member_no_float time_json (codes "timestamp") timestamp before (text_no_float (time_text timestamp)) refl) (λ ms m. m)
 
+-- the JSON of a release, where there is one, has no float
 pub release_no_float : (r : ReleaseView) → HasNoFloat (release_json r)
 release_no_float r =
     let record_id : Members = put (codes "recordId") (string (hash_text r.record_id.hash)) no_members in

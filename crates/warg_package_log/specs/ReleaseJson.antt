@@ -19,6 +19,7 @@ use Rattle.warg_package_log.specs.declared.release.ReleaseState.TheVariants.{Rel
 abbrev pub version_json : Parts → Result Data JsonError
 version_json version = wrote (string (parts_text version))
 
+-- the version that a JSON text spells, or why it spells none
 abbrev pub version_in : Data → Result Parts JsonError
 version_in d = text_in d >>= λ text. or_bad_text (version_parts text)
 
@@ -36,12 +37,14 @@ release_state_json (Yanked by timestamp) = do
   members ← put_json time_json (codes "timestamp") timestamp id
   wrote (object members)
 
+-- a release that stands, with the hash of its content
 abbrev pub released_in : Data → Result ReleaseState JsonError
 released_in d = do
   hash ← member_in (codes "content") d
   content ← hash_in hash
   wrote (Released content)
 
+-- a yanked release, with who yanked it and when
 abbrev pub yanked_in : Data → Result ReleaseState JsonError
 yanked_in d = do
   id ← member_in (codes "by") d
@@ -57,6 +60,7 @@ state_of status d =
     else if bytes_eq status (codes "yanked") then yanked_in d
     else Err fault.BadText
 
+-- the state of a release, by its `status`
 abbrev pub release_state_in : Data → Result ReleaseState JsonError
 release_state_in d = do
   tag ← member_in (codes "status") d
@@ -73,6 +77,7 @@ release_json r = do
   members ← put_json release_state_json (codes "state") r.state timestamp
   wrote (object members)
 
+-- the release that was saved, or the first fault in it
 abbrev pub release_in : Data → Result ReleaseView JsonError
 release_in d = do
   place ← member_in (codes "recordId") d

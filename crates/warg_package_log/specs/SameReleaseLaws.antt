@@ -84,9 +84,11 @@ state_exact (Released a) (Yanked by time) h = absurd (true≢false (sym h))
 state_exact (Yanked by time) (Released a) h = absurd (true≢false (sym h))
 state_exact (Yanked a s) (Yanked b t) h = let by = (bytes_eq-Decides a b).0 (first_so _ _ h) in let time = (time_decides s t).0 (second_so _ _ h) in λ i. Yanked (by i) (time i)
 
+-- the test calls two states of releases the same exactly if they are one
 pub state_decides : (a b : ReleaseState) → Decides (same_state a b) (a ≡ b)
 state_decides a b = (state_exact a b, λ h. ap (same_state a) (sym h) ∙ state_same a)
 
+-- that two states of releases are the same is an equivalence
 pub state_equiv : IsEquivalence same_state
 state_equiv = exact_equiv state_decides
 
@@ -105,9 +107,11 @@ release_exact a b h =
 release_same : (a : ReleaseView) → same_release a a ≡ true
 release_same a = λ i. (id_decides a.record_id a.record_id).1 refl i && (same_parts-self a.version i && (nat_list_eq_equiv.refl a.by i && ((time_decides a.timestamp a.timestamp).1 refl i && state_same a.state i)))
 
+-- the test calls two releases the same exactly if they are one
 pub release_decides : (a b : ReleaseView) → Decides (same_release a b) (a ≡ b)
 release_decides a b = (release_exact a b, λ h. ap (same_release a) (sym h) ∙ release_same a)
 
+-- that two releases show the same is an equivalence
 pub shown_equiv : IsEquivalence (λ (a b : Release). same_release (release_view a) (release_view b))
 shown_equiv = on_equiv release_view (exact_equiv release_decides)
 
@@ -156,6 +160,7 @@ alike-releases rs qs alike =
 pub releases_decide : (rs qs : List ReleaseView) → Decides (same_releases rs qs) (AreAlike rs qs)
 releases_decide rs qs = (releases-alike rs qs, alike-releases rs qs)
 
+-- that two lists of releases are the same is an equivalence
 pub releases_equiv : IsEquivalence same_releases
 releases_equiv = record {
   refl = λ rs. alike-releases rs rs (λ v. refl);

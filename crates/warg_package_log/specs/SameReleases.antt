@@ -16,12 +16,14 @@ use Rattle.warg_package_log.specs.declared.release.ReleaseState.TheVariants.{Rel
 abbrev pub same_hash : AnyHash → AnyHash → Bool
 same_hash a b = bytes_eq a.bytes b.bytes
 
+-- whether both stand with the same content, or both were yanked by the same key at the same time
 abbrev pub same_state : ReleaseState → ReleaseState → Bool
 same_state (Released a) (Released b) = same_hash a b
 same_state (Released a) (Yanked by time) = false
 same_state (Yanked by time) (Released a) = false
 same_state (Yanked a s) (Yanked b t) = bytes_eq a b && same_time s t
 
+-- whether two releases agree in record, version, signer, time and state
 abbrev pub same_release : ReleaseView → ReleaseView → Bool
 same_release a b = same_id a.record_id b.record_id && (same_parts a.version b.version && (bytes_eq a.by b.by && (same_time a.timestamp b.timestamp && same_state a.state b.state)))
 
