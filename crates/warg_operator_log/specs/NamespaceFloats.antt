@@ -9,6 +9,7 @@ state_no_float : (n : Namespace) → HasNoFloat (namespace_json n)
 state_no_float Defined = refl
 state_no_float (Imported registry) = refl
 
+-- the JSON of a namespace, where there is one, has no float
 pub namespace_no_float : (n : Namespace) → HasNoFloat (saved_namespace_json n)
 namespace_no_float n =
     then_value _ _ (member_no_float namespace_json (codes "state") n no_members (state_no_float n) refl) (λ members m. m)

@@ -23,6 +23,7 @@ defined_in text = if bytes_eq text (codes "defined") then Ok Defined else Err fa
 abbrev pub only_imported : Data → Members → Result Data JsonError
 only_imported d members = if length (names_of members) == 1 then or_bad_text (member_in (codes "imported") d) else Err fault.BadText
 
+-- an imported namespace as it was saved, with the name of its registry
 abbrev pub imported_in : Data → Members → Result Namespace JsonError
 imported_in d members = only_imported d members >>= λ imported. member_in (codes "registry") imported >>= λ name. text_in name >>= λ registry. wrote (Imported registry)
 
@@ -32,6 +33,7 @@ namespace_of d (Some text) members = defined_in text
 namespace_of d None (Some members) = imported_in d members
 namespace_of d None None = Err fault.WrongType
 
+-- what a namespace is, by a text if it is defined and by an object if it is imported
 abbrev pub namespace_in : Data → Result Namespace JsonError
 namespace_in d = namespace_of d (as_str d) (as_object d)
 
@@ -39,5 +41,6 @@ namespace_in d = namespace_of d (as_str d) (as_object d)
 abbrev pub saved_namespace_json : Namespace → Result Data JsonError
 saved_namespace_json n = put_json namespace_json (codes "state") n no_members >>= λ members. wrote (object members)
 
+-- a namespace that was saved, or the first fault in it
 abbrev pub saved_namespace_in : Data → Result Namespace JsonError
 saved_namespace_in d = member_in (codes "state") d >>= λ state. namespace_in state

@@ -14,6 +14,7 @@ abbrev pub namespace_offence_name : OwnOffence → List ℕ
 namespace_offence_name (own.InvalidNamespace name) = codes "InvalidNamespace"
 namespace_offence_name (own.NamespaceAlreadyDefined name) = codes "NamespaceAlreadyDefined"
 
+-- the name of any offence that an operator log may have
 abbrev pub offence_name : Wrong Permission OwnOffence → List ℕ
 offence_name offence = wrong_name namespace_offence_name offence
 

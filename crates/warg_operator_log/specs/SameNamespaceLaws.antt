@@ -23,6 +23,7 @@ namespace_same : (a : Namespace) → same_namespace a a ≡ true
 namespace_same Defined = refl
 namespace_same (Imported registry) = nat_list_eq_equiv.refl registry
 
+-- the test calls two namespaces the same exactly if they are one
 pub namespace_decides : (a b : Namespace) → Decides (same_namespace a b) (a ≡ b)
 namespace_decides a b = (namespace_exact a b, λ h. ap (same_namespace a) (sym h) ∙ namespace_same a)
 
@@ -33,6 +34,7 @@ namespace_equiv = record {
   congr = λ a b c h. ap (λ x. same_namespace x c) (namespace_exact a b h);
 }
 
+-- that two namespaces show the same is an equivalence
 pub shown_equiv : IsEquivalence (λ (a b : NamespaceState). same_namespace (namespace_view a) (namespace_view b))
 shown_equiv = on_equiv namespace_view namespace_equiv
 
@@ -53,6 +55,7 @@ namespaces_decide es fs = (
   λ h. maps_from_get bytes_eq same_namespace es fs (λ k. ap (λ (v : List ℕ → Option Namespace). option_eq same_namespace (names es k) (v k)) (sym h) ∙ options_same (names es k)),
 )
 
+-- that two lists of namespaces are the same is an equivalence
 pub namespaces_equiv : IsEquivalence same_namespaces
 namespaces_equiv = record {
   refl = λ es. (namespaces_decide es es).1 refl;

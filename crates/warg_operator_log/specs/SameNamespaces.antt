@@ -4,6 +4,7 @@ use Rattle.std.specs.Str.{bytes_eq}
 use Rattle.warg_log.specs.Equal.{same_maps}
 use Rattle.warg_operator_log.specs.Namespaces.{Namespace, Defined, Imported}
 
+-- whether both are defined, or both are imported from the same registry
 abbrev pub same_namespace : Namespace → Namespace → Bool
 same_namespace Defined Defined = true
 same_namespace Defined (Imported registry) = false
