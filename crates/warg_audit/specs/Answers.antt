@@ -37,6 +37,7 @@ pub data IsIdAnswer (log_type : LogType) (lines : List (List ℕ)) (printed : Pr
   one_line : (line bytes : List ℕ) → lines ≡ line ∷ [] → string_of line ≡ Ok bytes
       → IsEnvelopeAnswer log_type bytes printed → IsIdAnswer log_type lines printed
 
+-- the answer to lines by what is asked of them: the id of one record, or the verdict on a log
 abbrev pub IsCommandAnswer : Command → List (List ℕ) → Printed → Type 0
 IsCommandAnswer (Id log_type) lines printed = IsIdAnswer log_type lines printed
 IsCommandAnswer (Audit log_type) lines printed = IsLogTypeAnswer log_type lines printed
@@ -51,6 +52,7 @@ pub data IsAnswer (words : List (List ℕ)) (bytes : List ℕ) (printed : Printe
 
 -- ---- the same, computed: the only answer (`laws`)
 
+-- the answer to an envelope as read: its record's id, or why its bytes are refused
 abbrev pub envelope_answer : LogType → Result EnvelopeValue WireError → Printed
 envelope_answer log_type (Ok envelope) = record_id (record_id_of log_type envelope.contents)
 envelope_answer log_type (Err fault) = refused 0 (error_name (ProtobufEnvelope fault))
@@ -61,10 +63,12 @@ string_answer log_type (Err fault) more = bad_line 0
 string_answer log_type (Ok bytes) [] = envelope_answer log_type (envelope_of bytes)
 string_answer log_type (Ok bytes) (next ∷ more) = bad_line 1
 
+-- the answer to lines of which one is wanted, whose record's id is asked
 abbrev pub id_answer : LogType → List (List ℕ) → Printed
 id_answer log_type [] = bad_line 0
 id_answer log_type (line ∷ more) = string_answer log_type (string_of line) more
 
+-- the answer to lines by what is asked of them: one record's id, or the verdict on a log
 abbrev pub command_answer : Command → List (List ℕ) → Printed
 command_answer (Id log_type) lines = id_answer log_type lines
 command_answer (Audit log_type) lines = log_type_answer log_type lines
@@ -74,5 +78,6 @@ abbrev pub asked_answer : Option Command → List ℕ → Printed
 asked_answer None bytes = usage
 asked_answer (Some command) bytes = if nat_lt 16_777_216 (length bytes) then too_long else command_answer command (lines_of bytes)
 
+-- the answer of the program to its words and to the bytes of its input
 abbrev pub answer_of : List (List ℕ) → List ℕ → Printed
 answer_of words bytes = asked_answer (command_of words) bytes

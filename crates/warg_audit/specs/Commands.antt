@@ -6,16 +6,19 @@ use Rattle.warg_audit.specs.declared.command.LogType.TheVariants.{Package, Opera
 use Rattle.warg_audit.specs.declared.command.Command.{Command}
 use Rattle.warg_audit.specs.declared.command.Command.TheVariants.{Id, Audit}
 
+-- the type of log that a word names, if it names one
 abbrev pub log_type_of : List ℕ → Option LogType
 log_type_of word =
     if bytes_eq word (codes "package") then Some Package
     else if bytes_eq word (codes "operator") then Some Operator
     else None
 
+-- the command that asks for the id of one record, if a type of log was named
 abbrev pub id_of : Option LogType → Option Command
 id_of None = None
 id_of (Some log_type) = Some (Id log_type)
 
+-- the command that asks for the verdict on a log, if its type was named
 abbrev pub audit_of : Option LogType → Option Command
 audit_of None = None
 audit_of (Some log_type) = Some (Audit log_type)

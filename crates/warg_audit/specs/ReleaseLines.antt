@@ -4,10 +4,12 @@ use Rattle.warg_protocol.specs.Records.{parts_text, hash_text}
 use Rattle.warg_protocol.specs.Package.{ReleaseView, ReleaseState}
 use Rattle.warg_protocol.specs.ReleaseStates.{Released, Yanked}
 
+-- what a line says of a release's state: released, with its content's hash, or yanked
 abbrev pub release_state_text : ReleaseState → List ℕ
 release_state_text (Released content) = codes " released " ++ hash_text content
 release_state_text (Yanked by timestamp) = codes " yanked"
 
+-- the line that is printed of a release: its version and its state
 abbrev pub release_line : ReleaseView → List ℕ
 release_line release = parts_text release.version ++ (release_state_text release.state ++ codes "\n")
 

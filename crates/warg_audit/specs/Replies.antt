@@ -7,6 +7,7 @@ use Rattle.warg_audit.specs.declared.reply.Reply.{Reply}
 use Rattle.warg_audit.specs.Answers.{IsAnswer}
 use Rattle.warg_audit.specs.Printed.{Printed, read_fault, out_of_memory}
 
+-- the text of a reply, as bytes
 abbrev pub text_of : Text → List ℕ
 text_of (Owned text) = string_bytes text
 text_of (Fixed text) = text.now
