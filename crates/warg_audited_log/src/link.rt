@@ -1,8 +1,10 @@
 //! The places of entries.
 
-/// The place of an entry: that of its record in the log and its own in the record, both counted from 0.
+/// The place of an entry. Places are counted from 0.
 #[derive(Clone, Copy, Debug, PartialEq, Eq)]
 pub struct Link {
+    /// The place of the record in the log.
     pub record_index: usize,
+    /// The place of the entry in its record.
     pub entry_index: usize,
 }

@@ -44,7 +44,7 @@ impl<P: LogPermission> PermissionSet<P> {
         &*self.set
     }
 
-    /// The same set, which takes no memory again.
+    /// A copy, which shares the set and takes no memory.
     pub fn try_clone(&self) -> Result<PermissionSet<P>, AllocError>
         ensures { IfOk result (λ copy. copy ≡ self.now) }
     {

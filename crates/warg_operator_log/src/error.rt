@@ -18,7 +18,7 @@ pub enum ValidationError {
     /// After the first record there is still no init.
     #[error("the initial record is empty and does not \"init\"")]
     InitialRecordDoesNotInit,
-    /// No key of this id is known to the log.
+    /// No key of this id is known to the log, or the signer of an init of version 1 does not own its key.
     #[error("the Key ID used to sign this envelope is not known to this operator log")]
     KeyIDNotRecognized {
         /// The id of the signer's key.

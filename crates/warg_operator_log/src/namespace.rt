@@ -21,7 +21,7 @@ pub enum NamespaceState {
 impl NamespaceState {
     ghost use Rattle.warg_operator_log.specs.NamespaceMap.{namespace_view};
 
-    /// The same state again.
+    /// A copy.
     pub fn try_clone(&self) -> Result<NamespaceState, AllocError>
         ensures { IfOk result (λ copy. namespace_view copy ≡ namespace_view self.now) }
     {

@@ -31,7 +31,7 @@ pub enum ReleaseState {
 }
 
 impl ReleaseState {
-    /// The same state again.
+    /// A copy.
     pub fn try_clone(&self) -> Result<ReleaseState, AllocError>
         ensures { IfOk result (λ copy. copy ≡ self.now) }
     {
@@ -136,7 +136,7 @@ impl Release {
         })
     }
 
-    /// The same release again.
+    /// A copy.
     pub fn try_clone(&self) -> Result<Release, AllocError>
         ensures { IfOk result (λ copy. release_view copy ≡ release_view self.now) }
     {

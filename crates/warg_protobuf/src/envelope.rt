@@ -21,9 +21,9 @@ use std::alloc::{AllocError, Global};
 pub struct Envelope {
     /// Field 1: the record's bytes, not looked into.
     pub contents: Vec<u8>,
-    /// Field 2.
+    /// Field 2: the id of the key that signed them.
     pub key_id: String,
-    /// Field 3.
+    /// Field 3: the text of the signature.
     pub signature: String,
 }
 
@@ -32,9 +32,9 @@ pub struct Envelope {
 pub struct EnvelopeView<'a> {
     /// Field 1: the record's bytes, not looked into.
     pub contents: &'a [u8],
-    /// Field 2.
+    /// Field 2: the id of the key that signed them.
     pub key_id: &'a str,
-    /// Field 3.
+    /// Field 3: the text of the signature.
     pub signature: &'a str,
 }
 

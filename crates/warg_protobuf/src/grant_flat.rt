@@ -10,7 +10,7 @@ use crate::message::Codec;
 use crate::shape::{TextAndNumbers, push_text_and_numbers};
 use std::alloc::{AllocError, Global};
 
-/// Grants permissions on an operator log.
+/// Gives permissions to a key.
 #[derive(Debug, Drop, PartialEq, Eq)]
 pub struct GrantFlat {
     /// Field 1: the text of the key that gains the permissions.

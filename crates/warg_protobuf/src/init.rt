@@ -10,7 +10,7 @@ use crate::message::Codec;
 use crate::shape::{TwoTexts, push_two_texts};
 use std::alloc::{AllocError, Global};
 
-/// The entry that begins an operator log.
+/// The entry that begins a log.
 #[derive(Debug, Drop, PartialEq, Eq)]
 pub struct Init {
     /// Field 1: the text of the first key.

@@ -31,9 +31,9 @@ pub struct Record<L> {
     pub prev: Option<String>,
     /// Field 2: the protocol's version.
     pub version: u32,
-    /// Field 3.
+    /// Field 3: when the record was made.
     pub time: Option<TimestampPair>,
-    /// Field 4, in order.
+    /// Field 4: the entries, in order.
     pub entries: L,
 }
 
@@ -66,6 +66,7 @@ pub trait EntrySink: Drop {
     /// What it holds once this entry came, by what it held before.
     ghost with_entry: { Held → Entry → Held };
 
+    /// A sink that holds nothing.
     fn new(alloc: Global) -> Self
         ensures { held result ≡ nothing };
 

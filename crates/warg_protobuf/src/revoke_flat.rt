@@ -10,7 +10,7 @@ use crate::message::Codec;
 use crate::shape::{TextAndNumbers, push_text_and_numbers};
 use std::alloc::{AllocError, Global};
 
-/// Revokes permissions on an operator log.
+/// Takes permissions from a key.
 #[derive(Debug, Drop, PartialEq, Eq)]
 pub struct RevokeFlat {
     /// Field 1: the id of the key that loses the permissions.

@@ -61,7 +61,7 @@ pub trait Record: Decode + Drop {
     fn contents(&self, alloc: Global) -> Result<IndexSet<AnyHash>, AllocError>
         ensures { IfOk result (λ s. s.keys ≡ distinct ⟦<AnyHash as PartialEq>⟧.eq (mentions (meaning self.now))) };
 
-    /// The same record again.
+    /// A copy.
     fn try_clone(&self) -> Result<Self, AllocError>
         ensures { IfOk result (λ r. meaning r ≡ meaning self.now) };
 

@@ -120,7 +120,7 @@ pub(crate) fn decode_contents<C: Record>(alloc: Global, content: &[u8]) -> Resul
 }
 
 impl<C: Record> ProtoEnvelope<C> {
-    /// The same envelope again.
+    /// A copy.
     pub fn try_clone(&self) -> Result<ProtoEnvelope<C>, AllocError>
         ensures envelope { IfOk result (λ e. e.envelope ≡ self.now.envelope) }
         ensures contents { IfOk result (λ e. C.meaning e.contents ≡ C.meaning self.now.contents) }

@@ -70,7 +70,7 @@ impl<C> SerdeEnvelope<C> {
 }
 
 impl<C: Clone> SerdeEnvelope<C> {
-    /// The same envelope again.
+    /// A copy.
     pub fn try_clone(&self) -> Result<SerdeEnvelope<C>, AllocError>
         ensures contents { IfOk result (λ e. C.is_clone self.now.contents e.contents) }
         ensures key_id { IfOk result (λ e. e.key_id ≡ self.now.key_id) }

@@ -2,16 +2,21 @@
 
 ghost use Rattle.std.specs.Prelude.{◌≡◌, IfOk, Some, map, string_bytes};
 ghost use Rattle.std.specs.Option.{option_map};
+ghost use Rattle.warg_protobuf.specs.GrantFlat.{grant_flat_view};
+ghost use Rattle.warg_protobuf.specs.Init.{init_view};
+ghost use Rattle.warg_protobuf.specs.RevokeFlat.{revoke_flat_view};
 ghost use Rattle.warg_protobuf.specs.Timestamp.{timestamp_view};
 ghost use Rattle.warg_protobuf.specs.Views.{option_view};
-ghost use Rattle.warg_records.specs.Writing.{id_text, time_message};
+ghost use Rattle.warg_records.specs.Writing.{grant_message, id_text, init_message, revoke_message, time_message};
 
 use crate::permission::LogPermission;
 use crate::registry::RecordId;
 use std::alloc::{AllocError, Global};
 use std::fmt;
 use warg_crypto::Timestamp;
-use warg_protobuf::TimestampPair;
+use warg_crypto::hash::HashAlgorithm;
+use warg_crypto::signing::{KeyID, PublicKey};
+use warg_protobuf::{GrantFlat, Init, RevokeFlat, TimestampPair};
 
 /// A part of a record that is written as its message.
 pub(crate) trait ToMessage {
@@ -45,7 +50,7 @@ pub(crate) fn write_each<T: ToMessage>(
 }
 
 /// Writes the numbers of all permissions, in order.
-pub(crate) fn write_permissions<P: LogPermission>(
+fn write_permissions<P: LogPermission>(
     alloc: Global,
     permissions: &[P],
 ) -> Result<Vec<i32>, AllocError>
@@ -56,6 +61,51 @@ pub(crate) fn write_permissions<P: LogPermission>(
         numbers.push(permission.to_number())?;
     }
     Ok(numbers)
+}
+
+/// The message of an entry that begins a log.
+pub(crate) fn write_init(
+    alloc: Global,
+    algorithm: HashAlgorithm,
+    key: &PublicKey,
+) -> Result<Init, AllocError>
+    ensures { IfOk result (λ m. init_view m ≡ init_message algorithm key.now) }
+{
+    let key = key.to_string(alloc)?;
+    let hash_algorithm = algorithm.to_string(alloc)?;
+    Ok(Init {
+        key,
+        hash_algorithm,
+    })
+}
+
+/// The message of an entry that gives permissions to a key.
+pub(crate) fn write_grant<P: LogPermission>(
+    alloc: Global,
+    key: &PublicKey,
+    permissions: &[P],
+) -> Result<GrantFlat, AllocError>
+    ensures { IfOk result (λ m. grant_flat_view m ≡ grant_message P.number_of key.now permissions.now) }
+{
+    let key = key.to_string(alloc)?;
+    let permissions = write_permissions(alloc, permissions)?;
+    Ok(GrantFlat { key, permissions })
+}
+
+/// The message of an entry that takes permissions from a key.
+pub(crate) fn write_revoke<P: LogPermission>(
+    alloc: Global,
+    key_id: &KeyID,
+    permissions: &[P],
+) -> Result<RevokeFlat, AllocError>
+    ensures { IfOk result (λ m. revoke_flat_view m ≡ revoke_message P.number_of key_id.now permissions.now) }
+{
+    let key_id = String::from_str(alloc, key_id.as_str())?;
+    let permissions = write_permissions(alloc, permissions)?;
+    Ok(RevokeFlat {
+        key_id,
+        permissions,
+    })
 }
 
 /// The text of the id of the record before.

@@ -51,7 +51,7 @@ impl KeyID {
         }
     }
 
-    /// The same id again.
+    /// A copy.
     pub fn try_clone(&self) -> Result<KeyID, AllocError>
         ensures { IfOk result (λ k. k ≡ self.now) }
     {
@@ -236,7 +236,7 @@ impl PublicKey {
         self.tagged.to_text(alloc)
     }
 
-    /// The same key again.
+    /// A copy.
     pub fn try_clone(&self) -> Result<PublicKey, AllocError>
         ensures { IfOk result (λ k. k ≡ self.now) }
     {

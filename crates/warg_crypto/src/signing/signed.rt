@@ -73,7 +73,7 @@ impl Signature {
         self.tagged.to_text(alloc)
     }
 
-    /// The same signature again.
+    /// A copy.
     pub fn try_clone(&self) -> Result<Signature, AllocError>
         ensures { IfOk result (λ k. k ≡ self.now) }
     {

@@ -76,7 +76,7 @@ impl OperatorEntry {
         }
     }
 
-    /// The same entry again.
+    /// A copy.
     pub fn try_clone(&self) -> Result<OperatorEntry, AllocError>
         ensures { IfOk result (λ e. entry_data e ≡ entry_data self.now) }
     {

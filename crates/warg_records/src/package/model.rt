@@ -88,7 +88,7 @@ impl PackageEntry {
         }
     }
 
-    /// The same entry again.
+    /// A copy.
     pub fn try_clone(&self) -> Result<PackageEntry, AllocError>
         ensures { IfOk result (λ e. entry_data e ≡ entry_data self.now) }
     {

@@ -32,7 +32,7 @@ impl Model for ProtoEnvelopeBody {
 }
 
 impl ProtoEnvelopeBody {
-    /// The same body again.
+    /// A copy.
     pub fn try_clone(&self) -> Result<ProtoEnvelopeBody, AllocError>
         ensures { IfOk result (λ b. b ≡ self.now) }
     {
@@ -118,7 +118,7 @@ pub struct PublishedProtoEnvelopeBody {
 }
 
 impl PublishedProtoEnvelopeBody {
-    /// The same body again.
+    /// A copy.
     pub fn try_clone(&self) -> Result<PublishedProtoEnvelopeBody, AllocError>
         ensures { IfOk result (λ b. b ≡ self.now) }
     {
@@ -166,7 +166,7 @@ impl<C: Record> PublishedProtoEnvelope<C> {
         })
     }
 
-    /// The same published envelope again.
+    /// A copy.
     pub fn try_clone(&self) -> Result<PublishedProtoEnvelope<C>, AllocError>
         ensures index { IfOk result (λ e. e.registry_index ≡ self.now.registry_index) }
         ensures envelope { IfOk result (λ e. e.envelope.envelope ≡ self.now.envelope.envelope) }
