@@ -40,17 +40,21 @@ by_bytes-long : (count : ℕ) (r : Result (List ℕ) FromHexError) → IsOk r �
 by_bytes-long count (Ok bytes) ok h = grind (arith)
 by_bytes-long count (Err e) ok h = cc ok
 
+-- what is not pairs of hex digits is refused as bad hex
 pub hash_of_digits-bad : (digits : List ℕ) → (((length digits % 2 ≡ 0) × AllPass is_hex_digit digits) → ⊥)
     → hash_of_digits digits ≡ Err fault.BadHex
 hash_of_digits-bad digits h = by_bytes-bad (length digits) (decode_of digits) (λ ok. h ((IsOk-decode_of digits).0 ok))
 
+-- pairs of hex digits that are not 64 digits are refused for their length
 pub hash_of_digits-long : (digits : List ℕ) → ((length digits % 2 ≡ 0) × AllPass is_hex_digit digits)
     → (length digits ≡ 64 → ⊥) → hash_of_digits digits ≡ Err fault.BadLength
 hash_of_digits-long digits pairs h = by_bytes-long (length digits) (decode_of digits) ((IsOk-decode_of digits).1 pairs) h
 
+-- the lower-case hex digits are ASCII
 pub IsAscii-lower_digits : IsAscii lower_digits
 IsAscii-lower_digits = IsAscii-from_all lower_digits (λ k d below. ltb-true _ _ (AllPass-from_list_all (λ b. nat_lt b 128) lower_digits refl k d below))
 
+-- a decoding that failed gave no bytes
 pub err_is_no_ok : (r : Result (List ℕ) FromHexError) (e : FromHexError) → r ≡ Err e → IsOk r → ⊥
 err_is_no_ok (Ok bytes) e h ok = cc h
 err_is_no_ok (Err x) e h ok = cc ok

@@ -28,6 +28,7 @@ algorithm_of text = if bytes_eq text (codes "sha256") then Ok Sha256 else Err (r
 abbrev pub hash_text : AnyHash → List ℕ
 hash_text h = codes "sha256:" ++ encode_lower h.bytes
 
+-- whether the byte is a colon
 abbrev pub is_colon : ℕ → Bool
 is_colon b = b == 58
 

@@ -40,6 +40,7 @@ abbrev pub wrote : {A : Type 0} → A → Result A JsonError
 wrote x = Ok x
 
 infixl 10 ◌>>=◌
+-- the first step's value is handed on, its fault is the answer
 abbrev pub ◌>>=◌ : {A B : Type 0} → Result A JsonError → (A → Result B JsonError) → Result B JsonError
 (Ok x) >>= f = f x
 (Err e) >>= f = Err e
@@ -54,14 +55,18 @@ abbrev pub or_bad_text : {A E : Type 0} → Result A E → Result A JsonError
 or_bad_text (Ok x) = Ok x
 or_bad_text (Err e) = Err fault.BadText
 
+-- the text that the value is; any other value is of the wrong type
 abbrev pub text_in : Data → Result (List ℕ) JsonError
 text_in d = some_or fault.WrongType (as_str d)
 
+-- the members of the value, which must be an object
 abbrev pub members_in : Data → Result Members JsonError
 members_in d = some_or fault.WrongType (as_object d)
 
+-- the items of the value, which must be an array
 abbrev pub items_in : Data → Result Items JsonError
 items_in d = some_or fault.WrongType (as_array d)
 
+-- the member of that name, which must be there, of a value that is an object
 abbrev pub member_in : List ℕ → Data → Result Data JsonError
 member_in name d = members_in d >>= λ ms. some_or fault.Missing (get_member name ms)

@@ -11,15 +11,19 @@ use Rattle.warg_crypto.specs.Keys.{public_key_of, signature_of}
 use Rattle.warg_crypto.specs.Times.{Time}
 use Rattle.warg_crypto.specs.TimeText.{time_of, time_text}
 
+-- a hash algorithm: its name
 abbrev pub algorithm_json : HashAlgorithm → Result Data JsonError
 algorithm_json a = wrote (string (algorithm_text a))
 
+-- the hash algorithm that a JSON text names, or the fault
 abbrev pub algorithm_in : Data → Result HashAlgorithm JsonError
 algorithm_in d = text_in d >>= λ text. or_bad_text (algorithm_of text)
 
+-- a hash: its text
 abbrev pub hash_json : AnyHash → Result Data JsonError
 hash_json h = wrote (string (hash_text h))
 
+-- the hash that a JSON text spells, or the fault
 abbrev pub hash_in : Data → Result AnyHash JsonError
 hash_in d = text_in d >>= λ text. or_bad_text (hash_of text)
 
@@ -27,23 +31,30 @@ hash_in d = text_in d >>= λ text. or_bad_text (hash_of text)
 abbrev pub key_id_json : List ℕ → Result Data JsonError
 key_id_json id = wrote (string id)
 
+-- the key id that a JSON text is; any text is one
 abbrev pub key_id_in : Data → Result (List ℕ) JsonError
 key_id_in d = text_in d
 
+-- a public key: its text
 abbrev pub key_json : NamedBytes → Result Data JsonError
 key_json key = wrote (string (tag_text key))
 
+-- the public key that a JSON text spells, or the fault
 abbrev pub key_in : Data → Result NamedBytes JsonError
 key_in d = text_in d >>= λ text. or_bad_text (public_key_of text)
 
+-- a signature: its text
 abbrev pub signature_json : NamedBytes → Result Data JsonError
 signature_json signature = wrote (string (tag_text signature))
 
+-- the signature that a JSON text spells, or the fault
 abbrev pub signature_in : Data → Result NamedBytes JsonError
 signature_in d = text_in d >>= λ text. or_bad_text (signature_of text)
 
+-- a time: its text; a time before the epoch has none
 abbrev pub time_json : Time → Result Data JsonError
 time_json t = time_text t >>= λ text. wrote (string text)
 
+-- the time that a JSON text spells, or the fault
 abbrev pub time_in : Data → Result Time JsonError
 time_in d = text_in d >>= λ text. time_of text

@@ -15,6 +15,7 @@ Each own (x ∷ xs) = own x × Each own xs
 
 module _ {A : Type 0} (writes : A → Result Data JsonError) (reads : Data → Result A JsonError) (is_written : A → Type 0) (same : A → A → Type 0)
     (back : (x : A) (d : Data) → is_written x → writes x ≡ Ok d → ReadsBack reads same x d) where
+  -- the items that were written read as values that are the same, one by one
   record Values (xs : List A) (ds : List Data) : Type 0 where
     again : List A
     is : values_of reads (items_of ds) ≡ Ok again
@@ -33,6 +34,7 @@ module _ {A : Type 0} (writes : A → Result Data JsonError) (reads : Data → R
         equal = (one.equal, more.equal);
       }
 
+  -- where each value reads back, so does the list
   pub list_reads_back : (xs : List A) (d : Data) → Each is_written xs → list_json writes xs ≡ Ok d
       → ReadsBack (list_in reads) (SameLists same) xs d
   list_reads_back xs d own e =

@@ -11,6 +11,7 @@ module _ {A : Type 0} (reads : Data → Result A JsonError) where
   values_of no_items = Ok []
   values_of (item d more) = reads d >>= λ x. values_of more >>= λ rest. wrote (x ∷ rest)
 
+  -- the values of an array, in order, or the first fault
   abbrev pub list_in : Data → Result (List A) JsonError
   list_in d = items_in d >>= values_of
 
@@ -20,6 +21,7 @@ module _ {A : Type 0} (writes : A → Result Data JsonError) where
   data_of [] = Ok []
   data_of (x ∷ xs) = writes x >>= λ d. data_of xs >>= λ ds. wrote (d ∷ ds)
 
+  -- the values as an array
   abbrev pub list_json : List A → Result Data JsonError
   list_json xs = data_of xs >>= λ ds. wrote (array (items_of ds))
 

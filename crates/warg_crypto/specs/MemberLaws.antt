@@ -35,6 +35,7 @@ module _ {A : Type 0} (writes : A → Result Data JsonError) (reads : Data → R
   some_read_back (array ds) x h = rw h refl
   some_read_back (object ms) x h = rw h refl
 
+  -- where each value reads back and null is none of them, so does a value that may be missing
   pub optional_reads_back : (o : Option A) (d : Option Data) → ((x : A) → o ≡ Some x → is_written x)
       → option_json writes o ≡ Ok d → OptionReadsBack reads same o d
   optional_reads_back None d own is = record { again = None; is = subst (λ (x : Option Data). optional reads x ≡ Ok None) (ok_same _ _ is) refl; equal = tt }

@@ -14,6 +14,7 @@ unless_null (string t) = Some (string t)
 unless_null (array ds) = Some (array ds)
 unless_null (object ms) = Some (object ms)
 
+-- the value of what is there, if anything is
 abbrev pub some_read : {A : Type 0} → (Data → Result A JsonError) → Option Data → Result (Option A) JsonError
 some_read reads None = Ok None
 some_read reads (Some d) = reads d >>= λ x. wrote (Some x)

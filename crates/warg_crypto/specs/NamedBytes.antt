@@ -19,6 +19,7 @@ pub record IsName (name : List ℕ) : Type 0 where
   pub nonempty : 0 < length name
   pub no_colon : list_any is_colon name ≡ false
 
+-- whether two keys or two signatures are the same: in name and in bytes
 abbrev pub same_tag : NamedBytes → NamedBytes → Bool
 same_tag a b = bytes_eq a.name b.name && bytes_eq a.bytes b.bytes
 
@@ -26,6 +27,7 @@ same_tag a b = bytes_eq a.name b.name && bytes_eq a.bytes b.bytes
 abbrev pub tag_text : NamedBytes → List ℕ
 tag_text t = t.name ++ 58 ∷ encode_of standard t.bytes
 
+-- the name with what the base64 spells, or that it is bad
 abbrev pub tag_or_bad : List ℕ → Result (List ℕ) DecodeError → Result NamedBytes TagError
 tag_or_bad name (Ok bytes) = Ok (record { name = name; bytes = bytes })
 tag_or_bad name (Err e) = Err fault.BadBase64

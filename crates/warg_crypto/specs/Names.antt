@@ -13,12 +13,14 @@ use Rattle.warg_crypto.specs.NamedBytes.{NamedBytes, IsName, tag_of, tag_text, t
 use Rattle.warg_crypto.specs.HashText.{is_colon}
 use Rattle.warg_crypto.specs.Keys.{key_fault, public_key_of, signature_fault, signature_of, with_fault}
 
+-- no colon stands before the first colon
 pub no_colon-before_first : (text : List ℕ) → list_any is_colon (before_first is_colon text) ≡ false
 no_colon-before_first text =
     list_any_none is_colon (before_first is_colon text) (λ k d below.
     let inside : k < position_or_len is_colon text = omega (arith, length-take (position_or_len is_colon text) text) in
     rw (get_or-take (position_or_len is_colon text) text k d inside) (fails_before_first is_colon text k d inside))
 
+-- a text that is not empty has a byte
 pub some_bytes : (text : List ℕ) (empty : Bool) → empty ≡ (length text == 0) → empty ≡ false → 0 < length text
 some_bytes text empty e h = grind (arith)
 

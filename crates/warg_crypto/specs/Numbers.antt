@@ -6,6 +6,7 @@ use Rattle.warg_crypto.specs.declared.json.error.JsonError.{JsonError}
 use Rattle.warg_crypto.specs.declared.json.error.JsonError.TheVariants as fault
 use Rattle.warg_crypto.specs.Json.{◌>>=◌, some_or}
 
+-- the number, where it is below the bound; else it is of the wrong type
 abbrev pub in_range : ℕ → ℕ → Result ℕ JsonError
 in_range bound n = if nat_lt n bound then Ok n else Err fault.WrongType
 

@@ -28,6 +28,7 @@ module _ {K A : Type 0} (named : List ℕ → Result K JsonError) (reads : Data 
   pairs_of no_members = Ok []
   pairs_of (member name d more) = named name >>= λ k. reads d >>= λ x. pairs_of more >>= λ rest. wrote ((k, x) ∷ rest)
 
+  -- the pairs of a value that is an object, in the order of its members
   abbrev pub pairs_in : Data → Result (List (K × A)) JsonError
   pairs_in d = members_in d >>= pairs_of
 
@@ -52,6 +53,7 @@ module _ {K A : Type 0} (name_of : K → List ℕ) (writes : A → Result Data J
   pairs_onto ms [] = Ok ms
   pairs_onto ms (e ∷ es) = writes e.1 >>= λ d. pairs_onto (put (name_of e.0) d ms) es
 
+  -- the object of the pairs, each value under its key's name
   abbrev pub pairs_json : List (K × A) → Result Data JsonError
   pairs_json es = pairs_onto no_members es >>= λ ms. wrote (object ms)
 

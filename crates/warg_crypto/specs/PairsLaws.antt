@@ -76,6 +76,7 @@ module _ {K A : Type 0} (name_of : K → List ℕ) where
       by again true n = cc n
       by again false n = again n
 
+  -- where no two pairs have one name, the last with a name is the first with it
   pub latest-unique : (q : List ℕ) (es : List (K × A)) → IsUniquePairs es → latest q es None ≡ value_at q es
   latest-unique q [] h = refl
   latest-unique q (e ∷ es) h = by (latest-unique q es h.1) (bytes_eq q (name_of e.0)) refl
@@ -220,6 +221,7 @@ module _ {K A : Type 0} (named : List ℕ → Result K JsonError) (name_of : K �
       pub at : (q : List ℕ) → value_at name_of q pairs ≡ value_at name_of q fs
       pub none_pass : list_any test pairs ≡ false
 
+    -- an object that was written of pairs is read, and at each name it has what the pairs have
     pub pairs_read_back : (es fs : List (K × A)) (d : Data) → AreReadAs es fs → IsUniquePairs name_of fs
         → pairs_json name_of writes es ≡ Ok d → ReadsPairs d fs
     pairs_read_back es fs d read unique is =
@@ -252,5 +254,6 @@ module _ {K A : Type 0} (named : List ℕ → Result K JsonError) (name_of : K �
       let first : value_at name_of (name_of n.0) b.0 ≡ None = ap (λ (name : List ℕ). value_at name_of name b.0) (back l n.0 n.1) ∙ absent l ms b.0 h.0 b.1 in
       subst (λ (ps : List (K × A)). IsUniquePairs name_of ps) (ok_same _ _ b.2) (first, unique-of ms b.0 h.1 b.1)
 
+  -- no two pairs of members whose names ascend have one name
   pub pairs_in_order_differ : (pairs : List (K × A)) → ArePairsInOrder named reads pairs → IsUniquePairs name_of pairs
   pairs_in_order_differ pairs own = unique-of own.members pairs own.ascend own.are

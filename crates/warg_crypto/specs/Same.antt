@@ -8,6 +8,7 @@ use Rattle.std.proofs.Common.{rules}
 use Rattle.std.proofs.lemmas.Cmp.{and_equiv}
 use Rattle.warg_crypto.specs.NamedBytes.{NamedBytes, same_tag}
 
+-- to be the same is an equivalence of keys, and of signatures
 pub same_tag_equiv : IsEquivalence same_tag
 same_tag_equiv = and_equiv (on_equiv (λ (t : NamedBytes). t.name) nat_list_eq_equiv) (on_equiv (λ (t : NamedBytes). t.bytes) nat_list_eq_equiv)
 
@@ -18,5 +19,6 @@ tag_hash_input t = fed.str t.name ++ fed.slice fed.u8 t.bytes
 alike : fed.Alike same_tag tag_hash_input
 alike = search (hashing, rules)
 
+-- of keys or signatures that are the same, a hasher is fed the same
 pub tag_hash_input-same_tag : (a b : NamedBytes) → same_tag a b ≡ true → tag_hash_input a ≡ tag_hash_input b
 tag_hash_input-same_tag = alike.fed

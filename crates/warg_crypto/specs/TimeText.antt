@@ -9,6 +9,7 @@ use Rattle.warg_crypto.specs.declared.json.error.JsonError.{JsonError}
 use Rattle.warg_crypto.specs.declared.json.error.JsonError.TheVariants as fault
 use Rattle.warg_crypto.specs.Times.{Time}
 
+-- whether the byte is a dot
 abbrev pub is_dot : ℕ → Bool
 is_dot b = b == 46
 
@@ -50,6 +51,7 @@ pub record IsTime (t : Time) : Type 0 where
   pub nanos : t.nanos < 1_000_000_000
   pub seconds : (n : ℕ) → t.seconds ≡ pos n → n < 2 ^ 63
 
+-- the text of seconds since the epoch and nanoseconds; seconds before it have none
 abbrev pub seconds_text : ℤ → ℕ → Result (List ℕ) JsonError
 seconds_text (pos s) n = Ok (decimal s ++ 46 ∷ decimal n)
 seconds_text (negsuc s) n = Err fault.TimeBeforeEpoch

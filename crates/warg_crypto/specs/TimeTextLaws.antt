@@ -42,10 +42,12 @@ plus_free (c ∷ cs) h = rw (no_plus c h.0) refl
         by false e = e
         by true e = absurd (grind (arith))
 
+-- the digits of a number below the bound say that number
 pub below_numeral : (bound n : ℕ) (ds : List ℕ) → IsNumeral 10 ds → digits_value 10 ds ≡ n → n < bound
     → below bound ds ≡ Some n
 below_numeral bound n ds own is fits = grind (arith, own.0, all_pass ds own.1, is)
 
+-- a number below the bound reads back from its decimal digits
 pub number_of-decimal : (bound n : ℕ) → n < bound → n < 2 ^ 64 → number_of bound (decimal n) ≡ Some n
 number_of-decimal bound n fits small =
     let own = decimal_is_IsNumeral n small in
@@ -66,6 +68,7 @@ inside : (len : ℕ) (text name : List ℕ) (p : ℕ) → p ≡ length name → 
     → (p == length text) ≡ false
 inside len text name p e l = grind (arith)
 
+-- the text of seconds since the epoch and nanoseconds reads back as their time
 pub time_of-text : (s n : ℕ) → s < 2 ^ 63 → n < 1_000_000_000
     → time_of (decimal s ++ 46 ∷ decimal n) ≡ Ok (record { seconds = pos s; nanos = n })
 time_of-text s n fits small =
@@ -80,6 +83,7 @@ time_of-text s n fits small =
     (ap (number_of (2 ^ 32)) back ∙ number_of-decimal (2 ^ 32) n (omega arith) (omega arith))
     fits small
 
+-- the text of a time, where it has one, reads back as the time
 pub time_of-seconds_text : (z : ℤ) (n : ℕ) (text : List ℕ) → n < 1_000_000_000 → ((s : ℕ) → z ≡ pos s → s < 2 ^ 63)
     → seconds_text z n ≡ Ok text
     → time_of text ≡ Ok (record { seconds = z; nanos = n })

@@ -21,6 +21,7 @@ pub record Time : Type 0 where
 abbrev pub are_seconds : ℤ → Bool
 are_seconds s = int_le (negsuc 9_223_372_036_854_775_807) s && int_le s (pos 9_223_372_036_854_775_807)
 
+-- the time of such seconds and nanoseconds, unless the seconds take more than 64 bits
 abbrev pub carried_time : ℤ → ℤ → Result Time TimeError
 carried_time seconds nanos =
     if are_seconds seconds then Ok (record { seconds = seconds; nanos = unsigned_abs nanos })
@@ -31,6 +32,7 @@ abbrev pub time_from : ℤ → ℤ → Result Time TimeError
 time_from seconds nanos =
     carried_time (seconds +ℤ int_div_euclid nanos (pos 1_000_000_000)) (int_rem_euclid nanos (pos 1_000_000_000))
 
+-- whether two times are the same: in seconds and in nanoseconds
 abbrev pub same_time : Time → Time → Bool
 same_time a b = int_eq a.seconds b.seconds && nat_eq a.nanos b.nanos
 
@@ -50,9 +52,11 @@ shown_time t = signed_decimal t.seconds ++ 46 ∷ decimal t.nanos
 abbrev pub time_hash_input : Time → List (List ℕ)
 time_hash_input t = fed.i64 t.seconds ++ fed.u32 t.nanos
 
+-- to be the same is an equivalence of times
 pub same_time_equiv : IsEquivalence same_time
 same_time_equiv = and_equiv (on_equiv (λ (t : Time). t.seconds) int_eq_equiv) (on_equiv (λ (t : Time). t.nanos) nat_eq_equiv)
 
+-- times stand in a total order
 pub time_cmp_total : IsTotalOrder time_cmp
 time_cmp_total = then_total (on_total (λ (t : Time). t.seconds) int_cmp_total) (on_total (λ (t : Time). t.nanos) nat_cmp_total)
 
@@ -60,11 +64,13 @@ time_cmp_total = then_total (on_total (λ (t : Time). t.seconds) int_cmp_total) 
 pub same_time-time_cmp : (a b : Time) → same_time a b ≡ eq_by_cmp time_cmp a b
 same_time-time_cmp a b = both_tied (int_eq a.seconds b.seconds) (nat_eq a.nanos b.nanos) (int_cmp a.seconds b.seconds) (nat_cmp a.nanos b.nanos) refl (ties unsigned_po (λ _ _. refl) a.nanos b.nanos)
 
+-- the order of times, as a partial one, agrees with when two are the same
 pub time_cmp_partial : IsPartialOrder same_time (λ a b. Some (time_cmp a b))
 time_cmp_partial = po time_cmp_total same_time-time_cmp
 
 alike : fed.Alike same_time time_hash_input
 alike = search (hashing, rules)
 
+-- of times that are the same, a hasher is fed the same
 pub time_hash_input-same_time : (a b : Time) → same_time a b ≡ true → time_hash_input a ≡ time_hash_input b
 time_hash_input-same_time = alike.fed
