@@ -51,41 +51,53 @@ module _ {K : Type 0} (with_field : K → Field → K) where
 
 -- ---- texts and numbers
 
+-- what is kept of a message with one text
 pub record OneTextKept : Type 0 where
   pub text : List ℕ
 
+-- what the draft of one text has kept
 abbrev pub one_text_kept : OneText → OneTextKept
 one_text_kept d = record { text = d.text.now }
 
+-- before any field: an empty text
 abbrev pub no_text : OneTextKept
 no_text = record { text = [] }
 
+-- after one more field: the last text counts
 abbrev pub one_text_with : OneTextKept → Field → OneTextKept
 one_text_with k f = record { text = last_from k.text (held 1 (f ∷ [])) }
 
+-- what is kept of a message with two texts
 pub record TwoTextsKept : Type 0 where
   pub first : List ℕ
   pub second : List ℕ
 
+-- what the draft of two texts has kept
 abbrev pub two_texts_kept : TwoTexts → TwoTextsKept
 two_texts_kept d = record { first = d.first.now; second = d.second.now }
 
+-- before any field: two empty texts
 abbrev pub no_texts : TwoTextsKept
 no_texts = record { first = []; second = [] }
 
+-- after one more field: of either text the last counts
 abbrev pub two_texts_with : TwoTextsKept → Field → TwoTextsKept
 two_texts_with k f = record { first = last_from k.first (held 1 (f ∷ [])); second = last_from k.second (held 2 (f ∷ [])) }
 
+-- what is kept of a message with a text and a list of numbers
 pub record TextAndNumbersKept : Type 0 where
   pub text : List ℕ
   pub numbers : List ℤ
 
+-- what the draft of a text and numbers has kept
 abbrev pub text_and_numbers_kept : TextAndNumbers → TextAndNumbersKept
 text_and_numbers_kept d = record { text = d.text.now; numbers = d.numbers.items }
 
+-- before any field: an empty text, and no numbers
 abbrev pub nothing_kept : TextAndNumbersKept
 nothing_kept = record { text = []; numbers = [] }
 
+-- after one more field: the last text counts, and all numbers do
 abbrev pub text_and_numbers_with : TextAndNumbersKept → Field → TextAndNumbersKept
 text_and_numbers_with k f = record {
   text = last_from k.text (held 1 (f ∷ []));
@@ -94,27 +106,33 @@ text_and_numbers_with k f = record {
 
 -- ---- times
 
+-- what is kept of a time: the numbers as they were read, without a sign
 pub record TimestampKept : Type 0 where
   pub seconds : ℕ
   pub nanos : ℕ
 
+-- what the draft of a time has kept
 abbrev pub timestamp_kept : TimestampDraft → TimestampKept
 timestamp_kept d = record { seconds = d.seconds; nanos = d.nanos }
 
+-- before any field: both numbers are 0
 abbrev pub no_time : TimestampKept
 no_time = record { seconds = 0; nanos = 0 }
 
+-- after one more field: of either number the last counts
 abbrev pub timestamp_with : TimestampKept → Field → TimestampKept
 timestamp_with k f = record {
   seconds = last_from k.seconds (numbers 1 (f ∷ []));
   nanos = last_from k.nanos (numbers 2 (f ∷ []));
 }
 
+-- the time of what is kept: the numbers as two's complement, of the nanos the low 32 bits
 abbrev pub time_made : TimestampKept → TimestampValue
 time_made k = record { seconds = cast_signed w64 k.seconds; nanos = low_signed k.nanos }
 
 -- ---- entries: the run of the last member
 
+-- what is kept of an entry's last member; the fourth and the fifth are those that its kind of log alone has
 pub data MemberKept (F G : Type 0) : Type 0 where
   Absent : MemberKept F G
   Init : TwoTextsKept → MemberKept F G
@@ -123,6 +141,7 @@ pub data MemberKept (F G : Type 0) : Type 0 where
   Fourth : F → MemberKept F G
   Fifth : G → MemberKept F G
 
+-- what the draft of an entry has kept, by what those of the fourth and the fifth member have
 abbrev pub member_kept : {D E F G : Type 0} → (D → F) → (E → G) → MemberDraft D E → MemberKept F G
 member_kept fourth fifth member.Absent = Absent
 member_kept fourth fifth (member.Init d) = Init (two_texts_kept d)
@@ -131,34 +150,41 @@ member_kept fourth fifth (member.RevokeFlat d) = RevokeFlat (text_and_numbers_ke
 member_kept fourth fifth (member.Fourth d) = Fourth (fourth d)
 member_kept fourth fifth (member.Fifth d) = Fifth (fifth d)
 
+-- before any field: no member
 abbrev pub no_member : {F G : Type 0} → MemberKept F G
 no_member = Absent
 
--- what is kept of one member's run: nothing where another came last
+-- what is kept of the run of an init: nothing where another member came last
 abbrev pub init_so_far : {F G : Type 0} → MemberKept F G → TwoTextsKept
 init_so_far (Init t) = t
 init_so_far _ = no_texts
 
+-- what is kept of the run of a grant: nothing where another member came last
 abbrev pub grant_flat_so_far : {F G : Type 0} → MemberKept F G → TextAndNumbersKept
 grant_flat_so_far (GrantFlat t) = t
 grant_flat_so_far _ = nothing_kept
 
+-- what is kept of the run of a revocation: nothing where another member came last
 abbrev pub revoke_flat_so_far : {F G : Type 0} → MemberKept F G → TextAndNumbersKept
 revoke_flat_so_far (RevokeFlat t) = t
 revoke_flat_so_far _ = nothing_kept
 
+-- what is kept of the run of the fourth member: what there is before any field where another came last
 abbrev pub fourth_so_far : {F G : Type 0} → F → MemberKept F G → F
 fourth_so_far empty (Fourth t) = t
 fourth_so_far empty _ = empty
 
+-- what is kept of the run of the fifth member: what there is before any field where another came last
 abbrev pub fifth_so_far : {F G : Type 0} → G → MemberKept F G → G
 fifth_so_far empty (Fifth t) = t
 fifth_so_far empty _ = empty
 
+-- the fields that an entry knows: the five members of its oneof
 abbrev pub entry_table : Table → Table → Table
 entry_table fourth fifth = MessageAt 1 two_texts (MessageAt 2 text_and_numbers (MessageAt 3 text_and_numbers (MessageAt 4 fourth (MessageAt 5 fifth End))))
 
 module _ {F G : Type 0} (fourth : Table) (fourth_with : F → Field → F) (no_fourth : F) (fifth : Table) (fifth_with : G → Field → G) (no_fifth : G) where
+  -- what the bytes of one more field make of the member: its run goes on, another's begins, or nothing changes
   abbrev pub member_bytes : MemberKept F G → ℕ → List ℕ → MemberKept F G
   member_bytes k n b =
       if n == 1 then Init (grown two_texts_with two_texts (init_so_far k) b)
@@ -168,12 +194,14 @@ module _ {F G : Type 0} (fourth : Table) (fourth_with : F → Field → F) (no_f
       else (if n == 5 then Fifth (grown fifth_with fifth (fifth_so_far no_fifth k) b)
       else k))))
 
+  -- the same by the field's payload, which counts for nothing unless it is bytes
   abbrev pub member_payload : MemberKept F G → ℕ → Payload → MemberKept F G
   member_payload k n (Bytes b) = member_bytes k n b
   member_payload k n (Number v) = k
   member_payload k n (Eight b) = k
   member_payload k n (Four b) = k
 
+  -- the member after one more field
   abbrev pub member_with : MemberKept F G → Field → MemberKept F G
   member_with k f = member_payload k f.number f.payload
 
@@ -183,9 +211,11 @@ module _ {F G : Type 0} (fourth : Table) (fourth_with : F → Field → F) (no_f
 abbrev pub with_last : {E : Type 0} → List E → E → List E
 with_last es e = es ++ e ∷ []
 
+-- before any field: an envelope of empty parts
 abbrev pub no_parts : EnvelopeValue
 no_parts = record { contents = []; key_id = []; signature = [] }
 
+-- after one more field: of each part the last counts
 abbrev pub envelope_with : EnvelopeValue → Field → EnvelopeValue
 envelope_with k f = record {
   contents = last_from k.contents (held 1 (f ∷ []));
@@ -193,12 +223,14 @@ envelope_with k f = record {
   signature = last_from k.signature (held 3 (f ∷ []));
 }
 
+-- what is kept of a record, its entries as a sink holds them
 pub record RecordKept (H : Type 0) : Type 0 where
   pub prev : Option (List ℕ)
   pub version : ℕ
   pub time : Option TimestampKept
   pub entries : H
 
+-- what the draft of a record has kept, by what its sink holds
 abbrev pub record_kept : {S H : Type 0} → (S → H) → RecordDraft S → RecordKept H
 record_kept held d = record {
   prev = option_view (λ t. t.now) d.prev;
@@ -207,9 +239,11 @@ record_kept held d = record {
   entries = held d.entries;
 }
 
+-- before any field: no prev, version 0, no time, and a sink that holds nothing yet
 abbrev pub no_record : {H : Type 0} → H → RecordKept H
 no_record nothing = record { prev = None; version = 0; time = None; entries = nothing }
 
+-- what is kept of the time so far: both numbers are 0 before its first piece
 abbrev pub time_so_far : Option TimestampKept → TimestampKept
 time_so_far None = no_time
 time_so_far (Some k) = k
@@ -222,6 +256,7 @@ time_grown o b = kept_of timestamp_with (time_so_far o) (fields_of timestamp_tab
 abbrev pub time_with : Option TimestampKept → List ℕ → Option TimestampKept
 time_with o b = Some (grown timestamp_with timestamp_table (time_so_far o) b)
 
+-- after one more field: the last prev and version count, the time grows, an entry goes into the sink
 abbrev pub record_with : {E H : Type 0} → (H → E → H) → Table → (List Field → Result E WireError) → RecordKept H → Field → RecordKept H
 record_with with_entry entry entry_from k f = record {
   prev = last_option_from k.prev (held 1 (f ∷ []));
@@ -232,27 +267,35 @@ record_with with_entry entry entry_from k f = record {
 
 -- ---- the messages of what is kept
 
+-- the init entry of what is kept
 abbrev pub init_made : TwoTextsKept → InitValue
 init_made k = record { key = k.first; hash_algorithm = k.second }
 
+-- the release entry of what is kept
 abbrev pub release_made : TwoTextsKept → ReleaseValue
 release_made k = record { version = k.first; content_hash = k.second }
 
+-- the entry that imports a namespace, of what is kept
 abbrev pub import_namespace_made : TwoTextsKept → ImportNamespaceValue
 import_namespace_made k = record { namespace = k.first; registry = k.second }
 
+-- the yank entry of what is kept
 abbrev pub yank_made : OneTextKept → YankValue
 yank_made k = record { version = k.text }
 
+-- the entry that defines a namespace, of what is kept
 abbrev pub define_namespace_made : OneTextKept → DefineNamespaceValue
 define_namespace_made k = record { namespace = k.text }
 
+-- the grant entry of what is kept
 abbrev pub grant_flat_made : TextAndNumbersKept → GrantFlatValue
 grant_flat_made k = record { key = k.text; permissions = k.numbers }
 
+-- the revoke entry of what is kept
 abbrev pub revoke_flat_made : TextAndNumbersKept → RevokeFlatValue
 revoke_flat_made k = record { key_id = k.text; permissions = k.numbers }
 
+-- the entry of a package log, of what is kept
 abbrev pub package_entry_made : MemberKept TwoTextsKept OneTextKept → Option PackageMember
 package_entry_made Absent = None
 package_entry_made (Init k) = Some (in_package.Init (init_made k))
@@ -261,6 +304,7 @@ package_entry_made (RevokeFlat k) = Some (in_package.RevokeFlat (revoke_flat_mad
 package_entry_made (Fourth k) = Some (in_package.Release (release_made k))
 package_entry_made (Fifth k) = Some (in_package.Yank (yank_made k))
 
+-- the entry of an operator log, of what is kept
 abbrev pub operator_entry_made : MemberKept OneTextKept TwoTextsKept → Option OperatorMember
 operator_entry_made Absent = None
 operator_entry_made (Init k) = Some (in_operator.Init (init_made k))
@@ -269,5 +313,6 @@ operator_entry_made (RevokeFlat k) = Some (in_operator.RevokeFlat (revoke_flat_m
 operator_entry_made (Fourth k) = Some (in_operator.DefineNamespace (define_namespace_made k))
 operator_entry_made (Fifth k) = Some (in_operator.ImportNamespace (import_namespace_made k))
 
+-- the record of what is kept; the version keeps its low 32 bits
 abbrev pub record_made : {H : Type 0} → RecordKept H → RecordValue H
 record_made k = record { prev = k.prev; version = k.version % 2 ^ 32; time = option_view time_made k.time; entries = k.entries }
