@@ -13,6 +13,7 @@ abbrev pub fault_or_memory : Option RecordFault → RecordFault
 fault_or_memory (Some f) = f
 fault_or_memory None = Wire wire.OutOfMemory
 
+-- the entries, unless an error was met: then its fault
 abbrev pub unless_error : {A : Type 0} → A → Option DecodeError → Result A RecordFault
 unless_error xs None = Ok xs
 unless_error xs (Some e) = Err (fault_or_memory (fault_of e))

@@ -32,6 +32,7 @@ signed_json writes e = do
   members ← put_json signature_json (codes "signature") e.signature key_id
   wrote (object members)
 
+-- the envelope without bytes that the JSON says, or its first fault
 abbrev pub signed_in : {A : Type 0} → (Data → Result A JsonError) → Data → Result (SignedContents A) JsonError
 signed_in reads d = do
   inner ← member_in (codes "contents") d
@@ -46,6 +47,7 @@ signed_in reads d = do
 abbrev pub bytes_json : List ℕ → Result Data JsonError
 bytes_json bytes = wrote (string (encode_of standard bytes))
 
+-- the bytes that a JSON text spells in such base64, or the fault
 abbrev pub bytes_in : Data → Result (List ℕ) JsonError
 bytes_in d = text_in d >>= λ text. or_bad_text (decode_of standard text)
 
@@ -56,9 +58,11 @@ body_members e = do
   key_id ← put_json key_id_json (codes "keyId") e.key_id bytes
   put_json signature_json (codes "signature") e.signature key_id
 
+-- an envelope whose contents are bytes: an object of those members
 abbrev pub body_json : EnvelopeData → Result Data JsonError
 body_json e = body_members e >>= λ members. wrote (object members)
 
+-- the envelope of those members that the JSON says, or its first fault
 abbrev pub body_in : Data → Result EnvelopeData JsonError
 body_in d = do
   bytes ← member_in (codes "contentBytes") d
@@ -76,6 +80,7 @@ published_json p = do
   members ← put_json number_json (codes "registryIndex") p.registry_index body
   wrote (object members)
 
+-- the published envelope that the JSON says, or its first fault
 abbrev pub published_in : Data → Result PublishedProtoEnvelopeBody JsonError
 published_in d = do
   envelope ← body_in d

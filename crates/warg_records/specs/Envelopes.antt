@@ -22,6 +22,7 @@ pub data EnvelopeFault (F : Type 0) : Type 0 where
   KeyID : AnyHashError → EnvelopeFault F
   ContentsOutOfMemory : EnvelopeFault F
 
+-- the fault of the contents as the envelope's; where there is none they ran out of memory
 abbrev pub contents_fault_of : {F : Type 0} → Option F → EnvelopeFault F
 contents_fault_of (Some f) = Contents f
 contents_fault_of None = ContentsOutOfMemory
@@ -55,7 +56,7 @@ opened_data read (Err w) = Err (ProtobufEnvelope w)
 abbrev pub envelope_of : {M F : Type 0} → (List ℕ → Result M F) → List ℕ → Result EnvelopeData (EnvelopeFault F)
 envelope_of read bytes = opened_data read (outer.envelope_of bytes)
 
--- the outer message of a envelope
+-- the outer message of an envelope
 abbrev pub envelope_message : EnvelopeData → EnvelopeValue
 envelope_message envelope = record { contents = envelope.content; key_id = envelope.key_id; signature = tag_text envelope.signature }
 

@@ -6,6 +6,7 @@ use Rattle.warg_crypto.specs.declared.coding.DecodeError.{DecodeError}
 use Rattle.warg_crypto.specs.declared.coding.DecodeError.TheVariants as error
 use Rattle.warg_records.specs.Faults.{RecordFault, IsReading, TellsFault, decoded, error_of, fault_of}
 
+-- a fault is told
 abbrev IsTold : Option RecordFault → Type 0
 IsTold (Some f) = Unit {0}
 IsTold None = ⊥

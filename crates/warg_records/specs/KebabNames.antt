@@ -2,15 +2,15 @@
 use Rattle.std.specs.Prelude.{◌≡◌, ◌<◌, ◌==◌, ◌&&◌, ◌||◌, not, ℕ, nat_le, Bool, true, false, List, [], ◌∷◌, ◌++◌, length, if◌then◌else◌}
 use Rattle.std.specs.List.{list_all, join_with_byte, before_first, after_first, position_or_len}
 
--- a envelope a to z
+-- a letter a to z
 abbrev pub is_letter : ℕ → Bool
 is_letter b = nat_le 97 b && nat_le b 122
 
--- a envelope a to z, or a digit 0 to 9
+-- a letter a to z, or a digit 0 to 9
 abbrev pub is_letter_or_digit : ℕ → Bool
 is_letter_or_digit b = is_letter b || (nat_le 48 b && nat_le b 57)
 
--- a word: a envelope, then envelopes and digits
+-- a word: a letter, then letters and digits
 pub record IsWord (word : List ℕ) : Type 0 where
   pub first : ℕ
   pub others : List ℕ
@@ -50,10 +50,11 @@ is_kebab_name bs = ends_kebab true bs
 abbrev pub is_colon : ℕ → Bool
 is_colon b = b == 58
 
--- what stands in front of the colon, and behind it
+-- what stands in front of the colon
 abbrev pub namespace_of : List ℕ → List ℕ
 namespace_of text = before_first is_colon text
 
+-- what stands behind the colon
 abbrev pub name_of : List ℕ → List ℕ
 name_of text = after_first is_colon text
 

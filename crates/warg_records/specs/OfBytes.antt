@@ -6,11 +6,13 @@ use Rattle.warg_protobuf.specs.declared.error.WireError.TheVariants as outer
 use Rattle.warg_records.specs.Envelopes.{EnvelopeFault, ProtobufEnvelope, Contents, Signature, KeyID, ContentsOutOfMemory}
 use Rattle.warg_records.specs.Faults.{RecordFault, Wire, Key}
 
+-- a fault that content bytes can have
 abbrev pub IsOfContent : RecordFault → Type 0
 IsOfContent (Wire wire.OutOfMemory) = ⊥
 IsOfContent (Key key.OutOfMemory) = ⊥
 IsOfContent f = Unit {0}
 
+-- a fault that an envelope's bytes can have
 abbrev pub IsOfEnvelope : EnvelopeFault RecordFault → Type 0
 IsOfEnvelope (ProtobufEnvelope outer.OutOfMemory) = ⊥
 IsOfEnvelope (ProtobufEnvelope w) = Unit {0}

@@ -1,4 +1,4 @@
--- The permissions of a operator log.
+-- The permissions of an operator log.
 use Rattle.std.specs.Prelude.{◌≡◌, ℕ, ℤ, pos, ◌==◌, Bool, true, List, Option, Some, None, codes, if◌then◌else◌}
 use Rattle.std.specs.Cmp.{IsEquivalence, on_equiv}
 use Rattle.std.specs.Hash as fed
@@ -42,6 +42,7 @@ permission_in text =
 abbrev pub same_permission : Permission → Permission → Bool
 same_permission p q = number_of p == number_of q
 
+-- to be the same is an equivalence of permissions
 pub same_permission_equiv : IsEquivalence same_permission
 same_permission_equiv = on_equiv number_of nat_eq_equiv
 
@@ -58,6 +59,7 @@ numbered-number_of ImportNamespace = refl
 pub same_permission-is : (p q : Permission) → same_permission p q ≡ true → p ≡ q
 same_permission-is p q h = sym (numbered-number_of p) ∙ ap numbered (eqb-true (number_of p) (number_of q) h) ∙ numbered-number_of q
 
+-- of permissions that are the same, a hasher is fed the same
 pub hash-same_permission : (p q : Permission) → same_permission p q ≡ true → fed.u8 (number_of p) ≡ fed.u8 (number_of q)
 hash-same_permission p q h = ap fed.u8 (eqb-true (number_of p) (number_of q) h)
 

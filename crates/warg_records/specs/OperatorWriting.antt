@@ -10,6 +10,7 @@ use Rattle.warg_records.specs.OperatorEntries.{OperatorOwnEntry, DefineNamespace
 use Rattle.warg_records.specs.OperatorPermissions.{number_of}
 use Rattle.warg_records.specs.declared.operator.permission.Permission.{Permission}
 
+-- the number of a permission in a message, where numbers have a sign
 abbrev pub permission_number : Permission → ℤ
 permission_number p = pos (number_of p)
 

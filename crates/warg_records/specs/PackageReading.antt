@@ -14,15 +14,18 @@ use Rattle.warg_records.specs.PackageEntries as act
 use Rattle.warg_records.specs.PackagePermissions.{permission_of}
 use Rattle.warg_records.specs.declared.package.permission.Permission.{Permission}
 
+-- the version that a text says, or that it is none
 abbrev pub version_of : List ℕ → Result Parts RecordFault
 version_of text = named (λ e. Version) (version_parts text)
 
+-- the release that its message says, or its first fault: of the version, then of the content's hash
 abbrev pub release_of : ReleaseValue → Result PackageOwnEntry RecordFault
 release_of m = do
   version ← version_of m.version
   content ← named ContentHash (hash_of m.content_hash)
   Ok (act.Release version content)
 
+-- the yank that its message says, or the fault of its version
 abbrev pub yank_of : YankValue → Result PackageOwnEntry RecordFault
 yank_of m = version_of m.version >>= λ version. Ok (act.Yank version)
 

@@ -12,6 +12,7 @@ use Rattle.warg_records.specs.PackageEntries.{PackageOwnEntry, Release, Yank}
 use Rattle.warg_records.specs.PackagePermissions.{number_of}
 use Rattle.warg_records.specs.declared.package.permission.Permission.{Permission}
 
+-- the number of a permission in a message, where numbers have a sign
 abbrev pub permission_number : Permission → ℤ
 permission_number p = pos (number_of p)
 

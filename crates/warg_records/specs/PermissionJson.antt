@@ -5,6 +5,7 @@ use Rattle.warg_crypto.specs.Json.{◌>>=◌, or_bad_text, text_in, wrote}
 use Rattle.warg_crypto.specs.declared.json.error.JsonError.{JsonError}
 use Rattle.warg_records.specs.Permissions.{named_or}
 
+-- a permission: its text
 abbrev pub permission_json : {P : Type 0} → (P → List ℕ) → P → Result Data JsonError
 permission_json text_of p = wrote (string (text_of p))
 

@@ -13,16 +13,20 @@ use Rattle.warg_records.specs.declared.registry.leaf.LogLeaf.{LogLeaf}
 abbrev pub hash_encoding_of : AnyHash → List ℕ
 hash_encoding_of h = str_of (hash_text h)
 
+-- of a checkpoint: the name of the kind, the log's length and root, the map's root
 abbrev pub checkpoint_encoding_of : Checkpoint → List ℕ
 checkpoint_encoding_of c = codes "WARG-CHECKPOINT-V0" ++ (unsigned_of c.log_length ++ (hash_encoding_of c.log_root ++ hash_encoding_of c.map_root))
 
+-- of a timestamped checkpoint: the name of the kind, the three of the checkpoint, the timestamp
 abbrev pub timestamped_checkpoint_encoding_of : TimestampedCheckpoint → List ℕ
 timestamped_checkpoint_encoding_of t = codes "WARG-TIMESTAMPED-CHECKPOINT-V0"
     ++ (unsigned_of t.checkpoint.log_length ++ (hash_encoding_of t.checkpoint.log_root ++ (hash_encoding_of t.checkpoint.map_root ++ unsigned_of t.timestamp)))
 
+-- of a leaf of the map: the name of the kind, the record's id
 abbrev pub map_leaf_encoding_of : MapLeaf → List ℕ
 map_leaf_encoding_of l = codes "WARG-MAP-LEAF-V0" ++ hash_encoding_of l.record_id.hash
 
+-- of a leaf of the log: the name of the kind, the log's id, the record's id
 abbrev pub log_leaf_encoding_of : LogLeaf → List ℕ
 log_leaf_encoding_of l = codes "WARG-LOG-LEAF-V0" ++ (hash_encoding_of l.log_id.hash ++ hash_encoding_of l.record_id.hash)
 
@@ -38,6 +42,7 @@ pub data Encoded : Type 0 where
   LogLeafValue : LogLeaf → Encoded
   PackageNameValue : List ℕ → Encoded
 
+-- of a value of any of these kinds
 abbrev pub prefix_encoding_of : Encoded → List ℕ
 prefix_encoding_of (CheckpointValue c) = checkpoint_encoding_of c
 prefix_encoding_of (TimestampedCheckpointValue t) = timestamped_checkpoint_encoding_of t

@@ -18,19 +18,23 @@ use Rattle.warg_records.specs.KebabNames.{is_package_name}
 abbrev pub number_json : ℕ → Result Data JsonError
 number_json n = wrote (number (unsigned n))
 
+-- the whole number of 64 bits that the JSON is, or the fault
 abbrev pub number_in : Data → Result ℕ JsonError
 number_in d = number_below (2 ^ 64) d
 
--- ids of logs and records: the text of their hash
+-- the id of a log: the text of its hash
 abbrev pub log_id_json : LogId → Result Data JsonError
 log_id_json id = hash_json id.hash
 
+-- the id of a log that a JSON text spells, or the fault
 abbrev pub log_id_in : Data → Result LogId JsonError
 log_id_in d = hash_in d >>= λ hash. wrote (record { hash = hash })
 
+-- the id of a record: the text of its hash
 abbrev pub record_id_json : RecordId → Result Data JsonError
 record_id_json id = hash_json id.hash
 
+-- the id of a record that a JSON text spells, or the fault
 abbrev pub record_id_in : Data → Result RecordId JsonError
 record_id_in d = hash_in d >>= λ hash. wrote (record { hash = hash })
 
@@ -38,9 +42,11 @@ record_id_in d = hash_in d >>= λ hash. wrote (record { hash = hash })
 abbrev pub package_name_json : List ℕ → Result Data JsonError
 package_name_json name = wrote (string name)
 
+-- the text, unless it is no package name
 abbrev pub package_name_of : List ℕ → Result (List ℕ) JsonError
 package_name_of text = if is_package_name text then Ok text else Err fault.BadText
 
+-- the package name that a JSON text is, or the fault
 abbrev pub package_name_in : Data → Result (List ℕ) JsonError
 package_name_in d = text_in d >>= package_name_of
 
@@ -52,6 +58,7 @@ checkpoint_json c = do
   members ← put_json hash_json (codes "mapRoot") c.map_root log_length
   wrote (object members)
 
+-- the checkpoint that the JSON says, or its first fault
 abbrev pub checkpoint_in : Data → Result Checkpoint JsonError
 checkpoint_in d = do
   log ← member_in (codes "logRoot") d
@@ -71,6 +78,7 @@ timestamped_checkpoint_json t = do
   members ← put_json number_json (codes "timestamp") t.timestamp map_root
   wrote (object members)
 
+-- the timestamped checkpoint that the JSON says, or its first fault
 abbrev pub timestamped_checkpoint_in : Data → Result TimestampedCheckpoint JsonError
 timestamped_checkpoint_in d = do
   checkpoint ← checkpoint_in d
@@ -85,6 +93,7 @@ log_leaf_json l = do
   members ← put_json record_id_json (codes "recordId") l.record_id log_id
   wrote (object members)
 
+-- the leaf of the log that the JSON says, or its first fault
 abbrev pub log_leaf_in : Data → Result LogLeaf JsonError
 log_leaf_in d = do
   log ← member_in (codes "logId") d

@@ -47,9 +47,11 @@ abbrev pub time_of : Option TimestampValue → Result Time RecordFault
 time_of None = Err MissingTime
 time_of (Some t) = named (λ e. TimeOutOfRange) (time_from t.seconds t.nanos)
 
+-- the hash algorithm that a text names, or that it names none
 abbrev pub hash_algorithm_of : List ℕ → Result HashAlgorithm RecordFault
 hash_algorithm_of text = named (λ e. Algorithm) (algorithm_of text)
 
+-- the key that a text spells, or its fault
 abbrev pub key_of : List ℕ → Result NamedBytes RecordFault
 key_of text = named Key (public_key_of text)
 
@@ -60,7 +62,7 @@ beginning_of m = do
   key ← key_of m.key
   Ok (algorithm, key)
 
--- the acts that both kinds have
+-- what the message of an init says: the entry that begins a log
 abbrev pub init_of : {P : Type 0} → InitValue → Result (SharedEntry P) RecordFault
 init_of m = beginning_of m >>= λ b. Ok (Init b.0 b.1)
 
@@ -70,23 +72,28 @@ module _ {P : Type 0} (permission_of : ℤ → Option P) where
   known_permission v (Some p) = Ok p
   known_permission v None = Err (Permission v)
 
+  -- the permission that a message's number names, or the fault of the number
   abbrev pub permission_in : ℤ → Result P RecordFault
   permission_in v = known_permission v (permission_of v)
 
+  -- what the message of a grant says: its key, then its permissions in order
   abbrev pub grant_of : GrantFlatValue → Result (SharedEntry P) RecordFault
   grant_of m = do
     key ← key_of m.key
     permissions ← each permission_in m.permissions
     Ok (GrantFlat key permissions)
 
+  -- what the message of a revocation says: its permissions in order; any text is a key id
   abbrev pub revoke_of : RevokeFlatValue → Result (SharedEntry P) RecordFault
   revoke_of m = do
     permissions ← each permission_in m.permissions
     Ok (RevokeFlat m.key_id permissions)
 
+-- the entry that was read, as one that both kinds have
 abbrev pub shared : {P O : Type 0} → Result (SharedEntry P) RecordFault → Result (EntryData P O) RecordFault
 shared read = read >>= λ a. Ok (Shared a)
 
+-- the entry that was read, as one that the kind alone has
 abbrev pub own : {P O : Type 0} → Result O RecordFault → Result (EntryData P O) RecordFault
 own read = read >>= λ o. Ok (Own o)
 

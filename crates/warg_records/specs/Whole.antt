@@ -31,15 +31,18 @@ IsWholeTime t = time_from t.seconds (pos t.nanos) ≡ Ok t
 abbrev pub ReadsBack : Parts → Type 0
 ReadsBack p = version_parts (parts_text p) ≡ Ok p
 
+-- the id of the record before, if there is one, is a whole hash
 abbrev pub IsWholeLink : Option RecordId → Type 0
 IsWholeLink None = Unit {0}
 IsWholeLink (Some id) = IsWholeHash id.hash
 
+-- the key of an entry that both kinds have, if it has one, is whole
 abbrev pub IsWholeSharedEntry : {P : Type 0} → SharedEntry P → Type 0
 IsWholeSharedEntry (Init algorithm key) = IsWholeNamedBytes key
 IsWholeSharedEntry (GrantFlat key permissions) = IsWholeNamedBytes key
 IsWholeSharedEntry (RevokeFlat key_id permissions) = Unit {0}
 
+-- the entry is whole, as one that both kinds have or as one that the kind alone has
 abbrev pub IsWholeEntry : {P O : Type 0} → (O → Type 0) → EntryData P O → Type 0
 IsWholeEntry IsWholeOwn (Shared act) = IsWholeSharedEntry act
 IsWholeEntry IsWholeOwn (Own own) = IsWholeOwn own
@@ -50,10 +53,12 @@ pub record IsWhole {P O : Type 0} (IsWholeOwn : O → Type 0) (s : RecordData P 
   pub time : IsWholeTime s.time
   pub entries : AllByRecursion (IsWholeEntry IsWholeOwn) s.entries
 
+-- the version of a release or a yank reads back, and the hash of a release is whole
 abbrev pub IsWholePackageOwnEntry : PackageOwnEntry → Type 0
 IsWholePackageOwnEntry (Release version content) = ReadsBack version × IsWholeHash content
 IsWholePackageOwnEntry (Yank version) = ReadsBack version
 
+-- any text is a namespace or a registry here, so nothing is asked
 abbrev pub IsWholeOperatorOwnEntry : OperatorOwnEntry → Type 0
 IsWholeOperatorOwnEntry own = Unit {0}
 

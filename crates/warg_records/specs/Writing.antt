@@ -18,17 +18,20 @@ use Rattle.warg_records.specs.declared.registry.record_id.RecordId.{RecordId}
 abbrev pub id_text : RecordId → List ℕ
 id_text id = hash_text id.hash
 
+-- the name of a hash algorithm
 abbrev pub algorithm_text : HashAlgorithm → List ℕ
 algorithm_text Sha256 = codes "sha256"
 
--- the messages of the acts that both kinds have
+-- the message of an init
 abbrev pub init_message : HashAlgorithm → NamedBytes → InitValue
 init_message algorithm key = record { key = tag_text key; hash_algorithm = algorithm_text algorithm }
 
 module _ {P : Type 0} (number_of : P → ℤ) where
+  -- the message of a grant to a key
   abbrev pub grant_message : NamedBytes → List P → GrantFlatValue
   grant_message key permissions = record { key = tag_text key; permissions = map number_of permissions }
 
+  -- the message of a revocation from a key id
   abbrev pub revoke_message : List ℕ → List P → RevokeFlatValue
   revoke_message key_id permissions = record { key_id = key_id; permissions = map number_of permissions }
 
