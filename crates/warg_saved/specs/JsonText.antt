@@ -17,7 +17,7 @@ abbrev pub or_fault : {A : Type 0} → Result A JsonError → Result A JsonTextE
 or_fault (Ok x) = Ok x
 or_fault (Err e) = Err (text_fault e)
 
--- what is read where a text has this JSON, if it has any
+-- what is read of a text's JSON, or that the text is none
 abbrev pub of_json_in : {A : Type 0} → (Data → Result A JsonError) → Option Data → Result A JsonTextError
 of_json_in reads None = Err NotJson
 of_json_in reads (Some d) = or_fault (reads d)

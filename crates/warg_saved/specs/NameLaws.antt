@@ -18,9 +18,11 @@ use Rattle.warg_saved.specs.Names.{text_name, text_named, version_name, version_
 named_same : {A : Type 0} (x y : A) → wrote x ≡ Ok y → x ≡ y
 named_same x y e = cc
 
+-- a name that is read as a text is written as it was
 pub text_back : (name k : List ℕ) → text_named name ≡ Ok k → text_name k ≡ name
 text_back name k e = sym (named_same _ _ e)
 
+-- a name that is read as a version is written as it was
 pub version_back : (name : List ℕ) (k : Version) → version_named name ≡ Ok k → version_name k ≡ name
 version_back name k e = by (version_parts name) refl e
   where
@@ -28,6 +30,7 @@ version_back name k e = by (version_parts name) refl e
     by (Ok p) is h = ap parts_text (sym (named_same p k h)) ∙ (version_parts-sound name p is).0
     by (Err f) is h = cc h
 
+-- the name of a version whose text reads back is read as the version
 pub version_read : (k : Version) → AreReadBack (k ∷ []) → version_named (version_name k) ≡ Ok k
 version_read k h = ap or_bad_text h.0
 
@@ -35,6 +38,7 @@ version_read k h = ap or_bad_text h.0
 abbrev same_parts : Version → Version → Bool
 same_parts a b = nat_eq a.0 b.0 && (nat_eq a.1 b.1 && (nat_eq a.2 b.2 && (bytes_eq a.3 b.3 && bytes_eq a.4 b.4)))
 
+-- versions with equal numbers and texts are one
 pub one_version : (a b : VersionValue) → same_parts (parts_of a) (parts_of b) ≡ true → parts_of a ≡ parts_of b
 one_version a b h = one (parts_of a) (parts_of b) h
   where
@@ -50,6 +54,7 @@ one_version a b h = one (parts_of a) (parts_of b) h
         let e4 = (bytes_eq-Decides a.4 b.4).0 (second_so (bytes_eq a.3 b.3) _ t3) in
         λ i. (e0 i, e1 i, e2 i, e3 i, e4 i)
 
+-- versions that are one have equal numbers and texts
 pub same_version : (a b : VersionValue) → parts_of a ≡ parts_of b → same_parts (parts_of a) (parts_of b) ≡ true
 same_version a b h = ap (same_parts (parts_of a)) (sym h) ∙ self (parts_of a)
   where

@@ -9,6 +9,7 @@ use Rattle.warg_crypto.specs.Json.{Version, or_bad_text, wrote}
 abbrev pub text_name : List ℕ → List ℕ
 text_name text = text
 
+-- the text that a name is, which may be any
 abbrev pub text_named : List ℕ → Result (List ℕ) JsonError
 text_named name = wrote name
 
@@ -16,5 +17,6 @@ text_named name = wrote name
 abbrev pub version_name : Version → List ℕ
 version_name parts = parts_text parts
 
+-- the version that a name says; any other name is a bad text
 abbrev pub version_named : List ℕ → Result Version JsonError
 version_named name = or_bad_text (version_parts name)

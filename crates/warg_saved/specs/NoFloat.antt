@@ -15,6 +15,7 @@ use Rattle.warg_crypto.specs.Members.{put_json}
 abbrev pub HasNoFloat : Result Data JsonError → Type 0
 HasNoFloat r = IfOk r (λ d. has_float d ≡ false)
 
+-- the members that are written, if any are, have no float
 abbrev pub HaveNoFloat : Result Members JsonError → Type 0
 HaveNoFloat r = IfOk r (λ ms. members_have_float ms ≡ false)
 

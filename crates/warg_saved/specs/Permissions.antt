@@ -13,6 +13,7 @@ module _ {P : Type 0} (text_of : P → List ℕ) where
   permissions_json ps = wrote (array (items_of (map (λ p. string (text_of p)) ps)))
 
 module _ {P : Type 0} (same : P → P → Bool) (named : List ℕ → Option P) where
+  -- the permission that a JSON text names, or the fault
   abbrev pub permission_in : Data → Result P JsonError
   permission_in d = text_in d >>= λ text. some_or fault.BadText (named text)
 
@@ -21,5 +22,6 @@ module _ {P : Type 0} (same : P → P → Bool) (named : List ℕ → Option P) 
   permissions_from done no_items = Ok done
   permissions_from done (item d more) = permission_in d >>= λ p. permissions_from (insert_key same done p) more
 
+  -- the permissions that a JSON array names, each once, or the first fault
   abbrev pub permissions_in : Data → Result (List P) JsonError
   permissions_in d = items_in d >>= permissions_from []
