@@ -3,6 +3,5 @@ pub mod PrefixLemmas
 pub mod Grammars
 pub mod DigitLemmas
 pub mod NumberTexts
-pub mod Lists
 pub mod Pairs
 pub mod JsonTextLaws

@@ -17,8 +17,6 @@ pub mod JsonTexts
 pub mod Members
 pub mod MemberLaws
 pub mod Numbers
-pub mod Lists
-pub mod ListLaws
 pub mod Pairs
 pub mod PairsLaws
 pub mod TimeText

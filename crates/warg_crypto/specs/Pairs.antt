@@ -41,12 +41,6 @@ module _ {K A : Type 0} (named : List ℕ → Result K JsonError) (reads : Data 
   abbrev pub pairs_member : List ℕ → Data → Result (List (K × A)) JsonError
   pairs_member name d = members_in d >>= λ ms. pairs_or_none (get_member name ms)
 
-  -- the pairs of members whose names ascend
-  pub record ArePairsInOrder (pairs : List (K × A)) : Type 0 where
-    pub members : Members
-    pub ascend : AreAscending (names_of members)
-    pub are : pairs_of members ≡ Ok pairs
-
 module _ {K A : Type 0} (name_of : K → List ℕ) (writes : A → Result Data JsonError) where
   -- the members, with those of the pairs put in turn
   abbrev pub pairs_onto : Members → List (K × A) → Result Members JsonError

@@ -3,8 +3,7 @@ use Rattle.std.specs.Prelude.{ℕ, ◌≡◌, List, [], ◌∷◌, map, Bool, tr
 use Rattle.std.specs.declared.cmp.Ordering.{Ordering}
 use Rattle.std.specs.declared.cmp.Ordering.TheVariants.{Less, Equal, Greater}
 use Rattle.std.specs.Cmp.Lexicographic.{slice_cmp}
-use Rattle.std.specs.List.{AllByRecursion, list_any}
-use Rattle.std.specs.List.Sorted.{IsStrictlySortedBy}
+use Rattle.std.specs.List.{list_any}
 use Rattle.std.specs.Map.{lookup}
 use Rattle.std.specs.Ordering.{nat_cmp, is_eq, match_ordering}
 use Rattle.std.specs.Str.{bytes_eq}
@@ -13,7 +12,7 @@ use Rattle.std.proofs.lemmas.Map.Text.{is_eq-slice_cmp}
 use Rattle.std.proofs.lemmas.Slice.Eq.{bytes_eq-Decides}
 use Rattle.serde_json.specs.Data.{Data, Members, no_members, member, put}
 use Rattle.warg_crypto.specs.declared.json.error.JsonError.{JsonError}
-use Rattle.warg_crypto.specs.Pairs.{AreAscending, ArePairsInOrder, names_of, pairs_in, pairs_json, pairs_of, pairs_onto}
+use Rattle.warg_crypto.specs.Pairs.{names_of, pairs_in, pairs_json, pairs_of, pairs_onto}
 use Rattle.warg_crypto.specs.Steps.{ok_same, bind_ok}
 
 or_first : (a b : Bool) → (a || b) ≡ false → a ≡ false
@@ -228,32 +227,3 @@ module _ {K A : Type 0} (named : List ℕ → Result K JsonError) (name_of : K �
         let w = bind_ok (pairs_onto name_of writes no_members es) _ d is in
         let r = reads-written w.0 es fs read unique w.1 in
         record { pairs = r.pairs; is = subst (λ (x : Data). pairs_in named reads x ≡ Ok r.pairs) (ok_same _ _ w.2) r.is; at = r.at; none_pass = r.none_pass }
-
--- Pairs of members whose names ascend have different names, where each name that is read is written as it was.
-module _ {K A : Type 0} (named : List ℕ → Result K JsonError) (name_of : K → List ℕ) (reads : Data → Result A JsonError)
-    (back : (name : List ℕ) (k : K) → named name ≡ Ok k → name_of k ≡ name) where
-  absent : (name : List ℕ) (ms : Members) (pairs : List (K × A))
-      → AllByRecursion (λ m. slice_cmp nat_cmp name m ≡ Less) (names_of ms) → pairs_of named reads ms ≡ Ok pairs
-      → value_at name_of name pairs ≡ None
-  absent name no_members pairs h e = subst (λ (ps : List (K × A)). value_at name_of name ps ≡ None) (ok_same _ _ e) refl
-  absent name (member l d ms) pairs h e =
-      let n = bind_ok (named l) _ pairs e in
-      let a = bind_ok (reads d) _ pairs n.2 in
-      let b = bind_ok (pairs_of named reads ms) _ pairs a.2 in
-      let apart : bytes_eq name (name_of n.0) ≡ false = ap (bytes_eq name) (back l n.0 n.1) ∙ sym (is_eq-slice_cmp name l) ∙ ap is_eq h.0 in
-      subst (λ (ps : List (K × A)). value_at name_of name ps ≡ None) (ok_same _ _ b.2) (rw apart (absent name ms b.0 h.1 b.1))
-
-  unique-of : (ms : Members) (pairs : List (K × A)) → AreAscending (names_of ms) → pairs_of named reads ms ≡ Ok pairs
-      → IsUniquePairs name_of pairs
-  unfolding IsStrictlySortedBy
-  unique-of no_members pairs h e = subst (λ (ps : List (K × A)). IsUniquePairs name_of ps) (ok_same _ _ e) tt
-  unique-of (member l d ms) pairs h e =
-      let n = bind_ok (named l) _ pairs e in
-      let a = bind_ok (reads d) _ pairs n.2 in
-      let b = bind_ok (pairs_of named reads ms) _ pairs a.2 in
-      let first : value_at name_of (name_of n.0) b.0 ≡ None = ap (λ (name : List ℕ). value_at name_of name b.0) (back l n.0 n.1) ∙ absent l ms b.0 h.0 b.1 in
-      subst (λ (ps : List (K × A)). IsUniquePairs name_of ps) (ok_same _ _ b.2) (first, unique-of ms b.0 h.1 b.1)
-
-  -- no two pairs of members whose names ascend have one name
-  pub pairs_in_order_differ : (pairs : List (K × A)) → ArePairsInOrder named reads pairs → IsUniquePairs name_of pairs
-  pairs_in_order_differ pairs own = unique-of own.members pairs own.ascend own.are

@@ -1,5 +1,5 @@
-//! JSON of values, over `serde_json`'s `Value`. Who implements [`JsonValue`] for an own type finds
-//! what reads and puts members in [`members`], lists in [`lists`] and maps in [`maps`].
+//! JSON of values, over `serde_json`'s `Value`. To implement [`JsonValue`] for a type of your own, use [`members`];
+//! maps are in the crate `warg_saved`.
 
 ghost use Rattle.std.specs.Prelude.{List, Result, IfOk};
 ghost use Rattle.serde_json.specs.Data.{Data};
@@ -9,8 +9,6 @@ ghost use Rattle.warg_crypto.specs.Json.{AreReadBack, Gives, ReadsBack, Version}
 
 mod error;
 pub mod laws;
-pub mod lists;
-pub mod maps;
 pub mod members;
 mod numbers;
 mod texts;

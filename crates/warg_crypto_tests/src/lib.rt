@@ -12,8 +12,6 @@ mod hashes;
 #[cfg(test)]
 mod json;
 #[cfg(test)]
-mod json_maps;
-#[cfg(test)]
 mod json_members;
 #[cfg(test)]
 mod json_numbers;

@@ -12,8 +12,7 @@ use json::Writer;
 use serde_json::Value;
 use std::alloc::Global;
 use warg_crypto::JsonError;
-use warg_crypto::json::lists::items_in;
-use warg_crypto::json::members::{string_value, text_in};
+use warg_crypto::json::members::{items_in, string_value, text_in};
 use warg_records::LogPermission;
 
 /// The permission of a value.

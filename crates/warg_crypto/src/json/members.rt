@@ -1,11 +1,11 @@
-//! Members of objects, for who implements [`JsonValue`]: looked up, and put.
+//! The parts of JSON values: texts, items of arrays, and members of objects, which are looked up and put.
 
 ghost use Rattle.std.specs.Prelude.{◌≡◌, OnOk, OnErr, IfErr, Option, string_bytes};
 ghost use Rattle.std.specs.Option.{option_map};
 ghost use Rattle.serde_json.specs.Data.{Data, object, put, string};
-ghost use Rattle.serde_json.specs.View.{view, members_view};
+ghost use Rattle.serde_json.specs.View.{items_view, members_view, view};
 ghost use Rattle.warg_crypto.specs.declared.json.error.JsonError.TheVariants as fault;
-ghost use Rattle.warg_crypto.specs.Json.{Answers, AreReadBack, Gives, ReadsBack, members_in, member_in, text_in, wrote};
+ghost use Rattle.warg_crypto.specs.Json.{Answers, AreReadBack, Gives, ReadsBack, items_in, members_in, member_in, text_in, wrote};
 ghost use Rattle.warg_crypto.specs.Members.{optional, optional_member, put_json, put_option};
 
 use crate::json::{JsonError, JsonValue};
@@ -17,6 +17,13 @@ pub fn text_in(value: &Value) -> Result<&str, JsonError>
     ensures { Answers (λ s. s.now) result (text_in (view value.now)) }
 {
     value.as_str().ok_or(JsonError::WrongType)
+}
+
+/// The items of a value that is an array, else `WrongType`.
+pub fn items_in(value: &Value) -> Result<&Vec<Value>, JsonError>
+    ensures { Answers (λ items. items_view items.now.items) result (items_in (view value.now)) }
+{
+    value.as_array().ok_or(JsonError::WrongType)
 }
 
 /// The members of a value that is an object, else `WrongType`.
