@@ -1,13 +1,13 @@
-//! Members of objects.
+//! Items of arrays, and members of objects.
 
 use crate::json::{is_json, json};
 use crate::values::{is, is_of};
-use serde_json::Map;
+use serde_json::{Map, Value};
 use std::alloc::Global;
 use std::process::Abort;
 use warg_crypto::json::members::{
-    member_in, object_value, optional, optional_member, put_member, put_optional, put_value,
-    text_value,
+    items_in, member_in, object_value, optional, optional_member, put_member, put_optional,
+    put_value, text_value,
 };
 use warg_crypto::{JsonError, JsonValue};
 
@@ -33,6 +33,21 @@ fn members(rt: HostRuntime) {
     has_member(&rt, alloc, "{\"a\":1}", "b", Err(JsonError::Missing));
     has_member(&rt, alloc, "{\"n\":null}", "n", Err(JsonError::WrongType));
     has_member(&rt, alloc, "[1]", "a", Err(JsonError::WrongType));
+}
+
+fn has_items(rt: &impl Abort, alloc: Global, text: &str, want: Result<usize, JsonError>) {
+    let value = json(rt, alloc, text);
+    let count = items_in(&value).map(|items: &Vec<Value>| -> usize { items.len() });
+    is_of(rt, text, count, want);
+}
+
+#[test]
+fn items(rt: HostRuntime) {
+    let alloc = rt.alloc();
+    has_items(&rt, alloc, "[3,1,2]", Ok(3));
+    has_items(&rt, alloc, "[]", Ok(0));
+    has_items(&rt, alloc, "{}", Err(JsonError::WrongType));
+    has_items(&rt, alloc, "null", Err(JsonError::WrongType));
 }
 
 fn may_have_member(
