@@ -3,7 +3,7 @@ use Rattle.std.proofs.Common.{◌≡◌, ℕ, ◌+◌, ◌*◌, ◌%◌, ◌<◌
 use Rattle.hex.specs.Hex.{decode_of, decode_pairs, pair_value, hex_digit_value, digit_or_error, value_at}
 use Rattle.hex.specs.declared.error.FromHexError.{FromHexError}
 use Rattle.hex.specs.declared.error.FromHexError.TheVariants.{InvalidHexCharacter}
-use Rattle.hex.proofs.Pairs.{prepend, decode_start, decode_step, decode_err, decode_done}
+use Rattle.hex.proofs.Pairs.{prepend, decode_step, decode_err, decode_done}
 use Rattle.hex.proofs.HexLemmas.{decode_of-even}
 
 -- the value of a digit, and 16 for another byte
@@ -16,9 +16,6 @@ or_16 c = unwrap_or (hex_digit_value c) 16
 abbrev pub Read : Bool → List ℕ → List ℕ → ℕ → Type 0
 Read false s out i = decode_pairs 0 s ≡ prepend (take i out) (decode_pairs (2 * i) (drop (2 * i) s))
 Read true s out i = is_ok (decode_pairs 0 s) ≡ false
-
-pub read_none : (s out : List ℕ) → Read false s out 0
-read_none s out = decode_start s out
 
 refused : (s : List ℕ) (e : FromHexError) → decode_pairs 0 s ≡ Err e → is_ok (decode_pairs 0 s) ≡ false
 refused s e h = ap is_ok h

@@ -99,13 +99,6 @@ IsLeb128-below (suc n) v le =
 pub IsLeb128-unsigned_of : (v : ℕ) → IsLeb128 (unsigned_of v) v
 IsLeb128-unsigned_of v = IsLeb128-below v v (omega arith)
 
-pub EndsOnce-unsigned_of : (v : ℕ) → EndsOnce (unsigned_of v)
-EndsOnce-unsigned_of v = (IsLeb128-unsigned_of v).ends
-
--- two numbers with the same bytes are one
-pub unsigned_of-injective : (v w : ℕ) → unsigned_of v ≡ unsigned_of w → v ≡ w
-unsigned_of-injective v w e = sym (IsLeb128-unsigned_of v).value_is ∙ ap base_128 e ∙ (IsLeb128-unsigned_of w).value_is
-
 shortest_below : (n v : ℕ) (bytes : List ℕ) → v ≤ n → EndsOnce bytes → base_128 bytes ≡ v → length (unsigned_of v) ≤ length bytes
 shortest_below n v [] le ends value_is = absurd ends
 shortest_below n v (x ∷ bs) le (inl (small, last)) value_is =

@@ -54,11 +54,6 @@ hash_of_digits-long digits pairs h = by_bytes-long (length digits) (decode_of di
 pub IsAscii-lower_digits : IsAscii lower_digits
 IsAscii-lower_digits = IsAscii-from_all lower_digits (λ k d below. ltb-true _ _ (AllPass-from_list_all (λ b. nat_lt b 128) lower_digits refl k d below))
 
--- a decoding that failed gave no bytes
-pub err_is_no_ok : (r : Result (List ℕ) FromHexError) (e : FromHexError) → r ≡ Err e → IsOk r → ⊥
-err_is_no_ok (Ok bytes) e h ok = cc h
-err_is_no_ok (Err x) e h ok = cc ok
-
 text_reads_back : (a : HashAlgorithm) (bytes : List ℕ) → length bytes ≡ 32 → IsBytes bytes
     → hash_of_digits (encode_lower bytes) ≡ Ok (record { algorithm = a; bytes = bytes })
 text_reads_back Sha256 bytes len fits =
@@ -68,9 +63,3 @@ text_reads_back Sha256 bytes len fits =
 -- what is written of a hash reads back
 pub hash_of-hash_text : (h : AnyHash) → length h.bytes ≡ 32 → IsBytes h.bytes → hash_of (hash_text h) ≡ Ok h
 hash_of-hash_text h len fits = grind (arith, text_reads_back h.algorithm h.bytes len fits)
-
--- the text of a hash is as long as its name and 64 digits
-pub length-hash_text : (h : AnyHash) → length h.bytes ≡ 32 → length (hash_text h) ≡ 71
-length-hash_text h len =
-    let digits : length (encode_lower h.bytes) ≡ 64 = omega (arith, length-encode_with lower_digits h.bytes) in
-    omega (arith, digits)

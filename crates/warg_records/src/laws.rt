@@ -1,4 +1,4 @@
-//! Laws of the definitions. None of these functions has an effect.
+//! Laws of the definitions, and of the types that rest on them.
 
 ghost use Rattle.std.specs.Prelude.{List, ℕ, IfErr, IsTrue, ◌↔◌};
 ghost use Rattle.warg_protobuf.specs.OperatorRecord.{IsOperatorRecord, operator_record_table};
