@@ -1,5 +1,6 @@
-//! The laws of all that stands here. Each is a function with no effect, whose contract is the law: a proof
-//! may cite it after a call.
+//! The laws of the crates below. Each is a function whose contract is the law: a proof may cite it after a call.
+//! Most have no effect. Those that print write to their formatter, those that feed a hasher change it, and
+//! `crypto::bytes_and_hash` takes memory.
 
 pub use warg_audited_log::laws as audited_logs;
 pub use warg_crypto::laws as crypto;
