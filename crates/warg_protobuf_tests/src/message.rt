@@ -21,6 +21,18 @@ pub fn reads_as<M: Message + PartialEq + Debug>(
     assert_eq!(rt; read, *value);
 }
 
+/// The bytes are read as another value, which differs in one field.
+pub fn reads_as_other<M: Message + PartialEq + Debug>(
+    rt: &impl Abort,
+    alloc: Global,
+    digits: &str,
+    value: &M,
+) {
+    let bytes = bytes_of(rt, alloc, digits);
+    let read = M::decode(alloc, &bytes).expect(rt, digits);
+    assert_ne!(rt; read, *value);
+}
+
 /// The bytes are what is written of the value, and are read as it.
 pub fn goes_both_ways<M: Message + PartialEq + Debug>(
     rt: &impl Abort,

@@ -1,6 +1,6 @@
 //! Records: times, versions and the record before.
 
-use crate::message::{goes_both_ways, has_fault, reads_as};
+use crate::message::{goes_both_ways, has_fault, reads_as, reads_as_other};
 use crate::values::{record_at, text};
 use warg_protobuf::{OperatorRecord, PackageRecord, TimestampPair, WireError};
 
@@ -84,6 +84,11 @@ fn versions(rt: HostRuntime) {
     record.version = 7;
     goes_both_ways(&rt, alloc, "10071a00", &record);
     reads_as(&rt, alloc, "100110071a00", &record);
+    reads_as_other(&rt, alloc, "10081a00", &record);
+    reads_as_other(&rt, alloc, "10071a020801", &record);
+    reads_as_other(&rt, alloc, "1007", &record);
+    reads_as_other(&rt, alloc, "0a0010071a00", &record);
+    reads_as_other(&rt, alloc, "10071a002200", &record);
 }
 
 #[test]

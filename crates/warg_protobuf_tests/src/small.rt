@@ -1,6 +1,6 @@
 //! Messages of texts and permissions.
 
-use crate::message::{goes_both_ways, reads_as};
+use crate::message::{goes_both_ways, reads_as, reads_as_other};
 use crate::values::{numbers, text};
 use std::alloc::Global;
 use std::process::Abort;
@@ -44,6 +44,8 @@ fn two_texts(rt: HostRuntime) {
         content_hash: text(&rt, alloc, "b"),
     };
     goes_both_ways(&rt, alloc, TWO_TEXTS, &release);
+    reads_as_other(&rt, alloc, "0a0162120162", &release);
+    reads_as_other(&rt, alloc, "0a0161120163", &release);
     let import = OperatorImportNamespace {
         namespace: text(&rt, alloc, "a"),
         registry: text(&rt, alloc, "b"),
@@ -66,6 +68,8 @@ fn text_and_numbers(rt: HostRuntime) {
         permissions: numbers(&rt, alloc, &[1, 2]),
     };
     goes_both_ways(&rt, alloc, TEXT_AND_NUMBERS, &grant);
+    reads_as_other(&rt, alloc, "0a016212020102", &grant);
+    reads_as_other(&rt, alloc, "0a016112020201", &grant);
     let revoke = OperatorRevokeFlat {
         key_id: text(&rt, alloc, "a"),
         permissions: numbers(&rt, alloc, &[1, 2]),
