@@ -1,0 +1,84 @@
+"""What the tools share: their help, the built programs, the examples, the logs of make_log, and runs that are measured."""
+import argparse
+import os
+import pathlib
+import re
+import subprocess
+import sys
+import tempfile
+from typing import NamedTuple
+
+ROOT = pathlib.Path(__file__).resolve().parent.parent
+
+
+def words_of(doc):
+    """A parser of a tool's words, whose help is the tool's docstring."""
+    return argparse.ArgumentParser(description=doc, formatter_class=argparse.RawDescriptionHelpFormatter)
+
+
+def built(name):
+    """The program of this crate, proved and built first where it does not stand there yet."""
+    program = ROOT / f"crates/{name}/out/{name}"
+    if not program.exists():
+        print(f"{name} is not built: it is proved and built first", file=sys.stderr)
+        command = [ROOT / "bin/warg_audit"] if name == "warg_audit_main" else ["rt", "run"]
+        try:
+            subprocess.run(command, cwd=ROOT / f"crates/{name}", stdin=subprocess.DEVNULL, stdout=subprocess.DEVNULL, check=False)
+        except OSError as error:
+            print(error, file=sys.stderr)
+    if not program.exists():
+        raise SystemExit(f"{name} could not be built")
+    return program
+
+
+class Example(NamedTuple):
+    """An example: its name, the program's words, its input, what is printed, and the exit status."""
+
+    name: str
+    words: list
+    data: bytes
+    printed: bytes
+    status: int
+
+
+def examples():
+    """The examples in the order of their names. Their exit statuses are those of the table in examples/README.md."""
+    folder = ROOT / "examples"
+    table = (folder / "README.md").read_text(encoding="utf-8")
+    statuses = dict(re.findall(r"^\| `(\w+)` \|.*\| (\d+) \|$", table, re.M))
+    names = {path.stem for path in folder.glob("*.hex")}
+    if names != statuses.keys():
+        raise SystemExit(f"not both a file and a row of examples/README.md: {', '.join(sorted(names ^ statuses.keys()))}")
+    return [example(folder / name, int(statuses[name])) for name in sorted(names)]
+
+
+def example(path, status):
+    words = path.with_suffix(".args").read_text(encoding="utf-8").split()
+    return Example(path.name, words, path.with_suffix(".hex").read_bytes(), path.with_suffix(".out").read_bytes(), status)
+
+
+def make_log(*words, to=subprocess.PIPE):
+    """What make_log prints for these words, or nothing where it is written to a file."""
+    return subprocess.run([ROOT / "tools/make_log", *words], stdout=to, check=True).stdout
+
+
+class Run(NamedTuple):
+    """The exit status of a run, its first printed line, its processor time in seconds and its peak of memory in MiB."""
+
+    status: int
+    line: str
+    seconds: float
+    memory: float
+
+
+def measured(command, name):
+    """Runs the command on the file of this name. Who calls this must not hold much: a program's peak of memory is at least
+    that of the process that starts it."""
+    with open(name, "rb") as given, tempfile.TemporaryFile() as printed:
+        process = subprocess.Popen(command, stdin=given, stdout=printed)
+        _, status, used = os.wait4(process.pid, 0)
+        process.returncode = os.waitstatus_to_exitcode(status)
+        printed.seek(0)
+        line = printed.readline().decode(errors="replace").rstrip("\n")
+    # The system counts memory in KiB.
+    return Run(process.returncode, line, used.ru_utime + used.ru_stime, used.ru_maxrss / 1024)
