@@ -1,4 +1,4 @@
-// Refuses the request for memory whose number, counted from 1, is in REFUSE, and then writes a byte to the file whose
+// Refuses the request for memory, by malloc or realloc, whose number, counted from 1, is in REFUSE, and then writes a byte to the file whose
 // descriptor is in REFUSED. For LD_PRELOAD.
 #define _GNU_SOURCE
 #include <dlfcn.h>
