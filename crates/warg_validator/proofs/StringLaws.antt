@@ -1,12 +1,11 @@
 -- Strings that are read as items: the first that can't come next.
-use Rattle.std.proofs.Common.{◌≡◌, ℕ, List, [], ◌∷◌, ◌++◌, Option, Some, None, Result, Ok, Err, refl, sym, ap, ◌∙◌, subst, append_assoc}
+use Rattle.std.proofs.Common.{◌≡◌, List, [], ◌∷◌, ◌++◌, Option, Some, None, Result, Ok, Err, refl, sym, ap, ◌∙◌, subst, append_assoc}
 use Rattle.std.specs.List.{cons_option}
 use Rattle.std.specs.Option.{option_map}
 use Rattle.std.proofs.lemmas.List.{append-nil}
 use Rattle.std.proofs.lemmas.List.Elements.{filter_map-append}
-use Rattle.warg_validator.specs.Walks.{IsFound, AllLawful, first_from, IsStepwise}
-use Rattle.warg_validator.specs.Strings.{Cause, Unlawful, ok, read_all, cause_of, after_read}
-use Rattle.warg_validator.proofs.WalkLaws.{first-found, found-first}
+use Rattle.warg_validator.specs.Walks.{AllLawful, IsStepwise}
+use Rattle.warg_validator.specs.Strings.{Unlawful, ok, read_all, cause_of, after_read}
 
 none_inside : {A B : Type 0} (f : A → B) (o : Option A) → option_map f o ≡ None → o ≡ None
 none_inside f None h = refl
@@ -30,13 +29,6 @@ module _ {V X C S F : Type 0} (offence : V → X → Option C) (after : V → X 
           let step = read_one (xs ++ read_all read ss) (read t) h none in
           (subst Good (sym (read_push ss t)) step.0, ap view (read_push ss t) ∙ step.1);
     }
-
-    -- the search by recursion finds the first string, and nothing else is the first
-    pub first-string : (ss : List S) → IsFound (λ v t. cause_of offence v (read t)) (λ ts. view (xs ++ read_all read ts)) ss (first_from (λ v t. after_read after v (read t)) (λ v t. cause_of offence v (read t)) (view xs) ss)
-    first-string ss = first-found (λ v t. cause_of offence v (read t)) (λ v t. after_read after v (read t)) (view xs) (λ ts. view (xs ++ read_all read ts)) (λ ts. Good (xs ++ read_all read ts)) strings-stepwise ss
-
-    pub string-first : (ss : List S) (o : Option (ℕ × Cause F C)) → IsFound (λ v t. cause_of offence v (read t)) (λ ts. view (xs ++ read_all read ts)) ss o → first_from (λ v t. after_read after v (read t)) (λ v t. cause_of offence v (read t)) (view xs) ss ≡ o
-    string-first ss o h = found-first (λ v t. cause_of offence v (read t)) (λ v t. after_read after v (read t)) (view xs) (λ ts. view (xs ++ read_all read ts)) (λ ts. Good (xs ++ read_all read ts)) strings-stepwise ss o h
 
     read_cons : (v : V) (r : Result X F) (ys : List X) → cause_of offence v r ≡ None → AllLawful after offence (after_read after v r) ys → AllLawful after offence v (cons_option (ok r) ys)
     read_cons v (Ok x) ys h rest = (none_inside Unlawful (offence v x) h, rest)
