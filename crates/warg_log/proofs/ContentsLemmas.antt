@@ -5,7 +5,7 @@ use Rattle.std.specs.Option.{option_map_or, option_or}
 use Rattle.std.specs.Str.{bytes_eq}
 use Rattle.indexmap.specs.IndexMap.{IndexMap, get}
 use Rattle.warg_crypto.specs.NamedBytes.{NamedBytes}
-use Rattle.warg_log.specs.Rights.{holds_in, has_entry_in, layered, held_over}
+use Rattle.warg_log.specs.Rights.{holds_in, layered, held_over}
 use Rattle.warg_log.specs.Contents.{Contents, standing, standing_over, maps_contents}
 use Rattle.warg_log.proofs.SignedEntryLaws.{same_standing}
 use Rattle.warg_crypto.specs.declared.hash.HashAlgorithm.{HashAlgorithm}
@@ -14,9 +14,6 @@ module _ {P Z X : Type 0} (same : P → P → Bool) (algorithm : Option HashAlgo
     (c : Contents P) (is : maps_contents algorithm permissions keys ≡ c) where
   pub holds-is : (k : List ℕ) (p : P) → holds_in same permissions k p ≡ (standing same c).holds k p
   holds-is k p = ap (λ c. (standing same c).holds k p) is
-
-  pub entry-is : (k : List ℕ) → has_entry_in permissions k ≡ (standing same c).has_entry k
-  entry-is k = ap (λ c. (standing same c).has_entry k) is
 
 -- the same where changes lie over the maps
 module _ {P Z X : Type 0} (same : P → P → Bool) (algorithm algorithm' : Option HashAlgorithm) (permissions permissions' : IndexMap (List ℕ) (List P) Z) (keys keys' : IndexMap (List ℕ) NamedBytes X)

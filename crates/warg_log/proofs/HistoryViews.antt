@@ -206,7 +206,3 @@ module _ {P O V F : Type 0} (rules : Rules P O V F) (same : P → P → Bool) (n
             },
           );
     }
-
-  -- a kind whose own part is a filter from the start needs no more
-  pub plain-stepwise : (belongs : NamedBytes → List ℕ → NamedBytes → Bool) → IsStepwise (after_record rules same) (record_offence rules same belongs) (start rules same) (view_of rules same (rules.after rules.start)) (Good belongs (rules.after rules.start) (λ es h. refl))
-  plain-stepwise belongs = records-stepwise belongs (rules.after rules.start) (λ es h. refl)

@@ -1,5 +1,5 @@
 -- The first permission that is not held, or that was listed before.
-use Rattle.std.proofs.Common.{◌≡◌, List, [], ◌∷◌, ◌++◌, Bool, true, false, ◌&&◌, not, Some, ap, if◌then◌else◌}
+use Rattle.std.proofs.Common.{◌≡◌, List, [], ◌∷◌, ◌++◌, Bool, true, ◌&&◌, not, Some, ap, if◌then◌else◌}
 use Rattle.warg_records.specs.Permissions.{lists}
 use Rattle.warg_log.specs.Rights.{first_missing}
 
@@ -7,7 +7,3 @@ module _ {P : Type 0} (same : P → P → Bool) (held : P → Bool) (earlier : L
   -- one more permission that is held, and not listed before
   pub first_missing-more : (held x && not (lists same earlier x)) ≡ true → first_missing same held earlier (x ∷ rest) ≡ first_missing same held (earlier ++ x ∷ []) rest
   first_missing-more h = ap (λ b. if b then first_missing same held (earlier ++ x ∷ []) rest else Some x) h
-
-  -- one that is not, or that was
-  pub first_missing-here : (held x && not (lists same earlier x)) ≡ false → first_missing same held earlier (x ∷ rest) ≡ Some x
-  first_missing-here h = ap (λ b. if b then first_missing same held (earlier ++ x ∷ []) rest else Some x) h

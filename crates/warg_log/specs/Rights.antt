@@ -20,10 +20,6 @@ module _ {P Z : Type 0} where
   abbrev pub holds_in : (P → P → Bool) → IndexMap (List ℕ) (List P) Z → List ℕ → P → Bool
   holds_in same m k p = is_listed same (get bytes_eq m k) p
 
-  -- whether the map has an entry for k
-  abbrev pub has_entry_in : IndexMap (List ℕ) (List P) Z → List ℕ → Bool
-  has_entry_in m k = is_some (get bytes_eq m k)
-
   -- whether k holds p where the changes lie over the map
   abbrev pub held_over : (P → P → Bool) → IndexMap (List ℕ) (List P) Z → IndexMap (List ℕ) (List P) Z
       → List ℕ → P → Bool

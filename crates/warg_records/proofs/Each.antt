@@ -1,6 +1,5 @@
 -- Steps one after another, as a loop takes them.
-use Rattle.std.proofs.Common.{◌≡◌, List, [], ◌∷◌, ◌++◌, map, Option, Some, None, Result, Ok, Err, refl, sym, ap, subst, ◌∙◌}
-use Rattle.std.proofs.lemmas.List.{map-append}
+use Rattle.std.proofs.Common.{◌≡◌, List, [], ◌∷◌, ◌++◌, Option, Some, None, Result, Ok, Err, refl, ap, ◌∙◌}
 use Rattle.warg_records.specs.Faults.{TellsFault}
 use Rattle.warg_records.specs.Steps.{◌>>=◌, each}
 
@@ -34,14 +33,3 @@ module _ {A B F : Type 0} where
     pub each-stops : (xs : List A) (us : List B) (x : A) (ys : List A) (told : Option F) → each f xs ≡ Ok us → TellsFault (f x) told → TellsFault (each f (xs ++ x ∷ ys)) told
     each-stops xs us x ys None h k = tt
     each-stops xs us x ys (Some e) h k = each-append xs (x ∷ ys) ∙ (λ i. h i >>= λ vs. (k i >>= λ y. each f ys >>= λ zs. Ok (y ∷ zs)) >>= λ ws. Ok (vs ++ ws))
-
-    -- the same of messages that are seen as plain data
-    module _ {M : Type 0} (seen : M → A) where
-      pub each-more : (ms : List M) (us : List B) (m : M) (u : B) → each f (map seen ms) ≡ Ok us → f (seen m) ≡ Ok u → each f (map seen (ms ++ m ∷ [])) ≡ Ok (us ++ u ∷ [])
-      each-more ms us m u h k = (λ i. each f (map-append seen ms (m ∷ []) i)) ∙ each-grows (map seen ms) us (seen m) u h k
-
-      pub each-ends : (ms : List M) (us : List B) (m : M) (rest all : List M) (told : Option F) → each f (map seen ms) ≡ Ok us → TellsFault (f (seen m)) told → ms ++ m ∷ rest ≡ all → TellsFault (each f (map seen all)) told
-      each-ends ms us m rest all told h k e =
-          subst (λ (l : List M). TellsFault (each f (map seen l)) told) e
-          (subst (λ (l : List A). TellsFault (each f l) told) (sym (map-append seen ms (m ∷ rest)))
-          (each-stops (map seen ms) us (seen m) (map seen rest) told h k))

@@ -1,7 +1,6 @@
 pub mod Views
 pub mod Each
 pub mod EntriesLaws
-pub mod Wire
 pub mod Distinct
 pub mod Relations
 pub mod WriteBack

@@ -1,17 +1,9 @@
 -- Steps towards whole records.
-use Rattle.std.proofs.Common.{◌≡◌, ℕ, ◌+◌, ◌<◌, ◌/◌, ◌%◌, List, [], ◌∷◌, ◌++◌, length, take, get_or, map, Ok, true, refl, sym, ap, subst, ◌∙◌, add-one, arith}
-use Rattle.std.specs.Prelude.{ℤ, pos}
+use Rattle.std.proofs.Common.{◌≡◌, ℕ, ◌+◌, ◌<◌, List, [], ◌∷◌, ◌++◌, length, take, get_or, map, sym, ap, subst, ◌∙◌, add-one}
+use Rattle.std.specs.Prelude.{ℤ}
 use Rattle.std.specs.List.{AllByRecursion}
 use Rattle.std.proofs.Math.IntN.{+ℤ_idr}
 use Rattle.std.proofs.Math.Seq.{take-suc}
-use Rattle.warg_crypto.specs.Times.{are_seconds, time_from}
-
--- nanoseconds that make no second carry none
-pub time_from-small : (s : ℤ) (n : ℕ) → are_seconds s ≡ true → n < 1_000_000_000 → time_from s (pos n) ≡ Ok (record { seconds = s; nanos = n })
-time_from-small s n inside small =
-    let none : n / 1_000_000_000 ≡ 0 = omega arith in
-    let all : n % 1_000_000_000 ≡ n = omega arith in
-    rw (none, all, +ℤ_idr s, inside) refl
 
 all-append : {X : Type 0} (P : X → Type 0) (xs ys : List X) → AllByRecursion P xs → AllByRecursion P ys → AllByRecursion P (xs ++ ys)
 all-append P [] ys h k = k
