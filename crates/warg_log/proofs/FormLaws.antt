@@ -20,7 +20,7 @@ use Rattle.warg_validator.proofs.KindWalks.{accepted-lawful}
 use Rattle.warg_log.specs.SignedEntries.{AccessView, nothing, after}
 use Rattle.warg_log.specs.Forms.{TimesNeverFall, FirstAloneHasNoPrev, is_init, inits, OneInitFirst, EntriesHaveKeys, HasForm}
 use Rattle.warg_log.specs.Histories.{Placed, placed_in, record_history, history_of}
-use Rattle.warg_log.specs.History.{SignedRecord, Event, Rules, StateView, View, Wrong, deed_of, record_events, head_of, whole_after, start, entry_offence, entry_fault, events_offence, unsigned_offence, record_offence, after_record, IsCoherent}
+use Rattle.warg_log.specs.History.{SignedRecord, Event, Rules, StateView, View, Wrong, signed_entry_of, record_events, head_of, whole_after, start, entry_offence, entry_fault, events_offence, unsigned_offence, record_offence, after_record, IsCoherent}
 use Rattle.warg_log.specs.LogKind.{opened, offence_in, kind_of}
 use Rattle.warg_log.specs.Offences.{Offence, lacks_required, FirstEntryIsNotInit, InitialEntryAfterBeginning, InitialRecordDoesNotInit, TimestampLowerThanPrevious}
 use Rattle.warg_log.specs.Records.{is_before, link_offence, version_offence, time_offence, signer_offence}
@@ -124,7 +124,7 @@ module _ {P O V F : Type 0} (rules : Rules P O V F) (same : P → P → Bool) wh
       by (EntryData.Own o) g = absurd (never (unless_holds _ FirstEntryIsNotInit (unmapped Wrong.Shared _ (or_first _ _ g))))
 
   -- after a lawful entry an Init stands, whatever contents are read as
-  begun_after : (version : ℕ) (w : StateView P V) (x : Event (EntryData P O)) → entry_offence rules same version w x.signer x.entry ≡ None → is_some (after same w.authority (filter_map deed_of (x ∷ []))).algorithm ≡ true
+  begun_after : (version : ℕ) (w : StateView P V) (x : Event (EntryData P O)) → entry_offence rules same version w x.signer x.entry ≡ None → is_some (after same w.authority (filter_map signed_entry_of (x ∷ []))).algorithm ≡ true
   begun_after version w x h = begun_entry rules same (λ content. Err content) (rules.after rules.start) version w x h
 
   -- the records of a log, each lawful after a view
@@ -160,8 +160,8 @@ module _ {P O V F : Type 0} (rules : Rules P O V F) (same : P → P → Bool) wh
     later_entries version w before (e ∷ events) begun h =
         let here = or_first (entry_offence rules same version (whole_after rules same w before) e.signer e.entry) _ h in
         let next : is_some (whole_after rules same w (before ++ e ∷ [])).authority.algorithm ≡ true =
-        ap (λ l. is_some (after same w.authority l).algorithm) (filter_map-append deed_of before (e ∷ []))
-        ∙ ap (λ (s : AccessView P). is_some s.algorithm) (after-append same w.authority (filter_map deed_of before) (filter_map deed_of (e ∷ [])))
+        ap (λ l. is_some (after same w.authority l).algorithm) (filter_map-append signed_entry_of before (e ∷ []))
+        ∙ ap (λ (s : AccessView P). is_some s.algorithm) (after-append same w.authority (filter_map signed_entry_of before) (filter_map signed_entry_of (e ∷ [])))
         ∙ begun_after version (whole_after rules same w before) e here in
         (no_init version (whole_after rules same w before) e.signer e.entry begun here, later_entries version w (before ++ e ∷ []) events next (or_second _ _ h))
 
@@ -205,46 +205,46 @@ module _ {P O V F : Type 0} (rules : Rules P O V F) (same : P → P → Bool) wh
           first_entry = refl;
         }
 
-module _ {P O V F D : Type 0} (rules : Rules P O V F) (same : P → P → Bool) (read : List ℕ → Result (RecordData P O) D) (matter : List (Event O) → V) (b : SignatureRelation) where
+module _ {P O V F D : Type 0} (rules : Rules P O V F) (same : P → P → Bool) (read : List ℕ → Result (RecordData P O) D) (own_state : List (Event O) → V) (b : SignatureRelation) where
   abbrev record_of : EnvelopeData → SignedRecord P O
   record_of e = opened rules same read e
 
-  pub lawful_records : (v : View P V) (es : List EnvelopeData) → AllLawful (kind_of rules same read matter) b v es → AllLawfulRecords rules same b v (map record_of es)
+  pub lawful_records : (v : View P V) (es : List EnvelopeData) → AllLawful (kind_of rules same read own_state) b v es → AllLawfulRecords rules same b v (map record_of es)
   lawful_records v [] h = tt
-  lawful_records v (e ∷ es) h = (read_lawful rules same read matter b v e (read e.content) h.0, lawful_records (after_record rules same v (record_of e)) es h.1)
+  lawful_records v (e ∷ es) h = (read_lawful rules same read own_state b v e (read e.content) h.0, lawful_records (after_record rules same v (record_of e)) es h.1)
 
   -- what is no record is not lawful
   is_read : (v : View P V) (e : EnvelopeData) (r : Result (RecordData P O) D) → offence_in rules same read b v e r ≡ None → IsOk r
   is_read v e (Ok s) h = refl
   is_read v e (Err fault) h = cc
 
-  all_read : (v : View P V) (es : List EnvelopeData) → AllLawful (kind_of rules same read matter) b v es → AllByRecursion (λ e. IsOk (read e.content)) es
+  all_read : (v : View P V) (es : List EnvelopeData) → AllLawful (kind_of rules same read own_state) b v es → AllByRecursion (λ e. IsOk (read e.content)) es
   all_read v [] h = tt
   all_read v (e ∷ es) h = (is_read v e (read e.content) h.0, all_read (after_record rules same v (record_of e)) es h.1)
 
-  coherent : (v : View P V) (es : List EnvelopeData) → IsCoherent rules same v → AllLawful (kind_of rules same read matter) b v es → IsCoherent rules same (view_after (kind_of rules same read matter) v es)
+  coherent : (v : View P V) (es : List EnvelopeData) → IsCoherent rules same v → AllLawful (kind_of rules same read own_state) b v es → IsCoherent rules same (view_after (kind_of rules same read own_state) v es)
   coherent v [] c h = c
   coherent v (e ∷ es) c h =
       let r = record_of e in
-      let l = lawful rules same b v r (read_lawful rules same read matter b v e (read e.content) h.0) in
+      let l = lawful rules same b v r (read_lawful rules same read own_state b v e (read e.content) h.0) in
       coherent (after_record rules same v r) es (record-coherent rules same b v r (whole_after rules same v.whole (record_events rules.id_of r)) refl l.unsigned (head_of rules.id_of r) refl c l.signed) h.1
 
-  module _ (laws : KindLaws (kind_of rules same read matter)) where
+  module _ (laws : KindLaws (kind_of rules same read own_state)) where
     -- the contents of accepted envelopes are records
-    pub accepted-read : (es : List EnvelopeData) → IsAccepted (kind_of rules same read matter) b es → All (λ e. IsOk (read e.content)) es
-    accepted-read es h = All-from_recursion (λ e. IsOk (read e.content)) es (all_read (start rules same) es (accepted-lawful (kind_of rules same read matter) laws b es h))
+    pub accepted-read : (es : List EnvelopeData) → IsAccepted (kind_of rules same read own_state) b es → All (λ e. IsOk (read e.content)) es
+    accepted-read es h = All-from_recursion (λ e. IsOk (read e.content)) es (all_read (start rules same) es (accepted-lawful (kind_of rules same read own_state) laws b es h))
 
-    keyed : (es : List EnvelopeData) → IsAccepted (kind_of rules same read matter) b es → EntriesHaveKeys (history_of rules.id_of (map record_of es))
+    keyed : (es : List EnvelopeData) → IsAccepted (kind_of rules same read own_state) b es → EntriesHaveKeys (history_of rules.id_of (map record_of es))
     keyed es h =
-        let good = accepted-lawful (kind_of rules same read matter) laws b es h in
+        let good = accepted-lawful (kind_of rules same read own_state) laws b es h in
         let c = subst (IsCoherent rules same) (sym (laws.by_list b es good)) (coherent (start rules same) es (coherent-new rules same nothing rules.start refl refl) good) in
         c.keyed.known
 
     -- accepted envelopes have the form of a log
-    pub accepted-form : (es : List EnvelopeData) → 0 < length es → IsAccepted (kind_of rules same read matter) b es → HasForm rules.id_of (map record_of es)
+    pub accepted-form : (es : List EnvelopeData) → 0 < length es → IsAccepted (kind_of rules same read own_state) b es → HasForm rules.id_of (map record_of es)
     accepted-form [] some h = absurd (omega (arith, some))
     accepted-form (e ∷ es) some h =
-        let good = lawful_records (start rules same) (e ∷ es) (accepted-lawful (kind_of rules same read matter) laws b (e ∷ es) h) in
+        let good = lawful_records (start rules same) (e ∷ es) (accepted-lawful (kind_of rules same read own_state) laws b (e ∷ es) h) in
         record {
           times = times rules same b (start rules same) (map record_of (e ∷ es)) good;
           links = first_alone rules same b (map record_of (e ∷ es)) good;

@@ -7,12 +7,12 @@ use Rattle.std.proofs.lemmas.List.Elements.{filter_map-append}
 use Rattle.std.proofs.lemmas.List.Concat.{flat_map-append, flat_map-cons}
 use Rattle.warg_validator.specs.Walks.{view_after, AllLawful, IsStepwise}
 use Rattle.warg_crypto.specs.NamedBytes.{NamedBytes}
-use Rattle.warg_log.specs.SignedEntries.{SignedEntry, after, nothing, deed_on, enters, deed_key, deed_algorithm}
+use Rattle.warg_log.specs.SignedEntries.{SignedEntry, after, nothing, signed_entry_on, enters, signed_entry_key, signed_entry_algorithm}
 use Rattle.warg_records.specs.RecordData.{EntryData}
-use Rattle.warg_log.specs.History.{SignedRecord, Event, View, StateView, Wrong, Rules, deed_in, deed_of, own_of, events_of, record_events, head_of, whole_after, start, entry_offence, entry_fault, events_offence, unsigned_offence, record_offence, after_record}
+use Rattle.warg_log.specs.History.{SignedRecord, Event, View, StateView, Wrong, Rules, signed_entry_in, signed_entry_of, own_of, events_of, record_events, head_of, whole_after, start, entry_offence, entry_fault, events_offence, unsigned_offence, record_offence, after_record}
 use Rattle.warg_log.specs.Offences.{lacks_required, not_begun}
 use Rattle.warg_log.specs.Records.{link_offence, version_offence, time_offence}
-use Rattle.warg_log.specs.Histories.{Placed, placed_in, record_history, history_of, reading_on, reading_enters, reading_key, reading_algorithm, standing_of, owns, view_of, own_after, own_offence}
+use Rattle.warg_log.specs.Histories.{Placed, placed_in, record_history, history_of, entry_on, entry_enters, entry_key, entry_algorithm, standing_of, owns, view_of, own_after, own_offence}
 use Rattle.warg_log.proofs.Firsts.{or_first, or_second, unmapped}
 use Rattle.warg_log.proofs.SignedEntryLaws.{same_standing, after-append, map-join}
 use Rattle.warg_records.specs.declared.registry.record_id.RecordId.{RecordId}
@@ -72,39 +72,39 @@ module _ {P O : Type 0} (id_of : List ℕ → RecordId) where
   pub history-events : (records : List (SignedRecord P O)) → map (λ e. e.event) (history_of id_of records) ≡ flat_map (record_events id_of) records
   history-events records = flat_from 0 records
 
-  on_is : (same : P → P → Bool) (k : List ℕ) (p : P) (signer : List ℕ) (r : EntryData P O) → reading_on same k p signer r ≡ option_and_then (deed_on same k p) (deed_in signer r)
-  on_is same k p signer (EntryData.Shared act) = refl
+  on_is : (same : P → P → Bool) (k : List ℕ) (p : P) (signer : List ℕ) (r : EntryData P O) → entry_on same k p signer r ≡ option_and_then (signed_entry_on same k p) (signed_entry_in signer r)
+  on_is same k p signer (EntryData.Shared entry) = refl
   on_is same k p signer (EntryData.Own o) = refl
 
-  enters_is : (k signer : List ℕ) (r : EntryData P O) → reading_enters k signer r ≡ list_any (enters k) (cons_option (deed_in signer r) [])
-  enters_is k signer (EntryData.Shared act) = or_false _
+  enters_is : (k signer : List ℕ) (r : EntryData P O) → entry_enters k signer r ≡ list_any (enters k) (cons_option (signed_entry_in signer r) [])
+  enters_is k signer (EntryData.Shared entry) = or_false _
     where
       or_false : (b : Bool) → b ≡ (b || false)
       or_false true = refl
       or_false false = refl
   enters_is k signer (EntryData.Own o) = refl
 
-  key_is : (k signer : List ℕ) (r : EntryData P O) → reading_key k r ≡ option_and_then (deed_key k) (deed_in signer r)
-  key_is k signer (EntryData.Shared act) = refl
+  key_is : (k signer : List ℕ) (r : EntryData P O) → entry_key k r ≡ option_and_then (signed_entry_key k) (signed_entry_in signer r)
+  key_is k signer (EntryData.Shared entry) = refl
   key_is k signer (EntryData.Own o) = refl
 
-  algorithm_is : (signer : List ℕ) (r : EntryData P O) → reading_algorithm r ≡ option_and_then deed_algorithm (deed_in signer r)
-  algorithm_is signer (EntryData.Shared act) = refl
+  algorithm_is : (signer : List ℕ) (r : EntryData P O) → entry_algorithm r ≡ option_and_then signed_entry_algorithm (signed_entry_in signer r)
+  algorithm_is signer (EntryData.Shared entry) = refl
   algorithm_is signer (EntryData.Own o) = refl
 
-  abbrev pub deeds_in : List (Placed (EntryData P O)) → List (SignedEntry P)
-  deeds_in h = filter_map deed_of (map (λ e. e.event) h)
+  abbrev pub signed_entries_in : List (Placed (EntryData P O)) → List (SignedEntry P)
+  signed_entries_in h = filter_map signed_entry_of (map (λ e. e.event) h)
 
-  said_is : {A : Type 0} (f : Event (EntryData P O) → Option A) (g : SignedEntry P → Option A) (d : A) → ((e : Event (EntryData P O)) → f e ≡ option_and_then g (deed_of e))
-      → (h : List (Placed (EntryData P O))) → unwrap_or (last_or None (filter_map (λ e. f e.event) h)) d ≡ unwrap_or (last_or None (filter_map g (deeds_in h))) d
-  said_is f g d same h = ap (λ l. unwrap_or (last_or None l) d) (filter_map-of (λ e. e.event) f h ∙ filter_map-then deed_of g f same (map (λ e. e.event) h))
+  said_is : {A : Type 0} (f : Event (EntryData P O) → Option A) (g : SignedEntry P → Option A) (d : A) → ((e : Event (EntryData P O)) → f e ≡ option_and_then g (signed_entry_of e))
+      → (h : List (Placed (EntryData P O))) → unwrap_or (last_or None (filter_map (λ e. f e.event) h)) d ≡ unwrap_or (last_or None (filter_map g (signed_entries_in h))) d
+  said_is f g d same h = ap (λ l. unwrap_or (last_or None l) d) (filter_map-of (λ e. e.event) f h ∙ filter_map-then signed_entry_of g f same (map (λ e. e.event) h))
 
-  pub standing-listed : (same : P → P → Bool) (h : List (Placed (EntryData P O))) → standing_of same h ≡ after same nothing (deeds_in h)
+  pub standing-listed : (same : P → P → Bool) (h : List (Placed (EntryData P O))) → standing_of same h ≡ after same nothing (signed_entries_in h)
   standing-listed same h = same_standing same _ _
-      (said_is (λ e. reading_algorithm e.entry) deed_algorithm None (λ e. algorithm_is e.signer e.entry) h)
-      (λ k p. said_is (λ e. reading_on same k p e.signer e.entry) (deed_on same k p) false (λ e. on_is same k p e.signer e.entry) h)
-      (λ k. any-of (λ e. e.event) (λ e. reading_enters k e.signer e.entry) h ∙ any-then deed_of (enters k) (λ e. reading_enters k e.signer e.entry) (λ e. enters_is k e.signer e.entry) (map (λ e. e.event) h))
-      (λ k. said_is (λ e. reading_key k e.entry) (deed_key k) None (λ e. key_is k e.signer e.entry) h)
+      (said_is (λ e. entry_algorithm e.entry) signed_entry_algorithm None (λ e. algorithm_is e.signer e.entry) h)
+      (λ k p. said_is (λ e. entry_on same k p e.signer e.entry) (signed_entry_on same k p) false (λ e. on_is same k p e.signer e.entry) h)
+      (λ k. any-of (λ e. e.event) (λ e. entry_enters k e.signer e.entry) h ∙ any-then signed_entry_of (enters k) (λ e. entry_enters k e.signer e.entry) (λ e. enters_is k e.signer e.entry) (map (λ e. e.event) h))
+      (λ k. said_is (λ e. entry_key k e.entry) (signed_entry_key k) None (λ e. key_is k e.signer e.entry) h)
 
   events_push : (rs : List (SignedRecord P O)) (r : SignedRecord P O) → flat_map (record_events id_of) (rs ++ r ∷ []) ≡ flat_map (record_events id_of) rs ++ record_events id_of r
   events_push rs r = flat_map-append (record_events id_of) rs (r ∷ []) ∙ ap (λ l. flat_map (record_events id_of) rs ++ l) (flat_map-cons (record_events id_of) r [] ∙ nil_end (record_events id_of r))
@@ -131,24 +131,24 @@ module _ {P O V F : Type 0} (rules : Rules P O V F) (same : P → P → Bool) (n
 
   -- an event more: what its own entry adds
   lawful-entry : (version : ℕ) (w : StateView P V) (signer : List ℕ) (time : Time) (id : RecordId) (r : EntryData P O) (fs : List (Event O)) → entry_offence rules same version w signer r ≡ None
-      → Lawful (rules.after w.matter (cons_option (own_of (event_in rules.id_of signer time id r)) [])) fs → Lawful w.matter (cons_option (own_of (event_in rules.id_of signer time id r)) fs)
-  lawful-entry version w signer time id (EntryData.Shared act) fs h g = subst (λ u. Lawful u fs) (sym (none w.matter)) g
+      → Lawful (rules.after w.own_state (cons_option (own_of (event_in rules.id_of signer time id r)) [])) fs → Lawful w.own_state (cons_option (own_of (event_in rules.id_of signer time id r)) fs)
+  lawful-entry version w signer time id (EntryData.Shared entry) fs h g = subst (λ u. Lawful u fs) (sym (none w.own_state)) g
   lawful-entry version w signer time id (EntryData.Own o) fs h g =
       let own = or_second (option_map Wrong.Shared (lacks_required w.authority signer (rules.required (EntryData.Own o)))) (entry_fault rules same version w signer (EntryData.Own o)) h in
-      (unmapped Wrong.Own (rules.offence w.matter o) (or_second (option_map Wrong.Shared (not_begun w.authority)) (option_map Wrong.Own (rules.offence w.matter o)) own), g)
+      (unmapped Wrong.Own (rules.offence w.own_state o) (or_second (option_map Wrong.Shared (not_begun w.authority)) (option_map Wrong.Own (rules.offence w.own_state o)) own), g)
 
-  matter_push : (v : V) (before : List (Event (EntryData P O))) (e : Event (EntryData P O)) → rules.after v (filter_map own_of (before ++ e ∷ [])) ≡ rules.after (rules.after v (filter_map own_of before)) (cons_option (own_of e) [])
-  matter_push v before e = ap (rules.after v) (filter_map-append own_of before (e ∷ [])) ∙ append v (filter_map own_of before) (cons_option (own_of e) [])
+  own_state_push : (v : V) (before : List (Event (EntryData P O))) (e : Event (EntryData P O)) → rules.after v (filter_map own_of (before ++ e ∷ [])) ≡ rules.after (rules.after v (filter_map own_of before)) (cons_option (own_of e) [])
+  own_state_push v before e = ap (rules.after v) (filter_map-append own_of before (e ∷ [])) ∙ append v (filter_map own_of before) (cons_option (own_of e) [])
 
   -- the own events of a record without offence are lawful
-  lawful-events : (version : ℕ) (w : StateView P V) (before events : List (Event (EntryData P O))) → events_offence rules same version w before events ≡ None → Lawful (rules.after w.matter (filter_map own_of before)) (filter_map own_of events)
+  lawful-events : (version : ℕ) (w : StateView P V) (before events : List (Event (EntryData P O))) → events_offence rules same version w before events ≡ None → Lawful (rules.after w.own_state (filter_map own_of before)) (filter_map own_of events)
   lawful-events version w before [] h = tt
   lawful-events version w before (e ∷ es) h =
       let here = entry_offence rules same version (whole_after rules same w before) e.signer e.entry in
       let later = events_offence rules same version w (before ++ e ∷ []) es in
       let rest = lawful-events version w (before ++ e ∷ []) es (or_second here later h) in
       lawful-entry version (whole_after rules same w before) e.signer e.time e.record_id e.entry (filter_map own_of es) (or_first here later h)
-      (subst (λ v. Lawful v (filter_map own_of es)) (matter_push w.matter before e) rest)
+      (subst (λ v. Lawful v (filter_map own_of es)) (own_state_push w.own_state before e) rest)
 
   -- of a record without offence no event has one
   events-none : (v : View P V) (r : SignedRecord P O) (belongs : NamedBytes → List ℕ → NamedBytes → Bool) → record_offence rules same belongs v r ≡ None → events_offence rules same r.contents.version v.whole [] (record_events rules.id_of r) ≡ None
@@ -162,15 +162,15 @@ module _ {P O V F : Type 0} (rules : Rules P O V F) (same : P → P → Bool) (n
       let checks = or_second link _ all in
       or_first events _ (or_second time _ (or_second version _ checks))
 
-  module _ (belongs : NamedBytes → List ℕ → NamedBytes → Bool) (matter : List (Event O) → V) (by_list : (es : List (Event O)) → AllLawful (own_after rules) (own_offence rules) rules.start es → matter es ≡ rules.after rules.start es) where
+  module _ (belongs : NamedBytes → List ℕ → NamedBytes → Bool) (own_state : List (Event O) → V) (by_list : (es : List (Event O)) → AllLawful (own_after rules) (own_offence rules) rules.start es → own_state es ≡ rules.after rules.start es) where
     abbrev pub Good : List (SignedRecord P O) → Type 0
     Good rs = Lawful rules.start (owns (history_of rules.id_of rs))
 
-    lawful-record : (rs : List (SignedRecord P O)) (r : SignedRecord P O) → Good rs → record_offence rules same belongs (view_of rules same matter rs) r ≡ None → Lawful rules.start (filter_map own_of (flat_map (record_events rules.id_of) rs) ++ filter_map own_of (record_events rules.id_of r))
+    lawful-record : (rs : List (SignedRecord P O)) (r : SignedRecord P O) → Good rs → record_offence rules same belongs (view_of rules same own_state rs) r ≡ None → Lawful rules.start (filter_map own_of (flat_map (record_events rules.id_of) rs) ++ filter_map own_of (record_events rules.id_of r))
     lawful-record rs r good h =
-        let v = view_of rules same matter rs in
+        let v = view_of rules same own_state rs in
         let here = lawful-events r.contents.version v.whole [] (record_events rules.id_of r) (events-none v r belongs h) in
-        let at : rules.after v.whole.matter [] ≡ rules.after rules.start (filter_map own_of (flat_map (record_events rules.id_of) rs)) = sym (none v.whole.matter) ∙ by_list (owns (history_of rules.id_of rs)) good ∙ ap (rules.after rules.start) (owns_is rules.id_of rs) in
+        let at : rules.after v.whole.own_state [] ≡ rules.after rules.start (filter_map own_of (flat_map (record_events rules.id_of) rs)) = sym (none v.whole.own_state) ∙ by_list (owns (history_of rules.id_of rs)) good ∙ ap (rules.after rules.start) (owns_is rules.id_of rs) in
         lawful-join rules.start (filter_map own_of (flat_map (record_events rules.id_of) rs)) (filter_map own_of (record_events rules.id_of r))
         (subst (Lawful rules.start) (owns_is rules.id_of rs) good)
         (subst (λ u. Lawful u (filter_map own_of (record_events rules.id_of r))) at here)
@@ -178,30 +178,30 @@ module _ {P O V F : Type 0} (rules : Rules P O V F) (same : P → P → Bool) (n
     owns_push : (rs : List (SignedRecord P O)) (r : SignedRecord P O) → owns (history_of rules.id_of (rs ++ r ∷ [])) ≡ filter_map own_of (flat_map (record_events rules.id_of) rs) ++ filter_map own_of (record_events rules.id_of r)
     owns_push rs r = owns_is rules.id_of (rs ++ r ∷ []) ∙ ap (filter_map own_of) (events_push rules.id_of rs r) ∙ filter_map-append own_of (flat_map (record_events rules.id_of) rs) (record_events rules.id_of r)
 
-    authority_push : (rs : List (SignedRecord P O)) (r : SignedRecord P O) → standing_of same (history_of rules.id_of (rs ++ r ∷ [])) ≡ after same (standing_of same (history_of rules.id_of rs)) (filter_map deed_of (record_events rules.id_of r))
+    authority_push : (rs : List (SignedRecord P O)) (r : SignedRecord P O) → standing_of same (history_of rules.id_of (rs ++ r ∷ [])) ≡ after same (standing_of same (history_of rules.id_of rs)) (filter_map signed_entry_of (record_events rules.id_of r))
     authority_push rs r =
         standing-listed rules.id_of same (history_of rules.id_of (rs ++ r ∷ []))
-        ∙ ap (λ l. after same nothing (filter_map deed_of l)) (history-events rules.id_of (rs ++ r ∷ []) ∙ events_push rules.id_of rs r)
-        ∙ ap (after same nothing) (filter_map-append deed_of (flat_map (record_events rules.id_of) rs) (record_events rules.id_of r))
-        ∙ after-append same nothing (filter_map deed_of (flat_map (record_events rules.id_of) rs)) (filter_map deed_of (record_events rules.id_of r))
-        ∙ ap (λ s. after same s (filter_map deed_of (record_events rules.id_of r))) (ap (λ l. after same nothing (filter_map deed_of l)) (sym (history-events rules.id_of rs)) ∙ sym (standing-listed rules.id_of same (history_of rules.id_of rs)))
+        ∙ ap (λ l. after same nothing (filter_map signed_entry_of l)) (history-events rules.id_of (rs ++ r ∷ []) ∙ events_push rules.id_of rs r)
+        ∙ ap (after same nothing) (filter_map-append signed_entry_of (flat_map (record_events rules.id_of) rs) (record_events rules.id_of r))
+        ∙ after-append same nothing (filter_map signed_entry_of (flat_map (record_events rules.id_of) rs)) (filter_map signed_entry_of (record_events rules.id_of r))
+        ∙ ap (λ s. after same s (filter_map signed_entry_of (record_events rules.id_of r))) (ap (λ l. after same nothing (filter_map signed_entry_of l)) (sym (history-events rules.id_of rs)) ∙ sym (standing-listed rules.id_of same (history_of rules.id_of rs)))
 
     -- one more record: its view by lists is the one that it makes of the view before
-    pub records-stepwise : IsStepwise (after_record rules same) (record_offence rules same belongs) (start rules same) (view_of rules same matter) Good
+    pub records-stepwise : IsStepwise (after_record rules same) (record_offence rules same belongs) (start rules same) (view_of rules same own_state) Good
     records-stepwise = record {
-      none = λ i. record { whole = record { authority = nothing; matter = (by_list [] tt ∙ sym (none rules.start)) i }; head = None };
+      none = λ i. record { whole = record { authority = nothing; own_state = (by_list [] tt ∙ sym (none rules.start)) i }; head = None };
       good = tt;
       more = λ rs r good h.
           let all = lawful-record rs r good h in
           let good_all : Lawful rules.start (owns (history_of rules.id_of (rs ++ r ∷ []))) = subst (Lawful rules.start) (sym (owns_push rs r)) all in
-          let matters : matter (owns (history_of rules.id_of (rs ++ r ∷ []))) ≡ rules.after (matter (owns (history_of rules.id_of rs))) (filter_map own_of (record_events rules.id_of r)) =
+          let own_states : own_state (owns (history_of rules.id_of (rs ++ r ∷ []))) ≡ rules.after (own_state (owns (history_of rules.id_of rs))) (filter_map own_of (record_events rules.id_of r)) =
           by_list (owns (history_of rules.id_of (rs ++ r ∷ []))) good_all
           ∙ ap (rules.after rules.start) (owns_push rs r)
           ∙ append rules.start (filter_map own_of (flat_map (record_events rules.id_of) rs)) (filter_map own_of (record_events rules.id_of r))
           ∙ ap (λ v. rules.after v (filter_map own_of (record_events rules.id_of r))) (ap (rules.after rules.start) (sym (owns_is rules.id_of rs)) ∙ sym (by_list (owns (history_of rules.id_of rs)) good)) in (
             good_all,
             λ i. record {
-              whole = record { authority = authority_push rs r i; matter = matters i };
+              whole = record { authority = authority_push rs r i; own_state = own_states i };
               head = ap (option_map (head_of rules.id_of)) (last_or-push None rs r) i;
             },
           );

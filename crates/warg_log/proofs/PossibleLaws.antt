@@ -11,7 +11,7 @@ use Rattle.warg_records.specs.RecordData.{EntryData, SharedEntry, Init, GrantFla
 use Rattle.warg_records.specs.declared.registry.record_id.RecordId.{RecordId}
 use Rattle.warg_log.specs.SignedEntries.{AccessView}
 use Rattle.warg_log.specs.History.{Rules, Wrong, StateView, View, SignedRecord, Event, whole_after, record_events, entry_fault, entry_offence, events_offence, unsigned_offence, record_offence}
-use Rattle.warg_log.specs.Offences.{Offence, unless, not_begun, empty_grant, lacks_required, unauthorized, act_offence, InitialRecordDoesNotInit, KeyIDNotRecognized, UnauthorizedAction, PermissionNotFoundToRevoke, WrongSignature}
+use Rattle.warg_log.specs.Offences.{Offence, unless, not_begun, empty_grant, lacks_required, unauthorized, shared_entry_offence, InitialRecordDoesNotInit, KeyIDNotRecognized, UnauthorizedAction, PermissionNotFoundToRevoke, WrongSignature}
 use Rattle.warg_log.specs.Records.{link_offence, version_offence, time_offence, same_id}
 use Rattle.warg_log.specs.Rights.{first_missing}
 use Rattle.warg_log.specs.Possible.{may_be_told, IsPossible}
@@ -47,10 +47,10 @@ module _ {P : Type 0} where
   empty version k [] = tested (version == 0) _ refl
   empty version k (p ∷ ps) = tt
 
-  act : (by_own_key : Bool) (version : ℕ) (same : P → P → Bool) (s : AccessView P) (signer : List ℕ) (a : SharedEntry P) → MayBe (act_offence by_own_key version same s signer a)
-  act by_own_key version same s signer (Init algorithm key) = either _ _ (tested (is_none s.algorithm) _ refl) (tested (not by_own_key || bytes_eq signer (fingerprint_of key)) _ refl)
-  act by_own_key version same s signer (GrantFlat key ps) = either _ _ (begun s) (either _ _ (empty version (fingerprint_of key) ps) (listed s signer ps))
-  act by_own_key version same s signer (RevokeFlat id ps) =
+  entry : (by_own_key : Bool) (version : ℕ) (same : P → P → Bool) (s : AccessView P) (signer : List ℕ) (a : SharedEntry P) → MayBe (shared_entry_offence by_own_key version same s signer a)
+  entry by_own_key version same s signer (Init algorithm key) = either _ _ (tested (is_none s.algorithm) _ refl) (tested (not by_own_key || bytes_eq signer (fingerprint_of key)) _ refl)
+  entry by_own_key version same s signer (GrantFlat key ps) = either _ _ (begun s) (either _ _ (empty version (fingerprint_of key) ps) (listed s signer ps))
+  entry by_own_key version same s signer (RevokeFlat id ps) =
       either _ _ (begun s) (either _ _ (listed s signer ps) (mapped (λ p. PermissionNotFoundToRevoke p id) (λ p. refl) (first_missing same (s.holds id) [] ps)))
 
 -- of the checks that name no permission
@@ -91,8 +91,8 @@ module _ {P O V F : Type 0} (rules : Rules P O V F) (same : P → P → Bool) wh
   own (Some x) = tt
 
   fault : (n : ℕ) (w : StateView P V) (signer : List ℕ) (r : EntryData P O) → Possible (entry_fault rules same n w signer r)
-  fault n w signer (EntryData.Shared a) = shared _ (act (rules.by_own_key n) n same w.authority signer a)
-  fault n w signer (EntryData.Own o) = first _ _ (shared _ (begun w.authority)) (own (rules.offence w.matter o))
+  fault n w signer (EntryData.Shared a) = shared _ (entry (rules.by_own_key n) n same w.authority signer a)
+  fault n w signer (EntryData.Own o) = first _ _ (shared _ (begun w.authority)) (own (rules.offence w.own_state o))
 
   entry : (n : ℕ) (w : StateView P V) (signer : List ℕ) (r : EntryData P O) → Possible (entry_offence rules same n w signer r)
   entry n w signer r = first _ _ (shared _ (required w.authority signer (rules.required r))) (fault n w signer r)

@@ -8,28 +8,28 @@ use Rattle.warg_records.specs.EnvelopeData.{EnvelopeData}
 use Rattle.warg_records.specs.RecordData.{EntryData, RecordData}
 use Rattle.warg_validator.specs.Kinds.{SignatureRelation, Kind}
 use Rattle.warg_log.specs.SignedEntries.{after}
-use Rattle.warg_log.specs.Offences.{act_offence, not_begun, lacks_required, unless, InitialRecordDoesNotInit}
+use Rattle.warg_log.specs.Offences.{shared_entry_offence, not_begun, lacks_required, unless, InitialRecordDoesNotInit}
 use Rattle.warg_log.specs.Records.{link_offence, version_offence, time_offence, signer_offence}
-use Rattle.warg_log.specs.History.{SignedRecord, Event, Rules, StateView, View, Wrong, deed_of, own_of, whole_after, entry_offence, entry_fault, events_offence, record_events, record_offence}
+use Rattle.warg_log.specs.History.{SignedRecord, Event, Rules, StateView, View, Wrong, signed_entry_of, own_of, whole_after, entry_offence, entry_fault, events_offence, record_events, record_offence}
 use Rattle.warg_log.specs.States.{enclosed}
 use Rattle.warg_log.specs.LogKind.{offence_in, kind_of, opened}
 use Rattle.warg_log.specs.Equal.{IsSame}
 use Rattle.warg_log.specs.declared.head.Head.{Head}
 
-module _ {P O V F D : Type 0} (rules : Rules P O V F) (same : P → P → Bool) (read : List ℕ → Result (RecordData P O) D) (matter : List (Event O) → V) (alike : V → V → Type 0)
+module _ {P O V F D : Type 0} (rules : Rules P O V F) (same : P → P → Bool) (read : List ℕ → Result (RecordData P O) D) (own_state : List (Event O) → V) (alike : V → V → Type 0)
     (alike_offence : (v w : V) → alike v w → (o : O) → rules.offence v o ≡ rules.offence w o)
     (alike_after : (v w : V) → alike v w → (xs : List (Event O)) → alike (rules.after v xs) (rules.after w xs)) where
-  fault-same : (version : ℕ) (u w : StateView P V) → u.authority ≡ w.authority → alike u.matter w.matter → (signer : List ℕ) (r : EntryData P O) → entry_fault rules same version u signer r ≡ entry_fault rules same version w signer r
-  fault-same version u w a m signer (EntryData.Shared act) = λ i. option_map Wrong.Shared (act_offence (rules.by_own_key version) version same (a i) signer act)
-  fault-same version u w a m signer (EntryData.Own o) = λ i. option_or (option_map Wrong.Shared (not_begun (a i))) (option_map Wrong.Own (alike_offence u.matter w.matter m o i))
+  fault-same : (version : ℕ) (u w : StateView P V) → u.authority ≡ w.authority → alike u.own_state w.own_state → (signer : List ℕ) (r : EntryData P O) → entry_fault rules same version u signer r ≡ entry_fault rules same version w signer r
+  fault-same version u w a m signer (EntryData.Shared entry) = λ i. option_map Wrong.Shared (shared_entry_offence (rules.by_own_key version) version same (a i) signer entry)
+  fault-same version u w a m signer (EntryData.Own o) = λ i. option_or (option_map Wrong.Shared (not_begun (a i))) (option_map Wrong.Own (alike_offence u.own_state w.own_state m o i))
 
-  entry-same : (version : ℕ) (u w : StateView P V) → u.authority ≡ w.authority → alike u.matter w.matter → (signer : List ℕ) (r : EntryData P O) → entry_offence rules same version u signer r ≡ entry_offence rules same version w signer r
+  entry-same : (version : ℕ) (u w : StateView P V) → u.authority ≡ w.authority → alike u.own_state w.own_state → (signer : List ℕ) (r : EntryData P O) → entry_offence rules same version u signer r ≡ entry_offence rules same version w signer r
   entry-same version u w a m signer r = λ i. option_or (option_map Wrong.Shared (lacks_required (a i) signer (rules.required r))) (fault-same version u w a m signer r i)
 
-  events-same : (version : ℕ) (u w : StateView P V) → u.authority ≡ w.authority → alike u.matter w.matter → (before events : List (Event (EntryData P O))) → events_offence rules same version u before events ≡ events_offence rules same version w before events
+  events-same : (version : ℕ) (u w : StateView P V) → u.authority ≡ w.authority → alike u.own_state w.own_state → (before events : List (Event (EntryData P O))) → events_offence rules same version u before events ≡ events_offence rules same version w before events
   events-same version u w a m before [] = refl
   events-same version u w a m before (x ∷ xs) = λ i.
-      option_or (entry-same version (whole_after rules same u before) (whole_after rules same w before) (ap (λ s. after same s (filter_map deed_of before)) a) (alike_after u.matter w.matter m (filter_map own_of before)) x.signer x.entry i)
+      option_or (entry-same version (whole_after rules same u before) (whole_after rules same w before) (ap (λ s. after same s (filter_map signed_entry_of before)) a) (alike_after u.own_state w.own_state m (filter_map own_of before)) x.signer x.entry i)
       (events-same version u w a m (before ++ x ∷ []) xs i)
 
   record-same : (b : SignatureRelation) (u v : View P V) → IsSame alike u v → (x : SignedRecord P O) → record_offence rules same b u x ≡ record_offence rules same b v x
@@ -37,12 +37,12 @@ module _ {P O V F D : Type 0} (rules : Rules P O V F) (same : P → P → Bool) 
       option_or (option_or (option_map Wrong.Shared (link_offence (s.head i) x.contents.prev))
       (option_or (option_map Wrong.Shared (version_offence (s.head i) x.contents.version))
       (option_or (option_map Wrong.Shared (time_offence (s.head i) x.contents.time))
-      (option_or (events-same x.contents.version u.whole v.whole s.authority s.matter [] (record_events rules.id_of x) i)
-      (option_map Wrong.Shared (unless (is_some (after same (s.authority i) (filter_map deed_of (record_events rules.id_of x))).algorithm) InitialRecordDoesNotInit))))))
-      (option_map Wrong.Shared (signer_offence b (after same (s.authority i) (filter_map deed_of (record_events rules.id_of x))) x.envelope.key_id (signed_message rules.signing_prefix x.envelope.content) x.envelope.signature))
+      (option_or (events-same x.contents.version u.whole v.whole s.authority s.own_state [] (record_events rules.id_of x) i)
+      (option_map Wrong.Shared (unless (is_some (after same (s.authority i) (filter_map signed_entry_of (record_events rules.id_of x))).algorithm) InitialRecordDoesNotInit))))))
+      (option_map Wrong.Shared (signer_offence b (after same (s.authority i) (filter_map signed_entry_of (record_events rules.id_of x))) x.envelope.key_id (signed_message rules.signing_prefix x.envelope.content) x.envelope.signature))
 
   abbrev k : Kind (View P V) (Wrong P F)
-  k = kind_of rules same read matter
+  k = kind_of rules same read own_state
 
   pub log-same-offence : (u v : View P V) → IsSame alike u v → (b : SignatureRelation) (e : EnvelopeData) → k.offence b u e ≡ k.offence b v e
   log-same-offence u v s b e = by (read e.content)
@@ -53,8 +53,8 @@ module _ {P O V F D : Type 0} (rules : Rules P O V F) (same : P → P → Bool) 
 
   pub log-same-after : (u v : View P V) → IsSame alike u v → (e : EnvelopeData) → IsSame alike (k.after u e) (k.after v e)
   log-same-after u v s e = record {
-    authority = ap (λ t. after same t (filter_map deed_of (record_events rules.id_of (opened rules same read e)))) s.authority;
-    matter = alike_after u.whole.matter v.whole.matter s.matter (filter_map own_of (record_events rules.id_of (opened rules same read e)));
+    authority = ap (λ t. after same t (filter_map signed_entry_of (record_events rules.id_of (opened rules same read e)))) s.authority;
+    own_state = alike_after u.whole.own_state v.whole.own_state s.own_state (filter_map own_of (record_events rules.id_of (opened rules same read e)));
     head = refl;
   }
 
@@ -62,4 +62,4 @@ module _ {P O V F D : Type 0} (rules : Rules P O V F) (same : P → P → Bool) 
   log-same-head u v s = ap (option_map (λ (h : Head). h.digest)) s.head
 
   pub log-same-self : ((v : V) → alike v v) → (v : View P V) → IsSame alike v v
-  log-same-self self v = record { authority = refl; matter = self v.whole.matter; head = refl }
+  log-same-self self v = record { authority = refl; own_state = self v.whole.own_state; head = refl }

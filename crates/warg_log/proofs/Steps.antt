@@ -1,4 +1,4 @@
--- What an act does to the maps is what its deed does to the standing.
+-- What an entry does to the maps is what it does to who may do what.
 use Rattle.std.proofs.Common.{◌≡◌, ℕ, List, [], ◌∷◌, Bool, true, false, ◌&&◌, ◌||◌, Option, Some, None, refl, sym, ap, ◌∙◌, if◌then◌else◌}
 use Rattle.std.specs.Str.{bytes_eq}
 use Rattle.std.specs.Option.{option_map, option_or}
@@ -23,21 +23,21 @@ and-true : (a : Bool) → (a && true) ≡ a
 and-true true = refl
 and-true false = refl
 
--- what an act has done, where c is what stands beneath the changes
+-- what an entry has done, where c is what stands beneath the changes
 module _ {P Z X : Type 0} (same : P → P → Bool) (algorithm algorithm' : Option HashAlgorithm) (base old new : IndexMap (List ℕ) (List P) Z) (base_keys old_keys new_keys : IndexMap (List ℕ) NamedBytes X)
     (signer : List ℕ) (c d e : Contents P) (base_is : maps_contents algorithm base base_keys ≡ c) (old_is : maps_contents algorithm' old old_keys ≡ d) where
-  from_maps : (named : Option HashAlgorithm) → maps_contents named new new_keys ≡ e → (act : SharedEntry P)
+  from_maps : (named : Option HashAlgorithm) → maps_contents named new new_keys ≡ e → (entry : SharedEntry P)
       → standing_over same (maps_contents algorithm base base_keys) (maps_contents named new new_keys)
-      ≡ after same (standing_over same (maps_contents algorithm base base_keys) (maps_contents algorithm' old old_keys)) (record { signer = signer; act = act } ∷ [])
-      → standing_over same c e ≡ after same (standing_over same c d) (record { signer = signer; act = act } ∷ [])
-  from_maps named new_is act step = sym (stands-over same algorithm named base new base_keys new_keys c e base_is new_is) ∙ step
-      ∙ ap (λ s. after same s (record { signer = signer; act = act } ∷ [])) (stands-over same algorithm algorithm' base old base_keys old_keys c d base_is old_is)
+      ≡ after same (standing_over same (maps_contents algorithm base base_keys) (maps_contents algorithm' old old_keys)) (record { signer = signer; entry = entry } ∷ [])
+      → standing_over same c e ≡ after same (standing_over same c d) (record { signer = signer; entry = entry } ∷ [])
+  from_maps named new_is entry step = sym (stands-over same algorithm named base new base_keys new_keys c e base_is new_is) ∙ step
+      ∙ ap (λ s. after same s (record { signer = signer; entry = entry } ∷ [])) (stands-over same algorithm algorithm' base old base_keys old_keys c d base_is old_is)
 
   pub grant-step : maps_contents algorithm' new new_keys ≡ e → (key key' : NamedBytes) (id id' : List ℕ) (permissions : List P) → id ≡ fingerprint_of key → id' ≡ id → key' ≡ key
       → ((k : List ℕ) → layered base_keys.entries new_keys.entries k ≡ (if bytes_eq id' k then Some key' else layered base_keys.entries old_keys.entries k))
       → ((k : List ℕ) (p : P) → held_over same base new k p ≡ (if bytes_eq id k && lists same permissions p then true else held_over same base old k p))
       → ((k : List ℕ) → has_entry_over base new k ≡ (has_entry_over base old k || bytes_eq id k))
-      → standing_over same c e ≡ after same (standing_over same c d) (record { signer = signer; act = GrantFlat key permissions } ∷ [])
+      → standing_over same c e ≡ after same (standing_over same c d) (record { signer = signer; entry = GrantFlat key permissions } ∷ [])
   grant-step new_is key key' id id' permissions printed copied alike keyed gave entered =
       from_maps algorithm' new_is (GrantFlat key permissions) (same_standing same _ _ refl
       (λ k p. rw (gave k p, printed) (sym (latest-one (bytes_eq (fingerprint_of key) k && lists same permissions p) true (held_over same base old k p))))
@@ -48,7 +48,7 @@ module _ {P Z X : Type 0} (same : P → P → Bool) (algorithm algorithm' : Opti
       → ((k : List ℕ) → layered base_keys.entries new_keys.entries k ≡ (if bytes_eq id' k then Some key' else layered base_keys.entries old_keys.entries k))
       → ((k : List ℕ) (p : P) → held_over same base new k p ≡ (if bytes_eq signer' k && lists same all p then true else held_over same base old k p))
       → ((k : List ℕ) → has_entry_over base new k ≡ (has_entry_over base old k || bytes_eq signer' k))
-      → standing_over same c e ≡ after same (standing_over same c d) (record { signer = signer; act = Init named key } ∷ [])
+      → standing_over same c e ≡ after same (standing_over same c d) (record { signer = signer; entry = Init named key } ∷ [])
   init-step named new_is all whole key key' id id' signer' printed copied alike is keyed gave entered =
       from_maps (Some named) new_is (Init named key) (same_standing same _ _ refl
       (λ k p. rw (gave k p, is, whole p, and-true (bytes_eq signer k)) (sym (latest-one (bytes_eq signer k) true (held_over same base old k p))))
@@ -58,7 +58,7 @@ module _ {P Z X : Type 0} (same : P → P → Bool) (algorithm algorithm' : Opti
   pub revoke-step : maps_contents algorithm' new new_keys ≡ e → (id : List ℕ) (permissions : List P) → old_keys ≡ new_keys
       → ((k : List ℕ) (p : P) → held_over same base new k p ≡ (if bytes_eq id k && lists same permissions p then false else held_over same base old k p))
       → ((k : List ℕ) → has_entry_over base new k ≡ has_entry_over base old k)
-      → standing_over same c e ≡ after same (standing_over same c d) (record { signer = signer; act = RevokeFlat id permissions } ∷ [])
+      → standing_over same c e ≡ after same (standing_over same c d) (record { signer = signer; entry = RevokeFlat id permissions } ∷ [])
   revoke-step new_is id permissions kept took stayed =
       from_maps algorithm' new_is (RevokeFlat id permissions) (same_standing same _ _ refl
       (λ k p. rw (took k p) (sym (latest-one (bytes_eq id k && lists same permissions p) false (held_over same base old k p))))

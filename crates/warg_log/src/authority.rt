@@ -108,13 +108,13 @@ impl<P: LogPermission> Authority<P> {
     pub fn commit<M: LogKind>(
         &mut self,
         changes: Authority<P>,
-        matter: &mut M,
+        own_state: &mut M,
         change: M::Change,
     ) -> Result<(), AllocError>
         ensures made { OnOk result (standing P.eq self.new ≡ standing_over P.eq self.old changes) }
-        ensures matter { OnOk result (M.view matter.new ≡ M.changed matter.old change) }
+        ensures own_state { OnOk result (M.view own_state.new ≡ M.changed own_state.old change) }
         ensures unchanged { OnErr result (self.new ≡ self.old) }
-        ensures matter_unchanged { OnErr result (matter.new ≡ matter.old) }
+        ensures own_state_unchanged { OnErr result (own_state.new ≡ own_state.old) }
     {
         let Authority {
             algorithm,
@@ -126,7 +126,7 @@ impl<P: LogPermission> Authority<P> {
         make_room(&mut self.permissions, &mut permissions)?;
         make_room(&mut self.keys, &mut keys)?;
         self.sets.append(&mut sets)?;
-        matter.commit(change)?;
+        own_state.commit(change)?;
         lay_over(&mut self.permissions, permissions);
         lay_over(&mut self.keys, keys);
         self.algorithm = algorithm.or(self.algorithm);

@@ -156,7 +156,7 @@ impl<P: LogPermission> Authority<P> {
             (standing_over P.eq self.now changes.old) signer.now key.now) result }
         ensures after { OnOk result (standing_over P.eq self.now changes.new ≡ after P.eq
             (standing_over P.eq self.now changes.old)
-            (record { signer = signer.now; act = Init hash_algorithm key.now } ∷ [])) }
+            (record { signer = signer.now; entry = Init hash_algorithm key.now } ∷ [])) }
     {
         if self.is_begun(changes) {
             return Err(Refusal::InitialEntryAfterBeginning);
@@ -215,7 +215,7 @@ impl<P: LogPermission> Authority<P> {
             (standing_over P.eq self.now changes.old) signer.now key.now permissions.now) result }
         ensures after { OnOk result (standing_over P.eq self.now changes.new ≡ after P.eq
             (standing_over P.eq self.now changes.old)
-            (record { signer = signer.now; act = GrantFlat key.now permissions.now } ∷ [])) }
+            (record { signer = signer.now; entry = GrantFlat key.now permissions.now } ∷ [])) }
     {
         self.check_begun(changes)?;
         self.check_grant(version, key, permissions)?;
@@ -250,7 +250,7 @@ impl<P: LogPermission> Authority<P> {
             (standing_over P.eq self.now changes.old) signer.now key_id.now permissions.now) result }
         ensures after { OnOk result (standing_over P.eq self.now changes.new ≡ after P.eq
             (standing_over P.eq self.now changes.old)
-            (record { signer = signer.now; act = RevokeFlat key_id.now permissions.now } ∷ [])) }
+            (record { signer = signer.now; entry = RevokeFlat key_id.now permissions.now } ∷ [])) }
     {
         self.check_begun(changes)?;
         self.check_permissions(changes, signer, before, permissions)?;

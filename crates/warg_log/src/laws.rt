@@ -11,7 +11,7 @@ ghost use Rattle.warg_log.specs.Admissions.{NoKeyBringsItselfIn};
 ghost use Rattle.warg_log.specs.Contents.{Contents};
 ghost use Rattle.warg_log.specs.Equal.{IsSame, same_states};
 ghost use Rattle.warg_log.specs.Forms.{HasForm};
-ghost use Rattle.warg_log.specs.Histories.{Placed, Holds, holds, reading_on};
+ghost use Rattle.warg_log.specs.Histories.{Placed, Holds, holds, entry_on};
 ghost use Rattle.warg_log.specs.History.{View, SignedRecord, record_offence, start, Event};
 ghost use Rattle.warg_log.specs.Listings.{IsGift};
 ghost use Rattle.warg_log.specs.LogKind.{kind_of, effects_of, effect_of, opened};
@@ -77,7 +77,7 @@ pub fn last_entry_decides<M: LogKind>()
 /// key that lists it.
 pub fn gifts<M: LogKind>()
     ensures { (signer k : List ℕ) (p : M.Permission) (r : EntryData M.Permission M.Own) →
-        (effect_of (reading_on M.Permission.eq k p signer r) ≡ Gives) ↔ IsGift M.Permission.eq k p signer r }
+        (effect_of (entry_on M.Permission.eq k p signer r) ≡ Gives) ↔ IsGift M.Permission.eq k p signer r }
 {}
 
 /// The contents of an accepted log are records. Where it has any, their times never fall, the first
@@ -85,13 +85,13 @@ pub fn gifts<M: LogKind>()
 /// key: whatever content bytes are read as, and whatever the kind says of its own entries.
 pub fn form<M: LogKind>()
     ensures records { (read : List ℕ → Result (RecordData M.Permission M.Own) RecordFault)
-        (matter : List (Event M.Own) → M.View) → KindLaws (kind_of M.rules M.Permission.eq read matter) →
+        (own_state : List (Event M.Own) → M.View) → KindLaws (kind_of M.rules M.Permission.eq read own_state) →
         (b : SignatureRelation) (es : List EnvelopeData) →
-        IsAccepted (kind_of M.rules M.Permission.eq read matter) b es → All (λ e. IsOk (read e.content)) es }
+        IsAccepted (kind_of M.rules M.Permission.eq read own_state) b es → All (λ e. IsOk (read e.content)) es }
     ensures form { (read : List ℕ → Result (RecordData M.Permission M.Own) RecordFault)
-        (matter : List (Event M.Own) → M.View) → KindLaws (kind_of M.rules M.Permission.eq read matter) →
+        (own_state : List (Event M.Own) → M.View) → KindLaws (kind_of M.rules M.Permission.eq read own_state) →
         (b : SignatureRelation) (es : List EnvelopeData) → 0 < length es →
-        IsAccepted (kind_of M.rules M.Permission.eq read matter) b es →
+        IsAccepted (kind_of M.rules M.Permission.eq read own_state) b es →
         HasForm M.rules.id_of (map (opened M.rules M.Permission.eq read) es) }
 {}
 
@@ -101,9 +101,9 @@ pub fn form<M: LogKind>()
 /// whatever content bytes are read as.
 pub fn no_key_brings_itself_in<M: LogKind>()
     ensures { M.rules.by_own_key 1 ≡ true → (read : List ℕ → Result (RecordData M.Permission M.Own) RecordFault)
-        (matter : List (Event M.Own) → M.View) → KindLaws (kind_of M.rules M.Permission.eq read matter) →
+        (own_state : List (Event M.Own) → M.View) → KindLaws (kind_of M.rules M.Permission.eq read own_state) →
         (b : SignatureRelation) (es : List EnvelopeData) →
-        IsAccepted (kind_of M.rules M.Permission.eq read matter) b es →
+        IsAccepted (kind_of M.rules M.Permission.eq read own_state) b es →
         All (λ r. r.contents.version ≡ 1) (map (opened M.rules M.Permission.eq read) es) →
         NoKeyBringsItselfIn (map (opened M.rules M.Permission.eq read) es) }
 {}

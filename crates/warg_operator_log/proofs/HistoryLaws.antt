@@ -25,7 +25,7 @@ stands-tells s es h = record {
   entries = λ k. ap (λ (v : View). v.whole.authority.has_entry k) h;
   keys = λ k. ap (λ (v : View). v.whole.authority.key k) h;
   algorithm = ap (λ (v : View). v.whole.authority.algorithm) h;
-  namespaces = λ name. ap (λ (v : View). v.whole.matter name) h;
+  namespaces = λ name. ap (λ (v : View). v.whole.own_state name) h;
   head = ap (λ (v : View). v.head) h;
 }
 

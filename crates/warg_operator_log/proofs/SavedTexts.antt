@@ -28,9 +28,9 @@ module _ (s : State (Contents Permission) (List (List ℕ × Namespace))) (a b c
     keys_fault e h = rw (algorithm, head, rights, h) refl
 
     module _ (keys : put_pairs text_name key_json (codes "keys") s.authority.keys c ≡ Ok d) where
-      pub namespaces_fault : (e : JsonError) → put_pairs text_name saved_namespace_json (codes "namespaces") s.matter d ≡ Err e → state_json s ≡ Err e
+      pub namespaces_fault : (e : JsonError) → put_pairs text_name saved_namespace_json (codes "namespaces") s.own_state d ≡ Err e → state_json s ≡ Err e
       namespaces_fault e h = rw (algorithm, head, rights, keys, h) refl
 
-      pub whole : (ms : Members) → put_pairs text_name saved_namespace_json (codes "namespaces") s.matter d ≡ Ok ms
+      pub whole : (ms : Members) → put_pairs text_name saved_namespace_json (codes "namespaces") s.own_state d ≡ Ok ms
           → state_json s ≡ Ok (object ms)
       whole ms h = rw (algorithm, head, rights, keys, h) refl

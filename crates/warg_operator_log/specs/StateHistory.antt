@@ -44,6 +44,6 @@ pub record TellsHistory (s : State (Contents Permission) (List (List ℕ × Name
   -- none
   pub algorithm : (view_of s).whole.authority.algorithm ≡ algorithm_of (history es)
   -- `namespace_state`
-  pub namespaces : (name : List ℕ) → (view_of s).whole.matter name ≡ namespaces_of (history es) name
+  pub namespaces : (name : List ℕ) → (view_of s).whole.own_state name ≡ namespaces_of (history es) name
   -- `head`: the id, the time and the version of the last record, if there is one
   pub head : (view_of s).head ≡ option_map (head_of record_id_of) (last_or None (records_of es))

@@ -35,7 +35,7 @@ use warg_records::operator::OPERATOR_RECORD_VERSION;
 pub fn extension()
     ensures { (b : SignatureRelation) (es fs : List EnvelopeData) → IsAccepted kind b (es ++ fs) →
         (name : List ℕ) (s : Namespace) →
-        (kind.view_of es).whole.matter name ≡ Some s → (kind.view_of (es ++ fs)).whole.matter name ≡ Some s }
+        (kind.view_of es).whole.own_state name ≡ Some s → (kind.view_of (es ++ fs)).whole.own_state name ≡ Some s }
 {}
 
 /// Errors are equal exactly if they tell the same offence, and only out of memory tells none.

@@ -25,10 +25,10 @@ module _ (s : State (Contents Permission) (List ReleaseView)) (a b c d : Members
 
   module _ (rights : put_pairs text_name (permissions_json permission_text) (codes "permissions") s.authority.rights b ≡ Ok c) where
     pub releases_fault : (e : JsonError)
-        → put_pairs version_name release_json (codes "releases") (named_releases s.matter) c ≡ Err e → state_json s ≡ Err e
+        → put_pairs version_name release_json (codes "releases") (named_releases s.own_state) c ≡ Err e → state_json s ≡ Err e
     releases_fault e h = rw (algorithm, head, rights, h) refl
 
-    module _ (releases : put_pairs version_name release_json (codes "releases") (named_releases s.matter) c ≡ Ok d) where
+    module _ (releases : put_pairs version_name release_json (codes "releases") (named_releases s.own_state) c ≡ Ok d) where
       pub keys_fault : (e : JsonError) → put_pairs text_name key_json (codes "keys") s.authority.keys d ≡ Err e → state_json s ≡ Err e
       keys_fault e h = rw (algorithm, head, rights, releases, h) refl
 

@@ -26,7 +26,7 @@ AreEqual s t = same_states same_permission same_releases s t ≡ true
 
 -- the versions of the releases: where their texts read back, so does the state
 abbrev pub saved_versions : State (Contents Permission) (List ReleaseView) → List Version
-saved_versions s = versions s.matter
+saved_versions s = versions s.own_state
 
 -- the state is coherent, and each of its parts reads back
 pub record IsSavable (s : State (Contents Permission) (List ReleaseView)) : Type 0 where
@@ -34,5 +34,5 @@ pub record IsSavable (s : State (Contents Permission) (List ReleaseView)) : Type
   pub head : (h : Head) → s.head ≡ Some h → IsReadBack head_json head_in (λ x y. x ≡ y) h
   pub rights : AreBack text_name text_named (permissions_json permission_text)
       (permissions_in same_permission permission_in) s.authority.rights
-  pub releases : AreBack version_name version_named release_json release_in (named_releases s.matter)
+  pub releases : AreBack version_name version_named release_json release_in (named_releases s.own_state)
   pub keys : AreBack text_name text_named key_json key_in s.authority.keys

@@ -43,6 +43,6 @@ pub record TellsHistory (s : State (Contents Permission) (List ReleaseView)) (es
   -- none
   pub algorithm : (view_of s).whole.authority.algorithm ≡ algorithm_of (history es)
   -- `releases`; `release` and `find_latest_release` choose among these
-  pub releases : (view_of s).whole.matter ≡ releases_of (history es)
+  pub releases : (view_of s).whole.own_state ≡ releases_of (history es)
   -- `head`: the id, the time and the version of the last record, if there is one
   pub head : (view_of s).head ≡ option_map (head_of record_id_of) (last_or None (records_of es))

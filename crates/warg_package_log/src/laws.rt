@@ -36,12 +36,12 @@ use warg_records::package::PACKAGE_RECORD_VERSION;
 /// The releases of an accepted log are the front of those of each accepted log that goes on from
 /// it: none is lost, moved or changed, but that one that stood may have been yanked.
 pub fn extension()
-    ensures { (b : SignatureRelation) (es fs : List EnvelopeData) → IsAccepted kind b (es ++ fs) → IsExtension (kind.view_of es).whole.matter (kind.view_of (es ++ fs)).whole.matter }
+    ensures { (b : SignatureRelation) (es fs : List EnvelopeData) → IsAccepted kind b (es ++ fs) → IsExtension (kind.view_of es).whole.own_state (kind.view_of (es ++ fs)).whole.own_state }
 {}
 
 /// No two releases of an accepted log have the same version.
 pub fn distinct_versions()
-    ensures { (b : SignatureRelation) (es : List EnvelopeData) → IsAccepted kind b es → AreDistinct (versions (kind.view_of es).whole.matter) }
+    ensures { (b : SignatureRelation) (es : List EnvelopeData) → IsAccepted kind b es → AreDistinct (versions (kind.view_of es).whole.own_state) }
 {}
 
 /// Errors are equal exactly if they tell the same offence, and only out of memory tells none.

@@ -173,7 +173,7 @@ fn members_of(alloc: Global, log: &Log<NamespaceMap>) -> Result<Map<String, Valu
     put_head(&mut members, alloc, log.head())?;
     put_map(&mut members, alloc, "permissions", log.permissions())?;
     put_keys(&mut members, alloc, log.keys())?;
-    put_map(&mut members, alloc, "namespaces", log.matter().as_map())?;
+    put_map(&mut members, alloc, "namespaces", log.own_state().as_map())?;
     Ok(members)
 }
 
@@ -186,7 +186,7 @@ fn log_text(alloc: Global, log: &Log<NamespaceMap>) -> Result<String, JsonError>
     put_head_text(&mut members, log.head())?;
     members.put_map("permissions", log.permissions())?;
     members.put_keys(log.keys())?;
-    members.put_map("namespaces", log.matter().as_map())?;
+    members.put_map("namespaces", log.own_state().as_map())?;
     members.text()
 }
 

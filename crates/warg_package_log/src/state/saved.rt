@@ -173,7 +173,7 @@ fn members_of(alloc: Global, log: &Log<ReleaseMap>) -> Result<Map<String, Value>
     put_algorithm(&mut members, alloc, log.algorithm())?;
     put_head(&mut members, alloc, log.head())?;
     put_map(&mut members, alloc, "permissions", log.permissions())?;
-    put_map(&mut members, alloc, "releases", log.matter().as_map())?;
+    put_map(&mut members, alloc, "releases", log.own_state().as_map())?;
     put_keys(&mut members, alloc, log.keys())?;
     Ok(members)
 }
@@ -186,7 +186,7 @@ fn log_text(alloc: Global, log: &Log<ReleaseMap>) -> Result<String, JsonError>
     members.put_optional("algorithm", log.algorithm())?;
     put_head_text(&mut members, log.head())?;
     members.put_map("permissions", log.permissions())?;
-    members.put_map("releases", log.matter().as_map())?;
+    members.put_map("releases", log.own_state().as_map())?;
     members.put_keys(log.keys())?;
     members.text()
 }

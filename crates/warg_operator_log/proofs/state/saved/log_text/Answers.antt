@@ -64,7 +64,7 @@ returns-in_err-put_map-2 c =
     let p = err_from_is_err_and c.from_residual-in_err-put_map-2.result c.from_residual-in_err-put_map-2.ensures.1 in
     rw (p.1, p.2) (gives_fault _ _ _ (c.in_err-put_map-2.ensures e.members e.are) (λ h.
     namespaces_fault s a.members b.members d.members e.members algorithm head rights keys _
-    (ap (λ es. put_pairs text_name saved_namespace_json (codes "namespaces") es e.members) (sym (c.as_map.ensures.named ∙ c.matter.ensures)) ∙ h)))
+    (ap (λ es. put_pairs text_name saved_namespace_json (codes "namespaces") es e.members) (sym (c.as_map.ensures.named ∙ c.own_state.ensures)) ∙ h)))
 
 pub returns : goal.returns
 returns c =
@@ -82,8 +82,8 @@ returns c =
     ap (λ es. put_pairs text_name (permissions_json permission_text) (codes "permissions") es b.members) (sym c.permissions.ensures.plain) ∙ d.is in
     let keys : put_pairs text_name key_json (codes "keys") s.authority.keys d.members ≡ Ok e.members =
     ap (λ es. put_pairs text_name key_json (codes "keys") es d.members) (sym c.keys.ensures) ∙ e.is in
-    let namespaces : put_pairs text_name saved_namespace_json (codes "namespaces") s.matter e.members ≡ Ok f.members =
-    ap (λ es. put_pairs text_name saved_namespace_json (codes "namespaces") es e.members) (sym (c.as_map.ensures.named ∙ c.matter.ensures)) ∙ f.is in
+    let namespaces : put_pairs text_name saved_namespace_json (codes "namespaces") s.own_state e.members ≡ Ok f.members =
+    ap (λ es. put_pairs text_name saved_namespace_json (codes "namespaces") es e.members) (sym (c.as_map.ensures.named ∙ c.own_state.ensures)) ∙ f.is in
     gives_text c.text.result _ _ f.members c.text.ensures.ok c.text.ensures.err
     (whole s a.members b.members d.members e.members algorithm head rights keys f.members namespaces)
     f.are

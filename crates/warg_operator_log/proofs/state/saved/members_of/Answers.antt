@@ -15,11 +15,11 @@ use Rattle.warg_operator_log.proofs.state.saved.members_of.Goals as goal
 pub returns-clause-savable : goal.returns-clause-savable
 returns-clause-savable c = record {
   coherent = c.head.ensures.coherent;
-  kebabs = subst HasKebabNames c.matter.ensures c.as_map.ensures.kebabs;
+  kebabs = subst HasKebabNames c.own_state.ensures c.as_map.ensures.kebabs;
   head = λ h at. c.in_ok-put_head.ensures.back h (c.head.ensures.value ∙ at);
   rights = subst (λ (es : List (List ℕ × List Permission)). AreBack text_name text_named (permissions_json permission_text) (permissions_in same_permission permission_in) es)
       c.permissions.ensures.plain (c.in_ok-put_map.ensures.back (no_versions _));
   keys = subst (λ (es : List (List ℕ × NamedBytes)). AreBack text_name text_named key_json key_in es) c.keys.ensures c.in_ok-put_keys.ensures.back;
-  namespaces = subst (λ (es : List (List ℕ × Namespace)). AreBack text_name text_named saved_namespace_json saved_namespace_in es) (c.as_map.ensures.named ∙ c.matter.ensures)
+  namespaces = subst (λ (es : List (List ℕ × Namespace)). AreBack text_name text_named saved_namespace_json saved_namespace_in es) (c.as_map.ensures.named ∙ c.own_state.ensures)
       (c.in_ok-put_map-2.ensures.back (no_versions _));
 }

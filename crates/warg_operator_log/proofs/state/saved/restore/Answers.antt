@@ -16,12 +16,12 @@ restore-namespaces-requires c = named_namespaces (parts_view c.args.parts) c.req
 pub restore-requires : goal.restore-requires
 restore-requires c =
     let s = state_of (parts_view c.args.parts) in
-    subst (λ (es : List (List ℕ × List Permission)). IsCoherent rules same_permission (view_of (record { authority = record s.authority { rights = es }; matter = c.restore-namespaces.result; head = s.head })))
+    subst (λ (es : List (List ℕ × List Permission)). IsCoherent rules same_permission (view_of (record { authority = record s.authority { rights = es }; own_state = c.restore-namespaces.result; head = s.head })))
     (same_pairs c.args.parts.rights.entries)
-    (subst (λ (ns : List (List ℕ × Namespace)). IsCoherent rules same_permission (view_of (record s { matter = ns })))
+    (subst (λ (ns : List (List ℕ × Namespace)). IsCoherent rules same_permission (view_of (record s { own_state = ns })))
     (sym c.restore-namespaces.ensures) (coherent_state (parts_view c.args.parts) c.requires))
 
 pub returns : goal.returns
 returns c =
     let s = state_of (parts_view c.args.parts) in
-    c.restore.ensures ∙ (λ i. record { authority = record s.authority { rights = sym (same_pairs c.args.parts.rights.entries) i }; matter = c.restore-namespaces.ensures i; head = s.head })
+    c.restore.ensures ∙ (λ i. record { authority = record s.authority { rights = sym (same_pairs c.args.parts.rights.entries) i }; own_state = c.restore-namespaces.ensures i; head = s.head })

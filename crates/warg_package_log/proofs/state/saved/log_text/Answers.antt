@@ -42,7 +42,7 @@ returns-in_err-put_map-2 c =
     ap (λ o. put_option head_json (codes "head") o a.members) (sym c.head.ensures.value) ∙ b.is in
     let rights : put_pairs text_name (permissions_json permission_text) (codes "permissions") s.authority.rights b.members ≡ Ok d.members =
     ap (λ es. put_pairs text_name (permissions_json permission_text) (codes "permissions") es b.members) (sym c.permissions.ensures.plain) ∙ d.is in
-    let as_saved = c.as_map.ensures ∙ ap named_releases c.matter.ensures in
+    let as_saved = c.as_map.ensures ∙ ap named_releases c.own_state.ensures in
     let p = err_from_is_err_and c.from_residual-in_err-put_map-2.result c.from_residual-in_err-put_map-2.ensures.1 in
     rw (p.1, p.2) (gives_fault _ _ _ (c.in_err-put_map-2.ensures d.members d.are) (λ h.
     releases_fault s a.members b.members d.members d.members algorithm head rights _
@@ -61,8 +61,8 @@ returns-in_err-put_keys c =
     ap (λ o. put_option head_json (codes "head") o a.members) (sym c.head.ensures.value) ∙ b.is in
     let rights : put_pairs text_name (permissions_json permission_text) (codes "permissions") s.authority.rights b.members ≡ Ok d.members =
     ap (λ es. put_pairs text_name (permissions_json permission_text) (codes "permissions") es b.members) (sym c.permissions.ensures.plain) ∙ d.is in
-    let as_saved = c.as_map.ensures ∙ ap named_releases c.matter.ensures in
-    let releases : put_pairs version_name release_json (codes "releases") (named_releases s.matter) d.members ≡ Ok e.members =
+    let as_saved = c.as_map.ensures ∙ ap named_releases c.own_state.ensures in
+    let releases : put_pairs version_name release_json (codes "releases") (named_releases s.own_state) d.members ≡ Ok e.members =
     ap (λ es. put_pairs version_name release_json (codes "releases") es d.members) (sym as_saved) ∙ e.is in
     let p = err_from_is_err_and c.from_residual-in_err-put_keys.result c.from_residual-in_err-put_keys.ensures.1 in
     rw (p.1, p.2) (gives_fault _ _ _ (c.in_err-put_keys.ensures e.members e.are) (λ h.
@@ -83,8 +83,8 @@ returns c =
     ap (λ o. put_option head_json (codes "head") o a.members) (sym c.head.ensures.value) ∙ b.is in
     let rights : put_pairs text_name (permissions_json permission_text) (codes "permissions") s.authority.rights b.members ≡ Ok d.members =
     ap (λ es. put_pairs text_name (permissions_json permission_text) (codes "permissions") es b.members) (sym c.permissions.ensures.plain) ∙ d.is in
-    let as_saved = c.as_map.ensures ∙ ap named_releases c.matter.ensures in
-    let releases : put_pairs version_name release_json (codes "releases") (named_releases s.matter) d.members ≡ Ok e.members =
+    let as_saved = c.as_map.ensures ∙ ap named_releases c.own_state.ensures in
+    let releases : put_pairs version_name release_json (codes "releases") (named_releases s.own_state) d.members ≡ Ok e.members =
     ap (λ es. put_pairs version_name release_json (codes "releases") es d.members) (sym as_saved) ∙ e.is in
     let keys : put_pairs text_name key_json (codes "keys") s.authority.keys e.members ≡ Ok f.members =
     ap (λ es. put_pairs text_name key_json (codes "keys") es e.members) (sym c.keys.ensures) ∙ f.is in

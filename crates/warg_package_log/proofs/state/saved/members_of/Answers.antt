@@ -16,7 +16,7 @@ use Rattle.warg_package_log.proofs.state.saved.members_of.Goals as goal
 
 pub returns-clause-savable : goal.returns-clause-savable
 returns-clause-savable c = λ back.
-    let as_saved = c.as_map.ensures ∙ ap named_releases c.matter.ensures in
+    let as_saved = c.as_map.ensures ∙ ap named_releases c.own_state.ensures in
     record {
       coherent = c.head.ensures.coherent;
       head = λ h at. c.in_ok-put_head.ensures.back h (c.head.ensures.value ∙ at);
@@ -24,6 +24,6 @@ returns-clause-savable c = λ back.
           c.permissions.ensures.plain (c.in_ok-put_map.ensures.back (no_versions _));
       releases = subst (λ (es : List (Version × ReleaseView)). AreBack version_name version_named release_json release_in es) as_saved
           (c.in_ok-put_map-2.ensures.back (subst (λ (es : List (Version × ReleaseView)). AreVersionsBack (λ v. v ∷ []) (λ r. r.version ∷ []) es)
-          (sym as_saved) (versions_back c.args.log.now.matter back)));
+          (sym as_saved) (versions_back c.args.log.now.own_state back)));
       keys = subst (λ (es : List (List ℕ × NamedBytes)). AreBack text_name text_named key_json key_in es) c.keys.ensures c.in_ok-put_keys.ensures.back;
     }
