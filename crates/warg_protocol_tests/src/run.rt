@@ -1,6 +1,7 @@
 //! Whole logs, read as strings.
 use crate::fault::cause;
 use crate::play::{Player, is_refused, log_of, makes, state_of};
+use crate::saved::read_back;
 use crate::script::{Scripted, envelope_of, string_of};
 use std::alloc::Global;
 use std::fmt::Debug;
@@ -191,6 +192,7 @@ where
     Ok(())
 }
 
+// The script's last string goes on from `before`, as it is and saved and read.
 fn resume_script<L: Scripted>(
     rt: &impl Abort,
     alloc: Global,
@@ -201,7 +203,8 @@ where
     L::Error: Debug + PartialEq,
 {
     let after = log_of::<L>(rt, alloc, script)?;
-    resume(rt, alloc, before, &after)
+    resume(rt, alloc, before, &after)?;
+    resume(rt, alloc, &read_back(rt, alloc, before)?, &after)
 }
 
 #[test]

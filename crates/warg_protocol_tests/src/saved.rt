@@ -61,11 +61,15 @@ pub fn are_refused_begun<L: Scripted>(
     Ok(())
 }
 
-/// The state is saved, and what is read of it is equal.
-pub fn comes_back<L: Scripted>(rt: &impl Abort, alloc: Global, state: &L) -> Result<(), Fail> {
+/// The state is saved, and this is read of it.
+pub fn read_back<L: Scripted>(rt: &impl Abort, alloc: Global, state: &L) -> Result<L, Fail> {
     let json = text_of(rt, alloc, state)?;
-    let again = load::<L>(rt, alloc, json.as_str())?;
-    assert!(rt; again == *state, "{json}");
+    Ok(load::<L>(rt, alloc, json.as_str())?)
+}
+
+/// What is read of the saved state is equal.
+pub fn comes_back<L: Scripted>(rt: &impl Abort, alloc: Global, state: &L) -> Result<(), Fail> {
+    assert!(rt; read_back(rt, alloc, state)? == *state);
     Ok(())
 }
 
@@ -77,11 +81,10 @@ fn goes_on<L: Scripted>(
     count: usize,
     log: &Player<L>,
 ) -> Result<(), Fail> {
-    let json = text_of(rt, alloc, before)?;
-    let again = load::<L>(rt, alloc, json.as_str())?;
     let Some((_, rest)) = log.strings.as_slice().split_at_checked(count) else {
         return Err(Fail::new("a short log"));
     };
+    let again = read_back(rt, alloc, before)?;
     assert!(rt; makes(alloc, &again, rest, &log.state)?);
     Ok(())
 }
