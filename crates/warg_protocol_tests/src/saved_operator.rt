@@ -38,6 +38,10 @@ const HOSTILE: &[(&str, JsonError)] = &[
         JsonError::Incoherent(Incoherence::StateWithoutInit),
     ),
     (
+        "{\"keys\":{\"sha256:6f03ae61d0fd3df261d400afe99bdcd613f266104552b6ad5281c7666633c6e2\":\"toy:YWxpY2U=\"}}",
+        JsonError::Incoherent(Incoherence::StateWithoutInit),
+    ),
+    (
         "{\"algorithm\":\"sha256\"}",
         JsonError::Incoherent(Incoherence::AlgorithmWithoutHead),
     ),

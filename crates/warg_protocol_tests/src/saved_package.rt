@@ -64,6 +64,10 @@ const HOSTILE: &[(&str, JsonError)] = &[
         "{\"keys\":{\"x\":\"toy:\"}}",
         JsonError::Incoherent(Incoherence::StateWithoutInit),
     ),
+    (
+        "{\"keys\":{\"sha256:6f03ae61d0fd3df261d400afe99bdcd613f266104552b6ad5281c7666633c6e2\":\"toy:YWxpY2U=\"}}",
+        JsonError::Incoherent(Incoherence::StateWithoutInit),
+    ),
 ];
 
 const HOSTILE_BEGUN: &[(&str, JsonError)] = &[
@@ -128,34 +132,51 @@ fn heads_are_read_before_they_fit(rt: HostRuntime) -> Result<(), Fail> {
     Ok(())
 }
 
-// The fault of a state whose head has this version.
-fn fault_of_version(
+// A state whose head, which stands before the algorithm, has this version.
+fn with_version(alloc: Global, version: &str) -> Result<String, Fail> {
+    let head = with_head(alloc, ",\"timestamp\":\"1.0\",\"version\":")?;
+    let open = head.as_str().strip_suffix("}}").unwrap_or("");
+    Ok(format!(in alloc; "{open}{version}}},\"algorithm\":\"sha256\"}}")?)
+}
+
+// The state is written so, and comes back.
+fn is_written(rt: &impl Abort, alloc: Global, state: &LogState, want: &str) -> Result<(), Fail> {
+    assert_eq!(rt; text_of(rt, alloc, state)?.as_str(), want);
+    comes_back(rt, alloc, state)
+}
+
+// The state whose head has this version is written so.
+fn is_version_written(
     rt: &impl Abort,
     alloc: Global,
     version: &str,
-) -> Result<Option<JsonError>, Fail> {
-    let head = with_head(alloc, ",\"timestamp\":\"1.0\",\"version\":")?;
-    let open = head.as_str().strip_suffix("}}").unwrap_or("");
-    let json = format!(in alloc; "{open}{version}}},\"algorithm\":\"sha256\"}}")?;
-    Ok(load::<LogState>(rt, alloc, json.as_str()).err())
+    want: &str,
+) -> Result<(), Fail> {
+    let json = with_version(alloc, version)?;
+    let state = load::<LogState>(rt, alloc, json.as_str())?;
+    is_written(rt, alloc, &state, want)
 }
+
+const NO_VERSIONS: &[(&str, JsonError)] = &[
+    ("2", JsonError::Incoherent(Incoherence::UnsupportedVersion)),
+    ("\"1\"", JsonError::WrongType),
+    ("null", JsonError::WrongType),
+];
+
+// The text of a state whose head has version 1.
+const NEWEST: &str =
+    "{\"algorithm\":\"sha256\",\"head\":{\"digest\":\"sha256:e3b0c44298fc1c149afbf4c8996fb92427ae41e4649b934ca495991b7852b855\",\"timestamp\":\"1.0\",\"version\":1}}";
 
 #[test]
 fn versions_of_heads(rt: HostRuntime) -> Result<(), Fail> {
     let alloc = rt.alloc();
-    assert_eq!(&rt; fault_of_version(&rt, alloc, "0")?, None);
-    assert_eq!(&rt; fault_of_version(&rt, alloc, "1")?, None);
-    let unsupported = JsonError::Incoherent(Incoherence::UnsupportedVersion);
-    assert_eq!(&rt; fault_of_version(&rt, alloc, "2")?, Some(unsupported));
-    assert_eq!(&rt;
-        fault_of_version(&rt, alloc, "\"1\"")?,
-        Some(JsonError::WrongType)
-    );
-    assert_eq!(&rt;
-        fault_of_version(&rt, alloc, "null")?,
-        Some(JsonError::WrongType)
-    );
-    Ok(())
+    for (version, want) in NO_VERSIONS {
+        let json = with_version(alloc, version)?;
+        let fault = load::<LogState>(&rt, alloc, json.as_str()).err();
+        assert_eq!(&rt; fault, Some(*want), "{version}");
+    }
+    is_version_written(&rt, alloc, "0", begun(alloc, "")?.as_str())?;
+    is_version_written(&rt, alloc, "1", NEWEST)
 }
 
 // A release under one version that has another.
@@ -243,8 +264,7 @@ fn is_first(rt: &impl Abort, alloc: Global, state: &LogState) -> Result<(), Fail
     };
     let digest = format!(in alloc; "{}", head.digest)?;
     let want = first(alloc, digest.as_str())?;
-    assert_eq!(rt; text_of(rt, alloc, state)?.as_str(), want.as_str());
-    comes_back(rt, alloc, state)
+    is_written(rt, alloc, state, want.as_str())
 }
 
 #[test]
