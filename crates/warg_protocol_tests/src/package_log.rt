@@ -68,38 +68,6 @@ fn a_release_stands_until_it_is_yanked(rt: HostRuntime) -> Result<(), Fail> {
 }
 
 #[test]
-fn the_latest_release_is_the_greatest(rt: HostRuntime) -> Result<(), Fail> {
-    for script in [
-        "
-        alice 1.0: init alice
-        alice 2.0: release 1.0.0, release 1.2.0, release 1.1.0
-        ? latest * = 1.2.0
-        ? latest <1.2 = 1.1.0
-        ? latest =1.0.0 = 1.0.0
-        ? latest ^2 = none
-        ? releases = only 1.0.0 1.2.0 1.1.0
-        alice 3.0: yank 1.2.0
-        ? latest * = 1.1.0
-        ? releases = only 1.0.0 1.2.0 1.1.0
-        ",
-        "
-        alice 1.0: init alice, release 1.0.0+b, release 1.0.0+a
-        ? latest * = 1.0.0+b
-        ? releases = only 1.0.0+b 1.0.0+a
-        ",
-        "
-        alice 1.0: init alice, release 1.0.0, release 1.0.0+a, release 1.0.0-rc.1
-        ? latest * = 1.0.0+a
-        ? release 1.0.0 = by alice at 1.0
-        ? release 1.0.0+b = none
-        ",
-    ] {
-        play::<LogState>(&rt, rt.alloc(), script)?;
-    }
-    Ok(())
-}
-
-#[test]
 fn permissions_are_given_and_taken(rt: HostRuntime) -> Result<(), Fail> {
     for script in [
         // A stranger may grant an own key nothing.

@@ -1,11 +1,43 @@
-//! The releases of a log as an iterator.
+//! The releases of a log: the latest that meets a requirement, and all as an iterator.
 ghost use Rattle.std.specs.Iterator.{IsFinite};
 
-use crate::play::state_of;
+use crate::play::{play, state_of};
 use std::alloc::Global;
 use std::process::Abort;
 use std::test::Fail;
 use warg_protocol::package::{LogState, Release};
+
+#[test]
+fn the_latest_release_is_the_greatest(rt: HostRuntime) -> Result<(), Fail> {
+    for script in [
+        "
+        alice 1.0: init alice
+        alice 2.0: release 1.0.0, release 1.2.0, release 1.1.0
+        ? latest * = 1.2.0
+        ? latest <1.2 = 1.1.0
+        ? latest =1.0.0 = 1.0.0
+        ? latest ^2 = none
+        ? releases = only 1.0.0 1.2.0 1.1.0
+        alice 3.0: yank 1.2.0
+        ? latest * = 1.1.0
+        ? releases = only 1.0.0 1.2.0 1.1.0
+        ",
+        "
+        alice 1.0: init alice, release 1.0.0+b, release 1.0.0+a
+        ? latest * = 1.0.0+b
+        ? releases = only 1.0.0+b 1.0.0+a
+        ",
+        "
+        alice 1.0: init alice, release 1.0.0, release 1.0.0+a, release 1.0.0-rc.1
+        ? latest * = 1.0.0+a
+        ? release 1.0.0 = by alice at 1.0
+        ? release 1.0.0+b = none
+        ",
+    ] {
+        play::<LogState>(&rt, rt.alloc(), script)?;
+    }
+    Ok(())
+}
 
 const LOG: &str = "
     alice 1.0: init alice, release 1.0.0, release 1.1.0
