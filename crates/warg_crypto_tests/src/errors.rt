@@ -110,51 +110,28 @@ fn of_json(rt: HostRuntime) {
     is_shown(&rt, alloc, &JsonError::OutOfMemory, "OutOfMemory");
 }
 
+const INCOHERENT: &[(Incoherence, &str)] = &[
+    (Incoherence::AlgorithmWithoutHead, "AlgorithmWithoutHead"),
+    (Incoherence::HeadWithoutAlgorithm, "HeadWithoutAlgorithm"),
+    (Incoherence::StateWithoutInit, "StateWithoutInit"),
+    (
+        Incoherence::ReleaseUnderOtherVersion,
+        "ReleaseUnderOtherVersion",
+    ),
+    (
+        Incoherence::KeyUnderOtherFingerprint,
+        "KeyUnderOtherFingerprint",
+    ),
+    (Incoherence::InvalidNamespace, "InvalidNamespace"),
+    (Incoherence::PermissionsWithoutKey, "PermissionsWithoutKey"),
+    (Incoherence::UnsupportedVersion, "UnsupportedVersion"),
+];
+
 #[test]
 fn of_incoherent_states(rt: HostRuntime) {
-    let alloc = rt.alloc();
-    is_shown(
-        &rt,
-        alloc,
-        &Incoherence::AlgorithmWithoutHead,
-        "AlgorithmWithoutHead",
-    );
-    is_shown(
-        &rt,
-        alloc,
-        &Incoherence::HeadWithoutAlgorithm,
-        "HeadWithoutAlgorithm",
-    );
-    is_shown(
-        &rt,
-        alloc,
-        &Incoherence::StateWithoutInit,
-        "StateWithoutInit",
-    );
-    is_shown(
-        &rt,
-        alloc,
-        &Incoherence::ReleaseUnderOtherVersion,
-        "ReleaseUnderOtherVersion",
-    );
-    is_shown(
-        &rt,
-        alloc,
-        &Incoherence::KeyUnderOtherFingerprint,
-        "KeyUnderOtherFingerprint",
-    );
-    is_shown(
-        &rt,
-        alloc,
-        &Incoherence::InvalidNamespace,
-        "InvalidNamespace",
-    );
-    is_shown(
-        &rt,
-        alloc,
-        &Incoherence::PermissionsWithoutKey,
-        "PermissionsWithoutKey",
-    );
+    for (fault, text) in INCOHERENT {
+        is_shown(&rt, rt.alloc(), fault, *text);
+    }
 }
 
 // Out of memory stays that.

@@ -5,7 +5,7 @@ use std::alloc::Global;
 use std::fmt::Display;
 use std::process::Abort;
 use std::test::Fail;
-use warg_protocol::{operator, package};
+use warg_protocol::{Incoherence, JsonError, JsonTextError, operator, package};
 
 fn text_of<L: Scripted>(alloc: Global, words: &str) -> Result<String, Fail>
 where
@@ -79,4 +79,25 @@ fn a_refusal_of_an_operator_says_why(rt: HostRuntime) -> Result<(), Fail> {
     ";
     say::<operator::LogState>(&rt, rt.alloc(), SHARED)?;
     say::<operator::LogState>(&rt, rt.alloc(), lines)
+}
+
+// Why a text gives no value, and what that says: of a value's fault what the fault itself says.
+const OF_JSON: &[(JsonTextError, &str)] = &[
+    (JsonTextError::NotJson, "NotJson"),
+    (JsonTextError::Value(JsonError::WrongType), "WrongType"),
+    (JsonTextError::Value(JsonError::Missing), "Missing"),
+    (JsonTextError::Value(JsonError::BadText), "BadText"),
+    (
+        JsonTextError::Value(JsonError::Incoherent(Incoherence::StateWithoutInit)),
+        "Incoherent",
+    ),
+];
+
+#[test]
+fn a_text_of_no_state_says_why(rt: HostRuntime) -> Result<(), Fail> {
+    for (fault, text) in OF_JSON {
+        let told = shown(rt.alloc(), fault)?;
+        assert_eq!(&rt; told.as_str(), *text);
+    }
+    Ok(())
 }
