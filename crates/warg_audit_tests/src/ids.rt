@@ -68,6 +68,13 @@ fn wants_one_line(rt: HostRuntime) -> Result<(), Fail> {
         ["id", "package"].as_slice(),
         rows.as_slice(),
         2,
+    )?;
+    answer_rows(
+        &rt,
+        rt.alloc(),
+        ["id", "operator"].as_slice(),
+        rows.as_slice(),
+        2,
     )
 }
 

@@ -21,7 +21,7 @@ fn package_line(index: usize) -> &'static str {
 
 /// The line of an envelope: a, b and c are the package log's three, i and d the operator log's two, which begin it and
 /// define a namespace; v and e are a package log's of version 1, an Init and an empty grant, and w and f an operator
-/// log's; g is no envelope, x no hex, and any other envelope is an empty line.
+/// log's; g is no envelope, x no hex, y an odd number of digits, and any other envelope is an empty line.
 pub(crate) fn line(envelope: u8) -> &'static str {
     match envelope {
         b'a' => package_line(0),
@@ -32,6 +32,7 @@ pub(crate) fn line(envelope: u8) -> &'static str {
         b'v' | b'e' | b'w' | b'f' => newest_line(envelope),
         b'g' => "0b",
         b'x' => "0g",
+        b'y' => "0a0",
         _ => "",
     }
 }

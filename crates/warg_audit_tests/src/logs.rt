@@ -140,6 +140,9 @@ fn reads_all_lines_first(rt: HostRuntime) -> Result<(), Fail> {
         abx = bad line 2
         gx = bad line 1
         xx = bad line 0
+        y = bad line 0
+        ayc = bad line 1
+        gy = bad line 1
     ";
     tell_logs(&rt, rt.alloc(), "package", lines, 2)?;
     tell_logs(&rt, rt.alloc(), "operator", lines, 2)
