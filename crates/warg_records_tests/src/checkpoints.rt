@@ -1,7 +1,7 @@
 //! Checkpoints.
 
 use crate::samples::{alice, empty_hash};
-use crate::values::{is, is_encoded, is_shown};
+use crate::values::{is, is_prefix_encoded, is_shown};
 use std::alloc::Global;
 use std::process::Abort;
 use warg_crypto::hash::HashAlgorithm;
@@ -30,7 +30,7 @@ fn encoding(rt: HostRuntime) {
     let want =
         b"WARG-CHECKPOINT-V0\xac\x02Gsha256:e3b0c44298fc1c149afbf4c8996fb92427ae41e4649b934ca495991b7852b855Gsha256:e3b0c44298fc1c149afbf4c8996fb92427ae41e4649b934ca495991b7852b855";
     is(&rt, want.len(), 164);
-    is_encoded(&rt, rt.alloc(), &checkpoint(300), want.as_slice());
+    is_prefix_encoded(&rt, rt.alloc(), &checkpoint(300), want.as_slice());
 }
 
 // The root of the log stands before the root of the map.
@@ -40,7 +40,7 @@ fn order_of_roots(rt: HostRuntime) {
     checkpoint.map_root = HashAlgorithm::Sha256.digest(b"\x00\x01\x02\x03");
     let want =
         b"WARG-CHECKPOINT-V0\x00Gsha256:e3b0c44298fc1c149afbf4c8996fb92427ae41e4649b934ca495991b7852b855Gsha256:054edec1d0211f624fed0cbca9d4f9400b0e491c43742af2c5b0abebf0c990d8";
-    is_encoded(&rt, rt.alloc(), &checkpoint, want.as_slice());
+    is_prefix_encoded(&rt, rt.alloc(), &checkpoint, want.as_slice());
 }
 
 #[test]
@@ -48,7 +48,7 @@ fn timestamped_encoding(rt: HostRuntime) {
     let want =
         b"WARG-TIMESTAMPED-CHECKPOINT-V0\x00Gsha256:e3b0c44298fc1c149afbf4c8996fb92427ae41e4649b934ca495991b7852b855Gsha256:e3b0c44298fc1c149afbf4c8996fb92427ae41e4649b934ca495991b7852b855\x01";
     is(&rt, want.len(), 176);
-    is_encoded(&rt, rt.alloc(), &timestamped(1), want.as_slice());
+    is_prefix_encoded(&rt, rt.alloc(), &timestamped(1), want.as_slice());
     let bytes = encoding_of(&rt, rt.alloc(), 1);
     is(&rt, bytes.as_slice(), want.as_slice());
 }

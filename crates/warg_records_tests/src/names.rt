@@ -1,6 +1,6 @@
 //! The names of packages.
 
-use crate::values::{is, is_encoded, is_made, is_shown, string};
+use crate::values::{is, is_made, is_prefix_encoded, is_shown, string};
 use std::alloc::Global;
 use std::process::Abort;
 use warg_records::registry::{PackageName, PackageNameError};
@@ -83,5 +83,5 @@ fn encoding(rt: HostRuntime) {
     let name = named(&rt, rt.alloc(), "foo:bar");
     let want = b"WARG-PACKAGE-ID-V0\x07foo:bar";
     is(&rt, want.len(), 26);
-    is_encoded(&rt, rt.alloc(), &name, want.as_slice());
+    is_prefix_encoded(&rt, rt.alloc(), &name, want.as_slice());
 }

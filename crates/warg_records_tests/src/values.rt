@@ -5,6 +5,7 @@ ghost use Rattle.std.specs.Prelude.{◌≡◌};
 use std::alloc::{AllocError, Global};
 use std::fmt::{Debug, Display};
 use std::process::Abort;
+use warg_crypto::prefix::VisitPrefixEncode;
 use warg_crypto::{ByteVisitor, VisitBytes};
 
 pub(crate) fn string(rt: &impl Abort, alloc: Global, text: &str) -> String {
@@ -92,4 +93,17 @@ pub(crate) fn is_encoded<T: VisitBytes>(rt: &impl Abort, alloc: Global, value: &
     for pieces in 0..20 {
         assert!(rt; is_begun(alloc, value, want, pieces), "{pieces}");
     }
+}
+
+// The bytes are what either visit shows of the value.
+pub(crate) fn is_prefix_encoded<T: VisitBytes + VisitPrefixEncode>(
+    rt: &impl Abort,
+    alloc: Global,
+    value: &T,
+    want: &[u8],
+) {
+    is_encoded(rt, alloc, value, want);
+    let mut bytes = Vec::new(alloc);
+    value.visit_bv(&mut bytes).expect(rt, "memory");
+    is(rt, bytes.as_slice(), want);
 }
