@@ -1,5 +1,5 @@
-//! Laws over all logs of a kind. They have no effect.
-ghost use Rattle.std.specs.Prelude.{◌≡◌, ◌↔◌, ◌⊎◌, ◌<◌, ◌+◌, ◌++◌, ℕ, List, [], length, take, Some, slice_index_or, true, false};
+//! Laws over all logs of a kind, and when the public types of plain data are equal. They have no effect.
+ghost use Rattle.std.specs.Prelude.{◌≡◌, ◌↔◌, ◌⊎◌, ◌<◌, ◌+◌, ◌++◌, ℕ, List, [], length, take, Some, slice_index_or, IsTrue, true, false};
 ghost use Rattle.warg_records.specs.EnvelopeData.{EnvelopeData};
 ghost use Rattle.warg_validator.specs.Effects.{holds};
 ghost use Rattle.warg_validator.specs.Kinds.{SignatureRelation, IsAccepted};
@@ -8,6 +8,8 @@ ghost use Rattle.warg_audited_log.specs.Extinction.{StaysExtinct};
 ghost use Rattle.warg_audited_log.specs.Heads.{HaveCollision};
 ghost use Rattle.warg_audited_log.specs.Log.{contents};
 
+use crate::heads::HeadComparison;
+use crate::link::Link;
 use warg_validator::Validator;
 
 /// Accepted logs with equal heads have equal content bytes, record for record, or two of their records
@@ -47,3 +49,17 @@ pub fn last_entry_decides<L: Validator>()
     ensures records { (es : List EnvelopeData) (k : List ℕ) (p : L.Permission) →
         held_by false (entries_of L.effects es) k p ≡ holds L.effects es k p }
 {}
+
+/// Comparisons of heads are equal exactly where they are one.
+pub fn are_same_comparisons(a: HeadComparison, b: HeadComparison) -> bool
+    ensures { IsTrue result ↔ (a ≡ b) }
+{
+    a == b
+}
+
+/// Places of entries are equal exactly where they are one.
+pub fn are_same_links(a: Link, b: Link) -> bool
+    ensures { IsTrue result ↔ (a ≡ b) }
+{
+    a == b
+}
