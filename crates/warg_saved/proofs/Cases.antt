@@ -1,6 +1,6 @@
 -- What follows where parts of a saved state fit together.
-use Rattle.std.proofs.Common.{◌≡◌, inl, inr, ◌≤◌, ℕ, List, [], ◌∷◌, Bool, true, false, not, Option, Some, None, refl, subst, is_some}
-use Rattle.std.specs.Prelude.{nat_le, Result, Err}
+use Rattle.std.proofs.Common.{◌≡◌, ◌≤◌, ℕ, List, [], ◌∷◌, Bool, true, false, not, Option, Some, None, refl, subst, is_some}
+use Rattle.std.specs.Prelude.{nat_le, Result}
 use Rattle.std.specs.Option.{option_map, option_or}
 use Rattle.std.proofs.lemmas.Bool.{leb-true}
 use Rattle.warg_crypto.specs.declared.hash.HashAlgorithm.{HashAlgorithm}
@@ -32,12 +32,6 @@ nil (x ∷ xs) h = cc h
 pub refuses_later : (A : Type 0) (c d : Option Incoherence) (r : Result A JsonError) → c ≡ None → RefusesCase d r → RefusesCase (option_or c d) r
 refuses_later A None d r h rest = rest
 refuses_later A (Some i) d r h rest = cc h
-
--- a check that refused is the first
-pub refuses_first : (A B : Type 0) (c d : Option Incoherence) (e : JsonError) → RefusesCase {A = A} c (Err e) → RefusesCase {A = B} (option_or c d) (Err e)
-refuses_first A B c d e (inl h) = inl h
-refuses_first A B None d e (inr h) = cc h.1
-refuses_first A B (Some i) d e (inr h) = inr h
 
 module _ {H : Type 0} (version : H → ℕ) where
   pub begun_both : (a : Option HashAlgorithm) (h : Option H) → begun_case a (option_map version h) ≡ None → is_some a ≡ is_some h

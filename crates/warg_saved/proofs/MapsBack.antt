@@ -3,11 +3,11 @@ use Rattle.std.specs.Prelude.{ℕ, ◌≡◌, List, [], ◌∷◌, Bool, true, f
 use Rattle.std.specs.List.{AllByRecursion, IsDistinct}
 use Rattle.std.specs.Map.{keys_of}
 use Rattle.std.specs.Str.{bytes_eq}
-use Rattle.std.proofs.Common.{sym, ap, ◌∙◌, subst, true≢false}
+use Rattle.std.proofs.Common.{sym, ap, ◌∙◌, true≢false}
 use Rattle.std.proofs.lemmas.Slice.Eq.{bytes_eq-Decides}
 use Rattle.serde_json.specs.Data.{Data}
 use Rattle.warg_crypto.specs.declared.json.error.JsonError.{JsonError}
-use Rattle.warg_crypto.specs.Json.{AreReadBack, IsReadBack, ReadsBack, Version}
+use Rattle.warg_crypto.specs.Json.{AreReadBack, IsReadBack, Version}
 use Rattle.warg_crypto.specs.Pairs.{plain_pairs}
 use Rattle.warg_crypto.specs.PairsLaws.{value_at}
 use Rattle.warg_crypto.specs.Steps.{ok_same}
@@ -16,12 +16,6 @@ use Rattle.warg_saved.specs.Backs.{AreBack, AreVersionsBack, IsBack}
 pub on_ok_then : {A : Type 0} {P Q : Type 0} (r : Result A JsonError) → (P → Q) → OnOk r P → OnOk r Q
 on_ok_then (Ok x) f p = f p
 on_ok_then (Err e) f p = tt
-
--- what was written reads as the value, so whatever is written of it does
-pub back_of_one : {A : Type 0} (writes : A → Result Data JsonError) (reads : Data → Result A JsonError) (x : A) (d : Data)
-    → writes x ≡ Ok d → ReadsBack reads (λ x y. x ≡ y) x d → IsReadBack writes reads (λ x y. x ≡ y) x
-back_of_one writes reads x d written back e is =
-    subst (λ (d : Data). ReadsBack reads (λ x y. x ≡ y) x d) (ok_same d e (sym written ∙ is)) back
 
 -- where names and values ask nothing of versions
 pub no_versions : {K A : Type 0} (es : List (K × A)) → AreVersionsBack (λ _. []) (λ _. []) es

@@ -1,5 +1,5 @@
 -- The texts of members, as they are put and joined.
-use Rattle.std.proofs.Common.{◌≡◌, ℕ, List, [], ◌∷◌, ◌++◌, String, Global, Ordering, Less, Equal, Greater, string_bytes, string_cmp, nat_cmp, Bool, true, Bor, refl, sym, ap, subst, ◌∙◌, append_assoc}
+use Rattle.std.proofs.Common.{◌≡◌, ℕ, List, [], ◌∷◌, ◌++◌, String, Global, Ordering, Less, Equal, Greater, string_bytes, string_cmp, nat_cmp, Bool, true, Bor, refl, sym, ap, subst, ◌∙◌}
 use Rattle.std.specs.Prelude.{Result, Ok}
 use Rattle.std.specs.Cmp.Lexicographic.{slice_cmp}
 use Rattle.std.specs.BTreeMap.{insert_entry}
@@ -86,10 +86,3 @@ module _ {V A : Type 0} (plain : V → A) (writes : A → Result Data JsonError)
   first_of e es no_members are = absurd are
   first_of e es (member name d more) are =
       record { value = d; others = more; are = ap (λ n. member n d more) (sym are.0); own = are.1; rest = are.2 }
-
--- a member written after a text, and what follows
-pub one_after : (text comma name value rest : List ℕ)
-    → ((((text ++ comma) ++ name) ++ 58 ∷ []) ++ value) ++ rest ≡ text ++ (comma ++ (name ++ 58 ∷ (value ++ rest)))
-one_after text comma name value rest =
-    append_assoc (((text ++ comma) ++ name) ++ 58 ∷ []) value rest ∙ append_assoc ((text ++ comma) ++ name) (58 ∷ []) (value ++ rest)
-    ∙ append_assoc (text ++ comma) name (58 ∷ (value ++ rest)) ∙ append_assoc text comma (name ++ 58 ∷ (value ++ rest))

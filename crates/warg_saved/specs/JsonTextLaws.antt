@@ -23,14 +23,6 @@ module _ {A : Type 0} (reads : Data → Result A JsonError) where
           dropped (Ok x) = Some x
           dropped (Err f) = None
 
-  -- of a text that is no JSON, nothing
-  pub of_no_value : (text : List ℕ) (f : JsonTextError) → in_text wrote text ≡ Err f → in_text reads text ≡ Err f
-  of_no_value text f e = by (read text) e
-    where
-      by : (o : Option Data) → of_json_in wrote o ≡ Err f → of_json_in reads o ≡ Err f
-      by None h = cc
-      by (Some c) h = absurd cc
-
   -- where the text's JSON is read, so is the text
   pub of_json_text : (text : List ℕ) (d : Data) (x : A) → read text ≡ Some d → reads d ≡ Ok x → in_text reads text ≡ Ok x
   of_json_text text d x is read_so = ap (of_json_in reads) is ∙ ap or_fault read_so
@@ -49,18 +41,6 @@ module _ {A : Type 0} (reads : Data → Result A JsonError) where
 
         by : (o : Option Data) → of_json_in reads o ≡ Ok x → of_json_in (λ d. reads d >>= f) o ≡ or_fault (f x)
         by None h = absurd cc
-        by (Some d) h = by_read (reads d) h
-
-    -- what was not read has nothing come of it
-    pub or_else : (text : List ℕ) (g : JsonTextError) → in_text reads text ≡ Err g → in_text (λ d. reads d >>= f) text ≡ Err g
-    or_else text g e = by (read text) e
-      where
-        by_read : (r : Result A JsonError) → or_fault r ≡ Err g → or_fault (r >>= f) ≡ Err g
-        by_read (Ok y) h = absurd cc
-        by_read (Err h') h = cc
-
-        by : (o : Option Data) → of_json_in reads o ≡ Err g → of_json_in (λ d. reads d >>= f) o ≡ Err g
-        by None h = cc
         by (Some d) h = by_read (reads d) h
 
     -- a fault of what comes of it
