@@ -91,6 +91,7 @@ const OF_JSON: &[(JsonTextError, &str)] = &[
         JsonTextError::Value(JsonError::Incoherent(Incoherence::StateWithoutInit)),
         "Incoherent",
     ),
+    (JsonTextError::OutOfMemory, "OutOfMemory"),
 ];
 
 #[test]
