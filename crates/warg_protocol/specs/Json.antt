@@ -2,3 +2,6 @@
 pub use Rattle.warg_crypto.specs.Json.{Gives, ReadsBack, IsReadBack, Version, AreReadBack}
 pub use Rattle.warg_crypto.specs.declared.json.error.JsonError.{JsonError}
 pub use Rattle.warg_saved.specs.Texts.{text_of}
+-- what `from_json` answers: what is read of the text's JSON, and which error of a text a fault of its value is
+pub use Rattle.warg_saved.specs.JsonText.{GivesOfText, in_text, text_fault}
+pub use Rattle.warg_saved.specs.declared.error.JsonTextError.{JsonTextError}

@@ -15,7 +15,7 @@ pub use Rattle.warg_records.specs.KebabNames.{IsKebabName}
 pub use Rattle.warg_operator_log.specs.Namespaces.{Namespace, Defined, Imported}
 pub use Rattle.warg_operator_log.specs.NamespaceMap.{namespace_view}
 -- what the history of a log says
-pub use Rattle.warg_operator_log.specs.StateHistory.{TellsHistory, records_of, history}
+pub use Rattle.warg_operator_log.specs.StateHistory.{TellsHistory, records_of, history, namespaces_of}
 -- what a state is written as in JSON, what JSON is read as, and that what was written reads back equal
 pub use Rattle.warg_operator_log.specs.SavedState.{state_json, state_in}
 pub use Rattle.warg_operator_log.specs.SavedBack.{AreEqual}

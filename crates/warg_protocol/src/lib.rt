@@ -1,8 +1,9 @@
 //! The protocol of a package registry: records of operator and package logs in signed envelopes, the
 //! states that they add up to, the reading of whole logs, and logs that are kept and compared.
 //!
-//! A program that lists this crate alone reaches all that it needs: this crate re-exports what the crates
-//! below prove, their laws in `laws`, and in `specs/` what a clause of one's own may cite.
+//! A program that lists this crate reaches most of what it needs: this crate re-exports what the crates below
+//! prove, their laws in `laws`, and in `specs/` what a clause of one's own may cite. Who calls `from_proto` or `to_proto`
+//! names `warg_protobuf` too, and who calls `to_value` or `from_value` names `serde_json`.
 #![tactic(auto)]
 
 pub mod laws;
