@@ -5,7 +5,7 @@ use Rattle.warg_audit.specs.declared.command.LogType.{LogType}
 use Rattle.warg_audit.specs.declared.command.Command.{Command}
 use Rattle.warg_audit.specs.Commands.{command_of}
 use Rattle.warg_audit.specs.Lines.{lines_of, string_of, is_line_feed, onto}
-use Rattle.warg_audit.specs.Answers.{IsEnvelopeAnswer, IsIdAnswer, no_line, bad_digits, second_line, one_line, IsCommandAnswer, other_words, over_limit, of_lines}
+use Rattle.warg_audit.specs.Answers.{IsEnvelopeAnswer, IsIdAnswer, bad_digits, second_line, one_line, IsCommandAnswer, other_words, over_limit, of_lines}
 use Rattle.warg_audit.specs.Printed.{Printed, usage, too_long, bad_line}
 use Rattle.warg_audit.specs.Replies.{IsReply, answer, unread, starved, IsAnswered}
 use Rattle.warg_audit.proofs.LineLemmas.{lines_of-are}
@@ -31,9 +31,6 @@ more_lines (b ∷ rest) h = first_of_step (is_line_feed b) b (lines_of rest)
 -- ---- the answer to an input, by its first line and what stands behind it
 
 module _ (log_type : LogType) (text line more : List ℕ) (printed : Printed) where
-  pub empty_text : length text ≡ 0 → printed ≡ bad_line 0 → IsIdAnswer log_type (lines_of text) printed
-  empty_text e is = no_line (no_more text e) is
-
   pub bad_first : lines_of text ≡ line ∷ lines_of more → IsErr (string_of line) → printed ≡ bad_line 0 → IsIdAnswer log_type (lines_of text) printed
   bad_first cut bad is = bad_digits line (lines_of more) cut bad is
 

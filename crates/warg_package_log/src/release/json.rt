@@ -13,7 +13,7 @@ ghost use Rattle.warg_package_log.specs.declared.release.ReleaseState.TheVariant
 use crate::release::{Release, ReleaseState};
 use semver::Version;
 use serde_json::{Map, Value};
-use std::alloc::{AllocError, Global};
+use std::alloc::Global;
 use warg_crypto::hash::AnyHash;
 use warg_crypto::json::members::{
     member_in, object_value, put_member, put_value, string_value, text_in, text_value,
@@ -21,6 +21,7 @@ use warg_crypto::json::members::{
 use warg_crypto::signing::KeyID;
 use warg_crypto::{JsonError, JsonValue, Timestamp};
 use warg_records::registry::RecordId;
+use warg_saved::SavedName;
 
 /// The text of the version.
 fn version_value(alloc: Global, version: &Version) -> Result<Value, JsonError>
@@ -35,15 +36,7 @@ fn version_value(alloc: Global, version: &Version) -> Result<Value, JsonError>
 fn version_in(alloc: Global, value: &Value) -> Result<Version, JsonError>
     ensures { Gives parts_of result (version_in (view value.now)) }
 {
-    let text = text_in(value)?;
-    match Version::parse(alloc, text) {
-        Ok(version) => Ok(version),
-        Err(error) => Err(if error == semver::Error::from(AllocError) {
-            JsonError::OutOfMemory
-        } else {
-            JsonError::BadText
-        }),
-    }
+    Version::from_name(alloc, text_in(value)?)
 }
 
 /// The status as the first member of a state.
