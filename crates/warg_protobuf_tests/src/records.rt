@@ -4,63 +4,23 @@ use crate::message::{goes_both_ways, has_fault, reads_as, reads_as_other};
 use crate::values::{record_at, text};
 use warg_protobuf::{OperatorRecord, PackageRecord, TimestampPair, WireError};
 
+fn time(seconds: i64, nanos: i32) -> TimestampPair {
+    TimestampPair { seconds, nanos }
+}
+
 #[test]
 fn times(rt: HostRuntime) {
     let alloc = rt.alloc();
-    goes_both_ways(
-        &rt,
-        alloc,
-        "",
-        &TimestampPair {
-            seconds: 0,
-            nanos: 0,
-        },
-    );
-    goes_both_ways(
-        &rt,
-        alloc,
-        "08011005",
-        &TimestampPair {
-            seconds: 1,
-            nanos: 5,
-        },
-    );
-    goes_both_ways(
-        &rt,
-        alloc,
-        "08ffffffffffffffffff0110ff93ebdc03",
-        &TimestampPair {
-            seconds: -1,
-            nanos: 999_999_999,
-        },
-    );
-    goes_both_ways(
-        &rt,
-        alloc,
-        "10ffffffffffffffffff01",
-        &TimestampPair {
-            seconds: 0,
-            nanos: -1,
-        },
-    );
-    reads_as(
-        &rt,
-        alloc,
-        "10ffffffff0f",
-        &TimestampPair {
-            seconds: 0,
-            nanos: -1,
-        },
-    );
-    reads_as(
-        &rt,
-        alloc,
-        "0805100508011000",
-        &TimestampPair {
-            seconds: 1,
-            nanos: 0,
-        },
-    );
+    for (digits, seconds, nanos) in [
+        ("", 0, 0),
+        ("08011005", 1, 5),
+        ("08ffffffffffffffffff0110ff93ebdc03", -1, 999_999_999),
+        ("10ffffffffffffffffff01", 0, -1),
+    ] {
+        goes_both_ways(&rt, alloc, digits, &time(seconds, nanos));
+    }
+    reads_as(&rt, alloc, "10ffffffff0f", &time(0, -1));
+    reads_as(&rt, alloc, "0805100508011000", &time(1, 0));
 }
 
 #[test]

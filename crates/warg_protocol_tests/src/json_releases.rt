@@ -140,50 +140,52 @@ fn states_of_releases(rt: HostRuntime) {
     assert_eq!(rt; fault, Some(JsonError::TimeBeforeEpoch));
 }
 
+// JSON that is no state of a release, and its first fault.
+const NO_STATES: &[(&str, JsonError)] = &[
+    ("\"released\"", JsonError::WrongType),
+    ("{\"content\":7}", JsonError::Missing),
+    ("{\"status\":null}", JsonError::WrongType),
+    ("{\"status\":[\"released\"]}", JsonError::WrongType),
+    (
+        "{\"status\":\"Released\",\"content\":7}",
+        JsonError::BadText,
+    ),
+    ("{\"status\":\"\"}", JsonError::BadText),
+    ("{\"status\":\"released\",\"by\":\"k\"}", JsonError::Missing),
+    (
+        "{\"status\":\"released\",\"content\":null}",
+        JsonError::WrongType,
+    ),
+    (
+        "{\"status\":\"released\",\"content\":\"sha256:00\"}",
+        JsonError::BadText,
+    ),
+    (
+        "{\"status\":\"yanked\",\"timestamp\":7}",
+        JsonError::Missing,
+    ),
+    (
+        "{\"status\":\"yanked\",\"by\":null,\"timestamp\":7}",
+        JsonError::WrongType,
+    ),
+    (
+        "{\"status\":\"yanked\",\"by\":\"\",\"timestamp\":1.5}",
+        JsonError::WrongType,
+    ),
+    (
+        "{\"status\":\"yanked\",\"by\":\"\",\"timestamp\":\"\"}",
+        JsonError::BadText,
+    ),
+    (
+        "{\"status\":\"yanked\",\"status\":\"x\",\"by\":\"\"}",
+        JsonError::BadText,
+    ),
+];
+
 #[test]
 fn refused_states_of_releases(rt: HostRuntime) {
-    let alloc = rt.alloc();
-    for (json, want) in [
-        ("\"released\"", JsonError::WrongType),
-        ("{\"content\":7}", JsonError::Missing),
-        ("{\"status\":null}", JsonError::WrongType),
-        ("{\"status\":[\"released\"]}", JsonError::WrongType),
-        (
-            "{\"status\":\"Released\",\"content\":7}",
-            JsonError::BadText,
-        ),
-        ("{\"status\":\"\"}", JsonError::BadText),
-        ("{\"status\":\"released\",\"by\":\"k\"}", JsonError::Missing),
-        (
-            "{\"status\":\"released\",\"content\":null}",
-            JsonError::WrongType,
-        ),
-        (
-            "{\"status\":\"released\",\"content\":\"sha256:00\"}",
-            JsonError::BadText,
-        ),
-        (
-            "{\"status\":\"yanked\",\"timestamp\":7}",
-            JsonError::Missing,
-        ),
-        (
-            "{\"status\":\"yanked\",\"by\":null,\"timestamp\":7}",
-            JsonError::WrongType,
-        ),
-        (
-            "{\"status\":\"yanked\",\"by\":\"\",\"timestamp\":1.5}",
-            JsonError::WrongType,
-        ),
-        (
-            "{\"status\":\"yanked\",\"by\":\"\",\"timestamp\":\"\"}",
-            JsonError::BadText,
-        ),
-        (
-            "{\"status\":\"yanked\",\"status\":\"x\",\"by\":\"\"}",
-            JsonError::BadText,
-        ),
-    ] {
-        is_refused::<ReleaseState>(&rt, alloc, json, want);
+    for (json, want) in NO_STATES {
+        is_refused::<ReleaseState>(&rt, rt.alloc(), json, *want);
     }
 }
 

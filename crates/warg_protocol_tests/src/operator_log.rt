@@ -56,49 +56,51 @@ fn namespaces_are_defined_and_imported(rt: HostRuntime) -> Result<(), Fail> {
     play::<LogState>(&rt, rt.alloc(), NAMESPACES)
 }
 
+const PERMISSIONS: &[&str] = &[
+    // An init asks nothing of its signer, who then holds all.
+    "
+    carol 1.0: init alice, grant carol commit
+    ? signs carol = true
+    ? signs alice = false
+    ? key alice = toy:YWxpY2U=
+    ? key carol = toy:Y2Fyb2w=
+    ? effect 0 carol commit = gives
+    ? effect 0 alice commit = nothing
+    carol 1.0: define a, import b c
+    alice 1.0: define d
+    ! UnauthorizedAction alice defineNamespace
+    alice 1.0:
+    ",
+    // Who may commit may sign checkpoints, and hands on no more than that.
+    "
+    alice 1.0: init alice
+    alice 1.0: grant bob commit
+    ? signs bob = true
+    bob 1.0: grant carol defineNamespace
+    ! UnauthorizedAction bob defineNamespace
+    bob 1.0: grant carol commit importNamespace
+    ! UnauthorizedAction bob importNamespace
+    ? signs carol = false
+    bob 1.0: grant carol commit, revoke bob commit
+    ? signs carol = true
+    ? signs bob = false
+    ? effect 0 carol commit = gives
+    ? effect 1 bob commit = takes
+    ? effect 1 bob defineNamespace = nothing
+    bob 1.0: grant carol
+    ! UnauthorizedAction bob commit
+    bob 1.0: revoke carol
+    ! UnauthorizedAction bob commit
+    alice 1.0: grant bob defineNamespace
+    bob 1.0: define a
+    bob 1.0: import b c
+    ! UnauthorizedAction bob importNamespace
+    ",
+];
+
 #[test]
 fn permissions_are_given_and_taken(rt: HostRuntime) -> Result<(), Fail> {
-    for script in [
-        // An init asks nothing of its signer, who then holds all.
-        "
-        carol 1.0: init alice, grant carol commit
-        ? signs carol = true
-        ? signs alice = false
-        ? key alice = toy:YWxpY2U=
-        ? key carol = toy:Y2Fyb2w=
-        ? effect 0 carol commit = gives
-        ? effect 0 alice commit = nothing
-        carol 1.0: define a, import b c
-        alice 1.0: define d
-        ! UnauthorizedAction alice defineNamespace
-        alice 1.0:
-        ",
-        // Who may commit may sign checkpoints, and hands on no more than that.
-        "
-        alice 1.0: init alice
-        alice 1.0: grant bob commit
-        ? signs bob = true
-        bob 1.0: grant carol defineNamespace
-        ! UnauthorizedAction bob defineNamespace
-        bob 1.0: grant carol commit importNamespace
-        ! UnauthorizedAction bob importNamespace
-        ? signs carol = false
-        bob 1.0: grant carol commit, revoke bob commit
-        ? signs carol = true
-        ? signs bob = false
-        ? effect 0 carol commit = gives
-        ? effect 1 bob commit = takes
-        ? effect 1 bob defineNamespace = nothing
-        bob 1.0: grant carol
-        ! UnauthorizedAction bob commit
-        bob 1.0: revoke carol
-        ! UnauthorizedAction bob commit
-        alice 1.0: grant bob defineNamespace
-        bob 1.0: define a
-        bob 1.0: import b c
-        ! UnauthorizedAction bob importNamespace
-        ",
-    ] {
+    for script in PERMISSIONS {
         play::<LogState>(&rt, rt.alloc(), script)?;
     }
     Ok(())

@@ -67,50 +67,52 @@ fn a_release_stands_until_it_is_yanked(rt: HostRuntime) -> Result<(), Fail> {
     play::<LogState>(&rt, rt.alloc(), YANKED)
 }
 
+const PERMISSIONS: &[&str] = &[
+    // A stranger may grant an own key nothing.
+    "
+    alice 1.0: init alice
+    mallory 1.0: grant mallory
+    ? key mallory = toy:bWFsbG9yeQ==
+    ? permissions mallory = only
+    mallory 1.0:
+    mallory 1.0: release 1.0.0
+    ! UnauthorizedAction mallory release
+    ",
+    // Nobody hands on what was taken from them.
+    "
+    alice 1.0: init alice
+    alice 1.0: revoke alice yank
+    ? permissions alice = only release
+    alice 1.0: grant bob yank
+    ! UnauthorizedAction alice yank
+    alice 1.0: revoke alice yank
+    ! UnauthorizedAction alice yank
+    alice 1.0: grant bob release, revoke alice release
+    ? permissions alice = only
+    ? permissions bob = only release
+    alice 1.0:
+    bob 1.0: grant alice release
+    ? permissions alice = only release
+    ",
+    // What comes again comes last, and what stood last takes the place of what goes.
+    "
+    alice 1.0: init alice
+    alice 1.0: grant bob yank release yank
+    ? permissions bob = only yank release
+    alice 1.0: revoke bob yank
+    ? permissions bob = only release
+    alice 1.0: grant bob release yank
+    ? permissions bob = only release yank
+    alice 1.0: revoke bob
+    ? permissions bob = only release yank
+    alice 1.0: revoke carol
+    ? permissions carol = none
+    ",
+];
+
 #[test]
 fn permissions_are_given_and_taken(rt: HostRuntime) -> Result<(), Fail> {
-    for script in [
-        // A stranger may grant an own key nothing.
-        "
-        alice 1.0: init alice
-        mallory 1.0: grant mallory
-        ? key mallory = toy:bWFsbG9yeQ==
-        ? permissions mallory = only
-        mallory 1.0:
-        mallory 1.0: release 1.0.0
-        ! UnauthorizedAction mallory release
-        ",
-        // Nobody hands on what was taken from them.
-        "
-        alice 1.0: init alice
-        alice 1.0: revoke alice yank
-        ? permissions alice = only release
-        alice 1.0: grant bob yank
-        ! UnauthorizedAction alice yank
-        alice 1.0: revoke alice yank
-        ! UnauthorizedAction alice yank
-        alice 1.0: grant bob release, revoke alice release
-        ? permissions alice = only
-        ? permissions bob = only release
-        alice 1.0:
-        bob 1.0: grant alice release
-        ? permissions alice = only release
-        ",
-        // What comes again comes last, and what stood last takes the place of what goes.
-        "
-        alice 1.0: init alice
-        alice 1.0: grant bob yank release yank
-        ? permissions bob = only yank release
-        alice 1.0: revoke bob yank
-        ? permissions bob = only release
-        alice 1.0: grant bob release yank
-        ? permissions bob = only release yank
-        alice 1.0: revoke bob
-        ? permissions bob = only release yank
-        alice 1.0: revoke carol
-        ? permissions carol = none
-        ",
-    ] {
+    for script in PERMISSIONS {
         play::<LogState>(&rt, rt.alloc(), script)?;
     }
     Ok(())
@@ -150,54 +152,55 @@ fn first_records_are_refused(rt: HostRuntime) -> Result<(), Fail> {
     play::<LogState>(&rt, rt.alloc(), script)
 }
 
+const LATER_RECORDS: &str = "
+    alice 2.0: init alice
+    alice 2.0: init alice
+    ! InitialEntryAfterBeginning
+    alice 2.0: grant bob release, revoke not-valid release
+    ! PermissionNotFoundToRevoke not-valid release
+    ? key bob = none
+    ? permissions bob = none
+    alice 2.0: grant bob release, revoke bob release release
+    ! PermissionNotFoundToRevoke bob release
+    alice 2.0: grant bob release
+    alice 2.0: revoke bob release release
+    ! PermissionNotFoundToRevoke bob release
+    alice 2.0: revoke bob release yank
+    ! PermissionNotFoundToRevoke bob yank
+    ? permissions bob = only release
+    bob 2.0: grant carol release yank
+    ! UnauthorizedAction bob yank
+    bob 2.0: revoke carol yank
+    ! UnauthorizedAction bob yank
+    bob 2.0: yank 1.0.0
+    ! UnauthorizedAction bob yank
+    carol 2.0: release 1.0.0
+    ! UnauthorizedAction carol release
+    carol 2.0:
+    ! KeyIDNotRecognized carol
+    alice 2.0 v7:
+    ! ProtocolVersionNotAllowed 7
+    alice 2.0 v7 mislinked:
+    ! RecordHashDoesNotMatch
+    alice 2.0 mislinked:
+    ! RecordHashDoesNotMatch
+    alice 2.0 unlinked:
+    ! NoPreviousHashAfterInit
+    alice 1.0 v7:
+    ! ProtocolVersionNotAllowed 7
+    alice 1.999999999: yank 1.0.0
+    ! TimestampLowerThanPrevious
+    alice 2.0:
+    ? head time = 2.0
+    alice 5.0:
+    ? head time = 5.0
+    alice 4.999999999:
+    ! TimestampLowerThanPrevious
+";
+
 #[test]
 fn later_records_are_refused(rt: HostRuntime) -> Result<(), Fail> {
-    let script = "
-        alice 2.0: init alice
-        alice 2.0: init alice
-        ! InitialEntryAfterBeginning
-        alice 2.0: grant bob release, revoke not-valid release
-        ! PermissionNotFoundToRevoke not-valid release
-        ? key bob = none
-        ? permissions bob = none
-        alice 2.0: grant bob release, revoke bob release release
-        ! PermissionNotFoundToRevoke bob release
-        alice 2.0: grant bob release
-        alice 2.0: revoke bob release release
-        ! PermissionNotFoundToRevoke bob release
-        alice 2.0: revoke bob release yank
-        ! PermissionNotFoundToRevoke bob yank
-        ? permissions bob = only release
-        bob 2.0: grant carol release yank
-        ! UnauthorizedAction bob yank
-        bob 2.0: revoke carol yank
-        ! UnauthorizedAction bob yank
-        bob 2.0: yank 1.0.0
-        ! UnauthorizedAction bob yank
-        carol 2.0: release 1.0.0
-        ! UnauthorizedAction carol release
-        carol 2.0:
-        ! KeyIDNotRecognized carol
-        alice 2.0 v7:
-        ! ProtocolVersionNotAllowed 7
-        alice 2.0 v7 mislinked:
-        ! RecordHashDoesNotMatch
-        alice 2.0 mislinked:
-        ! RecordHashDoesNotMatch
-        alice 2.0 unlinked:
-        ! NoPreviousHashAfterInit
-        alice 1.0 v7:
-        ! ProtocolVersionNotAllowed 7
-        alice 1.999999999: yank 1.0.0
-        ! TimestampLowerThanPrevious
-        alice 2.0:
-        ? head time = 2.0
-        alice 5.0:
-        ? head time = 5.0
-        alice 4.999999999:
-        ! TimestampLowerThanPrevious
-    ";
-    play::<LogState>(&rt, rt.alloc(), script)
+    play::<LogState>(&rt, rt.alloc(), LATER_RECORDS)
 }
 
 #[test]

@@ -61,55 +61,58 @@ fn no_strings_are_an_empty_log(rt: HostRuntime) -> Result<(), Fail> {
     Ok(())
 }
 
+// Strings, the place of the first that is refused, and the cause.
+const REFUSED: &[(&str, usize, &str)] = &[
+    ("0a021a001a04746f793a\n0b", 0, "InitialRecordDoesNotInit"),
+    (
+        "0b\n0a021a001a04746f793a",
+        0,
+        "Parse ProtobufEnvelope.Group",
+    ),
+    ("0a010b", 0, "Parse Contents.Wire.Group"),
+    ("0a00", 0, "Parse Contents.MissingTime"),
+    ("0a021a00", 0, "Parse Signature.MissingColon"),
+    (
+        "alice 1.0: release 1.0.0
+        bob 2.0:
+        alice 3.0:",
+        0,
+        "UnauthorizedAction alice release",
+    ),
+    (
+        "alice 1.0: init alice
+        bob 2.0:
+        alice 1.0:",
+        1,
+        "KeyIDNotRecognized bob",
+    ),
+    (
+        "alice 1.0: init alice
+        0b
+        alice 0.0:",
+        1,
+        "Parse ProtobufEnvelope.Group",
+    ),
+    (
+        "alice 1.0: init alice
+        alice 2.0: release 1.0.0
+        alice 1.999999999: yank 1.0.0",
+        2,
+        "TimestampLowerThanPrevious",
+    ),
+    (
+        "alice 1.0: init alice
+        alice 2.0: release 1.0.0
+        0a021a00",
+        2,
+        "Parse Signature.MissingColon",
+    ),
+];
+
 #[test]
 fn the_first_offence_is_told(rt: HostRuntime) -> Result<(), Fail> {
-    for (script, index, cause) in [
-        ("0a021a001a04746f793a\n0b", 0, "InitialRecordDoesNotInit"),
-        (
-            "0b\n0a021a001a04746f793a",
-            0,
-            "Parse ProtobufEnvelope.Group",
-        ),
-        ("0a010b", 0, "Parse Contents.Wire.Group"),
-        ("0a00", 0, "Parse Contents.MissingTime"),
-        ("0a021a00", 0, "Parse Signature.MissingColon"),
-        (
-            "alice 1.0: release 1.0.0
-            bob 2.0:
-            alice 3.0:",
-            0,
-            "UnauthorizedAction alice release",
-        ),
-        (
-            "alice 1.0: init alice
-            bob 2.0:
-            alice 1.0:",
-            1,
-            "KeyIDNotRecognized bob",
-        ),
-        (
-            "alice 1.0: init alice
-            0b
-            alice 0.0:",
-            1,
-            "Parse ProtobufEnvelope.Group",
-        ),
-        (
-            "alice 1.0: init alice
-            alice 2.0: release 1.0.0
-            alice 1.999999999: yank 1.0.0",
-            2,
-            "TimestampLowerThanPrevious",
-        ),
-        (
-            "alice 1.0: init alice
-            alice 2.0: release 1.0.0
-            0a021a00",
-            2,
-            "Parse Signature.MissingColon",
-        ),
-    ] {
-        refuse::<package::LogState>(&rt, rt.alloc(), script, index, cause)?;
+    for (script, index, cause) in REFUSED {
+        refuse::<package::LogState>(&rt, rt.alloc(), script, *index, cause)?;
     }
     Ok(())
 }
