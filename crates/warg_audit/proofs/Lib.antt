@@ -1,5 +1,5 @@
 pub mod AnswerLaws
-pub mod DigitLemmas
+pub mod LineFeeds
 pub mod IdAnswers
 pub mod InputLemmas
 pub mod JudgeLemmas

@@ -47,10 +47,10 @@ module _ {P : Type 0} where
   empty version k [] = tested (version == 0) _ refl
   empty version k (p ∷ ps) = tt
 
-  entry : (by_own_key : Bool) (version : ℕ) (same : P → P → Bool) (s : AccessView P) (signer : List ℕ) (a : SharedEntry P) → MayBe (shared_entry_offence by_own_key version same s signer a)
-  entry by_own_key version same s signer (Init algorithm key) = either _ _ (tested (is_none s.algorithm) _ refl) (tested (not by_own_key || bytes_eq signer (fingerprint_of key)) _ refl)
-  entry by_own_key version same s signer (GrantFlat key ps) = either _ _ (begun s) (either _ _ (empty version (fingerprint_of key) ps) (listed s signer ps))
-  entry by_own_key version same s signer (RevokeFlat id ps) =
+  shared_entry : (by_own_key : Bool) (version : ℕ) (same : P → P → Bool) (s : AccessView P) (signer : List ℕ) (a : SharedEntry P) → MayBe (shared_entry_offence by_own_key version same s signer a)
+  shared_entry by_own_key version same s signer (Init algorithm key) = either _ _ (tested (is_none s.algorithm) _ refl) (tested (not by_own_key || bytes_eq signer (fingerprint_of key)) _ refl)
+  shared_entry by_own_key version same s signer (GrantFlat key ps) = either _ _ (begun s) (either _ _ (empty version (fingerprint_of key) ps) (listed s signer ps))
+  shared_entry by_own_key version same s signer (RevokeFlat id ps) =
       either _ _ (begun s) (either _ _ (listed s signer ps) (mapped (λ p. PermissionNotFoundToRevoke p id) (λ p. refl) (first_missing same (s.holds id) [] ps)))
 
 -- of the checks that name no permission
@@ -91,7 +91,7 @@ module _ {P O V F : Type 0} (rules : Rules P O V F) (same : P → P → Bool) wh
   own (Some x) = tt
 
   fault : (n : ℕ) (w : StateView P V) (signer : List ℕ) (r : EntryData P O) → Possible (entry_fault rules same n w signer r)
-  fault n w signer (EntryData.Shared a) = shared _ (entry (rules.by_own_key n) n same w.authority signer a)
+  fault n w signer (EntryData.Shared a) = shared _ (shared_entry (rules.by_own_key n) n same w.authority signer a)
   fault n w signer (EntryData.Own o) = first _ _ (shared _ (begun w.authority)) (own (rules.offence w.own_state o))
 
   entry : (n : ℕ) (w : StateView P V) (signer : List ℕ) (r : EntryData P O) → Possible (entry_offence rules same n w signer r)

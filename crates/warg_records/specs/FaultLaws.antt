@@ -1,6 +1,6 @@
 -- Laws of the errors that tell faults.
 use Rattle.std.specs.Prelude.{◌≡◌, ◌⊎◌, Option, Some, None, Result, Ok, Err}
-use Rattle.std.proofs.Common.{ap, cc, inl, inr, refl, subst, sym}
+use Rattle.std.proofs.Common.{ap, inl, inr, refl, subst, sym}
 use Rattle.warg_crypto.specs.Coding.{IsDecoded}
 use Rattle.warg_crypto.specs.declared.coding.DecodeError.{DecodeError}
 use Rattle.warg_crypto.specs.declared.coding.DecodeError.TheVariants as error
@@ -26,17 +26,17 @@ fault_of-memory (error.ContentHash x) h = absurd (subst IsTold h tt)
 fault_of-memory error.OutOfMemory h = refl
 
 -- the error that tells a fault tells it
-error_tells : (f : RecordFault) {X : Type 0} → TellsFault {X} (Err f) (fault_of (error_of f))
-error_tells (RecordFault.Wire w) = refl
-error_tells (RecordFault.Prev h) = refl
-error_tells RecordFault.MissingTime = refl
-error_tells RecordFault.TimeOutOfRange = refl
-error_tells RecordFault.EmptyEntry = refl
-error_tells RecordFault.Algorithm = refl
-error_tells (RecordFault.Key k) = refl
-error_tells (RecordFault.Permission v) = refl
-error_tells RecordFault.Version = refl
-error_tells (RecordFault.ContentHash h) = refl
+error_tells : (X : Type 0) (f : RecordFault) → TellsFault {X = X} (Err f) (fault_of (error_of f))
+error_tells X (RecordFault.Wire w) = refl
+error_tells X (RecordFault.Prev h) = refl
+error_tells X RecordFault.MissingTime = refl
+error_tells X RecordFault.TimeOutOfRange = refl
+error_tells X RecordFault.EmptyEntry = refl
+error_tells X RecordFault.Algorithm = refl
+error_tells X (RecordFault.Key k) = refl
+error_tells X (RecordFault.Permission v) = refl
+error_tells X RecordFault.Version = refl
+error_tells X (RecordFault.ContentHash h) = refl
 
 module _ {X Y : Type 0} (view : X → Y) where
   -- what tells the fault that is said is the error of what is said
@@ -58,11 +58,14 @@ module _ {X Y : Type 0} (view : X → Y) where
   -- and the other way round
   pub decoded_is_read : (said : Result Y RecordFault) (r : Result X DecodeError) → IsDecoded view (decoded said) r
       → IsReading view fault_of said r
-  decoded_is_read (Ok y) (Ok x) h = h
+  decoded_is_read (Ok y) (Ok x) h = ap Ok (value h)
+    where
+      value : decoded (Ok y) ≡ Ok (view x) → y ≡ view x
+      value h = cc
   decoded_is_read (Err f) (Ok x) h = absurd cc
   decoded_is_read said (Err e) (inl none) = subst (λ x. TellsFault said (fault_of x)) (sym none) tt
   decoded_is_read (Ok y) (Err e) (inr h) = absurd cc
-  decoded_is_read (Err f) (Err e) (inr h) = subst (λ x. TellsFault {Y} (Err f) (fault_of x)) (same h) (error_tells f)
+  decoded_is_read (Err f) (Err e) (inr h) = subst (λ x. TellsFault {X = Y} (Err f) (fault_of x)) (same h) (error_tells Y f)
     where
-      same : decoded {Y} (Err f) ≡ Err e → error_of f ≡ e
+      same : decoded {X = Y} (Err f) ≡ Err e → error_of f ≡ e
       same h = cc
