@@ -69,13 +69,6 @@ impl<R: Read> Input<R> {
         self.taken
     }
 
-    /// Whether a read failed or gave no bytes.
-    pub fn has_ended(&self) -> bool
-        ensures { result ≡ self.now.ended }
-    {
-        self.ended
-    }
-
     /// How many reads were made after one that failed or gave no bytes.
     pub fn late_reads(&self) -> u64
         ensures { result ≡ self.now.late }
