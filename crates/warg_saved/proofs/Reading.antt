@@ -1,5 +1,5 @@
 -- A map is read of an object, member by member.
-use Rattle.std.specs.Prelude.{ℕ, ◌≡◌, List, [], ◌∷◌, ◌++◌, map, Bool, true, false, if◌then◌else◌, Result, Ok, refl}
+use Rattle.std.specs.Prelude.{ℕ, ◌≡◌, List, [], ◌∷◌, ◌++◌, map, Bool, true, false, if◌then◌else◌, Result, Ok, Err, refl}
 use Rattle.std.specs.declared.cmp.Ordering.TheVariants.{Less}
 use Rattle.std.specs.Cmp.Lexicographic.{slice_cmp, nat_list_eq_equiv}
 use Rattle.std.specs.List.{AllByRecursion}
@@ -14,7 +14,18 @@ use Rattle.indexmap.specs.IndexMap.{insert_entry}
 use Rattle.serde_json.specs.Data.{Data, Members, member}
 use Rattle.warg_crypto.specs.declared.json.error.JsonError.{JsonError}
 use Rattle.warg_crypto.specs.Pairs.{AreAscending, names_of, pairs_of, plain_pairs}
-use Rattle.warg_crypto.proofs.Lists.{before, before_one}
+use Rattle.warg_crypto.specs.Json.{◌>>=◌, wrote}
+
+-- what was read already, before what is left
+abbrev pub before : {A : Type 0} → List A → Result (List A) JsonError → Result (List A) JsonError
+before done (Ok more) = Ok (done ++ more)
+before done (Err e) = Err e
+
+-- one more that was read
+before_one : {A : Type 0} (done : List A) (x : A) (r : Result (List A) JsonError)
+    → before done (r >>= λ rest. wrote (x ∷ rest)) ≡ before (done ++ x ∷ []) r
+before_one done x (Ok more) = ap wrote (sym (append_assoc done (x ∷ []) more))
+before_one done x (Err e) = refl
 
 at_seam : {X : Type 0} (P : X → Type 0) (xs : List X) (y : X) (ys : List X) → AllByRecursion P (xs ++ y ∷ ys) → P y
 at_seam P [] y ys h = h.0
