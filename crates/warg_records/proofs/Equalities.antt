@@ -14,6 +14,7 @@ use Rattle.warg_crypto.specs.Times.{Time, same_time}
 use Rattle.warg_crypto.specs.declared.hash.AnyHash.{AnyHash}
 use Rattle.warg_crypto.specs.declared.hash.HashAlgorithm.{HashAlgorithm}
 use Rattle.warg_crypto.specs.declared.hash.HashAlgorithm.TheVariants.{Sha256}
+use Rattle.warg_records.specs.declared.log_record.LogRecord.{LogRecord}
 use Rattle.warg_records.specs.RecordData.{EntryData, Shared, Init, GrantFlat, RevokeFlat, RecordData}
 use Rattle.warg_records.specs.declared.registry.record_id.RecordId.{RecordId}
 
@@ -111,3 +112,7 @@ pub record_decided : {E P O : Type 0} (entry_data : E → EntryData P O) (test :
 record_decided entry_data test each p q v w s t es fs =
     Decides-like _ (λ h i. record_from (h.0 i) (h.1.0 i) (h.1.1.0 i) (h.1.1.1 i)) (λ h. (λ i. (h i).prev, (λ i. (h i).version, (λ i. (h i).time, λ i. (h i).entries))))
     (Decides-and _ _ (options_decided same_id id_decided p q) (Decides-and _ _ (Decides-eqb v w) (Decides-and _ _ (time_decided s t) (lists_decided entry_data test each es fs))))
+
+-- whether the records are equal, by the equality of their entries
+abbrev pub same_record : {E : Type 0} → (E → E → Bool) → LogRecord E → LogRecord E → Bool
+same_record test a b = option_eq same_id a.prev b.prev && ((a.version == b.version) && (same_time a.timestamp b.timestamp && pointwise test a.entries.items b.entries.items))

@@ -9,18 +9,14 @@ use Rattle.warg_records.specs.OperatorEntries.{OperatorOwnEntry, DefineNamespace
 use Rattle.warg_records.specs.OperatorPermissions.{same_permission, same_permission-is, same_permission_equiv}
 use Rattle.warg_records.specs.RecordData.{EntryData, Shared, Own, Init, GrantFlat, RevokeFlat}
 use Rattle.warg_records.specs.contracts.operator.model.OperatorEntryPartialEq.TheImpl as entries
-use Rattle.warg_records.specs.contracts.operator.model.OperatorRecordPartialEq.TheImpl as records
 use Rattle.warg_records.specs.declared.operator.permission.Permission.{Permission}
 use Rattle.warg_records.specs.declared.operator.model.OperatorEntry.{OperatorEntry}
 use Rattle.warg_records.specs.declared.operator.model.OperatorEntry.TheVariants as entry
-use Rattle.warg_records.specs.declared.operator.model.OperatorRecord.{OperatorRecord}
-use Rattle.warg_records.proofs.Equalities.{init_decided, grant_decided, revoke_decided, cases_decided, record_decided}
+use Rattle.warg_records.specs.declared.log_record.LogRecord.{LogRecord}
+use Rattle.warg_records.proofs.Equalities.{init_decided, grant_decided, revoke_decided, cases_decided, record_decided, same_record}
 
 abbrev pub same_entry : OperatorEntry → OperatorEntry → Bool
 same_entry = (entries.ghosts).eq
-
-abbrev pub same_record : OperatorRecord → OperatorRecord → Bool
-same_record = (records.ghosts).eq
 
 abbrev case_of : EntryData Permission OperatorOwnEntry → ℕ
 case_of (Shared (Init algorithm key)) = 0
@@ -44,5 +40,5 @@ entry_decided (entry.ImportNamespace n r) (entry.ImportNamespace m s) =
     (Decides-and _ _ (bytes_eq-Decides (string_bytes n) (string_bytes m)) (bytes_eq-Decides (string_bytes r) (string_bytes s)))
 entry_decided a b = cases_decided case_of (same_entry a b) (entry_data a) (entry_data b) refl refl
 
-pub said_decided : (a b : OperatorRecord) → Decides (same_record a b) (record_data a ≡ record_data b)
+pub said_decided : (a b : LogRecord OperatorEntry) → Decides (same_record same_entry a b) (record_data a ≡ record_data b)
 said_decided a b = record_decided entry_data same_entry entry_decided a.prev b.prev a.version b.version a.timestamp b.timestamp a.entries.items b.entries.items

@@ -8,18 +8,14 @@ use Rattle.warg_records.specs.PackageEntries.{PackageOwnEntry, Release, Yank, en
 use Rattle.warg_records.specs.PackagePermissions.{same_permission, same_permission-is, same_permission_equiv}
 use Rattle.warg_records.specs.RecordData.{EntryData, Shared, Own, Init, GrantFlat, RevokeFlat}
 use Rattle.warg_records.specs.contracts.package.model.PackageEntryPartialEq.TheImpl as entries
-use Rattle.warg_records.specs.contracts.package.model.PackageRecordPartialEq.TheImpl as records
 use Rattle.warg_records.specs.declared.package.permission.Permission.{Permission}
 use Rattle.warg_records.specs.declared.package.model.PackageEntry.{PackageEntry}
 use Rattle.warg_records.specs.declared.package.model.PackageEntry.TheVariants as entry
-use Rattle.warg_records.specs.declared.package.model.PackageRecord.{PackageRecord}
-use Rattle.warg_records.proofs.Equalities.{init_decided, grant_decided, revoke_decided, version_decided, hash_decided, cases_decided, record_decided}
+use Rattle.warg_records.specs.declared.log_record.LogRecord.{LogRecord}
+use Rattle.warg_records.proofs.Equalities.{init_decided, grant_decided, revoke_decided, version_decided, hash_decided, cases_decided, record_decided, same_record}
 
 abbrev pub same_entry : PackageEntry → PackageEntry → Bool
 same_entry = (entries.ghosts).eq
-
-abbrev pub same_record : PackageRecord → PackageRecord → Bool
-same_record = (records.ghosts).eq
 
 abbrev case_of : EntryData Permission PackageOwnEntry → ℕ
 case_of (Shared (Init algorithm key)) = 0
@@ -41,5 +37,5 @@ entry_decided (entry.Release v g) (entry.Release w h) =
 entry_decided (entry.Yank v) (entry.Yank w) = Decides-like _ (λ e i. Own (Yank (e i))) (λ (e : entry_data (entry.Yank v) ≡ entry_data (entry.Yank w)). cc) (version_decided v w)
 entry_decided a b = cases_decided case_of (same_entry a b) (entry_data a) (entry_data b) refl refl
 
-pub said_decided : (a b : PackageRecord) → Decides (same_record a b) (record_data a ≡ record_data b)
+pub said_decided : (a b : LogRecord PackageEntry) → Decides (same_record same_entry a b) (record_data a ≡ record_data b)
 said_decided a b = record_decided entry_data same_entry entry_decided a.prev b.prev a.version b.version a.timestamp b.timestamp a.entries.items b.entries.items

@@ -4,7 +4,7 @@ use Rattle.warg_protobuf.specs.OperatorEntry.{OperatorMember, Init, GrantFlat, R
 use Rattle.warg_protobuf.specs.OperatorRecord as message
 use Rattle.warg_records.specs.Faults.{RecordFault, EmptyEntry}
 use Rattle.warg_records.specs.RecordData.{EntryData, Own, RecordData}
-use Rattle.warg_records.specs.Steps.{◌>>=◌, init_of, grant_of, revoke_of, shared, message_of, record_of}
+use Rattle.warg_records.specs.Steps.{◌>>=◌, init_of, grant_of, revoke_of, shared, message_of, record_of, record_said}
 use Rattle.warg_records.specs.OperatorEntries.{OperatorOwnEntry}
 use Rattle.warg_records.specs.OperatorEntries as act
 use Rattle.warg_records.specs.OperatorPermissions.{permission_of}
@@ -21,4 +21,4 @@ operator_entry_of (Some (ImportNamespace m)) = Ok (Own (act.ImportNamespace m.na
 
 -- what content bytes say, or their first fault
 unfoldable pub operator_record_of : List ℕ → Result (RecordData Permission OperatorOwnEntry) RecordFault
-operator_record_of content = message_of (message.operator_record_of content) >>= record_of operator_entry_of
+operator_record_of content = record_said operator_entry_of (message.operator_record_of content)

@@ -10,6 +10,7 @@ ghost use Rattle.warg_protobuf.specs.Values.{message_of as wire_message_of};
 ghost use Rattle.warg_protobuf.specs.Views.{ReturnsOrNoMemory};
 ghost use Rattle.warg_records.specs.Entries.{entries_held, next_entry};
 ghost use Rattle.warg_records.specs.Faults.{RecordFault, fault_of, IsReading};
+ghost use Rattle.warg_records.specs.RecordData.{EntryData};
 ghost use Rattle.warg_records.specs.Steps.{message_of};
 
 use crate::reading::wire_error;
@@ -32,13 +33,16 @@ pub(crate) trait FromMessage: Drop {
     // What they say.
     ghost seen_from: { List Field → Result Seen WireError };
 
-    // The entry as plain data.
-    ghost Plain: { Type 0 };
+    // The permissions of the entry's kind of log, and what the kind's own entries are.
+    ghost Permission: { Type 0 };
 
-    ghost plain: { Self → Plain };
+    ghost Own: { Type 0 };
+
+    // The entry as plain data.
+    ghost plain: { Self → EntryData Permission Own };
 
     // What a message says, or its first fault.
-    ghost read: { Seen → Result Plain RecordFault };
+    ghost read: { Seen → Result (EntryData Permission Own) RecordFault };
 
     fn from_message(alloc: Global, message: Self::Message) -> Result<Self, DecodeError>
         ensures { IsReading plain fault_of (read (seen message)) result };
@@ -66,7 +70,7 @@ impl<T: FromMessage> EntrySink for Entries<T> {
 
     ghost entry_from = { T.seen_from };
 
-    ghost Held = { Result (List T.Plain) RecordFault };
+    ghost Held = { Result (List (EntryData T.Permission T.Own)) RecordFault };
 
     ghost held = { entries_held T.plain };
 

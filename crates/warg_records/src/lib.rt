@@ -12,6 +12,7 @@ ghost use Rattle.warg_records.specs.Mentions.{distinct};
 
 mod entries;
 pub mod laws;
+mod log_record;
 mod mention;
 pub mod operator;
 pub mod package;
@@ -23,6 +24,7 @@ mod serde_envelope;
 mod writing;
 
 use indexmap::IndexSet;
+pub use log_record::LogRecord;
 pub use permission::{InvalidPermission, LogPermission, PermissionParseError};
 pub use proto_envelope::{
     ParseEnvelopeError, ProtoEnvelope, ProtoEnvelopeBody, PublishedProtoEnvelope,

@@ -3,25 +3,14 @@
 ghost use Rattle.std.specs.Prelude.{◌≡◌, IfOk};
 ghost use Rattle.warg_records.specs.OperatorEntries.{entry_data, required_permission_of};
 
+use crate::log_record::LogRecord;
 use crate::operator::permission::Permission;
-use crate::registry::RecordId;
 use std::alloc::AllocError;
-use warg_crypto::Timestamp;
 use warg_crypto::hash::HashAlgorithm;
 use warg_crypto::signing::{KeyID, PublicKey};
 
-/// A record of an operator log: entries that one key signs together.
-#[derive(Debug, Drop, PartialEq, Eq)]
-pub struct OperatorRecord {
-    /// The id of the record before; none in a log's first record.
-    pub prev: Option<RecordId>,
-    /// The version of the protocol.
-    pub version: u32,
-    /// When the record was made.
-    pub timestamp: Timestamp,
-    /// The entries, in order.
-    pub entries: Vec<OperatorEntry>,
-}
+/// A record of an operator log.
+pub type OperatorRecord = LogRecord<OperatorEntry>;
 
 /// An entry of an operator record.
 #[derive(Debug, Drop, PartialEq, Eq)]

@@ -6,19 +6,17 @@ ghost use Rattle.warg_protobuf.specs.OperatorRecord.{operator_record_view};
 ghost use Rattle.warg_protobuf.specs.GrantFlat.{grant_flat_view};
 ghost use Rattle.warg_protobuf.specs.Init.{init_view};
 ghost use Rattle.warg_protobuf.specs.RevokeFlat.{revoke_flat_view};
-ghost use Rattle.warg_protobuf.specs.Record.{record_view};
-ghost use Rattle.warg_records.specs.Entries.{entries_held, record_in};
 ghost use Rattle.warg_records.specs.Faults.{fault_of, IsReading};
 ghost use Rattle.warg_records.specs.OperatorEntries.{OperatorOwnEntry, entry_data, record_data};
 ghost use Rattle.warg_records.specs.OperatorPermissions.{permission_of};
 ghost use Rattle.warg_records.specs.OperatorReading.{operator_entry_of, operator_record_of};
-ghost use Rattle.warg_records.specs.RecordData.{EntryData};
 ghost use Rattle.warg_records.specs.Steps.{grant_of, init_of, record_of, revoke_of, shared};
 ghost use Rattle.warg_records.specs.declared.operator.permission.Permission.{Permission};
 
-use crate::entries::{Entries, FromMessage, read_content, read_each};
+use crate::entries::FromMessage;
+use crate::log_record::LogRecord;
 use crate::operator::{OperatorEntry, OperatorRecord, Permission};
-use crate::reading::{read_init, read_key, read_permissions, read_prev, read_time};
+use crate::reading::{read_init, read_key, read_permissions};
 use std::alloc::Global;
 use warg_crypto::DecodeError;
 use warg_crypto::signing::KeyID;
@@ -68,7 +66,9 @@ impl FromMessage for OperatorEntry {
 
     ghost seen = { operator_entry_view };
 
-    ghost Plain = { EntryData Permission OperatorOwnEntry };
+    ghost Permission = { Permission };
+
+    ghost Own = { OperatorOwnEntry };
 
     ghost plain = { entry_data };
 
@@ -132,37 +132,14 @@ impl OperatorRecord {
     ) -> Result<OperatorRecord, DecodeError>
         ensures { IsReading record_data fault_of (record_of operator_entry_of (operator_record_view message)) result }
     {
-        OperatorRecord::from_entries(message::Record {
-            prev: message.prev,
-            version: message.version,
-            time: message.time,
-            entries: read_each(alloc, message.entries)?,
-        })
-    }
-
-    // The record whose entries were read.
-    fn from_entries(
-        read: message::Record<Entries<OperatorEntry>>,
-    ) -> Result<OperatorRecord, DecodeError>
-        ensures { IsReading record_data fault_of (record_in (record_view (entries_held entry_data) read)) result }
-    {
-        let prev = read_prev(read.prev)?;
-        let timestamp = read_time(read.time)?;
-        let entries = read.entries.finish()?;
-        Ok(OperatorRecord {
-            prev,
-            version: read.version,
-            timestamp,
-            entries,
-        })
+        LogRecord::from_message(alloc, message)
     }
 }
 
 // The record that content bytes say.
-#[tactic(auto, unfolding(crate::specs::OperatorReading::operator_record_of), using(crate::proofs::Each::tells_bind))]
+#[tactic(auto, unfolding(crate::specs::OperatorReading::operator_record_of))]
 pub(crate) fn read_record(alloc: Global, content: &[u8]) -> Result<OperatorRecord, DecodeError>
     ensures { IsReading record_data fault_of (operator_record_of content.now) result }
 {
-    let read = read_content::<OperatorEntry>(alloc, content)?;
-    OperatorRecord::from_entries(read)
+    LogRecord::from_content(alloc, content)
 }

@@ -5,26 +5,15 @@ ghost use Rattle.semver.specs.Identifiers.{parts_of};
 ghost use Rattle.std.specs.Option.{option_copied};
 ghost use Rattle.warg_records.specs.PackageEntries.{entry_data, required_permission_of, content_of};
 
+use crate::log_record::LogRecord;
 use crate::package::permission::Permission;
-use crate::registry::RecordId;
 use semver::Version;
 use std::alloc::AllocError;
-use warg_crypto::Timestamp;
 use warg_crypto::hash::{AnyHash, HashAlgorithm};
 use warg_crypto::signing::{KeyID, PublicKey};
 
-/// A record of a package log: entries that one key signs together.
-#[derive(Debug, Drop, PartialEq, Eq)]
-pub struct PackageRecord {
-    /// The id of the record before; none in a log's first record.
-    pub prev: Option<RecordId>,
-    /// The version of the protocol.
-    pub version: u32,
-    /// When the record was made.
-    pub timestamp: Timestamp,
-    /// The entries, in order.
-    pub entries: Vec<PackageEntry>,
-}
+/// A record of a package log.
+pub type PackageRecord = LogRecord<PackageEntry>;
 
 /// An entry of a package record.
 #[derive(Debug, Drop, PartialEq, Eq)]

@@ -10,19 +10,17 @@ ghost use Rattle.warg_protobuf.specs.PackageRecord.{package_record_view};
 ghost use Rattle.warg_protobuf.specs.GrantFlat.{grant_flat_view};
 ghost use Rattle.warg_protobuf.specs.Init.{init_view};
 ghost use Rattle.warg_protobuf.specs.RevokeFlat.{revoke_flat_view};
-ghost use Rattle.warg_protobuf.specs.Record.{record_view};
-ghost use Rattle.warg_records.specs.Entries.{entries_held, record_in};
 ghost use Rattle.warg_records.specs.Faults.{fault_of, IsReading};
 ghost use Rattle.warg_records.specs.PackageEntries.{PackageOwnEntry, entry_data, record_data};
 ghost use Rattle.warg_records.specs.PackagePermissions.{permission_of};
 ghost use Rattle.warg_records.specs.PackageReading.{package_entry_of, package_record_of, release_of, version_of, yank_of};
-ghost use Rattle.warg_records.specs.RecordData.{EntryData};
 ghost use Rattle.warg_records.specs.Steps.{grant_of, init_of, record_of, revoke_of, shared, own};
 ghost use Rattle.warg_records.specs.declared.package.permission.Permission.{Permission};
 
-use crate::entries::{Entries, FromMessage, read_content, read_each};
+use crate::entries::FromMessage;
+use crate::log_record::LogRecord;
 use crate::package::{PackageEntry, PackageRecord, Permission};
-use crate::reading::{read_init, read_key, read_permissions, read_prev, read_time};
+use crate::reading::{read_init, read_key, read_permissions};
 use semver::Version;
 use std::alloc::{AllocError, Global};
 use std::str::FromStr;
@@ -115,7 +113,9 @@ impl FromMessage for PackageEntry {
 
     ghost seen = { package_entry_view };
 
-    ghost Plain = { EntryData Permission PackageOwnEntry };
+    ghost Permission = { Permission };
+
+    ghost Own = { PackageOwnEntry };
 
     ghost plain = { entry_data };
 
@@ -170,37 +170,14 @@ impl PackageRecord {
     ) -> Result<PackageRecord, DecodeError>
         ensures { IsReading record_data fault_of (record_of package_entry_of (package_record_view message)) result }
     {
-        PackageRecord::from_entries(message::Record {
-            prev: message.prev,
-            version: message.version,
-            time: message.time,
-            entries: read_each(alloc, message.entries)?,
-        })
-    }
-
-    // The record whose entries were read.
-    fn from_entries(
-        read: message::Record<Entries<PackageEntry>>,
-    ) -> Result<PackageRecord, DecodeError>
-        ensures { IsReading record_data fault_of (record_in (record_view (entries_held entry_data) read)) result }
-    {
-        let prev = read_prev(read.prev)?;
-        let timestamp = read_time(read.time)?;
-        let entries = read.entries.finish()?;
-        Ok(PackageRecord {
-            prev,
-            version: read.version,
-            timestamp,
-            entries,
-        })
+        LogRecord::from_message(alloc, message)
     }
 }
 
 // The record that content bytes say.
-#[tactic(auto, unfolding(crate::specs::PackageReading::package_record_of), using(crate::proofs::Each::tells_bind))]
+#[tactic(auto, unfolding(crate::specs::PackageReading::package_record_of))]
 pub(crate) fn read_record(alloc: Global, content: &[u8]) -> Result<PackageRecord, DecodeError>
     ensures { IsReading record_data fault_of (package_record_of content.now) result }
 {
-    let read = read_content::<PackageEntry>(alloc, content)?;
-    PackageRecord::from_entries(read)
+    LogRecord::from_content(alloc, content)
 }
