@@ -21,8 +21,9 @@ pub use warg_crypto::{
 };
 pub use warg_protobuf::{Envelope, EnvelopeView, Message, WireError};
 pub use warg_records::{
-    InvalidPermission, ParseEnvelopeError, PermissionParseError, ProtoEnvelope, ProtoEnvelopeBody,
-    PublishedProtoEnvelope, PublishedProtoEnvelopeBody, Record, SerdeEnvelope, Version, VersionReq,
+    InvalidPermission, LogRecord, ParseEnvelopeError, PermissionParseError, ProtoEnvelope,
+    ProtoEnvelopeBody, PublishedProtoEnvelope, PublishedProtoEnvelopeBody, Record, SerdeEnvelope,
+    Version, VersionReq,
 };
 pub use warg_saved::JsonTextError;
 pub use warg_validator::{Effect, RunCause, RunError, Validator, run, run_from};
