@@ -1,6 +1,6 @@
 //! Laws over all logs of a kind, and when the public types of plain data are equal. They have no effect.
 ghost use Rattle.std.specs.Prelude.{◌≡◌, ◌↔◌, ◌⊎◌, ◌<◌, ◌+◌, ◌++◌, ℕ, List, [], length, take, Some, slice_index_or, IsTrue, true, false};
-ghost use Rattle.warg_records.specs.EnvelopeData.{EnvelopeData};
+ghost use Rattle.warg_envelope.specs.EnvelopeData.{EnvelopeData};
 ghost use Rattle.warg_validator.specs.Effects.{holds};
 ghost use Rattle.warg_validator.specs.Kinds.{SignatureRelation, IsAccepted};
 ghost use Rattle.warg_audited_log.specs.Chains.{Entry, entries_of, held_by, IsHeld};

@@ -16,6 +16,7 @@ mod order;
 mod texts;
 
 use crate::hash::{Hash, SupportedDigest};
+pub use crate::ranges::byte_range;
 use crate::toy::{ToySigner, ToyVerifier};
 use crate::visit::VisitBytes;
 pub use equality::{

@@ -3,7 +3,7 @@
 ghost use Rattle.std.specs.Prelude.{◌≡◌, ◌<◌, ◌^◌, ℕ, pos, slice_index};
 
 /// Each byte is below 256.
-pub(crate) fn byte_range(bytes: &[u8])
+pub fn byte_range(bytes: &[u8])
     ensures { (i : ℕ) → slice_index bytes.now i < 256 }
 {}
 

@@ -11,9 +11,9 @@ use Rattle.std.proofs.lemmas.List.Kept.{AllPairs-cons}
 use Rattle.std.proofs.lemmas.List.MinMax.{ranks_by}
 use Rattle.warg_crypto.specs.Signed.{signed_message}
 use Rattle.warg_crypto.specs.Times.{Time, time_cmp_total}
-use Rattle.warg_records.specs.EnvelopeData.{EnvelopeData}
+use Rattle.warg_envelope.specs.EnvelopeData.{EnvelopeData}
 use Rattle.warg_records.specs.RecordData.{Init, GrantFlat, RevokeFlat, EntryData, RecordData}
-use Rattle.warg_records.specs.declared.registry.record_id.RecordId.{RecordId}
+use Rattle.warg_records.specs.declared.record_id.RecordId.{RecordId}
 use Rattle.warg_validator.specs.Kinds.{SignatureRelation, KindLaws, AllLawful, IsAccepted, view_after}
 use Rattle.warg_validator.specs.Walks as walk
 use Rattle.warg_validator.proofs.KindWalks.{accepted-lawful}

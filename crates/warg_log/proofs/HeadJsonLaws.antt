@@ -9,7 +9,7 @@ use Rattle.warg_crypto.specs.Members.{put_some}
 use Rattle.warg_crypto.specs.Numbers.{number_below}
 use Rattle.warg_crypto.specs.Steps.{ok_same}
 use Rattle.warg_crypto.specs.declared.json.error.JsonError.{JsonError}
-use Rattle.warg_records.specs.RegistryJson.{record_id_in}
+use Rattle.warg_records.specs.RecordIdJson.{record_id_in}
 use Rattle.warg_log.specs.HeadJson.{head_in, version_or_zero}
 use Rattle.warg_log.specs.declared.head.Head.{Head}
 

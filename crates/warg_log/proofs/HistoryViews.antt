@@ -15,7 +15,7 @@ use Rattle.warg_log.specs.Records.{link_offence, version_offence, time_offence}
 use Rattle.warg_log.specs.Histories.{Placed, placed_in, record_history, history_of, entry_on, entry_enters, entry_key, entry_algorithm, standing_of, owns, view_of, own_after, own_offence}
 use Rattle.warg_log.proofs.Firsts.{or_first, or_second, unmapped}
 use Rattle.warg_log.proofs.SignedEntryLaws.{same_standing, after-append, map-join}
-use Rattle.warg_records.specs.declared.registry.record_id.RecordId.{RecordId}
+use Rattle.warg_records.specs.declared.record_id.RecordId.{RecordId}
 use Rattle.warg_crypto.specs.Times.{Time}
 
 -- a filter of what a map gives

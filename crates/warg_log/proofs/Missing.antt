@@ -1,6 +1,6 @@
 -- The first permission that is not held, or that was listed before.
 use Rattle.std.proofs.Common.{◌≡◌, List, [], ◌∷◌, ◌++◌, Bool, true, ◌&&◌, not, Some, ap, if◌then◌else◌}
-use Rattle.warg_records.specs.Permissions.{lists}
+use Rattle.warg_permissions.specs.Permissions.{lists}
 use Rattle.warg_log.specs.Rights.{first_missing}
 
 module _ {P : Type 0} (same : P → P → Bool) (held : P → Bool) (earlier : List P) (x : P) (rest : List P) where

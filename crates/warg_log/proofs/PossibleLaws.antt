@@ -8,7 +8,7 @@ use Rattle.warg_crypto.specs.Times.{Time}
 use Rattle.warg_crypto.specs.Signed.{signed_message}
 use Rattle.warg_crypto.specs.declared.signing.error.SignatureError.TheVariants.{Refused}
 use Rattle.warg_records.specs.RecordData.{EntryData, SharedEntry, Init, GrantFlat, RevokeFlat}
-use Rattle.warg_records.specs.declared.registry.record_id.RecordId.{RecordId}
+use Rattle.warg_records.specs.declared.record_id.RecordId.{RecordId}
 use Rattle.warg_log.specs.SignedEntries.{AccessView}
 use Rattle.warg_log.specs.History.{Rules, Wrong, StateView, View, SignedRecord, Event, whole_after, record_events, entry_fault, entry_offence, events_offence, unsigned_offence, record_offence}
 use Rattle.warg_log.specs.Offences.{Offence, unless, not_begun, empty_grant, lacks_required, unauthorized, shared_entry_offence, InitialRecordDoesNotInit, KeyIDNotRecognized, UnauthorizedAction, PermissionNotFoundToRevoke, WrongSignature}

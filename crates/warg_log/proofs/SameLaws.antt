@@ -4,7 +4,7 @@ use Rattle.std.specs.Prelude.{Result, Ok, Err}
 use Rattle.std.specs.Option.{option_map, option_or}
 use Rattle.std.specs.List.{filter_map}
 use Rattle.warg_crypto.specs.Signed.{signed_message}
-use Rattle.warg_records.specs.EnvelopeData.{EnvelopeData}
+use Rattle.warg_envelope.specs.EnvelopeData.{EnvelopeData}
 use Rattle.warg_records.specs.RecordData.{EntryData, RecordData}
 use Rattle.warg_validator.specs.Kinds.{SignatureRelation, Kind}
 use Rattle.warg_log.specs.SignedEntries.{after}

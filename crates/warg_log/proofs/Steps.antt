@@ -4,7 +4,7 @@ use Rattle.std.specs.Str.{bytes_eq}
 use Rattle.std.specs.Option.{option_map, option_or}
 use Rattle.indexmap.specs.IndexMap.{IndexMap}
 use Rattle.warg_crypto.specs.NamedBytes.{NamedBytes, fingerprint_of}
-use Rattle.warg_records.specs.Permissions.{lists}
+use Rattle.warg_permissions.specs.Permissions.{lists}
 use Rattle.warg_log.specs.Rights.{layered, held_over, has_entry_over, first_missing}
 use Rattle.warg_records.specs.RecordData.{SharedEntry, Init, GrantFlat, RevokeFlat}
 use Rattle.warg_log.specs.SignedEntries.{after}

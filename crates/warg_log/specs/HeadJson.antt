@@ -5,9 +5,9 @@ use Rattle.serde_json.specs.Find.{get_member}
 use Rattle.warg_crypto.specs.Json.{◌>>=◌, member_in, members_in, wrote}
 use Rattle.warg_crypto.specs.JsonTexts.{time_in, time_json}
 use Rattle.warg_crypto.specs.Members.{put_json, put_option}
-use Rattle.warg_crypto.specs.Numbers.{number_below}
+use Rattle.warg_crypto.specs.Numbers.{number_below, number_json}
 use Rattle.warg_crypto.specs.declared.json.error.JsonError.{JsonError}
-use Rattle.warg_records.specs.RegistryJson.{number_json, record_id_in, record_id_json}
+use Rattle.warg_records.specs.RecordIdJson.{record_id_in, record_id_json}
 use Rattle.warg_log.specs.declared.head.Head.{Head}
 
 -- 0 is left out

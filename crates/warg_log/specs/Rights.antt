@@ -5,7 +5,7 @@ use Rattle.std.specs.Option.{option_map_or, option_or}
 use Rattle.std.specs.Str.{bytes_eq}
 use Rattle.indexmap.specs.IndexMap.{IndexMap, get}
 use Rattle.std.specs.List.{list_any}
-use Rattle.warg_records.specs.Permissions.{lists}
+use Rattle.warg_permissions.specs.Permissions.{lists}
 
 -- what stands at k where changes lie over a map: as they say, else as it stood
 abbrev pub layered : {X : Type 0} → List (List ℕ × X) → List (List ℕ × X) → List ℕ → Option X

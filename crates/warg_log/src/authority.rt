@@ -21,7 +21,7 @@ use std::fmt;
 use std::marker::Model;
 use warg_crypto::hash::HashAlgorithm;
 use warg_crypto::signing::{KeyID, PublicKey};
-use warg_records::LogPermission;
+use warg_permissions::LogPermission;
 
 /// Who may do what in a log, and whose key is which.
 #[derive(Drop)]

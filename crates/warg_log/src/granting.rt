@@ -4,7 +4,7 @@
 ghost use Rattle.std.specs.Prelude.{◌≡◌, [], ◌∷◌, true, OnOk, is_some};
 ghost use Rattle.std.specs.Option.{option_copied};
 ghost use Rattle.warg_crypto.specs.NamedBytes.{fingerprint_of};
-ghost use Rattle.warg_records.specs.Permissions.{lists};
+ghost use Rattle.warg_permissions.specs.Permissions.{lists};
 ghost use Rattle.warg_records.specs.RecordData.{Init, GrantFlat, RevokeFlat};
 ghost use Rattle.warg_log.specs.SignedEntries.{after};
 ghost use Rattle.warg_log.specs.Contents.{rights_at, standing_over};
@@ -18,7 +18,7 @@ use crate::refusal::Refusal;
 use crate::rights;
 use warg_crypto::hash::HashAlgorithm;
 use warg_crypto::signing::{KeyID, PublicKey};
-use warg_records::LogPermission;
+use warg_permissions::LogPermission;
 
 impl<P: LogPermission> Authority<P> {
     /// Whether an Init stands.

@@ -1,7 +1,7 @@
 //! What holds of every log of every kind.
 ghost use Rattle.std.specs.Prelude.{◌≡◌, ◌↔◌, ℕ, List, Result, true, IfSome, ◌<◌, IsOk, All, length, map};
-ghost use Rattle.warg_records.specs.Faults.{RecordFault};
-ghost use Rattle.warg_records.specs.EnvelopeData.{EnvelopeData};
+ghost use Rattle.warg_envelope.specs.Faults.{RecordFault};
+ghost use Rattle.warg_envelope.specs.EnvelopeData.{EnvelopeData};
 ghost use Rattle.warg_records.specs.RecordData.{EntryData, RecordData};
 ghost use Rattle.warg_validator.specs.declared.effect.Effect.TheVariants.{Gives};
 ghost use Rattle.warg_validator.specs.Effects as effects;

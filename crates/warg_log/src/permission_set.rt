@@ -11,7 +11,7 @@ use std::alloc::{AllocError, Global};
 use std::fmt;
 use std::marker::Model;
 use std::sync::Arc;
-use warg_records::LogPermission;
+use warg_permissions::LogPermission;
 
 /// A set of permissions. Keys that hold the same permissions share one set, so that a key takes a few bytes for it.
 #[derive(Drop)]

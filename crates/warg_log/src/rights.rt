@@ -5,14 +5,14 @@ ghost use Rattle.std.specs.Map.{lookup};
 ghost use Rattle.std.specs.Option.{option_copied, option_or};
 ghost use Rattle.std.specs.Str.{bytes_eq};
 ghost use Rattle.indexmap.specs.IndexSet.{contains};
-ghost use Rattle.warg_records.specs.Permissions.{lists};
+ghost use Rattle.warg_permissions.specs.Permissions.{lists};
 ghost use Rattle.warg_log.specs.Rights.{is_listed, holds_in, layered, held_over, has_entry_over, first_missing};
 
 use crate::permission_set::{PermissionSet, find_shared, share};
 use indexmap::{IndexMap, IndexSet};
 use std::alloc::{AllocError, Global};
 use warg_crypto::signing::KeyID;
-use warg_records::LogPermission;
+use warg_permissions::LogPermission;
 
 /// Whether the permission is among those held.
 pub(crate) fn is_among<P: LogPermission>(held: Option<&PermissionSet<P>>, permission: P) -> bool

@@ -4,7 +4,7 @@ use Rattle.std.specs.Prelude.{is_none}
 use Rattle.std.specs.Option.{option_or}
 use Rattle.std.specs.Str.{bytes_eq}
 use Rattle.std.proofs.lemmas.Slice.Eq.{bytes_eq-Decides}
-use Rattle.warg_records.specs.KebabNames.{is_kebab_name}
+use Rattle.warg_registry.specs.KebabNames.{is_kebab_name}
 use Rattle.warg_records.specs.OperatorEntries.{OperatorOwnEntry, DefineNamespace, ImportNamespace}
 use Rattle.warg_validator.specs.Walks.{view_after, AllLawful}
 use Rattle.warg_log.specs.History.{Event}

@@ -1,11 +1,11 @@
 -- A state that stands for envelopes tells their history, and `run` answers such a state.
 use Rattle.std.proofs.Common.{◌≡◌, ℕ, List, Result, ap}
 use Rattle.std.specs.Prelude.{IfOk}
-use Rattle.warg_records.specs.Envelopes.{envelope_of, envelope_fault_of}
-use Rattle.warg_records.specs.Faults.{fault_of}
-use Rattle.warg_records.specs.EnvelopeData.{EnvelopeData}
+use Rattle.warg_envelope.specs.Envelopes.{envelope_of, envelope_fault_of}
+use Rattle.warg_envelope.specs.Faults.{fault_of}
+use Rattle.warg_envelope.specs.EnvelopeData.{EnvelopeData}
 use Rattle.warg_records.specs.OperatorReading.{operator_record_of}
-use Rattle.warg_records.specs.declared.operator.permission.Permission.{Permission}
+use Rattle.warg_permissions.specs.declared.operator.Permission.{Permission}
 use Rattle.warg_validator.specs.declared.replay.RunError.{RunError}
 use Rattle.warg_validator.specs.Kinds.{SignatureRelation, IsAccepted, StandsFor}
 use Rattle.warg_validator.specs.Outcomes.{IsRun, IfStarted, told}

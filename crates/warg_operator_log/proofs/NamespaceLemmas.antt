@@ -11,7 +11,7 @@ use Rattle.indexmap.specs.IndexMap.{insert_entry, insert_all}
 use Rattle.std.specs.List.{AllZip, list_all}
 use Rattle.std.specs.Cmp.Lexicographic.{nat_list_eq_equiv}
 use Rattle.std.proofs.lemmas.Slice.Eq.{bytes_eq-Decides}
-use Rattle.warg_records.specs.KebabNames.{is_kebab_name}
+use Rattle.warg_registry.specs.KebabNames.{is_kebab_name}
 use Rattle.warg_operator_log.specs.Namespaces.{Namespace, Names, names, names_over}
 use Rattle.warg_operator_log.specs.NamespaceMap.{namespace_view, named, HasKebabNames}
 use Rattle.warg_operator_log.specs.SameNamespaces.{same_namespace, same_namespaces}

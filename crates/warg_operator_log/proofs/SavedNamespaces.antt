@@ -1,7 +1,7 @@
 -- Namespaces of a saved state whose names are kebab names.
 use Rattle.std.proofs.Common.{◌≡◌, ℕ, List, [], ◌∷◌, Bool, true, false, ◌||◌, not, None, refl}
 use Rattle.std.specs.List.{list_any}
-use Rattle.warg_records.specs.KebabNames.{is_kebab_name}
+use Rattle.warg_registry.specs.KebabNames.{is_kebab_name}
 use Rattle.warg_saved.proofs.Cases.{negated, no_case}
 use Rattle.warg_operator_log.specs.NamespaceMap.{HasKebabNames}
 use Rattle.warg_operator_log.specs.Namespaces.{Namespace}

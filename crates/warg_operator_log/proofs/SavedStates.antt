@@ -1,7 +1,7 @@
 -- Parts of a state that fit together stand for a coherent log.
 use Rattle.std.proofs.Common.{◌≡◌, ◌&&◌, None, ap}
 use Rattle.std.specs.Cmp.{first_so, second_so}
-use Rattle.warg_records.specs.OperatorPermissions.{same_permission}
+use Rattle.warg_permissions.specs.OperatorPermissions.{same_permission}
 use Rattle.warg_saved.specs.Fit.{begun_case, empty_case, is_nil, keys_case, rights_case, version_case}
 use Rattle.warg_saved.proofs.Cases.{begun_both, empty_then, head_taken, nil, no_case, none_first, none_rest}
 use Rattle.warg_log.specs.History.{IsCoherent}

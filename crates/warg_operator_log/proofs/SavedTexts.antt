@@ -4,8 +4,8 @@ use Rattle.serde_json.specs.Data.{Members, no_members, object}
 use Rattle.warg_crypto.specs.JsonTexts.{algorithm_json, key_json}
 use Rattle.warg_crypto.specs.Members.{put_option}
 use Rattle.warg_crypto.specs.declared.json.error.JsonError.{JsonError}
-use Rattle.warg_records.specs.OperatorPermissions.{permission_text}
-use Rattle.warg_records.specs.declared.operator.permission.Permission.{Permission}
+use Rattle.warg_permissions.specs.OperatorPermissions.{permission_text}
+use Rattle.warg_permissions.specs.declared.operator.Permission.{Permission}
 use Rattle.warg_saved.specs.Maps.{put_pairs}
 use Rattle.warg_saved.specs.Names.{text_name}
 use Rattle.warg_saved.specs.Permissions.{permissions_json}

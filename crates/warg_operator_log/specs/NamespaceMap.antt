@@ -2,7 +2,7 @@
 use Rattle.std.specs.Prelude.{◌≡◌, ℕ, List, map, string_bytes, true}
 use Rattle.std.specs.List.{AllByRecursion}
 use Rattle.std.specs.declared.string.String.{String}
-use Rattle.warg_records.specs.KebabNames.{is_kebab_name}
+use Rattle.warg_registry.specs.KebabNames.{is_kebab_name}
 use Rattle.warg_operator_log.specs.Namespaces.{Namespace, Defined, Imported}
 use Rattle.warg_operator_log.specs.declared.namespace.NamespaceState.{NamespaceState}
 use Rattle.warg_operator_log.specs.declared.namespace.NamespaceState.TheVariants as state

@@ -1,7 +1,7 @@
 -- The names of a log's offences, and of the errors that say them.
 use Rattle.std.specs.Prelude.{ℕ, List, codes, unwrap_or}
 use Rattle.std.specs.Option.{option_map}
-use Rattle.warg_records.specs.declared.operator.permission.Permission.{Permission}
+use Rattle.warg_permissions.specs.declared.operator.Permission.{Permission}
 use Rattle.warg_log.specs.History.{Wrong}
 use Rattle.warg_log.specs.OffenceNames.{wrong_name}
 use Rattle.warg_operator_log.specs.Namespaces.{OwnOffence}

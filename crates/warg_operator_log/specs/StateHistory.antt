@@ -2,12 +2,12 @@
 use Rattle.std.specs.Prelude.{◌≡◌, ◌≤◌, ℕ, List, length, map, None}
 use Rattle.std.specs.List.{filter_map, last_or}
 use Rattle.std.specs.Option.{option_map}
-use Rattle.warg_records.specs.EnvelopeData.{EnvelopeData}
+use Rattle.warg_envelope.specs.EnvelopeData.{EnvelopeData}
 use Rattle.warg_records.specs.OperatorEntries.{OperatorOwnEntry}
-use Rattle.warg_records.specs.OperatorPermissions.{same_permission}
+use Rattle.warg_permissions.specs.OperatorPermissions.{same_permission}
 use Rattle.warg_records.specs.OperatorReading.{operator_record_of}
 use Rattle.warg_records.specs.RecordData.{EntryData}
-use Rattle.warg_records.specs.declared.operator.permission.Permission.{Permission}
+use Rattle.warg_permissions.specs.declared.operator.Permission.{Permission}
 use Rattle.warg_log.specs.Contents.{Contents}
 use Rattle.warg_log.specs.Histories.{Placed, history_of, holds, has_entry, key_of, algorithm_of, owns}
 use Rattle.warg_log.specs.History.{SignedRecord, head_of}

@@ -1,6 +1,6 @@
 //! Laws over all operator logs. They have no effect.
 ghost use Rattle.std.specs.Prelude.{◌≡◌, ◌↔◌, ◌≤◌, ℕ, List, ◌++◌, None, Some, true, ◌<◌, length, Result, IfOk, IsOk, All, IfSome};
-ghost use Rattle.warg_records.specs.EnvelopeData.{EnvelopeData};
+ghost use Rattle.warg_envelope.specs.EnvelopeData.{EnvelopeData};
 ghost use Rattle.warg_validator.specs.Kinds.{SignatureRelation, IsAccepted, StandsFor};
 ghost use Rattle.std.specs.Prelude.{Option};
 ghost use Rattle.warg_log.specs.Records.{version_offence};
@@ -9,15 +9,15 @@ ghost use Rattle.warg_operator_log.specs.NamespaceMap.{namespace_view};
 ghost use Rattle.warg_operator_log.specs.Namespaces.{Namespace, record_id_of};
 ghost use Rattle.warg_operator_log.specs.State.{offence_of, view_of, View, record_offence};
 ghost use Rattle.warg_records.specs.OperatorEntries.{OperatorOwnEntry};
-ghost use Rattle.warg_records.specs.declared.operator.permission.Permission.{Permission};
+ghost use Rattle.warg_permissions.specs.declared.operator.Permission.{Permission};
 ghost use Rattle.warg_log.specs.History.{SignedRecord};
 ghost use Rattle.warg_log.specs.Possible.{IsPossible};
 ghost use Rattle.warg_operator_log.specs.StateLaws.{kind, AreSame};
 ghost use Rattle.warg_operator_log.specs.declared.namespace.NamespaceState.{NamespaceState};
 ghost use Rattle.warg_operator_log.specs.declared.error.ValidationError.{ValidationError};
 ghost use Rattle.warg_operator_log.specs.declared.error.ValidationError.TheVariants.{OutOfMemory};
-ghost use Rattle.warg_records.specs.Envelopes.{envelope_of, envelope_fault_of};
-ghost use Rattle.warg_records.specs.Faults.{fault_of};
+ghost use Rattle.warg_envelope.specs.Envelopes.{envelope_of, envelope_fault_of};
+ghost use Rattle.warg_envelope.specs.Faults.{fault_of};
 ghost use Rattle.warg_records.specs.OperatorReading.{operator_record_of};
 ghost use Rattle.warg_validator.specs.Outcomes.{IsRun, IfStarted, told};
 ghost use Rattle.warg_validator.specs.Strings.{read_all};

@@ -4,7 +4,7 @@ ghost use Rattle.std.specs.Str.{bytes_eq};
 ghost use Rattle.std.specs.Option.{option_copied, option_map};
 ghost use Rattle.std.specs.Cmp.{partial_equiv_from_equiv};
 ghost use Rattle.indexmap.specs.IndexMap.{get_by_text};
-ghost use Rattle.warg_records.specs.KebabNames.{IsKebabName, is_kebab_name};
+ghost use Rattle.warg_registry.specs.KebabNames.{IsKebabName, is_kebab_name};
 ghost use Rattle.warg_records.specs.OperatorEntries.{OperatorOwnEntry, entry_data, record_data};
 ghost use Rattle.warg_log.specs.Judging.{Judges};
 ghost use Rattle.warg_log.specs.Offences as shared;
@@ -25,10 +25,11 @@ use std::marker::Model;
 use warg_crypto::Timestamp;
 use warg_crypto::hash::Sha256;
 use warg_crypto::signing::KeyID;
+use warg_envelope::ProtoEnvelope;
 use warg_log::{LogKind, Parts, Refusal, Step, put_all};
-use warg_records::ProtoEnvelope;
+use warg_records::RecordId;
 use warg_records::operator::{OperatorEntry, OperatorRecord, Permission};
-use warg_records::registry::{PackageName, RecordId};
+use warg_registry::PackageName;
 
 /// The namespaces of a log, by name.
 #[derive(Debug, Drop)]

@@ -4,7 +4,7 @@ use Rattle.std.specs.List.{AllByRecursion}
 use Rattle.std.specs.Option.{option_map}
 use Rattle.warg_crypto.specs.Times.{Time}
 use Rattle.warg_records.specs.PackageEntries.{Parts, PackageOwnEntry, Release, Yank}
-use Rattle.warg_records.specs.declared.registry.record_id.RecordId.{RecordId}
+use Rattle.warg_records.specs.declared.record_id.RecordId.{RecordId}
 use Rattle.warg_validator.specs.Walks.{view_after, AllLawful}
 use Rattle.warg_log.specs.SignedEntries.{latest}
 use Rattle.warg_log.specs.History.{Event}

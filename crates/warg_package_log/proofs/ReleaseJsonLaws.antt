@@ -6,7 +6,7 @@ use Rattle.warg_crypto.specs.declared.hash.AnyHash.{AnyHash}
 use Rattle.warg_crypto.specs.Json.{ReadsBack}
 use Rattle.warg_crypto.specs.JsonTexts.{hash_in, key_id_in, time_in}
 use Rattle.warg_crypto.specs.Times.{Time}
-use Rattle.warg_records.specs.RegistryJson.{record_id_in}
+use Rattle.warg_records.specs.RecordIdJson.{record_id_in}
 use Rattle.warg_package_log.specs.ReleaseJson.{release_in, release_state_in, status_member, version_in}
 use Rattle.warg_package_log.specs.Releases.{ReleaseView}
 use Rattle.warg_package_log.specs.declared.release.ReleaseState.TheVariants.{Released, Yanked}

@@ -6,7 +6,7 @@ use Rattle.std.specs.Option.{option_map, option_map_or, option_or}
 use Rattle.std.proofs.lemmas.List.Folds.{find-append}
 use Rattle.warg_crypto.specs.Times.{Time}
 use Rattle.warg_records.specs.PackageEntries.{Parts, PackageOwnEntry, Release, Yank}
-use Rattle.warg_records.specs.declared.registry.record_id.RecordId.{RecordId}
+use Rattle.warg_records.specs.declared.record_id.RecordId.{RecordId}
 use Rattle.warg_validator.specs.Walks.{AllLawful}
 use Rattle.warg_log.specs.History.{Event}
 use Rattle.warg_log.proofs.SignedEntryLaws.{latest-one}

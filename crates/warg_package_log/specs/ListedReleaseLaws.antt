@@ -8,7 +8,7 @@ use Rattle.std.proofs.lemmas.List.Folds.{find-append}
 use Rattle.std.proofs.lemmas.List.Elements.{filter_map-append}
 use Rattle.warg_crypto.specs.Times.{Time}
 use Rattle.warg_records.specs.PackageEntries.{Parts, PackageOwnEntry, Release, Yank}
-use Rattle.warg_records.specs.declared.registry.record_id.RecordId.{RecordId}
+use Rattle.warg_records.specs.declared.record_id.RecordId.{RecordId}
 use Rattle.warg_validator.specs.Walks.{view_after, AllLawful, IsStepwise}
 use Rattle.warg_validator.proofs.WalkLaws.{lawful-view}
 use Rattle.warg_log.specs.SignedEntries.{latest}

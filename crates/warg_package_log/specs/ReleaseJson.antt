@@ -10,7 +10,7 @@ use Rattle.warg_crypto.specs.Members.{put_json}
 use Rattle.warg_crypto.specs.declared.json.error.JsonError.{JsonError}
 use Rattle.warg_crypto.specs.declared.json.error.JsonError.TheVariants as fault
 use Rattle.warg_records.specs.PackageEntries.{Parts}
-use Rattle.warg_records.specs.RegistryJson.{record_id_in, record_id_json}
+use Rattle.warg_records.specs.RecordIdJson.{record_id_in, record_id_json}
 use Rattle.warg_package_log.specs.Releases.{ReleaseView}
 use Rattle.warg_package_log.specs.declared.release.ReleaseState.{ReleaseState}
 use Rattle.warg_package_log.specs.declared.release.ReleaseState.TheVariants.{Released, Yanked}

@@ -1,10 +1,10 @@
 //! Laws over all package logs. They have no effect.
 ghost use Rattle.std.specs.Prelude.{◌≡◌, ◌↔◌, ◌≤◌, List, ◌++◌, None, true, ◌<◌, ℕ, length, Result, IfOk, IsOk, All, IfSome};
-ghost use Rattle.warg_records.specs.Envelopes.{envelope_of, envelope_fault_of};
-ghost use Rattle.warg_records.specs.Faults.{fault_of};
-ghost use Rattle.warg_records.specs.EnvelopeData.{EnvelopeData};
+ghost use Rattle.warg_envelope.specs.Envelopes.{envelope_of, envelope_fault_of};
+ghost use Rattle.warg_envelope.specs.Faults.{fault_of};
+ghost use Rattle.warg_envelope.specs.EnvelopeData.{EnvelopeData};
 ghost use Rattle.warg_records.specs.PackageReading.{package_record_of};
-ghost use Rattle.warg_records.specs.declared.package.permission.Permission.{Permission};
+ghost use Rattle.warg_permissions.specs.declared.package.Permission.{Permission};
 ghost use Rattle.warg_validator.specs.Kinds.{SignatureRelation, IsAccepted, StandsFor};
 ghost use Rattle.warg_validator.specs.Outcomes.{IsRun, IfStarted, told};
 ghost use Rattle.warg_validator.specs.Strings.{read_all};

@@ -11,7 +11,7 @@ use std::alloc::AllocError;
 use warg_crypto::Timestamp;
 use warg_crypto::hash::AnyHash;
 use warg_crypto::signing::KeyID;
-use warg_records::registry::RecordId;
+use warg_records::RecordId;
 
 /// What became of a release.
 #[derive(Debug, Drop)]

@@ -5,12 +5,12 @@ pub use Rattle.warg_records.specs.OperatorReading.{operator_record_of}
 pub use Rattle.warg_records.specs.OperatorEntries.{OperatorOwnEntry, entry_data, record_data}
 -- what a state stands for: `(view_of s).whole.authority.holds`, `.key`, `(view_of s).whole.own_state`, `(view_of s).head`
 pub use Rattle.warg_operator_log.specs.State.{View, view_of, plain_envelope, offence_of, record_offence, after_record}
-pub use Rattle.warg_records.specs.declared.operator.permission.Permission.{Permission}
-pub use Rattle.warg_records.specs.OperatorPermissions.{same_permission}
+pub use Rattle.warg_permissions.specs.declared.operator.Permission.{Permission}
+pub use Rattle.warg_permissions.specs.OperatorPermissions.{same_permission}
 -- the offences that operator logs alone have, and the names of all offences
 pub use Rattle.warg_operator_log.specs.Namespaces.{OwnOffence}
 pub use Rattle.warg_operator_log.specs.OffenceNames.{offence_name}
-pub use Rattle.warg_records.specs.KebabNames.{IsKebabName}
+pub use Rattle.warg_registry.specs.KebabNames.{IsKebabName}
 -- the namespaces that a state shows
 pub use Rattle.warg_operator_log.specs.Namespaces.{Namespace, Defined, Imported}
 pub use Rattle.warg_operator_log.specs.NamespaceMap.{namespace_view}

@@ -5,8 +5,8 @@ pub use Rattle.warg_records.specs.PackageReading.{package_record_of}
 pub use Rattle.warg_records.specs.PackageEntries.{PackageOwnEntry, entry_data, record_data}
 -- what a state stands for: `(view_of s).whole.authority.holds`, `.key`, `.has_entry`, `(view_of s).whole.own_state`, `(view_of s).head`
 pub use Rattle.warg_package_log.specs.State.{View, view_of, plain_envelope, offence_of, record_offence, after_record}
-pub use Rattle.warg_records.specs.declared.package.permission.Permission.{Permission}
-pub use Rattle.warg_records.specs.PackagePermissions.{same_permission}
+pub use Rattle.warg_permissions.specs.declared.package.Permission.{Permission}
+pub use Rattle.warg_permissions.specs.PackagePermissions.{same_permission}
 -- the offences that package logs alone have, and the names of all offences
 pub use Rattle.warg_package_log.specs.Releases.{OwnOffence}
 pub use Rattle.warg_package_log.specs.OffenceNames.{offence_name}

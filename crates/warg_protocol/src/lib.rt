@@ -19,11 +19,12 @@ pub use warg_crypto::{
     SystemClock, TimeError, Timestamp, VisitBytes, WireFault, digits, hash, json, prefix, signing,
     toy,
 };
-pub use warg_protobuf::{Envelope, EnvelopeView, Message, WireError};
-pub use warg_records::{
-    InvalidPermission, LogRecord, ParseEnvelopeError, PermissionParseError, ProtoEnvelope,
-    ProtoEnvelopeBody, PublishedProtoEnvelope, PublishedProtoEnvelopeBody, Record, SerdeEnvelope,
-    Version, VersionReq,
+pub use warg_envelope::{
+    ParseEnvelopeError, ProtoEnvelope, ProtoEnvelopeBody, PublishedProtoEnvelope,
+    PublishedProtoEnvelopeBody, Record, SerdeEnvelope,
 };
+pub use warg_permissions::{InvalidPermission, PermissionParseError};
+pub use warg_protobuf::{Envelope, EnvelopeView, Message, WireError};
+pub use warg_records::{LogRecord, Version, VersionReq};
 pub use warg_saved::JsonTextError;
 pub use warg_validator::{Effect, RunCause, RunError, Validator, run, run_from};

@@ -1,6 +1,8 @@
 //! What a registry and a transparency log name things by.
 
-pub use warg_records::registry::{
-    Checkpoint, LogId, LogLeaf, MapLeaf, PackageName, PackageNameError, RecordId, RegistryIndex,
-    RegistryLen, TimestampedCheckpoint,
+pub use warg_envelope::RegistryIndex;
+pub use warg_records::RecordId;
+pub use warg_registry::{
+    Checkpoint, LogId, LogLeaf, MapLeaf, PackageName, PackageNameError, RegistryLen,
+    TimestampedCheckpoint,
 };

@@ -10,7 +10,7 @@ use Rattle.std.proofs.lemmas.Bool.{cases_Bool}
 use Rattle.std.proofs.lemmas.List.{append-nil}
 use Rattle.std.proofs.lemmas.List.Folds.{list_any-append}
 use Rattle.indexmap.specs.IndexSet.{insert_key, insert_all}
-use Rattle.warg_records.specs.Mentions.{distinct}
+use Rattle.warg_envelope.specs.Mentions.{distinct}
 
 module _ {X : Type 0} where
   twice-step : (p r : X → Bool) (y : X) (b : Bool) (l m : List X) → cond b (p y) false ≡ r y → filter p l ≡ m → filter p (cond b (y ∷ l) l) ≡ cond (r y) (y ∷ m) m

@@ -1,6 +1,6 @@
 -- Steps one after another, as a loop takes them.
 use Rattle.std.proofs.Common.{◌≡◌, List, [], ◌∷◌, ◌++◌, Option, Some, None, Result, Ok, Err, refl, ap, ◌∙◌}
-use Rattle.warg_records.specs.Faults.{TellsFault}
+use Rattle.warg_envelope.specs.Faults.{TellsFault}
 use Rattle.warg_records.specs.Steps.{◌>>=◌, each}
 
 -- a fault ends what follows

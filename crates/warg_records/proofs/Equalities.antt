@@ -16,7 +16,7 @@ use Rattle.warg_crypto.specs.declared.hash.HashAlgorithm.{HashAlgorithm}
 use Rattle.warg_crypto.specs.declared.hash.HashAlgorithm.TheVariants.{Sha256}
 use Rattle.warg_records.specs.declared.log_record.LogRecord.{LogRecord}
 use Rattle.warg_records.specs.RecordData.{EntryData, Shared, Init, GrantFlat, RevokeFlat, RecordData}
-use Rattle.warg_records.specs.declared.registry.record_id.RecordId.{RecordId}
+use Rattle.warg_records.specs.declared.record_id.RecordId.{RecordId}
 
 -- the test of two values tells that they look alike, so that of two lists does
 pub lists_decided : {K D : Type 0} (view : K → D) (test : K → K → Bool) → ((a b : K) → Decides (test a b) (view a ≡ view b))

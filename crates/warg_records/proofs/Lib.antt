@@ -6,13 +6,6 @@ pub mod Relations
 pub mod WriteBack
 pub mod Wholes
 pub mod OfBytes
-pub mod KebabLemmas
-pub mod PackageNames
-pub mod PrefixCode
-pub mod Pieces
 pub mod Equalities
 pub mod PackageEqualities
 pub mod OperatorEqualities
-pub mod RegistryJsonLaws
-pub mod EnvelopeJsonLaws
-pub mod JsonLemmas

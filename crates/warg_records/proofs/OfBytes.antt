@@ -31,15 +31,15 @@ use Rattle.warg_protobuf.specs.Table.{Table, HasFault}
 use Rattle.warg_protobuf.specs.Timestamp.{TimestampValue}
 use Rattle.warg_protobuf.specs.declared.error.WireError.{WireError}
 use Rattle.warg_protobuf.specs.declared.error.WireError.TheVariants as error
-use Rattle.warg_records.specs.Envelopes.{signed_data, enclosed_data, opened_data, envelope_of}
-use Rattle.warg_records.specs.Faults.{RecordFault, Prev, TimeOutOfRange, Algorithm, Key, Version, ContentHash}
+use Rattle.warg_envelope.specs.Envelopes.{signed_data, enclosed_data, opened_data, envelope_of}
+use Rattle.warg_envelope.specs.Faults.{RecordFault, Prev, TimeOutOfRange, Algorithm, Key, Version, ContentHash}
 use Rattle.warg_records.specs.OfBytes.{IsOfContent, IsOfEnvelope}
 use Rattle.warg_records.specs.OperatorReading.{operator_entry_of}
 use Rattle.warg_records.specs.PackageReading.{package_entry_of, release_of, version_of, yank_of}
 use Rattle.warg_records.specs.RecordData.{EntryData}
 use Rattle.warg_records.specs.Steps.{◌>>=◌, named, each, prev_of, time_of, hash_algorithm_of, key_of, beginning_of, init_of, known_permission, permission_in, grant_of, revoke_of, message_of, record_of}
-use Rattle.warg_records.specs.OperatorPermissions as operator_permission
-use Rattle.warg_records.specs.PackagePermissions as package_permission
+use Rattle.warg_permissions.specs.OperatorPermissions as operator_permission
+use Rattle.warg_permissions.specs.PackagePermissions as package_permission
 
 module _ {F : Type 0} (P : F → Type 0) where
   then_within : {A B : Type 0} (r : Result A F) (k : A → Result B F) → IfErr r P → ((x : A) → IfErr (k x) P) → IfErr (r >>= k) P

@@ -1,15 +1,15 @@
 -- When entries and records of operator logs are equal: where their plain data are one.
-use Rattle.std.specs.Prelude.{◌≡◌, ℕ, Bool, true, refl, string_bytes}
+use Rattle.std.specs.Prelude.{◌≡◌, ℕ, Bool, refl, string_bytes}
 use Rattle.std.specs.Bool.{Decides}
-use Rattle.std.proofs.Common.{subst}
 use Rattle.std.proofs.lemmas.Bool.Decides.{Decides-and, Decides-like}
 use Rattle.std.proofs.lemmas.Slice.Eq.{bytes_eq-Decides}
 use Rattle.warg_crypto.specs.declared.hash.HashAlgorithm.TheVariants.{Sha256}
 use Rattle.warg_records.specs.OperatorEntries.{OperatorOwnEntry, DefineNamespace, ImportNamespace, entry_data, record_data}
-use Rattle.warg_records.specs.OperatorPermissions.{same_permission, same_permission-is, same_permission_equiv}
+use Rattle.warg_permissions.specs.OperatorPermissions.{same_permission}
+use Rattle.warg_permissions.proofs.OperatorEquality.{permission_decided}
 use Rattle.warg_records.specs.RecordData.{EntryData, Shared, Own, Init, GrantFlat, RevokeFlat}
 use Rattle.warg_records.specs.contracts.operator.model.OperatorEntryPartialEq.TheImpl as entries
-use Rattle.warg_records.specs.declared.operator.permission.Permission.{Permission}
+use Rattle.warg_permissions.specs.declared.operator.Permission.{Permission}
 use Rattle.warg_records.specs.declared.operator.model.OperatorEntry.{OperatorEntry}
 use Rattle.warg_records.specs.declared.operator.model.OperatorEntry.TheVariants as entry
 use Rattle.warg_records.specs.declared.log_record.LogRecord.{LogRecord}
@@ -24,9 +24,6 @@ case_of (Shared (GrantFlat key permissions)) = 1
 case_of (Shared (RevokeFlat key_id permissions)) = 2
 case_of (Own (DefineNamespace namespace)) = 3
 case_of (Own (ImportNamespace namespace registry)) = 4
-
-pub permission_decided : (p q : Permission) → Decides (same_permission p q) (p ≡ q)
-permission_decided p q = (same_permission-is p q, λ h. subst (λ (x : Permission). same_permission p x ≡ true) h (same_permission_equiv.refl p))
 
 pub entry_decided : (a b : OperatorEntry) → Decides (same_entry a b) (entry_data a ≡ entry_data b)
 entry_decided (entry.Init Sha256 k) (entry.Init Sha256 l) = init_decided same_permission permission_decided k l

@@ -11,25 +11,25 @@ use Rattle.warg_crypto.specs.declared.hash.HashAlgorithm.{HashAlgorithm}
 use Rattle.warg_crypto.specs.declared.hash.HashAlgorithm.TheVariants.{Sha256}
 use Rattle.warg_protobuf.specs.Record.{RecordValue}
 use Rattle.warg_protobuf.specs.Table.{Table}
-use Rattle.warg_records.specs.Faults.{RecordFault, Prev, TimeOutOfRange, Key, Version, ContentHash}
+use Rattle.warg_envelope.specs.Faults.{RecordFault, Prev, TimeOutOfRange, Key, Version, ContentHash}
 use Rattle.warg_records.specs.RecordData.{Init, GrantFlat, RevokeFlat, EntryData, Shared, Own, RecordData}
 use Rattle.warg_records.specs.Relations.{ReadsRecord}
 use Rattle.warg_records.specs.Steps.{◌>>=◌, named, each, prev_of, time_of, key_of, init_of, known_permission, permission_in, grant_of, revoke_of, shared, own, record_of}
 use Rattle.warg_records.specs.Whole.{IsWholeNamedBytes, IsWholeTime, IsWholeLink, IsWholeEntry, IsWhole, IsWholePackageOwnEntry, IsWholeOperatorOwnEntry}
 use Rattle.warg_records.specs.Writing.{id_text, init_message, grant_message, revoke_message, time_message, record_message}
-use Rattle.warg_records.specs.declared.registry.record_id.RecordId.{RecordId}
+use Rattle.warg_records.specs.declared.record_id.RecordId.{RecordId}
 use Rattle.warg_records.specs.PackageEntries.{PackageOwnEntry, Release, Yank}
-use Rattle.warg_records.specs.PackagePermissions as release_permission
+use Rattle.warg_permissions.specs.PackagePermissions as release_permission
 use Rattle.warg_records.specs.PackageReading.{package_entry_of}
 use Rattle.warg_records.specs.PackageWriting.{package_entry_message}
 use Rattle.warg_records.specs.PackageWriting as package_writing
 use Rattle.warg_records.specs.OperatorEntries.{OperatorOwnEntry, DefineNamespace, ImportNamespace}
-use Rattle.warg_records.specs.OperatorPermissions as commit_permission
+use Rattle.warg_permissions.specs.OperatorPermissions as commit_permission
 use Rattle.warg_records.specs.OperatorReading.{operator_entry_of}
 use Rattle.warg_records.specs.OperatorWriting.{operator_entry_message}
 use Rattle.warg_records.specs.OperatorWriting as operator_writing
-use Rattle.warg_records.specs.declared.package.permission.Permission as release
-use Rattle.warg_records.specs.declared.operator.permission.Permission as commit
+use Rattle.warg_permissions.specs.declared.package.Permission as release
+use Rattle.warg_permissions.specs.declared.operator.Permission as commit
 
 prev_back : (o : Option RecordId) → IsWholeLink o → prev_of (option_map id_text o) ≡ Ok o
 prev_back None w = refl

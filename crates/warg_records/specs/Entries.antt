@@ -3,7 +3,7 @@ use Rattle.std.specs.Prelude.{List, [], ◌∷◌, ◌++◌, map, Option, Some, 
 use Rattle.warg_crypto.specs.declared.coding.DecodeError.{DecodeError}
 use Rattle.warg_crypto.specs.declared.coding.WireFault.TheVariants as wire
 use Rattle.warg_protobuf.specs.Record.{RecordValue}
-use Rattle.warg_records.specs.Faults.{RecordFault, Wire, fault_of}
+use Rattle.warg_envelope.specs.Faults.{RecordFault, Wire, fault_of}
 use Rattle.warg_records.specs.RecordData.{EntryData, RecordData}
 use Rattle.warg_records.specs.Steps.{◌>>=◌, prev_of, time_of}
 use Rattle.warg_records.specs.declared.entries.Entries.{Entries}

@@ -3,8 +3,8 @@ use Rattle.warg_crypto.specs.declared.coding.WireFault.TheVariants as wire
 use Rattle.warg_crypto.specs.declared.signing.error.KeyParseError.TheVariants as key
 use Rattle.warg_crypto.specs.declared.signing.error.SignatureParseError.TheVariants as signature
 use Rattle.warg_protobuf.specs.declared.error.WireError.TheVariants as outer
-use Rattle.warg_records.specs.Envelopes.{EnvelopeFault, ProtobufEnvelope, Contents, Signature, KeyID, ContentsOutOfMemory}
-use Rattle.warg_records.specs.Faults.{RecordFault, Wire, Key}
+use Rattle.warg_envelope.specs.Envelopes.{EnvelopeFault, ProtobufEnvelope, Contents, Signature, KeyID, ContentsOutOfMemory}
+use Rattle.warg_envelope.specs.Faults.{RecordFault, Wire, Key}
 
 -- a fault that content bytes can have
 abbrev pub IsOfContent : RecordFault → Type 0

@@ -7,8 +7,8 @@ use Rattle.warg_protobuf.specs.Record.{RecordValue}
 use Rattle.warg_records.specs.RecordData.{Init, GrantFlat, RevokeFlat, EntryData, Shared, Own, RecordData}
 use Rattle.warg_records.specs.Writing.{init_message, grant_message, revoke_message, record_message}
 use Rattle.warg_records.specs.OperatorEntries.{OperatorOwnEntry, DefineNamespace, ImportNamespace}
-use Rattle.warg_records.specs.OperatorPermissions.{number_of}
-use Rattle.warg_records.specs.declared.operator.permission.Permission.{Permission}
+use Rattle.warg_permissions.specs.OperatorPermissions.{number_of}
+use Rattle.warg_permissions.specs.declared.operator.Permission.{Permission}
 
 -- the number of a permission in a message, where numbers have a sign
 abbrev pub permission_number : Permission → ℤ

@@ -6,13 +6,13 @@ use Rattle.warg_protobuf.specs.PackageEntry.{PackageMember, Init, GrantFlat, Rev
 use Rattle.warg_protobuf.specs.PackageRecord as message
 use Rattle.warg_protobuf.specs.Release.{ReleaseValue}
 use Rattle.warg_protobuf.specs.Yank.{YankValue}
-use Rattle.warg_records.specs.Faults.{RecordFault, EmptyEntry, Version, ContentHash}
+use Rattle.warg_envelope.specs.Faults.{RecordFault, EmptyEntry, Version, ContentHash}
 use Rattle.warg_records.specs.RecordData.{EntryData, RecordData}
-use Rattle.warg_records.specs.Steps.{◌>>=◌, named, init_of, grant_of, revoke_of, shared, own, message_of, record_of, record_said}
+use Rattle.warg_records.specs.Steps.{◌>>=◌, named, init_of, grant_of, revoke_of, shared, own, record_said}
 use Rattle.warg_records.specs.PackageEntries.{Parts, PackageOwnEntry}
-use Rattle.warg_records.specs.PackageEntries as act
-use Rattle.warg_records.specs.PackagePermissions.{permission_of}
-use Rattle.warg_records.specs.declared.package.permission.Permission.{Permission}
+use Rattle.warg_records.specs.PackageEntries as plain
+use Rattle.warg_permissions.specs.PackagePermissions.{permission_of}
+use Rattle.warg_permissions.specs.declared.package.Permission.{Permission}
 
 -- the version that a text says, or that it is none
 abbrev pub version_of : List ℕ → Result Parts RecordFault
@@ -23,11 +23,11 @@ abbrev pub release_of : ReleaseValue → Result PackageOwnEntry RecordFault
 release_of m = do
   version ← version_of m.version
   content ← named ContentHash (hash_of m.content_hash)
-  Ok (act.Release version content)
+  Ok (plain.Release version content)
 
 -- the yank that its message says, or the fault of its version
 abbrev pub yank_of : YankValue → Result PackageOwnEntry RecordFault
-yank_of m = version_of m.version >>= λ version. Ok (act.Yank version)
+yank_of m = version_of m.version >>= λ version. Ok (plain.Yank version)
 
 -- what an entry's message says
 abbrev pub package_entry_of : Option PackageMember → Result (EntryData Permission PackageOwnEntry) RecordFault

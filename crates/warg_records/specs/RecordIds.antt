@@ -2,7 +2,7 @@
 use Rattle.std.specs.Prelude.{ℕ, List}
 use Rattle.warg_crypto.specs.RecordIds as hash
 use Rattle.warg_crypto.specs.declared.hash.HashAlgorithm.{HashAlgorithm}
-use Rattle.warg_records.specs.declared.registry.record_id.RecordId.{RecordId}
+use Rattle.warg_records.specs.declared.record_id.RecordId.{RecordId}
 
 -- the id by a digest of this algorithm, of what is hashed
 abbrev pub id_by : HashAlgorithm → (List ℕ → List ℕ) → List ℕ → RecordId

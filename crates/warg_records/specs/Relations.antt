@@ -3,7 +3,7 @@ use Rattle.std.specs.Prelude.{◌≡◌, ℕ, List, Result, Ok, Err}
 use Rattle.warg_protobuf.specs.Record.{RecordValue}
 use Rattle.warg_protobuf.specs.Table.{Table, HasFault}
 use Rattle.warg_protobuf.specs.declared.error.WireError.{WireError}
-use Rattle.warg_records.specs.Faults.{RecordFault, Wire}
+use Rattle.warg_envelope.specs.Faults.{RecordFault, Wire}
 use Rattle.warg_records.specs.RecordData.{EntryData, RecordData}
 use Rattle.warg_records.specs.Steps.{record_of, wire_fault_of}
 

@@ -17,9 +17,9 @@ use Rattle.warg_protobuf.specs.Init.{InitValue}
 use Rattle.warg_protobuf.specs.Record.{RecordValue}
 use Rattle.warg_protobuf.specs.RevokeFlat.{RevokeFlatValue}
 use Rattle.warg_protobuf.specs.Timestamp.{TimestampValue}
-use Rattle.warg_records.specs.Faults.{RecordFault, Wire, Prev, MissingTime, TimeOutOfRange, Algorithm, Key, Permission}
+use Rattle.warg_envelope.specs.Faults.{RecordFault, Wire, Prev, MissingTime, TimeOutOfRange, Algorithm, Key, Permission}
 use Rattle.warg_records.specs.RecordData.{SharedEntry, Init, GrantFlat, RevokeFlat, EntryData, Shared, Own, RecordData}
-use Rattle.warg_records.specs.declared.registry.record_id.RecordId.{RecordId}
+use Rattle.warg_records.specs.declared.record_id.RecordId.{RecordId}
 
 infixl 10 ◌>>=◌
 -- the first step's value is handed on, its fault ends the reading

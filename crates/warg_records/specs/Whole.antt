@@ -11,7 +11,7 @@ use Rattle.warg_crypto.specs.declared.hash.AnyHash.{AnyHash}
 use Rattle.warg_records.specs.RecordData.{SharedEntry, Init, GrantFlat, RevokeFlat, EntryData, Shared, Own, RecordData}
 use Rattle.warg_records.specs.PackageEntries.{Parts, PackageOwnEntry, Release, Yank}
 use Rattle.warg_records.specs.OperatorEntries.{OperatorOwnEntry}
-use Rattle.warg_records.specs.declared.registry.record_id.RecordId.{RecordId}
+use Rattle.warg_records.specs.declared.record_id.RecordId.{RecordId}
 
 -- a hash of 32 bytes
 pub record IsWholeHash (h : AnyHash) : Type 0 where
@@ -44,7 +44,7 @@ IsWholeSharedEntry (RevokeFlat key_id permissions) = Unit {0}
 
 -- the entry is whole, as one that both kinds have or as one that the kind alone has
 abbrev pub IsWholeEntry : {P O : Type 0} → (O → Type 0) → EntryData P O → Type 0
-IsWholeEntry IsWholeOwn (Shared act) = IsWholeSharedEntry act
+IsWholeEntry IsWholeOwn (Shared entry) = IsWholeSharedEntry entry
 IsWholeEntry IsWholeOwn (Own own) = IsWholeOwn own
 
 -- each part of a record is whole
@@ -64,6 +64,6 @@ IsWholeOperatorOwnEntry own = Unit {0}
 
 -- the text of the entry's version, if it has one, reads back
 abbrev pub IsReadable : {P : Type 0} → EntryData P PackageOwnEntry → Type 0
-IsReadable (Shared act) = Unit {0}
+IsReadable (Shared entry) = Unit {0}
 IsReadable (Own (Release version content)) = ReadsBack version
 IsReadable (Own (Yank version)) = ReadsBack version

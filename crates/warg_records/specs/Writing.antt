@@ -12,7 +12,7 @@ use Rattle.warg_protobuf.specs.Record.{RecordValue}
 use Rattle.warg_protobuf.specs.RevokeFlat.{RevokeFlatValue}
 use Rattle.warg_protobuf.specs.Timestamp.{TimestampValue}
 use Rattle.warg_records.specs.RecordData.{EntryData, RecordData}
-use Rattle.warg_records.specs.declared.registry.record_id.RecordId.{RecordId}
+use Rattle.warg_records.specs.declared.record_id.RecordId.{RecordId}
 
 -- the text of an id
 abbrev pub id_text : RecordId → List ℕ

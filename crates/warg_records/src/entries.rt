@@ -9,7 +9,7 @@ ghost use Rattle.warg_protobuf.specs.Table.{Table};
 ghost use Rattle.warg_protobuf.specs.Values.{message_of as wire_message_of};
 ghost use Rattle.warg_protobuf.specs.Views.{ReturnsOrNoMemory};
 ghost use Rattle.warg_records.specs.Entries.{entries_held, next_entry};
-ghost use Rattle.warg_records.specs.Faults.{RecordFault, fault_of, IsReading};
+ghost use Rattle.warg_envelope.specs.Faults.{RecordFault, fault_of, IsReading};
 ghost use Rattle.warg_records.specs.RecordData.{EntryData};
 ghost use Rattle.warg_records.specs.Steps.{message_of};
 

@@ -1,14 +1,5 @@
-//! The records of both kinds of log, and the envelopes that they travel in: read from bytes with the first fault
-//! named, written, signed, and named by their ids.
+//! The records of both kinds of log: read from bytes with the first fault named, written, and named by their ids.
 #![tactic(auto)]
-
-ghost use Rattle.std.specs.Prelude.{◌≡◌, ℕ, List, Result, Ok, Err, Option, None, IfOk};
-ghost use Rattle.warg_crypto.specs.Coding.{IsDecoded};
-ghost use Rattle.warg_crypto.specs.declared.coding.DecodeError.{DecodeError};
-ghost use Rattle.warg_crypto.specs.declared.coding.DecodeError.TheVariants as error;
-ghost use Rattle.warg_crypto.specs.declared.hash.AnyHash.{AnyHash};
-ghost use Rattle.warg_records.specs.Faults.{IsReading};
-ghost use Rattle.warg_records.specs.Mentions.{distinct};
 
 mod entries;
 pub mod laws;
@@ -16,64 +7,13 @@ mod log_record;
 mod mention;
 pub mod operator;
 pub mod package;
-mod permission;
-mod proto_envelope;
 mod reading;
-pub mod registry;
-mod serde_envelope;
+mod record_id;
 mod writing;
 
-use indexmap::IndexSet;
 pub use log_record::LogRecord;
-pub use permission::{InvalidPermission, LogPermission, PermissionParseError};
-pub use proto_envelope::{
-    ParseEnvelopeError, ProtoEnvelope, ProtoEnvelopeBody, PublishedProtoEnvelope,
-    PublishedProtoEnvelopeBody,
-};
+pub use record_id::RecordId;
 pub use semver::{Version, VersionReq};
-pub use serde_envelope::SerdeEnvelope;
-use std::alloc::{AllocError, Global};
-use warg_crypto::hash::AnyHash;
-use warg_crypto::{Decode, DecodeError};
-pub use warg_protobuf::{Envelope, EnvelopeView};
 
 /// The newest version of the protocol: that of new records of either kind.
 pub const RECORD_VERSION: u32 = 1;
-
-/// A record of one kind of log.
-pub trait Record: Decode + Drop {
-    // What a record says, as plain data.
-    ghost Meaning: { Type 0 };
-
-    ghost meaning: { Self → Meaning };
-
-    // Why content bytes are no record.
-    ghost Fault: { Type 0 };
-
-    // The fault that an error tells; out of memory alone tells none.
-    ghost fault_of: { DecodeError → Option Fault };
-
-    // What content bytes say, or their first fault.
-    ghost read: { List ℕ → Result Meaning Fault };
-
-    // The hashes that a record mentions as its content, in order.
-    ghost mentions: { Meaning → List AnyHash };
-
-    /// The hashes that the record mentions as its content, each once, by first mention.
-    fn contents(&self, alloc: Global) -> Result<IndexSet<AnyHash>, AllocError>
-        ensures { IfOk result (λ s. s.keys ≡ distinct ⟦<AnyHash as PartialEq>⟧.eq (mentions (meaning self.now))) };
-
-    /// A copy.
-    fn try_clone(&self) -> Result<Self, AllocError>
-        ensures { IfOk result (λ r. meaning r ≡ meaning self.now) };
-
-    /// What is decoded is what the content bytes say, or an error that tells their fault.
-    ghost decodes_reading: { (b : List ℕ) (r : Result Self DecodeError) → IsDecoded Self.plain (Self.decodes b) r →
-        IsReading meaning fault_of (read b) r };
-
-    /// Out of memory tells none.
-    ghost memory_tells_none: { fault_of error.OutOfMemory ≡ None };
-
-    /// It is the one error that tells none.
-    ghost memory_alone: { (e : DecodeError) → fault_of e ≡ None → e ≡ error.OutOfMemory };
-}

@@ -3,7 +3,7 @@
 ghost use Rattle.std.specs.Prelude.{◌≡◌, [], ◌∷◌, Option, IfOk, OnOk};
 ghost use Rattle.std.specs.List.{filter_map};
 ghost use Rattle.indexmap.specs.IndexSet.{insert_all};
-ghost use Rattle.warg_records.specs.Mentions.{distinct};
+ghost use Rattle.warg_envelope.specs.Mentions.{distinct};
 
 use indexmap::IndexSet;
 use std::alloc::{AllocError, Global};

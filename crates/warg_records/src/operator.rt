@@ -1,30 +1,30 @@
 //! Records of operator logs.
 
 ghost use Rattle.std.specs.Prelude.{◌≡◌, codes, IfOk, Ok, []};
-ghost use Rattle.warg_records.specs.Faults.{decoded, fault_of};
-ghost use Rattle.warg_records.specs.FaultLaws.{decoded_is_read, fault_of-memory};
+ghost use Rattle.warg_envelope.specs.Faults.{RecordFault, decoded, fault_of};
+ghost use Rattle.warg_envelope.specs.FaultLaws.{decoded_is_read, fault_of-memory};
 ghost use Rattle.warg_records.specs.RecordData.{RecordData};
 ghost use Rattle.warg_protobuf.specs.OperatorRecord.{IsOperatorRecord};
 ghost use Rattle.warg_records.specs.OperatorWriting.{operator_content_of, operator_record_message};
-ghost use Rattle.warg_records.specs.Faults.{RecordFault};
 ghost use Rattle.warg_records.specs.OperatorEntries.{OperatorOwnEntry, record_data};
 ghost use Rattle.warg_records.specs.OperatorReading.{operator_record_of};
-ghost use Rattle.warg_records.specs.declared.operator.permission.Permission.{Permission};
+ghost use Rattle.warg_permissions.specs.declared.operator.Permission.{Permission};
 ghost use Rattle.std.proofs.Common.{refl};
 
 mod model;
-mod permission;
 mod reading;
 mod writing;
 
+use crate::RECORD_VERSION;
 use crate::laws::{operator_records_are_whole, record_reading_computes};
-use crate::{RECORD_VERSION, Record};
+use crate::log_record::LogRecord;
 use indexmap::IndexSet;
 pub use model::{OperatorEntry, OperatorRecord};
-pub use permission::Permission;
 use std::alloc::{AllocError, Global};
 use warg_crypto::hash::AnyHash;
 use warg_crypto::{Decode, DecodeError, Encode, Signable};
+use warg_envelope::Record;
+pub use warg_permissions::operator::Permission;
 use warg_protobuf::Message;
 
 /// The newest version of the protocol that an operator record may have.
@@ -37,9 +37,9 @@ impl Decode for OperatorRecord {
 
     ghost decodes = { λ content. decoded (operator_record_of content) };
 
-    #[tactic(auto, using(crate::specs::FaultLaws::reading_decodes))]
+    #[tactic(auto, using(warg_envelope::specs::FaultLaws::reading_decodes), unfolding(crate::specs::OperatorReading::operator_record_of))]
     fn decode(alloc: Global, content: &[u8]) -> Result<OperatorRecord, DecodeError> {
-        reading::read_record(alloc, content)
+        LogRecord::from_content(alloc, content)
     }
 }
 

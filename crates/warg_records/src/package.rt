@@ -1,33 +1,33 @@
 //! Records of package logs.
 
 ghost use Rattle.std.specs.Prelude.{◌≡◌, codes, IfOk, Ok};
-ghost use Rattle.warg_records.specs.Faults.{decoded, fault_of};
-ghost use Rattle.warg_records.specs.FaultLaws.{decoded_is_read, fault_of-memory};
+ghost use Rattle.warg_envelope.specs.Faults.{RecordFault, decoded, fault_of};
+ghost use Rattle.warg_envelope.specs.FaultLaws.{decoded_is_read, fault_of-memory};
 ghost use Rattle.warg_records.specs.RecordData.{RecordData};
 ghost use Rattle.warg_protobuf.specs.PackageRecord.{IsPackageRecord};
 ghost use Rattle.warg_records.specs.PackageWriting.{package_content_of, package_record_message};
 ghost use Rattle.warg_records.specs.Whole.{IsReadable};
 ghost use Rattle.std.specs.List.{AllByRecursion};
-ghost use Rattle.warg_records.specs.Faults.{RecordFault};
 ghost use Rattle.warg_records.specs.PackageEntries.{PackageOwnEntry, content_of, mentions, entry_data, record_data};
 ghost use Rattle.warg_records.specs.PackageReading.{package_record_of};
-ghost use Rattle.warg_records.specs.declared.package.permission.Permission.{Permission};
+ghost use Rattle.warg_permissions.specs.declared.package.Permission.{Permission};
 ghost use Rattle.std.proofs.Common.{refl};
 
 mod model;
-mod permission;
 mod reading;
 mod writing;
 
+use crate::RECORD_VERSION;
 use crate::laws::{package_records_are_whole, record_reading_computes};
+use crate::log_record::LogRecord;
 use crate::mention::{self, Mention};
-use crate::{RECORD_VERSION, Record};
 use indexmap::IndexSet;
 pub use model::{PackageEntry, PackageRecord};
-pub use permission::Permission;
 use std::alloc::{AllocError, Global};
 use warg_crypto::hash::AnyHash;
 use warg_crypto::{Decode, DecodeError, Encode, Signable};
+use warg_envelope::Record;
+pub use warg_permissions::package::Permission;
 use warg_protobuf::Message;
 
 /// The newest version of the protocol that a package record may have.
@@ -40,9 +40,9 @@ impl Decode for PackageRecord {
 
     ghost decodes = { λ content. decoded (package_record_of content) };
 
-    #[tactic(auto, using(crate::specs::FaultLaws::reading_decodes))]
+    #[tactic(auto, using(warg_envelope::specs::FaultLaws::reading_decodes), unfolding(crate::specs::PackageReading::package_record_of))]
     fn decode(alloc: Global, content: &[u8]) -> Result<PackageRecord, DecodeError> {
-        reading::read_record(alloc, content)
+        LogRecord::from_content(alloc, content)
     }
 }
 

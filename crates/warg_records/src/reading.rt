@@ -1,19 +1,23 @@
 //! What both kinds of record share in reading from their messages.
 
 ghost use Rattle.std.specs.Prelude.{◌≡◌, string_bytes};
+ghost use Rattle.warg_protobuf.specs.GrantFlat.{grant_flat_view};
+ghost use Rattle.warg_protobuf.specs.Init.{init_view};
+ghost use Rattle.warg_protobuf.specs.RevokeFlat.{revoke_flat_view};
 ghost use Rattle.warg_protobuf.specs.Timestamp.{timestamp_view};
 ghost use Rattle.warg_protobuf.specs.Views.{option_view};
-ghost use Rattle.warg_records.specs.Faults.{fault_of, IsReading};
-ghost use Rattle.warg_records.specs.Steps.{each, prev_of, time_of, key_of, beginning_of, permission_in, wire_error_of};
+ghost use Rattle.warg_envelope.specs.Faults.{fault_of, IsReading};
+ghost use Rattle.warg_records.specs.RecordData as entry;
+ghost use Rattle.warg_records.specs.Steps.{beginning_of, each, grant_of, key_of, permission_in, prev_of, revoke_of, time_of, wire_error_of};
 
-use crate::permission::LogPermission;
-use crate::registry::RecordId;
+use crate::record_id::RecordId;
 use std::alloc::Global;
 use std::str::FromStr;
 use warg_crypto::hash::{AnyHash, HashAlgorithm};
-use warg_crypto::signing::PublicKey;
+use warg_crypto::signing::{KeyID, PublicKey};
 use warg_crypto::{DecodeError, Timestamp, WireFault};
-use warg_protobuf::{TimestampPair, WireError};
+use warg_permissions::LogPermission;
+use warg_protobuf::{GrantFlat, Init, RevokeFlat, TimestampPair, WireError};
 
 /// The permission of a number.
 fn read_permission<P: LogPermission>(number: i32) -> Result<P, DecodeError>
@@ -26,7 +30,7 @@ fn read_permission<P: LogPermission>(number: i32) -> Result<P, DecodeError>
 }
 
 /// Reads all permissions, in order, up to the first number that is none.
-pub(crate) fn read_permissions<P: LogPermission>(
+fn read_permissions<P: LogPermission>(
     alloc: Global,
     numbers: Vec<i32>,
 ) -> Result<Vec<P>, DecodeError>
@@ -82,24 +86,47 @@ pub(crate) fn read_time(time: Option<TimestampPair>) -> Result<Timestamp, Decode
 }
 
 /// A key.
-pub(crate) fn read_key(alloc: Global, text: &str) -> Result<PublicKey, DecodeError>
+fn read_key(alloc: Global, text: &str) -> Result<PublicKey, DecodeError>
     ensures { IsReading (λ k. k) fault_of (key_of text.now) result }
 {
     Ok(PublicKey::parse(alloc, text)?)
 }
 
-/// The algorithm and the key that begin a log.
+/// The algorithm and the key of an entry that begins a log.
 pub(crate) fn read_init(
     alloc: Global,
-    key: &str,
-    hash_algorithm: &str,
+    message: Init,
 ) -> Result<(HashAlgorithm, PublicKey), DecodeError>
-    ensures { IsReading (λ p. (p.0, p.1)) fault_of
-        (beginning_of (record { key = key.now; hash_algorithm = hash_algorithm.now })) result }
+    ensures { IsReading (λ p. (p.0, p.1)) fault_of (beginning_of (init_view message)) result }
 {
-    let Ok(algorithm) = HashAlgorithm::from_str(hash_algorithm) else {
+    let Ok(algorithm) = HashAlgorithm::from_str(message.hash_algorithm.as_str()) else {
         return Err(DecodeError::Algorithm);
     };
-    let key = read_key(alloc, key)?;
+    let key = read_key(alloc, message.key.as_str())?;
     Ok((algorithm, key))
+}
+
+/// The key and the permissions of an entry that gives them to it.
+pub(crate) fn read_grant<P: LogPermission>(
+    alloc: Global,
+    message: GrantFlat,
+) -> Result<(PublicKey, Vec<P>), DecodeError>
+    ensures { IsReading (λ p. entry.GrantFlat p.0 p.1.items) fault_of
+        (grant_of P.permission_of (grant_flat_view message)) result }
+{
+    let key = read_key(alloc, message.key.as_str())?;
+    let permissions = read_permissions::<P>(alloc, message.permissions)?;
+    Ok((key, permissions))
+}
+
+/// The key's id and the permissions of an entry that takes them from the key.
+pub(crate) fn read_revoke<P: LogPermission>(
+    alloc: Global,
+    message: RevokeFlat,
+) -> Result<(KeyID, Vec<P>), DecodeError>
+    ensures { IsReading (λ p. entry.RevokeFlat p.0 p.1.items) fault_of
+        (revoke_of P.permission_of (revoke_flat_view message)) result }
+{
+    let permissions = read_permissions::<P>(alloc, message.permissions)?;
+    Ok((KeyID::from(message.key_id), permissions))
 }

@@ -9,13 +9,13 @@ ghost use Rattle.warg_protobuf.specs.Timestamp.{timestamp_view};
 ghost use Rattle.warg_protobuf.specs.Views.{option_view};
 ghost use Rattle.warg_records.specs.Writing.{grant_message, id_text, init_message, revoke_message, time_message};
 
-use crate::permission::LogPermission;
-use crate::registry::RecordId;
+use crate::record_id::RecordId;
 use std::alloc::{AllocError, Global};
 use std::fmt;
 use warg_crypto::Timestamp;
 use warg_crypto::hash::HashAlgorithm;
 use warg_crypto::signing::{KeyID, PublicKey};
+use warg_permissions::LogPermission;
 use warg_protobuf::{GrantFlat, Init, RevokeFlat, TimestampPair};
 
 /// A part of a record that is written as its message.

@@ -4,11 +4,11 @@ use crate::values::{is, is_made, same};
 use std::alloc::Global;
 use std::process::Abort;
 use warg_crypto::{Decode, DecodeError};
-use warg_records::operator::OperatorRecord;
-use warg_records::package::PackageRecord;
-use warg_records::{
+use warg_envelope::{
     ProtoEnvelope, ProtoEnvelopeBody, PublishedProtoEnvelope, PublishedProtoEnvelopeBody,
 };
+use warg_records::operator::OperatorRecord;
+use warg_records::package::PackageRecord;
 
 const SMALLEST: &[u8] = b"\x0a\x02\x1a\x00\x12\x01k\x1a\x04toy:";
 

@@ -8,7 +8,7 @@ use warg_crypto::hash::HashAlgorithm;
 use warg_crypto::signing::{Signature, Signer};
 use warg_crypto::toy::ToyVerifier;
 use warg_crypto::{Clock, Encode, Signable, TimeError, Timestamp};
-use warg_records::registry::{Checkpoint, TimestampedCheckpoint};
+use warg_registry::{Checkpoint, TimestampedCheckpoint};
 
 fn checkpoint(log_length: usize) -> Checkpoint {
     Checkpoint {

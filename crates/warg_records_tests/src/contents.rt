@@ -7,9 +7,9 @@ use std::process::Abort;
 use warg_crypto::hash::{AnyHash, AnyHashError};
 use warg_crypto::signing::KeyParseError;
 use warg_crypto::{Decode, DecodeError, WireFault};
+use warg_records::RecordId;
 use warg_records::operator::OperatorRecord;
 use warg_records::package::PackageRecord;
-use warg_records::registry::RecordId;
 
 fn package(rt: &impl Abort, alloc: Global, content: &[u8]) -> PackageRecord {
     PackageRecord::decode(alloc, content).expect(rt, "a record")

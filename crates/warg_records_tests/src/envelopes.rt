@@ -6,10 +6,10 @@ use std::process::Abort;
 use warg_crypto::hash::AnyHashError;
 use warg_crypto::signing::SignatureParseError;
 use warg_crypto::{DecodeError, WireFault};
+use warg_envelope::{ParseEnvelopeError, ProtoEnvelope};
 use warg_protobuf::WireError;
 use warg_records::operator::OperatorRecord;
 use warg_records::package::PackageRecord;
-use warg_records::{ParseEnvelopeError, ProtoEnvelope};
 
 const SMALLEST: &[u8] = b"\x0a\x02\x1a\x00\x12\x01k\x1a\x04toy:";
 

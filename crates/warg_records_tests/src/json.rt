@@ -7,9 +7,8 @@ use std::alloc::Global;
 use std::fmt::Debug;
 use std::process::Abort;
 use warg_crypto::{JsonError, JsonValue};
-use warg_records::registry::{
-    Checkpoint, LogId, LogLeaf, PackageName, RecordId, TimestampedCheckpoint,
-};
+use warg_records::RecordId;
+use warg_registry::{Checkpoint, LogId, LogLeaf, PackageName, TimestampedCheckpoint};
 
 // What the JSON text is read as.
 pub(crate) fn read<T: JsonValue + Drop>(

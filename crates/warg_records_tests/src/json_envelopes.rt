@@ -9,10 +9,9 @@ use std::process::Abort;
 use warg_crypto::hash::AnyHash;
 use warg_crypto::signing::Signature;
 use warg_crypto::{JsonError, JsonValue, Timestamp};
-use warg_records::registry::Checkpoint;
-use warg_records::{
-    ProtoEnvelopeBody, PublishedProtoEnvelopeBody, SerdeEnvelope, operator, package,
-};
+use warg_envelope::{ProtoEnvelopeBody, PublishedProtoEnvelopeBody, SerdeEnvelope};
+use warg_records::{operator, package};
+use warg_registry::Checkpoint;
 
 // Contents of the bytes 1a 00.
 const BODY: &str = "{\"contentBytes\":\"GgA=\",\"keyId\":\"k\",\"signature\":\"toy:\"}";

@@ -7,12 +7,9 @@ use std::alloc::Global;
 use std::process::Abort;
 use warg_crypto::hash::AnyHash;
 use warg_crypto::{JsonError, JsonValue};
-use warg_records::registry::{
-    Checkpoint, LogId, LogLeaf, PackageName, RecordId, TimestampedCheckpoint,
-};
-use warg_records::{
-    ProtoEnvelopeBody, PublishedProtoEnvelopeBody, SerdeEnvelope, operator, package,
-};
+use warg_envelope::{ProtoEnvelopeBody, PublishedProtoEnvelopeBody, SerdeEnvelope};
+use warg_records::{RecordId, operator, package};
+use warg_registry::{Checkpoint, LogId, LogLeaf, PackageName, TimestampedCheckpoint};
 
 // A hundred arrays in one another.
 const DEEP: &str =

@@ -2,7 +2,8 @@
 
 use crate::samples::empty_hash;
 use crate::values::{is, is_prefix_encoded};
-use warg_records::registry::{LogId, LogLeaf, MapLeaf, RecordId};
+use warg_records::RecordId;
+use warg_registry::{LogId, LogLeaf, MapLeaf};
 
 #[test]
 fn map_leaf(rt: HostRuntime) {

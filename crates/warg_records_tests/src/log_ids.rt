@@ -4,7 +4,7 @@ use crate::values::{is, is_encoded, is_shown};
 use std::alloc::Global;
 use std::process::Abort;
 use warg_crypto::hash::{AnyHash, HashAlgorithm, Sha256};
-use warg_records::registry::{LogId, PackageName};
+use warg_registry::{LogId, PackageName};
 
 fn is_package_log(rt: &impl Abort, alloc: Global, name: &str, want: &str) {
     let name = PackageName::new(alloc, name).expect(rt, name);

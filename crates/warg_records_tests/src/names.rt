@@ -3,7 +3,7 @@
 use crate::values::{is, is_made, is_prefix_encoded, is_shown, string};
 use std::alloc::Global;
 use std::process::Abort;
-use warg_records::registry::{PackageName, PackageNameError};
+use warg_registry::{PackageName, PackageNameError};
 
 fn named(rt: &impl Abort, alloc: Global, text: &str) -> PackageName {
     PackageName::new(alloc, text).expect(rt, text)

@@ -6,8 +6,9 @@ use std::fmt::{Debug, Display};
 use std::hash::{FoldHasher, Hash, Hasher};
 use std::process::Abort;
 use warg_crypto::hash::{AnyHash, HashAlgorithm};
-use warg_records::registry::{LogId, PackageName, PackageNameError, RecordId};
-use warg_records::{InvalidPermission, PermissionParseError, operator, package};
+use warg_permissions::{InvalidPermission, PermissionParseError};
+use warg_records::{RecordId, operator, package};
+use warg_registry::{LogId, PackageName, PackageNameError};
 
 // The value's text is this one, whatever options it is printed under.
 fn keeps_text<T: Display>(rt: &impl Abort, alloc: Global, value: &T, want: &str) {

@@ -5,7 +5,8 @@ use std::alloc::Global;
 use std::fmt::Debug;
 use std::process::Abort;
 use std::str::FromStr;
-use warg_records::{InvalidPermission, LogPermission, PermissionParseError, operator, package};
+use warg_permissions::{InvalidPermission, LogPermission, PermissionParseError};
+use warg_records::{operator, package};
 
 // The kind lists the permission, and names it by this text and this number.
 fn is_named<P: LogPermission + Debug + Drop>(

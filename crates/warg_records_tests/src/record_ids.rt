@@ -4,10 +4,10 @@ use crate::values::is_shown;
 use std::alloc::Global;
 use std::process::Abort;
 use warg_crypto::hash::Sha256;
-use warg_records::ProtoEnvelope;
+use warg_envelope::ProtoEnvelope;
+use warg_records::RecordId;
 use warg_records::operator::OperatorRecord;
 use warg_records::package::PackageRecord;
-use warg_records::registry::RecordId;
 
 fn has_package_id(rt: &impl Abort, alloc: Global, bytes: &[u8], want: &str) {
     let read = ProtoEnvelope::<PackageRecord>::from_protobuf(alloc, bytes);

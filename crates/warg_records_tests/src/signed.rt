@@ -9,10 +9,10 @@ use std::alloc::Global;
 use std::process::Abort;
 use warg_crypto::Signable;
 use warg_crypto::signing::Signature;
+use warg_envelope::{ProtoEnvelope, Record, SerdeEnvelope};
 use warg_records::operator::OperatorRecord;
 use warg_records::package::PackageRecord;
-use warg_records::registry::{Checkpoint, TimestampedCheckpoint};
-use warg_records::{ProtoEnvelope, Record, SerdeEnvelope};
+use warg_registry::{Checkpoint, TimestampedCheckpoint};
 
 fn envelope<C: Signable + Drop>(rt: &impl Abort, alloc: Global, contents: C) -> ProtoEnvelope<C> {
     let signed = ProtoEnvelope::signed_contents(alloc, &alice(rt, alloc), contents);

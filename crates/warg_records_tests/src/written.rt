@@ -6,10 +6,10 @@ use std::alloc::Global;
 use std::process::Abort;
 use warg_crypto::hash::{AnyHash, HashAlgorithm};
 use warg_crypto::{Decode, Encode, Timestamp};
-use warg_records::Record;
+use warg_envelope::Record;
+use warg_records::RecordId;
 use warg_records::operator::OperatorRecord;
 use warg_records::package::{PackageEntry, PackageRecord};
-use warg_records::registry::RecordId;
 
 fn package_sample(rt: &impl Abort, alloc: Global) -> PackageRecord {
     let mut record = package_record(package_entries(rt, alloc));

@@ -13,7 +13,7 @@ use serde_json::Value;
 use std::alloc::Global;
 use warg_crypto::JsonError;
 use warg_crypto::json::members::{items_in, string_value, text_in};
-use warg_records::LogPermission;
+use warg_permissions::LogPermission;
 
 /// The permission of a value.
 fn permission_in<P: LogPermission>(value: &Value) -> Result<P, JsonError>

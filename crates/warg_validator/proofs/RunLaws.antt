@@ -1,7 +1,7 @@
 -- What the reading of a whole log answers.
 use Rattle.std.proofs.Common.{◌≡◌, ℕ, List, Option, Result, Ok, Err, inl, inr}
 use Rattle.std.specs.Prelude.{IfOk}
-use Rattle.warg_records.specs.EnvelopeData.{EnvelopeData}
+use Rattle.warg_envelope.specs.EnvelopeData.{EnvelopeData}
 use Rattle.warg_validator.specs.declared.replay.RunCause.{RunCause}
 use Rattle.warg_validator.specs.declared.replay.RunError.{RunError}
 use Rattle.warg_validator.specs.Kinds.{SignatureRelation, Kind, KindLaws, IsAccepted, StandsFor}

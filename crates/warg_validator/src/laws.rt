@@ -1,8 +1,8 @@
 //! Laws over all logs of a kind. They have no effect.
 ghost use Rattle.std.specs.Prelude.{◌≡◌, ◌==◌, ◌&&◌, ◌↔◌, ℕ, ◌+◌, List, [], ◌∷◌, ◌++◌, length, map, take, Option, Some, None, true};
 ghost use Rattle.std.specs.List.{slice_get};
-ghost use Rattle.warg_records.specs.Envelopes.{EnvelopeFault, envelope_of};
-ghost use Rattle.warg_records.specs.EnvelopeData.{EnvelopeData};
+ghost use Rattle.warg_envelope.specs.Envelopes.{EnvelopeFault, envelope_of};
+ghost use Rattle.warg_envelope.specs.EnvelopeData.{EnvelopeData};
 ghost use Rattle.warg_validator.specs.Kinds.{SignatureRelation, either, IsAccepted, StandsFor, last_id};
 ghost use Rattle.warg_validator.specs.Outcomes.{same_cause, HasNoOffence, IsFirstOffence, IsFoundBy, first_offence_from};
 ghost use Rattle.warg_validator.specs.Strings.{Cause, read_all};
@@ -13,7 +13,7 @@ ghost use Rattle.warg_validator.specs.declared.replay.RunError.{RunError};
 use crate::effect::Effect;
 use crate::replay::{RunCause, RunError};
 use crate::validator::Validator;
-use warg_records::ParseEnvelopeError;
+use warg_envelope::ParseEnvelopeError;
 
 /// A log with one record more is accepted exactly if the log is and the record has no offence after
 /// it, and then says what the record makes of what the log said.

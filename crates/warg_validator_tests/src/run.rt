@@ -4,7 +4,7 @@ use std::alloc::{AllocError, Global};
 use std::test::Fail;
 use warg_crypto::DecodeError;
 use warg_crypto::toy::ToyVerifier;
-use warg_records::ParseEnvelopeError;
+use warg_envelope::ParseEnvelopeError;
 use warg_validator::{RunCause, RunError, Validator, run, run_from};
 
 /// A string whose record says the number; at 255 one whose content is no record.

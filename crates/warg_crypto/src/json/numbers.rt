@@ -1,10 +1,9 @@
 //! JSON of whole numbers.
 
 ghost use Rattle.std.specs.Prelude.{◌≡◌, ◌^◌, ℕ, []};
-ghost use Rattle.serde_json.specs.Data.{number, unsigned};
 ghost use Rattle.serde_json.specs.View.{view};
-ghost use Rattle.warg_crypto.specs.Json.{Answers, wrote};
-ghost use Rattle.warg_crypto.specs.Numbers.{number_below};
+ghost use Rattle.warg_crypto.specs.Json.{Answers};
+ghost use Rattle.warg_crypto.specs.Numbers.{number_below, number_in, number_json};
 
 use crate::json::{JsonError, JsonValue};
 use serde_json::Value;
@@ -12,7 +11,7 @@ use std::alloc::Global;
 
 /// The number of a value that is a whole one below 2^64, else `WrongType`.
 fn number_in(value: &Value) -> Result<u64, JsonError>
-    ensures { Answers (λ n. n) result (number_below (2 ^ 64) (view value.now)) }
+    ensures { Answers (λ n. n) result (number_in (view value.now)) }
 {
     value.as_u64().ok_or(JsonError::WrongType)
 }
@@ -22,9 +21,9 @@ impl JsonValue for u64 {
 
     ghost plain = { λ n. n };
 
-    ghost writes = { λ n. wrote (number (unsigned n)) };
+    ghost writes = { number_json };
 
-    ghost reads = { number_below (2 ^ 64) };
+    ghost reads = { number_in };
 
     ghost versions = { λ _. [] };
 
@@ -44,7 +43,7 @@ impl JsonValue for u32 {
 
     ghost plain = { λ n. n };
 
-    ghost writes = { λ n. wrote (number (unsigned n)) };
+    ghost writes = { number_json };
 
     ghost reads = { number_below (2 ^ 32) };
 
@@ -70,9 +69,9 @@ impl JsonValue for usize {
 
     ghost plain = { λ n. n };
 
-    ghost writes = { λ n. wrote (number (unsigned n)) };
+    ghost writes = { number_json };
 
-    ghost reads = { number_below (2 ^ 64) };
+    ghost reads = { number_in };
 
     ghost versions = { λ _. [] };
 

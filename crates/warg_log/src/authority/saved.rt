@@ -8,7 +8,7 @@ use indexmap::IndexMap;
 use std::alloc::Global;
 use warg_crypto::hash::HashAlgorithm;
 use warg_crypto::signing::{KeyID, PublicKey};
-use warg_records::LogPermission;
+use warg_permissions::LogPermission;
 
 impl<P: LogPermission> Authority<P> {
     /// The authority of these maps.

@@ -8,7 +8,7 @@ use indexmap::IndexSet;
 use serde_json::Value;
 use std::alloc::Global;
 use warg_crypto::JsonError;
-use warg_records::LogPermission;
+use warg_permissions::LogPermission;
 use warg_saved::{SavedValue, Writer};
 
 impl<P: LogPermission> SavedValue for PermissionSet<P> {

@@ -5,7 +5,7 @@ ghost use Rattle.serde_json.specs.Data.{object};
 ghost use Rattle.serde_json.specs.View.{members_view, view};
 ghost use Rattle.warg_crypto.specs.Json.{Gives};
 ghost use Rattle.warg_crypto.specs.Pairs.{plain_pairs};
-ghost use Rattle.warg_records.specs.declared.operator.permission.Permission.{Permission as OfPermission};
+ghost use Rattle.warg_permissions.specs.declared.operator.Permission.{Permission as OfPermission};
 ghost use Rattle.warg_saved.specs.Fit.{RefusesCase, first_case, is_nil, keys_case, rights_case, unless_case, version_case};
 ghost use Rattle.warg_saved.specs.JsonText.{GivesOfText, in_text};
 ghost use Rattle.warg_saved.specs.Texts.{text_of};
@@ -29,7 +29,7 @@ use warg_crypto::signing::{KeyID, PublicKey};
 use warg_crypto::{Incoherence, JsonError, JsonValue};
 use warg_log::{Head, Log, PermissionSet, head_member, head_version, put_head, put_head_text};
 use warg_records::operator::Permission;
-use warg_records::registry::PackageName;
+use warg_registry::PackageName;
 use warg_saved::{
     JsonTextError, MemberTexts, algorithm_member, are_no_keys, check_begun, check_empty,
     check_keys, check_rights, check_version, is_empty, keys_member, map_member, put_algorithm,

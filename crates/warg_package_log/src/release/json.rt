@@ -20,7 +20,7 @@ use warg_crypto::json::members::{
 };
 use warg_crypto::signing::KeyID;
 use warg_crypto::{JsonError, JsonValue, Timestamp};
-use warg_records::registry::RecordId;
+use warg_records::RecordId;
 use warg_saved::SavedName;
 
 /// The text of the version.

@@ -6,7 +6,7 @@ ghost use Rattle.serde_json.specs.Data.{object};
 ghost use Rattle.serde_json.specs.View.{members_view, view};
 ghost use Rattle.warg_crypto.specs.Json.{AreReadBack, Gives};
 ghost use Rattle.warg_crypto.specs.Pairs.{plain_pairs};
-ghost use Rattle.warg_records.specs.declared.package.permission.Permission.{Permission as OfPermission};
+ghost use Rattle.warg_permissions.specs.declared.package.Permission.{Permission as OfPermission};
 ghost use Rattle.warg_saved.specs.Fit.{RefusesCase, first_case, is_nil, keys_case, rights_case, unless_case, version_case};
 ghost use Rattle.warg_saved.specs.JsonText.{GivesOfText, in_text};
 ghost use Rattle.warg_saved.specs.Texts.{text_of};

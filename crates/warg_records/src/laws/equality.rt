@@ -1,16 +1,18 @@
 //! When values of the public types are equal: exactly where they are one, or where their plain data are, if they own
-//! memory.
+//! memory. And how ids are ordered and printed.
 
-ghost use Rattle.std.specs.Prelude.{◌≡◌, ◌↔◌, IsTrue, true};
+ghost use Rattle.std.specs.Prelude.{◌≡◌, ◌↔◌, IsTrue};
+ghost use Rattle.std.specs.Fmt.{WritesOnOk, WritesStyledOnOk};
+ghost use Rattle.warg_crypto.specs.HashText.{hash_text};
 ghost use Rattle.warg_records.specs.OperatorEntries as in_operator;
 ghost use Rattle.warg_records.specs.PackageEntries as in_package;
 
-use crate::operator::{self, OperatorEntry, OperatorRecord};
-use crate::package::{self, PackageEntry, PackageRecord};
-use crate::{
-    InvalidPermission, ParseEnvelopeError, PermissionParseError, ProtoEnvelope, ProtoEnvelopeBody,
-    PublishedProtoEnvelope, PublishedProtoEnvelopeBody, SerdeEnvelope,
-};
+use crate::operator::{OperatorEntry, OperatorRecord};
+use crate::package::{PackageEntry, PackageRecord};
+use crate::record_id::RecordId;
+use std::cmp::Ordering;
+use std::fmt::{Display, Formatter, Result, Write};
+use warg_crypto::hash::AnyHash;
 
 /// Entries of a package log.
 pub fn are_same_package_entries(a: &PackageEntry, b: &PackageEntry) -> bool
@@ -40,80 +42,24 @@ pub fn are_same_operator_records(a: &OperatorRecord, b: &OperatorRecord) -> bool
     a == b
 }
 
-/// Permissions of a package log.
-pub fn are_same_package_permissions(a: package::Permission, b: package::Permission) -> bool
-    ensures { IsTrue result ↔ (a ≡ b) }
-{
-    a == b
-}
-
-/// Permissions of an operator log.
-pub fn are_same_operator_permissions(a: operator::Permission, b: operator::Permission) -> bool
-    ensures { IsTrue result ↔ (a ≡ b) }
-{
-    a == b
-}
-
-/// Envelopes: as their records are equal, and the bytes, the key id and the signature one.
-pub fn are_same_envelopes<C: Eq>(a: &ProtoEnvelope<C>, b: &ProtoEnvelope<C>) -> bool
-    ensures { IsTrue result ↔ ((C.eq a.now.contents b.now.contents ≡ true) × (a.now.envelope ≡ b.now.envelope)) }
-{
-    a == b
-}
-
-/// Envelopes whose content bytes are not read yet.
-pub fn are_same_bodies(a: &ProtoEnvelopeBody, b: &ProtoEnvelopeBody) -> bool
+/// `==` of ids of records is equality of hashes.
+pub fn are_same_record_ids(a: &RecordId, b: &RecordId) -> bool
     ensures { IsTrue result ↔ (a.now ≡ b.now) }
 {
     a == b
 }
 
-/// Published envelopes: as their envelopes are equal, and the places one.
-pub fn are_same_published_envelopes<C: Eq>(
-    a: &PublishedProtoEnvelope<C>,
-    b: &PublishedProtoEnvelope<C>,
-) -> bool
-    ensures { IsTrue result ↔ ((C.eq a.now.envelope.contents b.now.envelope.contents ≡ true)
-        × (a.now.envelope.envelope ≡ b.now.envelope.envelope) × (a.now.registry_index ≡ b.now.registry_index)) }
+/// Ids of records are ordered as their hashes.
+pub fn compare_record_ids(a: &RecordId, b: &RecordId) -> Ordering
+    ensures { result ≡ ⟦<AnyHash as Ord>⟧.cmp a.now.hash b.now.hash }
 {
-    a == b
+    a.cmp(b)
 }
 
-/// Published envelopes whose content bytes are not read yet.
-pub fn are_same_published_bodies(
-    a: &PublishedProtoEnvelopeBody,
-    b: &PublishedProtoEnvelopeBody,
-) -> bool
-    ensures { IsTrue result ↔ (a.now ≡ b.now) }
+/// The id of a record prints as the text of its hash.
+pub fn print_record_id<W: Write>(id: &RecordId, f: &mut Formatter<W>) -> Result
+    ensures plain { WritesOnOk W.write_str_gives f.old result (hash_text id.now.hash) f.new }
+    ensures styled { WritesStyledOnOk W.write_str_gives f.old result (hash_text id.now.hash) f.new }
 {
-    a == b
-}
-
-/// Envelopes that keep no bytes: as their contents are equal, and the key id and the signature one.
-pub fn are_same_serde_envelopes<C: Eq>(a: &SerdeEnvelope<C>, b: &SerdeEnvelope<C>) -> bool
-    ensures { IsTrue result ↔ ((C.eq a.now.contents b.now.contents ≡ true)
-        × (a.now.key_id ≡ b.now.key_id) × (a.now.signature ≡ b.now.signature)) }
-{
-    a == b
-}
-
-/// Why bytes are no envelope.
-pub fn are_same_parse_errors(a: ParseEnvelopeError, b: ParseEnvelopeError) -> bool
-    ensures { IsTrue result ↔ (a ≡ b) }
-{
-    a == b
-}
-
-/// Why a number names no permission.
-pub fn are_same_permission_errors(a: PermissionParseError, b: PermissionParseError) -> bool
-    ensures { IsTrue result ↔ (a ≡ b) }
-{
-    a == b
-}
-
-/// Why a text names no permission: there is one reason.
-pub fn are_same_invalid_permissions(a: InvalidPermission, b: InvalidPermission) -> bool
-    ensures { IsTrue result ↔ (a ≡ b) }
-{
-    a == b
+    id.fmt(f)
 }

@@ -5,12 +5,12 @@ ghost use Rattle.warg_records.specs.OperatorEntries as in_operator;
 ghost use Rattle.warg_records.specs.PackageEntries as in_package;
 ghost use Rattle.warg_records.specs.Whole.{IsReadable, IsWhole, IsWholeEntry, IsWholeHash, IsWholeLink, IsWholeOperatorOwnEntry, IsWholePackageOwnEntry, IsWholeNamedBytes, IsWholeTime};
 
-use super::byte_range;
 use crate::operator::{OperatorEntry, OperatorRecord};
 use crate::package::{PackageEntry, PackageRecord};
-use crate::registry::RecordId;
+use crate::record_id::RecordId;
 use warg_crypto::Timestamp;
 use warg_crypto::hash::AnyHash;
+use warg_crypto::laws::byte_range;
 use warg_crypto::signing::PublicKey;
 
 fn hash_is_whole(hash: &AnyHash)

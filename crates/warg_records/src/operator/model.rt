@@ -4,10 +4,10 @@ ghost use Rattle.std.specs.Prelude.{◌≡◌, IfOk};
 ghost use Rattle.warg_records.specs.OperatorEntries.{entry_data, required_permission_of};
 
 use crate::log_record::LogRecord;
-use crate::operator::permission::Permission;
 use std::alloc::AllocError;
 use warg_crypto::hash::HashAlgorithm;
 use warg_crypto::signing::{KeyID, PublicKey};
+use warg_permissions::operator::Permission;
 
 /// A record of an operator log.
 pub type OperatorRecord = LogRecord<OperatorEntry>;

@@ -3,61 +3,22 @@
 ghost use Rattle.std.specs.Prelude.{◌≡◌, Option};
 ghost use Rattle.warg_protobuf.specs.OperatorEntry.{OperatorMember, operator_entry_view, operator_entry_table, operator_entry_from};
 ghost use Rattle.warg_protobuf.specs.OperatorRecord.{operator_record_view};
-ghost use Rattle.warg_protobuf.specs.GrantFlat.{grant_flat_view};
-ghost use Rattle.warg_protobuf.specs.Init.{init_view};
-ghost use Rattle.warg_protobuf.specs.RevokeFlat.{revoke_flat_view};
-ghost use Rattle.warg_records.specs.Faults.{fault_of, IsReading};
+ghost use Rattle.warg_envelope.specs.Faults.{fault_of, IsReading};
 ghost use Rattle.warg_records.specs.OperatorEntries.{OperatorOwnEntry, entry_data, record_data};
-ghost use Rattle.warg_records.specs.OperatorPermissions.{permission_of};
-ghost use Rattle.warg_records.specs.OperatorReading.{operator_entry_of, operator_record_of};
-ghost use Rattle.warg_records.specs.Steps.{grant_of, init_of, record_of, revoke_of, shared};
-ghost use Rattle.warg_records.specs.declared.operator.permission.Permission.{Permission};
+ghost use Rattle.warg_records.specs.OperatorReading.{operator_entry_of};
+ghost use Rattle.warg_records.specs.Steps.{record_of};
+ghost use Rattle.warg_permissions.specs.declared.operator.Permission.{Permission};
 
 use crate::entries::FromMessage;
 use crate::log_record::LogRecord;
 use crate::operator::{OperatorEntry, OperatorRecord, Permission};
-use crate::reading::{read_init, read_key, read_permissions};
+use crate::reading::{read_grant, read_init, read_revoke};
 use std::alloc::Global;
 use warg_crypto::DecodeError;
-use warg_crypto::signing::KeyID;
 use warg_protobuf as message;
 use warg_protobuf::laws::fields_give_values;
 use warg_protobuf::operator_entry::Contents;
-use warg_protobuf::{Message, OperatorGrantFlat, OperatorInit, OperatorRevokeFlat, WireError};
-
-// A member of the entry's oneof.
-
-fn read_init_entry(alloc: Global, message: OperatorInit) -> Result<OperatorEntry, DecodeError>
-    ensures { IsReading entry_data fault_of (shared (init_of (init_view message))) result }
-{
-    let (hash_algorithm, key) = read_init(
-        alloc,
-        message.key.as_str(),
-        message.hash_algorithm.as_str(),
-    )?;
-    Ok(OperatorEntry::Init {
-        hash_algorithm,
-        key,
-    })
-}
-
-fn read_grant(alloc: Global, message: OperatorGrantFlat) -> Result<OperatorEntry, DecodeError>
-    ensures { IsReading entry_data fault_of (shared (grant_of permission_of (grant_flat_view message))) result }
-{
-    let key = read_key(alloc, message.key.as_str())?;
-    let permissions = read_permissions::<Permission>(alloc, message.permissions)?;
-    Ok(OperatorEntry::GrantFlat { key, permissions })
-}
-
-fn read_revoke(alloc: Global, message: OperatorRevokeFlat) -> Result<OperatorEntry, DecodeError>
-    ensures { IsReading entry_data fault_of (shared (revoke_of permission_of (revoke_flat_view message))) result }
-{
-    let permissions = read_permissions::<Permission>(alloc, message.permissions)?;
-    Ok(OperatorEntry::RevokeFlat {
-        key_id: KeyID::from(message.key_id),
-        permissions,
-    })
-}
+use warg_protobuf::{Message, WireError};
 
 impl FromMessage for OperatorEntry {
     type Message = message::OperatorEntry;
@@ -86,9 +47,24 @@ impl FromMessage for OperatorEntry {
             return Err(DecodeError::EmptyEntry);
         };
         match contents {
-            Contents::Init(init) => read_init_entry(alloc, init),
-            Contents::GrantFlat(grant) => read_grant(alloc, grant),
-            Contents::RevokeFlat(revoke) => read_revoke(alloc, revoke),
+            Contents::Init(init) => {
+                let (hash_algorithm, key) = read_init(alloc, init)?;
+                Ok(OperatorEntry::Init {
+                    hash_algorithm,
+                    key,
+                })
+            }
+            Contents::GrantFlat(grant) => {
+                let (key, permissions) = read_grant::<Permission>(alloc, grant)?;
+                Ok(OperatorEntry::GrantFlat { key, permissions })
+            }
+            Contents::RevokeFlat(revoke) => {
+                let (key_id, permissions) = read_revoke::<Permission>(alloc, revoke)?;
+                Ok(OperatorEntry::RevokeFlat {
+                    key_id,
+                    permissions,
+                })
+            }
             Contents::DefineNamespace(define) => {
                 Ok(OperatorEntry::DefineNamespace {
                     namespace: define.namespace,
@@ -134,12 +110,4 @@ impl OperatorRecord {
     {
         LogRecord::from_message(alloc, message)
     }
-}
-
-// The record that content bytes say.
-#[tactic(auto, unfolding(crate::specs::OperatorReading::operator_record_of))]
-pub(crate) fn read_record(alloc: Global, content: &[u8]) -> Result<OperatorRecord, DecodeError>
-    ensures { IsReading record_data fault_of (operator_record_of content.now) result }
-{
-    LogRecord::from_content(alloc, content)
 }

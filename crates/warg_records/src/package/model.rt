@@ -6,11 +6,11 @@ ghost use Rattle.std.specs.Option.{option_copied};
 ghost use Rattle.warg_records.specs.PackageEntries.{entry_data, required_permission_of, content_of};
 
 use crate::log_record::LogRecord;
-use crate::package::permission::Permission;
 use semver::Version;
 use std::alloc::AllocError;
 use warg_crypto::hash::{AnyHash, HashAlgorithm};
 use warg_crypto::signing::{KeyID, PublicKey};
+use warg_permissions::package::Permission;
 
 /// A record of a package log.
 pub type PackageRecord = LogRecord<PackageEntry>;

@@ -7,67 +7,25 @@ ghost use Rattle.warg_protobuf.specs.Release.{release_view};
 ghost use Rattle.warg_protobuf.specs.Yank.{yank_view};
 ghost use Rattle.warg_protobuf.specs.PackageEntry.{PackageMember, package_entry_view, package_entry_table, package_entry_from};
 ghost use Rattle.warg_protobuf.specs.PackageRecord.{package_record_view};
-ghost use Rattle.warg_protobuf.specs.GrantFlat.{grant_flat_view};
-ghost use Rattle.warg_protobuf.specs.Init.{init_view};
-ghost use Rattle.warg_protobuf.specs.RevokeFlat.{revoke_flat_view};
-ghost use Rattle.warg_records.specs.Faults.{fault_of, IsReading};
+ghost use Rattle.warg_envelope.specs.Faults.{fault_of, IsReading};
 ghost use Rattle.warg_records.specs.PackageEntries.{PackageOwnEntry, entry_data, record_data};
-ghost use Rattle.warg_records.specs.PackagePermissions.{permission_of};
-ghost use Rattle.warg_records.specs.PackageReading.{package_entry_of, package_record_of, release_of, version_of, yank_of};
-ghost use Rattle.warg_records.specs.Steps.{grant_of, init_of, record_of, revoke_of, shared, own};
-ghost use Rattle.warg_records.specs.declared.package.permission.Permission.{Permission};
+ghost use Rattle.warg_records.specs.PackageReading.{package_entry_of, release_of, version_of, yank_of};
+ghost use Rattle.warg_records.specs.Steps.{own, record_of};
+ghost use Rattle.warg_permissions.specs.declared.package.Permission.{Permission};
 
 use crate::entries::FromMessage;
 use crate::log_record::LogRecord;
 use crate::package::{PackageEntry, PackageRecord, Permission};
-use crate::reading::{read_init, read_key, read_permissions};
+use crate::reading::{read_grant, read_init, read_revoke};
 use semver::Version;
 use std::alloc::{AllocError, Global};
 use std::str::FromStr;
 use warg_crypto::DecodeError;
 use warg_crypto::hash::AnyHash;
-use warg_crypto::signing::KeyID;
 use warg_protobuf as message;
 use warg_protobuf::laws::fields_give_values;
 use warg_protobuf::package_entry::Contents;
-use warg_protobuf::{
-    Message, PackageGrantFlat, PackageInit, PackageRelease, PackageRevokeFlat, PackageYank,
-    WireError,
-};
-
-// A member of the entry's oneof.
-
-fn read_init_entry(alloc: Global, message: PackageInit) -> Result<PackageEntry, DecodeError>
-    ensures { IsReading entry_data fault_of (shared (init_of (init_view message))) result }
-{
-    let (hash_algorithm, key) = read_init(
-        alloc,
-        message.key.as_str(),
-        message.hash_algorithm.as_str(),
-    )?;
-    Ok(PackageEntry::Init {
-        hash_algorithm,
-        key,
-    })
-}
-
-fn read_grant(alloc: Global, message: PackageGrantFlat) -> Result<PackageEntry, DecodeError>
-    ensures { IsReading entry_data fault_of (shared (grant_of permission_of (grant_flat_view message))) result }
-{
-    let key = read_key(alloc, message.key.as_str())?;
-    let permissions = read_permissions::<Permission>(alloc, message.permissions)?;
-    Ok(PackageEntry::GrantFlat { key, permissions })
-}
-
-fn read_revoke(alloc: Global, message: PackageRevokeFlat) -> Result<PackageEntry, DecodeError>
-    ensures { IsReading entry_data fault_of (shared (revoke_of permission_of (revoke_flat_view message))) result }
-{
-    let permissions = read_permissions::<Permission>(alloc, message.permissions)?;
-    Ok(PackageEntry::RevokeFlat {
-        key_id: KeyID::from(message.key_id),
-        permissions,
-    })
-}
+use warg_protobuf::{Message, PackageRelease, PackageYank, WireError};
 
 // Whether parsing a version found no memory.
 fn is_memory_error(error: semver::Error) -> bool
@@ -133,9 +91,24 @@ impl FromMessage for PackageEntry {
             return Err(DecodeError::EmptyEntry);
         };
         match contents {
-            Contents::Init(init) => read_init_entry(alloc, init),
-            Contents::GrantFlat(grant) => read_grant(alloc, grant),
-            Contents::RevokeFlat(revoke) => read_revoke(alloc, revoke),
+            Contents::Init(init) => {
+                let (hash_algorithm, key) = read_init(alloc, init)?;
+                Ok(PackageEntry::Init {
+                    hash_algorithm,
+                    key,
+                })
+            }
+            Contents::GrantFlat(grant) => {
+                let (key, permissions) = read_grant::<Permission>(alloc, grant)?;
+                Ok(PackageEntry::GrantFlat { key, permissions })
+            }
+            Contents::RevokeFlat(revoke) => {
+                let (key_id, permissions) = read_revoke::<Permission>(alloc, revoke)?;
+                Ok(PackageEntry::RevokeFlat {
+                    key_id,
+                    permissions,
+                })
+            }
             Contents::Release(release) => read_release(alloc, release),
             Contents::Yank(yank) => read_yank(alloc, yank),
         }
@@ -172,12 +145,4 @@ impl PackageRecord {
     {
         LogRecord::from_message(alloc, message)
     }
-}
-
-// The record that content bytes say.
-#[tactic(auto, unfolding(crate::specs::PackageReading::package_record_of))]
-pub(crate) fn read_record(alloc: Global, content: &[u8]) -> Result<PackageRecord, DecodeError>
-    ensures { IsReading record_data fault_of (package_record_of content.now) result }
-{
-    LogRecord::from_content(alloc, content)
 }

@@ -1,6 +1,6 @@
 use Rattle.std.proofs.Common.{◌≡◌, ◌||◌, take}
 use Rattle.indexmap.specs.IndexSet.{contains}
-use Rattle.warg_records.specs.Permissions.{lists}
+use Rattle.warg_permissions.specs.Permissions.{lists}
 use Rattle.warg_log.proofs.rights.add_all.Given as goal
 
 abbrev pub invariant-loop-permission : goal.invariant-loop-permission

@@ -3,7 +3,7 @@ use Rattle.std.specs.Option.{option_map_or, option_or}
 use Rattle.std.specs.Map.{lookup}
 use Rattle.std.specs.Str.{bytes_eq}
 use Rattle.std.specs.List.{list_any}
-use Rattle.warg_records.specs.Permissions.{lists}
+use Rattle.warg_permissions.specs.Permissions.{lists}
 use Rattle.warg_log.specs.Rights.{layered}
 use Rattle.warg_log.proofs.RightsLemmas.{holds-give, entries-give}
 use Rattle.warg_log.proofs.rights.give.Goals as goal

@@ -1,6 +1,6 @@
 use Rattle.std.proofs.Common.{◌≡◌, [], false, if◌then◌else◌, take, drop}
 use Rattle.indexmap.specs.IndexSet.{contains}
-use Rattle.warg_records.specs.Permissions.{lists}
+use Rattle.warg_permissions.specs.Permissions.{lists}
 use Rattle.warg_log.specs.Rights.{first_missing}
 use Rattle.warg_log.proofs.rights.remove_all.Given as goal
 

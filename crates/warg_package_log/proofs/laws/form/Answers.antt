@@ -1,4 +1,4 @@
-use Rattle.warg_records.specs.PackagePermissions.{same_permission}
+use Rattle.warg_permissions.specs.PackagePermissions.{same_permission}
 use Rattle.warg_records.specs.PackageReading.{package_record_of}
 use Rattle.warg_log.proofs.FormLaws.{accepted-read, accepted-form}
 use Rattle.warg_package_log.specs.ListedReleases.{listed_releases}

@@ -3,7 +3,7 @@ use Rattle.warg_protobuf.specs.PackageRecord.{IsPackageRecord, package_record_ta
 use Rattle.warg_records.specs.OperatorReading.{operator_entry_of, operator_record_of}
 use Rattle.warg_records.specs.PackageReading.{package_entry_of, package_record_of}
 use Rattle.warg_records.specs.Relations.{IsRecord, HasRecordFault}
-use Rattle.warg_records.proofs.Relations.{reads_envelope}
+use Rattle.warg_envelope.proofs.EnvelopeReading.{reads_envelope}
 use Rattle.warg_records.proofs.laws.envelope_reading_computes.Goals as goal
 
 pub returns-clause-of_package : goal.returns-clause-of_package

@@ -1,7 +1,7 @@
 use Rattle.std.proofs.Common.{◌≡◌, Ok, ◌∷◌, [], ◌++◌, List, length, sym, ap, subst, ◌∙◌, append_assoc, arith}
 use Rattle.std.proofs.lemmas.Result.{err_from_is_err_and}
 use Rattle.std.specs.Vec.Iter.{into_iter_items}
-use Rattle.warg_records.specs.Faults.{TellsFault, fault_of}
+use Rattle.warg_envelope.specs.Faults.{TellsFault, fault_of}
 use Rattle.warg_records.specs.Steps.{each, permission_in}
 use Rattle.warg_records.proofs.Each.{each-grows, each-stops}
 use Rattle.warg_records.proofs.reading.read_permissions.Goals as goal

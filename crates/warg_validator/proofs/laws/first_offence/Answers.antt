@@ -1,4 +1,4 @@
-use Rattle.warg_records.specs.Envelopes.{envelope_of}
+use Rattle.warg_envelope.specs.Envelopes.{envelope_of}
 use Rattle.warg_validator.proofs.LogLaws.{first-searched}
 use Rattle.warg_validator.proofs.laws.first_offence.Goals as goal
 

@@ -1,4 +1,4 @@
-use Rattle.warg_records.specs.Envelopes.{envelope_of}
+use Rattle.warg_envelope.specs.Envelopes.{envelope_of}
 use Rattle.warg_validator.proofs.LogLaws.{lawful-parts, first-parts}
 use Rattle.warg_validator.proofs.laws.resumption.Goals as goal
 

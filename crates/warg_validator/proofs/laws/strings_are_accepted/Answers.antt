@@ -1,4 +1,4 @@
-use Rattle.warg_records.specs.Envelopes.{envelope_of}
+use Rattle.warg_envelope.specs.Envelopes.{envelope_of}
 use Rattle.warg_validator.proofs.LogLaws.{strings-accepted}
 use Rattle.warg_validator.proofs.laws.strings_are_accepted.Goals as goal
 

@@ -3,7 +3,7 @@ use Rattle.std.specs.Prelude.{string_bytes, Some, None, is_none}
 use Rattle.std.specs.Option.{option_map, option_or}
 use Rattle.warg_log.specs.History.{Wrong}
 use Rattle.warg_log.specs.Offences.{unless}
-use Rattle.warg_records.specs.KebabNames.{is_kebab_name}
+use Rattle.warg_registry.specs.KebabNames.{is_kebab_name}
 use Rattle.warg_operator_log.specs.Namespaces.{NamespaceAlreadyDefined, InvalidNamespace, names, names_over}
 use Rattle.warg_operator_log.specs.NamespaceMap.{namespace_view}
 use Rattle.warg_operator_log.proofs.NamespaceLemmas.{known-as, over-there, over-noted, over-missing}

@@ -1,7 +1,7 @@
 use Rattle.std.proofs.Common.{sym, ap, ◌∙◌, subst}
 use Rattle.std.specs.Option.{option_map}
-use Rattle.warg_records.specs.KebabNames.{IsKebabName}
-use Rattle.warg_records.proofs.KebabLemmas.{kebab_from}
+use Rattle.warg_registry.specs.KebabNames.{IsKebabName}
+use Rattle.warg_registry.proofs.KebabLemmas.{kebab_from}
 use Rattle.warg_operator_log.specs.Namespaces.{names}
 use Rattle.warg_operator_log.specs.NamespaceMap.{namespace_view, HasKebabNames}
 use Rattle.warg_operator_log.proofs.NamespaceLemmas.{names-lookup, known-kebab, on_found}

@@ -1,6 +1,6 @@
 use Rattle.std.proofs.Common.{ℕ, List, sym, subst, ◌∙◌}
-use Rattle.warg_records.specs.OperatorPermissions.{same_permission}
-use Rattle.warg_records.specs.declared.operator.permission.Permission.{Permission}
+use Rattle.warg_permissions.specs.OperatorPermissions.{same_permission}
+use Rattle.warg_permissions.specs.declared.operator.Permission.{Permission}
 use Rattle.warg_saved.proofs.Optional.{same_pairs}
 use Rattle.warg_log.specs.History.{IsCoherent}
 use Rattle.warg_operator_log.specs.Namespaces.{Namespace, rules}

@@ -4,7 +4,7 @@ use Rattle.std.proofs.lemmas.Result.{err_from_is_err_and}
 use Rattle.serde_json.specs.Data.{no_members}
 use Rattle.warg_crypto.specs.JsonTexts.{algorithm_json, key_json}
 use Rattle.warg_crypto.specs.Members.{put_option}
-use Rattle.warg_records.specs.PackagePermissions.{permission_text}
+use Rattle.warg_permissions.specs.PackagePermissions.{permission_text}
 use Rattle.warg_saved.specs.Maps.{put_pairs}
 use Rattle.warg_saved.specs.Names.{text_name, version_name}
 use Rattle.warg_saved.specs.Permissions.{permissions_json}

@@ -2,8 +2,8 @@ use Rattle.std.proofs.Common.{ℕ, List, [], ◌∷◌, ap, sym, subst, ◌∙�
 use Rattle.warg_crypto.specs.Json.{Version}
 use Rattle.warg_crypto.specs.JsonTexts.{key_in, key_json}
 use Rattle.warg_crypto.specs.NamedBytes.{NamedBytes}
-use Rattle.warg_records.specs.PackagePermissions.{permission_in, permission_text, same_permission}
-use Rattle.warg_records.specs.declared.package.permission.Permission.{Permission}
+use Rattle.warg_permissions.specs.PackagePermissions.{permission_in, permission_text, same_permission}
+use Rattle.warg_permissions.specs.declared.package.Permission.{Permission}
 use Rattle.warg_saved.specs.Backs.{AreBack, AreVersionsBack}
 use Rattle.warg_saved.specs.Names.{text_name, text_named, version_name, version_named}
 use Rattle.warg_saved.specs.Permissions.{permissions_in, permissions_json}

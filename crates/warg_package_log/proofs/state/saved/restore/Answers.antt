@@ -1,6 +1,6 @@
 use Rattle.std.proofs.Common.{ℕ, List, sym, subst, ◌∙◌}
-use Rattle.warg_records.specs.PackagePermissions.{same_permission}
-use Rattle.warg_records.specs.declared.package.permission.Permission.{Permission}
+use Rattle.warg_permissions.specs.PackagePermissions.{same_permission}
+use Rattle.warg_permissions.specs.declared.package.Permission.{Permission}
 use Rattle.warg_saved.proofs.Optional.{same_pairs}
 use Rattle.warg_log.specs.History.{IsCoherent}
 use Rattle.warg_package_log.specs.Releases.{ReleaseView, rules}

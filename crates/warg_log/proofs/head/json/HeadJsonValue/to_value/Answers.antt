@@ -4,7 +4,7 @@ use Rattle.serde_json.specs.View.{members_view, view}
 use Rattle.warg_crypto.specs.JsonTexts.{time_in}
 use Rattle.warg_crypto.specs.MemberLaws.{read_again}
 use Rattle.warg_crypto.specs.Members.{put_some}
-use Rattle.warg_records.specs.RegistryJson.{record_id_in}
+use Rattle.warg_records.specs.RecordIdJson.{record_id_in}
 use Rattle.warg_log.proofs.HeadJsonLaws.{head_back}
 use Rattle.warg_log.proofs.head.json.HeadJsonValue.to_value.Goals as goal
 

@@ -1,0 +1,2 @@
+pub mod EnvelopeReading
+pub mod EnvelopeJsonLaws

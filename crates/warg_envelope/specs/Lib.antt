@@ -1,0 +1,10 @@
+pub mod Faults
+pub mod FaultLaws
+pub mod EnvelopeData
+pub mod ParseErrors
+pub mod Envelopes
+pub mod FaultNames
+pub mod Same
+pub mod Mentions
+pub mod EnvelopeRelations
+pub mod EnvelopeJson

@@ -1,0 +1,66 @@
+//! Envelopes: a record in its bytes as they came, who signed it, and the signature. They are read from bytes with the
+//! first fault named, written, and signed.
+#![tactic(auto)]
+
+ghost use Rattle.std.specs.Prelude.{◌≡◌, ℕ, List, Result, Ok, Err, Option, None, IfOk};
+ghost use Rattle.warg_crypto.specs.Coding.{IsDecoded};
+ghost use Rattle.warg_crypto.specs.declared.coding.DecodeError.{DecodeError};
+ghost use Rattle.warg_crypto.specs.declared.coding.DecodeError.TheVariants as error;
+ghost use Rattle.warg_crypto.specs.declared.hash.AnyHash.{AnyHash};
+ghost use Rattle.warg_envelope.specs.Faults.{IsReading};
+ghost use Rattle.warg_envelope.specs.Mentions.{distinct};
+
+pub mod laws;
+mod proto_envelope;
+mod serde_envelope;
+
+use indexmap::IndexSet;
+pub use proto_envelope::{
+    ParseEnvelopeError, ProtoEnvelope, ProtoEnvelopeBody, PublishedProtoEnvelope,
+    PublishedProtoEnvelopeBody,
+};
+pub use serde_envelope::SerdeEnvelope;
+use std::alloc::{AllocError, Global};
+use warg_crypto::hash::AnyHash;
+use warg_crypto::{Decode, DecodeError};
+
+/// A place in a registry's log of all records, from 0.
+pub type RegistryIndex = usize;
+
+/// A record of one kind of log.
+pub trait Record: Decode + Drop {
+    // What a record says, as plain data.
+    ghost Meaning: { Type 0 };
+
+    ghost meaning: { Self → Meaning };
+
+    // Why content bytes are no record.
+    ghost Fault: { Type 0 };
+
+    // The fault that an error tells; out of memory alone tells none.
+    ghost fault_of: { DecodeError → Option Fault };
+
+    // What content bytes say, or their first fault.
+    ghost read: { List ℕ → Result Meaning Fault };
+
+    // The hashes that a record mentions as its content, in order.
+    ghost mentions: { Meaning → List AnyHash };
+
+    /// The hashes that the record mentions as its content, each once, by first mention.
+    fn contents(&self, alloc: Global) -> Result<IndexSet<AnyHash>, AllocError>
+        ensures { IfOk result (λ s. s.keys ≡ distinct ⟦<AnyHash as PartialEq>⟧.eq (mentions (meaning self.now))) };
+
+    /// A copy.
+    fn try_clone(&self) -> Result<Self, AllocError>
+        ensures { IfOk result (λ r. meaning r ≡ meaning self.now) };
+
+    /// What is decoded is what the content bytes say, or an error that tells their fault.
+    ghost decodes_reading: { (b : List ℕ) (r : Result Self DecodeError) → IsDecoded Self.plain (Self.decodes b) r →
+        IsReading meaning fault_of (read b) r };
+
+    /// Out of memory tells none.
+    ghost memory_tells_none: { fault_of error.OutOfMemory ≡ None };
+
+    /// It is the one error that tells none.
+    ghost memory_alone: { (e : DecodeError) → fault_of e ≡ None → e ≡ error.OutOfMemory };
+}

@@ -1,0 +1,3 @@
+pub mod PackageEquality
+pub mod OperatorEquality
+pub mod JsonLemmas

@@ -1,0 +1,4 @@
+pub mod Permissions
+pub mod PackagePermissions
+pub mod OperatorPermissions
+pub mod PermissionJson

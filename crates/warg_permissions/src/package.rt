@@ -1,0 +1,161 @@
+//! What a package log lets keys do.
+
+ghost use Rattle.std.specs.Prelude.{◌≡◌, [], ◌∷◌, pos, Option, Some, Ok, Err};
+ghost use Rattle.std.specs.Cmp.{partial_equiv_from_equiv};
+ghost use Rattle.std.specs.Hash as fed;
+ghost use Rattle.warg_permissions.specs.Permissions.{named_or, numbered_or};
+ghost use Rattle.warg_permissions.specs.PackagePermissions.{number_of, permission_of, permission_text, permission_in, same_permission, same_permission_equiv, same_permission-is, hash-same_permission, permission_of-number_of, permission_in-permission_text};
+
+mod json;
+
+use crate::permission::{InvalidPermission, LogPermission, PermissionParseError};
+use std::alloc::{AllocError, Global};
+use std::fmt;
+use std::hash::{Hash, Hasher};
+use std::str::FromStr;
+
+/// What a key may do in a package log.
+#[derive(Clone, Copy, Debug)]
+pub enum Permission {
+    /// The key may release versions.
+    Release,
+    /// The key may yank versions.
+    Yank,
+}
+
+impl Permission {
+    /// All permissions, in the order of their numbers in messages.
+    pub const fn all() -> [Permission; 2]
+        ensures { result ≡ Permission.Release ∷ Permission.Yank ∷ [] }
+    {
+        [Permission::Release, Permission::Yank]
+    }
+
+    // The number of the permission in a message.
+    fn number(self) -> u8
+        ensures { result ≡ number_of self }
+    {
+        match self {
+            Permission::Release => 1,
+            Permission::Yank => 2,
+        }
+    }
+
+    // The text of the permission.
+    fn as_str(self) -> &'static str
+        ensures { result.now ≡ permission_text self }
+    {
+        match self {
+            Permission::Release => "release",
+            Permission::Yank => "yank",
+        }
+    }
+}
+
+impl PartialEq for Permission {
+    ghost eq = { same_permission };
+
+    ghost laws = { partial_equiv_from_equiv same_permission_equiv };
+
+    fn eq(&self, other: &Permission) -> bool {
+        self.number() == other.number()
+    }
+}
+
+impl Eq for Permission {
+    ghost laws = { same_permission_equiv };
+}
+
+impl Hash for Permission {
+    ghost hash_input = { λ p. fed.u8 (number_of p) };
+
+    ghost respects_eq = { hash-same_permission };
+
+    fn hash<H: Hasher>(&self, state: &mut H) {
+        self.number().hash(state);
+    }
+}
+
+impl fmt::Display for Permission {
+    ghost output = { λ p. Some (permission_text p) };
+
+    ghost styled_output = { λ p _. Some (permission_text p) };
+
+    fn fmt<W: fmt::Write>(&self, f: &mut fmt::Formatter<W>) -> fmt::Result {
+        f.write_str(self.as_str())
+    }
+}
+
+impl FromStr for Permission {
+    type Err = InvalidPermission;
+
+    ghost from_str_gives = { λ text r. r ≡ named_or (permission_in text) };
+
+    fn from_str(text: &str) -> Result<Permission, InvalidPermission> {
+        match text {
+            "release" => Ok(Permission::Release),
+            "yank" => Ok(Permission::Yank),
+            _ => Err(InvalidPermission),
+        }
+    }
+}
+
+impl LogPermission for Permission {
+    ghost permission_of = { permission_of };
+
+    ghost number_of = { λ p. pos (number_of p) };
+
+    ghost named = { permission_in };
+
+    ghost text_of = { permission_text };
+
+    ghost number_reads_back = { permission_of-number_of };
+
+    ghost text_reads_back = { permission_in-permission_text };
+
+    ghost clones = { λ x y h. h };
+
+    ghost same_is = { same_permission-is };
+
+    fn all(alloc: Global) -> Result<Vec<Permission>, AllocError> {
+        Permission::all().to_vec(alloc)
+    }
+
+    fn from_number(number: i32) -> Option<Permission> {
+        match number {
+            1 => Some(Permission::Release),
+            2 => Some(Permission::Yank),
+            _ => None,
+        }
+    }
+
+    fn to_number(self) -> i32 {
+        self.number() as i32
+    }
+
+    fn from_text(text: &str) -> Option<Permission> {
+        text.parse::<Permission>().ok()
+    }
+
+    fn as_text(self) -> &'static str {
+        self.as_str()
+    }
+}
+
+impl TryFrom<i32> for Permission {
+    type Error = PermissionParseError;
+
+    ghost try_from_gives = { λ v r. r ≡ numbered_or v (permission_of v) };
+
+    fn try_from(value: i32) -> Result<Permission, PermissionParseError> {
+        Permission::from_number(value).ok_or(PermissionParseError { value })
+    }
+}
+
+impl From<&Permission> for i32 {
+    ghost from_gives = { λ p n. n ≡ pos (number_of p.now) };
+
+    fn from(permission: &Permission) -> i32 {
+        permission.to_number()
+    }
+}

@@ -1,0 +1,35 @@
+//! JSON of permissions: their text.
+
+ghost use Rattle.std.specs.Prelude.{◌≡◌, []};
+ghost use Rattle.warg_permissions.specs.PermissionJson.{permission_from, permission_json};
+ghost use Rattle.warg_permissions.specs.PackagePermissions.{permission_in, permission_text};
+ghost use Rattle.warg_permissions.specs.declared.package.Permission.{Permission};
+
+use crate::LogPermission;
+use crate::package::Permission;
+use serde_json::Value;
+use std::alloc::Global;
+use warg_crypto::json::members::{text_in, text_value};
+use warg_crypto::{JsonError, JsonValue};
+
+impl JsonValue for Permission {
+    ghost Plain = { Permission };
+
+    ghost plain = { λ p. p };
+
+    ghost writes = { permission_json permission_text };
+
+    ghost reads = { permission_from permission_in };
+
+    ghost versions = { λ _. [] };
+
+    ghost same = { λ p q. p ≡ q };
+
+    fn to_value(&self, alloc: Global) -> Result<Value, JsonError> {
+        text_value(alloc, self.as_str())
+    }
+
+    fn from_value(_alloc: Global, value: &Value) -> Result<Permission, JsonError> {
+        Permission::from_text(text_in(value)?).ok_or(JsonError::BadText)
+    }
+}

@@ -1,6 +1,0 @@
-use Rattle.std.proofs.Common.{rules}
-use Rattle.warg_records.proofs.KebabLemmas.{kebab_from, kebab_passes}
-use Rattle.warg_records.proofs.laws.kebab_names.Goals as goal
-
-pub returns : goal.returns
-returns c = λ name. (λ h. kebab_from name (search (rules, h)), λ k. search (rules, kebab_passes name k))

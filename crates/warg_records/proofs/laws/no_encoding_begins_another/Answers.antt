@@ -1,5 +1,0 @@
-use Rattle.warg_records.proofs.PrefixCode.{prefix_code}
-use Rattle.warg_records.proofs.laws.no_encoding_begins_another.Goals as goal
-
-pub returns : goal.returns
-returns c = prefix_code

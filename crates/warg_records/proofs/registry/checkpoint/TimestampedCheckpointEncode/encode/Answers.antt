@@ -1,5 +1,0 @@
-use Rattle.std.specs.Prelude.{[]}
-use Rattle.warg_records.proofs.registry.checkpoint.TimestampedCheckpointEncode.encode.Goals as goal
-
-pub returns : goal.returns
-returns c = c.in_ok-visit_bv.ensures.ok [] c.new-bytes.ensures.items

@@ -1,0 +1,33 @@
+//! JSON of the ids of records.
+
+ghost use Rattle.std.specs.Prelude.{◌≡◌, []};
+ghost use Rattle.warg_records.specs.RecordIdJson.{record_id_in, record_id_json};
+ghost use Rattle.warg_records.specs.declared.record_id.RecordId.{RecordId};
+
+use crate::record_id::RecordId;
+use serde_json::Value;
+use std::alloc::Global;
+use warg_crypto::hash::AnyHash;
+use warg_crypto::{JsonError, JsonValue};
+
+impl JsonValue for RecordId {
+    ghost Plain = { RecordId };
+
+    ghost plain = { λ x. x };
+
+    ghost writes = { record_id_json };
+
+    ghost reads = { record_id_in };
+
+    ghost versions = { λ _. [] };
+
+    ghost same = { λ x y. x ≡ y };
+
+    fn to_value(&self, alloc: Global) -> Result<Value, JsonError> {
+        AnyHash::from(*self).to_value(alloc)
+    }
+
+    fn from_value(alloc: Global, value: &Value) -> Result<RecordId, JsonError> {
+        Ok(RecordId::from(AnyHash::from_value(alloc, value)?))
+    }
+}

@@ -1,0 +1,27 @@
+//! Laws of the definitions, and of the types that rest on them.
+
+ghost use Rattle.std.specs.Prelude.{ℕ, List, IsTrue, ◌↔◌};
+ghost use Rattle.warg_registry.specs.KebabNames.{IsKebabName, is_kebab_name};
+ghost use Rattle.warg_registry.specs.PrefixEncodings.{IsPrefixCode};
+
+mod equality;
+mod texts;
+
+pub use equality::{
+    are_same_checkpoints, are_same_log_ids, are_same_log_leaves, are_same_map_leaves,
+    are_same_package_name_errors, are_same_package_names, are_same_timestamped_checkpoints,
+    compare_log_ids, compare_package_names, feed_package_name,
+};
+pub use texts::{print_log_id, print_package_name};
+
+/// What is tested of a name is the grammar: words of a letter and then letters and digits, joined by
+/// single hyphens.
+pub fn kebab_names()
+    ensures { (name : List ℕ) → IsTrue (is_kebab_name name) ↔ IsKebabName name }
+{}
+
+/// No prefix encoding of a checkpoint, a timestamped checkpoint, a leaf of either tree or a package
+/// name is a proper beginning of another, and equal ones come from equal values of one kind.
+pub fn no_encoding_begins_another()
+    ensures { IsPrefixCode }
+{}
