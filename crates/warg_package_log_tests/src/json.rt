@@ -3,11 +3,11 @@ use serde_json::Value;
 use std::alloc::Global;
 use std::fmt::Debug;
 use std::process::Abort;
-use warg_protocol::hash::{AnyHash, HashAlgorithm};
-use warg_protocol::package::{Head, Release, ReleaseState};
-use warg_protocol::registry::RecordId;
-use warg_protocol::signing::KeyID;
-use warg_protocol::{JsonError, JsonValue, Timestamp, Version};
+use warg_crypto::hash::{AnyHash, HashAlgorithm};
+use warg_crypto::signing::KeyID;
+use warg_crypto::{JsonError, JsonValue, Timestamp};
+use warg_package_log::{Head, Release, ReleaseState};
+use warg_records::{RecordId, Version};
 
 // The hash of no bytes.
 const E: &str = "sha256:e3b0c44298fc1c149afbf4c8996fb92427ae41e4649b934ca495991b7852b855";

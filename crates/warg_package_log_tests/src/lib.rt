@@ -1,0 +1,5 @@
+//! Tests of `warg_package_log`, by its public paths. Whole logs are in `warg_protocol_tests`.
+#![tactic(auto)]
+
+#[cfg(test)]
+mod json;
