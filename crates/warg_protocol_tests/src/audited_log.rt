@@ -1,16 +1,16 @@
-//! Logs that are kept beside their records. A script's lines are as in `play`, and its records are appended;
+//! Logs that are kept beside their records. A script's lines are as in `warg_scripts::play`, and its records are appended;
 //! `? chain carol yank = 0.0 0.1` asks by which entries, a record's place and an entry's each, a person came to hold a
 //! permission.
-use crate::answers::none;
-use crate::fault::{cause, expect};
-use crate::people::id;
-use crate::script::{Scripted, string_of, words_of};
 use std::alloc::Global;
 use std::fmt::{Debug, Write};
 use std::process::Abort;
 use std::test::Fail;
 use warg_protocol::toy::ToyVerifier;
 use warg_protocol::{AuditedLog, HeadComparison, RunCause, RunError, operator, package};
+use warg_scripts::answers::none;
+use warg_scripts::fault::{cause, expect};
+use warg_scripts::people::id;
+use warg_scripts::script::{Scripted, string_of, words_of};
 
 /// A log on the way, and the refusal of its last line.
 #[derive(Drop)]
@@ -90,7 +90,7 @@ where
 
     fn keep_line(&mut self, rt: &impl Abort, alloc: Global, line: &str) -> Result<(), Fail> {
         if let Some(words) = line.strip_prefix("! ") {
-            return expect::<L>(rt, alloc, &mut self.refusal, words);
+            return expect::<L>(alloc, &mut self.refusal, words);
         }
         assert!(rt; self.refusal.is_none(), "refused before {line}");
         match line.strip_prefix("? ") {

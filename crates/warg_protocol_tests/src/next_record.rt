@@ -1,12 +1,12 @@
 //! Records that come next.
-use crate::people::{key, signed};
-use crate::play::state_of;
 use std::alloc::Global;
 use std::process::Abort;
 use std::test::Fail;
 use warg_protocol::hash::HashAlgorithm;
 use warg_protocol::toy::ToyVerifier;
 use warg_protocol::{ProtoEnvelope, Timestamp, Version, operator, package};
+use warg_scripts::people::{key, signed};
+use warg_scripts::play::state_of;
 
 fn yank(alloc: Global) -> Result<Vec<package::PackageEntry>, Fail> {
     let version = Version::parse(alloc, "1.0.0")?;
@@ -45,11 +45,7 @@ fn is_continued(rt: &impl Abort, alloc: Global, state: &package::LogState) -> Re
 fn a_next_record_is_taken(rt: HostRuntime) -> Result<(), Fail> {
     let alloc = rt.alloc();
     let script = "alice 2.0: init alice, release 1.0.0";
-    is_continued(
-        &rt,
-        alloc,
-        &state_of::<package::LogState>(&rt, alloc, script)?,
-    )
+    is_continued(&rt, alloc, &state_of::<package::LogState>(alloc, script)?)
 }
 
 fn init(alloc: Global) -> Result<Vec<operator::OperatorEntry>, Fail> {

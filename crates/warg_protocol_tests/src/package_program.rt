@@ -1,4 +1,4 @@
-//! A program over package logs, whose contracts cite what `warg_protocol` alone hands on.
+//! A program over package logs, whose contracts cite what `warg_protocol` re-exports, and the view of a JSON value.
 ghost use Rattle.std.specs.Prelude.{◌≡◌, IfOk, map};
 ghost use Rattle.std.specs.Option.{option_map, option_copied};
 ghost use Rattle.std.specs.Vec.{vec_items};
@@ -8,8 +8,6 @@ ghost use Rattle.warg_protocol.specs.Logs.{IsAccepted, envelope_of, read_all};
 ghost use Rattle.warg_protocol.specs.Package.{TellsHistory, kind, package_record_of, view_of, state_json, state_in};
 ghost use Rattle.warg_protocol.specs.Package.{IsGreatest, shows_candidate, shown_cmp, release_view};
 
-use crate::people::id;
-use crate::play::log_of;
 use serde_json::Value;
 use std::alloc::Global;
 use std::process::Abort;
@@ -18,6 +16,8 @@ use warg_protocol::package::{LogState, Permission, Release, ValidationError};
 use warg_protocol::signing::{KeyID, Verifier};
 use warg_protocol::toy::ToyVerifier;
 use warg_protocol::{JsonError, JsonValue, RunError, Validator, VersionReq, laws, run};
+use warg_scripts::people::id;
+use warg_scripts::play::log_of;
 
 /// The state of a package's log: what its history says.
 fn audited<V: Verifier>(
@@ -65,12 +65,12 @@ const LOG: &str = "
     bob 2.0: release 1.0.0 first, release 1.1.0 second
 ";
 
-fn strings(rt: &impl Abort, alloc: Global) -> Result<Vec<Vec<u8>>, Fail> {
-    Ok(log_of::<LogState>(rt, alloc, LOG)?.strings)
+fn strings(alloc: Global) -> Result<Vec<Vec<u8>>, Fail> {
+    Ok(log_of::<LogState>(alloc, LOG)?.strings)
 }
 
-fn state(rt: &impl Abort, alloc: Global) -> Result<LogState, Fail> {
-    let strings = strings(rt, alloc)?;
+fn state(alloc: Global) -> Result<LogState, Fail> {
+    let strings = strings(alloc)?;
     match audited(alloc, &ToyVerifier, strings.as_slice()) {
         Ok(state) => Ok(state),
         Err(error) => Err(Fail::from(error)),
@@ -103,5 +103,5 @@ fn asks(rt: &impl Abort, alloc: Global, state: &LogState) -> Result<(), Fail> {
 #[test]
 fn a_program_asks_a_package_log(rt: HostRuntime) -> Result<(), Fail> {
     let alloc = rt.alloc();
-    asks(&rt, alloc, &state(&rt, alloc)?)
+    asks(&rt, alloc, &state(alloc)?)
 }

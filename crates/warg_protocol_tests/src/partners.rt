@@ -2,9 +2,6 @@
 ghost use Rattle.std.specs.Prelude.{false, ⊤};
 ghost use Rattle.warg_protocol.specs.Records.{toy_belongs};
 
-use crate::fault::cause;
-use crate::people::signer;
-use crate::script::{Scripted, string_of};
 use std::alloc::Global;
 use std::cell::Cell;
 use std::fmt::Debug;
@@ -15,6 +12,9 @@ use warg_protocol::toy::{ToySigner, ToyVerifier};
 use warg_protocol::{
     AuditedLog, ProtoEnvelope, RunCause, RunError, Signable, Timestamp, operator, package, run,
 };
+use warg_scripts::fault::cause;
+use warg_scripts::people::signer;
+use warg_scripts::script::{Scripted, string_of};
 
 // Takes no signature.
 #[derive(Drop)]

@@ -1,15 +1,14 @@
 //! Whole logs, read as strings.
-use crate::fault::cause;
-use crate::play::{Player, is_refused, log_of, makes, state_of};
-use crate::saved::read_back;
-use crate::script::{Scripted, envelope_of, string_of};
 use std::alloc::Global;
 use std::fmt::Debug;
 use std::process::Abort;
 use std::slice;
 use std::test::Fail;
 use warg_protocol::toy::ToyVerifier;
-use warg_protocol::{ProtoEnvelope, Record, RunError, operator, package, run};
+use warg_protocol::{JsonValue, ProtoEnvelope, Record, RunError, operator, package, run};
+use warg_scripts::fault::cause;
+use warg_scripts::play::{Player, is_refused, log_of, makes, state_of};
+use warg_scripts::script::{Scripted, envelope_of, string_of};
 
 // The strings of a script without answers. A record names the one before it, be that lawful or not.
 fn strings_of<L: Scripted>(alloc: Global, script: &str) -> Result<Vec<Vec<u8>>, Fail> {
@@ -195,6 +194,11 @@ where
     Ok(())
 }
 
+// What is read of the saved state.
+fn read_back<L: Scripted>(alloc: Global, state: &L) -> Result<L, Fail> {
+    Ok(L::from_value(alloc, &state.to_value(alloc)?)?)
+}
+
 // The script's last string goes on from `before`, as it is and saved and read.
 fn resume_script<L: Scripted>(
     rt: &impl Abort,
@@ -205,14 +209,14 @@ fn resume_script<L: Scripted>(
 where
     L::Error: Debug + PartialEq,
 {
-    let after = log_of::<L>(rt, alloc, script)?;
+    let after = log_of::<L>(alloc, script)?;
     resume(rt, alloc, before, &after)?;
-    resume(rt, alloc, &read_back(rt, alloc, before)?, &after)
+    resume(rt, alloc, &read_back(alloc, before)?, &after)
 }
 
 #[test]
 fn a_log_goes_on(rt: HostRuntime) -> Result<(), Fail> {
-    let before = state_of::<package::LogState>(&rt, rt.alloc(), BOB_RELEASES)?;
+    let before = state_of::<package::LogState>(rt.alloc(), BOB_RELEASES)?;
     resume_script(&rt, rt.alloc(), &before, ALICE_YANKS)
 }
 

@@ -1,11 +1,11 @@
 //! What refusals say.
-use crate::answers::shown;
-use crate::script::{Scripted, words_of};
 use std::alloc::Global;
 use std::fmt::Display;
 use std::process::Abort;
 use std::test::Fail;
 use warg_protocol::{Incoherence, JsonError, JsonTextError, operator, package};
+use warg_scripts::answers::shown;
+use warg_scripts::script::{Scripted, words_of};
 
 fn text_of<L: Scripted>(alloc: Global, words: &str) -> Result<String, Fail>
 where

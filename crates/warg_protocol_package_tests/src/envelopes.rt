@@ -1,7 +1,7 @@
 //! Envelopes of package logs that another program made.
-use crate::play::play;
 use std::test::Fail;
 use warg_protocol::package::LogState;
+use warg_scripts::play::play;
 
 // Signed over the contents alone, without the prefix; signed by bob in alice's name; so too, with an entry
 // that is refused before the signature is.
@@ -28,7 +28,7 @@ fn forged_records_are_refused(rt: HostRuntime) -> Result<(), Fail> {
         6d71532b3639586d745547553d
         ! YankOfUnreleased 1.0.0
     ";
-    play::<LogState>(&rt, rt.alloc(), script)
+    play::<LogState>(rt.alloc(), script)
 }
 
 #[test]
@@ -43,7 +43,7 @@ fn a_link_may_have_digits_in_upper_case(rt: HostRuntime) -> Result<(), Fail> {
         ? head time = 2.0
         ? head digest = sha256:5783d8906bde7464c14dfedcd23276b47f6c8c20789fb7f793d1596b311ae3b6
     ";
-    play::<LogState>(&rt, rt.alloc(), script)
+    play::<LogState>(rt.alloc(), script)
 }
 
 #[test]
@@ -58,5 +58,5 @@ fn a_log_may_begin_before_the_epoch(rt: HostRuntime) -> Result<(), Fail> {
         alice 0.0:
         ? head time = 0.0
     ";
-    play::<LogState>(&rt, rt.alloc(), script)
+    play::<LogState>(rt.alloc(), script)
 }

@@ -1,7 +1,10 @@
 //! The words of package logs.
+mod answers;
+mod errors;
+
 use crate::draft::Draft;
-use crate::package_answers::answer;
-use crate::package_errors::error;
+use crate::package::answers::answer;
+use crate::package::errors::error;
 use crate::people::{id, key, signed};
 use crate::script::{Scripted, permissions_of};
 use std::alloc::Global;

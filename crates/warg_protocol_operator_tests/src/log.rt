@@ -1,8 +1,8 @@
 //! Operator logs.
-use crate::play::{play, state_of};
 use std::process::Abort;
 use std::test::Fail;
 use warg_protocol::operator::{LogState, OPERATOR_RECORD_VERSION};
+use warg_scripts::play::{play, state_of};
 
 #[test]
 fn a_log_begins(rt: HostRuntime) -> Result<(), Fail> {
@@ -27,7 +27,7 @@ fn a_log_begins(rt: HostRuntime) -> Result<(), Fail> {
         ? namespace a = defined
         ? namespace b = imported from c
     ";
-    play::<LogState>(&rt, rt.alloc(), script)
+    play::<LogState>(rt.alloc(), script)
 }
 
 const NAMESPACES: &str = "
@@ -53,7 +53,7 @@ const NAMESPACES: &str = "
 
 #[test]
 fn namespaces_are_defined_and_imported(rt: HostRuntime) -> Result<(), Fail> {
-    play::<LogState>(&rt, rt.alloc(), NAMESPACES)
+    play::<LogState>(rt.alloc(), NAMESPACES)
 }
 
 const PERMISSIONS: &[&str] = &[
@@ -101,7 +101,7 @@ const PERMISSIONS: &[&str] = &[
 #[test]
 fn permissions_are_given_and_taken(rt: HostRuntime) -> Result<(), Fail> {
     for script in PERMISSIONS {
-        play::<LogState>(&rt, rt.alloc(), script)?;
+        play::<LogState>(rt.alloc(), script)?;
     }
     Ok(())
 }
@@ -130,7 +130,7 @@ fn first_records_are_refused(rt: HostRuntime) -> Result<(), Fail> {
         ? head time = none
         ? key alice = none
     ";
-    play::<LogState>(&rt, rt.alloc(), script)
+    play::<LogState>(rt.alloc(), script)
 }
 
 #[test]
@@ -170,7 +170,7 @@ fn later_records_are_refused(rt: HostRuntime) -> Result<(), Fail> {
         alice 5.0:
         ? head time = 5.0
     ";
-    play::<LogState>(&rt, rt.alloc(), script)
+    play::<LogState>(rt.alloc(), script)
 }
 
 #[test]
@@ -191,7 +191,7 @@ fn versions_never_fall(rt: HostRuntime) -> Result<(), Fail> {
         ! ProtocolVersionNotAllowed 0
         alice 1.0 v1: define a
     ";
-    play::<LogState>(&rt, rt.alloc(), script)
+    play::<LogState>(rt.alloc(), script)
 }
 
 #[test]
@@ -226,7 +226,7 @@ fn no_key_brings_itself_in(rt: HostRuntime) -> Result<(), Fail> {
         bob 1.0 v1:
         ",
     ] {
-        play::<LogState>(&rt, rt.alloc(), script)?;
+        play::<LogState>(rt.alloc(), script)?;
     }
     Ok(())
 }
@@ -249,6 +249,6 @@ fn copy(rt: &impl Abort, state: &LogState) -> Result<(), Fail> {
 
 #[test]
 fn copies_are_equal(rt: HostRuntime) -> Result<(), Fail> {
-    let state = state_of::<LogState>(&rt, rt.alloc(), NAMESPACES)?;
+    let state = state_of::<LogState>(rt.alloc(), NAMESPACES)?;
     copy(&rt, &state)
 }

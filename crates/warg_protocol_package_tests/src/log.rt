@@ -1,9 +1,9 @@
 //! Package logs.
-use crate::play::{play, state_of};
 use std::alloc::Global;
 use std::process::Abort;
 use std::test::Fail;
 use warg_protocol::package::{LogState, PACKAGE_RECORD_VERSION, Release, ReleaseState};
+use warg_scripts::play::{play, state_of};
 
 #[test]
 fn a_log_begins(rt: HostRuntime) -> Result<(), Fail> {
@@ -26,7 +26,7 @@ fn a_log_begins(rt: HostRuntime) -> Result<(), Fail> {
         ? releases = only
         ? latest * = none
     ";
-    play::<LogState>(&rt, rt.alloc(), script)
+    play::<LogState>(rt.alloc(), script)
 }
 
 // Bob releases, and alice takes his permissions and yanks it.
@@ -64,7 +64,7 @@ const YANKED: &str = "
 
 #[test]
 fn a_release_stands_until_it_is_yanked(rt: HostRuntime) -> Result<(), Fail> {
-    play::<LogState>(&rt, rt.alloc(), YANKED)
+    play::<LogState>(rt.alloc(), YANKED)
 }
 
 const PERMISSIONS: &[&str] = &[
@@ -113,7 +113,7 @@ const PERMISSIONS: &[&str] = &[
 #[test]
 fn permissions_are_given_and_taken(rt: HostRuntime) -> Result<(), Fail> {
     for script in PERMISSIONS {
-        play::<LogState>(&rt, rt.alloc(), script)?;
+        play::<LogState>(rt.alloc(), script)?;
     }
     Ok(())
 }
@@ -149,7 +149,7 @@ fn first_records_are_refused(rt: HostRuntime) -> Result<(), Fail> {
         ? key alice = none
         ? permissions alice = none
     ";
-    play::<LogState>(&rt, rt.alloc(), script)
+    play::<LogState>(rt.alloc(), script)
 }
 
 const LATER_RECORDS: &str = "
@@ -200,7 +200,7 @@ const LATER_RECORDS: &str = "
 
 #[test]
 fn later_records_are_refused(rt: HostRuntime) -> Result<(), Fail> {
-    play::<LogState>(&rt, rt.alloc(), LATER_RECORDS)
+    play::<LogState>(rt.alloc(), LATER_RECORDS)
 }
 
 #[test]
@@ -228,7 +228,7 @@ fn releases_and_yanks_are_refused(rt: HostRuntime) -> Result<(), Fail> {
         alice 3.0: yank 1.0.0+b
         ! YankOfUnreleased 1.0.0+b
     ";
-    play::<LogState>(&rt, rt.alloc(), script)
+    play::<LogState>(rt.alloc(), script)
 }
 
 #[test]
@@ -265,7 +265,7 @@ fn versions_never_fall(rt: HostRuntime) -> Result<(), Fail> {
         ! TimestampLowerThanPrevious
         ",
     ] {
-        play::<LogState>(&rt, rt.alloc(), script)?;
+        play::<LogState>(rt.alloc(), script)?;
     }
     Ok(())
 }
@@ -303,7 +303,7 @@ fn no_key_brings_itself_in(rt: HostRuntime) -> Result<(), Fail> {
         ! EmptyGrant mallory
         ",
     ] {
-        play::<LogState>(&rt, rt.alloc(), script)?;
+        play::<LogState>(rt.alloc(), script)?;
     }
     Ok(())
 }
@@ -329,14 +329,14 @@ fn differ(rt: &impl Abort, left: &LogState, right: &LogState) {
 }
 
 fn differ_from(rt: &impl Abort, alloc: Global, left: &LogState, script: &str) -> Result<(), Fail> {
-    let right = state_of::<LogState>(rt, alloc, script)?;
+    let right = state_of::<LogState>(alloc, script)?;
     differ(rt, left, &right);
     Ok(())
 }
 
 #[test]
 fn a_state_knows_who_signed(rt: HostRuntime) -> Result<(), Fail> {
-    let by_bob = state_of::<LogState>(&rt, rt.alloc(), BY_BOB)?;
+    let by_bob = state_of::<LogState>(rt.alloc(), BY_BOB)?;
     differ_from(&rt, rt.alloc(), &by_bob, BY_ALICE)
 }
 
@@ -362,7 +362,7 @@ fn copy(rt: &impl Abort, state: &LogState) -> Result<(), Fail> {
 }
 
 fn copy_log(rt: &impl Abort, alloc: Global, script: &str) -> Result<(), Fail> {
-    let state = state_of::<LogState>(rt, alloc, script)?;
+    let state = state_of::<LogState>(alloc, script)?;
     copy(rt, &state)
 }
 

@@ -1,5 +1,4 @@
 //! Saved states of operator logs.
-use crate::play::state_of;
 use crate::saved::{are_refused, are_refused_begun, comes_back, resumes, text_of};
 use serde_json::Value;
 use std::alloc::Global;
@@ -7,6 +6,7 @@ use std::process::Abort;
 use std::test::Fail;
 use warg_protocol::operator::{LogState, NamespaceState};
 use warg_protocol::{Incoherence, JsonError, JsonValue};
+use warg_scripts::play::state_of;
 
 const HOSTILE: &[(&str, JsonError)] = &[
     ("[]", JsonError::WrongType),
@@ -147,5 +147,5 @@ fn the_last_permission_takes_the_place_of_one_that_was_taken(rt: HostRuntime) ->
         alice 1.0: init alice
         alice 2.0: grant bob commit defineNamespace importNamespace, revoke bob commit
     ";
-    are_in_order(&rt, alloc, &state_of::<LogState>(&rt, alloc, script)?)
+    are_in_order(&rt, alloc, &state_of::<LogState>(alloc, script)?)
 }

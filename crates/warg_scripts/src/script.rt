@@ -87,7 +87,7 @@ pub fn envelope_of<L: Scripted>(
 }
 
 /// The string that a line says: hex digits, or a record in a log whose last one is `last`, which it then is itself.
-pub(crate) fn string_of<L: Scripted>(
+pub fn string_of<L: Scripted>(
     alloc: Global,
     last: &mut Option<RecordId>,
     line: &str,

@@ -1,7 +1,7 @@
 //! Envelopes of operator logs that another program made.
-use crate::play::play;
 use std::test::Fail;
 use warg_protocol::operator::LogState;
+use warg_scripts::play::play;
 
 // Signed over the contents alone, without the prefix; signed by bob in alice's name; so too, with an entry
 // that is refused before the signature is.
@@ -28,7 +28,7 @@ fn forged_records_are_refused(rt: HostRuntime) -> Result<(), Fail> {
         47437847427776593d
         ! InvalidNamespace A
     ";
-    play::<LogState>(&rt, rt.alloc(), script)
+    play::<LogState>(rt.alloc(), script)
 }
 
 #[test]
@@ -43,7 +43,7 @@ fn a_link_may_have_digits_in_upper_case(rt: HostRuntime) -> Result<(), Fail> {
         ? head time = 2.0
         ? head digest = sha256:b12d92cc298611f5102551110101a8301c91cd56ae3d299a82c62e38857540c8
     ";
-    play::<LogState>(&rt, rt.alloc(), script)
+    play::<LogState>(rt.alloc(), script)
 }
 
 #[test]
@@ -58,5 +58,5 @@ fn a_log_may_begin_before_the_epoch(rt: HostRuntime) -> Result<(), Fail> {
         alice 0.0:
         ? head time = 0.0
     ";
-    play::<LogState>(&rt, rt.alloc(), script)
+    play::<LogState>(rt.alloc(), script)
 }

@@ -6,17 +6,17 @@ use warg_protocol::Timestamp;
 use warg_protocol::package::Head;
 
 /// A value's text.
-pub(crate) fn shown<T: Display>(alloc: Global, value: &T) -> Result<String, Fail> {
+pub fn shown<T: Display>(alloc: Global, value: &T) -> Result<String, Fail> {
     Ok(value.to_string(alloc)?)
 }
 
 /// The answer where there is nothing.
-pub(crate) fn none(alloc: Global) -> Result<String, Fail> {
+pub fn none(alloc: Global) -> Result<String, Fail> {
     Ok(String::from_str(alloc, "none")?)
 }
 
 /// A value's text, or `none`.
-pub(crate) fn text_of<T: Display>(alloc: Global, value: Option<&T>) -> Result<String, Fail> {
+pub fn text_of<T: Display>(alloc: Global, value: Option<&T>) -> Result<String, Fail> {
     match value {
         Some(value) => shown(alloc, value),
         None => none(alloc),
@@ -24,7 +24,7 @@ pub(crate) fn text_of<T: Display>(alloc: Global, value: Option<&T>) -> Result<St
 }
 
 /// The answer to `head time`, `head version` or `head digest`.
-pub(crate) fn head(alloc: Global, head: &Option<Head>, subject: &str) -> Result<String, Fail> {
+pub fn head(alloc: Global, head: &Option<Head>, subject: &str) -> Result<String, Fail> {
     match head {
         Some(head) if subject == "time" => time(alloc, head.timestamp),
         Some(head) if subject == "version" => shown(alloc, &head.version),
@@ -34,7 +34,7 @@ pub(crate) fn head(alloc: Global, head: &Option<Head>, subject: &str) -> Result<
 }
 
 /// A time's seconds and nanos.
-pub(crate) fn time(alloc: Global, time: Timestamp) -> Result<String, Fail> {
+pub fn time(alloc: Global, time: Timestamp) -> Result<String, Fail> {
     let (seconds, nanos) = (time.seconds(), time.nanos());
     Ok(format!(in alloc; "{seconds}.{nanos}")?)
 }

@@ -1,12 +1,12 @@
 //! States saved as JSON and read back: what both kinds share.
-use crate::play::{Player, log_of, makes, state_of};
-use crate::script::Scripted;
 use serde_json::Value;
 use std::alloc::Global;
 use std::fmt::Debug;
 use std::process::Abort;
 use std::test::Fail;
 use warg_protocol::{JsonError, JsonTextError, JsonValue};
+use warg_scripts::play::{Player, log_of, makes, state_of};
+use warg_scripts::script::Scripted;
 
 /// An algorithm and a head, as members of a state.
 pub const BEGUN: &str =
@@ -100,10 +100,10 @@ pub fn resumes<L: Scripted>(
 where
     L::Error: Debug + PartialEq,
 {
-    let before = state_of::<L>(rt, alloc, script)?;
+    let before = state_of::<L>(alloc, script)?;
     comes_back(rt, alloc, &before)?;
     let whole = format!(in alloc; "{}{rest}", script.trim_end())?;
-    let log = log_of::<L>(rt, alloc, whole.as_str())?;
+    let log = log_of::<L>(alloc, whole.as_str())?;
     goes_on(rt, alloc, &before, count, &log)?;
     comes_back(rt, alloc, &log.state)
 }

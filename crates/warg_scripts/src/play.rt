@@ -4,12 +4,12 @@
 //!   unless it is refused; `validate` and `run_from` have to agree.
 //! - `! YankOfYanked 1.0.0`, after a line: that line was refused with this error. The log is as before it.
 //! - `? permissions bob = release yank`: the log's answer to a question.
+use crate::check::check;
 use crate::effect::effect_of;
 use crate::fault::expect;
 use crate::script::{Scripted, string_of, words_of};
 use std::alloc::Global;
 use std::fmt::Debug;
-use std::process::Abort;
 use std::slice;
 use std::test::Fail;
 use warg_protocol::toy::ToyVerifier;
@@ -26,16 +26,16 @@ pub struct Player<L: Scripted> {
 }
 
 /// Plays a script from the empty log on.
-pub fn play<L: Scripted>(rt: &impl Abort, alloc: Global, script: &str) -> Result<(), Fail>
+pub fn play<L: Scripted>(alloc: Global, script: &str) -> Result<(), Fail>
 where
     L::Error: Debug + PartialEq,
 {
-    let _ = log_of::<L>(rt, alloc, script)?;
+    let _ = log_of::<L>(alloc, script)?;
     Ok(())
 }
 
 /// The log of a script. From its strings alone `run` makes the same state.
-pub fn log_of<L: Scripted>(rt: &impl Abort, alloc: Global, script: &str) -> Result<Player<L>, Fail>
+pub fn log_of<L: Scripted>(alloc: Global, script: &str) -> Result<Player<L>, Fail>
 where
     L::Error: Debug + PartialEq,
 {
@@ -44,23 +44,24 @@ where
         strings: Vec::new(alloc),
         refusal: None,
     };
-    player.play_lines(rt, alloc, script)?;
-    assert!(rt; player.refusal.is_none(), "the last record is refused");
+    player.play_lines(alloc, script)?;
+    check(player.refusal.is_none(), "the last record is refused")?;
     let again = run::<L, ToyVerifier>(alloc, &ToyVerifier, player.strings.as_slice());
-    assert!(rt; again.is_ok_and(|state| state == player.state));
+    let same = again.is_ok_and(|state| state == player.state);
+    check(same, "`run` makes another state")?;
     Ok(player)
 }
 
 /// The state of a script.
-pub(crate) fn state_of<L: Scripted>(rt: &impl Abort, alloc: Global, script: &str) -> Result<L, Fail>
+pub fn state_of<L: Scripted>(alloc: Global, script: &str) -> Result<L, Fail>
 where
     L::Error: Debug + PartialEq,
 {
-    Ok(log_of::<L>(rt, alloc, script)?.state)
+    Ok(log_of::<L>(alloc, script)?.state)
 }
 
 /// Whether the strings lead from the one state to the other.
-pub(crate) fn makes<L: Scripted>(
+pub fn makes<L: Scripted>(
     alloc: Global,
     before: &L,
     strings: &[Vec<u8>],
@@ -71,7 +72,7 @@ pub(crate) fn makes<L: Scripted>(
 }
 
 /// Whether the string at this place is the first that is refused after the state, for this cause.
-pub(crate) fn is_refused<L: Scripted>(
+pub fn is_refused<L: Scripted>(
     alloc: Global,
     before: &L,
     strings: &[Vec<u8>],
@@ -100,23 +101,23 @@ impl<L: Scripted> Player<L>
 where
     L::Error: Debug + PartialEq,
 {
-    fn play_lines(&mut self, rt: &impl Abort, alloc: Global, script: &str) -> Result<(), Fail> {
+    fn play_lines(&mut self, alloc: Global, script: &str) -> Result<(), Fail> {
         for line in script.trim().lines() {
-            self.play_line(rt, alloc, line.trim())?;
+            self.play_line(alloc, line.trim())?;
         }
         Ok(())
     }
 
-    fn play_line(&mut self, rt: &impl Abort, alloc: Global, line: &str) -> Result<(), Fail> {
+    fn play_line(&mut self, alloc: Global, line: &str) -> Result<(), Fail> {
         if let Some(words) = line.strip_prefix("! ") {
-            return expect::<L>(rt, alloc, &mut self.refusal, words);
+            return expect::<L>(alloc, &mut self.refusal, words);
         }
-        assert!(rt; self.refusal.is_none(), "refused before {line}");
+        check(self.refusal.is_none(), "a refusal is not told")?;
         match line.strip_prefix("? ") {
-            Some(question) => self.ask(rt, alloc, question),
+            Some(question) => self.ask(alloc, question),
             None => {
                 let string = self.string_of(alloc, line)?;
-                self.append(rt, alloc, string)
+                self.append(alloc, string)
             }
         }
     }
@@ -127,22 +128,17 @@ where
         string_of::<L>(alloc, &mut last, line)
     }
 
-    fn append(&mut self, rt: &impl Abort, alloc: Global, string: Vec<u8>) -> Result<(), Fail> {
+    fn append(&mut self, alloc: Global, string: Vec<u8>) -> Result<(), Fail> {
         match judged(alloc, self.state.try_clone()?, string.as_slice()) {
-            Ok(state) => self.take(rt, alloc, string, state),
-            Err(cause) => self.refuse(rt, alloc, &string, cause),
+            Ok(state) => self.take(alloc, string, state),
+            Err(cause) => self.refuse(alloc, &string, cause),
         }
     }
 
     // The string makes this state.
-    fn take(
-        &mut self,
-        rt: &impl Abort,
-        alloc: Global,
-        string: Vec<u8>,
-        state: L,
-    ) -> Result<(), Fail> {
-        assert!(rt; makes(alloc, &self.state, slice::from_ref(&string), &state)?);
+    fn take(&mut self, alloc: Global, string: Vec<u8>, state: L) -> Result<(), Fail> {
+        let same = makes(alloc, &self.state, slice::from_ref(&string), &state)?;
+        check(same, "`run_from` makes another state")?;
         self.strings.push(string)?;
         self.state = state;
         Ok(())
@@ -151,23 +147,25 @@ where
     // The string is refused, and the state stays.
     fn refuse(
         &mut self,
-        rt: &impl Abort,
         alloc: Global,
         string: &Vec<u8>,
         cause: RunCause<L::Error>,
     ) -> Result<(), Fail> {
-        assert!(rt; is_refused(alloc, &self.state, slice::from_ref(string), 0, &cause)?);
+        let same = is_refused(alloc, &self.state, slice::from_ref(string), 0, &cause)?;
+        check(same, "`run_from` answers otherwise")?;
         self.refusal = Some(cause);
         Ok(())
     }
 
-    fn ask(&self, rt: &impl Abort, alloc: Global, line: &str) -> Result<(), Fail> {
+    fn ask(&self, alloc: Global, line: &str) -> Result<(), Fail> {
         let (question, answer) = line
             .split_once(" = ")
             .ok_or("a question without an answer")?;
         let told = self.told(alloc, question)?;
-        assert_eq!(rt; told.as_str(), answer, "{line}");
-        Ok(())
+        if told.as_str() == answer {
+            return Ok(());
+        }
+        Err(Fail::from(format!(in alloc; "{line}, but is {told}")?))
     }
 
     fn told(&self, alloc: Global, question: &str) -> Result<String, Fail> {

@@ -1,11 +1,11 @@
 //! The releases of a log: the latest that meets a requirement, and all as an iterator.
 ghost use Rattle.std.specs.Iterator.{IsFinite};
 
-use crate::play::{play, state_of};
 use std::alloc::Global;
 use std::process::Abort;
 use std::test::Fail;
 use warg_protocol::package::{LogState, Release};
+use warg_scripts::play::{play, state_of};
 
 #[test]
 fn the_latest_release_is_the_greatest(rt: HostRuntime) -> Result<(), Fail> {
@@ -34,7 +34,7 @@ fn the_latest_release_is_the_greatest(rt: HostRuntime) -> Result<(), Fail> {
         ? release 1.0.0+b = none
         ",
     ] {
-        play::<LogState>(&rt, rt.alloc(), script)?;
+        play::<LogState>(rt.alloc(), script)?;
     }
     Ok(())
 }
@@ -74,7 +74,7 @@ fn come_from_both_ends(rt: &impl Abort, alloc: Global, state: &LogState) -> Resu
 #[test]
 fn releases_come_from_both_ends(rt: HostRuntime) -> Result<(), Fail> {
     let alloc = rt.alloc();
-    come_from_both_ends(&rt, alloc, &state_of::<LogState>(&rt, alloc, LOG)?)
+    come_from_both_ends(&rt, alloc, &state_of::<LogState>(alloc, LOG)?)
 }
 
 fn are_shown_as_a_list(rt: &impl Abort, alloc: Global, state: &LogState) -> Result<(), Fail> {
@@ -87,5 +87,5 @@ fn are_shown_as_a_list(rt: &impl Abort, alloc: Global, state: &LogState) -> Resu
 #[test]
 fn releases_are_shown_as_a_list(rt: HostRuntime) -> Result<(), Fail> {
     let alloc = rt.alloc();
-    are_shown_as_a_list(&rt, alloc, &state_of::<LogState>(&rt, alloc, LOG)?)
+    are_shown_as_a_list(&rt, alloc, &state_of::<LogState>(alloc, LOG)?)
 }

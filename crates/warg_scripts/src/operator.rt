@@ -1,7 +1,10 @@
 //! The words of operator logs.
+mod answers;
+mod errors;
+
 use crate::draft::Draft;
-use crate::operator_answers::answer;
-use crate::operator_errors::error;
+use crate::operator::answers::answer;
+use crate::operator::errors::error;
 use crate::people::{id, key, signed};
 use crate::script::{Scripted, permissions_of};
 use std::alloc::Global;

@@ -1,8 +1,8 @@
 //! The causes of refusals, in words.
+use crate::check::check;
 use crate::script::{Scripted, words_of};
 use std::alloc::Global;
 use std::fmt::Debug;
-use std::process::Abort;
 use std::test::Fail;
 use warg_protocol::signing::SignatureParseError;
 use warg_protocol::{DecodeError, ParseEnvelopeError, RunCause, WireError, WireFault};
@@ -18,7 +18,6 @@ pub fn cause<L: Scripted>(alloc: Global, words: &str) -> Result<RunCause<L::Erro
 
 /// Takes the refusal, which has to be for the cause that words say.
 pub fn expect<L: Scripted>(
-    rt: &impl Abort,
     alloc: Global,
     refusal: &mut Option<RunCause<L::Error>>,
     words: &str,
@@ -27,8 +26,7 @@ where
     L::Error: Debug + PartialEq,
 {
     let cause = cause::<L>(alloc, words)?;
-    assert_eq!(rt; refusal.take(), Some(cause));
-    Ok(())
+    check(refusal.take() == Some(cause), "another refusal, or none")
 }
 
 fn fault(name: &str) -> Result<ParseEnvelopeError, Fail> {

@@ -1,10 +1,7 @@
 //! Saved states of package logs.
-use crate::people::signed;
-use crate::play::state_of;
 use crate::saved::{
     ALICE, are_refused, are_refused_begun, begun, comes_back, load, resumes, text_of,
 };
-use crate::script::envelope_of;
 use std::alloc::Global;
 use std::process::Abort;
 use std::test::Fail;
@@ -14,6 +11,9 @@ use warg_protocol::registry::RecordId;
 use warg_protocol::signing::KeyID;
 use warg_protocol::toy::ToyVerifier;
 use warg_protocol::{Decode, Incoherence, JsonError, JsonValue, ProtoEnvelope};
+use warg_scripts::people::signed;
+use warg_scripts::play::state_of;
+use warg_scripts::script::envelope_of;
 
 const HOSTILE: &[(&str, JsonError)] = &[
     ("[]", JsonError::WrongType),
@@ -273,7 +273,7 @@ fn the_first_record_is_saved(rt: HostRuntime) -> Result<(), Fail> {
     is_first(
         &rt,
         alloc,
-        &state_of::<LogState>(&rt, alloc, "alice 1.0: init alice")?,
+        &state_of::<LogState>(alloc, "alice 1.0: init alice")?,
     )
 }
 
@@ -325,7 +325,7 @@ fn names(alloc: Global, state: &LogState) -> Result<String, Fail> {
 #[test]
 fn releases_come_back_by_their_names(rt: HostRuntime) -> Result<(), Fail> {
     let alloc = rt.alloc();
-    let json = text_of(&rt, alloc, &state_of::<LogState>(&rt, alloc, LONG)?)?;
+    let json = text_of(&rt, alloc, &state_of::<LogState>(alloc, LONG)?)?;
     let names = names(alloc, &load::<LogState>(&rt, alloc, json.as_str())?)?;
     assert_eq!(&rt; names.as_str(), "10.0.0 9.0.0-rc.1+a 9.0.0-rc.1+b ");
     Ok(())
