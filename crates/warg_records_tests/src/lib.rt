@@ -1,4 +1,4 @@
-//! Tests of `warg_records`, by its public paths.
+//! Tests of `warg_permissions`, `warg_envelope`, `warg_records` and `warg_registry`, by their public paths.
 #![tactic(auto)]
 
 #[cfg(test)]
