@@ -6,6 +6,7 @@ ghost use Rattle.warg_crypto.specs.Visits.{Stops};
 
 use crate::visit::ByteVisitor;
 use std::alloc::AllocError;
+use std::fmt;
 
 /// Hands numbers and texts to a visitor of bytes, by prefix encoding.
 pub struct PrefixEncodeVisitor<'a, BV> {
@@ -17,6 +18,12 @@ impl<BV> Drop for PrefixEncodeVisitor<'_, BV> {
         ensures { self.exit.0.now ≡ self.entry.visitor.now }
     {
         let PrefixEncodeVisitor { visitor: _ } = self;
+    }
+}
+
+impl<BV> fmt::Debug for PrefixEncodeVisitor<'_, BV> {
+    fn fmt<W: fmt::Write>(&self, f: &mut fmt::Formatter<W>) -> fmt::Result {
+        f.write_str("PrefixEncodeVisitor")
     }
 }
 

@@ -5,7 +5,7 @@ ghost use Rattle.warg_crypto.specs.Times.{IsNotAfter};
 
 use crate::time::{Clock, Timestamp};
 use std::marker::Model;
-use std::{io, rt};
+use std::{fmt, io, rt};
 
 impl Timestamp {
     /// The time that the system's clock tells. It fails where that clock can't be read, or is past
@@ -35,6 +35,14 @@ impl<R> Model for SystemClock<R> {
     ghost Value = { Time };
 
     ghost view = { λ clock. clock.last };
+}
+
+impl<R> fmt::Debug for SystemClock<R> {
+    fn fmt<W: fmt::Write>(&self, f: &mut fmt::Formatter<W>) -> fmt::Result {
+        f.debug_struct("SystemClock")
+            .field("last", &self.last)
+            .finish()
+    }
 }
 
 impl<R: rt::Clock + Drop> SystemClock<R> {

@@ -12,4 +12,5 @@ pub use warg_permissions::laws as permissions;
 pub use warg_protobuf::laws as messages;
 pub use warg_records::laws as records;
 pub use warg_registry::laws as registry;
+pub use warg_saved::laws as saved;
 pub use warg_validator::laws as runs;

@@ -4,6 +4,7 @@
 
 mod error;
 mod fit;
+pub mod laws;
 mod map;
 mod map_text;
 mod members;

@@ -52,6 +52,12 @@ impl Sha256Visitor {
     }
 }
 
+impl fmt::Debug for Sha256Visitor {
+    fn fmt<W: fmt::Write>(&self, f: &mut fmt::Formatter<W>) -> fmt::Result {
+        f.write_str("Sha256Visitor")
+    }
+}
+
 impl ByteVisitor for Sha256Visitor {
     ghost seen = { λ v m. Holds256 v.hasher m };
 
