@@ -1,3 +1,2 @@
-pub mod PackageEquality
-pub mod OperatorEquality
+pub mod Equality
 pub mod JsonLemmas

@@ -5,8 +5,8 @@ use Rattle.std.proofs.lemmas.Bool.Decides.{Decides-and, Decides-like}
 use Rattle.std.proofs.lemmas.Slice.Eq.{bytes_eq-Decides}
 use Rattle.warg_crypto.specs.declared.hash.HashAlgorithm.TheVariants.{Sha256}
 use Rattle.warg_records.specs.OperatorEntries.{OperatorOwnEntry, DefineNamespace, ImportNamespace, entry_data, record_data}
-use Rattle.warg_permissions.specs.OperatorPermissions.{same_permission}
-use Rattle.warg_permissions.proofs.OperatorEquality.{permission_decided}
+use Rattle.warg_permissions.specs.OperatorPermissions.{same_permission, same_permission-is, same_permission_equiv}
+use Rattle.warg_permissions.proofs.Equality.{decided}
 use Rattle.warg_records.specs.RecordData.{EntryData, Shared, Own, Init, GrantFlat, RevokeFlat}
 use Rattle.warg_records.specs.contracts.operator.model.OperatorEntryPartialEq.TheImpl as entries
 use Rattle.warg_permissions.specs.declared.operator.Permission.{Permission}
@@ -24,6 +24,9 @@ case_of (Shared (GrantFlat key permissions)) = 1
 case_of (Shared (RevokeFlat key_id permissions)) = 2
 case_of (Own (DefineNamespace namespace)) = 3
 case_of (Own (ImportNamespace namespace registry)) = 4
+
+permission_decided : (p q : Permission) → Decides (same_permission p q) (p ≡ q)
+permission_decided = decided same_permission same_permission_equiv same_permission-is
 
 pub entry_decided : (a b : OperatorEntry) → Decides (same_entry a b) (entry_data a ≡ entry_data b)
 entry_decided (entry.Init Sha256 k) (entry.Init Sha256 l) = init_decided same_permission permission_decided k l

@@ -4,8 +4,8 @@ use Rattle.std.specs.Bool.{Decides}
 use Rattle.std.proofs.lemmas.Bool.Decides.{Decides-and, Decides-like}
 use Rattle.warg_crypto.specs.declared.hash.HashAlgorithm.TheVariants.{Sha256}
 use Rattle.warg_records.specs.PackageEntries.{PackageOwnEntry, Release, Yank, entry_data, record_data}
-use Rattle.warg_permissions.specs.PackagePermissions.{same_permission}
-use Rattle.warg_permissions.proofs.PackageEquality.{permission_decided}
+use Rattle.warg_permissions.specs.PackagePermissions.{same_permission, same_permission-is, same_permission_equiv}
+use Rattle.warg_permissions.proofs.Equality.{decided}
 use Rattle.warg_records.specs.RecordData.{EntryData, Shared, Own, Init, GrantFlat, RevokeFlat}
 use Rattle.warg_records.specs.contracts.package.model.PackageEntryPartialEq.TheImpl as entries
 use Rattle.warg_permissions.specs.declared.package.Permission.{Permission}
@@ -23,6 +23,9 @@ case_of (Shared (GrantFlat key permissions)) = 1
 case_of (Shared (RevokeFlat key_id permissions)) = 2
 case_of (Own (Release version content)) = 3
 case_of (Own (Yank version)) = 4
+
+permission_decided : (p q : Permission) → Decides (same_permission p q) (p ≡ q)
+permission_decided = decided same_permission same_permission_equiv same_permission-is
 
 pub entry_decided : (a b : PackageEntry) → Decides (same_entry a b) (entry_data a ≡ entry_data b)
 entry_decided (entry.Init Sha256 k) (entry.Init Sha256 l) = init_decided same_permission permission_decided k l
