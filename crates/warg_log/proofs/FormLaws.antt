@@ -19,8 +19,8 @@ use Rattle.warg_validator.specs.Walks as walk
 use Rattle.warg_validator.proofs.KindWalks.{accepted-lawful}
 use Rattle.warg_log.specs.SignedEntries.{AccessView, nothing, after}
 use Rattle.warg_log.specs.Forms.{TimesNeverFall, FirstAloneHasNoPrev, is_init, inits, OneInitFirst, EntriesHaveKeys, HasForm}
-use Rattle.warg_log.specs.Histories.{Placed, placed_in, record_history, history_of}
-use Rattle.warg_log.specs.History.{SignedRecord, Event, Rules, StateView, View, Wrong, signed_entry_of, record_events, head_of, whole_after, start, entry_offence, entry_fault, events_offence, unsigned_offence, record_offence, after_record, IsCoherent}
+use Rattle.warg_log.specs.History.{Placed, placed_in, record_history, history_of}
+use Rattle.warg_log.specs.Rules.{SignedRecord, Event, Rules, StateView, View, Wrong, signed_entry_of, record_events, head_of, whole_after, start, entry_offence, entry_fault, events_offence, unsigned_offence, record_offence, after_record, IsCoherent}
 use Rattle.warg_log.specs.LogKind.{opened, offence_in, kind_of}
 use Rattle.warg_log.specs.Offences.{Offence, lacks_required, FirstEntryIsNotInit, InitialEntryAfterBeginning, InitialRecordDoesNotInit, TimestampLowerThanPrevious}
 use Rattle.warg_log.specs.Records.{is_before, link_offence, version_offence, time_offence, signer_offence}

@@ -9,10 +9,10 @@ use Rattle.warg_validator.specs.Walks.{view_after, AllLawful, IsStepwise}
 use Rattle.warg_crypto.specs.NamedBytes.{NamedBytes}
 use Rattle.warg_log.specs.SignedEntries.{SignedEntry, after, nothing, signed_entry_on, enters, signed_entry_key, signed_entry_algorithm}
 use Rattle.warg_records.specs.RecordData.{EntryData}
-use Rattle.warg_log.specs.History.{SignedRecord, Event, View, StateView, Wrong, Rules, signed_entry_in, signed_entry_of, own_of, events_of, record_events, head_of, whole_after, start, entry_offence, entry_fault, events_offence, unsigned_offence, record_offence, after_record}
+use Rattle.warg_log.specs.Rules.{SignedRecord, Event, View, StateView, Wrong, Rules, signed_entry_in, signed_entry_of, own_of, events_of, record_events, head_of, whole_after, start, entry_offence, entry_fault, events_offence, unsigned_offence, record_offence, after_record}
 use Rattle.warg_log.specs.Offences.{lacks_required, not_begun}
 use Rattle.warg_log.specs.Records.{link_offence, version_offence, time_offence}
-use Rattle.warg_log.specs.Histories.{Placed, placed_in, record_history, history_of, entry_on, entry_enters, entry_key, entry_algorithm, standing_of, owns, view_of, own_after, own_offence}
+use Rattle.warg_log.specs.History.{Placed, placed_in, record_history, history_of, entry_on, entry_enters, entry_key, entry_algorithm, standing_of, owns, view_of, own_after, own_offence}
 use Rattle.warg_log.proofs.Firsts.{or_first, or_second, unmapped}
 use Rattle.warg_log.proofs.SignedEntryLaws.{same_standing, after-append, map-join}
 use Rattle.warg_records.specs.declared.record_id.RecordId.{RecordId}
@@ -113,7 +113,7 @@ module _ {P O : Type 0} (id_of : List ℕ → RecordId) where
       nil_end [] = refl
       nil_end (x ∷ xs) = ap (λ l. x ∷ l) (nil_end xs)
 
-  owns_is : (rs : List (SignedRecord P O)) → owns (history_of id_of rs) ≡ filter_map own_of (flat_map (record_events id_of) rs)
+  pub owns_is : (rs : List (SignedRecord P O)) → owns (history_of id_of rs) ≡ filter_map own_of (flat_map (record_events id_of) rs)
   owns_is rs = filter_map-of (λ e. e.event) own_of (history_of id_of rs) ∙ ap (filter_map own_of) (history-events rs)
 
 module _ {P O V F : Type 0} (rules : Rules P O V F) (same : P → P → Bool) (none : (v : V) → v ≡ rules.after v []) (append : (v : V) (xs ys : List (Event O)) → rules.after v (xs ++ ys) ≡ rules.after (rules.after v xs) ys) where

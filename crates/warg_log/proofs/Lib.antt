@@ -13,6 +13,7 @@ pub mod PossibleLaws
 pub mod HistoryViews
 pub mod ListingLaws
 pub mod KindLaws
+pub mod AcceptedOwns
 pub mod NextLaws
 pub mod SameLaws
 pub mod FormLaws

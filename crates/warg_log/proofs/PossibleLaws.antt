@@ -10,7 +10,7 @@ use Rattle.warg_crypto.specs.declared.signing.error.SignatureError.TheVariants.{
 use Rattle.warg_records.specs.RecordData.{EntryData, SharedEntry, Init, GrantFlat, RevokeFlat}
 use Rattle.warg_records.specs.declared.record_id.RecordId.{RecordId}
 use Rattle.warg_log.specs.SignedEntries.{AccessView}
-use Rattle.warg_log.specs.History.{Rules, Wrong, StateView, View, SignedRecord, Event, whole_after, record_events, entry_fault, entry_offence, events_offence, unsigned_offence, record_offence}
+use Rattle.warg_log.specs.Rules.{Rules, Wrong, StateView, View, SignedRecord, Event, whole_after, record_events, entry_fault, entry_offence, events_offence, unsigned_offence, record_offence}
 use Rattle.warg_log.specs.Offences.{Offence, unless, not_begun, empty_grant, lacks_required, unauthorized, shared_entry_offence, InitialRecordDoesNotInit, KeyIDNotRecognized, UnauthorizedAction, PermissionNotFoundToRevoke, WrongSignature}
 use Rattle.warg_log.specs.Records.{link_offence, version_offence, time_offence, same_id}
 use Rattle.warg_log.specs.Rights.{first_missing}

@@ -10,7 +10,7 @@ use Rattle.warg_validator.specs.Kinds.{SignatureRelation, Kind}
 use Rattle.warg_log.specs.SignedEntries.{after}
 use Rattle.warg_log.specs.Offences.{shared_entry_offence, not_begun, lacks_required, unless, InitialRecordDoesNotInit}
 use Rattle.warg_log.specs.Records.{link_offence, version_offence, time_offence, signer_offence}
-use Rattle.warg_log.specs.History.{SignedRecord, Event, Rules, StateView, View, Wrong, signed_entry_of, own_of, whole_after, entry_offence, entry_fault, events_offence, record_events, record_offence}
+use Rattle.warg_log.specs.Rules.{SignedRecord, Event, Rules, StateView, View, Wrong, signed_entry_of, own_of, whole_after, entry_offence, entry_fault, events_offence, record_events, record_offence}
 use Rattle.warg_log.specs.States.{enclosed}
 use Rattle.warg_log.specs.LogKind.{offence_in, kind_of, opened}
 use Rattle.warg_log.specs.Equal.{IsSame}

@@ -1,6 +1,6 @@
 -- The names of offences: the names of their cases, without fields.
 use Rattle.std.specs.Prelude.{ℕ, List, [], codes}
-use Rattle.warg_log.specs.History.{Wrong}
+use Rattle.warg_log.specs.Rules.{Wrong}
 use Rattle.warg_log.specs.Offences.{Offence}
 use Rattle.warg_log.specs.Offences as shared
 

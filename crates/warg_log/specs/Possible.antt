@@ -1,7 +1,7 @@
 -- The offences that a record may have.
 use Rattle.std.specs.Prelude.{◌≡◌, Bool, true, false}
 use Rattle.warg_crypto.specs.declared.signing.error.SignatureError.TheVariants.{Refused, OutOfMemory}
-use Rattle.warg_log.specs.History.{Wrong}
+use Rattle.warg_log.specs.Rules.{Wrong}
 use Rattle.warg_log.specs.Offences.{Offence, WrongSignature, IncorrectHashAlgorithm}
 
 -- no record is refused for out of memory within another error, and there is one algorithm

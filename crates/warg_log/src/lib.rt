@@ -18,7 +18,7 @@ mod rights;
 
 pub use head::{Head, head_member, head_version, put_head, put_head_text};
 pub use log::Log;
-pub use log_kind::{LogKind, Parts, Step};
+pub use log_kind::{EntryRef, LogKind, RecordRef};
 pub use maps::put_all;
 pub use permission_set::PermissionSet;
 pub use refusal::Refusal;

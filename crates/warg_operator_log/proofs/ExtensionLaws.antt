@@ -7,7 +7,7 @@ use Rattle.std.proofs.lemmas.Slice.Eq.{bytes_eq-Decides}
 use Rattle.warg_registry.specs.KebabNames.{is_kebab_name}
 use Rattle.warg_records.specs.OperatorEntries.{OperatorOwnEntry, DefineNamespace, ImportNamespace}
 use Rattle.warg_validator.specs.Walks.{view_after, AllLawful}
-use Rattle.warg_log.specs.History.{Event}
+use Rattle.warg_log.specs.Rules.{Event}
 use Rattle.warg_log.specs.Offences.{unless}
 use Rattle.warg_log.proofs.SignedEntryLaws.{latest-one}
 use Rattle.warg_operator_log.specs.Namespaces.{OwnOffence, InvalidNamespace, NamespaceAlreadyDefined, Namespace, Defined, Imported, Names, name_offence, own_offence, names_after, own_after, own_wrong}

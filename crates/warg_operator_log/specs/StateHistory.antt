@@ -9,8 +9,8 @@ use Rattle.warg_records.specs.OperatorReading.{operator_record_of}
 use Rattle.warg_records.specs.RecordData.{EntryData}
 use Rattle.warg_permissions.specs.declared.operator.Permission.{Permission}
 use Rattle.warg_log.specs.Contents.{Contents}
-use Rattle.warg_log.specs.Histories.{Placed, history_of, holds, has_entry, key_of, algorithm_of, owns}
-use Rattle.warg_log.specs.History.{SignedRecord, head_of}
+use Rattle.warg_log.specs.History.{Placed, history_of, holds, has_entry, key_of, algorithm_of, owns}
+use Rattle.warg_log.specs.Rules.{SignedRecord, head_of}
 use Rattle.warg_log.specs.LogKind.{opened}
 use Rattle.warg_log.specs.States.{State}
 use Rattle.warg_operator_log.specs.Namespaces.{Namespace, Names, defines, rules, record_id_of}

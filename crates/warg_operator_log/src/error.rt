@@ -122,7 +122,7 @@ impl From<SignatureError> for ValidationError {
 impl From<Refusal<Permission>> for ValidationError {
     ghost use Rattle.std.specs.Option.{option_map};
     ghost use Rattle.warg_log.specs.Offences as shared;
-    ghost use Rattle.warg_log.specs.History.{Wrong};
+    ghost use Rattle.warg_log.specs.Rules.{Wrong};
     ghost use Rattle.warg_operator_log.specs.State.{offence_of};
 
     ghost from_gives = { λ r e. offence_of e ≡ option_map Wrong.Shared (shared.offence_of r) };

@@ -8,7 +8,7 @@ ghost use Rattle.warg_registry.specs.KebabNames.{IsKebabName, is_kebab_name};
 ghost use Rattle.warg_records.specs.OperatorEntries.{OperatorOwnEntry, entry_data, record_data};
 ghost use Rattle.warg_log.specs.Judging.{Judges};
 ghost use Rattle.warg_log.specs.Offences as shared;
-ghost use Rattle.warg_log.specs.History.{Wrong};
+ghost use Rattle.warg_log.specs.Rules.{Wrong};
 ghost use Rattle.warg_operator_log.specs.Namespaces.{OwnOffence, Names, Namespace, names, names_over, name_offence, rules, names-none, names-append, alike_offence, alike_after};
 ghost use Rattle.warg_operator_log.specs.NamespaceMap.{namespace_view};
 ghost use Rattle.warg_operator_log.specs.SameNamespaces.{same_namespaces};
@@ -26,7 +26,7 @@ use warg_crypto::Timestamp;
 use warg_crypto::hash::Sha256;
 use warg_crypto::signing::KeyID;
 use warg_envelope::ProtoEnvelope;
-use warg_log::{LogKind, Parts, Refusal, Step, put_all};
+use warg_log::{EntryRef, LogKind, RecordRef, Refusal, put_all};
 use warg_records::RecordId;
 use warg_records::operator::{OperatorEntry, OperatorRecord, Permission};
 use warg_registry::PackageName;
@@ -185,8 +185,8 @@ impl LogKind for NamespaceMap {
         version != 0
     }
 
-    fn parts(contents: &OperatorRecord) -> Parts<'_, OperatorEntry> {
-        Parts {
+    fn parts(contents: &OperatorRecord) -> RecordRef<'_, OperatorEntry> {
+        RecordRef {
             prev: contents.prev,
             version: contents.version,
             timestamp: contents.timestamp,
@@ -202,25 +202,28 @@ impl LogKind for NamespaceMap {
         entry.required_permission()
     }
 
-    fn step(entry: &OperatorEntry) -> Step<'_, Permission> {
+    fn step(entry: &OperatorEntry) -> EntryRef<'_, Permission> {
         match entry {
             OperatorEntry::Init {
                 hash_algorithm,
                 key,
-            } => Step::Init {
+            } => EntryRef::Init {
                 hash_algorithm: *hash_algorithm,
                 key,
             },
-            OperatorEntry::GrantFlat { key, permissions } => Step::GrantFlat { key, permissions },
+            OperatorEntry::GrantFlat { key, permissions } => EntryRef::GrantFlat {
+                key,
+                permissions,
+            },
             OperatorEntry::RevokeFlat {
                 key_id,
                 permissions,
-            } => Step::RevokeFlat {
+            } => EntryRef::RevokeFlat {
                 key_id,
                 permissions,
             },
-            OperatorEntry::DefineNamespace { .. } => Step::Own,
-            OperatorEntry::ImportNamespace { .. } => Step::Own,
+            OperatorEntry::DefineNamespace { .. } => EntryRef::Own,
+            OperatorEntry::ImportNamespace { .. } => EntryRef::Own,
         }
     }
 

@@ -3,11 +3,11 @@ use Rattle.std.proofs.Common.{◌≡◌, inl, inr, ℕ, List, [], ◌∷◌, ◌
 use Rattle.std.specs.List.{AllByRecursion}
 use Rattle.std.specs.Option.{option_map}
 use Rattle.warg_crypto.specs.Times.{Time}
-use Rattle.warg_records.specs.PackageEntries.{Parts, PackageOwnEntry, Release, Yank}
+use Rattle.warg_records.specs.PackageEntries.{VersionParts, PackageOwnEntry, Release, Yank}
 use Rattle.warg_records.specs.declared.record_id.RecordId.{RecordId}
 use Rattle.warg_validator.specs.Walks.{view_after, AllLawful}
 use Rattle.warg_log.specs.SignedEntries.{latest}
-use Rattle.warg_log.specs.History.{Event}
+use Rattle.warg_log.specs.Rules.{Event}
 use Rattle.warg_log.proofs.SignedEntryLaws.{latest-one}
 use Rattle.warg_package_log.specs.Versions.{same_parts}
 use Rattle.warg_package_log.specs.Releases.{ReleaseView, yanks, turned, released, releases_after, find_parts, own_offence, unyankable, is_yanked, versions}
@@ -48,7 +48,7 @@ extension-trans (a ∷ olds) [] news h g = absurd h
 extension-trans (a ∷ olds) (b ∷ mids) [] h g = absurd g
 extension-trans (a ∷ olds) (b ∷ mids) (c ∷ news) h g = (kept-trans a b c h.0 g.0, extension-trans olds mids news h.1 g.1)
 
-unyanked : (v : Parts) (s : ReleaseState) → unyankable v (Some s) ≡ None → is_yanked s ≡ false
+unyanked : (v : VersionParts) (s : ReleaseState) → unyankable v (Some s) ≡ None → is_yanked s ≡ false
 unyanked v (Released content) h = refl
 unyanked v (Yanked by timestamp) h = cc
 
@@ -57,7 +57,7 @@ module _ (signer : List ℕ) (time : Time) (id : RecordId) where
   event o = record { entry = o; signer = signer; time = time; record_id = id }
 
   -- a Yank keeps a release that it does not name, and one that stands
-  kept-yank : (v : Parts) (r : ReleaseView) → (same_parts v r.version ≡ true → is_yanked r.state ≡ false) → IsKept r (turned (event (Yank v) ∷ []) r)
+  kept-yank : (v : VersionParts) (r : ReleaseView) → (same_parts v r.version ≡ true → is_yanked r.state ≡ false) → IsKept r (turned (event (Yank v) ∷ []) r)
   kept-yank v r stands = record { record_id = refl; version = refl; by = refl; timestamp = refl; state = by (same_parts v r.version) refl }
     where
       by : (b : Bool) → same_parts v r.version ≡ b → IsKeptState r.state (latest (yanks r.version) r.state (event (Yank v) ∷ []))
@@ -65,15 +65,15 @@ module _ (signer : List ℕ) (time : Time) (id : RecordId) where
       by false e = inl (sym (latest-one (same_parts v r.version) (Yanked signer time) r.state ∙ ap (λ b. if b then Yanked signer time else r.state) e))
 
   -- versions that differ from one differ from what is the same as it
-  elsewhere : (v : Parts) (r q : ReleaseView) → same_parts v r.version ≡ true → same_parts r.version q.version ≡ false → same_parts v q.version ≡ true → is_yanked q.state ≡ false
+  elsewhere : (v : VersionParts) (r q : ReleaseView) → same_parts v r.version ≡ true → same_parts r.version q.version ≡ false → same_parts v q.version ≡ true → is_yanked q.state ≡ false
   elsewhere v r q here apart there = absurd (true≢false (sym there ∙ ap (λ w. same_parts w q.version) (exact_parts v r.version here) ∙ apart))
 
-  others-kept : (v : Parts) (r : ReleaseView) (rs more : List ReleaseView) → same_parts v r.version ≡ true → AllByRecursion (λ w. same_parts r.version w ≡ false) (versions rs)
+  others-kept : (v : VersionParts) (r : ReleaseView) (rs more : List ReleaseView) → same_parts v r.version ≡ true → AllByRecursion (λ w. same_parts r.version w ≡ false) (versions rs)
       → IsExtension rs (map (turned (event (Yank v) ∷ [])) rs ++ more)
   others-kept v r [] more here apart = tt
   others-kept v r (q ∷ rs) more here apart = (kept-yank v q (elsewhere v r q here apart.0), others-kept v r rs more here apart.1)
 
-  yank-kept : (v : Parts) (rs more : List ReleaseView) → AreDistinct (versions rs) → unyankable v (option_map (λ r. r.state) (find_parts rs v)) ≡ None
+  yank-kept : (v : VersionParts) (rs more : List ReleaseView) → AreDistinct (versions rs) → unyankable v (option_map (λ r. r.state) (find_parts rs v)) ≡ None
       → IsExtension rs (map (turned (event (Yank v) ∷ [])) rs ++ more)
   yank-kept v [] more d h = tt
   yank-kept v (r ∷ rs) more d h = by (same_parts v r.version) refl h (yank-kept v rs more d.1)
@@ -84,7 +84,7 @@ module _ (signer : List ℕ) (time : Time) (id : RecordId) where
       by true e h rest = (kept-yank v r (λ _. unyanked v r.state h), others-kept v r rs more e d.0)
       by false e h rest = (kept-yank v r (λ t. absurd (true≢false (sym t ∙ e))), rest h)
 
-  release-kept : (v : Parts) (rs more : List ReleaseView) (o : PackageOwnEntry) → ((r : ReleaseView) → IsKept r (turned (event o ∷ []) r)) → IsExtension rs (map (turned (event o ∷ [])) rs ++ more)
+  release-kept : (v : VersionParts) (rs more : List ReleaseView) (o : PackageOwnEntry) → ((r : ReleaseView) → IsKept r (turned (event o ∷ []) r)) → IsExtension rs (map (turned (event o ∷ [])) rs ++ more)
   release-kept v [] more o each = tt
   release-kept v (r ∷ rs) more o each = (each r, release-kept v rs more o each)
 
@@ -96,7 +96,7 @@ module _ (signer : List ℕ) (time : Time) (id : RecordId) where
   versions-turned es [] = refl
   versions-turned es (r ∷ rs) = ap (λ l. r.version ∷ l) (versions-turned es rs)
 
-  find-versions : (v : Parts) (rs qs : List ReleaseView) → versions rs ≡ versions qs → find_parts rs v ≡ None → find_parts qs v ≡ None
+  find-versions : (v : VersionParts) (rs qs : List ReleaseView) → versions rs ≡ versions qs → find_parts rs v ≡ None → find_parts qs v ≡ None
   find-versions v rs [] same h = refl
   find-versions v [] (q ∷ qs) same h = cc
   find-versions v (r ∷ rs) (q ∷ qs) same h = by (same_parts v r.version) refl h (find-versions v rs qs tail)

@@ -11,13 +11,13 @@ use Rattle.std.proofs.lemmas.Cmp.{upto}
 use Rattle.std.proofs.lemmas.List.Elements.{Contains-push, Contains-push_cases, Contains-append_cases, Contains-append_left, Contains-append_right}
 use Rattle.semver.specs.OrderLaws.{pre_total, build_total}
 use Rattle.semver.specs.Identifiers.{parts_of}
-use Rattle.warg_records.specs.PackageEntries.{Parts}
+use Rattle.warg_records.specs.PackageEntries.{VersionParts}
 use Rattle.warg_package_log.specs.Latest.{IsGreatest, greater_of, parts_cmp, release_cmp}
 use Rattle.warg_package_log.specs.declared.release.Release.{Release}
 
 pub parts_total : IsTotalOrder parts_cmp
-parts_total = then_total (on_total (λ (p : Parts). p.0) nat_cmp_total) (then_total (on_total (λ (p : Parts). p.1) nat_cmp_total) (then_total (on_total (λ (p : Parts). p.2) nat_cmp_total)
-    (then_total (on_total (λ (p : Parts). p.3) pre_total) (on_total (λ (p : Parts). p.4) build_total))))
+parts_total = then_total (on_total (λ (p : VersionParts). p.0) nat_cmp_total) (then_total (on_total (λ (p : VersionParts). p.1) nat_cmp_total) (then_total (on_total (λ (p : VersionParts). p.2) nat_cmp_total)
+    (then_total (on_total (λ (p : VersionParts). p.3) pre_total) (on_total (λ (p : VersionParts). p.4) build_total))))
 
 pub release_total : IsTotalOrder release_cmp
 release_total = on_total (λ (r : Release). parts_of r.version) parts_total

@@ -5,7 +5,7 @@ use Rattle.std.specs.Map.{keys_of}
 use Rattle.semver.specs.declared.Version.{Version}
 use Rattle.semver.specs.Identifiers.{parts_of}
 use Rattle.warg_crypto.specs.Pairs.{plain_pairs}
-use Rattle.warg_records.specs.PackageEntries.{Parts}
+use Rattle.warg_records.specs.PackageEntries.{VersionParts}
 use Rattle.warg_crypto.specs.declared.json.error.Incoherence.{Incoherence}
 use Rattle.warg_saved.specs.Fit.{case_if}
 use Rattle.warg_package_log.specs.Catalog.{AreDistinct, IsCatalog, IsUnderVersions, release_view, views}
@@ -54,8 +54,8 @@ distinct_versions (e ∷ es) all h =
     let others = other_versions e.0 es all.1 h.0 in
     (own (parts_of e.0) (parts_of e.1.version) all.0 others, distinct_versions es all.1 h.1)
   where
-    own : (a b : Parts) → a ≡ b → AllByRecursion (λ w. same_parts a w ≡ false) (versions (views es)) → AllByRecursion (λ w. same_parts b w ≡ false) (versions (views es))
-    own a b is all = subst (λ (v : Parts). AllByRecursion (λ w. same_parts v w ≡ false) (versions (views es))) is all
+    own : (a b : VersionParts) → a ≡ b → AllByRecursion (λ w. same_parts a w ≡ false) (versions (views es)) → AllByRecursion (λ w. same_parts b w ≡ false) (versions (views es))
+    own a b is all = subst (λ (v : VersionParts). AllByRecursion (λ w. same_parts v w ≡ false) (versions (views es))) is all
 
 -- a map whose releases stand under their versions is a catalog
 pub restored-catalog : (es : List (Version × Release)) → IsDistinct same_version (keys_of es) → releases_case (plain_pairs parts_of release_view es) ≡ None → IsCatalog es

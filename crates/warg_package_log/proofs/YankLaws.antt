@@ -5,10 +5,10 @@ use Rattle.std.specs.List.{filter_map, cons_option}
 use Rattle.std.specs.Option.{option_map, option_map_or, option_or}
 use Rattle.std.proofs.lemmas.List.Folds.{find-append}
 use Rattle.warg_crypto.specs.Times.{Time}
-use Rattle.warg_records.specs.PackageEntries.{Parts, PackageOwnEntry, Release, Yank}
+use Rattle.warg_records.specs.PackageEntries.{VersionParts, PackageOwnEntry, Release, Yank}
 use Rattle.warg_records.specs.declared.record_id.RecordId.{RecordId}
 use Rattle.warg_validator.specs.Walks.{AllLawful}
-use Rattle.warg_log.specs.History.{Event}
+use Rattle.warg_log.specs.Rules.{Event}
 use Rattle.warg_log.proofs.SignedEntryLaws.{latest-one}
 use Rattle.warg_package_log.specs.AlikeLaws.{find-turned}
 use Rattle.warg_package_log.specs.ListedReleases.{own_after, own_wrong}
@@ -19,11 +19,11 @@ use Rattle.warg_package_log.specs.declared.release.ReleaseState.{ReleaseState}
 use Rattle.warg_package_log.specs.declared.release.ReleaseState.TheVariants.{Released, Yanked}
 
 -- whether the release of the version is yanked, if there is one
-abbrev is_down : List ReleaseView → Parts → Bool
+abbrev is_down : List ReleaseView → VersionParts → Bool
 is_down rs v = option_map_or (λ r. is_yanked r.state) (find_parts rs v) false
 
 -- a Yank of a version whose release is yanked is not lawful
-not_again : (v : Parts) (o : Option ReleaseView) → option_map_or (λ r. is_yanked r.state) o false ≡ true → unyankable v (option_map (λ r. r.state) o) ≡ None → ⊥
+not_again : (v : VersionParts) (o : Option ReleaseView) → option_map_or (λ r. is_yanked r.state) o false ≡ true → unyankable v (option_map (λ r. r.state) o) ≡ None → ⊥
 not_again v None down h = cc
 not_again v (Some r) down h = by r.state down h
   where
@@ -32,7 +32,7 @@ not_again v (Some r) down h = by r.state down h
     by (Yanked signer time) down h = cc
 
 -- a Yank that is lawful is of a release, and the release stands
-there_before : (v : Parts) (o : Option ReleaseView) → unyankable v (option_map (λ r. r.state) o) ≡ None → (r : ReleaseView) × (o ≡ Some r)
+there_before : (v : VersionParts) (o : Option ReleaseView) → unyankable v (option_map (λ r. r.state) o) ≡ None → (r : ReleaseView) × (o ≡ Some r)
 there_before v None h = absurd (never h)
   where
     never : unyankable v None ≡ None → ⊥
@@ -48,7 +48,7 @@ found_passes t (x ∷ rs) r h = by (t x) refl h (found_passes t rs r)
     by false e g rest = rest g
 
 -- what is found stays, turned by the event
-found_after : (rs : List ReleaseView) (e : Event PackageOwnEntry) (v : Parts) (r : ReleaseView) → find_parts rs v ≡ Some r → find_parts (releases_after rs (e ∷ [])) v ≡ Some (turned (e ∷ []) r)
+found_after : (rs : List ReleaseView) (e : Event PackageOwnEntry) (v : VersionParts) (r : ReleaseView) → find_parts rs v ≡ Some r → find_parts (releases_after rs (e ∷ [])) v ≡ Some (turned (e ∷ []) r)
 found_after rs e v r h =
     find-append (λ q. same_parts v q.version) (map (turned (e ∷ [])) rs) (released (e ∷ []))
     ∙ ap (λ o. option_or o (find_parts (released (e ∷ [])) v)) (find-turned (e ∷ []) v rs ∙ ap (option_map (turned (e ∷ []))) h)
@@ -66,12 +66,12 @@ module _ (signer : List ℕ) (time : Time) (id : RecordId) where
   stays_down (Release w content) r down = down
   stays_down (Yank w) r down = ap is_yanked (latest-one (same_parts w r.version) (Yanked signer time) r.state) ∙ turned_down (same_parts w r.version) r.state down
 
-  still_down : (rs : List ReleaseView) (o : PackageOwnEntry) (v : Parts) (found : Option ReleaseView) → find_parts rs v ≡ found → option_map_or (λ r. is_yanked r.state) found false ≡ true → is_down (releases_after rs (event o ∷ [])) v ≡ true
+  still_down : (rs : List ReleaseView) (o : PackageOwnEntry) (v : VersionParts) (found : Option ReleaseView) → find_parts rs v ≡ found → option_map_or (λ r. is_yanked r.state) found false ≡ true → is_down (releases_after rs (event o ∷ [])) v ≡ true
   still_down rs o v None at down = cc
   still_down rs o v (Some r) at down = ap (λ f. option_map_or (λ (q : ReleaseView). is_yanked q.state) f false) (found_after rs (event o) v r at) ∙ stays_down o r down
 
   -- after a Yank the release is yanked
-  yanked_now : (rs : List ReleaseView) (v : Parts) → own_offence rs (Yank v) ≡ None → is_down (releases_after rs (event (Yank v) ∷ [])) v ≡ true
+  yanked_now : (rs : List ReleaseView) (v : VersionParts) → own_offence rs (Yank v) ≡ None → is_down (releases_after rs (event (Yank v) ∷ [])) v ≡ true
   yanked_now rs v h =
       let found = there_before v (find_parts rs v) h in
       let r = found.0 in
@@ -79,7 +79,7 @@ module _ (signer : List ℕ) (time : Time) (id : RecordId) where
       ∙ ap is_yanked (latest-one (same_parts v r.version) (Yanked signer time) r.state ∙ ap (λ b. if b then Yanked signer time else r.state) (found_passes (λ q. same_parts v q.version) rs r found.1))
 
   -- an event is no Yank of a version whose release is yanked
-  silent : (rs : List ReleaseView) (o : PackageOwnEntry) (v : Parts) → is_down rs v ≡ true → own_offence rs o ≡ None → yanks v (event o) ≡ None
+  silent : (rs : List ReleaseView) (o : PackageOwnEntry) (v : VersionParts) → is_down rs v ≡ true → own_offence rs o ≡ None → yanks v (event o) ≡ None
   silent rs (Release w content) v down h = refl
   silent rs (Yank w) v down h = by (same_parts w v) refl
     where
@@ -88,7 +88,7 @@ module _ (signer : List ℕ) (time : Time) (id : RecordId) where
       by false e = ap (λ b. if b then Some (Yanked signer time) else None) e
 
   -- an event that yanks a version leaves its release yanked
-  spoken : (rs : List ReleaseView) (o : PackageOwnEntry) (v : Parts) (s : ReleaseState) → own_offence rs o ≡ None → yanks v (event o) ≡ Some s → is_down (releases_after rs (event o ∷ [])) v ≡ true
+  spoken : (rs : List ReleaseView) (o : PackageOwnEntry) (v : VersionParts) (s : ReleaseState) → own_offence rs o ≡ None → yanks v (event o) ≡ Some s → is_down (releases_after rs (event o ∷ [])) v ≡ true
   spoken rs (Release w content) v s h says = cc
   spoken rs (Yank w) v s h says = by (same_parts w v) refl
     where
@@ -100,14 +100,14 @@ module _ (signer : List ℕ) (time : Time) (id : RecordId) where
           never g = cc
 
 -- no Yank follows on a yanked release
-none_more : (rs : List ReleaseView) (es : List (Event PackageOwnEntry)) (v : Parts) → is_down rs v ≡ true → AllLawful own_after own_wrong rs es → filter_map (yanks v) es ≡ []
+none_more : (rs : List ReleaseView) (es : List (Event PackageOwnEntry)) (v : VersionParts) → is_down rs v ≡ true → AllLawful own_after own_wrong rs es → filter_map (yanks v) es ≡ []
 none_more rs [] v down h = refl
 none_more rs (e ∷ es) v down h =
     ap (λ o. cons_option o (filter_map (yanks v) es)) (silent e.signer e.time e.record_id rs e.entry v down h.0)
     ∙ none_more (releases_after rs (e ∷ [])) es v (still_down e.signer e.time e.record_id rs e.entry v (find_parts rs v) refl down) h.1
 
 -- a version has one Yank at most
-pub one-yank : (rs : List ReleaseView) (es : List (Event PackageOwnEntry)) (v : Parts) → AllLawful own_after own_wrong rs es → length (filter_map (yanks v) es) ≤ 1
+pub one-yank : (rs : List ReleaseView) (es : List (Event PackageOwnEntry)) (v : VersionParts) → AllLawful own_after own_wrong rs es → length (filter_map (yanks v) es) ≤ 1
 one-yank rs [] v h = omega arith
 one-yank rs (e ∷ es) v h = by (one-yank (releases_after rs (e ∷ [])) es v h.1) (yanks v e) refl
   where

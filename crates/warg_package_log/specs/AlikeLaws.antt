@@ -4,8 +4,8 @@ use Rattle.std.specs.Prelude.{List, [], ◌∷◌, map, Bool, true, false, cond,
 use Rattle.std.specs.Option.{option_map, option_or}
 use Rattle.std.proofs.lemmas.List.Folds.{find-append}
 use Rattle.warg_log.specs.Offences.{unless}
-use Rattle.warg_log.specs.History.{Event}
-use Rattle.warg_records.specs.PackageEntries.{Parts, PackageOwnEntry, Release, Yank}
+use Rattle.warg_log.specs.Rules.{Event}
+use Rattle.warg_records.specs.PackageEntries.{VersionParts, PackageOwnEntry, Release, Yank}
 use Rattle.warg_package_log.specs.Versions.{same_parts}
 use Rattle.warg_package_log.specs.Releases.{ReleaseView, ReleaseOfReleased, turned, released, releases_after, find_parts, own_offence, unyankable}
 use Rattle.warg_package_log.specs.SameReleases.{AreAlike}
@@ -16,13 +16,13 @@ found_turned true ys r o = refl
 found_turned false ys r o = refl
 
 -- a release is found, and then turned
-pub find-turned : (ys : List (Event PackageOwnEntry)) (v : Parts) (rs : List ReleaseView)
+pub find-turned : (ys : List (Event PackageOwnEntry)) (v : VersionParts) (rs : List ReleaseView)
     → find_parts (map (turned ys) rs) v ≡ option_map (turned ys) (find_parts rs v)
 find-turned ys v [] = refl
 find-turned ys v (r ∷ rs) = ap (cond (same_parts v r.version) (Some (turned ys r))) (find-turned ys v rs) ∙ found_turned (same_parts v r.version) ys r (find_parts rs v)
 
 -- what is found after events
-find-after : (rs : List ReleaseView) (es : List (Event PackageOwnEntry)) (v : Parts)
+find-after : (rs : List ReleaseView) (es : List (Event PackageOwnEntry)) (v : VersionParts)
     → find_parts (releases_after rs es) v ≡ option_or (option_map (turned es) (find_parts rs v)) (find_parts (released es) v)
 find-after rs es v = find-append (λ r. same_parts v r.version) (map (turned es) rs) (released es) ∙ ap (λ o. option_or o (find_parts (released es) v)) (find-turned es v rs)
 

@@ -7,14 +7,14 @@ use Rattle.semver.specs.Order.{pre_cmp, build_cmp}
 use Rattle.semver.specs.Identifiers.{parts_of}
 use Rattle.semver.specs.Eval.{matches_all}
 use Rattle.semver.specs.declared.Comparator.{Comparator}
-use Rattle.warg_records.specs.PackageEntries.{Parts}
+use Rattle.warg_records.specs.PackageEntries.{VersionParts}
 use Rattle.semver.specs.EvalViews.{matches_views}
 use Rattle.semver.specs.Identifiers.{comparator_view}
 use Rattle.warg_package_log.specs.Releases.{ReleaseView, is_yanked}
 use Rattle.warg_package_log.specs.declared.release.Release.{Release}
 
 -- the order of versions: by precedence, and then by build metadata
-abbrev pub parts_cmp : Parts → Parts → Ordering
+abbrev pub parts_cmp : VersionParts → VersionParts → Ordering
 parts_cmp a b = ordering_then (nat_cmp a.0 b.0) (ordering_then (nat_cmp a.1 b.1) (ordering_then (nat_cmp a.2 b.2) (ordering_then (pre_cmp a.3 b.3) (build_cmp a.4 b.4))))
 
 -- o is an item that passes the test, and none that does is greater; or none does

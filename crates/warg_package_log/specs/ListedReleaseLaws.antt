@@ -7,13 +7,13 @@ use Rattle.std.proofs.lemmas.Bool.{cases_Bool}
 use Rattle.std.proofs.lemmas.List.Folds.{find-append}
 use Rattle.std.proofs.lemmas.List.Elements.{filter_map-append}
 use Rattle.warg_crypto.specs.Times.{Time}
-use Rattle.warg_records.specs.PackageEntries.{Parts, PackageOwnEntry, Release, Yank}
+use Rattle.warg_records.specs.PackageEntries.{VersionParts, PackageOwnEntry, Release, Yank}
 use Rattle.warg_records.specs.declared.record_id.RecordId.{RecordId}
 use Rattle.warg_validator.specs.Walks.{view_after, AllLawful, IsStepwise}
 use Rattle.warg_validator.proofs.WalkLaws.{lawful-view}
 use Rattle.warg_log.specs.SignedEntries.{latest}
 use Rattle.warg_log.specs.Offences.{unless}
-use Rattle.warg_log.specs.History.{Event}
+use Rattle.warg_log.specs.Rules.{Event}
 use Rattle.warg_log.proofs.SignedEntryLaws.{latest-append, latest-one}
 use Rattle.warg_package_log.specs.Versions.{same_parts}
 use Rattle.warg_package_log.specs.Releases.{OwnOffence, ReleaseView, yanks, made_by, turned, released, releases_after, find_parts, own_offence, unyankable}
@@ -29,7 +29,7 @@ some≢none h = true≢false (ap is_some h)
 
 -- no Yank is of a version that is not released
 abbrev pub NoStray : List (Event PackageOwnEntry) → Type 0
-NoStray es = (v : Parts) → find_parts (listed_releases es) v ≡ None → (s : ReleaseState) → latest (yanks v) s es ≡ s
+NoStray es = (v : VersionParts) → find_parts (listed_releases es) v ≡ None → (s : ReleaseState) → latest (yanks v) s es ≡ s
 
 turned_cons : (ys : List (Event PackageOwnEntry)) (m : Option ReleaseView) (xs : List (Event PackageOwnEntry)) (rs : List ReleaseView) → cons_option (option_map (with_yank (xs ++ ys)) m) (map (turned ys) rs) ≡ map (turned ys) (cons_option (option_map (with_yank xs) m) rs)
 turned_cons ys None xs rs = refl
@@ -53,13 +53,13 @@ pub unless_none : {A : Type 0} (o : Option A) (x : OwnOffence) → unless (is_no
 unless_none None x h = refl
 unless_none (Some a) x h = absurd (some≢none h)
 
-yank_known : (v : Parts) (o : Option ReleaseView) → unyankable v (option_map (λ r. r.state) o) ≡ None → o ≡ None → ⊥
+yank_known : (v : VersionParts) (o : Option ReleaseView) → unyankable v (option_map (λ r. r.state) o) ≡ None → o ≡ None → ⊥
 yank_known v None h g = some≢none h
 yank_known v (Some r) h g = some≢none g
 
 module _ (es : List (Event PackageOwnEntry)) (stray : NoStray es) where
   -- what was not released before, is not after one more event, and no Yank is of it
-  found_before : (e : Event PackageOwnEntry) → listed_releases (es ++ e ∷ []) ≡ releases_after (listed_releases es) (e ∷ []) → (w : Parts) → find_parts (listed_releases (es ++ e ∷ [])) w ≡ None → find_parts (listed_releases es) w ≡ None
+  found_before : (e : Event PackageOwnEntry) → listed_releases (es ++ e ∷ []) ≡ releases_after (listed_releases es) (e ∷ []) → (w : VersionParts) → find_parts (listed_releases (es ++ e ∷ [])) w ≡ None → find_parts (listed_releases es) w ≡ None
   found_before e is w h =
       let whole = sym (find-append (λ r. same_parts w r.version) (map (turned (e ∷ [])) (listed_releases es)) (released (e ∷ []))) ∙ ap (λ l. find_parts l w) (sym is) ∙ h in
       none_inside (turned (e ∷ [])) (find_parts (listed_releases es) w) (sym (find-turned (e ∷ []) w (listed_releases es)) ∙ none_first _ (find_parts (released (e ∷ [])) w) whole)
@@ -72,11 +72,11 @@ module _ (es : List (Event PackageOwnEntry)) (stray : NoStray es) where
     abbrev event : PackageOwnEntry → Event PackageOwnEntry
     event o = record { entry = o; signer = signer; time = time; record_id = id }
 
-    last_said : (o : PackageOwnEntry) (w : Parts) → find_parts (listed_releases es) w ≡ None → (s : ReleaseState)
+    last_said : (o : PackageOwnEntry) (w : VersionParts) → find_parts (listed_releases es) w ≡ None → (s : ReleaseState)
         → latest (yanks w) s (es ++ event o ∷ []) ≡ latest (yanks w) s (event o ∷ [])
     last_said o w none s = latest-append (yanks w) s es (event o ∷ []) ∙ ap (λ t. latest (yanks w) t (event o ∷ [])) (stray w none s)
 
-    other : (v w : Parts) → own_offence (listed_releases es) (Yank v) ≡ None → find_parts (listed_releases es) w ≡ None
+    other : (v w : VersionParts) → own_offence (listed_releases es) (Yank v) ≡ None → find_parts (listed_releases es) w ≡ None
         → same_parts v w ≡ false
     other v w h none = elim (cases_Bool (same_parts v w)) [
       | inl equal ↦ absurd (yank_known v (find_parts (listed_releases es) v) h (ap (find_parts (listed_releases es)) (exact_parts v w equal) ∙ none))

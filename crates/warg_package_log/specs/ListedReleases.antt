@@ -3,7 +3,7 @@ use Rattle.std.specs.Prelude.{List, [], ◌∷◌, Option, None, unwrap_or}
 use Rattle.std.specs.List.{filter_map, last_or}
 use Rattle.std.specs.Option.{option_map}
 use Rattle.warg_records.specs.PackageEntries.{PackageOwnEntry}
-use Rattle.warg_log.specs.History.{Event}
+use Rattle.warg_log.specs.Rules.{Event}
 use Rattle.warg_package_log.specs.Releases.{ReleaseView, OwnOffence, made_by, yanks, releases_after, own_offence}
 
 -- the release, Yanked if a Yank of its version stands anywhere in the events

@@ -2,7 +2,7 @@
 use Rattle.std.specs.Prelude.{ℕ, List, codes, unwrap_or}
 use Rattle.std.specs.Option.{option_map}
 use Rattle.warg_permissions.specs.declared.package.Permission.{Permission}
-use Rattle.warg_log.specs.History.{Wrong}
+use Rattle.warg_log.specs.Rules.{Wrong}
 use Rattle.warg_log.specs.OffenceNames.{wrong_name}
 use Rattle.warg_package_log.specs.Releases.{OwnOffence}
 use Rattle.warg_package_log.specs.Releases as own

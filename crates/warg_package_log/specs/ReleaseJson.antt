@@ -9,18 +9,18 @@ use Rattle.warg_crypto.specs.JsonTexts.{hash_in, hash_json, key_id_in, key_id_js
 use Rattle.warg_crypto.specs.Members.{put_json}
 use Rattle.warg_crypto.specs.declared.json.error.JsonError.{JsonError}
 use Rattle.warg_crypto.specs.declared.json.error.JsonError.TheVariants as fault
-use Rattle.warg_records.specs.PackageEntries.{Parts}
+use Rattle.warg_records.specs.PackageEntries.{VersionParts}
 use Rattle.warg_records.specs.RecordIdJson.{record_id_in, record_id_json}
 use Rattle.warg_package_log.specs.Releases.{ReleaseView}
 use Rattle.warg_package_log.specs.declared.release.ReleaseState.{ReleaseState}
 use Rattle.warg_package_log.specs.declared.release.ReleaseState.TheVariants.{Released, Yanked}
 
 -- a version: its text
-abbrev pub version_json : Parts → Result Data JsonError
+abbrev pub version_json : VersionParts → Result Data JsonError
 version_json version = wrote (string (parts_text version))
 
 -- the version that a JSON text spells, or why it spells none
-abbrev pub version_in : Data → Result Parts JsonError
+abbrev pub version_in : Data → Result VersionParts JsonError
 version_in d = text_in d >>= λ text. or_bad_text (version_parts text)
 
 -- the first member of a state: `status`

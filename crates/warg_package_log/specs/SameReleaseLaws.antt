@@ -19,7 +19,7 @@ use Rattle.warg_records.specs.declared.record_id.RecordId.{RecordId}
 use Rattle.warg_log.specs.Records.{same_id}
 use Rattle.warg_crypto.specs.declared.hash.AnyHash.{AnyHash}
 use Rattle.warg_crypto.specs.Times.{Time}
-use Rattle.warg_records.specs.PackageEntries.{Parts}
+use Rattle.warg_records.specs.PackageEntries.{VersionParts}
 use Rattle.warg_package_log.specs.Catalog.{release_view}
 use Rattle.warg_package_log.specs.Versions.{same_parts}
 use Rattle.warg_package_log.specs.Releases.{ReleaseView, find_parts, versions}
@@ -58,7 +58,7 @@ time_decides a b = (
 )
 
 -- parts that the test calls the same are one
-pub exact_parts : (a b : Parts) → same_parts a b ≡ true → a ≡ b
+pub exact_parts : (a b : VersionParts) → same_parts a b ≡ true → a ≡ b
 exact_parts a b h =
     let h0 = first_so _ _ h in
     let t1 = second_so _ _ h in
@@ -71,7 +71,7 @@ exact_parts a b h =
     λ i. (eqb-true a.0 b.0 h0 i, eqb-true a.1 b.1 h1 i, eqb-true a.2 b.2 h2 i, (bytes_eq-Decides a.3 b.3).0 h3 i, (bytes_eq-Decides a.4 b.4).0 h4 i)
 
 -- parts are the same as themselves
-pub same_parts-self : (a : Parts) → same_parts a a ≡ true
+pub same_parts-self : (a : VersionParts) → same_parts a a ≡ true
 same_parts-self a = λ i. nat_eq_equiv.refl a.0 i && (nat_eq_equiv.refl a.1 i && (nat_eq_equiv.refl a.2 i && (nat_list_eq_equiv.refl a.3 i && nat_list_eq_equiv.refl a.4 i)))
 
 state_same : (a : ReleaseState) → same_state a a ≡ true
@@ -131,7 +131,7 @@ all_pass t f [] = refl
 all_pass t f (x ∷ xs) = ap (λ b. b && list_all t xs) (f x) ∙ all_pass t f xs
 
 -- the list has no release of the version, or the version passes each test that all of its versions pass
-none-or-passes : (t : Parts → Bool) (rs : List ReleaseView) (v : Parts) → list_all t (versions rs) ≡ true
+none-or-passes : (t : VersionParts → Bool) (rs : List ReleaseView) (v : VersionParts) → list_all t (versions rs) ≡ true
     → (find_parts rs v ≡ None) ⊎ (t v ≡ true)
 none-or-passes t [] v h = inl refl
 none-or-passes t (r ∷ rs) v h = by (same_parts v r.version) refl (none-or-passes t rs v (second_so (t r.version) _ h))
@@ -153,7 +153,7 @@ releases-alike rs qs h v = by (none-or-passes (same_at rs qs) rs v (first_so _ _
 
 alike-releases : (rs qs : List ReleaseView) → AreAlike rs qs → same_releases rs qs ≡ true
 alike-releases rs qs alike =
-    let at : (v : Parts) → same_at rs qs v ≡ true = λ v. ap (option_eq same_release (find_parts rs v)) (sym (alike v)) ∙ options_same same_release release_same (find_parts rs v) in
+    let at : (v : VersionParts) → same_at rs qs v ≡ true = λ v. ap (option_eq same_release (find_parts rs v)) (sym (alike v)) ∙ options_same same_release release_same (find_parts rs v) in
     λ i. all_pass (same_at rs qs) at (versions rs) i && all_pass (same_at rs qs) at (versions qs) i
 
 -- equal lists of releases are those that answer alike for every version

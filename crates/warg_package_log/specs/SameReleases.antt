@@ -6,7 +6,7 @@ use Rattle.std.specs.Str.{bytes_eq}
 use Rattle.warg_crypto.specs.Times.{same_time}
 use Rattle.warg_crypto.specs.declared.hash.AnyHash.{AnyHash}
 use Rattle.warg_log.specs.Records.{same_id}
-use Rattle.warg_records.specs.PackageEntries.{Parts}
+use Rattle.warg_records.specs.PackageEntries.{VersionParts}
 use Rattle.warg_package_log.specs.Versions.{same_parts}
 use Rattle.warg_package_log.specs.Releases.{ReleaseView, find_parts, versions}
 use Rattle.warg_package_log.specs.declared.release.ReleaseState.{ReleaseState}
@@ -28,7 +28,7 @@ abbrev pub same_release : ReleaseView → ReleaseView → Bool
 same_release a b = same_id a.record_id b.record_id && (same_parts a.version b.version && (bytes_eq a.by b.by && (same_time a.timestamp b.timestamp && same_state a.state b.state)))
 
 -- whether the two lists have the same release of the version, or both none
-abbrev pub same_at : List ReleaseView → List ReleaseView → Parts → Bool
+abbrev pub same_at : List ReleaseView → List ReleaseView → VersionParts → Bool
 same_at rs qs v = option_eq same_release (find_parts rs v) (find_parts qs v)
 
 -- the same at each version of either list, in whatever order
@@ -37,4 +37,4 @@ same_releases rs qs = list_all (same_at rs qs) (versions rs) && list_all (same_a
 
 -- the two lists answer alike for every version
 abbrev pub AreAlike : List ReleaseView → List ReleaseView → Type 0
-AreAlike rs qs = (v : Parts) → find_parts rs v ≡ find_parts qs v
+AreAlike rs qs = (v : VersionParts) → find_parts rs v ≡ find_parts qs v

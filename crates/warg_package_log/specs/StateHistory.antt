@@ -3,14 +3,14 @@ use Rattle.std.specs.Prelude.{◌≡◌, ◌≤◌, ℕ, List, length, map, None
 use Rattle.std.specs.List.{filter_map, last_or}
 use Rattle.std.specs.Option.{option_map}
 use Rattle.warg_envelope.specs.EnvelopeData.{EnvelopeData}
-use Rattle.warg_records.specs.PackageEntries.{Parts, PackageOwnEntry}
+use Rattle.warg_records.specs.PackageEntries.{VersionParts, PackageOwnEntry}
 use Rattle.warg_permissions.specs.PackagePermissions.{same_permission}
 use Rattle.warg_records.specs.PackageReading.{package_record_of}
 use Rattle.warg_records.specs.RecordData.{EntryData}
 use Rattle.warg_permissions.specs.declared.package.Permission.{Permission}
 use Rattle.warg_log.specs.Contents.{Contents}
-use Rattle.warg_log.specs.Histories.{Placed, history_of, holds, has_entry, key_of, algorithm_of, owns}
-use Rattle.warg_log.specs.History.{SignedRecord, head_of}
+use Rattle.warg_log.specs.History.{Placed, history_of, holds, has_entry, key_of, algorithm_of, owns}
+use Rattle.warg_log.specs.Rules.{SignedRecord, head_of}
 use Rattle.warg_log.specs.LogKind.{opened}
 use Rattle.warg_log.specs.States.{State}
 use Rattle.warg_package_log.specs.ListedReleases.{listed_releases}
@@ -27,7 +27,7 @@ history es = history_of record_id_of (records_of es)
 
 -- each version has one Yank at most
 abbrev pub OneYankEach : List (Placed (EntryData Permission PackageOwnEntry)) → Type 0
-OneYankEach h = (v : Parts) → length (filter_map (yanks v) (owns h)) ≤ 1
+OneYankEach h = (v : VersionParts) → length (filter_map (yanks v) (owns h)) ≤ 1
 
 -- the Release entries of a history, in order, each Yanked if a Yank of its version stands in the history
 abbrev pub releases_of : List (Placed (EntryData Permission PackageOwnEntry)) → List ReleaseView

@@ -8,7 +8,7 @@ ghost use Rattle.warg_permissions.specs.declared.package.Permission.{Permission}
 ghost use Rattle.warg_validator.specs.Kinds.{SignatureRelation, IsAccepted, StandsFor};
 ghost use Rattle.warg_validator.specs.Outcomes.{IsRun, IfStarted, told};
 ghost use Rattle.warg_validator.specs.Strings.{read_all};
-ghost use Rattle.warg_validator.specs.declared.replay.RunError.{RunError};
+ghost use Rattle.warg_validator.specs.declared.run.RunError.{RunError};
 ghost use Rattle.warg_log.specs.Admissions.{NoKeyBringsItselfIn};
 ghost use Rattle.warg_log.specs.Contents.{Contents};
 ghost use Rattle.warg_log.specs.Forms.{HasForm};
@@ -21,7 +21,7 @@ ghost use Rattle.warg_package_log.specs.Extensions.{IsExtension};
 ghost use Rattle.warg_package_log.specs.Releases.{versions, ReleaseView, record_id_of};
 ghost use Rattle.warg_package_log.specs.State.{offence_of, view_of, View, record_offence};
 ghost use Rattle.warg_records.specs.PackageEntries.{PackageOwnEntry};
-ghost use Rattle.warg_log.specs.History.{SignedRecord};
+ghost use Rattle.warg_log.specs.Rules.{SignedRecord};
 ghost use Rattle.warg_log.specs.Possible.{IsPossible};
 ghost use Rattle.warg_package_log.specs.StateLaws.{kind, AreSame};
 ghost use Rattle.warg_package_log.specs.declared.release.Release.{Release};

@@ -9,13 +9,13 @@ use Rattle.warg_protobuf.specs.Yank.{YankValue}
 use Rattle.warg_envelope.specs.Faults.{RecordFault, EmptyEntry, Version, ContentHash}
 use Rattle.warg_records.specs.RecordData.{EntryData, RecordData}
 use Rattle.warg_records.specs.Steps.{◌>>=◌, named, init_of, grant_of, revoke_of, shared, own, record_said}
-use Rattle.warg_records.specs.PackageEntries.{Parts, PackageOwnEntry}
+use Rattle.warg_records.specs.PackageEntries.{VersionParts, PackageOwnEntry}
 use Rattle.warg_records.specs.PackageEntries as plain
 use Rattle.warg_permissions.specs.PackagePermissions.{permission_of}
 use Rattle.warg_permissions.specs.declared.package.Permission.{Permission}
 
 -- the version that a text says, or that it is none
-abbrev pub version_of : List ℕ → Result Parts RecordFault
+abbrev pub version_of : List ℕ → Result VersionParts RecordFault
 version_of text = named (λ e. Version) (version_parts text)
 
 -- the release that its message says, or its first fault: of the version, then of the content's hash

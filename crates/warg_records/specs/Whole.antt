@@ -9,7 +9,7 @@ use Rattle.warg_crypto.specs.NamedBytes.{NamedBytes, IsName}
 use Rattle.warg_crypto.specs.Times.{Time, time_from}
 use Rattle.warg_crypto.specs.declared.hash.AnyHash.{AnyHash}
 use Rattle.warg_records.specs.RecordData.{SharedEntry, Init, GrantFlat, RevokeFlat, EntryData, Shared, Own, RecordData}
-use Rattle.warg_records.specs.PackageEntries.{Parts, PackageOwnEntry, Release, Yank}
+use Rattle.warg_records.specs.PackageEntries.{VersionParts, PackageOwnEntry, Release, Yank}
 use Rattle.warg_records.specs.OperatorEntries.{OperatorOwnEntry}
 use Rattle.warg_records.specs.declared.record_id.RecordId.{RecordId}
 
@@ -28,7 +28,7 @@ abbrev pub IsWholeTime : Time → Type 0
 IsWholeTime t = time_from t.seconds (pos t.nanos) ≡ Ok t
 
 -- the version's text reads back as the version
-abbrev pub ReadsBack : Parts → Type 0
+abbrev pub ReadsBack : VersionParts → Type 0
 ReadsBack p = version_parts (parts_text p) ≡ Ok p
 
 -- the id of the record before, if there is one, is a whole hash

@@ -1,4 +1,4 @@
-use Rattle.warg_log.specs.History.{start}
+use Rattle.warg_log.specs.Rules.{start}
 use Rattle.warg_log.proofs.KindLaws.{held-view}
 use Rattle.warg_log.proofs.laws.effects_are_what_is_held.Goals as goal
 

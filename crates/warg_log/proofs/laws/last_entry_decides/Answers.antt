@@ -1,6 +1,6 @@
 use Rattle.std.proofs.Common.{◌≡◌, refl, Bool, true, false, Option, Some, None}
 use Rattle.std.specs.Prelude.{◌↔◌, unwrap_or}
-use Rattle.warg_log.specs.Histories.{last_on}
+use Rattle.warg_log.specs.History.{last_on}
 use Rattle.warg_log.proofs.laws.last_entry_decides.Goals as goal
 
 gives : (o : Option Bool) → (unwrap_or o false ≡ true) ↔ (o ≡ Some true)

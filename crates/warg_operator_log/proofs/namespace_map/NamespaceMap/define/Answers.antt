@@ -1,7 +1,7 @@
 use Rattle.std.proofs.Common.{◌≡◌, sym, ap, ◌∙◌, rules, true, false, not}
 use Rattle.std.specs.Prelude.{string_bytes, Some, None, is_none}
 use Rattle.std.specs.Option.{option_map, option_or}
-use Rattle.warg_log.specs.History.{Wrong}
+use Rattle.warg_log.specs.Rules.{Wrong}
 use Rattle.warg_log.specs.Offences.{unless}
 use Rattle.warg_registry.specs.KebabNames.{is_kebab_name}
 use Rattle.warg_operator_log.specs.Namespaces.{NamespaceAlreadyDefined, InvalidNamespace, names, names_over}
