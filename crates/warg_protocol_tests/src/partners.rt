@@ -7,10 +7,13 @@ use std::cell::Cell;
 use std::fmt::Debug;
 use std::process::Abort;
 use std::test::Fail;
+use warg_protocol::hash::HashAlgorithm;
+use warg_protocol::registry::{Checkpoint, TimestampedCheckpoint};
 use warg_protocol::signing::{PublicKey, Signature, SignatureError, Signer, Verifier};
 use warg_protocol::toy::{ToySigner, ToyVerifier};
 use warg_protocol::{
-    AuditedLog, ProtoEnvelope, RunCause, RunError, Signable, Timestamp, operator, package, run,
+    AuditedLog, ProtoEnvelope, RunCause, RunError, SerdeEnvelope, Signable, Timestamp, operator,
+    package, run,
 };
 use warg_scripts::fault::cause;
 use warg_scripts::people::signer;
@@ -159,16 +162,38 @@ impl Signer for Unwilling {
     }
 }
 
+// Alice, where she answers this error.
+fn unwilling_alice(alloc: Global, error: SignatureError) -> Result<Unwilling, Fail> {
+    Ok(Unwilling {
+        signer: signer(alloc, "alice")?,
+        error,
+    })
+}
+
 // Whether nothing comes of the contents where their signer answers this error.
 fn is_unsigned<C: Signable + Drop>(
     alloc: Global,
     contents: C,
     error: SignatureError,
 ) -> Result<bool, Fail> {
-    let signer = signer(alloc, "alice")?;
-    let unwilling = Unwilling { signer, error };
-    let signed = ProtoEnvelope::signed_contents(alloc, &unwilling, contents);
+    let signed = ProtoEnvelope::signed_contents(alloc, &unwilling_alice(alloc, error)?, contents);
     Ok(signed.is_err_and(|found| found == error))
+}
+
+// Whether no signature and no envelope comes of a checkpoint.
+fn is_checkpoint_unsigned(alloc: Global, error: SignatureError) -> Result<bool, Fail> {
+    let unwilling = unwilling_alice(alloc, error)?;
+    let checkpoint = TimestampedCheckpoint {
+        checkpoint: Checkpoint {
+            log_root: HashAlgorithm::Sha256.digest(b""),
+            log_length: 0,
+            map_root: HashAlgorithm::Sha256.digest(b""),
+        },
+        timestamp: 1,
+    };
+    let signature = checkpoint.sign(alloc, &unwilling);
+    let signed = SerdeEnvelope::signed_contents(alloc, &unwilling, checkpoint);
+    Ok(signature.is_err_and(|found| found == error) && signed.is_err_and(|found| found == error))
 }
 
 #[test]
@@ -189,6 +214,7 @@ fn a_signer_may_refuse(rt: HostRuntime) -> Result<(), Fail> {
             entries: Vec::new(alloc),
         };
         assert!(rt; is_unsigned(alloc, record, error)?);
+        assert!(rt; is_checkpoint_unsigned(alloc, error)?);
     }
     Ok(())
 }

@@ -8,17 +8,7 @@ use warg_protocol::toy::ToyVerifier;
 use warg_protocol::{JsonValue, ProtoEnvelope, Record, RunError, operator, package, run};
 use warg_scripts::fault::cause;
 use warg_scripts::play::{Player, is_refused, log_of, makes, state_of};
-use warg_scripts::script::{Scripted, envelope_of, string_of};
-
-// The strings of a script without answers. A record names the one before it, be that lawful or not.
-fn strings_of<L: Scripted>(alloc: Global, script: &str) -> Result<Vec<Vec<u8>>, Fail> {
-    let mut strings = Vec::new(alloc);
-    let mut last = None;
-    for line in script.trim().lines() {
-        strings.push(string_of::<L>(alloc, &mut last, line.trim())?)?;
-    }
-    Ok(strings)
-}
+use warg_scripts::script::{Scripted, envelope_of, strings_of};
 
 // The strings are refused at this place, for this cause.
 fn refuse<L: Scripted>(
@@ -150,12 +140,12 @@ fn an_operator_offends_too(rt: HostRuntime) -> Result<(), Fail> {
 
 const BOB_RELEASES: &str = "
     alice 1.0: init alice, grant bob release yank
-    bob 2.0: release 1.1.0
+    bob 2.0: release 1.1.0 \0\x01\x02\x03
 ";
 
 const ALICE_YANKS: &str = "
     alice 1.0: init alice, grant bob release yank
-    bob 2.0: release 1.1.0
+    bob 2.0: release 1.1.0 \0\x01\x02\x03
     alice 3.0: revoke bob release yank, yank 1.1.0
 ";
 

@@ -99,3 +99,13 @@ pub fn string_of<L: Scripted>(
     *last = Some(L::record_id(&envelope));
     Ok(envelope.to_protobuf(alloc)?)
 }
+
+/// The strings of a script without answers. A record names the one before it, be that lawful or not.
+pub fn strings_of<L: Scripted>(alloc: Global, script: &str) -> Result<Vec<Vec<u8>>, Fail> {
+    let mut strings = Vec::new(alloc);
+    let mut last = None;
+    for line in script.trim().lines() {
+        strings.push(string_of::<L>(alloc, &mut last, line.trim())?)?;
+    }
+    Ok(strings)
+}
