@@ -19,7 +19,8 @@ pub fn one_list_of_lines()
 
 /// Lines of which an id is asked have an answer, and no other one.
 pub fn one_id_answer()
-    ensures some { (log_type : LogType) (lines : List (List ℕ)) → IsIdAnswer log_type lines (id_answer log_type lines) }
+    ensures some { (log_type : LogType) (lines : List (List ℕ)) → IsIdAnswer log_type lines
+        (id_answer log_type lines) }
     ensures only { (log_type : LogType) (lines : List (List ℕ)) (printed : Printed) →
         IsIdAnswer log_type lines printed → printed ≡ id_answer log_type lines }
 {

@@ -88,7 +88,8 @@ pub fn audit<R: Read, W: Write>(
 
     // Where a read failed, its line is written, unless the write fails too.
     ensures faults { (input.new.failures ≡ input.old.failures)
-        ⊎ IsPrintedOrFailed (held W.contents output.old) (held W.contents output.new) (WriteFailed output.old output.new) result read_fault }
+        ⊎ IsPrintedOrFailed (held W.contents output.old) (held W.contents output.new)
+        (WriteFailed output.old output.new) result read_fault }
 
     // Where the write failed, the status is 3.
     ensures unwritten { (output.new.failures ≡ output.old.failures) ⊎ (result ≡ 3) }

@@ -15,14 +15,16 @@ use warg_validator::Validator;
 /// Accepted logs with equal heads have equal content bytes, record for record, or two of their records
 /// collide, whoever verified them.
 pub fn equal_heads<L: Validator>()
-    ensures { (b d : SignatureRelation) (es fs : List EnvelopeData) → IsAccepted L.kind b es → IsAccepted L.kind d fs →
+    ensures { (b d : SignatureRelation) (es fs : List EnvelopeData) → IsAccepted L.kind b es →
+        IsAccepted L.kind d fs →
         L.kind.head (L.kind.view_of es) ≡ L.kind.head (L.kind.view_of fs) →
         (contents es ≡ contents fs) ⊎ HaveCollision L.kind.id (contents es) (contents fs) }
 {}
 
 /// Accepted logs with equal content bytes, record for record, have one head.
 pub fn equal_contents<L: Validator>()
-    ensures { (b d : SignatureRelation) (es fs : List EnvelopeData) → IsAccepted L.kind b es → IsAccepted L.kind d fs →
+    ensures { (b d : SignatureRelation) (es fs : List EnvelopeData) → IsAccepted L.kind b es →
+        IsAccepted L.kind d fs →
         contents es ≡ contents fs → L.kind.head (L.kind.view_of es) ≡ L.kind.head (L.kind.view_of fs) }
 {}
 

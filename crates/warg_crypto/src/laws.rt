@@ -45,7 +45,8 @@ pub fn public_key_reads_back()
 
 /// What is written of a signature reads back.
 pub fn signature_reads_back()
-    ensures { (signature : NamedBytes) → IsName signature.name → IsBytes signature.bytes → signature_of (tag_text signature) ≡ Ok signature }
+    ensures { (signature : NamedBytes) → IsName signature.name → IsBytes signature.bytes →
+        signature_of (tag_text signature) ≡ Ok signature }
 {}
 
 /// A text spells a hash exactly if it is `sha256:` and 64 hex digits that spell the hash's bytes.
@@ -61,12 +62,16 @@ pub fn public_key_text_grammar()
 /// A text says a signature exactly if it is the signature's name, a colon, and base64 of its
 /// bytes.
 pub fn signature_text_grammar()
-    ensures { (text : List ℕ) (signature : NamedBytes) → (signature_of text ≡ Ok signature) ↔ IsKeyText text signature }
+    ensures { (text : List ℕ) (signature : NamedBytes) → (signature_of text ≡ Ok signature)
+        ↔ IsKeyText text signature }
 {}
 
 /// Whatever a toy signer gives for a message belongs to it under the signer's key.
 pub fn toy_signature_belongs(signer: &ToySigner, verifier: &ToyVerifier)
-    ensures { (message : List ℕ) (signature : NamedBytes) → ⟦<ToySigner as crate::signing::Signer>⟧.gives signer.now message signature → ⟦<ToyVerifier as crate::signing::Verifier>⟧.belongs verifier.now (⟦<ToySigner as crate::signing::Signer>⟧.key_of signer.now) message signature ≡ true }
+    ensures { (message : List ℕ) (signature : NamedBytes) →
+        ⟦<ToySigner as crate::signing::Signer>⟧.gives signer.now message signature →
+        ⟦<ToyVerifier as crate::signing::Verifier>⟧.belongs verifier.now
+        (⟦<ToySigner as crate::signing::Signer>⟧.key_of signer.now) message signature ≡ true }
 {
     let _ = &signer.key;
 }

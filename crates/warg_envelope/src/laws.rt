@@ -31,7 +31,8 @@ pub fn signature_reads_back<C>(envelope: &ProtoEnvelope<C>)
 pub fn envelopes_read_back<C: Record>()
     ensures { (e : DecodedEnvelope C) (bytes : List ℕ) → IsHonest C.read C.meaning e →
         IsEnvelope bytes (envelope_message e.envelope) →
-        signature_of (tag_text e.envelope.signature) ≡ Ok e.envelope.signature → envelope_of C.read bytes ≡ Ok e.envelope }
+        signature_of (tag_text e.envelope.signature) ≡ Ok e.envelope.signature →
+        envelope_of C.read bytes ≡ Ok e.envelope }
 {
     decoding_computes();
 }

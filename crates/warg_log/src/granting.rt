@@ -96,7 +96,8 @@ impl<P: LogPermission> Authority<P> {
         required: Option<P>,
     ) -> Result<(), Refusal<P>>
         requires { option_copied before ≡ rights_at self.now key_id.now }
-        ensures { Judges offence_of (lacks_required (standing_over P.eq self.now changes.now) key_id.now required) result }
+        ensures { Judges offence_of (lacks_required
+            (standing_over P.eq self.now changes.now) key_id.now required) result }
     {
         match required {
             Some(permission) => self.check_permission(changes, key_id, before, permission),
@@ -124,7 +125,8 @@ impl<P: LogPermission> Authority<P> {
         permissions: &[P],
     ) -> Result<(), Refusal<P>>
         requires { option_copied before ≡ rights_at self.now key_id.now }
-        ensures { Judges offence_of (unauthorized (standing_over P.eq self.now changes.now) key_id.now permissions.now) result }
+        ensures { Judges offence_of (unauthorized
+            (standing_over P.eq self.now changes.now) key_id.now permissions.now) result }
     {
         if permissions.is_empty() {
             return Ok(());

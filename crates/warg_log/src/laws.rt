@@ -33,7 +33,9 @@ pub fn is_a_kind<M: LogKind>()
 
 /// What an entry of a lawful record gives, its signer held, but for the Init that begins the log.
 pub fn gives_what_is_held<M: LogKind>()
-    ensures { (read : List ℕ → Result (RecordData M.Permission M.Own) RecordFault) → GivesWhatIsHeld (kind_of M.rules M.Permission.eq read (M.rules.after M.rules.start)) (effects_of M.rules M.Permission.eq read) }
+    ensures { (read : List ℕ → Result (RecordData M.Permission M.Own) RecordFault) →
+        GivesWhatIsHeld (kind_of M.rules M.Permission.eq read (M.rules.after M.rules.start))
+        (effects_of M.rules M.Permission.eq read) }
 {}
 
 /// Logs are equal exactly if they answer alike.
@@ -61,7 +63,8 @@ pub fn offences_are_possible<M: LogKind>()
 
 /// What the entries of records do to permissions, one after another, is what the view of those records holds.
 pub fn effects_are_what_is_held<M: LogKind>()
-    ensures { (read : List ℕ → Result (RecordData M.Permission M.Own) RecordFault) (es : List EnvelopeData) (k : List ℕ)
+    ensures { (read : List ℕ → Result (RecordData M.Permission M.Own) RecordFault) (es : List EnvelopeData)
+        (k : List ℕ)
         (p : M.Permission) → effects.holds (effects_of M.rules M.Permission.eq read) es k p ≡
         (view_after (kind_of M.rules M.Permission.eq read (M.rules.after M.rules.start))
         (start M.rules M.Permission.eq) es).whole.authority.holds k p }

@@ -41,7 +41,8 @@ pub(crate) fn look<'a, X>(
     changes: &'a IndexMap<KeyID, X>,
     key_id: &KeyID,
 ) -> Option<&'a X>
-    ensures { option_copied result ≡ option_or (lookup (bytes_eq key_id.now) changes.now.entries) (option_copied stood.entry) }
+    ensures { option_copied result ≡ option_or (lookup (bytes_eq key_id.now) changes.now.entries)
+        (option_copied stood.entry) }
 {
     if changes.is_empty() {
         return stood;
@@ -165,7 +166,8 @@ fn take_from<P: LogPermission>(
     held: &mut PermissionSet<P>,
     permissions: &[P],
 ) -> Result<Option<P>, AllocError>
-    ensures missing { IfOk result (λ missing. missing ≡ first_missing P.eq (λ p. list_any (P.eq p) held.old) [] permissions.now) }
+    ensures missing { IfOk result (λ missing. missing ≡ first_missing P.eq
+        (λ p. list_any (P.eq p) held.old) [] permissions.now) }
     ensures taken { IfOk result (λ missing. IfNone missing ((p : P) → list_any (P.eq p) held.new
         ≡ (if lists P.eq permissions.now p then false else list_any (P.eq p) held.old))) }
 {

@@ -40,7 +40,8 @@ pub fn extension()
 
 /// Errors are equal exactly if they tell the same offence, and only out of memory tells none.
 pub fn errors_tell_apart()
-    ensures apart { (e f : ValidationError) → (⟦<crate::error::ValidationError as PartialEq>⟧.eq e f ≡ true) ↔ (offence_of e ≡ offence_of f) }
+    ensures apart { (e f : ValidationError) → (⟦<crate::error::ValidationError as PartialEq>⟧.eq e f ≡ true)
+        ↔ (offence_of e ≡ offence_of f) }
     ensures memory { (e : ValidationError) → (offence_of e ≡ None) ↔ (e ≡ OutOfMemory) }
 {}
 
@@ -55,14 +56,16 @@ pub fn one_entry_each()
 pub fn form()
     ensures records { (b : SignatureRelation) (es : List EnvelopeData) → IsAccepted kind b es →
         All (λ e. IsOk (operator_record_of e.content)) es }
-    ensures form { (b : SignatureRelation) (es : List EnvelopeData) → 0 < length es → IsAccepted kind b es → HasForm record_id_of (records_of es) }
+    ensures form { (b : SignatureRelation) (es : List EnvelopeData) → 0 < length es → IsAccepted kind b es →
+        HasForm record_id_of (records_of es) }
 {}
 
 /// A state that stands for a log tells what the log's history says: who holds what, who has
 /// an entry, whose key is which, the namespaces by name and the head, from which the look-ups answer.
 /// What `run` answers as a state is one for an accepted log, the envelopes of the strings.
 pub fn states_tell_history()
-    ensures stands { (s : State (Contents Permission) (List (List ℕ × Namespace))) (es : List EnvelopeData) → StandsFor kind view_of s es → TellsHistory s es }
+    ensures stands { (s : State (Contents Permission) (List (List ℕ × Namespace))) (es : List EnvelopeData) →
+        StandsFor kind view_of s es → TellsHistory s es }
     ensures run { let read = envelope_of operator_record_of in
         let told_by = told (envelope_fault_of fault_of) offence_of in
         (b : SignatureRelation) (strings : List (List ℕ))
@@ -74,7 +77,8 @@ pub fn states_tell_history()
 /// What is wrong with a record is never out of memory within another error, nor a second algorithm:
 /// no record is refused by `IncorrectHashAlgorithm`, or by a `SignatureError` but `Refused`.
 pub fn offences_are_possible()
-    ensures { (b : SignatureRelation) (v : View) (e : SignedRecord Permission OperatorOwnEntry) → IfSome (record_offence b v e) IsPossible }
+    ensures { (b : SignatureRelation) (v : View) (e : SignedRecord Permission OperatorOwnEntry) →
+        IfSome (record_offence b v e) IsPossible }
 {}
 
 /// Heads are equal exactly if they are one, namespaces exactly if their texts are, and states exactly if

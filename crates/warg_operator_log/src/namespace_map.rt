@@ -85,7 +85,8 @@ impl NamespaceMap {
     fn put(&mut self, name: String, state: NamespaceState) -> Result<bool, AllocError>
         requires kebab { is_kebab_name (string_bytes name) ≡ true }
         ensures new { IfOk result (λ new. new ≡ is_none (names self.old (string_bytes name))) }
-        ensures added { IfOk result (λ new. IsTrue new → self.new ≡ self.old ++ (string_bytes name, namespace_view state) ∷ []) }
+        ensures added { IfOk result (λ new. IsTrue new → self.new ≡ self.old
+            ++ (string_bytes name, namespace_view state) ∷ []) }
     {
         let before = self.map.insert(name, state)?;
         Ok(before.is_none())

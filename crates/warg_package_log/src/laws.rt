@@ -36,17 +36,20 @@ use warg_records::package::PACKAGE_RECORD_VERSION;
 /// The releases of an accepted log are the front of those of each accepted log that goes on from
 /// it: none is lost, moved or changed, but that one that stood may have been yanked.
 pub fn extension()
-    ensures { (b : SignatureRelation) (es fs : List EnvelopeData) → IsAccepted kind b (es ++ fs) → IsExtension (kind.view_of es).whole.own_state (kind.view_of (es ++ fs)).whole.own_state }
+    ensures { (b : SignatureRelation) (es fs : List EnvelopeData) → IsAccepted kind b (es ++ fs) →
+        IsExtension (kind.view_of es).whole.own_state (kind.view_of (es ++ fs)).whole.own_state }
 {}
 
 /// No two releases of an accepted log have the same version.
 pub fn distinct_versions()
-    ensures { (b : SignatureRelation) (es : List EnvelopeData) → IsAccepted kind b es → AreDistinct (versions (kind.view_of es).whole.own_state) }
+    ensures { (b : SignatureRelation) (es : List EnvelopeData) → IsAccepted kind b es →
+        AreDistinct (versions (kind.view_of es).whole.own_state) }
 {}
 
 /// Errors are equal exactly if they tell the same offence, and only out of memory tells none.
 pub fn errors_tell_apart()
-    ensures apart { (e f : ValidationError) → (⟦<crate::error::ValidationError as PartialEq>⟧.eq e f ≡ true) ↔ (offence_of e ≡ offence_of f) }
+    ensures apart { (e f : ValidationError) → (⟦<crate::error::ValidationError as PartialEq>⟧.eq e f ≡ true)
+        ↔ (offence_of e ≡ offence_of f) }
     ensures memory { (e : ValidationError) → (offence_of e ≡ None) ↔ (e ≡ OutOfMemory) }
 {}
 
@@ -61,14 +64,16 @@ pub fn one_yank_each()
 pub fn form()
     ensures records { (b : SignatureRelation) (es : List EnvelopeData) → IsAccepted kind b es →
         All (λ e. IsOk (package_record_of e.content)) es }
-    ensures form { (b : SignatureRelation) (es : List EnvelopeData) → 0 < length es → IsAccepted kind b es → HasForm record_id_of (records_of es) }
+    ensures form { (b : SignatureRelation) (es : List EnvelopeData) → 0 < length es → IsAccepted kind b es →
+        HasForm record_id_of (records_of es) }
 {}
 
 /// A state that stands for a log tells what the log's history says: who holds what, who has
 /// an entry, whose key is which, the releases in order and the head, from which the look-ups answer.
 /// What `run` answers as a state is one for an accepted log, the envelopes of the strings.
 pub fn states_tell_history()
-    ensures stands { (s : State (Contents Permission) (List ReleaseView)) (es : List EnvelopeData) → StandsFor kind view_of s es → TellsHistory s es }
+    ensures stands { (s : State (Contents Permission) (List ReleaseView)) (es : List EnvelopeData) →
+        StandsFor kind view_of s es → TellsHistory s es }
     ensures run { let read = envelope_of package_record_of in
         let told_by = told (envelope_fault_of fault_of) offence_of in
         (b : SignatureRelation) (strings : List (List ℕ))
@@ -80,7 +85,8 @@ pub fn states_tell_history()
 /// What is wrong with a record is never out of memory within another error, nor a second algorithm:
 /// no record is refused by `IncorrectHashAlgorithm`, or by a `SignatureError` but `Refused`.
 pub fn offences_are_possible()
-    ensures { (b : SignatureRelation) (v : View) (e : SignedRecord Permission PackageOwnEntry) → IfSome (record_offence b v e) IsPossible }
+    ensures { (b : SignatureRelation) (v : View) (e : SignedRecord Permission PackageOwnEntry) →
+        IfSome (record_offence b v e) IsPossible }
 {}
 
 /// Heads, and what became of releases, are equal exactly if they are one, releases exactly if their fields

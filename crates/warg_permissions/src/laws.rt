@@ -43,7 +43,8 @@ pub fn print_package_permission<W: Write>(
     f: &mut Formatter<W>,
 ) -> Result
     ensures plain { WritesOnOk W.write_str_gives f.old result (in_package.permission_text permission.now) f.new }
-    ensures styled { WritesStyledOnOk W.write_str_gives f.old result (in_package.permission_text permission.now) f.new }
+    ensures styled { WritesStyledOnOk W.write_str_gives f.old result
+        (in_package.permission_text permission.now) f.new }
 {
     permission.fmt(f)
 }

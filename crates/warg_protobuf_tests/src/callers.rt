@@ -58,7 +58,8 @@ pub fn read_envelope(alloc: Global, bytes: &[u8]) -> Result<Envelope, WireError>
     ensures found { IfOk result (λ v. IsEnvelope bytes.now (envelope_view v)) }
     ensures fault { IfErr result (λ e. e ≢ OutOfMemory → HasFault envelope_table bytes.now e) }
     ensures only { (v : EnvelopeValue) → IsEnvelope bytes.now v → ReturnsOrNoMemory envelope_view result (Ok v) }
-    ensures only_fault { (e : WireError) → HasFault envelope_table bytes.now e → ReturnsOrNoMemory envelope_view result (Err e) }
+    ensures only_fault { (e : WireError) → HasFault envelope_table bytes.now e →
+        ReturnsOrNoMemory envelope_view result (Err e) }
     ensures computed { ReturnsOrNoMemory envelope_view result (envelope_of bytes.now) }
 {
     Envelope::decode(alloc, bytes)
@@ -75,7 +76,8 @@ pub fn read_timestamp(alloc: Global, bytes: &[u8]) -> Result<TimestampPair, Wire
     ensures found { IfOk result (λ v. IsTimestamp bytes.now (timestamp_view v)) }
     ensures fault { IfErr result (λ e. e ≢ OutOfMemory → HasFault timestamp_table bytes.now e) }
     ensures only { (v : TimestampValue) → IsTimestamp bytes.now v → ReturnsOrNoMemory timestamp_view result (Ok v) }
-    ensures only_fault { (e : WireError) → HasFault timestamp_table bytes.now e → ReturnsOrNoMemory timestamp_view result (Err e) }
+    ensures only_fault { (e : WireError) → HasFault timestamp_table bytes.now e →
+        ReturnsOrNoMemory timestamp_view result (Err e) }
     ensures computed { ReturnsOrNoMemory timestamp_view result (timestamp_of bytes.now) }
 {
     TimestampPair::decode(alloc, bytes)
@@ -92,7 +94,8 @@ pub fn read_init(alloc: Global, bytes: &[u8]) -> Result<PackageInit, WireError>
     ensures found { IfOk result (λ v. IsInit bytes.now (init_view v)) }
     ensures fault { IfErr result (λ e. e ≢ OutOfMemory → HasFault init_table bytes.now e) }
     ensures only { (v : InitValue) → IsInit bytes.now v → ReturnsOrNoMemory init_view result (Ok v) }
-    ensures only_fault { (e : WireError) → HasFault init_table bytes.now e → ReturnsOrNoMemory init_view result (Err e) }
+    ensures only_fault { (e : WireError) → HasFault init_table bytes.now e → ReturnsOrNoMemory init_view result
+        (Err e) }
     ensures computed { ReturnsOrNoMemory init_view result (init_of bytes.now) }
 {
     PackageInit::decode(alloc, bytes)
@@ -109,7 +112,8 @@ pub fn read_grant_flat(alloc: Global, bytes: &[u8]) -> Result<PackageGrantFlat, 
     ensures found { IfOk result (λ v. IsGrantFlat bytes.now (grant_flat_view v)) }
     ensures fault { IfErr result (λ e. e ≢ OutOfMemory → HasFault grant_flat_table bytes.now e) }
     ensures only { (v : GrantFlatValue) → IsGrantFlat bytes.now v → ReturnsOrNoMemory grant_flat_view result (Ok v) }
-    ensures only_fault { (e : WireError) → HasFault grant_flat_table bytes.now e → ReturnsOrNoMemory grant_flat_view result (Err e) }
+    ensures only_fault { (e : WireError) → HasFault grant_flat_table bytes.now e →
+        ReturnsOrNoMemory grant_flat_view result (Err e) }
     ensures computed { ReturnsOrNoMemory grant_flat_view result (grant_flat_of bytes.now) }
 {
     PackageGrantFlat::decode(alloc, bytes)
@@ -125,8 +129,10 @@ pub fn write_grant_flat(alloc: Global, message: &PackageGrantFlat) -> Result<Vec
 pub fn read_revoke_flat(alloc: Global, bytes: &[u8]) -> Result<OperatorRevokeFlat, WireError>
     ensures found { IfOk result (λ v. IsRevokeFlat bytes.now (revoke_flat_view v)) }
     ensures fault { IfErr result (λ e. e ≢ OutOfMemory → HasFault revoke_flat_table bytes.now e) }
-    ensures only { (v : RevokeFlatValue) → IsRevokeFlat bytes.now v → ReturnsOrNoMemory revoke_flat_view result (Ok v) }
-    ensures only_fault { (e : WireError) → HasFault revoke_flat_table bytes.now e → ReturnsOrNoMemory revoke_flat_view result (Err e) }
+    ensures only { (v : RevokeFlatValue) → IsRevokeFlat bytes.now v → ReturnsOrNoMemory revoke_flat_view result
+        (Ok v) }
+    ensures only_fault { (e : WireError) → HasFault revoke_flat_table bytes.now e →
+        ReturnsOrNoMemory revoke_flat_view result (Err e) }
     ensures computed { ReturnsOrNoMemory revoke_flat_view result (revoke_flat_of bytes.now) }
 {
     OperatorRevokeFlat::decode(alloc, bytes)
@@ -143,7 +149,8 @@ pub fn read_release(alloc: Global, bytes: &[u8]) -> Result<PackageRelease, WireE
     ensures found { IfOk result (λ v. IsRelease bytes.now (release_view v)) }
     ensures fault { IfErr result (λ e. e ≢ OutOfMemory → HasFault release_table bytes.now e) }
     ensures only { (v : ReleaseValue) → IsRelease bytes.now v → ReturnsOrNoMemory release_view result (Ok v) }
-    ensures only_fault { (e : WireError) → HasFault release_table bytes.now e → ReturnsOrNoMemory release_view result (Err e) }
+    ensures only_fault { (e : WireError) → HasFault release_table bytes.now e →
+        ReturnsOrNoMemory release_view result (Err e) }
     ensures computed { ReturnsOrNoMemory release_view result (release_of bytes.now) }
 {
     PackageRelease::decode(alloc, bytes)
@@ -160,7 +167,8 @@ pub fn read_yank(alloc: Global, bytes: &[u8]) -> Result<PackageYank, WireError>
     ensures found { IfOk result (λ v. IsYank bytes.now (yank_view v)) }
     ensures fault { IfErr result (λ e. e ≢ OutOfMemory → HasFault yank_table bytes.now e) }
     ensures only { (v : YankValue) → IsYank bytes.now v → ReturnsOrNoMemory yank_view result (Ok v) }
-    ensures only_fault { (e : WireError) → HasFault yank_table bytes.now e → ReturnsOrNoMemory yank_view result (Err e) }
+    ensures only_fault { (e : WireError) → HasFault yank_table bytes.now e → ReturnsOrNoMemory yank_view result
+        (Err e) }
     ensures computed { ReturnsOrNoMemory yank_view result (yank_of bytes.now) }
 {
     PackageYank::decode(alloc, bytes)
@@ -179,8 +187,10 @@ pub fn read_define_namespace(
 ) -> Result<OperatorDefineNamespace, WireError>
     ensures found { IfOk result (λ v. IsDefineNamespace bytes.now (define_namespace_view v)) }
     ensures fault { IfErr result (λ e. e ≢ OutOfMemory → HasFault define_namespace_table bytes.now e) }
-    ensures only { (v : DefineNamespaceValue) → IsDefineNamespace bytes.now v → ReturnsOrNoMemory define_namespace_view result (Ok v) }
-    ensures only_fault { (e : WireError) → HasFault define_namespace_table bytes.now e → ReturnsOrNoMemory define_namespace_view result (Err e) }
+    ensures only { (v : DefineNamespaceValue) → IsDefineNamespace bytes.now v →
+        ReturnsOrNoMemory define_namespace_view result (Ok v) }
+    ensures only_fault { (e : WireError) → HasFault define_namespace_table bytes.now e →
+        ReturnsOrNoMemory define_namespace_view result (Err e) }
     ensures computed { ReturnsOrNoMemory define_namespace_view result (define_namespace_of bytes.now) }
 {
     OperatorDefineNamespace::decode(alloc, bytes)
@@ -202,8 +212,10 @@ pub fn read_import_namespace(
 ) -> Result<OperatorImportNamespace, WireError>
     ensures found { IfOk result (λ v. IsImportNamespace bytes.now (import_namespace_view v)) }
     ensures fault { IfErr result (λ e. e ≢ OutOfMemory → HasFault import_namespace_table bytes.now e) }
-    ensures only { (v : ImportNamespaceValue) → IsImportNamespace bytes.now v → ReturnsOrNoMemory import_namespace_view result (Ok v) }
-    ensures only_fault { (e : WireError) → HasFault import_namespace_table bytes.now e → ReturnsOrNoMemory import_namespace_view result (Err e) }
+    ensures only { (v : ImportNamespaceValue) → IsImportNamespace bytes.now v →
+        ReturnsOrNoMemory import_namespace_view result (Ok v) }
+    ensures only_fault { (e : WireError) → HasFault import_namespace_table bytes.now e →
+        ReturnsOrNoMemory import_namespace_view result (Err e) }
     ensures computed { ReturnsOrNoMemory import_namespace_view result (import_namespace_of bytes.now) }
 {
     OperatorImportNamespace::decode(alloc, bytes)
@@ -222,8 +234,10 @@ pub fn write_import_namespace(
 pub fn read_package_entry(alloc: Global, bytes: &[u8]) -> Result<PackageEntry, WireError>
     ensures found { IfOk result (λ v. IsPackageEntry bytes.now (package_entry_view v)) }
     ensures fault { IfErr result (λ e. e ≢ OutOfMemory → HasFault package_entry_table bytes.now e) }
-    ensures only { (v : Option PackageMember) → IsPackageEntry bytes.now v → ReturnsOrNoMemory package_entry_view result (Ok v) }
-    ensures only_fault { (e : WireError) → HasFault package_entry_table bytes.now e → ReturnsOrNoMemory package_entry_view result (Err e) }
+    ensures only { (v : Option PackageMember) → IsPackageEntry bytes.now v →
+        ReturnsOrNoMemory package_entry_view result (Ok v) }
+    ensures only_fault { (e : WireError) → HasFault package_entry_table bytes.now e →
+        ReturnsOrNoMemory package_entry_view result (Err e) }
     ensures computed { ReturnsOrNoMemory package_entry_view result (package_entry_of bytes.now) }
 {
     PackageEntry::decode(alloc, bytes)
@@ -239,8 +253,10 @@ pub fn write_package_entry(alloc: Global, message: &PackageEntry) -> Result<Vec<
 pub fn read_operator_entry(alloc: Global, bytes: &[u8]) -> Result<OperatorEntry, WireError>
     ensures found { IfOk result (λ v. IsOperatorEntry bytes.now (operator_entry_view v)) }
     ensures fault { IfErr result (λ e. e ≢ OutOfMemory → HasFault operator_entry_table bytes.now e) }
-    ensures only { (v : Option OperatorMember) → IsOperatorEntry bytes.now v → ReturnsOrNoMemory operator_entry_view result (Ok v) }
-    ensures only_fault { (e : WireError) → HasFault operator_entry_table bytes.now e → ReturnsOrNoMemory operator_entry_view result (Err e) }
+    ensures only { (v : Option OperatorMember) → IsOperatorEntry bytes.now v →
+        ReturnsOrNoMemory operator_entry_view result (Ok v) }
+    ensures only_fault { (e : WireError) → HasFault operator_entry_table bytes.now e →
+        ReturnsOrNoMemory operator_entry_view result (Err e) }
     ensures computed { ReturnsOrNoMemory operator_entry_view result (operator_entry_of bytes.now) }
 {
     OperatorEntry::decode(alloc, bytes)
@@ -256,8 +272,10 @@ pub fn write_operator_entry(alloc: Global, message: &OperatorEntry) -> Result<Ve
 pub fn read_package_record(alloc: Global, bytes: &[u8]) -> Result<PackageRecord, WireError>
     ensures found { IfOk result (λ v. IsPackageRecord bytes.now (package_record_view v)) }
     ensures fault { IfErr result (λ e. e ≢ OutOfMemory → HasFault package_record_table bytes.now e) }
-    ensures only { (v : RecordValue (List (Option PackageMember))) → IsPackageRecord bytes.now v → ReturnsOrNoMemory package_record_view result (Ok v) }
-    ensures only_fault { (e : WireError) → HasFault package_record_table bytes.now e → ReturnsOrNoMemory package_record_view result (Err e) }
+    ensures only { (v : RecordValue (List (Option PackageMember))) → IsPackageRecord bytes.now v →
+        ReturnsOrNoMemory package_record_view result (Ok v) }
+    ensures only_fault { (e : WireError) → HasFault package_record_table bytes.now e →
+        ReturnsOrNoMemory package_record_view result (Err e) }
     ensures computed { ReturnsOrNoMemory package_record_view result (package_record_of bytes.now) }
 {
     PackageRecord::decode(alloc, bytes)
@@ -273,8 +291,10 @@ pub fn write_package_record(alloc: Global, message: &PackageRecord) -> Result<Ve
 pub fn read_operator_record(alloc: Global, bytes: &[u8]) -> Result<OperatorRecord, WireError>
     ensures found { IfOk result (λ v. IsOperatorRecord bytes.now (operator_record_view v)) }
     ensures fault { IfErr result (λ e. e ≢ OutOfMemory → HasFault operator_record_table bytes.now e) }
-    ensures only { (v : RecordValue (List (Option OperatorMember))) → IsOperatorRecord bytes.now v → ReturnsOrNoMemory operator_record_view result (Ok v) }
-    ensures only_fault { (e : WireError) → HasFault operator_record_table bytes.now e → ReturnsOrNoMemory operator_record_view result (Err e) }
+    ensures only { (v : RecordValue (List (Option OperatorMember))) → IsOperatorRecord bytes.now v →
+        ReturnsOrNoMemory operator_record_view result (Ok v) }
+    ensures only_fault { (e : WireError) → HasFault operator_record_table bytes.now e →
+        ReturnsOrNoMemory operator_record_view result (Err e) }
     ensures computed { ReturnsOrNoMemory operator_record_view result (operator_record_of bytes.now) }
 {
     OperatorRecord::decode(alloc, bytes)

@@ -41,7 +41,8 @@ fn may_release(state: &LogState, key_id: &KeyID) -> bool
 
 /// The version that meets the requirement best.
 fn resolved<'a>(state: &'a LogState, wanted: &VersionReq) -> Option<&'a Release>
-    ensures { IsGreatest (shows_candidate wanted.now.comparators.items) shown_cmp (view_of state.now).whole.own_state (option_map release_view (option_copied result)) }
+    ensures { IsGreatest (shows_candidate wanted.now.comparators.items) shown_cmp
+        (view_of state.now).whole.own_state (option_map release_view (option_copied result)) }
 {
     state.find_latest_release(wanted)
 }

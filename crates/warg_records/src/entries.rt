@@ -128,7 +128,8 @@ pub(crate) fn read_each<T: FromMessage>(
     alloc: Global,
     messages: Vec<T::Message>,
 ) -> Result<Entries<T>, AllocError>
-    ensures { IfOk result (λ s. entries_held T.plain s ≡ fold (next_entry T.read) (Ok []) (map T.seen messages.items)) }
+    ensures { IfOk result (λ s. entries_held T.plain s ≡ fold (next_entry T.read) (Ok [])
+        (map T.seen messages.items)) }
 {
     let mut entries = Entries::<T>::new(alloc);
     for message in messages {
@@ -142,7 +143,8 @@ pub(crate) fn read_content<T: FromMessage>(
     alloc: Global,
     content: &[u8],
 ) -> Result<Record<Entries<T>>, DecodeError>
-    ensures { IsReading (record_view (entries_held T.plain)) fault_of (message_of (gathered_of (next_entry T.read) (Ok [])
+    ensures { IsReading (record_view (entries_held T.plain)) fault_of
+        (message_of (gathered_of (next_entry T.read) (Ok [])
         (wire_message_of (record_table T.table) (record_from T.table T.seen_from) content.now))) result }
 {
     match Record::<Entries<T>>::gather(alloc, content) {

@@ -22,7 +22,8 @@ pub use whole::{operator_records_are_whole, package_records_are_whole};
 
 /// What is computed of content bytes is the record that they are, or their first fault.
 pub fn record_reading_computes()
-    ensures of_package { (content : List ℕ) → ReadsRecord package_record_table IsPackageRecord package_entry_of (package_record_of content) content }
+    ensures of_package { (content : List ℕ) → ReadsRecord package_record_table IsPackageRecord package_entry_of
+        (package_record_of content) content }
     ensures of_operator { (content : List ℕ) → ReadsRecord operator_record_table IsOperatorRecord operator_entry_of
         (operator_record_of content) content }
 {

@@ -32,7 +32,8 @@ pub fn map_value<K: SavedName, V: SavedValue>(
     alloc: Global,
     map: &IndexMap<K, V>,
 ) -> Result<Value, JsonError>
-    ensures written { Gives view result (pairs_json K.name_of V.writes (plain_pairs K.plain V.plain map.now.entries)) }
+    ensures written { Gives view result (pairs_json K.name_of V.writes
+        (plain_pairs K.plain V.plain map.now.entries)) }
     ensures back { OnOk result (AreVersionsBack K.versions V.versions (plain_pairs K.plain V.plain map.now.entries)
         → AreBack K.name_of K.named V.writes V.reads (plain_pairs K.plain V.plain map.now.entries)) }
 {
@@ -60,7 +61,8 @@ pub fn put_map<K: SavedName, V: SavedValue>(
     map: &IndexMap<K, V>,
 ) -> Result<(), JsonError>
     ensures written { Gives (λ _. members_view members.new.entries) result
-        (put_pairs K.name_of V.writes name.now (plain_pairs K.plain V.plain map.now.entries) (members_view members.old.entries)) }
+        (put_pairs K.name_of V.writes name.now (plain_pairs K.plain V.plain map.now.entries)
+        (members_view members.old.entries)) }
     ensures back { OnOk result (AreVersionsBack K.versions V.versions (plain_pairs K.plain V.plain map.now.entries)
         → AreBack K.name_of K.named V.writes V.reads (plain_pairs K.plain V.plain map.now.entries)) }
     ensures kept { OnErr result (members_view members.new.entries ≡ members_view members.old.entries) }

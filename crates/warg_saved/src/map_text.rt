@@ -67,7 +67,8 @@ pub(crate) fn map_text<K: SavedName, V: SavedValue>(
     alloc: Global,
     map: &IndexMap<K, V>,
 ) -> Result<String, JsonError>
-    ensures { Gives string_bytes result (text_of (pairs_json K.name_of V.writes (plain_pairs K.plain V.plain map.now.entries))) }
+    ensures { Gives string_bytes result (text_of (pairs_json K.name_of V.writes
+        (plain_pairs K.plain V.plain map.now.entries))) }
 {
     let named = by_name(alloc, map)?;
     joined(alloc, &named)

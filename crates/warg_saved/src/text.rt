@@ -64,7 +64,8 @@ impl MemberTexts {
 
     /// Puts a member whose value has this text. The error is `OutOfMemory`.
     fn put(&mut self, name: String, value: String) -> Result<(), JsonError>
-        ensures ok { OnOk result ((d : Data) (ms : Members) → string_bytes value ≡ compact_text d → self.old ≡ texts_of ms
+        ensures ok { OnOk result ((d : Data) (ms : Members) → string_bytes value ≡ compact_text d →
+            self.old ≡ texts_of ms
             → self.new ≡ texts_of (put (string_bytes name) d ms)) }
         ensures err { IfErr result (λ e. e ≡ fault.OutOfMemory) }
     {
@@ -105,7 +106,8 @@ impl MemberTexts {
         name: &str,
         map: &IndexMap<K, V>,
     ) -> Result<(), JsonError>
-        ensures { PutsText (put_pairs K.name_of V.writes name.now (plain_pairs K.plain V.plain map.now.entries)) result self.old self.new }
+        ensures { PutsText (put_pairs K.name_of V.writes name.now
+            (plain_pairs K.plain V.plain map.now.entries)) result self.old self.new }
     {
         if map.is_empty() {
             return Ok(());
@@ -133,7 +135,8 @@ impl MemberTexts {
 
     /// The text of the object, with no space. The error is `OutOfMemory`.
     pub fn text(&self) -> Result<String, JsonError>
-        ensures ok { IfOk result (λ s. (ms : Members) → self.now ≡ texts_of ms → string_bytes s ≡ compact_text (object ms)) }
+        ensures ok { IfOk result (λ s. (ms : Members) → self.now ≡ texts_of ms → string_bytes s ≡ compact_text
+            (object ms)) }
         ensures err { IfErr result (λ e. e ≡ fault.OutOfMemory) }
     {
         let mut text = String::with_capacity(self.alloc, self.room())?;

@@ -46,7 +46,8 @@ fn next_entry<K: SavedName, V: SavedValue>(
     depth: usize,
     name: &str,
 ) -> Option<(K, V)>
-    ensures read { IfSome result (λ e. (d : Data) × (converted of_json (value depth reader.old) ≡ Some (d, reader.new))
+    ensures read { IfSome result (λ e. (d : Data) × (converted of_json (value depth reader.old)
+        ≡ Some (d, reader.new))
         × (K.named name.now ≡ Ok (K.plain e.0)) × (V.reads d ≡ Ok (V.plain e.1))) }
     ensures shorter { OnSome result (length reader.new < length reader.old) }
 {
@@ -67,7 +68,8 @@ fn next_members<K: SavedName, V: SavedValue>(
     depth: usize,
 ) -> Option<IndexMap<K, V>>
     ensures read { IfSome result (λ map. (ms : Members)
-        × (converted (λ js. of_members js no_members) (members (value depth) (length reader.old) reader.old) ≡ Some (ms, reader.new))
+        × (converted (λ js. of_members js no_members) (members (value depth) (length reader.old) reader.old)
+        ≡ Some (ms, reader.new))
         × (pairs_of K.named V.reads ms ≡ Ok (plain_pairs K.plain V.plain map.entries))) }
     ensures shorter { OnSome result (length reader.new < length reader.old) }
 {
@@ -112,7 +114,8 @@ pub fn read_apart<K: SavedName, V: SavedValue>(
     text: &str,
     apart: &str,
 ) -> Option<(Value, IndexMap<K, V>)>
-    ensures { IfSome result (λ p. IsReadApart K.named V.reads apart.now text.now (view p.0) (plain_pairs K.plain V.plain p.1.entries)) }
+    ensures { IfSome result (λ p. IsReadApart K.named V.reads apart.now text.now (view p.0)
+        (plain_pairs K.plain V.plain p.1.entries)) }
 {
     let mut scratch = Scratch::new(alloc);
     let mut reader = Reader::new(text, &mut scratch).ok()?;

@@ -19,7 +19,8 @@ use warg_envelope::ParseEnvelopeError;
 /// it, and then says what the record makes of what the log said.
 pub fn one_more<L: Validator>()
     ensures accepted { (b : SignatureRelation) (es : List EnvelopeData) (e : EnvelopeData) →
-        IsAccepted L.kind b (es ++ e ∷ []) ↔ (IsAccepted L.kind b es × (L.kind.offence b (L.kind.view_of es) e ≡ None)) }
+        IsAccepted L.kind b (es ++ e ∷ []) ↔
+        (IsAccepted L.kind b es × (L.kind.offence b (L.kind.view_of es) e ≡ None)) }
     ensures view { (b : SignatureRelation) (es : List EnvelopeData) (e : EnvelopeData) →
         IsAccepted L.kind b (es ++ e ∷ []) →
         L.kind.view_of (es ++ e ∷ []) ≡ L.kind.after (L.kind.view_of es) e }
@@ -50,7 +51,8 @@ pub fn determination<L: Validator>()
 
 /// States that stand for one log are equal, also where one only answers as such a state does.
 pub fn one_state<L: Validator>()
-    ensures same { (es : List EnvelopeData) (s t : L) → StandsFor L.kind L.view s es → StandsFor L.kind L.view t es → L.eq s t ≡ true }
+    ensures same { (es : List EnvelopeData) (s t : L) → StandsFor L.kind L.view s es →
+        StandsFor L.kind L.view t es → L.eq s t ≡ true }
     ensures alike { (es : List EnvelopeData) (s t : L) → L.Validator.same (L.view s) (L.kind.view_of es) →
         StandsFor L.kind L.view t es → L.eq s t ≡ true }
 {}

@@ -80,7 +80,8 @@ pub fn put_member(
     name: &str,
     value: Value,
 ) -> Result<(), JsonError>
-    ensures ok { OnOk result (members_view map.new.entries ≡ put name.now (view value) (members_view map.old.entries)) }
+    ensures ok { OnOk result (members_view map.new.entries ≡ put name.now (view value)
+        (members_view map.old.entries)) }
     ensures err { IfErr result (λ e. e ≡ fault.OutOfMemory) }
     ensures kept { OnErr result (members_view map.new.entries ≡ members_view map.old.entries) }
 {

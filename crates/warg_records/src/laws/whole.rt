@@ -67,7 +67,8 @@ fn operator_entry_is_whole(entry: &OperatorEntry)
 
 /// A package record reads back as it is written wherever the texts of its versions do.
 pub fn package_records_are_whole(package_record: &PackageRecord)
-    ensures { AllByRecursion IsReadable (in_package.record_data package_record.now).entries → IsWhole IsWholePackageOwnEntry (in_package.record_data package_record.now) }
+    ensures { AllByRecursion IsReadable (in_package.record_data package_record.now).entries →
+        IsWhole IsWholePackageOwnEntry (in_package.record_data package_record.now) }
 {
     link_is_whole(&package_record.prev);
     time_is_whole(package_record.timestamp);
