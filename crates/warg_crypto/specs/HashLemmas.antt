@@ -31,7 +31,8 @@ IsOk-decode_of digits = (
   λ h. rw (decode_of-digits digits h.0 h.1).1 refl,
 )
 
-by_bytes-bad : (count : ℕ) (r : Result (List ℕ) FromHexError) → (IsOk r → ⊥) → hash_of_bytes count r ≡ Err fault.BadHex
+by_bytes-bad : (count : ℕ) (r : Result (List ℕ) FromHexError) → (IsOk r → ⊥)
+    → hash_of_bytes count r ≡ Err fault.BadHex
 by_bytes-bad count (Ok bytes) h = absurd (h refl)
 by_bytes-bad count (Err e) h = refl
 

@@ -31,7 +31,8 @@ abbrev pub AreReadBack : List Version → Type 0
 AreReadBack versions = AllByRecursion (λ v. version_parts (parts_text v) ≡ Ok v) versions
 
 -- what was written of x reads back as the same
-abbrev pub IsReadBack : {A : Type 0} → (A → Result Data JsonError) → (Data → Result A JsonError) → (A → A → Type 0) → A
+abbrev pub IsReadBack : {A : Type 0} → (A → Result Data JsonError) → (Data → Result A JsonError)
+    → (A → A → Type 0) → A
     → Type 0
 IsReadBack writes reads same x = (d : Data) → writes x ≡ Ok d → ReadsBack reads same x d
 

@@ -36,7 +36,8 @@ namespaces_of h = listed_namespaces (owns h)
 -- all that the state tells is what the history says; above each line the look-up of `LogState` that answers it
 pub record TellsHistory (s : State (Contents Permission) (List (List ℕ × Namespace))) (es : List EnvelopeData) : Type 0 where
   -- `key_has_permission_to_sign_checkpoints`, for the permission to commit
-  pub permissions : (k : List ℕ) (p : Permission) → (view_of s).whole.authority.holds k p ≡ holds same_permission (history es) k p
+  pub permissions : (k : List ℕ) (p : Permission)
+      → (view_of s).whole.authority.holds k p ≡ holds same_permission (history es) k p
   -- none
   pub entries : (k : List ℕ) → (view_of s).whole.authority.has_entry k ≡ has_entry (history es) k
   -- `public_key`

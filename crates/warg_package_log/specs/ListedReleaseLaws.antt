@@ -53,18 +53,23 @@ pub unless_none : {A : Type 0} (o : Option A) (x : OwnOffence) → unless (is_no
 unless_none None x h = refl
 unless_none (Some a) x h = absurd (some≢none h)
 
-yank_known : (v : VersionParts) (o : Option ReleaseView) → unyankable v (option_map (λ r. r.state) o) ≡ None → o ≡ None → ⊥
+yank_known : (v : VersionParts) (o : Option ReleaseView) → unyankable v (option_map (λ r. r.state) o) ≡ None
+    → o ≡ None → ⊥
 yank_known v None h g = some≢none h
 yank_known v (Some r) h g = some≢none g
 
 module _ (es : List (Event PackageOwnEntry)) (stray : NoStray es) where
   -- what was not released before, is not after one more event, and no Yank is of it
-  found_before : (e : Event PackageOwnEntry) → listed_releases (es ++ e ∷ []) ≡ releases_after (listed_releases es) (e ∷ []) → (w : VersionParts) → find_parts (listed_releases (es ++ e ∷ [])) w ≡ None → find_parts (listed_releases es) w ≡ None
+  found_before : (e : Event PackageOwnEntry)
+      → listed_releases (es ++ e ∷ []) ≡ releases_after (listed_releases es) (e ∷ []) → (w : VersionParts)
+      → find_parts (listed_releases (es ++ e ∷ [])) w ≡ None → find_parts (listed_releases es) w ≡ None
   found_before e is w h =
       let whole = sym (find-append (λ r. same_parts w r.version) (map (turned (e ∷ [])) (listed_releases es)) (released (e ∷ []))) ∙ ap (λ l. find_parts l w) (sym is) ∙ h in
       none_inside (turned (e ∷ [])) (find_parts (listed_releases es) w) (sym (find-turned (e ∷ []) w (listed_releases es)) ∙ none_first _ (find_parts (released (e ∷ [])) w) whole)
 
-  push : (e : Event PackageOwnEntry) → cons_option (option_map (with_yank (es ++ e ∷ [])) (made_by e)) [] ≡ released (e ∷ []) → listed_releases (es ++ e ∷ []) ≡ releases_after (listed_releases es) (e ∷ [])
+  push : (e : Event PackageOwnEntry)
+      → cons_option (option_map (with_yank (es ++ e ∷ [])) (made_by e)) [] ≡ released (e ∷ [])
+      → listed_releases (es ++ e ∷ []) ≡ releases_after (listed_releases es) (e ∷ [])
   push e last = filter_map-append (λ x. option_map (with_yank (es ++ e ∷ [])) (made_by x)) es (e ∷ []) ∙ (λ i. turned_front es (e ∷ []) es i ++ last i)
 
   module _ (signer : List ℕ) (time : Time) (id : RecordId) where
@@ -72,11 +77,13 @@ module _ (es : List (Event PackageOwnEntry)) (stray : NoStray es) where
     abbrev event : PackageOwnEntry → Event PackageOwnEntry
     event o = record { entry = o; signer = signer; time = time; record_id = id }
 
-    last_said : (o : PackageOwnEntry) (w : VersionParts) → find_parts (listed_releases es) w ≡ None → (s : ReleaseState)
+    last_said : (o : PackageOwnEntry) (w : VersionParts) → find_parts (listed_releases es) w ≡ None
+        → (s : ReleaseState)
         → latest (yanks w) s (es ++ event o ∷ []) ≡ latest (yanks w) s (event o ∷ [])
     last_said o w none s = latest-append (yanks w) s es (event o ∷ []) ∙ ap (λ t. latest (yanks w) t (event o ∷ [])) (stray w none s)
 
-    other : (v w : VersionParts) → own_offence (listed_releases es) (Yank v) ≡ None → find_parts (listed_releases es) w ≡ None
+    other : (v w : VersionParts) → own_offence (listed_releases es) (Yank v) ≡ None
+        → find_parts (listed_releases es) w ≡ None
         → same_parts v w ≡ false
     other v w h none = elim (cases_Bool (same_parts v w)) [
       | inl equal ↦ absurd (yank_known v (find_parts (listed_releases es) v) h (ap (find_parts (listed_releases es)) (exact_parts v w equal) ∙ none))

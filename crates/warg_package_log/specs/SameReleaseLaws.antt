@@ -131,7 +131,8 @@ all_pass t f [] = refl
 all_pass t f (x ∷ xs) = ap (λ b. b && list_all t xs) (f x) ∙ all_pass t f xs
 
 -- the list has no release of the version, or the version passes each test that all of its versions pass
-none-or-passes : (t : VersionParts → Bool) (rs : List ReleaseView) (v : VersionParts) → list_all t (versions rs) ≡ true
+none-or-passes : (t : VersionParts → Bool) (rs : List ReleaseView) (v : VersionParts)
+    → list_all t (versions rs) ≡ true
     → (find_parts rs v ≡ None) ⊎ (t v ≡ true)
 none-or-passes t [] v h = inl refl
 none-or-passes t (r ∷ rs) v h = by (same_parts v r.version) refl (none-or-passes t rs v (second_so (t r.version) _ h))

@@ -36,7 +36,8 @@ releases_of h = listed_releases (owns h)
 -- all that the state tells is what the history says; above each line the look-ups of `LogState` that answer it
 pub record TellsHistory (s : State (Contents Permission) (List ReleaseView)) (es : List EnvelopeData) : Type 0 where
   -- `key_permissions`: what the set has, and whether there is a set
-  pub permissions : (k : List ℕ) (p : Permission) → (view_of s).whole.authority.holds k p ≡ holds same_permission (history es) k p
+  pub permissions : (k : List ℕ) (p : Permission)
+      → (view_of s).whole.authority.holds k p ≡ holds same_permission (history es) k p
   pub entries : (k : List ℕ) → (view_of s).whole.authority.has_entry k ≡ has_entry (history es) k
   -- `public_key`
   pub keys : (k : List ℕ) → (view_of s).whole.authority.key k ≡ key_of (history es) k

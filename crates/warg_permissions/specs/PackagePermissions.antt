@@ -52,7 +52,8 @@ pub same_permission-is : (p q : Permission) → same_permission p q ≡ true →
 same_permission-is p q h = sym (numbered-number_of p) ∙ ap numbered (eqb-true (number_of p) (number_of q) h) ∙ numbered-number_of q
 
 -- of permissions that are the same, a hasher is fed the same
-pub hash-same_permission : (p q : Permission) → same_permission p q ≡ true → fed.u8 (number_of p) ≡ fed.u8 (number_of q)
+pub hash-same_permission : (p q : Permission) → same_permission p q ≡ true
+    → fed.u8 (number_of p) ≡ fed.u8 (number_of q)
 hash-same_permission p q h = ap fed.u8 (eqb-true (number_of p) (number_of q) h)
 
 -- a permission is read back from its number

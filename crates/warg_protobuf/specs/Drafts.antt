@@ -257,7 +257,8 @@ abbrev pub time_with : Option TimestampKept → List ℕ → Option TimestampKep
 time_with o b = Some (grown timestamp_with timestamp_table (time_so_far o) b)
 
 -- after one more field: the last prev and version count, the time grows, an entry goes into the sink
-abbrev pub record_with : {E H : Type 0} → (H → E → H) → Table → (List Field → Result E WireError) → RecordKept H → Field → RecordKept H
+abbrev pub record_with : {E H : Type 0} → (H → E → H) → Table → (List Field → Result E WireError) → RecordKept H
+    → Field → RecordKept H
 record_with with_entry entry entry_from k f = record {
   prev = last_option_from k.prev (held 1 (f ∷ []));
   version = last_from k.version (numbers 2 (f ∷ []));

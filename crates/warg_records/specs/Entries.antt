@@ -27,7 +27,8 @@ abbrev pub next_entry : {A B F : Type 0} → (A → Result B F) → Result (List
 next_entry read so_far m = so_far >>= λ xs. read m >>= λ x. Ok (xs ++ x ∷ [])
 
 -- a record of such entries: its prev, its time, then its entries
-abbrev pub record_in : {P O : Type 0} → RecordValue (Result (List (EntryData P O)) RecordFault) → Result (RecordData P O) RecordFault
+abbrev pub record_in : {P O : Type 0} → RecordValue (Result (List (EntryData P O)) RecordFault)
+    → Result (RecordData P O) RecordFault
 record_in m = do
   prev ← prev_of m.prev
   time ← time_of m.time

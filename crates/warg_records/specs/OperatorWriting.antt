@@ -23,7 +23,8 @@ operator_entry_message (Own (DefineNamespace namespace)) = Some (member.DefineNa
 operator_entry_message (Own (ImportNamespace namespace registry)) = Some (member.ImportNamespace (record { namespace = namespace; registry = registry }))
 
 -- the message of a record
-abbrev pub operator_record_message : RecordData Permission OperatorOwnEntry → RecordValue (List (Option OperatorMember))
+abbrev pub operator_record_message : RecordData Permission OperatorOwnEntry
+    → RecordValue (List (Option OperatorMember))
 operator_record_message s = record_message operator_entry_message s
 
 -- the content bytes that are written of a record

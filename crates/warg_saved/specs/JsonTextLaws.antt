@@ -24,12 +24,14 @@ module _ {A : Type 0} (reads : Data → Result A JsonError) where
           dropped (Err f) = None
 
   -- where the text's JSON is read, so is the text
-  pub of_json_text : (text : List ℕ) (d : Data) (x : A) → read text ≡ Some d → reads d ≡ Ok x → in_text reads text ≡ Ok x
+  pub of_json_text : (text : List ℕ) (d : Data) (x : A) → read text ≡ Some d → reads d ≡ Ok x
+      → in_text reads text ≡ Ok x
   of_json_text text d x is read_so = ap (of_json_in reads) is ∙ ap or_fault read_so
 
   module _ {B : Type 0} (f : A → Result B JsonError) where
     -- what comes of what was read
-    pub and_then : (text : List ℕ) (x : A) → in_text reads text ≡ Ok x → in_text (λ d. reads d >>= f) text ≡ or_fault (f x)
+    pub and_then : (text : List ℕ) (x : A) → in_text reads text ≡ Ok x
+        → in_text (λ d. reads d >>= f) text ≡ or_fault (f x)
     and_then text x e = by (read text) e
       where
         by_read : (r : Result A JsonError) → or_fault r ≡ Ok x → or_fault (r >>= f) ≡ or_fault (f x)
@@ -44,7 +46,8 @@ module _ {A : Type 0} (reads : Data → Result A JsonError) where
         by (Some d) h = by_read (reads d) h
 
     -- a fault of what comes of it
-    pub or_fault_then : (text : List ℕ) (x : A) (e : JsonError) → in_text reads text ≡ Ok x → (e ≡ json.OutOfMemory) ⊎ (f x ≡ Err e)
+    pub or_fault_then : (text : List ℕ) (x : A) (e : JsonError) → in_text reads text ≡ Ok x
+        → (e ≡ json.OutOfMemory) ⊎ (f x ≡ Err e)
         → (text_fault e ≡ OutOfMemory) ⊎ (in_text (λ d. reads d >>= f) text ≡ Err (text_fault e))
     or_fault_then text x e is (inl none) = inl (ap text_fault none)
     or_fault_then text x e is (inr fault) = inr (and_then text x is ∙ ap or_fault fault)
