@@ -21,7 +21,7 @@ ghost use Rattle.warg_envelope.specs.Faults.{fault_of};
 ghost use Rattle.warg_records.specs.OperatorReading.{operator_record_of};
 ghost use Rattle.warg_validator.specs.Outcomes.{IsRun, IfStarted, told};
 ghost use Rattle.warg_validator.specs.Strings.{read_all};
-ghost use Rattle.warg_validator.specs.declared.run.RunError.{RunError};
+ghost use Rattle.warg_validator.specs.declared.replay.RunError.{RunError};
 ghost use Rattle.warg_log.specs.Admissions.{NoKeyBringsItselfIn};
 ghost use Rattle.warg_log.specs.Contents.{Contents};
 ghost use Rattle.warg_log.specs.Forms.{HasForm};

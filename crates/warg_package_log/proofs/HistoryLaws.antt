@@ -6,7 +6,7 @@ use Rattle.warg_envelope.specs.Faults.{fault_of}
 use Rattle.warg_envelope.specs.EnvelopeData.{EnvelopeData}
 use Rattle.warg_records.specs.PackageReading.{package_record_of}
 use Rattle.warg_permissions.specs.declared.package.Permission.{Permission}
-use Rattle.warg_validator.specs.declared.run.RunError.{RunError}
+use Rattle.warg_validator.specs.declared.replay.RunError.{RunError}
 use Rattle.warg_validator.specs.Kinds.{SignatureRelation, IsAccepted, StandsFor}
 use Rattle.warg_validator.specs.Outcomes.{IsRun, IfStarted, told}
 use Rattle.warg_validator.specs.Strings.{read_all}

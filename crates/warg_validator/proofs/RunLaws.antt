@@ -2,8 +2,8 @@
 use Rattle.std.proofs.Common.{◌≡◌, ℕ, List, Option, Result, Ok, Err, inl, inr}
 use Rattle.std.specs.Prelude.{IfOk}
 use Rattle.warg_envelope.specs.EnvelopeData.{EnvelopeData}
-use Rattle.warg_validator.specs.declared.run.RunCause.{RunCause}
-use Rattle.warg_validator.specs.declared.run.RunError.{RunError}
+use Rattle.warg_validator.specs.declared.replay.RunCause.{RunCause}
+use Rattle.warg_validator.specs.declared.replay.RunError.{RunError}
 use Rattle.warg_validator.specs.Kinds.{SignatureRelation, Kind, KindLaws, IsAccepted, StandsFor}
 use Rattle.warg_validator.specs.Outcomes.{IsRun, IfStarted}
 use Rattle.warg_validator.specs.Strings.{Cause, read_all}

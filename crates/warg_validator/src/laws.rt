@@ -7,11 +7,11 @@ ghost use Rattle.warg_validator.specs.Kinds.{SignatureRelation, either, IsAccept
 ghost use Rattle.warg_validator.specs.Outcomes.{same_cause, HasNoOffence, IsFirstOffence, IsFoundBy, first_offence_from};
 ghost use Rattle.warg_validator.specs.Strings.{Cause, read_all};
 ghost use Rattle.warg_validator.specs.declared.effect.Effect.{Effect};
-ghost use Rattle.warg_validator.specs.declared.run.RunCause.{RunCause};
-ghost use Rattle.warg_validator.specs.declared.run.RunError.{RunError};
+ghost use Rattle.warg_validator.specs.declared.replay.RunCause.{RunCause};
+ghost use Rattle.warg_validator.specs.declared.replay.RunError.{RunError};
 
 use crate::effect::Effect;
-use crate::run::{RunCause, RunError};
+use crate::replay::{RunCause, RunError};
 use crate::validator::Validator;
 use warg_envelope::ParseEnvelopeError;
 

@@ -3,9 +3,9 @@
 
 mod effect;
 pub mod laws;
-mod run;
+mod replay;
 mod validator;
 
 pub use effect::Effect;
-pub use run::{RunCause, RunError, run, run_from};
+pub use replay::{RunCause, RunError, run, run_from};
 pub use validator::Validator;
