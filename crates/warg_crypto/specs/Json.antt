@@ -16,11 +16,12 @@ Answers view r want = MatchResult r (λ x. want ≡ Ok (view x)) (λ e. want ≡
 abbrev pub Gives : {X Y : Type 0} → (X → Y) → Result X JsonError → Result Y JsonError → Type 0
 Gives view r want = MatchResult r (λ x. want ≡ Ok (view x)) (λ e. (e ≡ fault.OutOfMemory) ⊎ (want ≡ Err e))
 
--- What d reads as is the same as x.
-pub record ReadsBack {A : Type 0} (reads : Data → Result A JsonError) (same : A → A → Type 0) (x : A) (d : Data) : Type 0 where
+-- What d reads as is equivalent to x.
+pub record ReadsBack {A : Type 0} (reads : Data → Result A JsonError) (equivalent : A → A → Type 0) (x : A) (d : Data)
+    : Type 0 where
   pub again : A
   pub is : reads d ≡ Ok again
-  pub equal : same x again
+  pub equal : equivalent x again
 
 -- A version: its three numbers, the text before its release and the text of its build.
 abbrev pub Version : Type 0
@@ -30,11 +31,11 @@ Version = ℕ × ℕ × ℕ × List ℕ × List ℕ
 abbrev pub AreReadBack : List Version → Type 0
 AreReadBack versions = AllByRecursion (λ v. version_parts (parts_text v) ≡ Ok v) versions
 
--- what was written of x reads back as the same
+-- what was written of x reads back as an equivalent value
 abbrev pub IsReadBack : {A : Type 0} → (A → Result Data JsonError) → (Data → Result A JsonError)
     → (A → A → Type 0) → A
     → Type 0
-IsReadBack writes reads same x = (d : Data) → writes x ≡ Ok d → ReadsBack reads same x d
+IsReadBack writes reads equivalent x = (d : Data) → writes x ≡ Ok d → ReadsBack reads equivalent x d
 
 -- what is written
 abbrev pub wrote : {A : Type 0} → A → Result A JsonError

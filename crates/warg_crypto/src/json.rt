@@ -34,14 +34,14 @@ pub trait JsonValue: Sized {
     // value so that what was written of it reads back.
     ghost versions: { Plain → List Version };
 
-    // Holds of two values that are equal: what was written reads back as such a one.
-    ghost same: { Plain → Plain → Type 0 };
+    // Holds of two values that are equal: what was written reads back as an equivalent value.
+    ghost equivalent: { Plain → Plain → Type 0 };
 
     /// The JSON of the value.
     fn to_value(&self, alloc: Global) -> Result<Value, JsonError>
         ensures written { Gives view result (writes (plain self.now)) }
         ensures back { AreReadBack (versions (plain self.now)) →
-            IfOk result (λ v. ReadsBack reads same (plain self.now) (view v)) };
+            IfOk result (λ v. ReadsBack reads equivalent (plain self.now) (view v)) };
 
     /// The value of JSON, or its first fault.
     fn from_value(alloc: Global, value: &Value) -> Result<Self, JsonError>

@@ -6,7 +6,7 @@ use Rattle.warg_crypto.specs.Json.{ReadsBack}
 use Rattle.warg_crypto.specs.JsonTexts.{key_id_in, signature_in}
 use Rattle.warg_crypto.specs.declared.json.error.JsonError.{JsonError}
 use Rattle.warg_envelope.specs.EnvelopeData.{EnvelopeData}
-use Rattle.warg_envelope.specs.EnvelopeJson.{AreBodyMembers, SameSigned, SignedContents, body_in, bytes_in, published_in, signed_in}
+use Rattle.warg_envelope.specs.EnvelopeJson.{AreBodyMembers, AreEquivalentSigned, SignedContents, body_in, bytes_in, published_in, signed_in}
 use Rattle.warg_crypto.specs.Numbers.{number_in}
 use Rattle.warg_envelope.specs.declared.proto_envelope.body.PublishedProtoEnvelopeBody.{PublishedProtoEnvelopeBody}
 
@@ -19,7 +19,7 @@ signed_read reads y a b c f g h = rw (f, g, h) refl
 pub signed_back : {A : Type 0} (reads : Data → Result A JsonError) (same : A → A → Type 0) (x : SignedContents A) (a b c d : Data)
     → ReadsBack reads same x.contents a → key_id_in b ≡ Ok x.key_id → signature_in c ≡ Ok x.signature
     → object (put (codes "signature") c (put (codes "keyId") b (put (codes "contents") a no_members))) ≡ d
-    → ReadsBack (signed_in reads) (SameSigned same) x d
+    → ReadsBack (signed_in reads) (AreEquivalentSigned same) x d
 signed_back {A} reads same x a b c d f g h is =
     let again : SignedContents A = record { contents = f.again; key_id = x.key_id; signature = x.signature } in
     record {

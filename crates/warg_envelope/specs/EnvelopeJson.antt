@@ -19,7 +19,7 @@ pub record SignedContents (A : Type 0) : Type 0 where
   pub signature : NamedBytes
 
 -- the same contents, key id and signature
-pub record SameSigned {A : Type 0} (same : A → A → Type 0) (x y : SignedContents A) : Type 0 where
+pub record AreEquivalentSigned {A : Type 0} (same : A → A → Type 0) (x y : SignedContents A) : Type 0 where
   pub contents : same x.contents y.contents
   pub key_id : x.key_id ≡ y.key_id
   pub signature : x.signature ≡ y.signature

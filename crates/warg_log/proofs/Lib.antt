@@ -7,7 +7,7 @@ pub mod RightsLemmas
 pub mod Steps
 pub mod HistoryLaws
 pub mod Coherence
-pub mod SameStates
+pub mod EquivalentStates
 pub mod RefusalLaws
 pub mod PossibleLaws
 pub mod HistoryViews
@@ -15,10 +15,10 @@ pub mod ListingLaws
 pub mod KindLaws
 pub mod AcceptedOwns
 pub mod NextLaws
-pub mod SameLaws
+pub mod EquivalentLaws
 pub mod FormLaws
 pub mod AdmissionLaws
 pub mod HeadJsonLaws
 pub mod SavedParts
 pub mod SavedHead
-pub mod SavedSame
+pub mod SavedEqual

@@ -9,7 +9,7 @@ ghost use Rattle.warg_validator.specs.Effects.{GivesWhatIsHeld};
 ghost use Rattle.warg_validator.specs.Kinds.{SignatureRelation, KindLaws, view_after, IsAccepted};
 ghost use Rattle.warg_log.specs.Admissions.{NoKeyBringsItselfIn};
 ghost use Rattle.warg_log.specs.Contents.{Contents};
-ghost use Rattle.warg_log.specs.Equal.{IsSame, same_states};
+ghost use Rattle.warg_log.specs.Equal.{IsEquivalent, same_states};
 ghost use Rattle.warg_log.specs.Forms.{HasForm};
 ghost use Rattle.warg_log.specs.History.{Placed, Holds, holds, entry_on};
 ghost use Rattle.warg_log.specs.Rules.{View, SignedRecord, record_offence, start, Event};
@@ -38,10 +38,10 @@ pub fn gives_what_is_held<M: LogKind>()
         (effects_of M.rules M.Permission.eq read) }
 {}
 
-/// Logs are equal exactly if they answer alike.
-pub fn equal_logs_answer_alike<M: LogKind>()
+/// Logs are equal exactly if their views are equivalent: if all their answers are equal.
+pub fn equal_logs_are_equivalent<M: LogKind>()
     ensures { (s t : State (Contents M.Permission) M) → (same_states M.Permission.eq M.eq s t ≡ true) ↔
-        IsSame M.alike (view_of_state M.Permission.eq M.view s) (view_of_state M.Permission.eq M.view t) }
+        IsEquivalent M.equivalent (view_of_state M.Permission.eq M.view s) (view_of_state M.Permission.eq M.view t) }
 {}
 
 /// Heads are equal exactly if they are one.

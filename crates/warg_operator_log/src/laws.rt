@@ -12,7 +12,7 @@ ghost use Rattle.warg_records.specs.OperatorEntries.{OperatorOwnEntry};
 ghost use Rattle.warg_permissions.specs.declared.operator.Permission.{Permission};
 ghost use Rattle.warg_log.specs.Rules.{SignedRecord};
 ghost use Rattle.warg_log.specs.Possible.{IsPossible};
-ghost use Rattle.warg_operator_log.specs.StateLaws.{kind, AreSame};
+ghost use Rattle.warg_operator_log.specs.StateLaws.{kind, AreEquivalent};
 ghost use Rattle.warg_operator_log.specs.declared.namespace.NamespaceState.{NamespaceState};
 ghost use Rattle.warg_operator_log.specs.declared.error.ValidationError.{ValidationError};
 ghost use Rattle.warg_operator_log.specs.declared.error.ValidationError.TheVariants.{OutOfMemory};
@@ -82,13 +82,13 @@ pub fn offences_are_possible()
 {}
 
 /// Heads are equal exactly if they are one, namespaces exactly if their texts are, and states exactly if
-/// they answer alike.
+/// their views are equivalent: all their answers are equal.
 pub fn equality()
     ensures heads { (a b : Head) → (⟦<Head as PartialEq>⟧.eq a b ≡ true) ↔ (a ≡ b) }
     ensures namespaces { (a b : NamespaceState) → (⟦<crate::namespace::NamespaceState as PartialEq>⟧.eq a b ≡ true) ↔
         (namespace_view a ≡ namespace_view b) }
     ensures states { (s t : State (Contents Permission) (List (List ℕ × Namespace))) →
-        (⟦<crate::state::LogState as PartialEq>⟧.eq s t ≡ true) ↔ AreSame (view_of s) (view_of t) }
+        (⟦<crate::state::LogState as PartialEq>⟧.eq s t ≡ true) ↔ AreEquivalent (view_of s) (view_of t) }
 {}
 
 /// A record's version is lawful exactly if it is at most `OPERATOR_RECORD_VERSION`, the newest, and not below the

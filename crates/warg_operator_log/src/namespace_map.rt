@@ -9,7 +9,7 @@ ghost use Rattle.warg_records.specs.OperatorEntries.{OperatorOwnEntry, entry_dat
 ghost use Rattle.warg_log.specs.Judging.{Judges};
 ghost use Rattle.warg_log.specs.Offences as shared;
 ghost use Rattle.warg_log.specs.Rules.{Wrong};
-ghost use Rattle.warg_operator_log.specs.Namespaces.{OwnOffence, Names, Namespace, names, names_over, name_offence, rules, names-none, names-append, alike_offence, alike_after};
+ghost use Rattle.warg_operator_log.specs.Namespaces.{OwnOffence, Names, Namespace, names, names_over, name_offence, rules, names-none, names-append, equivalent_names_offence, equivalent_names_after};
 ghost use Rattle.warg_operator_log.specs.NamespaceMap.{namespace_view};
 ghost use Rattle.warg_operator_log.specs.SameNamespaces.{same_namespaces};
 ghost use Rattle.warg_operator_log.specs.SameNamespaceLaws.{namespaces_decide, namespaces_equiv};
@@ -152,7 +152,7 @@ impl LogKind for NamespaceMap {
 
     ghost changed = { names_over };
 
-    ghost alike = { λ v w. v ≡ w };
+    ghost equivalent = { λ v w. v ≡ w };
 
     ghost record_data = { record_data };
 
@@ -168,11 +168,11 @@ impl LogKind for NamespaceMap {
 
     ghost equals = { namespaces_decide };
 
-    ghost alike_self = { λ v. refl };
+    ghost equivalent_self = { λ v. refl };
 
-    ghost alike_offence = { alike_offence };
+    ghost equivalent_offence = { equivalent_names_offence };
 
-    ghost alike_after = { alike_after };
+    ghost equivalent_after = { equivalent_names_after };
 
     fn new(alloc: Global) -> NamespaceMap {
         empty(alloc)

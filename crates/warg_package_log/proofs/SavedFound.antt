@@ -9,7 +9,7 @@ use Rattle.warg_crypto.specs.PairsLaws.{value_at}
 use Rattle.warg_crypto.specs.Steps.{ok_same}
 use Rattle.warg_saved.specs.Backs.{AreVersionsBack, IsBack}
 use Rattle.warg_saved.specs.Names.{version_name, version_named}
-use Rattle.warg_log.proofs.SavedSame.{option_self}
+use Rattle.warg_log.proofs.SavedEqual.{option_self}
 use Rattle.warg_package_log.specs.ReleaseJson.{release_in, release_json}
 use Rattle.warg_package_log.specs.Releases.{ReleaseView, find_parts, versions}
 use Rattle.warg_package_log.specs.SameReleaseLaws.{exact_parts, release_decides, same_parts-self}

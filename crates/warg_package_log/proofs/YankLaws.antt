@@ -10,7 +10,7 @@ use Rattle.warg_records.specs.declared.record_id.RecordId.{RecordId}
 use Rattle.warg_validator.specs.Walks.{AllLawful}
 use Rattle.warg_log.specs.Rules.{Event}
 use Rattle.warg_log.proofs.SignedEntryLaws.{latest-one}
-use Rattle.warg_package_log.specs.AlikeLaws.{find-turned}
+use Rattle.warg_package_log.specs.EquivalentReleaseLaws.{find-turned}
 use Rattle.warg_package_log.specs.ListedReleases.{own_after, own_wrong}
 use Rattle.warg_package_log.specs.Releases.{ReleaseView, yanks, turned, released, releases_after, find_parts, own_offence, unyankable, is_yanked}
 use Rattle.warg_package_log.specs.SameReleaseLaws.{exact_parts}

@@ -1,4 +1,4 @@
-pub mod AlikeLaws
+pub mod EquivalentReleaseLaws
 pub mod Catalog
 pub mod ErrorLaws
 pub mod Extensions

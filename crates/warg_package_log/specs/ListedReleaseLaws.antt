@@ -18,7 +18,7 @@ use Rattle.warg_log.proofs.SignedEntryLaws.{latest-append, latest-one}
 use Rattle.warg_package_log.specs.Versions.{same_parts}
 use Rattle.warg_package_log.specs.Releases.{OwnOffence, ReleaseView, yanks, made_by, turned, released, releases_after, find_parts, own_offence, unyankable}
 use Rattle.warg_package_log.specs.ReleaseLaws.{turned-append, releases-none, releases-append}
-use Rattle.warg_package_log.specs.AlikeLaws.{find-turned}
+use Rattle.warg_package_log.specs.EquivalentReleaseLaws.{find-turned}
 use Rattle.warg_package_log.specs.ListedReleases.{with_yank, listed_releases, own_after, own_wrong}
 use Rattle.warg_package_log.specs.SameReleaseLaws.{exact_parts}
 use Rattle.warg_package_log.specs.declared.release.ReleaseState.{ReleaseState}

@@ -1,4 +1,4 @@
--- Equal releases are one, and equal lists of releases answer alike for every version.
+-- Equal releases are one, and equal lists of releases are equivalent ones.
 use Rattle.std.proofs.Common.{◌≡◌, ◌⊎◌, inl, inr, refl, sym, ap, ◌∙◌, true≢false}
 use Rattle.std.specs.Prelude.{List, [], ◌∷◌, Bool, true, false, ◌&&◌, cond, Option, Some, None}
 use Rattle.std.specs.Bool.{Decides, one_answer}
@@ -23,7 +23,7 @@ use Rattle.warg_records.specs.PackageEntries.{VersionParts}
 use Rattle.warg_package_log.specs.Catalog.{release_view}
 use Rattle.warg_package_log.specs.Versions.{same_parts}
 use Rattle.warg_package_log.specs.Releases.{ReleaseView, find_parts, versions}
-use Rattle.warg_package_log.specs.SameReleases.{same_hash, same_state, same_release, same_at, same_releases, AreAlike}
+use Rattle.warg_package_log.specs.SameReleases.{same_hash, same_state, same_release, same_at, same_releases, AreEquivalentReleases}
 use Rattle.warg_package_log.specs.declared.release.Release.{Release}
 use Rattle.warg_package_log.specs.declared.release.ReleaseState.{ReleaseState}
 use Rattle.warg_package_log.specs.declared.release.ReleaseState.TheVariants.{Released, Yanked}
@@ -143,8 +143,8 @@ none-or-passes t (r ∷ rs) v h = by (same_parts v r.version) refl (none-or-pass
     by false e (inl none) = inl (ap (λ b. cond b (Some r) (find_parts rs v)) e ∙ none)
     by false e (inr passes) = inr passes
 
-releases-alike : (rs qs : List ReleaseView) → same_releases rs qs ≡ true → AreAlike rs qs
-releases-alike rs qs h v = by (none-or-passes (same_at rs qs) rs v (first_so _ _ h)) (none-or-passes (same_at rs qs) qs v (second_so (list_all (same_at rs qs) (versions rs)) _ h))
+releases-equivalent : (rs qs : List ReleaseView) → same_releases rs qs ≡ true → AreEquivalentReleases rs qs
+releases-equivalent rs qs h v = by (none-or-passes (same_at rs qs) rs v (first_so _ _ h)) (none-or-passes (same_at rs qs) qs v (second_so (list_all (same_at rs qs) (versions rs)) _ h))
   where
     by : (find_parts rs v ≡ None) ⊎ (same_at rs qs v ≡ true) → (find_parts qs v ≡ None) ⊎ (same_at rs qs v ≡ true)
         → find_parts rs v ≡ find_parts qs v
@@ -152,19 +152,19 @@ releases-alike rs qs h v = by (none-or-passes (same_at rs qs) rs v (first_so _ _
     by (inl none) (inl also) = none ∙ sym also
     by (inl none) (inr passes) = options_exact same_release release_exact (find_parts rs v) (find_parts qs v) passes
 
-alike-releases : (rs qs : List ReleaseView) → AreAlike rs qs → same_releases rs qs ≡ true
-alike-releases rs qs alike =
-    let at : (v : VersionParts) → same_at rs qs v ≡ true = λ v. ap (option_eq same_release (find_parts rs v)) (sym (alike v)) ∙ options_same same_release release_same (find_parts rs v) in
+equivalent-releases : (rs qs : List ReleaseView) → AreEquivalentReleases rs qs → same_releases rs qs ≡ true
+equivalent-releases rs qs equivalent =
+    let at : (v : VersionParts) → same_at rs qs v ≡ true = λ v. ap (option_eq same_release (find_parts rs v)) (sym (equivalent v)) ∙ options_same same_release release_same (find_parts rs v) in
     λ i. all_pass (same_at rs qs) at (versions rs) i && all_pass (same_at rs qs) at (versions qs) i
 
--- equal lists of releases are those that answer alike for every version
-pub releases_decide : (rs qs : List ReleaseView) → Decides (same_releases rs qs) (AreAlike rs qs)
-releases_decide rs qs = (releases-alike rs qs, alike-releases rs qs)
+-- equal lists of releases are equivalent ones
+pub releases_decide : (rs qs : List ReleaseView) → Decides (same_releases rs qs) (AreEquivalentReleases rs qs)
+releases_decide rs qs = (releases-equivalent rs qs, equivalent-releases rs qs)
 
 -- that two lists of releases are the same is an equivalence
 pub releases_equiv : IsEquivalence same_releases
 releases_equiv = record {
-  refl = λ rs. alike-releases rs rs (λ v. refl);
-  symm = λ rs qs. one_answer (same_releases rs qs) (same_releases qs rs) (releases_decide rs qs) (λ h v. sym (releases-alike qs rs h v), λ h. alike-releases qs rs (λ v. sym (h v)));
-  congr = λ rs qs ts e. one_answer (same_releases rs ts) (same_releases qs ts) (releases_decide rs ts) (λ h v. releases-alike rs qs e v ∙ releases-alike qs ts h v, λ h. alike-releases qs ts (λ v. sym (releases-alike rs qs e v) ∙ h v));
+  refl = λ rs. equivalent-releases rs rs (λ v. refl);
+  symm = λ rs qs. one_answer (same_releases rs qs) (same_releases qs rs) (releases_decide rs qs) (λ h v. sym (releases-equivalent qs rs h v), λ h. equivalent-releases qs rs (λ v. sym (h v)));
+  congr = λ rs qs ts e. one_answer (same_releases rs ts) (same_releases qs ts) (releases_decide rs ts) (λ h v. releases-equivalent rs qs e v ∙ releases-equivalent qs ts h v, λ h. equivalent-releases qs ts (λ v. sym (releases-equivalent rs qs e v) ∙ h v));
 }

@@ -35,6 +35,6 @@ same_at rs qs v = option_eq same_release (find_parts rs v) (find_parts qs v)
 abbrev pub same_releases : List ReleaseView → List ReleaseView → Bool
 same_releases rs qs = list_all (same_at rs qs) (versions rs) && list_all (same_at rs qs) (versions qs)
 
--- the two lists answer alike for every version
-abbrev pub AreAlike : List ReleaseView → List ReleaseView → Type 0
-AreAlike rs qs = (v : VersionParts) → find_parts rs v ≡ find_parts qs v
+-- equivalent lists: the same is found for every version
+abbrev pub AreEquivalentReleases : List ReleaseView → List ReleaseView → Type 0
+AreEquivalentReleases rs qs = (v : VersionParts) → find_parts rs v ≡ find_parts qs v

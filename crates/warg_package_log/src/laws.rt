@@ -23,7 +23,7 @@ ghost use Rattle.warg_package_log.specs.State.{offence_of, view_of, View, record
 ghost use Rattle.warg_records.specs.PackageEntries.{PackageOwnEntry};
 ghost use Rattle.warg_log.specs.Rules.{SignedRecord};
 ghost use Rattle.warg_log.specs.Possible.{IsPossible};
-ghost use Rattle.warg_package_log.specs.StateLaws.{kind, AreSame};
+ghost use Rattle.warg_package_log.specs.StateLaws.{kind, AreEquivalent};
 ghost use Rattle.warg_package_log.specs.declared.release.Release.{Release};
 ghost use Rattle.warg_package_log.specs.declared.release.ReleaseState.{ReleaseState};
 ghost use Rattle.warg_package_log.specs.declared.error.ValidationError.{ValidationError};
@@ -90,7 +90,8 @@ pub fn offences_are_possible()
 {}
 
 /// Heads, and what became of releases, are equal exactly if they are one, releases exactly if their fields
-/// are, a version by its numbers and texts, and states exactly if they answer alike.
+/// are, a version by its numbers and texts, and states exactly if their views are equivalent: all their answers are
+/// equal.
 pub fn equality()
     ensures heads { (a b : Head) → (⟦<Head as PartialEq>⟧.eq a b ≡ true) ↔ (a ≡ b) }
     ensures release_states { (a b : ReleaseState) → (⟦<crate::release::ReleaseState as PartialEq>⟧.eq a b ≡ true) ↔
@@ -98,7 +99,7 @@ pub fn equality()
     ensures releases { (a b : Release) → (⟦<crate::release::Release as PartialEq>⟧.eq a b ≡ true) ↔
         (release_view a ≡ release_view b) }
     ensures states { (s t : State (Contents Permission) (List ReleaseView)) →
-        (⟦<crate::state::LogState as PartialEq>⟧.eq s t ≡ true) ↔ AreSame (view_of s) (view_of t) }
+        (⟦<crate::state::LogState as PartialEq>⟧.eq s t ≡ true) ↔ AreEquivalent (view_of s) (view_of t) }
 {}
 
 /// A record's version is lawful exactly if it is at most `PACKAGE_RECORD_VERSION`, the newest, and not below the

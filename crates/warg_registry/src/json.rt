@@ -26,7 +26,7 @@ impl JsonValue for LogId {
 
     ghost versions = { λ _. [] };
 
-    ghost same = { λ x y. x ≡ y };
+    ghost equivalent = { λ x y. x ≡ y };
 
     fn to_value(&self, alloc: Global) -> Result<Value, JsonError> {
         AnyHash::from(*self).to_value(alloc)
@@ -48,7 +48,7 @@ impl JsonValue for PackageName {
 
     ghost versions = { λ _. [] };
 
-    ghost same = { λ x y. x ≡ y };
+    ghost equivalent = { λ x y. x ≡ y };
 
     fn to_value(&self, alloc: Global) -> Result<Value, JsonError> {
         text_value(alloc, self.as_str())
@@ -74,7 +74,7 @@ impl JsonValue for Checkpoint {
 
     ghost versions = { λ _. [] };
 
-    ghost same = { λ x y. x ≡ y };
+    ghost equivalent = { λ x y. x ≡ y };
 
     fn to_value(&self, alloc: Global) -> Result<Value, JsonError> {
         let mut map = Map::new(alloc);
@@ -107,7 +107,7 @@ impl JsonValue for TimestampedCheckpoint {
 
     ghost versions = { λ _. [] };
 
-    ghost same = { λ x y. x ≡ y };
+    ghost equivalent = { λ x y. x ≡ y };
 
     fn to_value(&self, alloc: Global) -> Result<Value, JsonError> {
         let mut map = Map::new(alloc);
@@ -139,7 +139,7 @@ impl JsonValue for LogLeaf {
 
     ghost versions = { λ _. [] };
 
-    ghost same = { λ x y. x ≡ y };
+    ghost equivalent = { λ x y. x ≡ y };
 
     fn to_value(&self, alloc: Global) -> Result<Value, JsonError> {
         let mut map = Map::new(alloc);

@@ -53,7 +53,7 @@ pub fn determination<L: Validator>()
 pub fn one_state<L: Validator>()
     ensures same { (es : List EnvelopeData) (s t : L) → StandsFor L.kind L.view s es →
         StandsFor L.kind L.view t es → L.eq s t ≡ true }
-    ensures alike { (es : List EnvelopeData) (s t : L) → L.Validator.same (L.view s) (L.kind.view_of es) →
+    ensures equivalent { (es : List EnvelopeData) (s t : L) → L.Validator.equivalent (L.view s) (L.kind.view_of es) →
         StandsFor L.kind L.view t es → L.eq s t ≡ true }
 {}
 

@@ -100,7 +100,7 @@ pub fn put_value<T: JsonValue>(
     ensures written { Gives (λ _. members_view map.new.entries) result
         (put_json T.writes name.now (T.plain value.now) (members_view map.old.entries)) }
     ensures back { AreReadBack (T.versions (T.plain value.now)) → OnOk result
-        ((d : Data) × ReadsBack T.reads T.same (T.plain value.now) d ×
+        ((d : Data) × ReadsBack T.reads T.equivalent (T.plain value.now) d ×
         (members_view map.new.entries ≡ put name.now d (members_view map.old.entries))) }
     ensures kept { OnErr result (members_view map.new.entries ≡ members_view map.old.entries) }
 {

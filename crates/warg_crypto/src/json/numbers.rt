@@ -27,7 +27,7 @@ impl JsonValue for u64 {
 
     ghost versions = { λ _. [] };
 
-    ghost same = { λ x y. x ≡ y };
+    ghost equivalent = { λ x y. x ≡ y };
 
     fn to_value(&self, _alloc: Global) -> Result<Value, JsonError> {
         Ok(Value::from(*self))
@@ -49,7 +49,7 @@ impl JsonValue for u32 {
 
     ghost versions = { λ _. [] };
 
-    ghost same = { λ x y. x ≡ y };
+    ghost equivalent = { λ x y. x ≡ y };
 
     fn to_value(&self, _alloc: Global) -> Result<Value, JsonError> {
         Ok(Value::from(*self))
@@ -75,7 +75,7 @@ impl JsonValue for usize {
 
     ghost versions = { λ _. [] };
 
-    ghost same = { λ x y. x ≡ y };
+    ghost equivalent = { λ x y. x ≡ y };
 
     fn to_value(&self, _alloc: Global) -> Result<Value, JsonError> {
         Ok(Value::from(*self))

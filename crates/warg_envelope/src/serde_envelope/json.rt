@@ -1,6 +1,6 @@
 //! JSON of envelopes that keep no bytes of their contents.
 
-ghost use Rattle.warg_envelope.specs.EnvelopeJson.{SameSigned, SignedContents, signed_in, signed_json};
+ghost use Rattle.warg_envelope.specs.EnvelopeJson.{AreEquivalentSigned, SignedContents, signed_in, signed_json};
 
 use crate::serde_envelope::SerdeEnvelope;
 use serde_json::{Map, Value};
@@ -20,7 +20,7 @@ impl<C: JsonValue + Drop> JsonValue for SerdeEnvelope<C> {
 
     ghost versions = { λ e. C.versions e.contents };
 
-    ghost same = { SameSigned C.same };
+    ghost equivalent = { AreEquivalentSigned C.equivalent };
 
     fn to_value(&self, alloc: Global) -> Result<Value, JsonError> {
         let mut map = Map::new(alloc);

@@ -51,7 +51,7 @@ impl JsonValue for Head {
 
     ghost versions = { λ _. [] };
 
-    ghost same = { λ g h. g ≡ h };
+    ghost equivalent = { λ g h. g ≡ h };
 
     fn to_value(&self, alloc: Global) -> Result<Value, JsonError> {
         let mut map = Map::new(alloc);

@@ -106,7 +106,7 @@ impl JsonValue for NamespaceState {
 
     ghost versions = { λ _. [] };
 
-    ghost same = { λ x y. x ≡ y };
+    ghost equivalent = { λ x y. x ≡ y };
 
     fn to_value(&self, alloc: Global) -> Result<Value, JsonError> {
         namespace_value(alloc, self)

@@ -226,7 +226,7 @@ impl JsonValue for LogState {
 
     ghost versions = { λ _. [] };
 
-    ghost same = { AreEqual };
+    ghost equivalent = { AreEqual };
 
     fn to_value(&self, alloc: Global) -> Result<Value, JsonError> {
         Ok(object_value(members_of(alloc, &self.log)?))

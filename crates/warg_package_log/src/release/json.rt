@@ -97,7 +97,7 @@ impl JsonValue for ReleaseState {
 
     ghost versions = { λ _. [] };
 
-    ghost same = { λ x y. x ≡ y };
+    ghost equivalent = { λ x y. x ≡ y };
 
     fn to_value(&self, alloc: Global) -> Result<Value, JsonError> {
         match self {
@@ -126,7 +126,7 @@ impl JsonValue for Release {
 
     ghost versions = { λ r. r.version ∷ [] };
 
-    ghost same = { λ x y. x ≡ y };
+    ghost equivalent = { λ x y. x ≡ y };
 
     fn to_value(&self, alloc: Global) -> Result<Value, JsonError> {
         let mut map = Map::new(alloc);

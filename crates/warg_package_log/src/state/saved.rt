@@ -227,7 +227,7 @@ impl JsonValue for LogState {
 
     ghost versions = { saved_versions };
 
-    ghost same = { AreEqual };
+    ghost equivalent = { AreEqual };
 
     fn to_value(&self, alloc: Global) -> Result<Value, JsonError> {
         Ok(object_value(members_of(alloc, &self.log)?))

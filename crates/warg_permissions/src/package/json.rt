@@ -23,7 +23,7 @@ impl JsonValue for Permission {
 
     ghost versions = { λ _. [] };
 
-    ghost same = { λ p q. p ≡ q };
+    ghost equivalent = { λ p q. p ≡ q };
 
     fn to_value(&self, alloc: Global) -> Result<Value, JsonError> {
         text_value(alloc, self.as_str())

@@ -21,7 +21,7 @@ impl JsonValue for RecordId {
 
     ghost versions = { λ _. [] };
 
-    ghost same = { λ x y. x ≡ y };
+    ghost equivalent = { λ x y. x ≡ y };
 
     fn to_value(&self, alloc: Global) -> Result<Value, JsonError> {
         AnyHash::from(*self).to_value(alloc)

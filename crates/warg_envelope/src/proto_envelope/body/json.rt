@@ -63,7 +63,7 @@ impl JsonValue for ProtoEnvelopeBody {
 
     ghost versions = { λ _. [] };
 
-    ghost same = { λ x y. x ≡ y };
+    ghost equivalent = { λ x y. x ≡ y };
 
     fn to_value(&self, alloc: Global) -> Result<Value, JsonError> {
         Ok(object_value(body_members(alloc, self)?))
@@ -92,7 +92,7 @@ impl JsonValue for PublishedProtoEnvelopeBody {
 
     ghost versions = { λ _. [] };
 
-    ghost same = { λ x y. x ≡ y };
+    ghost equivalent = { λ x y. x ≡ y };
 
     fn to_value(&self, alloc: Global) -> Result<Value, JsonError> {
         let mut map = body_members(alloc, &self.envelope)?;

@@ -9,4 +9,4 @@ pub returns-clause-states : goal.returns-clause-states
 returns-clause-states g c = λ b d es fs left right contents ids s t for_es for_fs.
     let laws = g.met.L.Validator in
     let one = for_es ∙ determined g.L.Validator.kind laws.laws b d es fs left right contents ids ∙ sym for_fs in
-    (laws.equals s t).1 (subst (λ v. g.L.Validator.same (g.L.Validator.view s) v) one (laws.same_self (g.L.Validator.view s)))
+    (laws.equals s t).1 (subst (λ v. g.L.Validator.equivalent (g.L.Validator.view s) v) one (laws.equivalent_self (g.L.Validator.view s)))

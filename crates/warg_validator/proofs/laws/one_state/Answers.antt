@@ -4,7 +4,7 @@ use Rattle.warg_validator.proofs.laws.one_state.Goals as goal
 pub returns-clause-same : goal.returns-clause-same
 returns-clause-same g c = λ es s t for_s for_t.
     let laws = g.met.L.Validator in
-    (laws.equals s t).1 (subst (λ v. g.L.Validator.same (g.L.Validator.view s) v) (for_s ∙ sym for_t) (laws.same_self (g.L.Validator.view s)))
+    (laws.equals s t).1 (subst (λ v. g.L.Validator.equivalent (g.L.Validator.view s) v) (for_s ∙ sym for_t) (laws.equivalent_self (g.L.Validator.view s)))
 
-pub returns-clause-alike : goal.returns-clause-alike
-returns-clause-alike g c = λ es s t alike for_t. (g.met.L.Validator.equals s t).1 (subst (λ v. g.L.Validator.same (g.L.Validator.view s) v) (sym for_t) alike)
+pub returns-clause-equivalent : goal.returns-clause-equivalent
+returns-clause-equivalent g c = λ es s t equivalent for_t. (g.met.L.Validator.equals s t).1 (subst (λ v. g.L.Validator.equivalent (g.L.Validator.view s) v) (sym for_t) equivalent)

@@ -24,7 +24,7 @@ returns-clause-back g c = λ own.
       key_id = c.args.self.now.key_id;
       signature = c.args.self.now.signature;
     } in
-    let read = signed_back g.C.JsonValue.reads g.C.JsonValue.same signed a.0 b.0 s.0 _
+    let read = signed_back g.C.JsonValue.reads g.C.JsonValue.equivalent signed a.0 b.0 s.0 _
     (record { again = a.1.again; is = a.1.is; equal = a.1.equal })
     (read_again key_id_in signed.key_id b.0 (record { again = b.1.again; is = b.1.is; equal = b.1.equal }))
     (read_again signature_in signed.signature s.0 (record { again = s.1.again; is = s.1.is; equal = s.1.equal }))

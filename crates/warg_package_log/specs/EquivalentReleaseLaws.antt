@@ -1,4 +1,4 @@
--- Releases that answer alike for every version go on alike.
+-- Equivalent lists of releases answer an entry alike, and are equivalent after it.
 use Rattle.std.proofs.Common.{◌≡◌, refl, sym, ap, ◌∙◌}
 use Rattle.std.specs.Prelude.{List, [], ◌∷◌, map, Bool, true, false, cond, is_none, Option, Some}
 use Rattle.std.specs.Option.{option_map, option_or}
@@ -8,7 +8,7 @@ use Rattle.warg_log.specs.Rules.{Event}
 use Rattle.warg_records.specs.PackageEntries.{VersionParts, PackageOwnEntry, Release, Yank}
 use Rattle.warg_package_log.specs.Versions.{same_parts}
 use Rattle.warg_package_log.specs.Releases.{ReleaseView, ReleaseOfReleased, turned, released, releases_after, find_parts, own_offence, unyankable}
-use Rattle.warg_package_log.specs.SameReleases.{AreAlike}
+use Rattle.warg_package_log.specs.SameReleases.{AreEquivalentReleases}
 
 found_turned : (b : Bool) (ys : List (Event PackageOwnEntry)) (r : ReleaseView) (o : Option ReleaseView)
     → cond b (Some (turned ys r)) (option_map (turned ys) o) ≡ option_map (turned ys) (cond b (Some r) o)
@@ -26,13 +26,14 @@ find-after : (rs : List ReleaseView) (es : List (Event PackageOwnEntry)) (v : Ve
     → find_parts (releases_after rs es) v ≡ option_or (option_map (turned es) (find_parts rs v)) (find_parts (released es) v)
 find-after rs es v = find-append (λ r. same_parts v r.version) (map (turned es) rs) (released es) ∙ ap (λ o. option_or o (find_parts (released es) v)) (find-turned es v rs)
 
--- releases that answer alike find the same wrong with a release or a yank
-pub alike_offence : (rs qs : List ReleaseView) → AreAlike rs qs → (o : PackageOwnEntry)
+-- equivalent lists find the same wrong with a release or a yank
+pub equivalent_releases_offence : (rs qs : List ReleaseView) → AreEquivalentReleases rs qs → (o : PackageOwnEntry)
     → own_offence rs o ≡ own_offence qs o
-alike_offence rs qs alike (Release v content) = ap (λ o. unless (is_none o) (ReleaseOfReleased v)) (alike v)
-alike_offence rs qs alike (Yank v) = ap (λ (o : Option ReleaseView). unyankable v (option_map (λ r. r.state) o)) (alike v)
+equivalent_releases_offence rs qs equivalent (Release v content) = ap (λ o. unless (is_none o) (ReleaseOfReleased v)) (equivalent v)
+equivalent_releases_offence rs qs equivalent (Yank v) = ap (λ (o : Option ReleaseView). unyankable v (option_map (λ r. r.state) o)) (equivalent v)
 
--- releases that answer alike still do after the same events
-pub alike_after : (rs qs : List ReleaseView) → AreAlike rs qs → (es : List (Event PackageOwnEntry))
-    → AreAlike (releases_after rs es) (releases_after qs es)
-alike_after rs qs alike es v = find-after rs es v ∙ ap (λ o. option_or (option_map (turned es) o) (find_parts (released es) v)) (alike v) ∙ sym (find-after qs es v)
+-- equivalent lists still are after the same events
+pub equivalent_releases_after : (rs qs : List ReleaseView) → AreEquivalentReleases rs qs
+    → (es : List (Event PackageOwnEntry))
+    → AreEquivalentReleases (releases_after rs es) (releases_after qs es)
+equivalent_releases_after rs qs equivalent es v = find-after rs es v ∙ ap (λ o. option_or (option_map (turned es) o) (find_parts (released es) v)) (equivalent v) ∙ sym (find-after qs es v)

@@ -25,18 +25,18 @@ option_self {A = A} E self o p is = ap (option_eq E o) is ∙ by o
     by (Some x) = self x
 
 -- maps that are found alike are the same
-pub maps_alike : {X : Type 0} (E : X → X → Bool) → ((x : X) → E x x ≡ true) → (es fs : List (List ℕ × X))
+pub equal_maps : {X : Type 0} (E : X → X → Bool) → ((x : X) → E x x ≡ true) → (es fs : List (List ℕ × X))
     → ((q : List ℕ) → lookup (bytes_eq q) fs ≡ lookup (bytes_eq q) es) → same_maps E es fs ≡ true
-maps_alike E self es fs at = maps_from_get bytes_eq E es fs (λ q. option_self E self (lookup (bytes_eq q) es) (lookup (bytes_eq q) fs) (at q))
+equal_maps E self es fs at = maps_from_get bytes_eq E es fs (λ q. option_self E self (lookup (bytes_eq q) es) (lookup (bytes_eq q) fs) (at q))
 
-pub states_alike : {P M : Type 0} {same : P → P → Bool} (equiv : IsEquivalence same) (own_states : M → M → Bool) (s t : State (Contents P) M)
+pub equal_states : {P M : Type 0} {same : P → P → Bool} (equiv : IsEquivalence same) (own_states : M → M → Bool) (s t : State (Contents P) M)
     → t.authority.algorithm ≡ s.authority.algorithm → t.head ≡ s.head
     → ((q : List ℕ) → lookup (bytes_eq q) t.authority.rights ≡ lookup (bytes_eq q) s.authority.rights)
     → ((q : List ℕ) → lookup (bytes_eq q) t.authority.keys ≡ lookup (bytes_eq q) s.authority.keys)
     → own_states s.own_state t.own_state ≡ true → same_states same own_states s t ≡ true
-states_alike {same = same} equiv own_states s t algorithm head rights keys own_state =
+equal_states {same = same} equiv own_states s t algorithm head rights keys own_state =
     both _ _
     (both _ _ (option_self same_algorithm (λ x. refl) s.authority.algorithm t.authority.algorithm algorithm)
-    (both _ _ (maps_alike (same_sets same) (sets_equiv equiv).refl s.authority.rights t.authority.rights rights)
-    (maps_alike same_tag same_tag_equiv.refl s.authority.keys t.authority.keys keys)))
+    (both _ _ (equal_maps (same_sets same) (sets_equiv equiv).refl s.authority.rights t.authority.rights rights)
+    (equal_maps same_tag same_tag_equiv.refl s.authority.keys t.authority.keys keys)))
     (both _ _ own_state (option_self same_head head_equiv.refl s.head t.head head))
