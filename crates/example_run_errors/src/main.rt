@@ -9,7 +9,7 @@ use warg_protocol::toy::ToyVerifier;
 use warg_protocol::{DecodeError, ParseEnvelopeError, RunCause, RunError, run};
 
 // Why the bytes are no envelope.
-fn told_fault(alloc: Global, fault: ParseEnvelopeError) -> Result<String, AllocError> {
+fn describe_fault(alloc: Global, fault: ParseEnvelopeError) -> Result<String, AllocError> {
     match fault {
         ParseEnvelopeError::ProtobufEnvelope(wire) => format!(in alloc;
             "its outer message: {wire}"
@@ -25,7 +25,7 @@ fn told_fault(alloc: Global, fault: ParseEnvelopeError) -> Result<String, AllocE
 }
 
 // Why the record can't come next. Each case has the fields that its text names.
-fn told_offence(alloc: Global, offence: &ValidationError) -> Result<String, AllocError> {
+fn describe_offence(alloc: Global, offence: &ValidationError) -> Result<String, AllocError> {
     match offence {
         ValidationError::SignatureError(SignatureError::Refused) => String::from_str(
             alloc,
@@ -38,20 +38,20 @@ fn told_offence(alloc: Global, offence: &ValidationError) -> Result<String, Allo
     }
 }
 
-fn told_cause(alloc: Global, cause: &RunCause<ValidationError>) -> Result<String, AllocError> {
+fn describe_cause(alloc: Global, cause: &RunCause<ValidationError>) -> Result<String, AllocError> {
     match cause {
-        RunCause::Parse(fault) => told_fault(alloc, *fault),
-        RunCause::Validation(offence) => told_offence(alloc, offence),
+        RunCause::Parse(fault) => describe_fault(alloc, *fault),
+        RunCause::Validation(offence) => describe_offence(alloc, offence),
     }
 }
 
-// What came of the log.
-fn told(alloc: Global, log: &[Vec<u8>]) -> Result<String, AllocError> {
+// The result for a whole log, as text.
+fn describe(alloc: Global, log: &[Vec<u8>]) -> Result<String, AllocError> {
     match run::<LogState, ToyVerifier>(alloc, &ToyVerifier, log) {
         Ok(state) => format!(in alloc; "lawful, with {} releases", state.releases().count()),
         Err(RunError { index, cause }) => format!(in alloc;
             "record {index}: {}",
-            told_cause(alloc, &cause)?
+            describe_cause(alloc, &cause)?
         ),
     }
 }
@@ -61,6 +61,6 @@ fn main(rt: HostRuntime) -> anyhow::Result<()> {
     for file in env::args(&rt)?.skip(1) {
         log.push(fs::read(&rt, file.as_str())?)?;
     }
-    println!(rt; "{}", told(rt.alloc(), log.as_slice())?)?;
+    println!(rt; "{}", describe(rt.alloc(), log.as_slice())?)?;
     Ok(())
 }

@@ -52,14 +52,14 @@ pub fn last_entry_decides<L: Validator>()
         held_by false (entries_of L.effects es) k p ≡ holds L.effects es k p }
 {}
 
-/// Comparisons of heads are equal exactly where they are one.
+/// `==` of two comparisons is true exactly where they are identical.
 pub fn are_same_comparisons(a: HeadComparison, b: HeadComparison) -> bool
     ensures { IsTrue result ↔ (a ≡ b) }
 {
     a == b
 }
 
-/// Places of entries are equal exactly where they are one.
+/// `==` of two places of entries is true exactly where they are identical.
 pub fn are_same_links(a: Link, b: Link) -> bool
     ensures { IsTrue result ↔ (a ≡ b) }
 {

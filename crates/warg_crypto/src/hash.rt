@@ -92,10 +92,10 @@ pub enum AnyHashError {
     /// What stands before the first colon names no known algorithm.
     #[error("UnknownAlgorithm")]
     UnknownAlgorithm,
-    /// What stands behind it are not pairs of hex digits.
+    /// What stands after the first colon is not made of pairs of hex digits.
     #[error("BadHex")]
     BadHex,
-    /// They are not 64.
+    /// What stands after the first colon has not 64 hex digits.
     #[error("BadLength")]
     BadLength,
 }

@@ -38,13 +38,13 @@ pub fn gives_what_is_held<M: LogKind>()
         (effects_of M.rules M.Permission.eq read) }
 {}
 
-/// Logs are equal exactly if their views are equivalent: if all their answers are equal.
+/// Logs are equal exactly if their views are equivalent.
 pub fn equal_logs_are_equivalent<M: LogKind>()
     ensures { (s t : State (Contents M.Permission) M) → (same_states M.Permission.eq M.eq s t ≡ true) ↔
         IsEquivalent M.equivalent (view_of_state M.Permission.eq M.view s) (view_of_state M.Permission.eq M.view t) }
 {}
 
-/// Heads are equal exactly if they are one.
+/// `==` of two heads is true exactly where they are identical.
 pub fn equal_heads()
     ensures { (a b : Head) → (⟦<Head as PartialEq>⟧.eq a b ≡ true) ↔ (a ≡ b) }
 {}

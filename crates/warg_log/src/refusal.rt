@@ -20,7 +20,7 @@ pub enum Refusal<P> {
     },
     /// An Init stands already.
     InitialEntryAfterBeginning,
-    /// The signer lacks a permission that the entry asks or hands on.
+    /// The signer lacks a permission that the entry requires, grants or revokes.
     UnauthorizedAction {
         /// The id of the signer's key.
         key_id: KeyID,
@@ -36,7 +36,7 @@ pub enum Refusal<P> {
     },
     /// The signature is not the signer's.
     SignatureError(SignatureError),
-    /// The record names its predecessor by another algorithm. Never answered: there is one algorithm.
+    /// The record names its predecessor by another algorithm. Never returned: there is only one algorithm.
     IncorrectHashAlgorithm {
         /// The record's algorithm.
         found: HashAlgorithm,

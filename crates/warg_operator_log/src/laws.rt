@@ -81,8 +81,8 @@ pub fn offences_are_possible()
         IfSome (record_offence b v e) IsPossible }
 {}
 
-/// Heads are equal exactly if they are one, namespaces exactly if their texts are, and states exactly if
-/// their views are equivalent: all their answers are equal.
+/// When `==` is true: of heads exactly where they are identical, of namespaces exactly where their texts are, and of
+/// states exactly where their views are equivalent.
 pub fn equality()
     ensures heads { (a b : Head) → (⟦<Head as PartialEq>⟧.eq a b ≡ true) ↔ (a ≡ b) }
     ensures namespaces { (a b : NamespaceState) → (⟦<crate::namespace::NamespaceState as PartialEq>⟧.eq a b ≡ true) ↔

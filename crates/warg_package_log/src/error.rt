@@ -27,7 +27,7 @@ pub enum ValidationError {
     /// A second init.
     #[error("a second \"init\" entry was found")]
     InitialEntryAfterBeginning,
-    /// The signer lacks a permission that the entry asks or hands on.
+    /// The signer lacks a permission that the entry requires, grants or revokes.
     #[error("the key with ID {key_id} did not have required permission {needed_permission}")]
     UnauthorizedAction {
         /// The id of the signer's key.
@@ -46,7 +46,7 @@ pub enum ValidationError {
     /// The signature is not the signer's. The case of being out of memory is never held here.
     #[error("unable to verify signature")]
     SignatureError(SignatureError),
-    /// The record before is named by another algorithm. Never answered, since there is one algorithm.
+    /// The record before is named by another algorithm. Never returned: there is only one algorithm.
     #[error("record hash uses {found} algorithm but {expected} was expected")]
     IncorrectHashAlgorithm {
         /// The record's algorithm.
@@ -78,7 +78,7 @@ pub enum ValidationError {
         /// The id of the key that it names.
         key_id: KeyID,
     },
-    /// The version is released already, be it yanked since.
+    /// The version was released before, even if it has been yanked since.
     #[error("an entry attempted to release version {version} which is already released")]
     ReleaseOfReleased {
         /// The version.

@@ -89,9 +89,8 @@ pub fn offences_are_possible()
         IfSome (record_offence b v e) IsPossible }
 {}
 
-/// Heads, and what became of releases, are equal exactly if they are one, releases exactly if their fields
-/// are, a version by its numbers and texts, and states exactly if their views are equivalent: all their answers are
-/// equal.
+/// When `==` is true: of heads, and of what became of releases, exactly where they are identical; of releases exactly
+/// where their fields are, a version by its numbers and texts; of states exactly where their views are equivalent.
 pub fn equality()
     ensures heads { (a b : Head) → (⟦<Head as PartialEq>⟧.eq a b ≡ true) ↔ (a ≡ b) }
     ensures release_states { (a b : ReleaseState) → (⟦<crate::release::ReleaseState as PartialEq>⟧.eq a b ≡ true) ↔

@@ -49,7 +49,7 @@ pub fn determination<L: Validator>()
         (s t : L) → StandsFor L.kind L.view s es → StandsFor L.kind L.view t fs → L.eq s t ≡ true }
 {}
 
-/// States that stand for one log are equal, also where one only answers as such a state does.
+/// States that stand for one log are equal, also where the view of one is only equivalent to that of such a state.
 pub fn one_state<L: Validator>()
     ensures same { (es : List EnvelopeData) (s t : L) → StandsFor L.kind L.view s es →
         StandsFor L.kind L.view t es → L.eq s t ≡ true }
@@ -97,8 +97,8 @@ pub fn two_verifiers<L: Validator>()
         IsAccepted L.kind (either d b) (es ++ read_all (envelope_of L.Record.read) ss) }
 {}
 
-/// Effects are equal exactly if they are one, refusals exactly if their places and causes are equal, and
-/// causes exactly if both are faults of reading or both refusals of a record, and these are equal.
+/// When `==` is true: of effects exactly where they are identical; of refusals exactly where their places and causes
+/// are equal; of causes exactly where both are faults of reading or both refusals of a record, and these are equal.
 pub fn equality<E: PartialEq>()
     ensures effects { (a b : Effect) → (⟦<Effect as PartialEq>⟧.eq a b ≡ true) ↔ (a ≡ b) }
     ensures causes { (a b : RunCause E) → ⟦<RunCause<E> as PartialEq>⟧.eq a b

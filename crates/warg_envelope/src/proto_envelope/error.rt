@@ -20,10 +20,10 @@ pub enum ParseEnvelopeError {
     /// The content bytes are no record.
     #[error("failed to parse envelope contents from bytes")]
     Contents(DecodeError),
-    /// Never answered, since any text is a key id.
+    /// Never returned: every text is a key id.
     #[error("failed to parse envelope key id")]
     KeyID(AnyHashError),
-    /// The signature's text is none.
+    /// The signature's text can't be read.
     #[error("failed to parse envelope signature")]
     Signature(SignatureParseError),
     /// There was no memory for the envelope.
