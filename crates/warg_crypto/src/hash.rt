@@ -164,12 +164,15 @@ impl fmt::Display for AnyHash {
 }
 
 impl fmt::Debug for AnyHash {
+    ghost use Rattle.std.specs.Fmt.{WritesStyledOnOk};
     ghost use Rattle.std.specs.Prelude.{Some};
     ghost use Rattle.warg_crypto.specs.HashText.{hash_text};
 
     ghost debug_output = { λ h. Some (hash_text h) };
 
-    fn fmt<W: fmt::Write>(&self, f: &mut fmt::Formatter<W>) -> fmt::Result {
+    fn fmt<W: fmt::Write>(&self, f: &mut fmt::Formatter<W>) -> fmt::Result
+        ensures styled { WritesStyledOnOk W.write_str_gives f.old result (hash_text self.now) f.new }
+    {
         fmt::Display::fmt(self, f)
     }
 }

@@ -22,6 +22,10 @@ impl<BV> Drop for PrefixEncodeVisitor<'_, BV> {
 }
 
 impl<BV> fmt::Debug for PrefixEncodeVisitor<'_, BV> {
+    ghost use Rattle.std.specs.Prelude.{Some, codes};
+
+    ghost debug_output = { λ _. Some (codes "PrefixEncodeVisitor") };
+
     fn fmt<W: fmt::Write>(&self, f: &mut fmt::Formatter<W>) -> fmt::Result {
         f.write_str("PrefixEncodeVisitor")
     }

@@ -34,7 +34,7 @@ pub trait LogPermission: Copy + Eq + Hash {
     // The text that names a permission.
     ghost text_of: { Self → List ℕ };
 
-    /// All permissions of the kind: what the signer of an Init gets.
+    /// All permissions of the kind, in any order: what the signer of an Init gets.
     fn all(alloc: Global) -> Result<Vec<Self>, AllocError>
         ensures { IfOk result (λ ps. (p : Self) → lists Self.eq ps.items p ≡ true) };
 

@@ -90,9 +90,13 @@ impl fmt::Display for RecordId {
 }
 
 impl fmt::Debug for RecordId {
+    ghost use Rattle.std.specs.Fmt.{WritesStyledOnOk};
+
     ghost debug_output = { λ id. Some (hash_text id.hash) };
 
-    fn fmt<W: fmt::Write>(&self, f: &mut fmt::Formatter<W>) -> fmt::Result {
+    fn fmt<W: fmt::Write>(&self, f: &mut fmt::Formatter<W>) -> fmt::Result
+        ensures styled { WritesStyledOnOk W.write_str_gives f.old result (hash_text self.now.hash) f.new }
+    {
         fmt::Display::fmt(self, f)
     }
 }

@@ -84,7 +84,7 @@ impl MemberTexts {
         self.put(name, text)
     }
 
-    /// Puts the JSON of a value as a member, and nothing where there is none.
+    /// Puts the JSON of a value as a member, and nothing where there is none. After an error the texts are of no use.
     pub fn put_optional<T: JsonValue>(
         &mut self,
         name: &str,
@@ -100,7 +100,7 @@ impl MemberTexts {
         self.put_value(String::from_str(self.alloc, name)?, &json)
     }
 
-    /// Puts the map as a member, unless it is empty.
+    /// Puts the map as a member, unless it is empty. After an error the texts are of no use.
     pub fn put_map<K: SavedName, V: SavedValue>(
         &mut self,
         name: &str,
@@ -116,7 +116,7 @@ impl MemberTexts {
         self.put(String::from_str(self.alloc, name)?, text)
     }
 
-    /// Puts the keys, unless there are none.
+    /// Puts the keys, unless there are none. After an error the texts are of no use.
     pub fn put_keys(&mut self, keys: &IndexMap<KeyID, PublicKey>) -> Result<(), JsonError>
         ensures { PutsText (put_pairs text_name key_json (codes "keys") keys.now.entries) result self.old self.new }
     {

@@ -53,6 +53,10 @@ impl Sha256Visitor {
 }
 
 impl fmt::Debug for Sha256Visitor {
+    ghost use Rattle.std.specs.Prelude.{codes};
+
+    ghost debug_output = { λ _. Some (codes "Sha256Visitor") };
+
     fn fmt<W: fmt::Write>(&self, f: &mut fmt::Formatter<W>) -> fmt::Result {
         f.write_str("Sha256Visitor")
     }
@@ -128,9 +132,14 @@ impl<D: SupportedDigest> fmt::Display for Hash<D> {
 }
 
 impl<D: SupportedDigest> fmt::Debug for Hash<D> {
+    ghost use Rattle.std.specs.Fmt.{WritesStyledOnOk};
+
     ghost debug_output = { λ h. Some (hash_text (record { algorithm = D.ALGORITHM; bytes = h.bytes })) };
 
-    fn fmt<W: fmt::Write>(&self, f: &mut fmt::Formatter<W>) -> fmt::Result {
+    fn fmt<W: fmt::Write>(&self, f: &mut fmt::Formatter<W>) -> fmt::Result
+        ensures styled { WritesStyledOnOk W.write_str_gives f.old result
+            (hash_text (record { algorithm = D.ALGORITHM; bytes = self.now.bytes })) f.new }
+    {
         fmt::Display::fmt(self, f)
     }
 }

@@ -93,9 +93,13 @@ impl fmt::Display for KeyID {
 }
 
 impl fmt::Debug for KeyID {
+    ghost use Rattle.std.specs.Fmt.{WritesStyledOnOk};
+
     ghost debug_output = { λ k. Some k };
 
-    fn fmt<W: fmt::Write>(&self, f: &mut fmt::Formatter<W>) -> fmt::Result {
+    fn fmt<W: fmt::Write>(&self, f: &mut fmt::Formatter<W>) -> fmt::Result
+        ensures styled { WritesStyledOnOk W.write_str_gives f.old result self.now f.new }
+    {
         fmt::Display::fmt(self, f)
     }
 }
@@ -265,9 +269,13 @@ impl fmt::Display for PublicKey {
 }
 
 impl fmt::Debug for PublicKey {
+    ghost use Rattle.std.specs.Fmt.{WritesStyledOnOk};
+
     ghost debug_output = { λ k. Some (tag_text k) };
 
-    fn fmt<W: fmt::Write>(&self, f: &mut fmt::Formatter<W>) -> fmt::Result {
+    fn fmt<W: fmt::Write>(&self, f: &mut fmt::Formatter<W>) -> fmt::Result
+        ensures styled { WritesStyledOnOk W.write_str_gives f.old result (tag_text self.now) f.new }
+    {
         fmt::Display::fmt(self, f)
     }
 }

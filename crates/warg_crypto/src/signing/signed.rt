@@ -92,9 +92,13 @@ impl fmt::Display for Signature {
 }
 
 impl fmt::Debug for Signature {
+    ghost use Rattle.std.specs.Fmt.{WritesStyledOnOk};
+
     ghost debug_output = { λ k. Some (tag_text k) };
 
-    fn fmt<W: fmt::Write>(&self, f: &mut fmt::Formatter<W>) -> fmt::Result {
+    fn fmt<W: fmt::Write>(&self, f: &mut fmt::Formatter<W>) -> fmt::Result
+        ensures styled { WritesStyledOnOk W.write_str_gives f.old result (tag_text self.now) f.new }
+    {
         fmt::Display::fmt(self, f)
     }
 }

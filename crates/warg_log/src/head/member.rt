@@ -32,7 +32,7 @@ pub fn put_head(
     put_value(members, alloc, "head", head)
 }
 
-/// Puts the head as text, if there is one.
+/// Puts the head as text, if there is one. After an error the texts are of no use.
 pub fn put_head_text(members: &mut MemberTexts, head: &Option<Head>) -> Result<(), JsonError>
     ensures { PutsText (put_option head_json (codes "head") head.now) result members.old members.new }
 {
