@@ -20,38 +20,38 @@ use Rattle.warg_audit.proofs.StringLemmas as spelled
 
 -- the first offence of strings is what the search from the front finds
 abbrev pub IsSearched : {Meaning Fault View Offence : Type 0} → Shown Meaning Fault View Offence → Type 0
-IsSearched {Meaning} {Fault} {View} {Offence} log = (belief : SignatureRelation) (strings : List (List ℕ)) (found : Option (ℕ × Cause (EnvelopeFault Fault) Offence))
-    → IsFoundBy log.kind belief (envelope_of log.read) log.kind.view_of strings found ↔ (first_offence_from log.kind belief (envelope_of log.read) log.kind.start strings ≡ found)
+IsSearched {Meaning} {Fault} {View} {Offence} log = (belongs : SignatureRelation) (strings : List (List ℕ)) (found : Option (ℕ × Cause (EnvelopeFault Fault) Offence))
+    → IsFoundBy log.kind belongs (envelope_of log.read) log.kind.view_of strings found ↔ (first_offence_from log.kind belongs (envelope_of log.read) log.kind.start strings ≡ found)
 
-module _ {Meaning Fault View Offence : Type 0} (log : Shown Meaning Fault View Offence) (searched : IsSearched log) (belief : SignatureRelation) where
+module _ {Meaning Fault View Offence : Type 0} (log : Shown Meaning Fault View Offence) (searched : IsSearched log) (belongs : SignatureRelation) where
   found_is : (strings : List (List ℕ)) (found : Option (ℕ × Cause (EnvelopeFault Fault) Offence))
-      → IsFoundBy log.kind belief (envelope_of log.read) log.kind.view_of strings found → IsLogAnswer log belief strings (found_answer log belief strings found)
+      → IsFoundBy log.kind belongs (envelope_of log.read) log.kind.view_of strings found → IsLogAnswer log belongs strings (found_answer log belongs strings found)
   found_is strings None none = all_lawful none refl
   found_is strings (Some p) first = first_refused p.0 p.1 first refl
 
-  log_is : (strings : List (List ℕ)) → IsLogAnswer log belief strings (log_answer log belief strings)
+  log_is : (strings : List (List ℕ)) → IsLogAnswer log belongs strings (log_answer log belongs strings)
   log_is strings =
-      let found = first_offence_from log.kind belief (envelope_of log.read) log.kind.start strings in
-      found_is strings found ((searched belief strings found).1 refl)
+      let found = first_offence_from log.kind belongs (envelope_of log.read) log.kind.start strings in
+      found_is strings found ((searched belongs strings found).1 refl)
 
-  log_only : (strings : List (List ℕ)) (printed : Printed) → IsLogAnswer log belief strings printed → printed ≡ log_answer log belief strings
+  log_only : (strings : List (List ℕ)) (printed : Printed) → IsLogAnswer log belongs strings printed → printed ≡ log_answer log belongs strings
   log_only strings printed (all_lawful none e) =
-      e ∙ ap (found_answer log belief strings) (sym ((searched belief strings None).0 none))
+      e ∙ ap (found_answer log belongs strings) (sym ((searched belongs strings None).0 none))
   log_only strings printed (first_refused index cause first e) =
-      e ∙ ap (found_answer log belief strings) (sym ((searched belief strings (Some (index, cause))).0 first))
+      e ∙ ap (found_answer log belongs strings) (sym ((searched belongs strings (Some (index, cause))).0 first))
 
-  spelled_is : (lines : List (List ℕ)) (strings : Result (List (List ℕ)) LineError) → strings_of lines ≡ strings → IsAuditAnswer log belief lines (spelled_answer log belief strings)
+  spelled_is : (lines : List (List ℕ)) (strings : Result (List (List ℕ)) LineError) → strings_of lines ≡ strings → IsAuditAnswer log belongs lines (spelled_answer log belongs strings)
   spelled_is lines (Ok strings) e = all_spelled strings (spelled.spell_from 0 lines strings e) (log_is strings)
   spelled_is lines (Err (Bad index)) e = first_bad index (spelled.first_bad lines index e) refl
   spelled_is lines (Err OutOfMemory) e = absurd (spelled.memory_never lines e)
 
-  pub audit_is : (lines : List (List ℕ)) → IsAuditAnswer log belief lines (audit_answer log belief lines)
+  pub audit_is : (lines : List (List ℕ)) → IsAuditAnswer log belongs lines (audit_answer log belongs lines)
   audit_is lines = spelled_is lines (strings_of lines) refl
 
-  pub audit_only : (lines : List (List ℕ)) (printed : Printed) → IsAuditAnswer log belief lines printed → printed ≡ audit_answer log belief lines
-  audit_only lines printed (first_bad index bad e) = e ∙ ap (spelled_answer log belief) (sym (spelled.from_first_bad lines index bad))
+  pub audit_only : (lines : List (List ℕ)) (printed : Printed) → IsAuditAnswer log belongs lines printed → printed ≡ audit_answer log belongs lines
+  audit_only lines printed (first_bad index bad e) = e ∙ ap (spelled_answer log belongs) (sym (spelled.from_first_bad lines index bad))
   audit_only lines printed (all_spelled strings spell is) =
-      log_only strings printed is ∙ ap (spelled_answer log belief) (sym (spelled.from_spell 0 lines strings spell))
+      log_only strings printed is ∙ ap (spelled_answer log belongs) (sym (spelled.from_spell 0 lines strings spell))
 
 module _ (of_package : IsSearched package_log) (of_operator : IsSearched operator_log) where
   pub log_type_is : (log_type : LogType) (lines : List (List ℕ)) → IsLogTypeAnswer log_type lines (log_type_answer log_type lines)

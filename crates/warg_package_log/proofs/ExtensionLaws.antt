@@ -11,12 +11,12 @@ use Rattle.warg_log.specs.Rules.{Event}
 use Rattle.warg_log.proofs.SignedEntryLaws.{latest-one}
 use Rattle.warg_package_log.specs.Versions.{same_parts}
 use Rattle.warg_package_log.specs.Releases.{ReleaseView, yanks, turned, released, releases_after, find_parts, own_offence, unyankable, is_yanked, versions}
-use Rattle.warg_package_log.specs.Catalog.{AreDistinct}
+use Rattle.warg_package_log.specs.ReleaseMap.{AreDistinct}
 use Rattle.warg_package_log.specs.Extensions.{IsKeptState, IsKept, IsExtension}
 use Rattle.warg_package_log.specs.ListedReleases.{own_after, own_wrong}
 use Rattle.warg_package_log.specs.ListedReleaseLaws.{unless_none}
 use Rattle.warg_package_log.specs.SameReleaseLaws.{exact_parts}
-use Rattle.warg_package_log.proofs.CatalogLemmas.{distinct-release}
+use Rattle.warg_package_log.proofs.ReleaseMapLemmas.{distinct-release}
 use Rattle.warg_package_log.specs.declared.release.ReleaseState.{ReleaseState}
 use Rattle.warg_package_log.specs.declared.release.ReleaseState.TheVariants.{Released, Yanked}
 

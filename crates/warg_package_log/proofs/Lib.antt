@@ -1,5 +1,5 @@
 pub mod AcceptedLaws
-pub mod CatalogLemmas
+pub mod ReleaseMapLemmas
 pub mod PutLaws
 pub mod ExtensionLaws
 pub mod Greatest

@@ -8,13 +8,13 @@ use Rattle.warg_crypto.specs.Pairs.{plain_pairs}
 use Rattle.warg_records.specs.PackageEntries.{VersionParts}
 use Rattle.warg_crypto.specs.declared.json.error.Incoherence.{Incoherence}
 use Rattle.warg_saved.specs.Fit.{case_if}
-use Rattle.warg_package_log.specs.Catalog.{AreDistinct, IsCatalog, IsUnderVersions, release_view, views}
+use Rattle.warg_package_log.specs.ReleaseMap.{AreDistinct, IsReleaseMap, IsUnderVersions, release_view, views}
 use Rattle.warg_package_log.specs.Releases.{versions}
 use Rattle.warg_package_log.specs.SameReleaseLaws.{exact_parts}
 use Rattle.warg_package_log.specs.SavedState.{is_misfiled, named_releases, releases_case}
 use Rattle.warg_package_log.specs.Versions.{same_parts, same_version}
 use Rattle.warg_package_log.specs.declared.release.Release.{Release}
-use Rattle.warg_package_log.proofs.CatalogLemmas.{map_map}
+use Rattle.warg_package_log.proofs.ReleaseMapLemmas.{map_map}
 
 -- each release of the map is named by its own version
 pub named-pairs : (es : List (Version × Release)) → IsUnderVersions es → plain_pairs parts_of release_view es ≡ named_releases (views es)
@@ -57,8 +57,8 @@ distinct_versions (e ∷ es) all h =
     own : (a b : VersionParts) → a ≡ b → AllByRecursion (λ w. same_parts a w ≡ false) (versions (views es)) → AllByRecursion (λ w. same_parts b w ≡ false) (versions (views es))
     own a b is all = subst (λ (v : VersionParts). AllByRecursion (λ w. same_parts v w ≡ false) (versions (views es))) is all
 
--- a map whose releases stand under their versions is a catalog
-pub restored-catalog : (es : List (Version × Release)) → IsDistinct same_version (keys_of es) → releases_case (plain_pairs parts_of release_view es) ≡ None → IsCatalog es
-restored-catalog es distinct h =
+-- a map whose releases stand under their versions, as a state has it
+pub restored-release_map : (es : List (Version × Release)) → IsDistinct same_version (keys_of es) → releases_case (plain_pairs parts_of release_view es) ≡ None → IsReleaseMap es
+restored-release_map es distinct h =
     let under = filed es (no_case _ _ h) in
     record { under = under; distinct = distinct_versions es under distinct }

@@ -1,5 +1,5 @@
 pub mod EquivalentReleaseLaws
-pub mod Catalog
+pub mod ReleaseMap
 pub mod ErrorLaws
 pub mod Extensions
 pub mod Latest

@@ -20,7 +20,7 @@ use Rattle.warg_log.specs.Records.{same_id}
 use Rattle.warg_crypto.specs.declared.hash.AnyHash.{AnyHash}
 use Rattle.warg_crypto.specs.Times.{Time}
 use Rattle.warg_records.specs.PackageEntries.{VersionParts}
-use Rattle.warg_package_log.specs.Catalog.{release_view}
+use Rattle.warg_package_log.specs.ReleaseMap.{release_view}
 use Rattle.warg_package_log.specs.Versions.{same_parts}
 use Rattle.warg_package_log.specs.Releases.{ReleaseView, find_parts, versions}
 use Rattle.warg_package_log.specs.SameReleases.{same_hash, same_state, same_release, same_at, same_releases, AreEquivalentReleases}

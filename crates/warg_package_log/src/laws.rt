@@ -16,7 +16,7 @@ ghost use Rattle.warg_log.specs.States.{State};
 ghost use Rattle.std.specs.Prelude.{Option};
 ghost use Rattle.warg_log.specs.Records.{version_offence};
 ghost use Rattle.warg_log.specs.declared.head.Head.{Head};
-ghost use Rattle.warg_package_log.specs.Catalog.{AreDistinct, release_view};
+ghost use Rattle.warg_package_log.specs.ReleaseMap.{AreDistinct, release_view};
 ghost use Rattle.warg_package_log.specs.Extensions.{IsExtension};
 ghost use Rattle.warg_package_log.specs.Releases.{versions, ReleaseView, record_id_of};
 ghost use Rattle.warg_package_log.specs.State.{offence_of, view_of, View, record_offence};

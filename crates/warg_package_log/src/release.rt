@@ -104,7 +104,7 @@ pub struct Release {
 
 impl Release {
     ghost use Rattle.warg_package_log.specs.Releases.{is_yanked, content_of};
-    ghost use Rattle.warg_package_log.specs.Catalog.{release_view};
+    ghost use Rattle.warg_package_log.specs.ReleaseMap.{release_view};
 
     /// Whether the release was yanked.
     pub fn yanked(&self) -> bool
@@ -151,7 +151,7 @@ impl Release {
 }
 
 impl Clone for Release {
-    ghost use Rattle.warg_package_log.specs.Catalog.{release_view};
+    ghost use Rattle.warg_package_log.specs.ReleaseMap.{release_view};
 
     ghost is_clone = { λ a b. release_view b ≡ release_view a };
 
@@ -161,7 +161,7 @@ impl Clone for Release {
 }
 
 impl PartialEq for Release {
-    ghost use Rattle.warg_package_log.specs.Catalog.{release_view};
+    ghost use Rattle.warg_package_log.specs.ReleaseMap.{release_view};
     ghost use Rattle.warg_package_log.specs.SameReleases.{same_release};
     ghost use Rattle.warg_package_log.specs.SameReleaseLaws.{shown_equiv};
 

@@ -18,7 +18,7 @@ pub struct Releases<'a> {
 impl<'a> Model for Releases<'a> {
     ghost use Rattle.std.specs.Prelude.{List, map};
     ghost use Rattle.warg_package_log.specs.Releases.{ReleaseView};
-    ghost use Rattle.warg_package_log.specs.Catalog.{release_view};
+    ghost use Rattle.warg_package_log.specs.ReleaseMap.{release_view};
 
     ghost Value = { List ReleaseView };
 
@@ -31,7 +31,7 @@ impl<'a> Iterator for Releases<'a> {
     ghost use Rattle.std.specs.Prelude.{length, Some};
     ghost use Rattle.std.specs.Iterator.{at_most};
     ghost use Rattle.std.specs.Map.Iter.{TakesFirst};
-    ghost use Rattle.warg_package_log.specs.Catalog.{release_view};
+    ghost use Rattle.warg_package_log.specs.ReleaseMap.{release_view};
 
     ghost next_gives = { TakesFirst (λ r. release_view r.now) };
 
@@ -51,7 +51,7 @@ impl<'a> Iterator for Releases<'a> {
 
 impl<'a> DoubleEndedIterator for Releases<'a> {
     ghost use Rattle.std.specs.Map.Iter.{TakesLast};
-    ghost use Rattle.warg_package_log.specs.Catalog.{release_view};
+    ghost use Rattle.warg_package_log.specs.ReleaseMap.{release_view};
 
     ghost next_back_gives = { TakesLast (λ r. release_view r.now) };
 

@@ -1,6 +1,7 @@
 -- Operator logs: what a state stands for, what its look-ups answer, and what a log's history says.
 -- the rules, and what content bytes are as a record
-pub use Rattle.warg_operator_log.specs.StateLaws.{kind, effects}
+pub use Rattle.warg_operator_log.specs.StateLaws.{kind, effects, AreEquivalent}
+pub use Rattle.warg_operator_log.specs.Namespaces.{rules}
 pub use Rattle.warg_records.specs.OperatorReading.{operator_record_of}
 pub use Rattle.warg_records.specs.OperatorEntries.{OperatorOwnEntry, entry_data, record_data}
 -- what a state stands for: `(view_of s).whole.authority.holds`, `.key`, `(view_of s).whole.own_state`, `(view_of s).head`

@@ -1,6 +1,7 @@
 -- Package logs: what a state stands for, what its look-ups answer, and what a log's history says.
 -- the rules, and what content bytes are as a record
-pub use Rattle.warg_package_log.specs.StateLaws.{kind, effects}
+pub use Rattle.warg_package_log.specs.StateLaws.{kind, effects, AreEquivalent}
+pub use Rattle.warg_package_log.specs.Releases.{rules}
 pub use Rattle.warg_records.specs.PackageReading.{package_record_of}
 pub use Rattle.warg_records.specs.PackageEntries.{PackageOwnEntry, entry_data, record_data}
 -- what a state stands for: `(view_of s).whole.authority.holds`, `.key`, `.has_entry`, `(view_of s).whole.own_state`, `(view_of s).head`
@@ -13,7 +14,7 @@ pub use Rattle.warg_package_log.specs.OffenceNames.{offence_name}
 -- the releases that a state shows
 pub use Rattle.warg_package_log.specs.declared.release.ReleaseState.{ReleaseState}
 pub use Rattle.warg_package_log.specs.Releases.{ReleaseView, versions, is_yanked, content_of}
-pub use Rattle.warg_package_log.specs.Catalog.{release_view, find_in, AreDistinct}
+pub use Rattle.warg_package_log.specs.ReleaseMap.{release_view, find_in, AreDistinct}
 pub use Rattle.warg_package_log.specs.Latest.{IsGreatest, shows_candidate, shown_cmp}
 -- what the history of a log says
 pub use Rattle.warg_package_log.specs.StateHistory.{TellsHistory, records_of, history, releases_of}

@@ -1,11 +1,12 @@
 //! A program over package logs, whose contracts cite what `warg_protocol` re-exports, and the view of a JSON value.
-ghost use Rattle.std.specs.Prelude.{◌≡◌, IfOk, map};
+ghost use Rattle.std.specs.Prelude.{◌≡◌, IfOk, map, List, All};
 ghost use Rattle.std.specs.Option.{option_map, option_copied};
 ghost use Rattle.std.specs.Vec.{vec_items};
 ghost use Rattle.serde_json.specs.View.{view};
 ghost use Rattle.warg_protocol.specs.Json.{Gives};
-ghost use Rattle.warg_protocol.specs.Logs.{IsAccepted, envelope_of, read_all};
-ghost use Rattle.warg_protocol.specs.Package.{TellsHistory, kind, package_record_of, view_of, state_json, state_in};
+ghost use Rattle.warg_protocol.specs.Logs.{IsAccepted, IsCoherent, EnvelopeData, NoKeyBringsItselfIn, SignatureRelation, envelope_of, read_all};
+ghost use Rattle.warg_protocol.specs.Package.{TellsHistory, kind, package_record_of, records_of, view_of, state_json, state_in};
+ghost use Rattle.warg_protocol.specs.Package.{rules, same_permission};
 ghost use Rattle.warg_protocol.specs.Package.{IsGreatest, shows_candidate, shown_cmp, release_view};
 
 use serde_json::Value;
@@ -30,6 +31,21 @@ fn audited<V: Verifier>(
 {
     laws::package::states_tell_history();
     run(alloc, verifier, strings)
+}
+
+/// In a log of version 1 each signer was let in by an entry before.
+fn newcomers_are_let_in()
+    ensures { (b : SignatureRelation) (log : List EnvelopeData) → IsAccepted kind b log →
+        All (λ r. r.contents.version ≡ 1) (records_of log) → NoKeyBringsItselfIn (records_of log) }
+{
+    laws::package::no_key_brings_itself_in();
+}
+
+/// Whether the log has a record.
+fn has_begun(state: &LogState) -> bool
+    ensures { IsCoherent rules same_permission (view_of state.now) }
+{
+    state.head().is_some()
 }
 
 /// Whether the key may release.
@@ -94,6 +110,8 @@ fn comes_back(alloc: Global, state: &LogState) -> Result<bool, Fail> {
 }
 
 fn asks(rt: &impl Abort, alloc: Global, state: &LogState) -> Result<(), Fail> {
+    newcomers_are_let_in();
+    assert!(rt; has_begun(state));
     assert!(rt; may_release_in(alloc, state, "bob")?);
     assert!(rt; !may_release_in(alloc, state, "mallory")?);
     assert_eq!(rt; best(alloc, state, "^1")?.as_str(), "1.1.0");

@@ -4,7 +4,7 @@ ghost use Rattle.std.specs.Prelude.{◌≡◌, [], ◌∷◌, codes, Ok, IfOk};
 ghost use Rattle.semver.specs.Identifiers.{parts_of};
 ghost use Rattle.serde_json.specs.View.{members_view, view};
 ghost use Rattle.warg_crypto.specs.Json.{AreReadBack, Gives, wrote};
-ghost use Rattle.warg_package_log.specs.Catalog.{release_view};
+ghost use Rattle.warg_package_log.specs.ReleaseMap.{release_view};
 ghost use Rattle.warg_package_log.specs.ReleaseJson.{release_in, release_json, release_state_in, release_state_json, released_in, state_of, status_member, version_in, version_json, yanked_in};
 ghost use Rattle.warg_package_log.specs.Releases.{ReleaseView};
 ghost use Rattle.warg_package_log.specs.declared.release.ReleaseState.{ReleaseState};

@@ -1,7 +1,7 @@
 //! A release as a value of a map of a saved state.
 ghost use Rattle.std.specs.Prelude.{◌≡◌, ℕ, List, [], ◌∷◌, Ok, Err, OnOk, IfErr};
 ghost use Rattle.warg_crypto.specs.TimeText.{time_text};
-ghost use Rattle.warg_package_log.specs.Catalog.{release_view};
+ghost use Rattle.warg_package_log.specs.ReleaseMap.{release_view};
 ghost use Rattle.warg_package_log.specs.ReleaseJson.{release_in, release_json, release_state_json};
 ghost use Rattle.warg_package_log.specs.ReleaseFloats.{release_no_float};
 ghost use Rattle.warg_package_log.specs.Releases.{ReleaseView};

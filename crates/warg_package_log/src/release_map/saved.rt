@@ -2,7 +2,7 @@
 ghost use Rattle.std.specs.Prelude.{◌≡◌, None, map};
 ghost use Rattle.semver.specs.Identifiers.{parts_of};
 ghost use Rattle.warg_crypto.specs.Pairs.{plain_pairs};
-ghost use Rattle.warg_package_log.specs.Catalog.{release_view};
+ghost use Rattle.warg_package_log.specs.ReleaseMap.{release_view};
 ghost use Rattle.warg_package_log.specs.SavedState.{named_releases, releases_case};
 
 use crate::release::Release;

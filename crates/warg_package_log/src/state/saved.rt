@@ -12,7 +12,7 @@ ghost use Rattle.warg_saved.specs.JsonText.{GivesOfText, in_text};
 ghost use Rattle.warg_saved.specs.Texts.{text_of};
 ghost use Rattle.warg_log.specs.Contents.{Contents};
 ghost use Rattle.warg_log.specs.States.{State};
-ghost use Rattle.warg_package_log.specs.Catalog.{release_view};
+ghost use Rattle.warg_package_log.specs.ReleaseMap.{release_view};
 ghost use Rattle.warg_package_log.specs.Releases.{ReleaseView};
 ghost use Rattle.warg_package_log.specs.SavedBack.{AreEqual, IsSavable, saved_versions};
 ghost use Rattle.warg_package_log.specs.SavedParts.{parts_view};

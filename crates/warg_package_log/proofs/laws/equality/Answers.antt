@@ -1,4 +1,4 @@
-use Rattle.warg_package_log.specs.Catalog.{release_view}
+use Rattle.warg_package_log.specs.ReleaseMap.{release_view}
 use Rattle.warg_package_log.specs.SameReleaseLaws.{state_decides, release_decides}
 use Rattle.warg_package_log.specs.StateLaws.{states_equal}
 use Rattle.warg_package_log.proofs.laws.equality.Goals as goal

@@ -4,7 +4,7 @@ use Rattle.serde_json.specs.View.{members_view, view}
 use Rattle.warg_crypto.specs.JsonTexts.{key_id_in, time_in}
 use Rattle.warg_crypto.specs.MemberLaws.{read_again}
 use Rattle.warg_records.specs.RecordIdJson.{record_id_in}
-use Rattle.warg_package_log.specs.Catalog.{release_view}
+use Rattle.warg_package_log.specs.ReleaseMap.{release_view}
 use Rattle.warg_package_log.specs.ReleaseJson.{release_state_in}
 use Rattle.warg_package_log.proofs.ReleaseJsonLaws.{release_back}
 use Rattle.warg_package_log.proofs.release.json.ReleaseJsonValue.to_value.Goals as goal
