@@ -28,7 +28,7 @@ impl<'a> Model for Releases<'a> {
 impl<'a> Iterator for Releases<'a> {
     type Item = &'a Release;
 
-    ghost use Rattle.std.specs.Prelude.{length, Some};
+    ghost use Rattle.std.specs.Prelude.{length};
     ghost use Rattle.std.specs.Iterator.{at_most};
     ghost use Rattle.std.specs.Map.Iter.{TakesFirst};
     ghost use Rattle.warg_package_log.specs.ReleaseMap.{release_view};
@@ -41,9 +41,7 @@ impl<'a> Iterator for Releases<'a> {
         self.inner.next()
     }
 
-    fn size_hint(&self) -> (usize, Option<usize>)
-        ensures exact { result ≡ (length self.now, Some (length self.now)) }
-    {
+    fn size_hint(&self) -> (usize, Option<usize>) {
         let len = self.len();
         (len, Some(len))
     }
