@@ -22,3 +22,4 @@ pub mod HeadJsonLaws
 pub mod SavedParts
 pub mod SavedHead
 pub mod SavedEqual
+pub mod CanonicalHead

@@ -9,3 +9,4 @@ pub mod SavedStates
 pub mod SavedLaws
 pub mod SavedTexts
 pub mod ApartParts
+pub mod CanonicalStates

@@ -8,7 +8,7 @@ pub mod State
 pub mod StateHistory
 pub mod StateLaws
 pub mod NamespaceJson
-pub mod NamespaceFloats
+pub mod CanonicalNamespaces
 pub mod SavedState
 pub mod SavedParts
 pub mod SavedBack

@@ -16,3 +16,4 @@ pub mod SavedTexts
 pub mod SavableReleases
 pub mod ApartParts
 pub mod ReleaseTokens
+pub mod CanonicalStates

@@ -15,7 +15,7 @@ pub mod StateHistory
 pub mod StateLaws
 pub mod Versions
 pub mod ReleaseJson
-pub mod ReleaseFloats
+pub mod CanonicalReleases
 pub mod SavedState
 pub mod SavedParts
 pub mod SavedBack

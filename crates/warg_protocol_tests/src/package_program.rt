@@ -1,9 +1,9 @@
 //! A program over package logs, whose contracts cite what `warg_protocol` re-exports, and the view of a JSON value.
-ghost use Rattle.std.specs.Prelude.{◌≡◌, IfOk, map, List, All};
+ghost use Rattle.std.specs.Prelude.{◌≡◌, IfOk, map, List, All, string_bytes};
 ghost use Rattle.std.specs.Option.{option_map, option_copied};
 ghost use Rattle.std.specs.Vec.{vec_items};
 ghost use Rattle.serde_json.specs.View.{view};
-ghost use Rattle.warg_protocol.specs.Json.{Gives};
+ghost use Rattle.warg_protocol.specs.Json.{Gives, GivesOfText, IsReadAs, in_text};
 ghost use Rattle.warg_protocol.specs.Logs.{IsAccepted, IsCoherent, EnvelopeData, NoKeyBringsItselfIn, SignatureRelation, envelope_of, read_all};
 ghost use Rattle.warg_protocol.specs.Package.{TellsHistory, kind, package_record_of, records_of, view_of, state_json, state_in};
 ghost use Rattle.warg_protocol.specs.Package.{rules, same_permission};
@@ -16,7 +16,9 @@ use std::test::Fail;
 use warg_protocol::package::{LogState, Permission, Release, ValidationError};
 use warg_protocol::signing::{KeyID, Verifier};
 use warg_protocol::toy::ToyVerifier;
-use warg_protocol::{JsonError, JsonValue, RunError, Validator, VersionReq, laws, run};
+use warg_protocol::{
+    JsonError, JsonTextError, JsonValue, RunError, Validator, VersionReq, laws, run,
+};
 use warg_scripts::people::id;
 use warg_scripts::play::log_of;
 
@@ -77,6 +79,20 @@ fn restored(alloc: Global, value: &Value) -> Result<LogState, JsonError>
     LogState::from_value(alloc, value)
 }
 
+/// The state as a text, which is read as the state's JSON.
+fn saved_text(alloc: Global, state: &LogState) -> Result<String, JsonError>
+    ensures { IfOk result (λ text. IsReadAs (state_json state.now) (string_bytes text)) }
+{
+    state.to_json(alloc)
+}
+
+/// The state that was kept as a text.
+fn restored_text(alloc: Global, text: &str) -> Result<LogState, JsonTextError>
+    ensures { GivesOfText (λ s. s) result (in_text state_in text.now) }
+{
+    LogState::from_json(alloc, text)
+}
+
 const LOG: &str = "
     alice 1.0: init alice, grant bob release
     bob 2.0: release 1.0.0 first, release 1.1.0 second
@@ -106,7 +122,9 @@ fn best(alloc: Global, state: &LogState, wanted: &str) -> Result<String, Fail> {
 
 fn comes_back(alloc: Global, state: &LogState) -> Result<bool, Fail> {
     let value = saved(alloc, state)?;
-    Ok(restored(alloc, &value)? == *state)
+    let text = saved_text(alloc, state)?;
+    let again = restored_text(alloc, text.as_str())?;
+    Ok(restored(alloc, &value)? == *state && again == *state)
 }
 
 fn asks(rt: &impl Abort, alloc: Global, state: &LogState) -> Result<(), Fail> {

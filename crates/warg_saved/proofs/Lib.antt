@@ -13,3 +13,4 @@ pub mod TextReading
 pub mod NextMembers
 pub mod OtherMembers
 pub mod MemberTokens
+pub mod CanonicalTexts

@@ -4,7 +4,8 @@ pub mod Maps
 pub mod Permissions
 pub mod Fit
 pub mod Backs
-pub mod NoFloat
+pub mod Canonical
+pub mod CanonicalLaws
 pub mod Texts
 pub mod Writes
 pub mod WriteLaws

@@ -1,8 +1,9 @@
 -- The members of an object as texts, of which the object's text is joined.
-use Rattle.std.specs.Prelude.{ℕ, ◌≡◌, List, [], ◌∷◌, ◌++◌, map, String, string_bytes, Bool, true, ⊤, Result, Ok}
+use Rattle.std.specs.Prelude.{ℕ, ◌≡◌, List, [], ◌∷◌, ◌++◌, map, String, string_bytes, Bool, true, ⊤, IfOk, Some, Result, Ok}
 use Rattle.std.specs.Borrow.{Bor}
 use Rattle.std.specs.declared.alloc.Global.{Global}
 use Rattle.serde_json.specs.Data.{Data, Members, no_members, member, string}
+use Rattle.serde_json.specs.Read.{read}
 use Rattle.serde_json.specs.Written.{comma_if, compact_text}
 use Rattle.warg_crypto.specs.declared.json.error.JsonError.{JsonError}
 use Rattle.warg_crypto.specs.Json.{◌>>=◌, Gives, wrote}
@@ -10,6 +11,10 @@ use Rattle.warg_crypto.specs.Json.{◌>>=◌, Gives, wrote}
 -- the text of what is written, with no space
 abbrev pub text_of : Result Data JsonError → Result (List ℕ) JsonError
 text_of r = r >>= λ d. wrote (compact_text d)
+
+-- the text is read as what is written, if anything is
+abbrev pub IsReadAs : Result Data JsonError → List ℕ → Type 0
+IsReadAs r text = IfOk r (λ d. read text ≡ Some d)
 
 -- the members in order, each its name and the text of its value
 abbrev pub texts_of : Members → List (List ℕ × List ℕ)

@@ -2,7 +2,7 @@
 ghost use Rattle.std.specs.Prelude.{List, []};
 ghost use Rattle.serde_json.specs.View.{items_view, view};
 ghost use Rattle.warg_crypto.specs.Json.{Gives};
-ghost use Rattle.warg_saved.specs.NoFloat.{texts_no_float};
+ghost use Rattle.warg_saved.specs.CanonicalLaws.{texts_canonical};
 ghost use Rattle.warg_saved.specs.Permissions.{permission_in, permissions_from, permissions_in, permissions_json};
 ghost use Rattle.warg_saved.specs.Writes.{WritesText};
 
@@ -73,7 +73,7 @@ impl<P: LogPermission> SavedValue for IndexSet<P> {
 
     ghost versions = { λ _. [] };
 
-    ghost no_float = { λ ps. texts_no_float P.text_of ps };
+    ghost canonical = { λ ps. texts_canonical 124 P.text_of ps };
 
     fn can_save(&self) -> Result<(), JsonError> {
         Ok(())

@@ -11,7 +11,7 @@ ghost use Rattle.warg_crypto.specs.Members.{put_option};
 ghost use Rattle.warg_crypto.specs.Pairs.{plain_pairs};
 ghost use Rattle.warg_saved.specs.Maps.{put_pairs};
 ghost use Rattle.warg_saved.specs.Names.{text_name};
-ghost use Rattle.warg_saved.specs.NoFloat.{HasNoFloat};
+ghost use Rattle.warg_saved.specs.Canonical.{HasNoFloat};
 ghost use Rattle.warg_saved.specs.Texts.{PutsText, texts_of};
 
 use crate::map_text::map_text;

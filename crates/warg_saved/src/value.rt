@@ -6,7 +6,7 @@ ghost use Rattle.warg_crypto.specs.declared.json.error.JsonError.{JsonError};
 ghost use Rattle.warg_crypto.specs.Json.{AreReadBack, Gives, ReadsBack, Version};
 ghost use Rattle.warg_crypto.specs.JsonTexts.{key_in, key_json};
 ghost use Rattle.warg_crypto.specs.NamedBytes.{NamedBytes};
-ghost use Rattle.warg_saved.specs.NoFloat.{HasNoFloat};
+ghost use Rattle.warg_saved.specs.Canonical.{WritesCanonical, value_depth};
 ghost use Rattle.warg_saved.specs.Writes.{WritesText};
 
 use json::Writer;
@@ -31,8 +31,8 @@ pub trait SavedValue: Drop {
     // The versions whose texts have to read back so that the value does.
     ghost versions: { Plain → List Version };
 
-    // Nothing that is written is a float.
-    ghost no_float: { (x : Plain) → HasNoFloat (writes x) };
+    // What is written is canonical, so that its text is read as it.
+    ghost canonical: { (x : Plain) → WritesCanonical value_depth (writes x) };
 
     /// Whether there is JSON of the value, or why there is none.
     fn can_save(&self) -> Result<(), JsonError>
@@ -65,7 +65,7 @@ impl SavedValue for PublicKey {
 
     ghost versions = { λ _. [] };
 
-    ghost no_float = { λ key. refl };
+    ghost canonical = { λ key. tt };
 
     fn can_save(&self) -> Result<(), JsonError> {
         Ok(())

@@ -1,6 +1,6 @@
 //! A set of permissions as JSON: the list of their names.
 ghost use Rattle.std.specs.Prelude.{List, []};
-ghost use Rattle.warg_saved.specs.NoFloat.{texts_no_float};
+ghost use Rattle.warg_saved.specs.CanonicalLaws.{texts_canonical};
 ghost use Rattle.warg_saved.specs.Permissions.{permissions_in, permissions_json};
 
 use crate::permission_set::PermissionSet;
@@ -22,7 +22,7 @@ impl<P: LogPermission> SavedValue for PermissionSet<P> {
 
     ghost versions = { λ _. [] };
 
-    ghost no_float = { λ ps. texts_no_float P.text_of ps };
+    ghost canonical = { λ ps. texts_canonical 124 P.text_of ps };
 
     fn can_save(&self) -> Result<(), JsonError> {
         self.as_set().can_save()

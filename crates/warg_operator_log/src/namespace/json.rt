@@ -3,7 +3,7 @@ ghost use Rattle.std.specs.Prelude.{◌≡◌, ◌==◌, [], length, string_byte
 ghost use Rattle.serde_json.specs.View.{members_view, view};
 ghost use Rattle.warg_crypto.specs.Json.{Answers, Gives};
 ghost use Rattle.warg_crypto.specs.Pairs.{names_of};
-ghost use Rattle.warg_operator_log.specs.NamespaceFloats.{namespace_no_float};
+ghost use Rattle.warg_operator_log.specs.CanonicalNamespaces.{namespace_canonical};
 ghost use Rattle.warg_operator_log.specs.NamespaceJson.{defined_in, imported_in, namespace_in, namespace_json, only_imported, saved_namespace_in, saved_namespace_json};
 ghost use Rattle.warg_operator_log.specs.NamespaceMap.{namespace_view};
 ghost use Rattle.warg_operator_log.specs.Namespaces.{Namespace};
@@ -175,7 +175,7 @@ impl SavedValue for NamespaceState {
 
     ghost versions = { λ _. [] };
 
-    ghost no_float = { namespace_no_float };
+    ghost canonical = { namespace_canonical };
 
     fn can_save(&self) -> Result<(), JsonError> {
         Ok(())

@@ -3,7 +3,7 @@ ghost use Rattle.std.specs.Prelude.{◌≡◌, ℕ, List, [], ◌∷◌, Ok, Err
 ghost use Rattle.warg_crypto.specs.TimeText.{time_text};
 ghost use Rattle.warg_package_log.specs.ReleaseMap.{release_view};
 ghost use Rattle.warg_package_log.specs.ReleaseJson.{release_in, release_json, release_state_json};
-ghost use Rattle.warg_package_log.specs.ReleaseFloats.{release_no_float};
+ghost use Rattle.warg_package_log.specs.CanonicalReleases.{release_canonical};
 ghost use Rattle.warg_package_log.specs.Releases.{ReleaseView};
 ghost use Rattle.warg_package_log.specs.declared.release.ReleaseState.TheVariants.{Released, Yanked};
 ghost use Rattle.warg_saved.specs.Writes.{WritesText};
@@ -105,7 +105,7 @@ impl SavedValue for Release {
 
     ghost versions = { λ r. r.version ∷ [] };
 
-    ghost no_float = { release_no_float };
+    ghost canonical = { release_canonical };
 
     fn can_save(&self) -> Result<(), JsonError> {
         check_time(&self.timestamp)?;

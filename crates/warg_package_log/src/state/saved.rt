@@ -1,5 +1,5 @@
 //! The state of a package log as JSON.
-ghost use Rattle.std.specs.Prelude.{List, ◌≡◌, ◌&&◌, [], ◌∷◌, None, Ok, IfSome, OnOk, string_bytes};
+ghost use Rattle.std.specs.Prelude.{List, ◌≡◌, ◌&&◌, [], ◌∷◌, None, Ok, IfOk, IfSome, OnOk, string_bytes};
 ghost use Rattle.std.specs.List.{list_any};
 ghost use Rattle.semver.specs.Identifiers.{parts_of};
 ghost use Rattle.serde_json.specs.Data.{object};
@@ -9,7 +9,7 @@ ghost use Rattle.warg_crypto.specs.Pairs.{plain_pairs};
 ghost use Rattle.warg_permissions.specs.declared.package.Permission.{Permission as OfPermission};
 ghost use Rattle.warg_saved.specs.Fit.{RefusesCase, first_case, is_nil, keys_case, rights_case, unless_case, version_case};
 ghost use Rattle.warg_saved.specs.JsonText.{GivesOfText, in_text};
-ghost use Rattle.warg_saved.specs.Texts.{text_of};
+ghost use Rattle.warg_saved.specs.Texts.{IsReadAs, text_of};
 ghost use Rattle.warg_log.specs.Contents.{Contents};
 ghost use Rattle.warg_log.specs.States.{State};
 ghost use Rattle.warg_package_log.specs.ReleaseMap.{release_view};
@@ -180,7 +180,8 @@ fn members_of(alloc: Global, log: &Log<ReleaseMap>) -> Result<Map<String, Value>
 
 /// The text of the state's JSON.
 fn log_text(alloc: Global, log: &Log<ReleaseMap>) -> Result<String, JsonError>
-    ensures { Gives string_bytes result (text_of (state_json log.now)) }
+    ensures written { Gives string_bytes result (text_of (state_json log.now)) }
+    ensures read { IfOk result (λ text. IsReadAs (state_json log.now) (string_bytes text)) }
 {
     let mut members = MemberTexts::new(alloc);
     members.put_optional("algorithm", log.algorithm())?;
@@ -193,10 +194,12 @@ fn log_text(alloc: Global, log: &Log<ReleaseMap>) -> Result<String, JsonError>
 
 impl LogState {
     /// The state's JSON as text, with no space: what [`JsonValue::to_value`] gives, written. It takes a fraction of
-    /// the time, since each release is written for itself, and no value is made of it. `TimeBeforeEpoch`: a time that is
-    /// to be written lies before the epoch.
+    /// the time, since each release is written for itself, and no value is made of it. [`LogState::from_json`] reads from
+    /// the text what [`JsonValue::from_value`] reads from that value. `TimeBeforeEpoch`: a time that is to be written lies
+    /// before the epoch.
     pub fn to_json(&self, alloc: Global) -> Result<String, JsonError>
-        ensures { Gives string_bytes result (text_of (state_json self.now)) }
+        ensures written { Gives string_bytes result (text_of (state_json self.now)) }
+        ensures read { IfOk result (λ text. IsReadAs (state_json self.now) (string_bytes text)) }
     {
         log_text(alloc, &self.log)
     }

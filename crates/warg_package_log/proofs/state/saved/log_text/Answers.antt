@@ -1,4 +1,4 @@
-use Rattle.std.proofs.Common.{◌≡◌, ap, ◌∙◌, sym, codes}
+use Rattle.std.proofs.Common.{◌≡◌, ap, ◌∙◌, sym, codes, string_bytes}
 use Rattle.std.specs.Prelude.{Ok}
 use Rattle.std.proofs.lemmas.Result.{err_from_is_err_and}
 use Rattle.serde_json.specs.Data.{no_members}
@@ -8,16 +8,18 @@ use Rattle.warg_permissions.specs.PackagePermissions.{permission_text}
 use Rattle.warg_saved.specs.Maps.{put_pairs}
 use Rattle.warg_saved.specs.Names.{text_name, version_name}
 use Rattle.warg_saved.specs.Permissions.{permissions_json}
+use Rattle.warg_saved.proofs.CanonicalTexts.{gives_reads}
 use Rattle.warg_saved.proofs.Optional.{same_option}
 use Rattle.warg_saved.proofs.TextSteps.{gives_fault, gives_text, written}
 use Rattle.warg_log.specs.HeadJson.{head_json}
 use Rattle.warg_package_log.specs.ReleaseJson.{release_json}
-use Rattle.warg_package_log.specs.SavedState.{named_releases}
+use Rattle.warg_package_log.specs.SavedState.{named_releases, state_json}
+use Rattle.warg_package_log.proofs.CanonicalStates.{state_canonical}
 use Rattle.warg_package_log.proofs.SavedTexts.{keys_fault, releases_fault, rights_fault, whole}
 use Rattle.warg_package_log.proofs.state.saved.log_text.Goals as goal
 
-pub returns-in_err-put_map : goal.returns-in_err-put_map
-returns-in_err-put_map c =
+pub returns-in_err-put_map-clause-written : goal.returns-in_err-put_map-clause-written
+returns-in_err-put_map-clause-written c =
     let s = c.args.log.now in
     let a = written _ _ (c.in_ok-put_optional.ensures no_members c.new-members.ensures) in
     let b = written _ _ (c.in_ok-put_head_text.ensures a.members a.are) in
@@ -30,8 +32,8 @@ returns-in_err-put_map c =
     rights_fault s a.members b.members b.members b.members algorithm head _
     (ap (λ es. put_pairs text_name (permissions_json permission_text) (codes "permissions") es b.members) (sym c.permissions.ensures.plain) ∙ h)))
 
-pub returns-in_err-put_map-2 : goal.returns-in_err-put_map-2
-returns-in_err-put_map-2 c =
+pub returns-in_err-put_map-2-clause-written : goal.returns-in_err-put_map-2-clause-written
+returns-in_err-put_map-2-clause-written c =
     let s = c.args.log.now in
     let a = written _ _ (c.in_ok-put_optional.ensures no_members c.new-members.ensures) in
     let b = written _ _ (c.in_ok-put_head_text.ensures a.members a.are) in
@@ -48,8 +50,8 @@ returns-in_err-put_map-2 c =
     releases_fault s a.members b.members d.members d.members algorithm head rights _
     (ap (λ es. put_pairs version_name release_json (codes "releases") es d.members) (sym as_saved) ∙ h)))
 
-pub returns-in_err-put_keys : goal.returns-in_err-put_keys
-returns-in_err-put_keys c =
+pub returns-in_err-put_keys-clause-written : goal.returns-in_err-put_keys-clause-written
+returns-in_err-put_keys-clause-written c =
     let s = c.args.log.now in
     let a = written _ _ (c.in_ok-put_optional.ensures no_members c.new-members.ensures) in
     let b = written _ _ (c.in_ok-put_head_text.ensures a.members a.are) in
@@ -69,8 +71,8 @@ returns-in_err-put_keys c =
     keys_fault s a.members b.members d.members e.members algorithm head rights releases _
     (ap (λ es. put_pairs text_name key_json (codes "keys") es e.members) (sym c.keys.ensures) ∙ h)))
 
-pub returns : goal.returns
-returns c =
+pub returns-clause-written : goal.returns-clause-written
+returns-clause-written c =
     let s = c.args.log.now in
     let a = written _ _ (c.in_ok-put_optional.ensures no_members c.new-members.ensures) in
     let b = written _ _ (c.in_ok-put_head_text.ensures a.members a.are) in
@@ -91,3 +93,8 @@ returns c =
     gives_text c.text.result _ _ f.members c.text.ensures.ok c.text.ensures.err
     (whole s a.members b.members d.members e.members algorithm head rights releases f.members keys)
     f.are
+
+pub returns-clause-read : goal.returns-clause-read
+returns-clause-read c =
+    let s = c.args.log.now in
+    gives_reads string_bytes c.text.result (state_json s) (state_canonical s c.head.ensures.coherent.versioned) (returns-clause-written c)

@@ -1,0 +1,38 @@
+-- The JSON of a state is canonical.
+use Rattle.std.specs.Prelude.{◌≡◌, ◌≤◌, List, codes, Some}
+use Rattle.std.proofs.Common.{arith}
+use Rattle.serde_json.specs.Data.{no_members, object}
+use Rattle.warg_crypto.specs.Json.{wrote}
+use Rattle.warg_crypto.specs.JsonTexts.{algorithm_json, key_json}
+use Rattle.warg_crypto.specs.Members.{put_option}
+use Rattle.warg_permissions.specs.PackagePermissions.{permission_text}
+use Rattle.warg_permissions.specs.declared.package.Permission.{Permission}
+use Rattle.warg_saved.specs.Canonical.{WritesCanonical}
+use Rattle.warg_saved.specs.CanonicalLaws.{none_canonical, option_canonical, pairs_canonical, texts_canonical, then_canonical}
+use Rattle.warg_saved.specs.Maps.{put_pairs}
+use Rattle.warg_saved.specs.Names.{text_name, version_name}
+use Rattle.warg_saved.specs.Permissions.{permissions_json}
+use Rattle.warg_log.specs.Contents.{Contents}
+use Rattle.warg_log.specs.HeadJson.{head_json}
+use Rattle.warg_log.specs.States.{State}
+use Rattle.warg_log.specs.declared.head.Head.{Head}
+use Rattle.warg_log.proofs.CanonicalHead.{head_canonical}
+use Rattle.warg_package_log.specs.CanonicalReleases.{release_canonical}
+use Rattle.warg_package_log.specs.ReleaseJson.{release_json}
+use Rattle.warg_package_log.specs.Releases.{ReleaseView}
+use Rattle.warg_package_log.specs.SavedState.{named_releases, state_json}
+
+pub state_canonical : (s : State (Contents Permission) (List ReleaseView)) → ((h : Head) → s.head ≡ Some h → h.version ≤ 1)
+    → WritesCanonical 127 (state_json s)
+state_canonical s versioned =
+    let rights = permissions_json permission_text in
+    then_canonical 127 (put_option algorithm_json (codes "algorithm") s.authority.algorithm no_members) _
+    (option_canonical 126 algorithm_json (codes "algorithm") s.authority.algorithm no_members (λ a at. tt) (none_canonical 126)) (λ a a_is.
+    then_canonical 127 (put_option head_json (codes "head") s.head a) _
+    (option_canonical 126 head_json (codes "head") s.head a (λ h at. head_canonical h (omega (arith, versioned h at))) a_is) (λ b b_is.
+    then_canonical 127 (put_pairs text_name rights (codes "permissions") s.authority.rights b) _
+    (pairs_canonical 125 text_name rights (λ ps. texts_canonical 124 permission_text ps) (codes "permissions") s.authority.rights b b_is) (λ c c_is.
+    then_canonical 127 (put_pairs version_name release_json (codes "releases") (named_releases s.own_state) c) _
+    (pairs_canonical 125 version_name release_json release_canonical (codes "releases") (named_releases s.own_state) c c_is) (λ d d_is.
+    then_canonical 127 (put_pairs text_name key_json (codes "keys") s.authority.keys d) (λ ms. wrote (object ms))
+    (pairs_canonical 125 text_name key_json (λ key. tt) (codes "keys") s.authority.keys d d_is) (λ ms m. m)))))
