@@ -1,6 +1,6 @@
 //! Readers and writers that fail.
 
-use crate::answering::{answer, answers, status};
+use crate::answering::{answers, status};
 use crate::lines::log_of;
 use std::alloc::Global;
 use std::io;
@@ -121,9 +121,16 @@ fn written(
     })
 }
 
-// Whether the status is 3 exactly where fewer writes succeed than the answer has bytes.
-fn is_written_bytewise(alloc: Global, words: &[&str], input: &[u8]) -> Result<bool, Fail> {
-    let (text, status) = answer(alloc, words, input)?;
+const USAGE: &str = "usage: warg_audit [id] package|operator\n";
+
+// Whether the status is 3 exactly where fewer writes succeed than the answer's text has bytes.
+fn is_written_bytewise(
+    alloc: Global,
+    words: &[&str],
+    input: &[u8],
+    text: &str,
+    status: u8,
+) -> Result<bool, Fail> {
     for writes in 0..text.len() {
         if written(alloc, words, input, writes)? != Some((3, 1)) {
             return Ok(false);
@@ -138,17 +145,29 @@ fn tells_failed_writes(rt: HostRuntime) -> Result<(), Fail> {
         is_written_bytewise(
             rt.alloc(),
             ["id", "package"].as_slice(),
-            b"0a021a00".as_slice()
+            b"0a021a00".as_slice(),
+            "sha256:0dc9969d2a2f84e5467b2f6003184c25d0f354a251864e0646e97436da784001\n",
+            0
         )?
     );
-    assert!(rt; is_written_bytewise(rt.alloc(), ["pkg"].as_slice(), b"".as_slice())?);
+    assert!(rt; is_written_bytewise(rt.alloc(), ["pkg"].as_slice(), b"".as_slice(), USAGE, 2)?);
     Ok(())
 }
 
 #[test]
 fn tells_failed_writes_of_a_log(rt: HostRuntime) -> Result<(), Fail> {
     let log = log_of(rt.alloc(), "abc", "\n")?;
-    assert!(rt; is_written_bytewise(rt.alloc(), ["package"].as_slice(), log.as_bytes())?);
+    let verdict =
+        "ok 3 sha256:88e63a3e22d45d5304a601e1f3f96e4c8edb3772b5250b528a833bfbf3c3c718\n1.1.0 yanked\n";
+    assert!(rt;
+        is_written_bytewise(
+            rt.alloc(),
+            ["package"].as_slice(),
+            log.as_bytes(),
+            verdict,
+            0
+        )?
+    );
     Ok(())
 }
 

@@ -65,6 +65,7 @@ struct Row<'b> {
     words: &'b [&'b str],
     input: &'b [u8],
     printed: &'b str,
+    status: u8,
 }
 
 // Whether this is printed with this status, by as many reads as both the input and the reader count, none of them late.
@@ -91,7 +92,9 @@ fn is_witnessed(
 fn witness_row(rt: &impl Abort, alloc: Global, row: &Row<'_>) -> Result<(), Fail> {
     for step in [1usize, 2, 7, 100, 20_000] {
         let whole = Witness::new(row.input, step, None);
-        let reads = is_witnessed(alloc, row, whole, row.printed, 0)?.ok_or("another answer")?;
+        let reads = is_witnessed(alloc, row, whole, row.printed, row.status)?.ok_or(
+            "another answer",
+        )?;
         let end = row.input.len().div_ceil(step).saturating_add(1);
         assert!(rt; reads == end, "{step}");
         for failing in 0..end {
@@ -112,6 +115,7 @@ fn reads_an_id_once(rt: HostRuntime) -> Result<(), Fail> {
         words: ["id", "package"].as_slice(),
         input: b"0a021a00\n".as_slice(),
         printed: "sha256:0dc9969d2a2f84e5467b2f6003184c25d0f354a251864e0646e97436da784001\n",
+        status: 0,
     };
     witness_row(&rt, rt.alloc(), &row)
 }
@@ -123,8 +127,37 @@ fn reads_a_log_once(rt: HostRuntime) -> Result<(), Fail> {
         words: ["package"].as_slice(),
         input: log.as_bytes(),
         printed: "ok 3 sha256:88e63a3e22d45d5304a601e1f3f96e4c8edb3772b5250b528a833bfbf3c3c718\n1.1.0 yanked\n",
+        status: 0,
     };
     witness_row(&rt, rt.alloc(), &row)
+}
+
+// A failed read is told before a bad line, and before a refused record.
+#[test]
+fn reads_what_is_refused_once(rt: HostRuntime) -> Result<(), Fail> {
+    for row in [
+        Row {
+            words: ["id", "package"].as_slice(),
+            input: b"0g\n".as_slice(),
+            printed: "bad line 0\n",
+            status: 2,
+        },
+        Row {
+            words: ["operator"].as_slice(),
+            input: b"0a021a00\r\n\r\n0".as_slice(),
+            printed: "bad line 2\n",
+            status: 2,
+        },
+        Row {
+            words: ["package"].as_slice(),
+            input: b"0a021a00".as_slice(),
+            printed: "refused 0 Signature.MissingColon\n",
+            status: 1,
+        },
+    ] {
+        witness_row(&rt, rt.alloc(), &row)?;
+    }
+    Ok(())
 }
 
 // Takes half of what is left, rounded up, and counts its writes.

@@ -2,7 +2,7 @@
 use Rattle.std.specs.Prelude.{◌≡◌, ◌≤◌, ℕ, List, codes, Some}
 use Rattle.std.proofs.Common.{arith}
 use Rattle.serde_json.specs.Data.{no_members, object}
-use Rattle.warg_crypto.specs.Json.{◌>>=◌, wrote}
+use Rattle.warg_crypto.specs.Json.{wrote}
 use Rattle.warg_crypto.specs.JsonTexts.{algorithm_json, key_json}
 use Rattle.warg_crypto.specs.Members.{put_option}
 use Rattle.warg_permissions.specs.OperatorPermissions.{permission_text}

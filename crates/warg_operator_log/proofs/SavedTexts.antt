@@ -16,6 +16,14 @@ use Rattle.warg_operator_log.specs.NamespaceJson.{saved_namespace_json}
 use Rattle.warg_operator_log.specs.Namespaces.{Namespace}
 use Rattle.warg_operator_log.specs.SavedState.{state_json}
 
+module _ (s : State (Contents Permission) (List (List ℕ × Namespace))) (e : JsonError) where
+  pub algorithm_fault : put_option algorithm_json (codes "algorithm") s.authority.algorithm no_members ≡ Err e → state_json s ≡ Err e
+  algorithm_fault h = rw h refl
+
+  pub head_fault : (a : Members) → put_option algorithm_json (codes "algorithm") s.authority.algorithm no_members ≡ Ok a
+      → put_option head_json (codes "head") s.head a ≡ Err e → state_json s ≡ Err e
+  head_fault a algorithm h = rw (algorithm, h) refl
+
 module _ (s : State (Contents Permission) (List (List ℕ × Namespace))) (a b c d : Members)
     (algorithm : put_option algorithm_json (codes "algorithm") s.authority.algorithm no_members ≡ Ok a)
     (head : put_option head_json (codes "head") s.head a ≡ Ok b) where

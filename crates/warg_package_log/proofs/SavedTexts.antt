@@ -16,6 +16,14 @@ use Rattle.warg_package_log.specs.ReleaseJson.{release_json}
 use Rattle.warg_package_log.specs.Releases.{ReleaseView}
 use Rattle.warg_package_log.specs.SavedState.{named_releases, state_json}
 
+module _ (s : State (Contents Permission) (List ReleaseView)) (e : JsonError) where
+  pub algorithm_fault : put_option algorithm_json (codes "algorithm") s.authority.algorithm no_members ≡ Err e → state_json s ≡ Err e
+  algorithm_fault h = rw h refl
+
+  pub head_fault : (a : Members) → put_option algorithm_json (codes "algorithm") s.authority.algorithm no_members ≡ Ok a
+      → put_option head_json (codes "head") s.head a ≡ Err e → state_json s ≡ Err e
+  head_fault a algorithm h = rw (algorithm, h) refl
+
 module _ (s : State (Contents Permission) (List ReleaseView)) (a b c d : Members)
     (algorithm : put_option algorithm_json (codes "algorithm") s.authority.algorithm no_members ≡ Ok a)
     (head : put_option head_json (codes "head") s.head a ≡ Ok b) where

@@ -3,6 +3,6 @@ pub use Rattle.warg_crypto.specs.Json.{Gives, ReadsBack, IsReadBack, Version, Ar
 pub use Rattle.warg_crypto.specs.declared.json.error.JsonError.{JsonError}
 -- what `to_json` writes: the JSON's text, and what that is read as
 pub use Rattle.warg_saved.specs.Texts.{IsReadAs, text_of}
--- what `from_json` answers: what is read of the text's JSON, and which error of a text a fault of its value is
-pub use Rattle.warg_saved.specs.JsonText.{GivesOfText, in_text, text_fault}
+-- what `from_json` answers: what is read of the text's JSON, which error of a text a fault of its value is, and what reads back
+pub use Rattle.warg_saved.specs.JsonText.{GivesOfText, TextReadsBack, in_text, text_fault}
 pub use Rattle.warg_saved.specs.declared.error.JsonTextError.{JsonTextError}

@@ -1,5 +1,7 @@
 //! Saved states of operator logs.
-use crate::saved::{are_refused, are_refused_begun, comes_back, resumes, text_of};
+use crate::saved::{
+    BAD_HEADS, NOTHING, are_refused, are_refused_begun, comes_back, load, resumes, text_of,
+};
 use serde_json::Value;
 use std::alloc::Global;
 use std::process::Abort;
@@ -69,7 +71,19 @@ const HOSTILE_BEGUN: &[(&str, JsonError)] = &[
 #[test]
 fn hostile_texts_are_refused(rt: HostRuntime) -> Result<(), Fail> {
     are_refused::<LogState>(&rt, rt.alloc(), HOSTILE);
+    are_refused::<LogState>(&rt, rt.alloc(), BAD_HEADS);
     are_refused_begun::<LogState>(&rt, rt.alloc(), HOSTILE_BEGUN)
+}
+
+#[test]
+fn nothing_is_the_new_state(rt: HostRuntime) -> Result<(), Fail> {
+    let alloc = rt.alloc();
+    for json in NOTHING {
+        let state = load::<LogState>(&rt, alloc, json)?;
+        assert!(&rt; state == LogState::new(alloc)?, "{json}");
+        assert_eq!(&rt; text_of(&rt, alloc, &state)?.as_str(), "{}");
+    }
+    Ok(())
 }
 
 const NAMESPACES: &[(&str, JsonError)] = &[

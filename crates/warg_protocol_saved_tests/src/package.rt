@@ -1,6 +1,7 @@
 //! Saved states of package logs.
 use crate::saved::{
-    ALICE, are_refused, are_refused_begun, begun, comes_back, load, resumes, text_of,
+    ALICE, BAD_HEADS, NOTHING, are_refused, are_refused_begun, begun, comes_back, load, resumes,
+    text_of,
 };
 use std::alloc::Global;
 use std::process::Abort;
@@ -92,6 +93,7 @@ const HOSTILE_BEGUN: &[(&str, JsonError)] = &[
 #[test]
 fn hostile_texts_are_refused(rt: HostRuntime) -> Result<(), Fail> {
     are_refused::<LogState>(&rt, rt.alloc(), HOSTILE);
+    are_refused::<LogState>(&rt, rt.alloc(), BAD_HEADS);
     are_refused_begun::<LogState>(&rt, rt.alloc(), HOSTILE_BEGUN)
 }
 
@@ -208,13 +210,6 @@ fn releases_stand_under_their_versions(rt: HostRuntime) -> Result<(), Fail> {
     Ok(())
 }
 
-const NOTHING: &[&str] = &[
-    "{}",
-    "{\"head\":null}",
-    "{\"algorithm\":null,\"unknown\":7}",
-    "{\"keys\":{}}",
-];
-
 fn is_new(rt: &impl Abort, alloc: Global, state: &LogState) -> Result<(), Fail> {
     assert!(rt; *state == LogState::new(alloc)?);
     assert_eq!(rt; text_of(rt, alloc, state)?.as_str(), "{}");
@@ -250,20 +245,10 @@ fn a_saved_log_without_keys_knows_nobody(rt: HostRuntime) -> Result<(), Fail> {
 }
 
 const FIRST: &str =
-    "{\"algorithm\":\"sha256\",\"head\":{\"digest\":\"sha256:DIGEST\",\"timestamp\":\"1.0\"},\"keys\":{\"ALICE\":\"toy:YWxpY2U=\"},\"permissions\":{\"ALICE\":[\"release\",\"yank\"]}}";
-
-// The text of a state with this digest.
-fn first(alloc: Global, digest: &str) -> Result<String, Fail> {
-    let text = FIRST.replace(alloc, "sha256:DIGEST", digest)?;
-    Ok(text.as_str().replace(alloc, "ALICE", ALICE)?)
-}
+    "{\"algorithm\":\"sha256\",\"head\":{\"digest\":\"sha256:bc312bcd1f8ed61ce4ac73c5de8ea64df97cc97c4ab579a7330f563d88266820\",\"timestamp\":\"1.0\"},\"keys\":{\"ALICE\":\"toy:YWxpY2U=\"},\"permissions\":{\"ALICE\":[\"release\",\"yank\"]}}";
 
 fn is_first(rt: &impl Abort, alloc: Global, state: &LogState) -> Result<(), Fail> {
-    let Some(head) = state.head() else {
-        return Err(Fail::new("no head"));
-    };
-    let digest = format!(in alloc; "{}", head.digest)?;
-    let want = first(alloc, digest.as_str())?;
+    let want = FIRST.replace(alloc, "ALICE", ALICE)?;
     is_written(rt, alloc, state, want.as_str())
 }
 

@@ -4,7 +4,7 @@ use std::alloc::Global;
 use std::fmt::Debug;
 use std::process::Abort;
 use std::test::Fail;
-use warg_protocol::{JsonError, JsonTextError, JsonValue};
+use warg_protocol::{Incoherence, JsonError, JsonTextError, JsonValue};
 use warg_scripts::play::{Player, log_of, makes, state_of};
 use warg_scripts::script::Scripted;
 
@@ -14,6 +14,34 @@ pub const BEGUN: &str =
 
 /// The id of alice's key.
 pub const ALICE: &str = "sha256:6f03ae61d0fd3df261d400afe99bdcd613f266104552b6ad5281c7666633c6e2";
+
+/// Texts of a state that says nothing.
+pub const NOTHING: &[&str] = &[
+    "{}",
+    "{\"head\":null}",
+    "{\"algorithm\":null,\"unknown\":7}",
+    "{\"keys\":{}}",
+];
+
+/// Texts of states of either kind with heads that are refused, and their faults.
+pub const BAD_HEADS: &[(&str, JsonError)] = &[
+    (
+        "{\"head\":{\"digest\":\"sha256:e3b0c44298fc1c149afbf4c8996fb92427ae41e4649b934ca495991b7852b855\",\"timestamp\":\"1.0\"}}",
+        JsonError::Incoherent(Incoherence::HeadWithoutAlgorithm),
+    ),
+    (
+        "{\"algorithm\":\"sha256\",\"head\":{\"digest\":\"sha256:e3b0c44298fc1c149afbf4c8996fb92427ae41e4649b934ca495991b7852b855\",\"timestamp\":\"1.0\",\"version\":2}}",
+        JsonError::Incoherent(Incoherence::UnsupportedVersion),
+    ),
+    (
+        "{\"algorithm\":\"sha256\",\"head\":{\"digest\":\"sha256:e3b0c44298fc1c149afbf4c8996fb92427ae41e4649b934ca495991b7852b855\",\"timestamp\":\"1.0\",\"version\":2},\"permissions\":{\"x\":[]}}",
+        JsonError::Incoherent(Incoherence::PermissionsWithoutKey),
+    ),
+    (
+        "{\"algorithm\":\"sha256\",\"head\":{\"digest\":\"sha256:e3b0c44298fc1c149afbf4c8996fb92427ae41e4649b934ca495991b7852b855\",\"timestamp\":\"9223372036854775807.1000000000\"}}",
+        JsonError::TimeOutOfRange,
+    ),
+];
 
 /// What the text of a saved state is read as, which is the same by its value and without.
 pub fn load<L: Scripted>(rt: &impl Abort, alloc: Global, json: &str) -> Result<L, JsonError> {

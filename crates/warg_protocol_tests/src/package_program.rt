@@ -3,10 +3,10 @@ ghost use Rattle.std.specs.Prelude.{◌≡◌, IfOk, map, List, All, string_byte
 ghost use Rattle.std.specs.Option.{option_map, option_copied};
 ghost use Rattle.std.specs.Vec.{vec_items};
 ghost use Rattle.serde_json.specs.View.{view};
-ghost use Rattle.warg_protocol.specs.Json.{Gives, GivesOfText, IsReadAs, in_text};
+ghost use Rattle.warg_protocol.specs.Json.{AreReadBack, Gives, GivesOfText, IsReadAs, TextReadsBack, in_text};
 ghost use Rattle.warg_protocol.specs.Logs.{IsAccepted, IsCoherent, EnvelopeData, NoKeyBringsItselfIn, SignatureRelation, envelope_of, read_all};
 ghost use Rattle.warg_protocol.specs.Package.{TellsHistory, kind, package_record_of, records_of, view_of, state_json, state_in};
-ghost use Rattle.warg_protocol.specs.Package.{rules, same_permission};
+ghost use Rattle.warg_protocol.specs.Package.{AreEqual, rules, same_permission, saved_versions};
 ghost use Rattle.warg_protocol.specs.Package.{IsGreatest, shows_candidate, shown_cmp, release_view};
 
 use serde_json::Value;
@@ -79,9 +79,11 @@ fn restored(alloc: Global, value: &Value) -> Result<LogState, JsonError>
     LogState::from_value(alloc, value)
 }
 
-/// The state as a text, which is read as the state's JSON.
+/// The state as a text, which is read as the state's JSON, and reads back as an equal state.
 fn saved_text(alloc: Global, state: &LogState) -> Result<String, JsonError>
-    ensures { IfOk result (λ text. IsReadAs (state_json state.now) (string_bytes text)) }
+    ensures read { IfOk result (λ text. IsReadAs (state_json state.now) (string_bytes text)) }
+    ensures back { AreReadBack (saved_versions state.now) →
+        IfOk result (λ text. TextReadsBack state_in AreEqual state.now (string_bytes text)) }
 {
     state.to_json(alloc)
 }

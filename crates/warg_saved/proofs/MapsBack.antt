@@ -17,6 +17,10 @@ pub on_ok_then : {A : Type 0} {P Q : Type 0} (r : Result A JsonError) → (P →
 on_ok_then (Ok x) f p = f p
 on_ok_then (Err e) f p = tt
 
+pub always : {A : Type 0} {P : Type 0} (r : Result A JsonError) → P → OnOk r P
+always (Ok x) p = p
+always (Err e) p = tt
+
 -- where names and values ask nothing of versions
 pub no_versions : {K A : Type 0} (es : List (K × A)) → AreVersionsBack (λ _. []) (λ _. []) es
 no_versions [] = tt

@@ -26,6 +26,13 @@ of_json_in reads (Some d) = or_fault (reads d)
 abbrev pub in_text : {A : Type 0} → (Data → Result A JsonError) → List ℕ → Result A JsonTextError
 in_text reads text = of_json_in reads (read text)
 
+-- What the text reads as is equivalent to x.
+pub record TextReadsBack {A : Type 0} (reads : Data → Result A JsonError) (equivalent : A → A → Type 0) (x : A) (text : List ℕ)
+    : Type 0 where
+  pub again : A
+  pub is : in_text reads text ≡ Ok again
+  pub equal : equivalent x again
+
 -- what a call answered, seen by view, is want, unless memory ran out
 abbrev pub GivesOfText : {X Y : Type 0} → (X → Y) → Result X JsonTextError → Result Y JsonTextError → Type 0
 GivesOfText view r want = MatchResult r (λ x. want ≡ Ok (view x)) (λ e. (e ≡ OutOfMemory) ⊎ (want ≡ Err e))

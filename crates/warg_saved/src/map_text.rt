@@ -1,11 +1,12 @@
 //! Maps written as the text of an object, one value after another.
-ghost use Rattle.std.specs.Prelude.{IfErr, IfOk, ◌≡◌, ◌⊎◌, [], Err, Ok, string_bytes};
+ghost use Rattle.std.specs.Prelude.{IfErr, IfOk, OnOk, ◌≡◌, ◌⊎◌, [], Err, Ok, string_bytes};
 ghost use Rattle.json.specs.Print.{print};
 ghost use Rattle.serde_json.specs.Data.{Members, no_members, object};
 ghost use Rattle.serde_json.specs.Written.{compact_text};
 ghost use Rattle.warg_crypto.specs.declared.json.error.JsonError.TheVariants as fault;
 ghost use Rattle.warg_crypto.specs.Json.{Gives};
 ghost use Rattle.warg_crypto.specs.Pairs.{pairs_json, pairs_onto, plain_pairs};
+ghost use Rattle.warg_saved.specs.Backs.{AreBack, AreVersionsBack};
 ghost use Rattle.warg_saved.specs.Texts.{AreMembers, text_of};
 
 use crate::name::SavedName;
@@ -24,6 +25,8 @@ fn by_name<'m, K: SavedName, V: SavedValue>(
 ) -> Result<BTreeMap<String, &'m V>, JsonError>
     ensures ok { IfOk result (λ named. (ms : Members) × AreMembers V.plain V.writes named.entries ms
         × (pairs_onto K.name_of V.writes no_members (plain_pairs K.plain V.plain map.now.entries) ≡ Ok ms)) }
+    ensures back { OnOk result (AreVersionsBack K.versions V.versions (plain_pairs K.plain V.plain map.now.entries)
+        → AreBack K.name_of K.named V.writes V.reads (plain_pairs K.plain V.plain map.now.entries)) }
     ensures err { IfErr result (λ e. (e ≡ fault.OutOfMemory)
         ⊎ (pairs_onto K.name_of V.writes no_members (plain_pairs K.plain V.plain map.now.entries) ≡ Err e)) }
 {
@@ -67,8 +70,10 @@ pub(crate) fn map_text<K: SavedName, V: SavedValue>(
     alloc: Global,
     map: &IndexMap<K, V>,
 ) -> Result<String, JsonError>
-    ensures { Gives string_bytes result (text_of (pairs_json K.name_of V.writes
+    ensures written { Gives string_bytes result (text_of (pairs_json K.name_of V.writes
         (plain_pairs K.plain V.plain map.now.entries))) }
+    ensures back { OnOk result (AreVersionsBack K.versions V.versions (plain_pairs K.plain V.plain map.now.entries)
+        → AreBack K.name_of K.named V.writes V.reads (plain_pairs K.plain V.plain map.now.entries)) }
 {
     let named = by_name(alloc, map)?;
     joined(alloc, &named)

@@ -76,6 +76,7 @@ impl<P: LogPermission> SavedValue for IndexSet<P> {
     ghost canonical = { λ ps. texts_canonical 124 P.text_of ps };
 
     fn can_save(&self) -> Result<(), JsonError> {
+        let _permissions = self.iter();
         Ok(())
     }
 

@@ -1,16 +1,17 @@
 //! Objects written as text member by member, with no value of the whole.
-ghost use Rattle.std.specs.Prelude.{IfErr, IfOk, OnOk, ◌≡◌, [], List, false, codes, string_bytes};
+ghost use Rattle.std.specs.Prelude.{IfErr, IfOk, OnOk, ◌≡◌, [], List, Some, false, codes, string_bytes};
 ghost use Rattle.std.specs.Option.{option_map};
 ghost use Rattle.serde_json.specs.Data.{Data, Members, object, put, string};
 ghost use Rattle.serde_json.specs.View.{view};
 ghost use Rattle.serde_json.specs.Written.{compact_text, has_float};
 ghost use Rattle.warg_crypto.specs.declared.json.error.JsonError.TheVariants as fault;
-ghost use Rattle.warg_crypto.specs.Json.{Gives, wrote};
-ghost use Rattle.warg_crypto.specs.JsonTexts.{key_json};
+ghost use Rattle.warg_crypto.specs.Json.{AreReadBack, Gives, IsReadBack, wrote};
+ghost use Rattle.warg_crypto.specs.JsonTexts.{key_in, key_json};
 ghost use Rattle.warg_crypto.specs.Members.{put_option};
 ghost use Rattle.warg_crypto.specs.Pairs.{plain_pairs};
+ghost use Rattle.warg_saved.specs.Backs.{AreBack, AreVersionsBack};
 ghost use Rattle.warg_saved.specs.Maps.{put_pairs};
-ghost use Rattle.warg_saved.specs.Names.{text_name};
+ghost use Rattle.warg_saved.specs.Names.{text_name, text_named};
 ghost use Rattle.warg_saved.specs.Canonical.{HasNoFloat};
 ghost use Rattle.warg_saved.specs.Texts.{PutsText, texts_of};
 
@@ -91,7 +92,9 @@ impl MemberTexts {
         value: &Option<T>,
     ) -> Result<(), JsonError>
         requires { (x : T.Plain) → HasNoFloat (T.writes x) }
-        ensures { PutsText (put_option T.writes name.now (option_map T.plain value.now)) result self.old self.new }
+        ensures written { PutsText (put_option T.writes name.now (option_map T.plain value.now)) result self.old self.new }
+        ensures back { OnOk result ((x : T.Plain) → option_map T.plain value.now ≡ Some x → AreReadBack (T.versions x)
+            → IsReadBack T.writes T.reads T.equivalent x) }
     {
         let Some(value) = value else {
             return Ok(());
@@ -106,8 +109,10 @@ impl MemberTexts {
         name: &str,
         map: &IndexMap<K, V>,
     ) -> Result<(), JsonError>
-        ensures { PutsText (put_pairs K.name_of V.writes name.now
+        ensures written { PutsText (put_pairs K.name_of V.writes name.now
             (plain_pairs K.plain V.plain map.now.entries)) result self.old self.new }
+        ensures back { OnOk result (AreVersionsBack K.versions V.versions (plain_pairs K.plain V.plain map.now.entries)
+            → AreBack K.name_of K.named V.writes V.reads (plain_pairs K.plain V.plain map.now.entries)) }
     {
         if map.is_empty() {
             return Ok(());
@@ -118,7 +123,8 @@ impl MemberTexts {
 
     /// Puts the keys, unless there are none. After an error the texts are of no use.
     pub fn put_keys(&mut self, keys: &IndexMap<KeyID, PublicKey>) -> Result<(), JsonError>
-        ensures { PutsText (put_pairs text_name key_json (codes "keys") keys.now.entries) result self.old self.new }
+        ensures written { PutsText (put_pairs text_name key_json (codes "keys") keys.now.entries) result self.old self.new }
+        ensures back { OnOk result (AreBack text_name text_named key_json key_in keys.now.entries) }
     {
         self.put_map("keys", keys)
     }

@@ -3,7 +3,7 @@ ghost use Rattle.std.specs.Prelude.{◌≡◌, List, [], Result, Ok, Err, IfOk, 
 ghost use Rattle.serde_json.specs.Data.{Data};
 ghost use Rattle.serde_json.specs.View.{view};
 ghost use Rattle.warg_crypto.specs.declared.json.error.JsonError.{JsonError};
-ghost use Rattle.warg_crypto.specs.Json.{AreReadBack, Gives, ReadsBack, Version};
+ghost use Rattle.warg_crypto.specs.Json.{AreReadBack, Gives, IsReadBack, ReadsBack, Version};
 ghost use Rattle.warg_crypto.specs.JsonTexts.{key_in, key_json};
 ghost use Rattle.warg_crypto.specs.NamedBytes.{NamedBytes};
 ghost use Rattle.warg_saved.specs.Canonical.{WritesCanonical, value_depth};
@@ -37,6 +37,8 @@ pub trait SavedValue: Drop {
     /// Whether there is JSON of the value, or why there is none.
     fn can_save(&self) -> Result<(), JsonError>
         ensures ok { OnOk result ((d : Data) × (writes (plain self.now) ≡ Ok d)) }
+        ensures back { OnOk result (AreReadBack (versions (plain self.now)) →
+            IsReadBack writes reads (λ a b. a ≡ b) (plain self.now)) }
         ensures err { IfErr result (λ e. writes (plain self.now) ≡ Err e) };
 
     /// The JSON of the value.
@@ -68,6 +70,8 @@ impl SavedValue for PublicKey {
     ghost canonical = { λ key. tt };
 
     fn can_save(&self) -> Result<(), JsonError> {
+        let _name = self.algorithm();
+        let _bytes = self.bytes();
         Ok(())
     }
 

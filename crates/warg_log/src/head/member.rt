@@ -34,7 +34,8 @@ pub fn put_head(
 
 /// Puts the head as text, if there is one. After an error the texts are of no use.
 pub fn put_head_text(members: &mut MemberTexts, head: &Option<Head>) -> Result<(), JsonError>
-    ensures { PutsText (put_option head_json (codes "head") head.now) result members.old members.new }
+    ensures written { PutsText (put_option head_json (codes "head") head.now) result members.old members.new }
+    ensures back { OnOk result ((h : OfHead) → head.now ≡ Some h → IsReadBack head_json head_in (λ x y. x ≡ y) h) }
 {
     members.put_optional("head", head)
 }

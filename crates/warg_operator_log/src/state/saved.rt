@@ -7,7 +7,7 @@ ghost use Rattle.warg_crypto.specs.Json.{Gives};
 ghost use Rattle.warg_crypto.specs.Pairs.{plain_pairs};
 ghost use Rattle.warg_permissions.specs.declared.operator.Permission.{Permission as OfPermission};
 ghost use Rattle.warg_saved.specs.Fit.{RefusesCase, first_case, is_nil, keys_case, rights_case, unless_case, version_case};
-ghost use Rattle.warg_saved.specs.JsonText.{GivesOfText, in_text};
+ghost use Rattle.warg_saved.specs.JsonText.{GivesOfText, TextReadsBack, in_text};
 ghost use Rattle.warg_saved.specs.Texts.{IsReadAs, text_of};
 ghost use Rattle.warg_log.specs.Contents.{Contents};
 ghost use Rattle.warg_log.specs.States.{State};
@@ -181,6 +181,7 @@ fn members_of(alloc: Global, log: &Log<NamespaceMap>) -> Result<Map<String, Valu
 fn log_text(alloc: Global, log: &Log<NamespaceMap>) -> Result<String, JsonError>
     ensures written { Gives string_bytes result (text_of (state_json log.now)) }
     ensures read { IfOk result (λ text. IsReadAs (state_json log.now) (string_bytes text)) }
+    ensures savable { OnOk result (IsSavable log.now) }
 {
     let mut members = MemberTexts::new(alloc);
     members.put_optional("algorithm", log.algorithm())?;
@@ -193,12 +194,13 @@ fn log_text(alloc: Global, log: &Log<NamespaceMap>) -> Result<String, JsonError>
 
 impl LogState {
     /// The state's JSON as text, with no space: what [`JsonValue::to_value`] gives, written. It takes a fraction of
-    /// the time, since each namespace is written for itself, and no value is made of it. [`LogState::from_json`] reads from
-    /// the text what [`JsonValue::from_value`] reads from that value. `TimeBeforeEpoch`: a time that is to be written lies
+    /// the time, since each namespace is written for itself, and no value is made of it. [`LogState::from_json`] reads it
+    /// back as an equal state. `TimeBeforeEpoch`: a time that is to be written lies
     /// before the epoch.
     pub fn to_json(&self, alloc: Global) -> Result<String, JsonError>
         ensures written { Gives string_bytes result (text_of (state_json self.now)) }
         ensures read { IfOk result (λ text. IsReadAs (state_json self.now) (string_bytes text)) }
+        ensures back { IfOk result (λ text. TextReadsBack state_in AreEqual self.now (string_bytes text)) }
     {
         log_text(alloc, &self.log)
     }

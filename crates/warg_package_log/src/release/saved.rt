@@ -1,5 +1,7 @@
 //! A release as a value of a map of a saved state.
 ghost use Rattle.std.specs.Prelude.{◌≡◌, ℕ, List, [], ◌∷◌, Ok, Err, OnOk, IfErr};
+ghost use Rattle.warg_crypto.specs.Json.{IsReadBack};
+ghost use Rattle.warg_crypto.specs.JsonTexts.{hash_in, hash_json, time_in, time_json};
 ghost use Rattle.warg_crypto.specs.TimeText.{time_text};
 ghost use Rattle.warg_package_log.specs.ReleaseMap.{release_view};
 ghost use Rattle.warg_package_log.specs.ReleaseJson.{release_in, release_json, release_state_json};
@@ -19,12 +21,22 @@ use warg_saved::{SavedValue, Writer};
 /// Refuses a time before the epoch.
 fn check_time(time: &Timestamp) -> Result<(), JsonError>
     ensures ok { OnOk result ((text : List ℕ) × (time_text time.now ≡ Ok text)) }
+    ensures back { OnOk result (IsReadBack time_json time_in (λ a b. a ≡ b) time.now) }
     ensures err { IfErr result (λ e. time_text time.now ≡ Err e) }
 {
-    if time.seconds().is_negative() {
+    let _nanos = time.nanos();
+    let seconds = time.seconds();
+    if seconds.is_negative() {
         return Err(JsonError::TimeBeforeEpoch);
     }
     Ok(())
+}
+
+/// A hash is written as a text that reads back. This does nothing.
+fn hash_reads_back(hash: &AnyHash)
+    ensures { IsReadBack hash_json hash_in (λ a b. a ≡ b) hash.now }
+{
+    let _bytes = hash.bytes();
 }
 
 /// Writes the state of a release that stands.
@@ -108,9 +120,13 @@ impl SavedValue for Release {
     ghost canonical = { release_canonical };
 
     fn can_save(&self) -> Result<(), JsonError> {
+        hash_reads_back(&AnyHash::from(self.record_id));
         check_time(&self.timestamp)?;
         match &self.state {
-            ReleaseState::Released { .. } => Ok(()),
+            ReleaseState::Released { content } => {
+                hash_reads_back(content);
+                Ok(())
+            }
             ReleaseState::Yanked { timestamp, .. } => check_time(timestamp),
         }
     }
