@@ -16,8 +16,28 @@ def words_of(doc):
     return argparse.ArgumentParser(description=doc, formatter_class=argparse.RawDescriptionHelpFormatter)
 
 
+def stands_on(name, found=None):
+    """The crate and all crates of the repository that it stands on, by crates.txt."""
+    found = set() if found is None else found
+    lines = (line.partition(":") for line in (ROOT / "crates.txt").read_text(encoding="utf-8").splitlines())
+    below = {crate: words.split() for crate, _, words in lines if words}
+    if name in below and name not in found:
+        found.add(name)
+        for word in below[name]:
+            stands_on(word, found)
+    return found
+
+
+def is_older(program, name):
+    """Whether a source of the program, or of a crate that it stands on, is newer than it."""
+    made = program.stat().st_mtime
+    folders = [ROOT / "crates" / crate / part for crate in stands_on(name) for part in ("src", "specs", "proofs")]
+    return any(path.stat().st_mtime > made for folder in folders for path in folder.rglob("*") if path.is_file())
+
+
 def built(name):
-    """The program of this crate, proved and built first where it does not stand there yet."""
+    """The program of this crate, proved and built first where it does not stand there yet. One that is older than its sources
+    is taken as it stands, with a warning."""
     program = ROOT / f"crates/{name}/out/{name}"
     if not program.exists():
         print(f"{name} is not built: it is proved and built first", file=sys.stderr)
@@ -28,6 +48,8 @@ def built(name):
             print(error, file=sys.stderr)
     if not program.exists():
         raise SystemExit(f"{name} could not be built")
+    if is_older(program, name):
+        print(f"{name} is older than its sources: it is not what these make", file=sys.stderr)
     return program
 
 

@@ -1,11 +1,11 @@
-// Refuses the request for memory, by malloc or realloc, whose number, counted from 1, is in REFUSE, and then writes a byte to the file whose
-// descriptor is in REFUSED. For LD_PRELOAD.
+// Refuses the request for memory, by malloc or realloc, whose number, counted from 1, is in REFUSE, and all after it where REFUSE_ON is 1. For each
+// it writes a byte to the file whose descriptor is in REFUSED. For LD_PRELOAD.
 #define _GNU_SOURCE
 #include <dlfcn.h>
 #include <stdlib.h>
 #include <unistd.h>
 
-static long requests, refused_one = -1;
+static long requests, first = -1, goes_on;
 
 static long number_in(const char *name) {
     const char *text = getenv(name);
@@ -13,8 +13,8 @@ static long number_in(const char *name) {
 }
 
 static int is_refused(void) {
-    if (refused_one < 0) refused_one = number_in("REFUSE");
-    if (++requests != refused_one) return 0;
+    if (first < 0) first = number_in("REFUSE"), goes_on = number_in("REFUSE_ON");
+    if (++requests < first || (requests > first && !goes_on)) return 0;
     return write(number_in("REFUSED"), "!", 1), 1;
 }
 

@@ -75,6 +75,9 @@ fn tell_saved(rt: &impl Print, alloc: Global) -> io::Result<()> {
     for (name, text) in saved::STATES {
         tell(rt, name, saved::text_state(alloc, text))?;
     }
+    for (name, text) in saved::OPERATOR_STATES {
+        tell(rt, name, saved::operator_text_state(alloc, text))?;
+    }
     for (name, text) in saved::CHECKPOINTS {
         tell(rt, name, saved::checkpoint(alloc, text))?;
     }

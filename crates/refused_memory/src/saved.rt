@@ -58,8 +58,24 @@ pub(crate) const STATES: &[(&str, &str)] = &[
         "from_json, a release without members",
         "{\"releases\":{\"1.1.0\":{}}}",
     ),
+    (
+        "from_json, releases in another order",
+        "{\"algorithm\":\"sha256\",\"head\":{\"digest\":\"sha256:88e63a3e22d45d5304a601e1f3f96e4c8edb3772b5250b528a833bfbf3c3c718\",\"timestamp\":\"3.0\"},\"releases\":{\"1.1.0\":{\"by\":\"sha256:41217e6dcb8c0694d904eb6ff3e4098d479db7c8f90cd8db737d85701d464db0\",\"recordId\":\"sha256:980dfd23c944eebfbcc477c24acde9b1c3838478faa48d4f9e13e947740a3482\",\"state\":{\"by\":\"sha256:6f03ae61d0fd3df261d400afe99bdcd613f266104552b6ad5281c7666633c6e2\",\"status\":\"yanked\",\"timestamp\":\"3.0\"},\"timestamp\":\"2.0\",\"version\":\"1.1.0\"},\"1.0.0\":{\"by\":\"sha256:41217e6dcb8c0694d904eb6ff3e4098d479db7c8f90cd8db737d85701d464db0\",\"recordId\":\"sha256:980dfd23c944eebfbcc477c24acde9b1c3838478faa48d4f9e13e947740a3482\",\"state\":{\"by\":\"sha256:6f03ae61d0fd3df261d400afe99bdcd613f266104552b6ad5281c7666633c6e2\",\"status\":\"yanked\",\"timestamp\":\"3.0\"},\"timestamp\":\"2.0\",\"version\":\"1.0.0\"}}}",
+    ),
     ("from_json, a list", "[]"),
     ("from_json, no end", "{\"releases\":{"),
+];
+
+/// Texts of which an operator log's state is read, each with what it is.
+pub(crate) const OPERATOR_STATES: &[(&str, &str)] = &[
+    (
+        "from_json, two namespaces",
+        "{\"algorithm\":\"sha256\",\"head\":{\"digest\":\"sha256:88e63a3e22d45d5304a601e1f3f96e4c8edb3772b5250b528a833bfbf3c3c718\",\"timestamp\":\"3.0\"},\"keys\":{\"sha256:6f03ae61d0fd3df261d400afe99bdcd613f266104552b6ad5281c7666633c6e2\":\"toy:YWxpY2U=\"},\"namespaces\":{\"my-namespace\":{\"state\":\"defined\"},\"other\":{\"state\":{\"imported\":{\"registry\":\"registry.example.com\"}}}},\"permissions\":{\"sha256:6f03ae61d0fd3df261d400afe99bdcd613f266104552b6ad5281c7666633c6e2\":[\"commit\"]}}",
+    ),
+    (
+        "from_json, a namespace of a bad name",
+        "{\"algorithm\":\"sha256\",\"head\":{\"digest\":\"sha256:88e63a3e22d45d5304a601e1f3f96e4c8edb3772b5250b528a833bfbf3c3c718\",\"timestamp\":\"3.0\"},\"namespaces\":{\"my-NAMESPACE\":{\"state\":\"defined\"}}}",
+    ),
 ];
 
 /// Checkpoints, each with what it is.
@@ -114,15 +130,26 @@ fn read<T: JsonValue + Drop>(alloc: Global, text: &str) -> Result<&'static str, 
     }
 }
 
+// What a text is read as: a state, or the name of its fault.
+fn read_text<T: Drop>(state: Result<T, JsonTextError>) -> Result<&'static str, Refusal> {
+    match state {
+        Ok(_) => Ok("read"),
+        Err(JsonTextError::NotJson) => Ok("no JSON"),
+        Err(JsonTextError::OutOfMemory) => Err(OUT_OF_MEMORY),
+        Err(JsonTextError::Value(error)) => Ok(fault_name(error)),
+    }
+}
+
 /// What the text is read as, as a package log's state, with no value of the whole.
 pub(crate) fn text_state(alloc: Global, text: &str) -> Result<String, Refusal> {
-    let told = match package::LogState::from_json(alloc, text) {
-        Ok(_) => "read",
-        Err(JsonTextError::NotJson) => "no JSON",
-        Err(JsonTextError::OutOfMemory) => return Err(OUT_OF_MEMORY),
-        Err(JsonTextError::Value(error)) => fault_name(error),
-    };
-    Ok(String::from_str(alloc, told)?)
+    let state = package::LogState::from_json(alloc, text);
+    Ok(String::from_str(alloc, read_text(state)?)?)
+}
+
+/// The same, as an operator log's state.
+pub(crate) fn operator_text_state(alloc: Global, text: &str) -> Result<String, Refusal> {
+    let state = operator::LogState::from_json(alloc, text);
+    Ok(String::from_str(alloc, read_text(state)?)?)
 }
 
 /// What the text is read as, as a package log's state.
