@@ -89,10 +89,25 @@ where
     Ok(())
 }
 
+// A log whose verifier takes no signature refuses its first record, and stays as it is.
+fn takes_nothing<L: Scripted>(rt: &impl Abort, alloc: Global) -> Result<(), Fail>
+where
+    L::Error: Debug + PartialEq,
+{
+    let mut log = AuditedLog::<L, Never>::new(alloc, Never)?;
+    let string = first::<L>(alloc)?;
+    let refused = log.append(string.as_slice()).err();
+    assert_eq!(rt; refused, Some(cause::<L>(alloc, "SignatureError")?));
+    assert!(rt; log.records().is_empty() && *log.state() == L::new(alloc)?);
+    Ok(())
+}
+
 #[test]
 fn a_verifier_may_refuse(rt: HostRuntime) -> Result<(), Fail> {
     refuses::<package::LogState, Never>(&rt, rt.alloc(), &Never, "SignatureError")?;
     refuses::<operator::LogState, Never>(&rt, rt.alloc(), &Never, "SignatureError")?;
+    takes_nothing::<package::LogState>(&rt, rt.alloc())?;
+    takes_nothing::<operator::LogState>(&rt, rt.alloc())?;
     refuses::<package::LogState, Poor>(&rt, rt.alloc(), &without_memory(), "OutOfMemory")?;
     refuses::<operator::LogState, Poor>(&rt, rt.alloc(), &without_memory(), "OutOfMemory")
 }
