@@ -1,5 +1,6 @@
 -- What bytes are read as, and which error a part's fault is.
-use Rattle.std.specs.Prelude.{◌≡◌, ◌⊎◌, Result, Ok, Err, MatchResult}
+use Rattle.std.specs.Prelude.{Result}
+use Rattle.warg_crypto.specs.Results.{ReturnsOr}
 use Rattle.warg_crypto.specs.declared.coding.WireFault.{WireFault}
 use Rattle.warg_crypto.specs.declared.coding.WireFault.TheVariants as wire
 use Rattle.warg_crypto.specs.declared.coding.DecodeError.{DecodeError}
@@ -9,7 +10,7 @@ use Rattle.warg_crypto.specs.declared.signing.error.KeyParseError.TheVariants as
 
 -- what was read, seen by view, is what the bytes say, unless memory ran out
 abbrev pub IsDecoded : {X Y : Type 0} → (X → Y) → Result Y DecodeError → Result X DecodeError → Type 0
-IsDecoded view said r = MatchResult r (λ x. said ≡ Ok (view x)) (λ e. (e ≡ fault.OutOfMemory) ⊎ (said ≡ Err e))
+IsDecoded view said r = ReturnsOr fault.OutOfMemory view r said
 
 -- a message's fault; out of memory stays out of memory
 abbrev pub wire_error : WireFault → DecodeError

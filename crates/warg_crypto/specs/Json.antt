@@ -1,20 +1,21 @@
 -- What is written and read of JSON: each reader is a function to its value, or the first fault.
-use Rattle.std.specs.Prelude.{ℕ, ◌≡◌, ◌⊎◌, List, Option, Some, None, Result, Ok, Err, MatchResult}
+use Rattle.std.specs.Prelude.{ℕ, ◌≡◌, List, Option, Some, None, Result, Ok, Err, MatchResult}
 use Rattle.std.specs.List.{AllByRecursion}
 use Rattle.semver.specs.Identifiers.{parts_text}
 use Rattle.semver.specs.Parse.{version_parts}
 use Rattle.serde_json.specs.Data.{Data, Members, Items}
 use Rattle.serde_json.specs.Find.{as_array, as_object, as_str, get_member}
+use Rattle.warg_crypto.specs.Results.{ReturnsOr}
 use Rattle.warg_crypto.specs.declared.json.error.JsonError.{JsonError}
 use Rattle.warg_crypto.specs.declared.json.error.JsonError.TheVariants as fault
 
--- What a call answered, seen by view, is want.
-abbrev pub Answers : {X Y : Type 0} → (X → Y) → Result X JsonError → Result Y JsonError → Type 0
-Answers view r want = MatchResult r (λ x. want ≡ Ok (view x)) (λ e. want ≡ Err e)
+-- r, seen by view, is want
+abbrev pub Returns : {X Y : Type 0} → (X → Y) → Result X JsonError → Result Y JsonError → Type 0
+Returns view r want = MatchResult r (λ x. want ≡ Ok (view x)) (λ e. want ≡ Err e)
 
 -- The same, unless memory ran out.
-abbrev pub Gives : {X Y : Type 0} → (X → Y) → Result X JsonError → Result Y JsonError → Type 0
-Gives view r want = MatchResult r (λ x. want ≡ Ok (view x)) (λ e. (e ≡ fault.OutOfMemory) ⊎ (want ≡ Err e))
+abbrev pub ReturnsOrNoMemory : {X Y : Type 0} → (X → Y) → Result X JsonError → Result Y JsonError → Type 0
+ReturnsOrNoMemory view r want = ReturnsOr fault.OutOfMemory view r want
 
 -- What d reads as is equivalent to x.
 pub record ReadsBack {A : Type 0} (reads : Data → Result A JsonError) (equivalent : A → A → Type 0) (x : A) (d : Data)

@@ -7,6 +7,7 @@ pub mod Same
 pub mod Keys
 pub mod Signed
 pub mod Times
+pub mod Results
 pub mod Coding
 pub mod Prefix
 pub mod HashLemmas

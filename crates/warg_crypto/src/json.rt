@@ -5,7 +5,7 @@ ghost use Rattle.std.specs.Prelude.{List, Result, IfOk};
 ghost use Rattle.serde_json.specs.Data.{Data};
 ghost use Rattle.serde_json.specs.View.{view};
 ghost use Rattle.warg_crypto.specs.declared.json.error.JsonError.{JsonError};
-ghost use Rattle.warg_crypto.specs.Json.{AreReadBack, Gives, ReadsBack, Version};
+ghost use Rattle.warg_crypto.specs.Json.{AreReadBack, ReturnsOrNoMemory, ReadsBack, Version};
 
 mod error;
 pub mod laws;
@@ -39,11 +39,11 @@ pub trait JsonValue: Sized {
 
     /// The JSON of the value.
     fn to_value(&self, alloc: Global) -> Result<Value, JsonError>
-        ensures written { Gives view result (writes (plain self.now)) }
+        ensures written { ReturnsOrNoMemory view result (writes (plain self.now)) }
         ensures back { AreReadBack (versions (plain self.now)) →
             IfOk result (λ v. ReadsBack reads equivalent (plain self.now) (view v)) };
 
     /// The value of JSON, or its first fault.
     fn from_value(alloc: Global, value: &Value) -> Result<Self, JsonError>
-        ensures { Gives plain result (reads (view value.now)) };
+        ensures { ReturnsOrNoMemory plain result (reads (view value.now)) };
 }

@@ -1,7 +1,7 @@
 //! Times as texts: seconds, a dot, nanoseconds, in decimal without padding.
 
 ghost use Rattle.std.specs.Prelude.{◌≡◌, ◌^◌, Ok, IfOk, string_bytes};
-ghost use Rattle.warg_crypto.specs.Json.{Answers, Gives};
+ghost use Rattle.warg_crypto.specs.Json.{Returns, ReturnsOrNoMemory};
 ghost use Rattle.warg_crypto.specs.TimeText.{carried, number_of, time_of, time_sides, time_text};
 
 use crate::json::JsonError;
@@ -16,7 +16,7 @@ const LAST: u64 = 9_223_372_036_854_775_807;
 impl Timestamp {
     /// The text of the time: `TimeBeforeEpoch` if its seconds are negative.
     pub fn to_text(&self, alloc: Global) -> Result<String, JsonError>
-        ensures text { Gives string_bytes result (time_text self.now) }
+        ensures text { ReturnsOrNoMemory string_bytes result (time_text self.now) }
         ensures back { IfOk result (λ text. time_of (string_bytes text) ≡ Ok self.now) }
     {
         let seconds = self.seconds();
@@ -32,7 +32,7 @@ impl Timestamp {
     /// The time of a text, whose nanoseconds are carried. `BadText`: a side of the first dot is no
     /// number in range; `TimeOutOfRange`: the seconds pass `i64`.
     pub fn parse_text(text: &str) -> Result<Timestamp, JsonError>
-        ensures { Answers (λ t. t) result (time_of text.now) }
+        ensures { Returns (λ t. t) result (time_of text.now) }
     {
         let Some((left, right)) = text.split_once('.') else {
             return Err(JsonError::BadText);
@@ -43,7 +43,7 @@ impl Timestamp {
 
 // The time of the texts on both sides of the dot.
 fn sides_time(left: &str, right: &str) -> Result<Timestamp, JsonError>
-    ensures { Answers (λ t. t) result (time_sides (number_of (2 ^ 64) left.now) (number_of (2 ^ 32) right.now)) }
+    ensures { Returns (λ t. t) result (time_sides (number_of (2 ^ 64) left.now) (number_of (2 ^ 32) right.now)) }
 {
     let Ok(seconds) = left.parse::<u64>() else {
         return Err(JsonError::BadText);
@@ -56,7 +56,7 @@ fn sides_time(left: &str, right: &str) -> Result<Timestamp, JsonError>
 
 // The time of seconds and nanoseconds, those of a whole second and more carried.
 fn carried(seconds: u64, nanos: u32) -> Result<Timestamp, JsonError>
-    ensures { Answers (λ t. t) result (carried seconds nanos) }
+    ensures { Returns (λ t. t) result (carried seconds nanos) }
 {
     let carry = (nanos / NANOS) as u64;
     if seconds > LAST - carry {

@@ -53,10 +53,10 @@ decoded (Err f) = Err (error_of f)
 
 -- what is said ends with this fault; an error that tells none says nothing
 abbrev pub TellsFault : {X F : Type 0} → Result X F → Option F → Type 0
-TellsFault record_data None = Unit {0}
-TellsFault record_data (Some f) = record_data ≡ Err f
+TellsFault said None = Unit {0}
+TellsFault said (Some f) = said ≡ Err f
 
 -- what was answered, seen by view, is what is said, out of memory aside
 abbrev pub IsReading : {X Y E F : Type 0} → (X → Y) → (E → Option F) → Result Y F → Result X E → Type 0
-IsReading view told record_data (Ok x) = record_data ≡ Ok (view x)
-IsReading view told record_data (Err e) = TellsFault record_data (told e)
+IsReading view told said (Ok x) = said ≡ Ok (view x)
+IsReading view told said (Err e) = TellsFault said (told e)

@@ -20,7 +20,7 @@ use Rattle.warg_validator.proofs.KindWalks.{accepted-lawful}
 use Rattle.warg_log.specs.SignedEntries.{AccessView, nothing, after}
 use Rattle.warg_log.specs.Forms.{TimesNeverFall, FirstAloneHasNoPrev, is_init, inits, OneInitFirst, EntriesHaveKeys, HasForm}
 use Rattle.warg_log.specs.History.{Placed, placed_in, record_history, history_of}
-use Rattle.warg_log.specs.Rules.{SignedRecord, Event, Rules, StateView, View, Wrong, signed_entry_of, record_events, head_of, whole_after, start, entry_offence, entry_fault, events_offence, unsigned_offence, record_offence, after_record, IsCoherent}
+use Rattle.warg_log.specs.Rules.{SignedRecord, Event, Rules, StateView, View, Wrong, signed_entry_of, record_events, head_of, state_view_after, start, entry_offence, entry_fault, events_offence, unsigned_offence, record_offence, after_record, IsCoherent}
 use Rattle.warg_log.specs.LogKind.{opened, offence_in, kind_of}
 use Rattle.warg_log.specs.Offences.{Offence, lacks_required, FirstEntryIsNotInit, InitialEntryAfterBeginning, InitialRecordDoesNotInit, TimestampLowerThanPrevious}
 use Rattle.warg_log.specs.Records.{is_before, link_offence, version_offence, time_offence, signer_offence}
@@ -75,18 +75,18 @@ module _ {P O V F : Type 0} (rules : Rules P O V F) (same : P → P → Bool) wh
   pub record IsLawful (b : SignatureRelation) (v : View P V) (r : SignedRecord P O) : Type 0 where
     pub link : link_offence {P = P} v.head r.contents.prev ≡ None
     pub time : time_offence {P = P} v.head r.contents.time ≡ None
-    pub events : events_offence rules same r.contents.version v.whole [] (record_events rules.id_of r) ≡ None
-    pub begun : is_some (whole_after rules same v.whole (record_events rules.id_of r)).authority.algorithm ≡ true
+    pub events : events_offence rules same r.contents.version v.state [] (record_events rules.id_of r) ≡ None
+    pub begun : is_some (state_view_after rules same v.state (record_events rules.id_of r)).authority.algorithm ≡ true
     pub unsigned : unsigned_offence rules same v r ≡ None
-    pub signed : signer_offence b (whole_after rules same v.whole (record_events rules.id_of r)).authority r.envelope.key_id (signed_message rules.signing_prefix r.envelope.content) r.envelope.signature ≡ None
+    pub signed : signer_offence b (state_view_after rules same v.state (record_events rules.id_of r)).authority r.envelope.key_id (signed_message rules.signing_prefix r.envelope.content) r.envelope.signature ≡ None
 
   pub lawful : (b : SignatureRelation) (v : View P V) (r : SignedRecord P O) → record_offence rules same b v r ≡ None → IsLawful b v r
   lawful b v r h =
-      let w = whole_after rules same v.whole (record_events rules.id_of r) in
+      let w = state_view_after rules same v.state (record_events rules.id_of r) in
       let link = option_map Wrong.Shared (link_offence v.head r.contents.prev) in
       let version = option_map Wrong.Shared (version_offence v.head r.contents.version) in
       let time = option_map Wrong.Shared (time_offence v.head r.contents.time) in
-      let events = events_offence rules same r.contents.version v.whole [] (record_events rules.id_of r) in
+      let events = events_offence rules same r.contents.version v.state [] (record_events rules.id_of r) in
       let unsigned = or_first (unsigned_offence rules same v r) _ h in
       let unlinked = or_second link _ unsigned in
       let timed = or_second version _ unlinked in
@@ -155,25 +155,25 @@ module _ {P O V F : Type 0} (rules : Rules P O V F) (same : P → P → Bool) wh
     first_alone (q ∷ rs) h (suc n) r at = (λ none. absurd (later_prev (after_record rules same (start rules same) q) rs refl h.1 n r at none), λ zero. absurd (omega (arith, zero)))
 
     -- no entry after the first is an Init
-    pub later_entries : (version : ℕ) (w : StateView P V) (before events : List (Event (EntryData P O))) → is_some (whole_after rules same w before).authority.algorithm ≡ true → events_offence rules same version w before events ≡ None → AllByRecursion (λ e. is_init e.entry ≡ false) events
+    pub later_entries : (version : ℕ) (w : StateView P V) (before events : List (Event (EntryData P O))) → is_some (state_view_after rules same w before).authority.algorithm ≡ true → events_offence rules same version w before events ≡ None → AllByRecursion (λ e. is_init e.entry ≡ false) events
     later_entries version w before [] begun h = tt
     later_entries version w before (e ∷ events) begun h =
-        let here = or_first (entry_offence rules same version (whole_after rules same w before) e.signer e.entry) _ h in
-        let next : is_some (whole_after rules same w (before ++ e ∷ [])).authority.algorithm ≡ true =
+        let here = or_first (entry_offence rules same version (state_view_after rules same w before) e.signer e.entry) _ h in
+        let next : is_some (state_view_after rules same w (before ++ e ∷ [])).authority.algorithm ≡ true =
         ap (λ l. is_some (after same w.authority l).algorithm) (filter_map-append signed_entry_of before (e ∷ []))
         ∙ ap (λ (s : AccessView P). is_some s.algorithm) (after-append same w.authority (filter_map signed_entry_of before) (filter_map signed_entry_of (e ∷ [])))
-        ∙ begun_after version (whole_after rules same w before) e here in
-        (no_init version (whole_after rules same w before) e.signer e.entry begun here, later_entries version w (before ++ e ∷ []) events next (or_second _ _ h))
+        ∙ begun_after version (state_view_after rules same w before) e here in
+        (no_init version (state_view_after rules same w before) e.signer e.entry begun here, later_entries version w (before ++ e ∷ []) events next (or_second _ _ h))
 
-    record_inits : (n : ℕ) (v : View P V) (r : SignedRecord P O) → is_some v.whole.authority.algorithm ≡ true → IsLawful b v r → inits (record_history rules.id_of (n, r)) ≡ []
-    record_inits n v r begun l = inits-none (record_history rules.id_of (n, r)) (subst (AllByRecursion (λ (e : Event (EntryData P O)). is_init e.entry ≡ false)) (sym (record_flat rules.id_of n 0 r r.contents.entries)) (later_entries r.contents.version v.whole [] (record_events rules.id_of r) begun l.events))
+    record_inits : (n : ℕ) (v : View P V) (r : SignedRecord P O) → is_some v.state.authority.algorithm ≡ true → IsLawful b v r → inits (record_history rules.id_of (n, r)) ≡ []
+    record_inits n v r begun l = inits-none (record_history rules.id_of (n, r)) (subst (AllByRecursion (λ (e : Event (EntryData P O)). is_init e.entry ≡ false)) (sym (record_flat rules.id_of n 0 r r.contents.entries)) (later_entries r.contents.version v.state [] (record_events rules.id_of r) begun l.events))
 
     inits-cons : (n : ℕ) (r : SignedRecord P O) (rs : List (SignedRecord P O)) → inits (flat_map (record_history rules.id_of) (enumerate_from n (r ∷ rs))) ≡ inits (record_history rules.id_of (n, r)) ++ inits (flat_map (record_history rules.id_of) (enumerate_from (n + 1) rs))
     inits-cons n r rs =
         ap inits (flat_map-cons (record_history rules.id_of) (n, r) (enumerate_from (n + 1) rs))
         ∙ filter-append (λ (e : Placed (EntryData P O)). is_init e.event.entry) (record_history rules.id_of (n, r)) (flat_map (record_history rules.id_of) (enumerate_from (n + 1) rs))
 
-    later_inits : (n : ℕ) (v : View P V) (rs : List (SignedRecord P O)) → is_some v.whole.authority.algorithm ≡ true → AllLawfulRecords b v rs → inits (flat_map (record_history rules.id_of) (enumerate_from n rs)) ≡ []
+    later_inits : (n : ℕ) (v : View P V) (rs : List (SignedRecord P O)) → is_some v.state.authority.algorithm ≡ true → AllLawfulRecords b v rs → inits (flat_map (record_history rules.id_of) (enumerate_from n rs)) ≡ []
     later_inits n v [] begun h = refl
     later_inits n v (r ∷ rs) begun h =
         let l = lawful b v r h.0 in
@@ -186,8 +186,8 @@ module _ {P O V F : Type 0} (rules : Rules P O V F) (same : P → P → Bool) wh
     begins_with envelope prev version time (e ∷ entries) l =
         let r : SignedRecord P O = record { contents = record { prev = prev; version = version; time = time; entries = e ∷ entries }; envelope = envelope } in
         let event : Event (EntryData P O) = record { entry = e; signer = envelope.key_id; time = time; record_id = rules.id_of envelope.content } in
-        let w = (start rules same).whole in
-        let bare = whole_after rules same w [] in
+        let w = (start rules same).state in
+        let bare = state_view_after rules same w [] in
         let first : entry_offence rules same version bare envelope.key_id e ≡ None = or_first (entry_offence rules same version bare envelope.key_id e) _ l.events in
         let others = later_entries version w (event ∷ []) _ (begun_after version bare event first) (or_second (entry_offence rules same version bare envelope.key_id e) _ l.events) in
         let rest = map (placed_in rules.id_of 0 r) (enumerate_from 1 entries) in
@@ -227,7 +227,7 @@ module _ {P O V F D : Type 0} (rules : Rules P O V F) (same : P → P → Bool) 
   coherent v (e ∷ es) c h =
       let r = record_of e in
       let l = lawful rules same b v r (read_lawful rules same read own_state b v e (read e.content) h.0) in
-      coherent (after_record rules same v r) es (record-coherent rules same b v r (whole_after rules same v.whole (record_events rules.id_of r)) refl l.unsigned (head_of rules.id_of r) refl c l.signed) h.1
+      coherent (after_record rules same v r) es (record-coherent rules same b v r (state_view_after rules same v.state (record_events rules.id_of r)) refl l.unsigned (head_of rules.id_of r) refl c l.signed) h.1
 
   module _ (laws : KindLaws (kind_of rules same read own_state)) where
     -- the contents of accepted envelopes are records

@@ -9,12 +9,12 @@ use Rattle.warg_validator.specs.Walks.{view_after, AllLawful, IsStepwise}
 use Rattle.warg_crypto.specs.NamedBytes.{NamedBytes}
 use Rattle.warg_log.specs.SignedEntries.{SignedEntry, after, nothing, signed_entry_on, enters, signed_entry_key, signed_entry_algorithm}
 use Rattle.warg_records.specs.RecordData.{EntryData}
-use Rattle.warg_log.specs.Rules.{SignedRecord, Event, View, StateView, Wrong, Rules, signed_entry_in, signed_entry_of, own_of, events_of, record_events, head_of, whole_after, start, entry_offence, entry_fault, events_offence, unsigned_offence, record_offence, after_record}
+use Rattle.warg_log.specs.Rules.{SignedRecord, Event, View, StateView, Wrong, Rules, signed_entry_in, signed_entry_of, own_of, events_of, record_events, head_of, state_view_after, start, entry_offence, entry_fault, events_offence, unsigned_offence, record_offence, after_record}
 use Rattle.warg_log.specs.Offences.{lacks_required, not_begun}
 use Rattle.warg_log.specs.Records.{link_offence, version_offence, time_offence}
-use Rattle.warg_log.specs.History.{Placed, placed_in, record_history, history_of, entry_on, entry_enters, entry_key, entry_algorithm, standing_of, owns, view_of, own_after, own_offence}
+use Rattle.warg_log.specs.History.{Placed, placed_in, record_history, history_of, entry_on, entry_enters, entry_key, entry_algorithm, access_view_of, owns, view_of, own_after, own_offence}
 use Rattle.warg_log.proofs.Firsts.{or_first, or_second, unmapped}
-use Rattle.warg_log.proofs.SignedEntryLaws.{same_standing, after-append, map-join}
+use Rattle.warg_log.proofs.SignedEntryLaws.{same_access_view, after-append, map-join}
 use Rattle.warg_records.specs.declared.record_id.RecordId.{RecordId}
 use Rattle.warg_crypto.specs.Times.{Time}
 
@@ -99,8 +99,8 @@ module _ {P O : Type 0} (id_of : List ℕ → RecordId) where
       → (h : List (Placed (EntryData P O))) → unwrap_or (last_or None (filter_map (λ e. f e.event) h)) d ≡ unwrap_or (last_or None (filter_map g (signed_entries_in h))) d
   said_is f g d same h = ap (λ l. unwrap_or (last_or None l) d) (filter_map-of (λ e. e.event) f h ∙ filter_map-then signed_entry_of g f same (map (λ e. e.event) h))
 
-  pub standing-listed : (same : P → P → Bool) (h : List (Placed (EntryData P O))) → standing_of same h ≡ after same nothing (signed_entries_in h)
-  standing-listed same h = same_standing same _ _
+  pub access-view-listed : (same : P → P → Bool) (h : List (Placed (EntryData P O))) → access_view_of same h ≡ after same nothing (signed_entries_in h)
+  access-view-listed same h = same_access_view same _ _
       (said_is (λ e. entry_algorithm e.entry) signed_entry_algorithm None (λ e. algorithm_is e.signer e.entry) h)
       (λ k p. said_is (λ e. entry_on same k p e.signer e.entry) (signed_entry_on same k p) false (λ e. on_is same k p e.signer e.entry) h)
       (λ k. any-of (λ e. e.event) (λ e. entry_enters k e.signer e.entry) h ∙ any-then signed_entry_of (enters k) (λ e. entry_enters k e.signer e.entry) (λ e. enters_is k e.signer e.entry) (map (λ e. e.event) h))
@@ -144,20 +144,20 @@ module _ {P O V F : Type 0} (rules : Rules P O V F) (same : P → P → Bool) (n
   lawful-events : (version : ℕ) (w : StateView P V) (before events : List (Event (EntryData P O))) → events_offence rules same version w before events ≡ None → Lawful (rules.after w.own_state (filter_map own_of before)) (filter_map own_of events)
   lawful-events version w before [] h = tt
   lawful-events version w before (e ∷ es) h =
-      let here = entry_offence rules same version (whole_after rules same w before) e.signer e.entry in
+      let here = entry_offence rules same version (state_view_after rules same w before) e.signer e.entry in
       let later = events_offence rules same version w (before ++ e ∷ []) es in
       let rest = lawful-events version w (before ++ e ∷ []) es (or_second here later h) in
-      lawful-entry version (whole_after rules same w before) e.signer e.time e.record_id e.entry (filter_map own_of es) (or_first here later h)
+      lawful-entry version (state_view_after rules same w before) e.signer e.time e.record_id e.entry (filter_map own_of es) (or_first here later h)
       (subst (λ v. Lawful v (filter_map own_of es)) (own_state_push w.own_state before e) rest)
 
   -- of a record without offence no event has one
-  events-none : (v : View P V) (r : SignedRecord P O) (belongs : NamedBytes → List ℕ → NamedBytes → Bool) → record_offence rules same belongs v r ≡ None → events_offence rules same r.contents.version v.whole [] (record_events rules.id_of r) ≡ None
+  events-none : (v : View P V) (r : SignedRecord P O) (belongs : NamedBytes → List ℕ → NamedBytes → Bool) → record_offence rules same belongs v r ≡ None → events_offence rules same r.contents.version v.state [] (record_events rules.id_of r) ≡ None
   events-none v r belongs h =
-      let w = whole_after rules same v.whole (record_events rules.id_of r) in
+      let w = state_view_after rules same v.state (record_events rules.id_of r) in
       let link = option_map Wrong.Shared (link_offence v.head r.contents.prev) in
       let version = option_map Wrong.Shared (version_offence v.head r.contents.version) in
       let time = option_map Wrong.Shared (time_offence v.head r.contents.time) in
-      let events = events_offence rules same r.contents.version v.whole [] (record_events rules.id_of r) in
+      let events = events_offence rules same r.contents.version v.state [] (record_events rules.id_of r) in
       let all = or_first (unsigned_offence rules same v r) _ h in
       let checks = or_second link _ all in
       or_first events _ (or_second time _ (or_second version _ checks))
@@ -169,8 +169,8 @@ module _ {P O V F : Type 0} (rules : Rules P O V F) (same : P → P → Bool) (n
     lawful-record : (rs : List (SignedRecord P O)) (r : SignedRecord P O) → Good rs → record_offence rules same belongs (view_of rules same own_state rs) r ≡ None → Lawful rules.start (filter_map own_of (flat_map (record_events rules.id_of) rs) ++ filter_map own_of (record_events rules.id_of r))
     lawful-record rs r good h =
         let v = view_of rules same own_state rs in
-        let here = lawful-events r.contents.version v.whole [] (record_events rules.id_of r) (events-none v r belongs h) in
-        let at : rules.after v.whole.own_state [] ≡ rules.after rules.start (filter_map own_of (flat_map (record_events rules.id_of) rs)) = sym (none v.whole.own_state) ∙ by_list (owns (history_of rules.id_of rs)) good ∙ ap (rules.after rules.start) (owns_is rules.id_of rs) in
+        let here = lawful-events r.contents.version v.state [] (record_events rules.id_of r) (events-none v r belongs h) in
+        let at : rules.after v.state.own_state [] ≡ rules.after rules.start (filter_map own_of (flat_map (record_events rules.id_of) rs)) = sym (none v.state.own_state) ∙ by_list (owns (history_of rules.id_of rs)) good ∙ ap (rules.after rules.start) (owns_is rules.id_of rs) in
         lawful-join rules.start (filter_map own_of (flat_map (record_events rules.id_of) rs)) (filter_map own_of (record_events rules.id_of r))
         (subst (Lawful rules.start) (owns_is rules.id_of rs) good)
         (subst (λ u. Lawful u (filter_map own_of (record_events rules.id_of r))) at here)
@@ -178,18 +178,18 @@ module _ {P O V F : Type 0} (rules : Rules P O V F) (same : P → P → Bool) (n
     owns_push : (rs : List (SignedRecord P O)) (r : SignedRecord P O) → owns (history_of rules.id_of (rs ++ r ∷ [])) ≡ filter_map own_of (flat_map (record_events rules.id_of) rs) ++ filter_map own_of (record_events rules.id_of r)
     owns_push rs r = owns_is rules.id_of (rs ++ r ∷ []) ∙ ap (filter_map own_of) (events_push rules.id_of rs r) ∙ filter_map-append own_of (flat_map (record_events rules.id_of) rs) (record_events rules.id_of r)
 
-    authority_push : (rs : List (SignedRecord P O)) (r : SignedRecord P O) → standing_of same (history_of rules.id_of (rs ++ r ∷ [])) ≡ after same (standing_of same (history_of rules.id_of rs)) (filter_map signed_entry_of (record_events rules.id_of r))
+    authority_push : (rs : List (SignedRecord P O)) (r : SignedRecord P O) → access_view_of same (history_of rules.id_of (rs ++ r ∷ [])) ≡ after same (access_view_of same (history_of rules.id_of rs)) (filter_map signed_entry_of (record_events rules.id_of r))
     authority_push rs r =
-        standing-listed rules.id_of same (history_of rules.id_of (rs ++ r ∷ []))
+        access-view-listed rules.id_of same (history_of rules.id_of (rs ++ r ∷ []))
         ∙ ap (λ l. after same nothing (filter_map signed_entry_of l)) (history-events rules.id_of (rs ++ r ∷ []) ∙ events_push rules.id_of rs r)
         ∙ ap (after same nothing) (filter_map-append signed_entry_of (flat_map (record_events rules.id_of) rs) (record_events rules.id_of r))
         ∙ after-append same nothing (filter_map signed_entry_of (flat_map (record_events rules.id_of) rs)) (filter_map signed_entry_of (record_events rules.id_of r))
-        ∙ ap (λ s. after same s (filter_map signed_entry_of (record_events rules.id_of r))) (ap (λ l. after same nothing (filter_map signed_entry_of l)) (sym (history-events rules.id_of rs)) ∙ sym (standing-listed rules.id_of same (history_of rules.id_of rs)))
+        ∙ ap (λ s. after same s (filter_map signed_entry_of (record_events rules.id_of r))) (ap (λ l. after same nothing (filter_map signed_entry_of l)) (sym (history-events rules.id_of rs)) ∙ sym (access-view-listed rules.id_of same (history_of rules.id_of rs)))
 
     -- one more record: its view by lists is the one that it makes of the view before
     pub records-stepwise : IsStepwise (after_record rules same) (record_offence rules same belongs) (start rules same) (view_of rules same own_state) Good
     records-stepwise = record {
-      none = λ i. record { whole = record { authority = nothing; own_state = (by_list [] tt ∙ sym (none rules.start)) i }; head = None };
+      none = λ i. record { state = record { authority = nothing; own_state = (by_list [] tt ∙ sym (none rules.start)) i }; head = None };
       good = tt;
       more = λ rs r good h.
           let all = lawful-record rs r good h in
@@ -201,7 +201,7 @@ module _ {P O V F : Type 0} (rules : Rules P O V F) (same : P → P → Bool) (n
           ∙ ap (λ v. rules.after v (filter_map own_of (record_events rules.id_of r))) (ap (rules.after rules.start) (sym (owns_is rules.id_of rs)) ∙ sym (by_list (owns (history_of rules.id_of rs)) good)) in (
             good_all,
             λ i. record {
-              whole = record { authority = authority_push rs r i; own_state = own_states i };
+              state = record { authority = authority_push rs r i; own_state = own_states i };
               head = ap (option_map (head_of rules.id_of)) (last_or-push None rs r) i;
             },
           );

@@ -1,6 +1,6 @@
 pub mod Firsts
 pub mod SignedEntryLaws
-pub mod ContentsLemmas
+pub mod AuthorityDataLemmas
 pub mod MapLaws
 pub mod Missing
 pub mod RightsLemmas

@@ -10,7 +10,7 @@ use Rattle.warg_crypto.specs.declared.signing.error.SignatureError.TheVariants.{
 use Rattle.warg_records.specs.RecordData.{EntryData, SharedEntry, Init, GrantFlat, RevokeFlat}
 use Rattle.warg_records.specs.declared.record_id.RecordId.{RecordId}
 use Rattle.warg_log.specs.SignedEntries.{AccessView}
-use Rattle.warg_log.specs.Rules.{Rules, Wrong, StateView, View, SignedRecord, Event, whole_after, record_events, entry_fault, entry_offence, events_offence, unsigned_offence, record_offence}
+use Rattle.warg_log.specs.Rules.{Rules, Wrong, StateView, View, SignedRecord, Event, state_view_after, record_events, entry_fault, entry_offence, events_offence, unsigned_offence, record_offence}
 use Rattle.warg_log.specs.Offences.{Offence, unless, not_begun, empty_grant, lacks_required, unauthorized, shared_entry_offence, InitialRecordDoesNotInit, KeyIDNotRecognized, UnauthorizedAction, PermissionNotFoundToRevoke, WrongSignature}
 use Rattle.warg_log.specs.Records.{link_offence, version_offence, time_offence, same_id}
 use Rattle.warg_log.specs.Rights.{first_missing}
@@ -99,19 +99,19 @@ module _ {P O V F : Type 0} (rules : Rules P O V F) (same : P → P → Bool) wh
 
   events : (n : ℕ) (w : StateView P V) (before es : List (Event (EntryData P O))) → Possible (events_offence rules same n w before es)
   events n w before [] = tt
-  events n w before (e ∷ es) = first _ _ (entry n (whole_after rules same w before) e.signer e.entry) (events n w (before ++ e ∷ []) es)
+  events n w before (e ∷ es) = first _ _ (entry n (state_view_after rules same w before) e.signer e.entry) (events n w (before ++ e ∷ []) es)
 
   unsigned : (v : View P V) (e : SignedRecord P O) → Possible (unsigned_offence rules same v e)
   unsigned v e =
       first _ _ (shared _ (link P v.head e.contents.prev))
       (first _ _ (shared _ (version P v.head e.contents.version))
       (first _ _ (shared _ (time P v.head e.contents.time))
-      (first _ _ (events e.contents.version v.whole [] (record_events rules.id_of e))
-      (shared _ (tested (is_some (whole_after rules same v.whole (record_events rules.id_of e)).authority.algorithm) InitialRecordDoesNotInit refl)))))
+      (first _ _ (events e.contents.version v.state [] (record_events rules.id_of e))
+      (shared _ (tested (is_some (state_view_after rules same v.state (record_events rules.id_of e)).authority.algorithm) InitialRecordDoesNotInit refl)))))
 
   -- none is out of memory within another error, or a second algorithm, or a record that can't be read
   pub record-possible : (belongs : NamedBytes → List ℕ → NamedBytes → Bool) (v : View P V) (e : SignedRecord P O) → IfSome (record_offence rules same belongs v e) IsPossible
   record-possible belongs v e =
       first _ _ (unsigned v e)
       (shared _ (signed P belongs (signed_message rules.signing_prefix e.envelope.content) e.envelope.signature e.envelope.key_id
-      ((whole_after rules same v.whole (record_events rules.id_of e)).authority.key e.envelope.key_id)))
+      ((state_view_after rules same v.state (record_events rules.id_of e)).authority.key e.envelope.key_id)))

@@ -7,7 +7,7 @@ use Rattle.std.specs.Option.{option_eq}
 use Rattle.std.specs.Str.{bytes_eq}
 use Rattle.warg_crypto.specs.NamedBytes.{same_tag}
 use Rattle.warg_crypto.specs.Same.{same_tag_equiv}
-use Rattle.warg_log.specs.Contents.{Contents}
+use Rattle.warg_log.specs.AuthorityData.{AuthorityData}
 use Rattle.warg_log.specs.Equal.{same_algorithm, same_head, same_maps, same_sets, same_states}
 use Rattle.warg_log.specs.EqualLaws.{head_equiv, maps_from_get, sets_equiv}
 use Rattle.warg_log.specs.States.{State}
@@ -29,7 +29,7 @@ pub equal_maps : {X : Type 0} (E : X → X → Bool) → ((x : X) → E x x ≡ 
     → ((q : List ℕ) → lookup (bytes_eq q) fs ≡ lookup (bytes_eq q) es) → same_maps E es fs ≡ true
 equal_maps E self es fs at = maps_from_get bytes_eq E es fs (λ q. option_self E self (lookup (bytes_eq q) es) (lookup (bytes_eq q) fs) (at q))
 
-pub equal_states : {P M : Type 0} {same : P → P → Bool} (equiv : IsEquivalence same) (own_states : M → M → Bool) (s t : State (Contents P) M)
+pub equal_states : {P M : Type 0} {same : P → P → Bool} (equiv : IsEquivalence same) (own_states : M → M → Bool) (s t : State (AuthorityData P) M)
     → t.authority.algorithm ≡ s.authority.algorithm → t.head ≡ s.head
     → ((q : List ℕ) → lookup (bytes_eq q) t.authority.rights ≡ lookup (bytes_eq q) s.authority.rights)
     → ((q : List ℕ) → lookup (bytes_eq q) t.authority.keys ≡ lookup (bytes_eq q) s.authority.keys)

@@ -6,7 +6,7 @@ use Rattle.serde_json.specs.Data.{Data, Members, put}
 use Rattle.serde_json.specs.Find.{get_member}
 use Rattle.serde_json.proofs.Views.{get_member-put}
 use Rattle.warg_crypto.specs.declared.json.error.JsonError.{JsonError}
-use Rattle.warg_crypto.specs.Json.{Gives, IsReadBack, ReadsBack}
+use Rattle.warg_crypto.specs.Json.{ReturnsOrNoMemory, IsReadBack, ReadsBack}
 use Rattle.warg_crypto.specs.Members.{put_json}
 use Rattle.warg_crypto.specs.Steps.{bind_ok, ok_same}
 
@@ -14,7 +14,7 @@ same_option : {A : Type 0} (o : Option A) → option_map (λ x. x) o ≡ o
 same_option None = refl
 same_option (Some x) = refl
 
-pub gives_itself : {A : Type 0} (r : Result (Option A) JsonError) (want : Result (Option A) JsonError) → Gives (option_map (λ x. x)) r want → Gives (λ x. x) r want
+pub gives_itself : {A : Type 0} (r : Result (Option A) JsonError) (want : Result (Option A) JsonError) → ReturnsOrNoMemory (option_map (λ x. x)) r want → ReturnsOrNoMemory (λ x. x) r want
 gives_itself (Ok o) want h = h ∙ ap Ok (same_option o)
 gives_itself (Err e) want h = h
 
@@ -23,7 +23,7 @@ some_same x y e = cc
 
 -- what was put of a value reads back, so whatever is written of it does
 pub put_back : {A R : Type 0} (writes : A → Result Data JsonError) (reads : Data → Result A JsonError) (name : List ℕ) (x : A) (o : Option A) (r : Result R JsonError) (old new : Members)
-    → o ≡ Some x → Gives (λ _. new) r (put_json writes name x old)
+    → o ≡ Some x → ReturnsOrNoMemory (λ _. new) r (put_json writes name x old)
     → OnOk r ((d : Data) × ReadsBack reads (λ x y. x ≡ y) x d × (new ≡ put name d old))
     → OnOk r ((y : A) → o ≡ Some y → IsReadBack writes reads (λ x y. x ≡ y) y)
 put_back writes reads name x o (Err e) old new is written back = tt

@@ -8,10 +8,10 @@ use Rattle.warg_permissions.specs.Permissions.{lists}
 use Rattle.warg_log.specs.Rights.{layered, held_over, has_entry_over, first_missing}
 use Rattle.warg_records.specs.RecordData.{SharedEntry, Init, GrantFlat, RevokeFlat}
 use Rattle.warg_log.specs.SignedEntries.{after}
-use Rattle.warg_log.specs.Contents.{Contents, standing_over, maps_contents}
+use Rattle.warg_log.specs.AuthorityData.{AuthorityData, access_view_over, authority_data}
 use Rattle.warg_log.specs.Offences.{Offence, PermissionNotFoundToRevoke}
-use Rattle.warg_log.proofs.SignedEntryLaws.{same_standing, latest-one, or-none}
-use Rattle.warg_log.proofs.ContentsLemmas.{stands-over}
+use Rattle.warg_log.proofs.SignedEntryLaws.{same_access_view, latest-one, or-none}
+use Rattle.warg_log.proofs.AuthorityDataLemmas.{stands-over}
 use Rattle.warg_crypto.specs.declared.hash.HashAlgorithm.{HashAlgorithm}
 
 or-false : (a b : Bool) → (a || b) ≡ (a || (b || false))
@@ -25,42 +25,42 @@ and-true false = refl
 
 -- what an entry has done, where c is what stands beneath the changes
 module _ {P Z X : Type 0} (same : P → P → Bool) (algorithm algorithm' : Option HashAlgorithm) (base old new : IndexMap (List ℕ) (List P) Z) (base_keys old_keys new_keys : IndexMap (List ℕ) NamedBytes X)
-    (signer : List ℕ) (c d e : Contents P) (base_is : maps_contents algorithm base base_keys ≡ c) (old_is : maps_contents algorithm' old old_keys ≡ d) where
-  from_maps : (named : Option HashAlgorithm) → maps_contents named new new_keys ≡ e → (entry : SharedEntry P)
-      → standing_over same (maps_contents algorithm base base_keys) (maps_contents named new new_keys)
-      ≡ after same (standing_over same (maps_contents algorithm base base_keys) (maps_contents algorithm' old old_keys)) (record { signer = signer; entry = entry } ∷ [])
-      → standing_over same c e ≡ after same (standing_over same c d) (record { signer = signer; entry = entry } ∷ [])
+    (signer : List ℕ) (c d e : AuthorityData P) (base_is : authority_data algorithm base base_keys ≡ c) (old_is : authority_data algorithm' old old_keys ≡ d) where
+  from_maps : (named : Option HashAlgorithm) → authority_data named new new_keys ≡ e → (entry : SharedEntry P)
+      → access_view_over same (authority_data algorithm base base_keys) (authority_data named new new_keys)
+      ≡ after same (access_view_over same (authority_data algorithm base base_keys) (authority_data algorithm' old old_keys)) (record { signer = signer; entry = entry } ∷ [])
+      → access_view_over same c e ≡ after same (access_view_over same c d) (record { signer = signer; entry = entry } ∷ [])
   from_maps named new_is entry step = sym (stands-over same algorithm named base new base_keys new_keys c e base_is new_is) ∙ step
       ∙ ap (λ s. after same s (record { signer = signer; entry = entry } ∷ [])) (stands-over same algorithm algorithm' base old base_keys old_keys c d base_is old_is)
 
-  pub grant-step : maps_contents algorithm' new new_keys ≡ e → (key key' : NamedBytes) (id id' : List ℕ) (permissions : List P) → id ≡ fingerprint_of key → id' ≡ id → key' ≡ key
+  pub grant-step : authority_data algorithm' new new_keys ≡ e → (key key' : NamedBytes) (id id' : List ℕ) (permissions : List P) → id ≡ fingerprint_of key → id' ≡ id → key' ≡ key
       → ((k : List ℕ) → layered base_keys.entries new_keys.entries k ≡ (if bytes_eq id' k then Some key' else layered base_keys.entries old_keys.entries k))
       → ((k : List ℕ) (p : P) → held_over same base new k p ≡ (if bytes_eq id k && lists same permissions p then true else held_over same base old k p))
       → ((k : List ℕ) → has_entry_over base new k ≡ (has_entry_over base old k || bytes_eq id k))
-      → standing_over same c e ≡ after same (standing_over same c d) (record { signer = signer; entry = GrantFlat key permissions } ∷ [])
+      → access_view_over same c e ≡ after same (access_view_over same c d) (record { signer = signer; entry = GrantFlat key permissions } ∷ [])
   grant-step new_is key key' id id' permissions printed copied alike keyed gave entered =
-      from_maps algorithm' new_is (GrantFlat key permissions) (same_standing same _ _ refl
+      from_maps algorithm' new_is (GrantFlat key permissions) (same_access_view same _ _ refl
       (λ k p. rw (gave k p, printed) (sym (latest-one (bytes_eq (fingerprint_of key) k && lists same permissions p) true (held_over same base old k p))))
       (λ k. rw (entered k, printed) (or-false (has_entry_over base old k) (bytes_eq (fingerprint_of key) k)))
       (λ k. rw (keyed k, copied, printed, alike) (sym (latest-one (bytes_eq (fingerprint_of key) k) (Some key) (layered base_keys.entries old_keys.entries k)))))
 
-  pub init-step : (named : HashAlgorithm) → maps_contents (Some named) new new_keys ≡ e → (all : List P) → ((p : P) → lists same all p ≡ true) → (key key' : NamedBytes) (id id' signer' : List ℕ) → id ≡ fingerprint_of key → id' ≡ id → key' ≡ key → signer' ≡ signer
+  pub init-step : (named : HashAlgorithm) → authority_data (Some named) new new_keys ≡ e → (all : List P) → ((p : P) → lists same all p ≡ true) → (key key' : NamedBytes) (id id' signer' : List ℕ) → id ≡ fingerprint_of key → id' ≡ id → key' ≡ key → signer' ≡ signer
       → ((k : List ℕ) → layered base_keys.entries new_keys.entries k ≡ (if bytes_eq id' k then Some key' else layered base_keys.entries old_keys.entries k))
       → ((k : List ℕ) (p : P) → held_over same base new k p ≡ (if bytes_eq signer' k && lists same all p then true else held_over same base old k p))
       → ((k : List ℕ) → has_entry_over base new k ≡ (has_entry_over base old k || bytes_eq signer' k))
-      → standing_over same c e ≡ after same (standing_over same c d) (record { signer = signer; entry = Init named key } ∷ [])
+      → access_view_over same c e ≡ after same (access_view_over same c d) (record { signer = signer; entry = Init named key } ∷ [])
   init-step named new_is all whole key key' id id' signer' printed copied alike is keyed gave entered =
-      from_maps (Some named) new_is (Init named key) (same_standing same _ _ refl
+      from_maps (Some named) new_is (Init named key) (same_access_view same _ _ refl
       (λ k p. rw (gave k p, is, whole p, and-true (bytes_eq signer k)) (sym (latest-one (bytes_eq signer k) true (held_over same base old k p))))
       (λ k. rw (entered k, is) (or-false (has_entry_over base old k) (bytes_eq signer k)))
       (λ k. rw (keyed k, copied, printed, alike) (sym (latest-one (bytes_eq (fingerprint_of key) k) (Some key) (layered base_keys.entries old_keys.entries k)))))
 
-  pub revoke-step : maps_contents algorithm' new new_keys ≡ e → (id : List ℕ) (permissions : List P) → old_keys ≡ new_keys
+  pub revoke-step : authority_data algorithm' new new_keys ≡ e → (id : List ℕ) (permissions : List P) → old_keys ≡ new_keys
       → ((k : List ℕ) (p : P) → held_over same base new k p ≡ (if bytes_eq id k && lists same permissions p then false else held_over same base old k p))
       → ((k : List ℕ) → has_entry_over base new k ≡ has_entry_over base old k)
-      → standing_over same c e ≡ after same (standing_over same c d) (record { signer = signer; entry = RevokeFlat id permissions } ∷ [])
+      → access_view_over same c e ≡ after same (access_view_over same c d) (record { signer = signer; entry = RevokeFlat id permissions } ∷ [])
   revoke-step new_is id permissions kept took stayed =
-      from_maps algorithm' new_is (RevokeFlat id permissions) (same_standing same _ _ refl
+      from_maps algorithm' new_is (RevokeFlat id permissions) (same_access_view same _ _ refl
       (λ k p. rw (took k p) (sym (latest-one (bytes_eq id k && lists same permissions p) false (held_over same base old k p))))
       (λ k. rw (stayed k) (or-none (has_entry_over base old k)))
       (λ k. ap (λ (m : IndexMap (List ℕ) NamedBytes X). layered base_keys.entries m.entries k) (sym kept)))

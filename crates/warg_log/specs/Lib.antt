@@ -1,7 +1,7 @@
 pub mod SignedEntries
 pub mod Judging
 pub mod Rights
-pub mod Contents
+pub mod AuthorityData
 pub mod Changes
 pub mod Offences
 pub mod Records

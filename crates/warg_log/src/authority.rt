@@ -5,9 +5,9 @@ ghost use Rattle.std.specs.Option.{option_copied, option_eq};
 ghost use Rattle.indexmap.specs.IndexSet.{contains};
 ghost use Rattle.warg_crypto.specs.NamedBytes.{same_tag};
 ghost use Rattle.warg_log.specs.SignedEntries.{nothing};
-ghost use Rattle.warg_log.specs.Contents.{Contents, rights_at, standing, standing_over};
-ghost use Rattle.warg_log.specs.Equal.{same_contents, same_maps, same_sets, same_algorithm};
-ghost use Rattle.warg_log.specs.EqualLaws.{contents_equiv};
+ghost use Rattle.warg_log.specs.AuthorityData.{AuthorityData, rights_at, access_view, access_view_over};
+ghost use Rattle.warg_log.specs.Equal.{same_authority_data, same_maps, same_sets, same_algorithm};
+ghost use Rattle.warg_log.specs.EqualLaws.{authority_data_equiv};
 
 mod saved;
 
@@ -35,18 +35,18 @@ pub struct Authority<P: LogPermission> {
 }
 
 impl<P: LogPermission> Model for Authority<P> {
-    ghost use Rattle.warg_log.specs.Contents.{Contents, maps_contents};
+    ghost use Rattle.warg_log.specs.AuthorityData.{AuthorityData, authority_data};
 
-    ghost Value = { Contents P };
+    ghost Value = { AuthorityData P };
 
-    ghost view = { λ a. maps_contents a.algorithm a.permissions a.keys };
+    ghost view = { λ a. authority_data a.algorithm a.permissions a.keys };
 }
 
 impl<P: LogPermission> Authority<P> {
     /// Before any entry; over another, no change.
     pub fn new(alloc: Global) -> Authority<P>
-        ensures start { standing P.eq result ≡ nothing }
-        ensures no_change { (c : Contents P) → standing_over P.eq c result ≡ standing P.eq c }
+        ensures start { access_view P.eq result ≡ nothing }
+        ensures no_change { (c : AuthorityData P) → access_view_over P.eq c result ≡ access_view P.eq c }
     {
         Authority {
             alloc,
@@ -59,14 +59,14 @@ impl<P: LogPermission> Authority<P> {
 
     /// Whether the key holds the permission.
     pub fn holds(&self, key_id: &KeyID, permission: P) -> bool
-        ensures { result ≡ (standing P.eq self.now).holds key_id.now permission }
+        ensures { result ≡ (access_view P.eq self.now).holds key_id.now permission }
     {
         rights::holds(&self.permissions, key_id, permission)
     }
 
     /// The key of the id.
     pub fn public_key(&self, key_id: &KeyID) -> Option<&PublicKey>
-        ensures { option_copied result ≡ (standing P.eq self.now).key key_id.now }
+        ensures { option_copied result ≡ (access_view P.eq self.now).key key_id.now }
     {
         self.keys.get(key_id)
     }
@@ -80,9 +80,9 @@ impl<P: LogPermission> Authority<P> {
 
     /// The permissions of the key, if it has an entry.
     pub fn key_permissions(&self, key_id: &KeyID) -> Option<&IndexSet<P>>
-        ensures entry { is_some result ≡ (standing P.eq self.now).has_entry key_id.now }
+        ensures entry { is_some result ≡ (access_view P.eq self.now).has_entry key_id.now }
         ensures holds { IfSome result (λ set. (p : P) →
-            contains P.eq set.now p ≡ (standing P.eq self.now).holds key_id.now p) }
+            contains P.eq set.now p ≡ (access_view P.eq self.now).holds key_id.now p) }
     {
         Some(self.held(key_id)?.as_set())
     }
@@ -111,7 +111,7 @@ impl<P: LogPermission> Authority<P> {
         own_state: &mut M,
         change: M::Change,
     ) -> Result<(), AllocError>
-        ensures made { OnOk result (standing P.eq self.new ≡ standing_over P.eq self.old changes) }
+        ensures made { OnOk result (access_view P.eq self.new ≡ access_view_over P.eq self.old changes) }
         ensures own_state { OnOk result (M.view own_state.new ≡ M.changed own_state.old change) }
         ensures unchanged { OnErr result (self.new ≡ self.old) }
         ensures own_state_unchanged { OnErr result (own_state.new ≡ own_state.old) }
@@ -158,9 +158,9 @@ impl<P: LogPermission + fmt::Debug> fmt::Debug for Authority<P> {
 }
 
 impl<P: LogPermission> PartialEq for Authority<P> {
-    ghost eq = { same_contents P.eq };
+    ghost eq = { same_authority_data P.eq };
 
-    ghost laws = { partial_equiv_from_equiv (contents_equiv P.Eq.laws) };
+    ghost laws = { partial_equiv_from_equiv (authority_data_equiv P.Eq.laws) };
 
     fn eq(&self, other: &Authority<P>) -> bool {
         same_algorithms(&self.algorithm, &other.algorithm)
@@ -170,7 +170,7 @@ impl<P: LogPermission> PartialEq for Authority<P> {
 }
 
 impl<P: LogPermission> Eq for Authority<P> {
-    ghost laws = { contents_equiv P.Eq.laws };
+    ghost laws = { authority_data_equiv P.Eq.laws };
 }
 
 /// Whether the two name the same algorithm.

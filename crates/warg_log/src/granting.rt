@@ -7,8 +7,8 @@ ghost use Rattle.warg_crypto.specs.NamedBytes.{fingerprint_of};
 ghost use Rattle.warg_permissions.specs.Permissions.{lists};
 ghost use Rattle.warg_records.specs.RecordData.{Init, GrantFlat, RevokeFlat};
 ghost use Rattle.warg_log.specs.SignedEntries.{after};
-ghost use Rattle.warg_log.specs.Contents.{rights_at, standing_over};
-ghost use Rattle.warg_log.specs.Judging.{Judges};
+ghost use Rattle.warg_log.specs.AuthorityData.{rights_at, access_view_over};
+ghost use Rattle.warg_log.specs.Judging.{ReturnsOffence};
 ghost use Rattle.warg_log.specs.Rights.{is_listed};
 ghost use Rattle.warg_log.specs.Offences.{offence_of, unauthorized, lacks, lacks_required, not_begun, empty_grant, init_offence, grant_offence, revoke_offence};
 
@@ -23,7 +23,7 @@ use warg_permissions::LogPermission;
 impl<P: LogPermission> Authority<P> {
     /// Whether an Init stands.
     pub fn is_begun(&self, changes: &Authority<P>) -> bool
-        ensures { result ≡ is_some (standing_over P.eq self.now changes.now).algorithm }
+        ensures { result ≡ is_some (access_view_over P.eq self.now changes.now).algorithm }
     {
         changes.algorithm.is_some() || self.algorithm.is_some()
     }
@@ -37,7 +37,7 @@ impl<P: LogPermission> Authority<P> {
     ) -> Option<&'a PermissionSet<P>>
         requires { option_copied before ≡ rights_at self.now key_id.now }
         ensures { (p : P) → is_listed P.eq (option_copied result) p
-            ≡ (standing_over P.eq self.now changes.now).holds key_id.now p }
+            ≡ (access_view_over P.eq self.now changes.now).holds key_id.now p }
     {
         rights::look(before, &changes.permissions, key_id)
     }
@@ -51,7 +51,7 @@ impl<P: LogPermission> Authority<P> {
         permission: P,
     ) -> bool
         requires { option_copied before ≡ rights_at self.now key_id.now }
-        ensures { result ≡ (standing_over P.eq self.now changes.now).holds key_id.now permission }
+        ensures { result ≡ (access_view_over P.eq self.now changes.now).holds key_id.now permission }
     {
         rights::is_among(self.rights_with(changes, key_id, before), permission)
     }
@@ -62,7 +62,7 @@ impl<P: LogPermission> Authority<P> {
         changes: &'a Authority<P>,
         key_id: &KeyID,
     ) -> Option<&'a PublicKey>
-        ensures { option_copied result ≡ (standing_over P.eq self.now changes.now).key key_id.now }
+        ensures { option_copied result ≡ (access_view_over P.eq self.now changes.now).key key_id.now }
     {
         rights::look(self.keys.get(key_id), &changes.keys, key_id)
     }
@@ -76,7 +76,8 @@ impl<P: LogPermission> Authority<P> {
         permission: P,
     ) -> Result<(), Refusal<P>>
         requires { option_copied before ≡ rights_at self.now key_id.now }
-        ensures { Judges offence_of (lacks (standing_over P.eq self.now changes.now) key_id.now permission) result }
+        ensures { ReturnsOffence offence_of
+            (lacks (access_view_over P.eq self.now changes.now) key_id.now permission) result }
     {
         if !self.holds_with(changes, key_id, before, permission) {
             return Err(Refusal::UnauthorizedAction {
@@ -96,8 +97,8 @@ impl<P: LogPermission> Authority<P> {
         required: Option<P>,
     ) -> Result<(), Refusal<P>>
         requires { option_copied before ≡ rights_at self.now key_id.now }
-        ensures { Judges offence_of (lacks_required
-            (standing_over P.eq self.now changes.now) key_id.now required) result }
+        ensures { ReturnsOffence offence_of (lacks_required
+            (access_view_over P.eq self.now changes.now) key_id.now required) result }
     {
         match required {
             Some(permission) => self.check_permission(changes, key_id, before, permission),
@@ -107,7 +108,7 @@ impl<P: LogPermission> Authority<P> {
 
     /// Refuses where no Init stands.
     pub fn check_begun(&self, changes: &Authority<P>) -> Result<(), Refusal<P>>
-        ensures { Judges offence_of (not_begun (standing_over P.eq self.now changes.now)) result }
+        ensures { ReturnsOffence offence_of (not_begun (access_view_over P.eq self.now changes.now)) result }
     {
         if self.is_begun(changes) {
             Ok(())
@@ -125,8 +126,8 @@ impl<P: LogPermission> Authority<P> {
         permissions: &[P],
     ) -> Result<(), Refusal<P>>
         requires { option_copied before ≡ rights_at self.now key_id.now }
-        ensures { Judges offence_of (unauthorized
-            (standing_over P.eq self.now changes.now) key_id.now permissions.now) result }
+        ensures { ReturnsOffence offence_of (unauthorized
+            (access_view_over P.eq self.now changes.now) key_id.now permissions.now) result }
     {
         if permissions.is_empty() {
             return Ok(());
@@ -154,10 +155,10 @@ impl<P: LogPermission> Authority<P> {
         key: &PublicKey,
     ) -> Result<(), Refusal<P>>
         requires { (p : P) → lists P.eq all.now p ≡ true }
-        ensures judges { Judges offence_of (init_offence by_own_key
-            (standing_over P.eq self.now changes.old) signer.now key.now) result }
-        ensures after { OnOk result (standing_over P.eq self.now changes.new ≡ after P.eq
-            (standing_over P.eq self.now changes.old)
+        ensures judges { ReturnsOffence offence_of (init_offence by_own_key
+            (access_view_over P.eq self.now changes.old) signer.now key.now) result }
+        ensures after { OnOk result (access_view_over P.eq self.now changes.new ≡ after P.eq
+            (access_view_over P.eq self.now changes.old)
             (record { signer = signer.now; entry = Init hash_algorithm key.now } ∷ [])) }
     {
         if self.is_begun(changes) {
@@ -192,7 +193,7 @@ impl<P: LogPermission> Authority<P> {
         key: &PublicKey,
         permissions: &[P],
     ) -> Result<(), Refusal<P>>
-        ensures { Judges offence_of (empty_grant version (fingerprint_of key.now) permissions.now) result }
+        ensures { ReturnsOffence offence_of (empty_grant version (fingerprint_of key.now) permissions.now) result }
     {
         if version != 0 && permissions.is_empty() {
             return Err(Refusal::EmptyGrant {
@@ -213,10 +214,10 @@ impl<P: LogPermission> Authority<P> {
         permissions: &[P],
     ) -> Result<(), Refusal<P>>
         requires { option_copied before ≡ rights_at self.now signer.now }
-        ensures judges { Judges offence_of (grant_offence version
-            (standing_over P.eq self.now changes.old) signer.now key.now permissions.now) result }
-        ensures after { OnOk result (standing_over P.eq self.now changes.new ≡ after P.eq
-            (standing_over P.eq self.now changes.old)
+        ensures judges { ReturnsOffence offence_of (grant_offence version
+            (access_view_over P.eq self.now changes.old) signer.now key.now permissions.now) result }
+        ensures after { OnOk result (access_view_over P.eq self.now changes.new ≡ after P.eq
+            (access_view_over P.eq self.now changes.old)
             (record { signer = signer.now; entry = GrantFlat key.now permissions.now } ∷ [])) }
     {
         self.check_begun(changes)?;
@@ -248,10 +249,10 @@ impl<P: LogPermission> Authority<P> {
         permissions: &[P],
     ) -> Result<(), Refusal<P>>
         requires { option_copied before ≡ rights_at self.now signer.now }
-        ensures judges { Judges offence_of (revoke_offence P.eq
-            (standing_over P.eq self.now changes.old) signer.now key_id.now permissions.now) result }
-        ensures after { OnOk result (standing_over P.eq self.now changes.new ≡ after P.eq
-            (standing_over P.eq self.now changes.old)
+        ensures judges { ReturnsOffence offence_of (revoke_offence P.eq
+            (access_view_over P.eq self.now changes.old) signer.now key_id.now permissions.now) result }
+        ensures after { OnOk result (access_view_over P.eq self.now changes.new ≡ after P.eq
+            (access_view_over P.eq self.now changes.old)
             (record { signer = signer.now; entry = RevokeFlat key_id.now permissions.now } ∷ [])) }
     {
         self.check_begun(changes)?;

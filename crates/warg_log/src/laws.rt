@@ -8,7 +8,7 @@ ghost use Rattle.warg_validator.specs.Effects as effects;
 ghost use Rattle.warg_validator.specs.Effects.{GivesWhatIsHeld};
 ghost use Rattle.warg_validator.specs.Kinds.{SignatureRelation, KindLaws, view_after, IsAccepted};
 ghost use Rattle.warg_log.specs.Admissions.{NoKeyBringsItselfIn};
-ghost use Rattle.warg_log.specs.Contents.{Contents};
+ghost use Rattle.warg_log.specs.AuthorityData.{AuthorityData};
 ghost use Rattle.warg_log.specs.Equal.{IsEquivalent, same_states};
 ghost use Rattle.warg_log.specs.Forms.{HasForm};
 ghost use Rattle.warg_log.specs.History.{Placed, Holds, holds, entry_on};
@@ -40,7 +40,7 @@ pub fn gives_what_is_held<M: LogKind>()
 
 /// Logs are equal exactly if their views are equivalent.
 pub fn equal_logs_are_equivalent<M: LogKind>()
-    ensures { (s t : State (Contents M.Permission) M) → (same_states M.Permission.eq M.eq s t ≡ true) ↔
+    ensures { (s t : State (AuthorityData M.Permission) M) → (same_states M.Permission.eq M.eq s t ≡ true) ↔
         IsEquivalent M.equivalent (view_of_state M.Permission.eq M.view s) (view_of_state M.Permission.eq M.view t) }
 {}
 
@@ -67,7 +67,7 @@ pub fn effects_are_what_is_held<M: LogKind>()
         (k : List ℕ)
         (p : M.Permission) → effects.holds (effects_of M.rules M.Permission.eq read) es k p ≡
         (view_after (kind_of M.rules M.Permission.eq read (M.rules.after M.rules.start))
-        (start M.rules M.Permission.eq) es).whole.authority.holds k p }
+        (start M.rules M.Permission.eq) es).state.authority.holds k p }
 {}
 
 /// A key holds a permission exactly if some entry speaks of both, and the last such entry gives.

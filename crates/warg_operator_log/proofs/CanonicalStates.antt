@@ -12,7 +12,7 @@ use Rattle.warg_saved.specs.CanonicalLaws.{none_canonical, option_canonical, pai
 use Rattle.warg_saved.specs.Maps.{put_pairs}
 use Rattle.warg_saved.specs.Names.{text_name}
 use Rattle.warg_saved.specs.Permissions.{permissions_json}
-use Rattle.warg_log.specs.Contents.{Contents}
+use Rattle.warg_log.specs.AuthorityData.{AuthorityData}
 use Rattle.warg_log.specs.HeadJson.{head_json}
 use Rattle.warg_log.specs.States.{State}
 use Rattle.warg_log.specs.declared.head.Head.{Head}
@@ -22,7 +22,7 @@ use Rattle.warg_operator_log.specs.NamespaceJson.{saved_namespace_json}
 use Rattle.warg_operator_log.specs.Namespaces.{Namespace}
 use Rattle.warg_operator_log.specs.SavedState.{state_json}
 
-pub state_canonical : (s : State (Contents Permission) (List (List ℕ × Namespace))) → ((h : Head) → s.head ≡ Some h → h.version ≤ 1)
+pub state_canonical : (s : State (AuthorityData Permission) (List (List ℕ × Namespace))) → ((h : Head) → s.head ≡ Some h → h.version ≤ 1)
     → WritesCanonical 127 (state_json s)
 state_canonical s versioned =
     let rights = permissions_json permission_text in

@@ -11,7 +11,7 @@ use Rattle.warg_validator.specs.Kinds.{SignatureRelation, IsAccepted, StandsFor}
 use Rattle.warg_validator.specs.Outcomes.{IsRun, IfStarted, told}
 use Rattle.warg_validator.specs.Strings.{read_all}
 use Rattle.warg_validator.proofs.RunLaws.{run-then}
-use Rattle.warg_log.specs.Contents.{Contents}
+use Rattle.warg_log.specs.AuthorityData.{AuthorityData}
 use Rattle.warg_log.specs.States.{State}
 use Rattle.warg_operator_log.specs.Namespaces.{Namespace}
 use Rattle.warg_operator_log.specs.State.{View, view_of, offence_of}
@@ -19,17 +19,17 @@ use Rattle.warg_operator_log.specs.StateHistory.{TellsHistory}
 use Rattle.warg_operator_log.specs.StateLaws.{kind, state_laws}
 use Rattle.warg_operator_log.specs.declared.error.ValidationError.{ValidationError}
 
-pub stands-tells : (s : State (Contents Permission) (List (List ℕ × Namespace))) (es : List EnvelopeData) → StandsFor kind view_of s es → TellsHistory s es
+pub stands-tells : (s : State (AuthorityData Permission) (List (List ℕ × Namespace))) (es : List EnvelopeData) → StandsFor kind view_of s es → TellsHistory s es
 stands-tells s es h = record {
-  permissions = λ k p. ap (λ (v : View). v.whole.authority.holds k p) h;
-  entries = λ k. ap (λ (v : View). v.whole.authority.has_entry k) h;
-  keys = λ k. ap (λ (v : View). v.whole.authority.key k) h;
-  algorithm = ap (λ (v : View). v.whole.authority.algorithm) h;
-  namespaces = λ name. ap (λ (v : View). v.whole.own_state name) h;
+  permissions = λ k p. ap (λ (v : View). v.state.authority.holds k p) h;
+  entries = λ k. ap (λ (v : View). v.state.authority.has_entry k) h;
+  keys = λ k. ap (λ (v : View). v.state.authority.key k) h;
+  algorithm = ap (λ (v : View). v.state.authority.algorithm) h;
+  namespaces = λ name. ap (λ (v : View). v.state.own_state name) h;
   head = ap (λ (v : View). v.head) h;
 }
 
-pub run-tells : (b : SignatureRelation) (strings : List (List ℕ)) (answer : Result (State (Contents Permission) (List (List ℕ × Namespace))) (RunError ValidationError)) → let read = envelope_of operator_record_of in
+pub run-tells : (b : SignatureRelation) (strings : List (List ℕ)) (answer : Result (State (AuthorityData Permission) (List (List ℕ × Namespace))) (RunError ValidationError)) → let read = envelope_of operator_record_of in
     IfStarted (IsRun kind b read kind.view_of view_of (told (envelope_fault_of fault_of) offence_of) ◌≡◌ strings) answer → IfOk answer (λ s. IsAccepted kind b (read_all read strings) × TellsHistory s (read_all read strings))
 run-tells b strings =
     let envelopes = read_all (envelope_of operator_record_of) strings in

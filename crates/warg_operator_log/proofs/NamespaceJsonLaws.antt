@@ -6,7 +6,7 @@ use Rattle.serde_json.specs.Data.{Data}
 use Rattle.serde_json.specs.View.{members_view}
 use Rattle.serde_json.specs.declared.value.Value.{Value}
 use Rattle.std.specs.Prelude.{String}
-use Rattle.warg_crypto.specs.Json.{AreReadBack, Gives, ReadsBack, wrote}
+use Rattle.warg_crypto.specs.Json.{AreReadBack, ReturnsOrNoMemory, ReadsBack, wrote}
 use Rattle.warg_crypto.specs.Pairs.{names_of}
 use Rattle.warg_crypto.specs.declared.json.error.JsonError.{JsonError}
 use Rattle.warg_operator_log.specs.NamespaceJson.{namespace_in, namespace_json, saved_namespace_in, saved_namespace_json}
@@ -23,12 +23,12 @@ saved_again : (n : Namespace) (d : Data) → saved_namespace_json n ≡ Ok d →
 saved_again Defined d e = subst (λ (x : Data). saved_namespace_in x ≡ Ok Defined) (written _ _ e) refl
 saved_again (Imported registry) d e = subst (λ (x : Data). saved_namespace_in x ≡ Ok (Imported registry)) (written _ _ e) refl
 
-pub namespace_reads_back : (n : Namespace) {V : Type 0} (view : V → Data) (r : Result V JsonError) → Gives view r (namespace_json n)
+pub namespace_reads_back : (n : Namespace) {V : Type 0} (view : V → Data) (r : Result V JsonError) → ReturnsOrNoMemory view r (namespace_json n)
     → AreReadBack [] → IfOk r (λ v. ReadsBack namespace_in (λ a b. a ≡ b) n (view v))
 namespace_reads_back n view (Err e) given h = tt
 namespace_reads_back n view (Ok v) given h = record { again = n; is = namespace_again n (view v) given; equal = refl }
 
-pub saved_reads_back : (n : Namespace) {V : Type 0} (view : V → Data) (r : Result V JsonError) → Gives view r (saved_namespace_json n)
+pub saved_reads_back : (n : Namespace) {V : Type 0} (view : V → Data) (r : Result V JsonError) → ReturnsOrNoMemory view r (saved_namespace_json n)
     → AreReadBack [] → IfOk r (λ v. ReadsBack saved_namespace_in (λ a b. a ≡ b) n (view v))
 saved_reads_back n view (Err e) given h = tt
 saved_reads_back n view (Ok v) given h = record { again = n; is = saved_again n (view v) given; equal = refl }

@@ -8,7 +8,7 @@ use Rattle.warg_permissions.specs.OperatorPermissions.{same_permission}
 use Rattle.warg_records.specs.OperatorReading.{operator_record_of}
 use Rattle.warg_records.specs.RecordData.{EntryData}
 use Rattle.warg_permissions.specs.declared.operator.Permission.{Permission}
-use Rattle.warg_log.specs.Contents.{Contents}
+use Rattle.warg_log.specs.AuthorityData.{AuthorityData}
 use Rattle.warg_log.specs.History.{Placed, history_of, holds, has_entry, key_of, algorithm_of, owns}
 use Rattle.warg_log.specs.Rules.{SignedRecord, head_of}
 use Rattle.warg_log.specs.LogKind.{opened}
@@ -34,17 +34,17 @@ abbrev pub namespaces_of : List (Placed (EntryData Permission OperatorOwnEntry))
 namespaces_of h = listed_namespaces (owns h)
 
 -- all that the state tells is what the history says; above each line the look-up of `LogState` that answers it
-pub record TellsHistory (s : State (Contents Permission) (List (List ℕ × Namespace))) (es : List EnvelopeData) : Type 0 where
+pub record TellsHistory (s : State (AuthorityData Permission) (List (List ℕ × Namespace))) (es : List EnvelopeData) : Type 0 where
   -- `key_has_permission_to_sign_checkpoints`, for the permission to commit
   pub permissions : (k : List ℕ) (p : Permission)
-      → (view_of s).whole.authority.holds k p ≡ holds same_permission (history es) k p
+      → (view_of s).state.authority.holds k p ≡ holds same_permission (history es) k p
   -- none
-  pub entries : (k : List ℕ) → (view_of s).whole.authority.has_entry k ≡ has_entry (history es) k
+  pub entries : (k : List ℕ) → (view_of s).state.authority.has_entry k ≡ has_entry (history es) k
   -- `public_key`
-  pub keys : (k : List ℕ) → (view_of s).whole.authority.key k ≡ key_of (history es) k
+  pub keys : (k : List ℕ) → (view_of s).state.authority.key k ≡ key_of (history es) k
   -- none
-  pub algorithm : (view_of s).whole.authority.algorithm ≡ algorithm_of (history es)
+  pub algorithm : (view_of s).state.authority.algorithm ≡ algorithm_of (history es)
   -- `namespace_state`
-  pub namespaces : (name : List ℕ) → (view_of s).whole.own_state name ≡ namespaces_of (history es) name
+  pub namespaces : (name : List ℕ) → (view_of s).state.own_state name ≡ namespaces_of (history es) name
   -- `head`: the id, the time and the version of the last record, if there is one
   pub head : (view_of s).head ≡ option_map (head_of record_id_of) (last_or None (records_of es))

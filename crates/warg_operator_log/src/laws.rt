@@ -23,7 +23,7 @@ ghost use Rattle.warg_validator.specs.Outcomes.{IsRun, IfStarted, told};
 ghost use Rattle.warg_validator.specs.Strings.{read_all};
 ghost use Rattle.warg_validator.specs.declared.replay.RunError.{RunError};
 ghost use Rattle.warg_log.specs.Admissions.{NoKeyBringsItselfIn};
-ghost use Rattle.warg_log.specs.Contents.{Contents};
+ghost use Rattle.warg_log.specs.AuthorityData.{AuthorityData};
 ghost use Rattle.warg_log.specs.Forms.{HasForm};
 ghost use Rattle.warg_log.specs.States.{State};
 ghost use Rattle.warg_operator_log.specs.StateHistory.{TellsHistory, OneEntryEach, records_of, history};
@@ -35,7 +35,7 @@ use warg_records::operator::OPERATOR_RECORD_VERSION;
 pub fn extension()
     ensures { (b : SignatureRelation) (es fs : List EnvelopeData) → IsAccepted kind b (es ++ fs) →
         (name : List ℕ) (s : Namespace) →
-        (kind.view_of es).whole.own_state name ≡ Some s → (kind.view_of (es ++ fs)).whole.own_state name ≡ Some s }
+        (kind.view_of es).state.own_state name ≡ Some s → (kind.view_of (es ++ fs)).state.own_state name ≡ Some s }
 {}
 
 /// Errors are equal exactly if they tell the same offence, and only out of memory tells none.
@@ -64,12 +64,12 @@ pub fn form()
 /// an entry, whose key is which, the namespaces by name and the head, from which the look-ups answer.
 /// What `run` answers as a state is one for an accepted log, the envelopes of the strings.
 pub fn states_tell_history()
-    ensures stands { (s : State (Contents Permission) (List (List ℕ × Namespace))) (es : List EnvelopeData) →
+    ensures stands { (s : State (AuthorityData Permission) (List (List ℕ × Namespace))) (es : List EnvelopeData) →
         StandsFor kind view_of s es → TellsHistory s es }
     ensures run { let read = envelope_of operator_record_of in
         let told_by = told (envelope_fault_of fault_of) offence_of in
         (b : SignatureRelation) (strings : List (List ℕ))
-        (answer : Result (State (Contents Permission) (List (List ℕ × Namespace))) (RunError ValidationError)) →
+        (answer : Result (State (AuthorityData Permission) (List (List ℕ × Namespace))) (RunError ValidationError)) →
         IfStarted (IsRun kind b read kind.view_of view_of told_by ◌≡◌ strings) answer →
         IfOk answer (λ s. IsAccepted kind b (read_all read strings) × TellsHistory s (read_all read strings)) }
 {}
@@ -87,7 +87,7 @@ pub fn equality()
     ensures heads { (a b : Head) → (⟦<Head as PartialEq>⟧.eq a b ≡ true) ↔ (a ≡ b) }
     ensures namespaces { (a b : NamespaceState) → (⟦<crate::namespace::NamespaceState as PartialEq>⟧.eq a b ≡ true) ↔
         (namespace_view a ≡ namespace_view b) }
-    ensures states { (s t : State (Contents Permission) (List (List ℕ × Namespace))) →
+    ensures states { (s t : State (AuthorityData Permission) (List (List ℕ × Namespace))) →
         (⟦<crate::state::LogState as PartialEq>⟧.eq s t ≡ true) ↔ AreEquivalent (view_of s) (view_of t) }
 {}
 

@@ -6,7 +6,7 @@ ghost use Rattle.std.specs.Cmp.{partial_equiv_from_equiv};
 ghost use Rattle.indexmap.specs.IndexMap.{get_by_text};
 ghost use Rattle.warg_registry.specs.KebabNames.{IsKebabName, is_kebab_name};
 ghost use Rattle.warg_records.specs.OperatorEntries.{OperatorOwnEntry, entry_data, record_data};
-ghost use Rattle.warg_log.specs.Judging.{Judges};
+ghost use Rattle.warg_log.specs.Judging.{ReturnsOffence};
 ghost use Rattle.warg_log.specs.Offences as shared;
 ghost use Rattle.warg_log.specs.Rules.{Wrong};
 ghost use Rattle.warg_operator_log.specs.Namespaces.{OwnOffence, Names, Namespace, names, names_over, name_offence, rules, names-none, names-append, equivalent_names_offence, equivalent_names_after};
@@ -108,7 +108,7 @@ impl NamespaceMap {
         name: &String,
         state: NamespaceState,
     ) -> Result<(), ValidationError>
-        ensures judges { Judges offence_of (option_map Wrong.Own
+        ensures judges { ReturnsOffence offence_of (option_map Wrong.Own
             (name_offence (names_over self.now changes.old) (string_bytes name.now))) result }
         ensures after { OnOk result ((k : List ℕ) → names_over self.now changes.new k
             ≡ (if bytes_eq (string_bytes name.now) k then Some
@@ -186,7 +186,7 @@ impl LogKind for NamespaceMap {
         version != 0
     }
 
-    fn parts(contents: &OperatorRecord) -> RecordRef<'_, OperatorEntry> {
+    fn record_ref(contents: &OperatorRecord) -> RecordRef<'_, OperatorEntry> {
         RecordRef {
             prev: contents.prev,
             version: contents.version,
@@ -203,7 +203,7 @@ impl LogKind for NamespaceMap {
         entry.required_permission()
     }
 
-    fn step(entry: &OperatorEntry) -> EntryRef<'_, Permission> {
+    fn entry_ref(entry: &OperatorEntry) -> EntryRef<'_, Permission> {
         match entry {
             OperatorEntry::Init {
                 hash_algorithm,

@@ -9,14 +9,14 @@ use Rattle.warg_permissions.specs.declared.package.Permission.{Permission}
 use Rattle.warg_saved.specs.Maps.{put_pairs}
 use Rattle.warg_saved.specs.Names.{text_name, version_name}
 use Rattle.warg_saved.specs.Permissions.{permissions_json}
-use Rattle.warg_log.specs.Contents.{Contents}
+use Rattle.warg_log.specs.AuthorityData.{AuthorityData}
 use Rattle.warg_log.specs.HeadJson.{head_json}
 use Rattle.warg_log.specs.States.{State}
 use Rattle.warg_package_log.specs.ReleaseJson.{release_json}
 use Rattle.warg_package_log.specs.Releases.{ReleaseView}
 use Rattle.warg_package_log.specs.SavedState.{named_releases, state_json}
 
-module _ (s : State (Contents Permission) (List ReleaseView)) (e : JsonError) where
+module _ (s : State (AuthorityData Permission) (List ReleaseView)) (e : JsonError) where
   pub algorithm_fault : put_option algorithm_json (codes "algorithm") s.authority.algorithm no_members ≡ Err e → state_json s ≡ Err e
   algorithm_fault h = rw h refl
 
@@ -24,7 +24,7 @@ module _ (s : State (Contents Permission) (List ReleaseView)) (e : JsonError) wh
       → put_option head_json (codes "head") s.head a ≡ Err e → state_json s ≡ Err e
   head_fault a algorithm h = rw (algorithm, h) refl
 
-module _ (s : State (Contents Permission) (List ReleaseView)) (a b c d : Members)
+module _ (s : State (AuthorityData Permission) (List ReleaseView)) (a b c d : Members)
     (algorithm : put_option algorithm_json (codes "algorithm") s.authority.algorithm no_members ≡ Ok a)
     (head : put_option head_json (codes "head") s.head a ≡ Ok b) where
   pub rights_fault : (e : JsonError)

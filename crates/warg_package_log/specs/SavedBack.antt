@@ -7,7 +7,7 @@ use Rattle.warg_permissions.specs.declared.package.Permission.{Permission}
 use Rattle.warg_saved.specs.Backs.{AreBack}
 use Rattle.warg_saved.specs.Names.{text_name, text_named, version_name, version_named}
 use Rattle.warg_saved.specs.Permissions.{permissions_in, permissions_json}
-use Rattle.warg_log.specs.Contents.{Contents}
+use Rattle.warg_log.specs.AuthorityData.{AuthorityData}
 use Rattle.warg_log.specs.Equal.{same_states}
 use Rattle.warg_log.specs.HeadJson.{head_in, head_json}
 use Rattle.warg_log.specs.Rules.{IsCoherent}
@@ -20,16 +20,16 @@ use Rattle.warg_package_log.specs.SavedState.{named_releases}
 use Rattle.warg_package_log.specs.State.{view_of}
 
 -- `==` of the states answers true
-abbrev pub AreEqual : State (Contents Permission) (List ReleaseView) → State (Contents Permission) (List ReleaseView)
+abbrev pub AreEqual : State (AuthorityData Permission) (List ReleaseView) → State (AuthorityData Permission) (List ReleaseView)
     → Type 0
 AreEqual s t = same_states same_permission same_releases s t ≡ true
 
 -- the versions of the releases: where their texts read back, so does the state
-abbrev pub saved_versions : State (Contents Permission) (List ReleaseView) → List Version
+abbrev pub saved_versions : State (AuthorityData Permission) (List ReleaseView) → List Version
 saved_versions s = versions s.own_state
 
 -- the state is coherent, and each of its parts reads back
-pub record IsSavable (s : State (Contents Permission) (List ReleaseView)) : Type 0 where
+pub record IsSavable (s : State (AuthorityData Permission) (List ReleaseView)) : Type 0 where
   pub coherent : IsCoherent rules same_permission (view_of s)
   pub head : (h : Head) → s.head ≡ Some h → IsReadBack head_json head_in (λ x y. x ≡ y) h
   pub rights : AreBack text_name text_named (permissions_json permission_text)

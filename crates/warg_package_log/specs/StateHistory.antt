@@ -8,7 +8,7 @@ use Rattle.warg_permissions.specs.PackagePermissions.{same_permission}
 use Rattle.warg_records.specs.PackageReading.{package_record_of}
 use Rattle.warg_records.specs.RecordData.{EntryData}
 use Rattle.warg_permissions.specs.declared.package.Permission.{Permission}
-use Rattle.warg_log.specs.Contents.{Contents}
+use Rattle.warg_log.specs.AuthorityData.{AuthorityData}
 use Rattle.warg_log.specs.History.{Placed, history_of, holds, has_entry, key_of, algorithm_of, owns}
 use Rattle.warg_log.specs.Rules.{SignedRecord, head_of}
 use Rattle.warg_log.specs.LogKind.{opened}
@@ -34,16 +34,16 @@ abbrev pub releases_of : List (Placed (EntryData Permission PackageOwnEntry)) �
 releases_of h = listed_releases (owns h)
 
 -- all that the state tells is what the history says; above each line the look-ups of `LogState` that answer it
-pub record TellsHistory (s : State (Contents Permission) (List ReleaseView)) (es : List EnvelopeData) : Type 0 where
+pub record TellsHistory (s : State (AuthorityData Permission) (List ReleaseView)) (es : List EnvelopeData) : Type 0 where
   -- `key_permissions`: what the set has, and whether there is a set
   pub permissions : (k : List ℕ) (p : Permission)
-      → (view_of s).whole.authority.holds k p ≡ holds same_permission (history es) k p
-  pub entries : (k : List ℕ) → (view_of s).whole.authority.has_entry k ≡ has_entry (history es) k
+      → (view_of s).state.authority.holds k p ≡ holds same_permission (history es) k p
+  pub entries : (k : List ℕ) → (view_of s).state.authority.has_entry k ≡ has_entry (history es) k
   -- `public_key`
-  pub keys : (k : List ℕ) → (view_of s).whole.authority.key k ≡ key_of (history es) k
+  pub keys : (k : List ℕ) → (view_of s).state.authority.key k ≡ key_of (history es) k
   -- none
-  pub algorithm : (view_of s).whole.authority.algorithm ≡ algorithm_of (history es)
+  pub algorithm : (view_of s).state.authority.algorithm ≡ algorithm_of (history es)
   -- `releases`; `release` and `find_latest_release` choose among these
-  pub releases : (view_of s).whole.own_state ≡ releases_of (history es)
+  pub releases : (view_of s).state.own_state ≡ releases_of (history es)
   -- `head`: the id, the time and the version of the last record, if there is one
   pub head : (view_of s).head ≡ option_map (head_of record_id_of) (last_or None (records_of es))

@@ -10,7 +10,7 @@ ghost use Rattle.warg_validator.specs.Outcomes.{IsRun, IfStarted, told};
 ghost use Rattle.warg_validator.specs.Strings.{read_all};
 ghost use Rattle.warg_validator.specs.declared.replay.RunError.{RunError};
 ghost use Rattle.warg_log.specs.Admissions.{NoKeyBringsItselfIn};
-ghost use Rattle.warg_log.specs.Contents.{Contents};
+ghost use Rattle.warg_log.specs.AuthorityData.{AuthorityData};
 ghost use Rattle.warg_log.specs.Forms.{HasForm};
 ghost use Rattle.warg_log.specs.States.{State};
 ghost use Rattle.std.specs.Prelude.{Option};
@@ -37,13 +37,13 @@ use warg_records::package::PACKAGE_RECORD_VERSION;
 /// it: none is lost, moved or changed, but that one that stood may have been yanked.
 pub fn extension()
     ensures { (b : SignatureRelation) (es fs : List EnvelopeData) → IsAccepted kind b (es ++ fs) →
-        IsExtension (kind.view_of es).whole.own_state (kind.view_of (es ++ fs)).whole.own_state }
+        IsExtension (kind.view_of es).state.own_state (kind.view_of (es ++ fs)).state.own_state }
 {}
 
 /// No two releases of an accepted log have the same version.
 pub fn distinct_versions()
     ensures { (b : SignatureRelation) (es : List EnvelopeData) → IsAccepted kind b es →
-        AreDistinct (versions (kind.view_of es).whole.own_state) }
+        AreDistinct (versions (kind.view_of es).state.own_state) }
 {}
 
 /// Errors are equal exactly if they tell the same offence, and only out of memory tells none.
@@ -72,12 +72,12 @@ pub fn form()
 /// an entry, whose key is which, the releases in order and the head, from which the look-ups answer.
 /// What `run` answers as a state is one for an accepted log, the envelopes of the strings.
 pub fn states_tell_history()
-    ensures stands { (s : State (Contents Permission) (List ReleaseView)) (es : List EnvelopeData) →
+    ensures stands { (s : State (AuthorityData Permission) (List ReleaseView)) (es : List EnvelopeData) →
         StandsFor kind view_of s es → TellsHistory s es }
     ensures run { let read = envelope_of package_record_of in
         let told_by = told (envelope_fault_of fault_of) offence_of in
         (b : SignatureRelation) (strings : List (List ℕ))
-        (answer : Result (State (Contents Permission) (List ReleaseView)) (RunError ValidationError)) →
+        (answer : Result (State (AuthorityData Permission) (List ReleaseView)) (RunError ValidationError)) →
         IfStarted (IsRun kind b read kind.view_of view_of told_by ◌≡◌ strings) answer →
         IfOk answer (λ s. IsAccepted kind b (read_all read strings) × TellsHistory s (read_all read strings)) }
 {}
@@ -97,7 +97,7 @@ pub fn equality()
         (a ≡ b) }
     ensures releases { (a b : Release) → (⟦<crate::release::Release as PartialEq>⟧.eq a b ≡ true) ↔
         (release_view a ≡ release_view b) }
-    ensures states { (s t : State (Contents Permission) (List ReleaseView)) →
+    ensures states { (s t : State (AuthorityData Permission) (List ReleaseView)) →
         (⟦<crate::state::LogState as PartialEq>⟧.eq s t ≡ true) ↔ AreEquivalent (view_of s) (view_of t) }
 {}
 

@@ -1,8 +1,8 @@
 -- JSON: what `to_value` and `from_value` answer, and when what was written reads back.
-pub use Rattle.warg_crypto.specs.Json.{Gives, ReadsBack, IsReadBack, Version, AreReadBack}
+pub use Rattle.warg_crypto.specs.Json.{ReturnsOrNoMemory, ReadsBack, IsReadBack, Version, AreReadBack}
 pub use Rattle.warg_crypto.specs.declared.json.error.JsonError.{JsonError}
 -- what `to_json` writes: the JSON's text, and what that is read as
 pub use Rattle.warg_saved.specs.Texts.{IsReadAs, text_of}
 -- what `from_json` answers: what is read of the text's JSON, which error of a text a fault of its value is, and what reads back
-pub use Rattle.warg_saved.specs.JsonText.{GivesOfText, TextReadsBack, in_text, text_fault}
+pub use Rattle.warg_saved.specs.JsonText.{ReturnsOfText, TextReadsBack, in_text, text_fault}
 pub use Rattle.warg_saved.specs.declared.error.JsonTextError.{JsonTextError}

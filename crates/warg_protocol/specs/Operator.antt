@@ -4,7 +4,7 @@ pub use Rattle.warg_operator_log.specs.StateLaws.{kind, effects, AreEquivalent}
 pub use Rattle.warg_operator_log.specs.Namespaces.{rules}
 pub use Rattle.warg_records.specs.OperatorReading.{operator_record_of}
 pub use Rattle.warg_records.specs.OperatorEntries.{OperatorOwnEntry, entry_data, record_data}
--- what a state stands for: `(view_of s).whole.authority.holds`, `.key`, `(view_of s).whole.own_state`, `(view_of s).head`
+-- what a state stands for: `(view_of s).state.authority.holds`, `.key`, `(view_of s).state.own_state`, `(view_of s).head`
 pub use Rattle.warg_operator_log.specs.State.{View, view_of, plain_envelope, offence_of, record_offence, after_record}
 pub use Rattle.warg_permissions.specs.declared.operator.Permission.{Permission}
 pub use Rattle.warg_permissions.specs.OperatorPermissions.{same_permission}

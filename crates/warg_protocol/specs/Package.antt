@@ -4,7 +4,7 @@ pub use Rattle.warg_package_log.specs.StateLaws.{kind, effects, AreEquivalent}
 pub use Rattle.warg_package_log.specs.Releases.{rules}
 pub use Rattle.warg_records.specs.PackageReading.{package_record_of}
 pub use Rattle.warg_records.specs.PackageEntries.{PackageOwnEntry, entry_data, record_data}
--- what a state stands for: `(view_of s).whole.authority.holds`, `.key`, `.has_entry`, `(view_of s).whole.own_state`, `(view_of s).head`
+-- what a state stands for: `(view_of s).state.authority.holds`, `.key`, `.has_entry`, `(view_of s).state.own_state`, `(view_of s).head`
 pub use Rattle.warg_package_log.specs.State.{View, view_of, plain_envelope, offence_of, record_offence, after_record}
 pub use Rattle.warg_permissions.specs.declared.package.Permission.{Permission}
 pub use Rattle.warg_permissions.specs.PackagePermissions.{same_permission}

@@ -12,7 +12,7 @@ use warg_scripts::play::state_of;
 
 /// Whether the key may sign checkpoints of the registry.
 fn may_sign(state: &LogState, key_id: &KeyID) -> bool
-    ensures { result ≡ (view_of state.now).whole.authority.holds key_id.now Permission.Commit }
+    ensures { result ≡ (view_of state.now).state.authority.holds key_id.now Permission.Commit }
 {
     state.key_has_permission_to_sign_checkpoints(key_id)
 }

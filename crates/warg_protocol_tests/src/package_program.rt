@@ -3,7 +3,7 @@ ghost use Rattle.std.specs.Prelude.{◌≡◌, IfOk, map, List, All, string_byte
 ghost use Rattle.std.specs.Option.{option_map, option_copied};
 ghost use Rattle.std.specs.Vec.{vec_items};
 ghost use Rattle.serde_json.specs.View.{view};
-ghost use Rattle.warg_protocol.specs.Json.{AreReadBack, Gives, GivesOfText, IsReadAs, TextReadsBack, in_text};
+ghost use Rattle.warg_protocol.specs.Json.{AreReadBack, ReturnsOrNoMemory, ReturnsOfText, IsReadAs, TextReadsBack, in_text};
 ghost use Rattle.warg_protocol.specs.Logs.{IsAccepted, IsCoherent, EnvelopeData, NoKeyBringsItselfIn, SignatureRelation, envelope_of, read_all};
 ghost use Rattle.warg_protocol.specs.Package.{TellsHistory, kind, package_record_of, records_of, view_of, state_json, state_in};
 ghost use Rattle.warg_protocol.specs.Package.{AreEqual, rules, same_permission, saved_versions};
@@ -52,7 +52,7 @@ fn has_begun(state: &LogState) -> bool
 
 /// Whether the key may release.
 fn may_release(state: &LogState, key_id: &KeyID) -> bool
-    ensures { result ≡ (view_of state.now).whole.authority.holds key_id.now Permission.Release }
+    ensures { result ≡ (view_of state.now).state.authority.holds key_id.now Permission.Release }
 {
     Validator::holds(state, key_id, Permission::Release)
 }
@@ -60,21 +60,21 @@ fn may_release(state: &LogState, key_id: &KeyID) -> bool
 /// The version that meets the requirement best.
 fn resolved<'a>(state: &'a LogState, wanted: &VersionReq) -> Option<&'a Release>
     ensures { IsGreatest (shows_candidate wanted.now.comparators.items) shown_cmp
-        (view_of state.now).whole.own_state (option_map release_view (option_copied result)) }
+        (view_of state.now).state.own_state (option_map release_view (option_copied result)) }
 {
     state.find_latest_release(wanted)
 }
 
 /// The state as JSON, to be kept.
 fn saved(alloc: Global, state: &LogState) -> Result<Value, JsonError>
-    ensures { Gives view result (state_json state.now) }
+    ensures { ReturnsOrNoMemory view result (state_json state.now) }
 {
     state.to_value(alloc)
 }
 
 /// The state that was kept.
 fn restored(alloc: Global, value: &Value) -> Result<LogState, JsonError>
-    ensures { Gives (λ s. s) result (state_in (view value.now)) }
+    ensures { ReturnsOrNoMemory (λ s. s) result (state_in (view value.now)) }
 {
     LogState::from_value(alloc, value)
 }
@@ -90,7 +90,7 @@ fn saved_text(alloc: Global, state: &LogState) -> Result<String, JsonError>
 
 /// The state that was kept as a text.
 fn restored_text(alloc: Global, text: &str) -> Result<LogState, JsonTextError>
-    ensures { GivesOfText (λ s. s) result (in_text state_in text.now) }
+    ensures { ReturnsOfText (λ s. s) result (in_text state_in text.now) }
 {
     LogState::from_json(alloc, text)
 }

@@ -4,7 +4,7 @@ use Rattle.warg_protobuf.specs.OperatorEntry.{OperatorMember, Init, GrantFlat, R
 use Rattle.warg_protobuf.specs.OperatorRecord as message
 use Rattle.warg_envelope.specs.Faults.{RecordFault, EmptyEntry}
 use Rattle.warg_records.specs.RecordData.{EntryData, Own, RecordData}
-use Rattle.warg_records.specs.Steps.{init_of, grant_of, revoke_of, shared, record_said}
+use Rattle.warg_records.specs.Steps.{init_of, grant_of, revoke_of, shared, decoded_record}
 use Rattle.warg_records.specs.OperatorEntries.{OperatorOwnEntry}
 use Rattle.warg_records.specs.OperatorEntries as plain
 use Rattle.warg_permissions.specs.OperatorPermissions.{permission_of}
@@ -21,4 +21,4 @@ operator_entry_of (Some (ImportNamespace m)) = Ok (Own (plain.ImportNamespace m.
 
 -- what content bytes say, or their first fault
 unfoldable pub operator_record_of : List ℕ → Result (RecordData Permission OperatorOwnEntry) RecordFault
-operator_record_of content = record_said operator_entry_of (message.operator_record_of content)
+operator_record_of content = decoded_record operator_entry_of (message.operator_record_of content)

@@ -8,7 +8,7 @@ use Rattle.warg_protobuf.specs.Release.{ReleaseValue}
 use Rattle.warg_protobuf.specs.Yank.{YankValue}
 use Rattle.warg_envelope.specs.Faults.{RecordFault, EmptyEntry, Version, ContentHash}
 use Rattle.warg_records.specs.RecordData.{EntryData, RecordData}
-use Rattle.warg_records.specs.Steps.{◌>>=◌, named, init_of, grant_of, revoke_of, shared, own, record_said}
+use Rattle.warg_records.specs.Steps.{◌>>=◌, named, init_of, grant_of, revoke_of, shared, own, decoded_record}
 use Rattle.warg_records.specs.PackageEntries.{VersionParts, PackageOwnEntry}
 use Rattle.warg_records.specs.PackageEntries as plain
 use Rattle.warg_permissions.specs.PackagePermissions.{permission_of}
@@ -40,4 +40,4 @@ package_entry_of (Some (Yank m)) = own (yank_of m)
 
 -- what content bytes say, or their first fault
 unfoldable pub package_record_of : List ℕ → Result (RecordData Permission PackageOwnEntry) RecordFault
-package_record_of content = record_said package_entry_of (message.package_record_of content)
+package_record_of content = decoded_record package_entry_of (message.package_record_of content)

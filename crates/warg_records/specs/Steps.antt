@@ -121,10 +121,10 @@ abbrev pub message_of : {V : Type 0} → Result V WireError → Result V RecordF
 message_of read = named (λ e. Wire (wire_fault_of e)) read
 
 -- the record that bytes say whose message is read so, or their first fault
-abbrev pub record_said : {E P O : Type 0} → (E → Result (EntryData P O) RecordFault)
+abbrev pub decoded_record : {E P O : Type 0} → (E → Result (EntryData P O) RecordFault)
     → Result (RecordValue (List E)) WireError
     → Result (RecordData P O) RecordFault
-record_said entry_of read = message_of read >>= record_of entry_of
+decoded_record entry_of read = message_of read >>= record_of entry_of
 
 -- the error of bytes that are no message; out of memory stays out of memory
 abbrev pub wire_error_of : WireError → DecodeError

@@ -23,15 +23,15 @@ pub(crate) trait FromMessage: Drop {
     type Message: Drop;
 
     // The message as plain data.
-    ghost Seen: { Type 0 };
+    ghost MessageView: { Type 0 };
 
-    ghost seen: { Self.Message → Seen };
+    ghost message_view: { Self.Message → MessageView };
 
     // The fields of a message.
     ghost table: { Table };
 
     // What they say.
-    ghost seen_from: { List Field → Result Seen WireError };
+    ghost message_view_from: { List Field → Result MessageView WireError };
 
     // The permissions of the entry's kind of log, and what the kind's own entries are.
     ghost Permission: { Type 0 };
@@ -42,18 +42,18 @@ pub(crate) trait FromMessage: Drop {
     ghost plain: { Self → EntryData Permission Own };
 
     // What a message says, or its first fault.
-    ghost read: { Seen → Result (EntryData Permission Own) RecordFault };
+    ghost read: { MessageView → Result (EntryData Permission Own) RecordFault };
 
     fn from_message(alloc: Global, message: Self::Message) -> Result<Self, DecodeError>
-        ensures { IsReading plain fault_of (read (seen message)) result };
+        ensures { IsReading plain fault_of (read (message_view message)) result };
 
     // The message that the bytes are, all of them.
     fn decode_message(alloc: Global, bytes: &[u8]) -> Result<Self::Message, WireError>
-        ensures { ReturnsOrNoMemory seen result (wire_message_of table seen_from bytes.now) };
+        ensures { ReturnsOrNoMemory message_view result (wire_message_of table message_view_from bytes.now) };
 
     // Fields that fit say a message. This has no effect.
     fn laws()
-        ensures { GivesValues table seen_from };
+        ensures { GivesValues table message_view_from };
 }
 
 /// The entries that were read so far, up to the first fault of one.
@@ -66,9 +66,9 @@ pub(crate) struct Entries<T> {
 impl<T: FromMessage> EntrySink for Entries<T> {
     ghost table = { T.table };
 
-    ghost Entry = { T.Seen };
+    ghost Entry = { T.MessageView };
 
-    ghost entry_from = { T.seen_from };
+    ghost entry_from = { T.message_view_from };
 
     ghost Held = { Result (List (EntryData T.Permission T.Own)) RecordFault };
 
@@ -99,7 +99,7 @@ impl<T: FromMessage> Entries<T> {
     /// Adds the next entry. Behind a fault none counts.
     fn add(&mut self, alloc: Global, message: T::Message) -> Result<(), AllocError>
         ensures { OnOk result (entries_held T.plain self.new ≡
-            next_entry T.read (entries_held T.plain self.old) (T.seen message)) }
+            next_entry T.read (entries_held T.plain self.old) (T.message_view message)) }
     {
         if self.fault.is_some() {
             return Ok(());
@@ -129,7 +129,7 @@ pub(crate) fn read_each<T: FromMessage>(
     messages: Vec<T::Message>,
 ) -> Result<Entries<T>, AllocError>
     ensures { IfOk result (λ s. entries_held T.plain s ≡ fold (next_entry T.read) (Ok [])
-        (map T.seen messages.items)) }
+        (map T.message_view messages.items)) }
 {
     let mut entries = Entries::<T>::new(alloc);
     for message in messages {
@@ -145,7 +145,7 @@ pub(crate) fn read_content<T: FromMessage>(
 ) -> Result<Record<Entries<T>>, DecodeError>
     ensures { IsReading (record_view (entries_held T.plain)) fault_of
         (message_of (gathered_of (next_entry T.read) (Ok [])
-        (wire_message_of (record_table T.table) (record_from T.table T.seen_from) content.now))) result }
+        (wire_message_of (record_table T.table) (record_from T.table T.message_view_from) content.now))) result }
 {
     match Record::<Entries<T>>::gather(alloc, content) {
         Ok(record) => Ok(record),

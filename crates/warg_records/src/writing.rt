@@ -23,15 +23,15 @@ pub(crate) trait ToMessage {
     type Message: Drop;
 
     // The message as plain data.
-    ghost Seen: { Type 0 };
+    ghost MessageView: { Type 0 };
 
-    ghost seen: { Self.Message → Seen };
+    ghost message_view: { Self.Message → MessageView };
 
     // The message of a part.
-    ghost written: { Self → Seen };
+    ghost written: { Self → MessageView };
 
     fn to_message(&self, alloc: Global) -> Result<Self::Message, AllocError>
-        ensures { IfOk result (λ m. seen m ≡ written self.now) };
+        ensures { IfOk result (λ m. message_view m ≡ written self.now) };
 }
 
 /// Writes all parts, in order.
@@ -39,7 +39,7 @@ pub(crate) fn write_each<T: ToMessage>(
     alloc: Global,
     parts: &[T],
 ) -> Result<Vec<T::Message>, AllocError>
-    ensures { IfOk result (λ v. map T.seen v.items ≡ map T.written parts.now) }
+    ensures { IfOk result (λ v. map T.message_view v.items ≡ map T.written parts.now) }
 {
     let mut messages = Vec::with_capacity(alloc, parts.len())?;
     for part in parts {

@@ -88,7 +88,7 @@ fn inner_faults(rt: HostRuntime) {
 }
 
 // The contents, shorter than 128 bytes, in an envelope.
-fn sealed(rt: &impl Abort, alloc: Global, contents: &[u8]) -> Vec<u8> {
+fn envelope_bytes(rt: &impl Abort, alloc: Global, contents: &[u8]) -> Vec<u8> {
     let mut bytes = Vec::from_slice(alloc, b"\x12\x01k\x1a\x04toy:\x0a").expect(rt, "memory");
     assert!(rt; contents.len() < 128);
     bytes.push(contents.len() as u8).expect(rt, "memory");
@@ -97,7 +97,7 @@ fn sealed(rt: &impl Abort, alloc: Global, contents: &[u8]) -> Vec<u8> {
 }
 
 fn has_fault(rt: &impl Abort, alloc: Global, contents: &[u8], fault: DecodeError) {
-    let bytes = sealed(rt, alloc, contents);
+    let bytes = envelope_bytes(rt, alloc, contents);
     is_refused(
         rt,
         alloc,
@@ -137,7 +137,7 @@ fn faults_of_contents(rt: HostRuntime) {
 
 #[test]
 fn whole_contents(rt: HostRuntime) {
-    let whole = sealed(&rt, rt.alloc(), b"\x1a\x02\x08\x01");
+    let whole = envelope_bytes(&rt, rt.alloc(), b"\x1a\x02\x08\x01");
     let envelope = opened(&rt, rt.alloc(), whole.as_slice());
     is(&rt, envelope.contents().timestamp.seconds(), 1);
 }

@@ -18,7 +18,7 @@ use Rattle.serde_json.specs.Read.{max_depth, of_items, of_json, of_members, read
 use Rattle.serde_json.specs.Written.{compact_text, items_outline, members_outline, outline}
 use Rattle.serde_json.proofs.Numbers.{number_of-decimal}
 use Rattle.serde_json.proofs.Texts.{print-outline}
-use Rattle.warg_crypto.specs.Json.{Gives, ReadsBack}
+use Rattle.warg_crypto.specs.Json.{ReturnsOrNoMemory, ReadsBack}
 use Rattle.warg_crypto.specs.Pairs.{AreAscending, names_of}
 use Rattle.warg_crypto.specs.Steps.{ok_same}
 use Rattle.warg_crypto.specs.declared.json.error.JsonError.{JsonError}
@@ -144,13 +144,13 @@ written_reads (Err e) text own is = tt
 
 -- the text of what is written, if it is canonical, is read as it
 pub gives_reads : {X : Type 0} (view : X → List ℕ) (r : Result X JsonError) (want : Result Data JsonError)
-    → WritesCanonical max_depth want → Gives view r (text_of want) → IfOk r (λ x. IsReadAs want (view x))
+    → WritesCanonical max_depth want → ReturnsOrNoMemory view r (text_of want) → IfOk r (λ x. IsReadAs want (view x))
 gives_reads view (Ok x) want own is = written_reads want (view x) own is
 gives_reads view (Err e) want own is = tt
 
 -- and where the JSON reads back, so does its text
 pub gives_back : {A X : Type 0} (reads : Data → Result A JsonError) (equivalent : A → A → Type 0) (x : A) (view : X → List ℕ)
-    (r : Result X JsonError) (want : Result Data JsonError) → Gives view r (text_of want) → IfOk r (λ t. IsReadAs want (view t))
+    (r : Result X JsonError) (want : Result Data JsonError) → ReturnsOrNoMemory view r (text_of want) → IfOk r (λ t. IsReadAs want (view t))
     → OnOk r ((d : Data) → want ≡ Ok d → ReadsBack reads equivalent x d) → IfOk r (λ t. TextReadsBack reads equivalent x (view t))
 gives_back reads equivalent x view (Ok t) (Ok d) given read_so back =
     let again = back d refl in record { again = again.again; is = of_json_text reads (view t) d again.again read_so again.is; equal = again.equal }

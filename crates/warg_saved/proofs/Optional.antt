@@ -3,7 +3,7 @@ use Rattle.std.specs.Prelude.{◌≡◌, ◌↔◌, Bool, true, false, IsTrue, L
 use Rattle.std.specs.Option.{option_map}
 use Rattle.std.proofs.Common.{ap, sym, ◌∙◌, suc, arith, true≢false}
 use Rattle.warg_crypto.specs.declared.json.error.JsonError.{JsonError}
-use Rattle.warg_crypto.specs.Json.{Gives}
+use Rattle.warg_crypto.specs.Json.{ReturnsOrNoMemory}
 use Rattle.warg_crypto.specs.Pairs.{plain_pairs}
 use Rattle.warg_saved.specs.Fit.{is_nil}
 
@@ -11,7 +11,7 @@ pub same_option : {A : Type 0} (o : Option A) → option_map (λ x. x) o ≡ o
 same_option None = refl
 same_option (Some x) = refl
 
-pub gives_itself : {A : Type 0} (r : Result (Option A) JsonError) (want : Result (Option A) JsonError) → Gives (option_map (λ x. x)) r want → Gives (λ x. x) r want
+pub gives_itself : {A : Type 0} (r : Result (Option A) JsonError) (want : Result (Option A) JsonError) → ReturnsOrNoMemory (option_map (λ x. x)) r want → ReturnsOrNoMemory (λ x. x) r want
 gives_itself (Ok o) want h = h ∙ ap Ok (same_option o)
 gives_itself (Err e) want h = h
 
@@ -21,7 +21,7 @@ same_pairs (e ∷ es) = ap (λ l. e ∷ l) (same_pairs es)
 
 -- a map whose keys and values are plain data as they are
 pub gives_entries : {K A M : Type 0} (entries : M → List (K × A)) (r : Result M JsonError) (want : Result (List (K × A)) JsonError)
-    → Gives (λ m. plain_pairs (λ k. k) (λ x. x) (entries m)) r want → Gives entries r want
+    → ReturnsOrNoMemory (λ m. plain_pairs (λ k. k) (λ x. x) (entries m)) r want → ReturnsOrNoMemory entries r want
 gives_entries entries (Ok m) want h = h ∙ ap Ok (same_pairs (entries m))
 gives_entries entries (Err e) want h = h
 

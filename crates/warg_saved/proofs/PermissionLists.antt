@@ -7,7 +7,7 @@ use Rattle.indexmap.specs.IndexSet.{insert_key}
 use Rattle.serde_json.specs.Data.{Data, string}
 use Rattle.serde_json.specs.View.{items_of}
 use Rattle.warg_crypto.specs.declared.json.error.JsonError.{JsonError}
-use Rattle.warg_crypto.specs.Json.{AreReadBack, Gives, ReadsBack, wrote}
+use Rattle.warg_crypto.specs.Json.{AreReadBack, ReturnsOrNoMemory, ReadsBack, wrote}
 use Rattle.warg_saved.specs.Permissions.{permissions_from, permissions_in, permissions_json}
 
 written_same : {A : Type 0} (x y : A) → wrote x ≡ Ok y → x ≡ y
@@ -49,7 +49,7 @@ module _ {P : Type 0} (same : P → P → Bool) where
         rw (back p, next) (from_names (done ++ p ∷ []) ps h.1 ∙ ap wrote (append_assoc done (p ∷ []) ps))
 
 pub permissions_read_back : {P : Type 0} (same : P → P → Bool) (laws : IsEquivalence same) (text_of : P → List ℕ) (named : List ℕ → Option P) (back : (p : P) → named (text_of p) ≡ Some p)
-    → (ps : List P) → IsDistinct same ps → {V : Type 0} (view : V → Data) (r : Result V JsonError) → Gives view r (permissions_json text_of ps)
+    → (ps : List P) → IsDistinct same ps → {V : Type 0} (view : V → Data) (r : Result V JsonError) → ReturnsOrNoMemory view r (permissions_json text_of ps)
     → AreReadBack [] → IfOk r (λ v. ReadsBack (permissions_in same named) (λ a b. a ≡ b) ps (view v))
 permissions_read_back same laws text_of named back ps distinct view (Err e) given none = tt
 permissions_read_back same laws text_of named back ps distinct view (Ok v) given none = record {

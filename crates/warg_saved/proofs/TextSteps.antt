@@ -5,7 +5,7 @@ use Rattle.serde_json.specs.Data.{Data, Members, object}
 use Rattle.serde_json.specs.Written.{compact_text}
 use Rattle.warg_crypto.specs.declared.json.error.JsonError.{JsonError}
 use Rattle.warg_crypto.specs.declared.json.error.JsonError.TheVariants.{OutOfMemory}
-use Rattle.warg_crypto.specs.Json.{Gives}
+use Rattle.warg_crypto.specs.Json.{ReturnsOrNoMemory}
 use Rattle.warg_crypto.specs.Steps.{ok_same}
 use Rattle.warg_saved.specs.Texts.{text_of, texts_in, texts_of}
 
@@ -32,6 +32,6 @@ gives_fault r want e (inr h) whole = inr (ap text_of (whole (fault_of r e h)))
 -- the text that was joined is that of the object
 pub gives_text : (r : Result (String Global) JsonError) (want : Result Data JsonError) (texts : List (List ℕ × List ℕ)) (ms : Members)
     → IfOk r (λ s. (ms : Members) → texts ≡ texts_of ms → string_bytes s ≡ compact_text (object ms)) → IfErr r (λ e. e ≡ OutOfMemory)
-    → want ≡ Ok (object ms) → texts ≡ texts_of ms → Gives string_bytes r (text_of want)
+    → want ≡ Ok (object ms) → texts ≡ texts_of ms → ReturnsOrNoMemory string_bytes r (text_of want)
 gives_text (Ok s) want texts ms ok err is are = ap text_of is ∙ ap Ok (sym (ok ms are))
 gives_text (Err e) want texts ms ok err is are = inl err

@@ -1,7 +1,8 @@
 -- What is read of a text of JSON.
-use Rattle.std.specs.Prelude.{ℕ, ◌≡◌, ◌⊎◌, List, Option, Some, None, Result, Ok, Err, MatchResult}
+use Rattle.std.specs.Prelude.{ℕ, ◌≡◌, List, Option, Some, None, Result, Ok, Err}
 use Rattle.serde_json.specs.Data.{Data}
 use Rattle.serde_json.specs.Read.{read}
+use Rattle.warg_crypto.specs.Results.{ReturnsOr}
 use Rattle.warg_crypto.specs.declared.json.error.JsonError.{JsonError}
 use Rattle.warg_crypto.specs.declared.json.error.JsonError.TheVariants as json
 use Rattle.warg_saved.specs.declared.error.JsonTextError.{JsonTextError}
@@ -33,6 +34,6 @@ pub record TextReadsBack {A : Type 0} (reads : Data → Result A JsonError) (equ
   pub is : in_text reads text ≡ Ok again
   pub equal : equivalent x again
 
--- what a call answered, seen by view, is want, unless memory ran out
-abbrev pub GivesOfText : {X Y : Type 0} → (X → Y) → Result X JsonTextError → Result Y JsonTextError → Type 0
-GivesOfText view r want = MatchResult r (λ x. want ≡ Ok (view x)) (λ e. (e ≡ OutOfMemory) ⊎ (want ≡ Err e))
+-- r, seen by view, is want, unless memory ran out
+abbrev pub ReturnsOfText : {X Y : Type 0} → (X → Y) → Result X JsonTextError → Result Y JsonTextError → Type 0
+ReturnsOfText view r want = ReturnsOr OutOfMemory view r want

@@ -6,7 +6,7 @@ use Rattle.serde_json.specs.Data.{Data, Members, no_members, member, string}
 use Rattle.serde_json.specs.Read.{read}
 use Rattle.serde_json.specs.Written.{comma_if, compact_text}
 use Rattle.warg_crypto.specs.declared.json.error.JsonError.{JsonError}
-use Rattle.warg_crypto.specs.Json.{◌>>=◌, Gives, wrote}
+use Rattle.warg_crypto.specs.Json.{◌>>=◌, ReturnsOrNoMemory, wrote}
 
 -- the text of what is written, with no space
 abbrev pub text_of : Result Data JsonError → Result (List ℕ) JsonError
@@ -38,7 +38,7 @@ texts_view es = map (λ e. (string_bytes e.0, string_bytes e.1)) es
 abbrev pub PutsText : {X : Type 0} → (Members → Result Members JsonError) → Result X JsonError
     → List (List ℕ × List ℕ) → List (List ℕ × List ℕ) → Type 0
 PutsText puts result old new =
-    (ms : Members) → old ≡ texts_of ms → Gives (λ _. new) result (texts_in (puts ms))
+    (ms : Members) → old ≡ texts_of ms → ReturnsOrNoMemory (λ _. new) result (texts_in (puts ms))
 
 module _ {V A : Type 0} (plain : V → A) (writes : A → Result Data JsonError) where
   -- the members are the JSON of the values by these names

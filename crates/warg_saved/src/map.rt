@@ -3,7 +3,7 @@ ghost use Rattle.std.specs.Prelude.{IfErr, OnErr, OnOk, ◌≡◌, string_bytes}
 ghost use Rattle.serde_json.specs.Data.{put};
 ghost use Rattle.serde_json.specs.View.{members_view, view};
 ghost use Rattle.warg_crypto.specs.declared.json.error.JsonError.TheVariants as fault;
-ghost use Rattle.warg_crypto.specs.Json.{Gives};
+ghost use Rattle.warg_crypto.specs.Json.{ReturnsOrNoMemory};
 ghost use Rattle.warg_crypto.specs.Pairs.{AreAscending, names_of, pairs_json, pairs_member, pairs_of, plain_pairs};
 ghost use Rattle.warg_saved.specs.Backs.{AreBack, AreVersionsBack};
 ghost use Rattle.warg_saved.specs.Fit.{is_nil};
@@ -32,7 +32,7 @@ pub fn map_value<K: SavedName, V: SavedValue>(
     alloc: Global,
     map: &IndexMap<K, V>,
 ) -> Result<Value, JsonError>
-    ensures written { Gives view result (pairs_json K.name_of V.writes
+    ensures written { ReturnsOrNoMemory view result (pairs_json K.name_of V.writes
         (plain_pairs K.plain V.plain map.now.entries)) }
     ensures back { OnOk result (AreVersionsBack K.versions V.versions (plain_pairs K.plain V.plain map.now.entries)
         → AreBack K.name_of K.named V.writes V.reads (plain_pairs K.plain V.plain map.now.entries)) }
@@ -60,7 +60,7 @@ pub fn put_map<K: SavedName, V: SavedValue>(
     name: &str,
     map: &IndexMap<K, V>,
 ) -> Result<(), JsonError>
-    ensures written { Gives (λ _. members_view members.new.entries) result
+    ensures written { ReturnsOrNoMemory (λ _. members_view members.new.entries) result
         (put_pairs K.name_of V.writes name.now (plain_pairs K.plain V.plain map.now.entries)
         (members_view members.old.entries)) }
     ensures back { OnOk result (AreVersionsBack K.versions V.versions (plain_pairs K.plain V.plain map.now.entries)
@@ -81,7 +81,7 @@ fn map_of<K: SavedName, V: SavedValue>(
     object: &Map<String, Value>,
 ) -> Result<IndexMap<K, V>, JsonError>
     requires { AreAscending (names_of (members_view object.now.entries)) }
-    ensures { Gives (λ m. plain_pairs K.plain V.plain m.entries) result
+    ensures { ReturnsOrNoMemory (λ m. plain_pairs K.plain V.plain m.entries) result
         (pairs_of K.named V.reads (members_view object.now.entries)) }
 {
     let mut map = IndexMap::with_capacity(alloc, object.len())?;
@@ -98,7 +98,7 @@ fn map_in<K: SavedName, V: SavedValue>(
     alloc: Global,
     object: &Map<String, Value>,
 ) -> Result<IndexMap<K, V>, JsonError>
-    ensures { Gives (λ m. plain_pairs K.plain V.plain m.entries) result
+    ensures { ReturnsOrNoMemory (λ m. plain_pairs K.plain V.plain m.entries) result
         (pairs_of K.named V.reads (members_view object.now.entries)) }
 {
     let _len = object.len();
@@ -112,7 +112,7 @@ pub fn map_member<K: SavedName, V: SavedValue>(
     value: &Value,
     name: &str,
 ) -> Result<IndexMap<K, V>, JsonError>
-    ensures { Gives (λ m. plain_pairs K.plain V.plain m.entries) result
+    ensures { ReturnsOrNoMemory (λ m. plain_pairs K.plain V.plain m.entries) result
         (pairs_member K.named V.reads name.now (view value.now)) }
 {
     let _members = members_in(value)?;

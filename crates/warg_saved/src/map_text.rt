@@ -4,7 +4,7 @@ ghost use Rattle.json.specs.Print.{print};
 ghost use Rattle.serde_json.specs.Data.{Members, no_members, object};
 ghost use Rattle.serde_json.specs.Written.{compact_text};
 ghost use Rattle.warg_crypto.specs.declared.json.error.JsonError.TheVariants as fault;
-ghost use Rattle.warg_crypto.specs.Json.{Gives};
+ghost use Rattle.warg_crypto.specs.Json.{ReturnsOrNoMemory};
 ghost use Rattle.warg_crypto.specs.Pairs.{pairs_json, pairs_onto, plain_pairs};
 ghost use Rattle.warg_saved.specs.Backs.{AreBack, AreVersionsBack};
 ghost use Rattle.warg_saved.specs.Texts.{AreMembers, text_of};
@@ -70,7 +70,7 @@ pub(crate) fn map_text<K: SavedName, V: SavedValue>(
     alloc: Global,
     map: &IndexMap<K, V>,
 ) -> Result<String, JsonError>
-    ensures written { Gives string_bytes result (text_of (pairs_json K.name_of V.writes
+    ensures written { ReturnsOrNoMemory string_bytes result (text_of (pairs_json K.name_of V.writes
         (plain_pairs K.plain V.plain map.now.entries))) }
     ensures back { OnOk result (AreVersionsBack K.versions V.versions (plain_pairs K.plain V.plain map.now.entries)
         → AreBack K.name_of K.named V.writes V.reads (plain_pairs K.plain V.plain map.now.entries)) }

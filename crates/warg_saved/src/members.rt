@@ -1,7 +1,7 @@
 //! The members that states of every kind have: the algorithm, the permissions and the keys.
 ghost use Rattle.std.specs.Prelude.{◌≡◌, OnErr, OnOk, codes};
 ghost use Rattle.serde_json.specs.View.{members_view, view};
-ghost use Rattle.warg_crypto.specs.Json.{Gives};
+ghost use Rattle.warg_crypto.specs.Json.{ReturnsOrNoMemory};
 ghost use Rattle.warg_crypto.specs.JsonTexts.{algorithm_in, algorithm_json, key_in, key_json};
 ghost use Rattle.warg_crypto.specs.Members.{optional_member, put_option};
 ghost use Rattle.warg_crypto.specs.Pairs.{pairs_member};
@@ -25,7 +25,7 @@ pub fn put_algorithm(
     alloc: Global,
     algorithm: &Option<HashAlgorithm>,
 ) -> Result<(), JsonError>
-    ensures written { Gives (λ _. members_view members.new.entries) result
+    ensures written { ReturnsOrNoMemory (λ _. members_view members.new.entries) result
         (put_option algorithm_json (codes "algorithm") algorithm.now (members_view members.old.entries)) }
     ensures kept { OnErr result (members_view members.new.entries ≡ members_view members.old.entries) }
 {
@@ -37,7 +37,7 @@ pub fn put_algorithm(
 
 /// The algorithm of a state, where a missing one and null are none.
 pub fn algorithm_member(alloc: Global, value: &Value) -> Result<Option<HashAlgorithm>, JsonError>
-    ensures { Gives (λ a. a) result (optional_member algorithm_in (codes "algorithm") (view value.now)) }
+    ensures { ReturnsOrNoMemory (λ a. a) result (optional_member algorithm_in (codes "algorithm") (view value.now)) }
 {
     optional_member::<HashAlgorithm>(alloc, value, "algorithm")
 }
@@ -48,7 +48,7 @@ pub fn put_keys(
     alloc: Global,
     keys: &IndexMap<KeyID, PublicKey>,
 ) -> Result<(), JsonError>
-    ensures written { Gives (λ _. members_view members.new.entries) result
+    ensures written { ReturnsOrNoMemory (λ _. members_view members.new.entries) result
         (put_pairs text_name key_json (codes "keys") keys.now.entries (members_view members.old.entries)) }
     ensures back { OnOk result (AreBack text_name text_named key_json key_in keys.now.entries) }
     ensures kept { OnErr result (members_view members.new.entries ≡ members_view members.old.entries) }
@@ -58,7 +58,8 @@ pub fn put_keys(
 
 /// The keys of a state, none where they are missing.
 pub fn keys_member(alloc: Global, value: &Value) -> Result<IndexMap<KeyID, PublicKey>, JsonError>
-    ensures { Gives (λ m. m.entries) result (pairs_member text_named key_in (codes "keys") (view value.now)) }
+    ensures { ReturnsOrNoMemory (λ m. m.entries) result
+        (pairs_member text_named key_in (codes "keys") (view value.now)) }
 {
     map_member::<KeyID, PublicKey>(alloc, value, "keys")
 }

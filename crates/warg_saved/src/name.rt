@@ -4,7 +4,7 @@ ghost use Rattle.std.specs.declared.alloc.Global.{Global};
 ghost use Rattle.std.proofs.lemmas.Slice.Eq.{bytes_eq-Decides};
 ghost use Rattle.semver.specs.Identifiers.{parts_of};
 ghost use Rattle.warg_crypto.specs.declared.json.error.JsonError.{JsonError};
-ghost use Rattle.warg_crypto.specs.Json.{AreReadBack, Gives, Version as VersionData, wrote};
+ghost use Rattle.warg_crypto.specs.Json.{AreReadBack, ReturnsOrNoMemory, Version as VersionData, wrote};
 ghost use Rattle.warg_saved.specs.Names.{text_name, text_named, version_name, version_named};
 ghost use Rattle.warg_saved.specs.NameLaws.{text_back, version_back, version_read, one_version, same_version};
 
@@ -32,11 +32,11 @@ pub trait SavedName: Eq + Hash + Drop {
 
     /// The name. The error is `OutOfMemory`.
     fn to_name(&self, alloc: Global) -> Result<String, JsonError>
-        ensures { Gives string_bytes result (wrote (name_of (plain self.now))) };
+        ensures { ReturnsOrNoMemory string_bytes result (wrote (name_of (plain self.now))) };
 
     /// What the name says, or its fault.
     fn from_name(alloc: Global, name: &str) -> Result<Self, JsonError>
-        ensures { Gives plain result (named name.now) };
+        ensures { ReturnsOrNoMemory plain result (named name.now) };
 
     // A name that is read is written as it was.
     ghost back: { (name : List ℕ) (k : Plain) → named name ≡ Ok k → name_of k ≡ name };
@@ -108,7 +108,7 @@ impl SavedName for String {
 
 /// The version of a text, else `BadText`.
 fn version_of(alloc: Global, text: &str) -> Result<Version, JsonError>
-    ensures { Gives parts_of result (version_named text.now) }
+    ensures { ReturnsOrNoMemory parts_of result (version_named text.now) }
 {
     match Version::parse(alloc, text) {
         Ok(version) => Ok(version),

@@ -1,7 +1,7 @@
 //! Sets of permissions as lists of their names.
 ghost use Rattle.std.specs.Prelude.{List, []};
 ghost use Rattle.serde_json.specs.View.{items_view, view};
-ghost use Rattle.warg_crypto.specs.Json.{Gives};
+ghost use Rattle.warg_crypto.specs.Json.{ReturnsOrNoMemory};
 ghost use Rattle.warg_saved.specs.CanonicalLaws.{texts_canonical};
 ghost use Rattle.warg_saved.specs.Permissions.{permission_in, permissions_from, permissions_in, permissions_json};
 ghost use Rattle.warg_saved.specs.Writes.{WritesText};
@@ -17,7 +17,7 @@ use warg_permissions::LogPermission;
 
 /// The permission of a value.
 fn permission_in<P: LogPermission>(value: &Value) -> Result<P, JsonError>
-    ensures { Gives (λ p. p) result (permission_in P.eq P.named (view value.now)) }
+    ensures { ReturnsOrNoMemory (λ p. p) result (permission_in P.eq P.named (view value.now)) }
 {
     let text = text_in(value)?;
     P::from_text(text).ok_or(JsonError::BadText)
@@ -28,7 +28,7 @@ fn permissions_of<P: LogPermission>(
     alloc: Global,
     items: &Vec<Value>,
 ) -> Result<IndexSet<P>, JsonError>
-    ensures { Gives (λ s. s.keys) result (permissions_from P.eq P.named [] (items_view items.now.items)) }
+    ensures { ReturnsOrNoMemory (λ s. s.keys) result (permissions_from P.eq P.named [] (items_view items.now.items)) }
 {
     let mut set = IndexSet::new(alloc);
     'items: for value in items.iter() {
@@ -40,7 +40,7 @@ fn permissions_of<P: LogPermission>(
 
 /// The list of the permissions' names.
 fn permissions_value<P: LogPermission>(alloc: Global, set: &IndexSet<P>) -> Result<Value, JsonError>
-    ensures { Gives view result (permissions_json P.text_of set.now.keys) }
+    ensures { ReturnsOrNoMemory view result (permissions_json P.text_of set.now.keys) }
 {
     let mut items = Vec::new(alloc);
     'permissions: for permission in set.iter() {

@@ -5,7 +5,7 @@ ghost use Rattle.serde_json.specs.Data.{Data, Members, object, put, string};
 ghost use Rattle.serde_json.specs.View.{view};
 ghost use Rattle.serde_json.specs.Written.{compact_text, has_float};
 ghost use Rattle.warg_crypto.specs.declared.json.error.JsonError.TheVariants as fault;
-ghost use Rattle.warg_crypto.specs.Json.{AreReadBack, Gives, IsReadBack, wrote};
+ghost use Rattle.warg_crypto.specs.Json.{AreReadBack, ReturnsOrNoMemory, IsReadBack, wrote};
 ghost use Rattle.warg_crypto.specs.JsonTexts.{key_in, key_json};
 ghost use Rattle.warg_crypto.specs.Members.{put_option};
 ghost use Rattle.warg_crypto.specs.Pairs.{plain_pairs};
@@ -46,7 +46,7 @@ impl Model for MemberTexts {
 
 /// A text as JSON writes it.
 fn quoted(alloc: Global, text: &str) -> Result<String, JsonError>
-    ensures { Gives string_bytes result (wrote (compact_text (string text.now))) }
+    ensures { ReturnsOrNoMemory string_bytes result (wrote (compact_text (string text.now))) }
 {
     let value = text_value(alloc, text)?;
     Ok(value.to_string(alloc)?)

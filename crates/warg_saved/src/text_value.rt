@@ -1,7 +1,7 @@
 //! Values of texts.
 ghost use Rattle.serde_json.specs.View.{view};
 ghost use Rattle.warg_crypto.specs.Json.{wrote};
-ghost use Rattle.warg_saved.specs.JsonText.{GivesOfText, in_text};
+ghost use Rattle.warg_saved.specs.JsonText.{ReturnsOfText, in_text};
 
 use crate::error::JsonTextError;
 use serde_json::{Category, Value};
@@ -9,7 +9,7 @@ use std::alloc::Global;
 
 /// The value that the text is, with texts of its own.
 pub fn read_value(alloc: Global, text: &str) -> Result<Value, JsonTextError>
-    ensures { GivesOfText view result (in_text wrote text.now) }
+    ensures { ReturnsOfText view result (in_text wrote text.now) }
 {
     match Value::from_str(alloc, text) {
         Ok(value) => Ok(value),

@@ -3,7 +3,7 @@ ghost use Rattle.std.specs.Prelude.{◌≡◌, List, [], Result, Ok, Err, IfOk, 
 ghost use Rattle.serde_json.specs.Data.{Data};
 ghost use Rattle.serde_json.specs.View.{view};
 ghost use Rattle.warg_crypto.specs.declared.json.error.JsonError.{JsonError};
-ghost use Rattle.warg_crypto.specs.Json.{AreReadBack, Gives, IsReadBack, ReadsBack, Version};
+ghost use Rattle.warg_crypto.specs.Json.{AreReadBack, ReturnsOrNoMemory, IsReadBack, ReadsBack, Version};
 ghost use Rattle.warg_crypto.specs.JsonTexts.{key_in, key_json};
 ghost use Rattle.warg_crypto.specs.NamedBytes.{NamedBytes};
 ghost use Rattle.warg_saved.specs.Canonical.{WritesCanonical, value_depth};
@@ -43,7 +43,7 @@ pub trait SavedValue: Drop {
 
     /// The JSON of the value.
     fn save(&self, alloc: Global) -> Result<Value, JsonError>
-        ensures written { Gives view result (writes (plain self.now)) }
+        ensures written { ReturnsOrNoMemory view result (writes (plain self.now)) }
         ensures back { AreReadBack (versions (plain self.now)) →
             IfOk result (λ v. ReadsBack reads (λ a b. a ≡ b) (plain self.now) (view v)) };
 
@@ -53,7 +53,7 @@ pub trait SavedValue: Drop {
 
     /// The value of JSON, or its first fault.
     fn load(alloc: Global, value: &Value) -> Result<Self, JsonError>
-        ensures { Gives plain result (reads (view value.now)) };
+        ensures { ReturnsOrNoMemory plain result (reads (view value.now)) };
 }
 
 impl SavedValue for PublicKey {

@@ -5,7 +5,7 @@ ghost use Rattle.std.specs.Option.{option_map};
 ghost use Rattle.serde_json.specs.Data.{Data, object, put, string};
 ghost use Rattle.serde_json.specs.View.{items_view, members_view, view};
 ghost use Rattle.warg_crypto.specs.declared.json.error.JsonError.TheVariants as fault;
-ghost use Rattle.warg_crypto.specs.Json.{Answers, AreReadBack, Gives, ReadsBack, items_in, members_in, member_in, text_in, wrote};
+ghost use Rattle.warg_crypto.specs.Json.{Returns, AreReadBack, ReturnsOrNoMemory, ReadsBack, items_in, members_in, member_in, text_in, wrote};
 ghost use Rattle.warg_crypto.specs.Members.{optional, optional_member, put_json, put_option};
 
 use crate::json::{JsonError, JsonValue};
@@ -14,28 +14,28 @@ use std::alloc::Global;
 
 /// The text of a value that is one, else `WrongType`.
 pub fn text_in(value: &Value) -> Result<&str, JsonError>
-    ensures { Answers (λ s. s.now) result (text_in (view value.now)) }
+    ensures { Returns (λ s. s.now) result (text_in (view value.now)) }
 {
     value.as_str().ok_or(JsonError::WrongType)
 }
 
 /// The items of a value that is an array, else `WrongType`.
 pub fn items_in(value: &Value) -> Result<&Vec<Value>, JsonError>
-    ensures { Answers (λ items. items_view items.now.items) result (items_in (view value.now)) }
+    ensures { Returns (λ items. items_view items.now.items) result (items_in (view value.now)) }
 {
     value.as_array().ok_or(JsonError::WrongType)
 }
 
 /// The members of a value that is an object, else `WrongType`.
 pub fn members_in(value: &Value) -> Result<&Map<String, Value>, JsonError>
-    ensures { Answers (λ m. members_view m.now.entries) result (members_in (view value.now)) }
+    ensures { Returns (λ m. members_view m.now.entries) result (members_in (view value.now)) }
 {
     value.as_object().ok_or(JsonError::WrongType)
 }
 
 /// The member of that name. `WrongType`: the value is no object; `Missing`: it has no such member.
 pub fn member_in<'v>(value: &'v Value, name: &str) -> Result<&'v Value, JsonError>
-    ensures { Answers (λ v. view v.now) result (member_in name.now (view value.now)) }
+    ensures { Returns (λ v. view v.now) result (member_in name.now (view value.now)) }
 {
     if !value.is_object() {
         return Err(JsonError::WrongType);
@@ -48,7 +48,8 @@ pub fn optional<T: JsonValue + Drop>(
     alloc: Global,
     value: Option<&Value>,
 ) -> Result<Option<T>, JsonError>
-    ensures { Gives (option_map T.plain) result (optional T.reads (option_map (λ v. view v.now) value.entry)) }
+    ensures { ReturnsOrNoMemory (option_map T.plain) result
+        (optional T.reads (option_map (λ v. view v.now) value.entry)) }
 {
     let Some(value) = value else {
         return Ok(None);
@@ -66,7 +67,7 @@ pub fn optional_member<T: JsonValue + Drop>(
     value: &Value,
     name: &str,
 ) -> Result<Option<T>, JsonError>
-    ensures { Gives (option_map T.plain) result (optional_member T.reads name.now (view value.now)) }
+    ensures { ReturnsOrNoMemory (option_map T.plain) result (optional_member T.reads name.now (view value.now)) }
 {
     let _members = members_in(value)?;
     optional::<T>(alloc, value.get(name))
@@ -97,7 +98,7 @@ pub fn put_value<T: JsonValue>(
     name: &str,
     value: &T,
 ) -> Result<(), JsonError>
-    ensures written { Gives (λ _. members_view map.new.entries) result
+    ensures written { ReturnsOrNoMemory (λ _. members_view map.new.entries) result
         (put_json T.writes name.now (T.plain value.now) (members_view map.old.entries)) }
     ensures back { AreReadBack (T.versions (T.plain value.now)) → OnOk result
         ((d : Data) × ReadsBack T.reads T.equivalent (T.plain value.now) d ×
@@ -116,7 +117,7 @@ pub fn put_optional<T: JsonValue>(
     name: &str,
     value: &Option<T>,
 ) -> Result<(), JsonError>
-    ensures written { Gives (λ _. members_view map.new.entries) result
+    ensures written { ReturnsOrNoMemory (λ _. members_view map.new.entries) result
         (put_option T.writes name.now (option_map T.plain value.now) (members_view map.old.entries)) }
     ensures kept { OnErr result (members_view map.new.entries ≡ members_view map.old.entries) }
 {
@@ -142,7 +143,7 @@ pub fn object_value(members: Map<String, Value>) -> Value
 
 /// A text as JSON. The error is `OutOfMemory`.
 pub fn text_value(alloc: Global, text: &str) -> Result<Value, JsonError>
-    ensures { Gives view result (wrote (string text.now)) }
+    ensures { ReturnsOrNoMemory view result (wrote (string text.now)) }
 {
     Ok(string_value(String::from_str(alloc, text)?))
 }

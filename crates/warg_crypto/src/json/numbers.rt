@@ -2,7 +2,7 @@
 
 ghost use Rattle.std.specs.Prelude.{◌≡◌, ◌^◌, ℕ, []};
 ghost use Rattle.serde_json.specs.View.{view};
-ghost use Rattle.warg_crypto.specs.Json.{Answers};
+ghost use Rattle.warg_crypto.specs.Json.{Returns};
 ghost use Rattle.warg_crypto.specs.Numbers.{number_below, number_in, number_json};
 
 use crate::json::{JsonError, JsonValue};
@@ -11,7 +11,7 @@ use std::alloc::Global;
 
 /// The number of a value that is a whole one below 2^64, else `WrongType`.
 fn number_in(value: &Value) -> Result<u64, JsonError>
-    ensures { Answers (λ n. n) result (number_in (view value.now)) }
+    ensures { Returns (λ n. n) result (number_in (view value.now)) }
 {
     value.as_u64().ok_or(JsonError::WrongType)
 }

@@ -1,6 +1,6 @@
 //! An authority as its maps.
 ghost use Rattle.std.specs.Prelude.{◌≡◌};
-ghost use Rattle.warg_log.specs.Contents.{maps_contents};
+ghost use Rattle.warg_log.specs.AuthorityData.{authority_data};
 
 use crate::authority::Authority;
 use crate::permission_set::PermissionSet;
@@ -18,7 +18,7 @@ impl<P: LogPermission> Authority<P> {
         permissions: IndexMap<KeyID, PermissionSet<P>>,
         keys: IndexMap<KeyID, PublicKey>,
     ) -> Authority<P>
-        ensures { result ≡ maps_contents algorithm permissions keys }
+        ensures { result ≡ authority_data algorithm permissions keys }
     {
         Authority {
             alloc,

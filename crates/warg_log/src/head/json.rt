@@ -3,7 +3,7 @@
 ghost use Rattle.std.specs.Prelude.{◌≡◌, [], codes, Ok, OnOk, OnErr, Option};
 ghost use Rattle.serde_json.specs.Data.{Data};
 ghost use Rattle.serde_json.specs.View.{members_view, view};
-ghost use Rattle.warg_crypto.specs.Json.{Gives};
+ghost use Rattle.warg_crypto.specs.Json.{ReturnsOrNoMemory};
 ghost use Rattle.warg_crypto.specs.Members.{put_option, put_some};
 ghost use Rattle.warg_crypto.specs.Numbers.{number_json};
 ghost use Rattle.warg_log.specs.HeadJson.{head_in, head_json, unless_zero, version_in, version_or_zero};
@@ -18,7 +18,7 @@ use warg_records::RecordId;
 
 /// Puts the version, unless it is 0.
 fn put_version(map: &mut Map<String, Value>, alloc: Global, version: u32) -> Result<(), JsonError>
-    ensures written { Gives (λ _. members_view map.new.entries) result
+    ensures written { ReturnsOrNoMemory (λ _. members_view map.new.entries) result
         (put_option number_json (codes "version") (unless_zero version) (members_view map.old.entries)) }
     ensures back { OnOk result ((d : Option Data) × (version_or_zero d ≡ Ok version)
         × (members_view map.new.entries ≡ put_some (codes "version") d (members_view map.old.entries))) }
@@ -31,7 +31,7 @@ fn put_version(map: &mut Map<String, Value>, alloc: Global, version: u32) -> Res
 
 /// The version of a head's JSON, 0 where it is missing.
 fn version_in(alloc: Global, value: &Value) -> Result<u32, JsonError>
-    ensures { Gives (λ n. n) result (version_in (view value.now)) }
+    ensures { ReturnsOrNoMemory (λ n. n) result (version_in (view value.now)) }
 {
     let _members = members_in(value)?;
     let Some(version) = value.get("version") else {

@@ -2,7 +2,7 @@
 ghost use Rattle.std.specs.Prelude.{◌≡◌, OnErr, OnOk, Some, codes};
 ghost use Rattle.std.specs.Option.{option_map};
 ghost use Rattle.serde_json.specs.View.{members_view, view};
-ghost use Rattle.warg_crypto.specs.Json.{Gives, IsReadBack};
+ghost use Rattle.warg_crypto.specs.Json.{ReturnsOrNoMemory, IsReadBack};
 ghost use Rattle.warg_crypto.specs.Members.{optional_member, put_option};
 ghost use Rattle.warg_saved.specs.Texts.{PutsText};
 ghost use Rattle.warg_log.specs.HeadJson.{head_in, head_json};
@@ -21,7 +21,7 @@ pub fn put_head(
     alloc: Global,
     head: &Option<Head>,
 ) -> Result<(), JsonError>
-    ensures written { Gives (λ _. members_view members.new.entries) result
+    ensures written { ReturnsOrNoMemory (λ _. members_view members.new.entries) result
         (put_option head_json (codes "head") head.now (members_view members.old.entries)) }
     ensures back { OnOk result ((h : OfHead) → head.now ≡ Some h → IsReadBack head_json head_in (λ x y. x ≡ y) h) }
     ensures kept { OnErr result (members_view members.new.entries ≡ members_view members.old.entries) }
@@ -42,7 +42,7 @@ pub fn put_head_text(members: &mut MemberTexts, head: &Option<Head>) -> Result<(
 
 /// The head of a state, where a missing one and null are none.
 pub fn head_member(alloc: Global, value: &Value) -> Result<Option<Head>, JsonError>
-    ensures { Gives (λ h. h) result (optional_member head_in (codes "head") (view value.now)) }
+    ensures { ReturnsOrNoMemory (λ h. h) result (optional_member head_in (codes "head") (view value.now)) }
 {
     optional_member::<Head>(alloc, value, "head")
 }

@@ -1,7 +1,7 @@
 //! JSON of what a namespace is.
 ghost use Rattle.std.specs.Prelude.{◌≡◌, ◌==◌, [], length, string_bytes};
 ghost use Rattle.serde_json.specs.View.{members_view, view};
-ghost use Rattle.warg_crypto.specs.Json.{Answers, Gives};
+ghost use Rattle.warg_crypto.specs.Json.{Returns, ReturnsOrNoMemory};
 ghost use Rattle.warg_crypto.specs.Pairs.{names_of};
 ghost use Rattle.warg_operator_log.specs.CanonicalNamespaces.{namespace_canonical};
 ghost use Rattle.warg_operator_log.specs.NamespaceJson.{defined_in, imported_in, namespace_in, namespace_json, only_imported, saved_namespace_in, saved_namespace_json};
@@ -20,7 +20,7 @@ use warg_saved::{SavedValue, Writer};
 
 /// The JSON of an imported namespace.
 fn imported_value(alloc: Global, registry: &str) -> Result<Value, JsonError>
-    ensures { Gives view result (namespace_json (Namespace.Imported registry.now)) }
+    ensures { ReturnsOrNoMemory view result (namespace_json (Namespace.Imported registry.now)) }
 {
     let mut inner = Map::new(alloc);
     let registry = text_value(alloc, registry)?;
@@ -32,7 +32,7 @@ fn imported_value(alloc: Global, registry: &str) -> Result<Value, JsonError>
 
 /// The JSON of what the namespace is.
 fn namespace_value(alloc: Global, state: &NamespaceState) -> Result<Value, JsonError>
-    ensures { Gives view result (namespace_json (namespace_view state.now)) }
+    ensures { ReturnsOrNoMemory view result (namespace_json (namespace_view state.now)) }
 {
     match state {
         NamespaceState::Defined => text_value(alloc, "defined"),
@@ -42,7 +42,7 @@ fn namespace_value(alloc: Global, state: &NamespaceState) -> Result<Value, JsonE
 
 /// What the text of a namespace says.
 fn defined_in(text: &str) -> Result<NamespaceState, JsonError>
-    ensures { Gives namespace_view result (defined_in text.now) }
+    ensures { ReturnsOrNoMemory namespace_view result (defined_in text.now) }
 {
     if text == "defined" {
         return Ok(NamespaceState::Defined);
@@ -59,7 +59,7 @@ fn is_one(members: &Map<String, Value>) -> bool
 
 /// The value of the member `imported`, where it is the only one, else `BadText`.
 fn only_imported<'v>(value: &'v Value, members: &Map<String, Value>) -> Result<&'v Value, JsonError>
-    ensures { Answers (λ v. view v.now) result (only_imported (view value.now) (members_view members.now.entries)) }
+    ensures { Returns (λ v. view v.now) result (only_imported (view value.now) (members_view members.now.entries)) }
 {
     if !is_one(members) {
         return Err(JsonError::BadText);
@@ -73,7 +73,8 @@ fn imported_in(
     value: &Value,
     members: &Map<String, Value>,
 ) -> Result<NamespaceState, JsonError>
-    ensures { Gives namespace_view result (imported_in (view value.now) (members_view members.now.entries)) }
+    ensures { ReturnsOrNoMemory namespace_view result
+        (imported_in (view value.now) (members_view members.now.entries)) }
 {
     let imported = only_imported(value, members)?;
     let registry = text_in(member_in(imported, "registry")?)?;
@@ -84,7 +85,7 @@ fn imported_in(
 
 /// What the namespace is, by a text or an object.
 fn namespace_of(alloc: Global, value: &Value) -> Result<NamespaceState, JsonError>
-    ensures { Gives namespace_view result (namespace_in (view value.now)) }
+    ensures { ReturnsOrNoMemory namespace_view result (namespace_in (view value.now)) }
 {
     if let Some(text) = value.as_str() {
         return defined_in(text);
@@ -119,7 +120,7 @@ impl JsonValue for NamespaceState {
 
 /// The JSON of a namespace in a state.
 fn saved_value(alloc: Global, state: &NamespaceState) -> Result<Value, JsonError>
-    ensures { Gives view result (saved_namespace_json (namespace_view state.now)) }
+    ensures { ReturnsOrNoMemory view result (saved_namespace_json (namespace_view state.now)) }
 {
     let mut members = Map::new(alloc);
     put_value(&mut members, alloc, "state", state)?;

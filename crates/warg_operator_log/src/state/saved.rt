@@ -3,13 +3,13 @@ ghost use Rattle.std.specs.Prelude.{ℕ, List, ◌≡◌, ◌&&◌, [], ◌∷�
 ghost use Rattle.std.specs.List.{list_any};
 ghost use Rattle.serde_json.specs.Data.{object};
 ghost use Rattle.serde_json.specs.View.{members_view, view};
-ghost use Rattle.warg_crypto.specs.Json.{Gives};
+ghost use Rattle.warg_crypto.specs.Json.{ReturnsOrNoMemory};
 ghost use Rattle.warg_crypto.specs.Pairs.{plain_pairs};
 ghost use Rattle.warg_permissions.specs.declared.operator.Permission.{Permission as OfPermission};
 ghost use Rattle.warg_saved.specs.Fit.{RefusesCase, first_case, is_nil, keys_case, rights_case, unless_case, version_case};
-ghost use Rattle.warg_saved.specs.JsonText.{GivesOfText, TextReadsBack, in_text};
+ghost use Rattle.warg_saved.specs.JsonText.{ReturnsOfText, TextReadsBack, in_text};
 ghost use Rattle.warg_saved.specs.Texts.{IsReadAs, text_of};
-ghost use Rattle.warg_log.specs.Contents.{Contents};
+ghost use Rattle.warg_log.specs.AuthorityData.{AuthorityData};
 ghost use Rattle.warg_log.specs.States.{State};
 ghost use Rattle.warg_operator_log.specs.NamespaceMap.{namespace_view};
 ghost use Rattle.warg_operator_log.specs.Namespaces.{Namespace};
@@ -48,7 +48,7 @@ pub(crate) struct SavedParts {
 
 /// The parts of a state, or the first fault of its members.
 fn read_parts(alloc: Global, value: &Value) -> Result<SavedParts, JsonError>
-    ensures { Gives parts_view result (parts_in (view value.now)) }
+    ensures { ReturnsOrNoMemory parts_view result (parts_in (view value.now)) }
 {
     let algorithm = algorithm_member(alloc, value)?;
     let head = head_member(alloc, value)?;
@@ -77,7 +77,7 @@ fn parts_apart(alloc: Global, text: &str) -> Option<SavedParts>
 
 /// The parts of a state's text, or its first fault.
 fn text_parts(alloc: Global, text: &str) -> Result<SavedParts, JsonTextError>
-    ensures { GivesOfText parts_view result (in_text parts_in text.now) }
+    ensures { ReturnsOfText parts_view result (in_text parts_in text.now) }
 {
     if let Some(parts) = parts_apart(alloc, text) {
         return Ok(parts);
@@ -155,7 +155,8 @@ fn restore(alloc: Global, parts: SavedParts) -> Log<NamespaceMap>
 
 /// The state of the parts, or the first thing that does not fit together.
 fn state_of_parts(alloc: Global, parts: SavedParts) -> Result<LogState, JsonError>
-    ensures { Gives (λ s. s) result (unless_case (incoherence (parts_view parts)) (state_of (parts_view parts))) }
+    ensures { ReturnsOrNoMemory (λ s. s) result
+        (unless_case (incoherence (parts_view parts)) (state_of (parts_view parts))) }
 {
     check_parts(alloc, &parts)?;
     Ok(LogState {
@@ -165,7 +166,7 @@ fn state_of_parts(alloc: Global, parts: SavedParts) -> Result<LogState, JsonErro
 
 /// The members of the state's JSON.
 fn members_of(alloc: Global, log: &Log<NamespaceMap>) -> Result<Map<String, Value>, JsonError>
-    ensures written { Gives (λ m. object (members_view m.entries)) result (state_json log.now) }
+    ensures written { ReturnsOrNoMemory (λ m. object (members_view m.entries)) result (state_json log.now) }
     ensures savable { OnOk result (IsSavable log.now) }
 {
     let mut members = Map::new(alloc);
@@ -179,7 +180,7 @@ fn members_of(alloc: Global, log: &Log<NamespaceMap>) -> Result<Map<String, Valu
 
 /// The text of the state's JSON.
 fn log_text(alloc: Global, log: &Log<NamespaceMap>) -> Result<String, JsonError>
-    ensures written { Gives string_bytes result (text_of (state_json log.now)) }
+    ensures written { ReturnsOrNoMemory string_bytes result (text_of (state_json log.now)) }
     ensures read { IfOk result (λ text. IsReadAs (state_json log.now) (string_bytes text)) }
     ensures savable { OnOk result (IsSavable log.now) }
 {
@@ -198,7 +199,7 @@ impl LogState {
     /// back as an equal state. `TimeBeforeEpoch`: a time that is to be written lies
     /// before the epoch.
     pub fn to_json(&self, alloc: Global) -> Result<String, JsonError>
-        ensures written { Gives string_bytes result (text_of (state_json self.now)) }
+        ensures written { ReturnsOrNoMemory string_bytes result (text_of (state_json self.now)) }
         ensures read { IfOk result (λ text. IsReadAs (state_json self.now) (string_bytes text)) }
         ensures back { IfOk result (λ text. TextReadsBack state_in AreEqual self.now (string_bytes text)) }
     {
@@ -208,7 +209,7 @@ impl LogState {
     /// The state of a text of JSON: what [`JsonValue::from_value`] reads of its value. It takes about half the time, since
     /// no value of the whole state is made: each namespace is read for itself.
     pub fn from_json(alloc: Global, text: &str) -> Result<LogState, JsonTextError>
-        ensures { GivesOfText (λ s. s) result (in_text state_in text.now) }
+        ensures { ReturnsOfText (λ s. s) result (in_text state_in text.now) }
     {
         let parts = text_parts(alloc, text)?;
         match state_of_parts(alloc, parts) {
@@ -221,7 +222,7 @@ impl LogState {
 /// A state as JSON. `TimeBeforeEpoch`: a time that is to be written lies before the epoch. What is read is the
 /// state, or its first fault, or else the first thing in it that does not fit together.
 impl JsonValue for LogState {
-    ghost Plain = { State (Contents OfPermission) (List (List ℕ × Namespace)) };
+    ghost Plain = { State (AuthorityData OfPermission) (List (List ℕ × Namespace)) };
 
     ghost plain = { λ s. s };
 

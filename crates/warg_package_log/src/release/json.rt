@@ -3,7 +3,7 @@
 ghost use Rattle.std.specs.Prelude.{◌≡◌, [], ◌∷◌, codes, Ok, IfOk};
 ghost use Rattle.semver.specs.Identifiers.{parts_of};
 ghost use Rattle.serde_json.specs.View.{members_view, view};
-ghost use Rattle.warg_crypto.specs.Json.{AreReadBack, Gives, wrote};
+ghost use Rattle.warg_crypto.specs.Json.{AreReadBack, ReturnsOrNoMemory, wrote};
 ghost use Rattle.warg_package_log.specs.ReleaseMap.{release_view};
 ghost use Rattle.warg_package_log.specs.ReleaseJson.{release_in, release_json, release_state_in, release_state_json, released_in, state_of, status_member, version_in, version_json, yanked_in};
 ghost use Rattle.warg_package_log.specs.Releases.{ReleaseView};
@@ -25,7 +25,7 @@ use warg_saved::SavedName;
 
 /// The text of the version.
 fn version_value(alloc: Global, version: &Version) -> Result<Value, JsonError>
-    ensures written { Gives view result (version_json (parts_of version.now)) }
+    ensures written { ReturnsOrNoMemory view result (version_json (parts_of version.now)) }
     ensures back { AreReadBack (parts_of version.now ∷ []) →
         IfOk result (λ v. version_in (view v) ≡ Ok (parts_of version.now)) }
 {
@@ -34,14 +34,14 @@ fn version_value(alloc: Global, version: &Version) -> Result<Value, JsonError>
 
 /// The version of a text.
 fn version_in(alloc: Global, value: &Value) -> Result<Version, JsonError>
-    ensures { Gives parts_of result (version_in (view value.now)) }
+    ensures { ReturnsOrNoMemory parts_of result (version_in (view value.now)) }
 {
     Version::from_name(alloc, text_in(value)?)
 }
 
 /// The status as the first member of a state.
 fn status_member(alloc: Global, status: &str) -> Result<Map<String, Value>, JsonError>
-    ensures { Gives (λ map. members_view map.entries) result (wrote (status_member status.now)) }
+    ensures { ReturnsOrNoMemory (λ map. members_view map.entries) result (wrote (status_member status.now)) }
 {
     let mut map = Map::new(alloc);
     put_member(&mut map, alloc, "status", text_value(alloc, status)?)?;
@@ -50,7 +50,7 @@ fn status_member(alloc: Global, status: &str) -> Result<Map<String, Value>, Json
 
 /// The state of a release that stands, as JSON.
 fn released_value(alloc: Global, content: &AnyHash) -> Result<Value, JsonError>
-    ensures written { Gives view result (release_state_json (Released content.now)) }
+    ensures written { ReturnsOrNoMemory view result (release_state_json (Released content.now)) }
     ensures back { IfOk result (λ v. release_state_in (view v) ≡ Ok (Released content.now)) }
 {
     let mut map = status_member(alloc, "released")?;
@@ -60,7 +60,7 @@ fn released_value(alloc: Global, content: &AnyHash) -> Result<Value, JsonError>
 
 /// The state of a release that was yanked, as JSON.
 fn yanked_value(alloc: Global, by: &KeyID, timestamp: &Timestamp) -> Result<Value, JsonError>
-    ensures written { Gives view result (release_state_json (Yanked by.now timestamp.now)) }
+    ensures written { ReturnsOrNoMemory view result (release_state_json (Yanked by.now timestamp.now)) }
     ensures back { IfOk result (λ v. release_state_in (view v) ≡ Ok (Yanked by.now timestamp.now)) }
 {
     let mut map = status_member(alloc, "yanked")?;
@@ -71,7 +71,7 @@ fn yanked_value(alloc: Global, by: &KeyID, timestamp: &Timestamp) -> Result<Valu
 
 /// The state of a release that stands.
 fn released_in(alloc: Global, value: &Value) -> Result<ReleaseState, JsonError>
-    ensures { Gives (λ s. s) result (released_in (view value.now)) }
+    ensures { ReturnsOrNoMemory (λ s. s) result (released_in (view value.now)) }
 {
     let content = AnyHash::from_value(alloc, member_in(value, "content")?)?;
     Ok(ReleaseState::Released { content })
@@ -79,7 +79,7 @@ fn released_in(alloc: Global, value: &Value) -> Result<ReleaseState, JsonError>
 
 /// The state of a release that was yanked.
 fn yanked_in(alloc: Global, value: &Value) -> Result<ReleaseState, JsonError>
-    ensures { Gives (λ s. s) result (yanked_in (view value.now)) }
+    ensures { ReturnsOrNoMemory (λ s. s) result (yanked_in (view value.now)) }
 {
     let by = KeyID::from_value(alloc, member_in(value, "by")?)?;
     let timestamp = Timestamp::from_value(alloc, member_in(value, "timestamp")?)?;

@@ -23,9 +23,9 @@ use warg_protobuf::{Message, WireError};
 impl FromMessage for OperatorEntry {
     type Message = message::OperatorEntry;
 
-    ghost Seen = { Option OperatorMember };
+    ghost MessageView = { Option OperatorMember };
 
-    ghost seen = { operator_entry_view };
+    ghost message_view = { operator_entry_view };
 
     ghost Permission = { Permission };
 
@@ -35,7 +35,7 @@ impl FromMessage for OperatorEntry {
 
     ghost table = { operator_entry_table };
 
-    ghost seen_from = { operator_entry_from };
+    ghost message_view_from = { operator_entry_from };
 
     ghost read = { operator_entry_of };
 

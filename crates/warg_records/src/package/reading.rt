@@ -67,9 +67,9 @@ fn read_yank(alloc: Global, message: PackageYank) -> Result<PackageEntry, Decode
 impl FromMessage for PackageEntry {
     type Message = message::PackageEntry;
 
-    ghost Seen = { Option PackageMember };
+    ghost MessageView = { Option PackageMember };
 
-    ghost seen = { package_entry_view };
+    ghost message_view = { package_entry_view };
 
     ghost Permission = { Permission };
 
@@ -79,7 +79,7 @@ impl FromMessage for PackageEntry {
 
     ghost table = { package_entry_table };
 
-    ghost seen_from = { package_entry_from };
+    ghost message_view_from = { package_entry_from };
 
     ghost read = { package_entry_of };
 

@@ -1,6 +1,6 @@
 use Rattle.std.specs.Prelude.{Ok, Err, Result, ⊤}
 use Rattle.std.proofs.Common.{subst, sym}
-use Rattle.warg_crypto.specs.Json.{Answers}
+use Rattle.warg_crypto.specs.Json.{Returns}
 use Rattle.warg_crypto.specs.Times.{Time}
 use Rattle.warg_crypto.specs.declared.json.error.JsonError.{JsonError}
 use Rattle.warg_crypto.proofs.NumberTexts.{left_bad, number_of-parsed, right_bad, sides_read}
@@ -18,4 +18,4 @@ pub returns : goal.returns
 returns c =
     let left = number_of-parsed {E = ⊤} 64 c.args.left.now (Ok c.in-Ok.seconds) c.in-Ok.ensures.value.0 in
     let right = number_of-parsed {E = ⊤} 32 c.args.right.now (Ok c.in-Ok-parse.nanos) c.in-Ok-parse.ensures.value.0 in
-    subst (λ (want : Result Time JsonError). Answers (λ t. t) c.carried.result want) (sym (sides_read _ _ c.in-Ok.seconds c.in-Ok-parse.nanos left right)) c.carried.ensures
+    subst (λ (want : Result Time JsonError). Returns (λ t. t) c.carried.result want) (sym (sides_read _ _ c.in-Ok.seconds c.in-Ok-parse.nanos left right)) c.carried.ensures

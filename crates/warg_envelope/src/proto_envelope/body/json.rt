@@ -2,7 +2,7 @@
 
 ghost use Rattle.std.specs.Prelude.{◌≡◌, [], IfOk, Ok};
 ghost use Rattle.serde_json.specs.View.{members_view, view};
-ghost use Rattle.warg_crypto.specs.Json.{Gives};
+ghost use Rattle.warg_crypto.specs.Json.{ReturnsOrNoMemory};
 ghost use Rattle.warg_envelope.specs.EnvelopeData.{EnvelopeData};
 ghost use Rattle.warg_envelope.specs.EnvelopeJson.{AreBodyMembers, body_in, body_json, body_members, bytes_in, bytes_json, published_in, published_json};
 ghost use Rattle.warg_envelope.specs.declared.proto_envelope.body.PublishedProtoEnvelopeBody.{PublishedProtoEnvelopeBody};
@@ -20,7 +20,7 @@ use warg_crypto::{JsonError, JsonValue};
 
 /// The bytes as a text in base64.
 fn bytes_value(alloc: Global, bytes: &[u8]) -> Result<Value, JsonError>
-    ensures written { Gives view result (bytes_json bytes.now) }
+    ensures written { ReturnsOrNoMemory view result (bytes_json bytes.now) }
     ensures back { IfOk result (λ v. bytes_in (view v) ≡ Ok bytes.now) }
 {
     let text = STANDARD.encode(alloc, bytes)?;
@@ -29,7 +29,7 @@ fn bytes_value(alloc: Global, bytes: &[u8]) -> Result<Value, JsonError>
 
 /// The bytes of a text in base64.
 fn bytes_in(alloc: Global, value: &Value) -> Result<Vec<u8>, JsonError>
-    ensures { Gives (λ bytes. bytes.items) result (bytes_in (view value.now)) }
+    ensures { ReturnsOrNoMemory (λ bytes. bytes.items) result (bytes_in (view value.now)) }
 {
     let text = text_in(value)?;
     match STANDARD.decode(alloc, text.as_bytes()) {
@@ -41,7 +41,7 @@ fn bytes_in(alloc: Global, value: &Value) -> Result<Vec<u8>, JsonError>
 
 /// The members of an envelope's JSON.
 fn body_members(alloc: Global, body: &ProtoEnvelopeBody) -> Result<Map<String, Value>, JsonError>
-    ensures written { Gives (λ map. members_view map.entries) result (body_members body.now) }
+    ensures written { ReturnsOrNoMemory (λ map. members_view map.entries) result (body_members body.now) }
     ensures back { IfOk result (λ map. AreBodyMembers body.now (members_view map.entries)) }
 {
     let mut map = Map::new(alloc);

@@ -6,6 +6,6 @@ use Rattle.warg_records.proofs.entries.read_each.Given as goal
 abbrev pub invariant-loop-message : goal.invariant-loop-message
 invariant-loop-message g l =
     let t = g.T.FromMessage in
-    (entries_held t.plain l.entries ≡ fold (next_entry t.read) (Ok []) (map t.seen l.yielded))
+    (entries_held t.plain l.entries ≡ fold (next_entry t.read) (Ok []) (map t.message_view l.yielded))
     × (l.yielded ++ into_iter_items l.message-iterator ≡ into_iter_items l.initial.message-iterator)
     × (into_iter_len l.message-iterator ≡ length (into_iter_items l.message-iterator))

@@ -1,6 +1,6 @@
 use Rattle.std.proofs.Common.{List, ℕ, subst, codes}
 use Rattle.serde_json.specs.View.{members_view}
-use Rattle.warg_crypto.specs.Json.{Gives}
+use Rattle.warg_crypto.specs.Json.{ReturnsOrNoMemory}
 use Rattle.warg_crypto.specs.JsonTexts.{key_in, key_json}
 use Rattle.warg_crypto.specs.NamedBytes.{NamedBytes}
 use Rattle.warg_saved.specs.Backs.{AreBack}
@@ -12,7 +12,7 @@ use Rattle.warg_saved.proofs.members.put_keys.Goals as goal
 
 pub returns-clause-written : goal.returns-clause-written
 returns-clause-written c =
-    subst (λ (es : List (List ℕ × NamedBytes)). Gives (λ _. members_view c.put_map.new.members.entries) c.put_map.result
+    subst (λ (es : List (List ℕ × NamedBytes)). ReturnsOrNoMemory (λ _. members_view c.put_map.new.members.entries) c.put_map.result
     (put_pairs text_name key_json (codes "keys") es (members_view c.args.members.now.entries)))
     (same_pairs c.args.keys.now.entries) c.put_map.ensures.written
 

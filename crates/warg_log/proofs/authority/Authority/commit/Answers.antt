@@ -1,6 +1,6 @@
 use Rattle.std.proofs.Common.{refl, ◌∙◌, rules}
 use Rattle.warg_log.specs.Rights.{layered}
-use Rattle.warg_log.proofs.ContentsLemmas.{made-over}
+use Rattle.warg_log.proofs.AuthorityDataLemmas.{made-over}
 use Rattle.warg_log.proofs.authority.Authority.commit.Goals as goal
 
 pub returns-clause-made : goal.returns-clause-made

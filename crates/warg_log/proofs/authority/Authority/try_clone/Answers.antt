@@ -1,5 +1,5 @@
 use Rattle.std.proofs.Common.{◌∙◌}
-use Rattle.warg_log.proofs.ContentsLemmas.{pairs-cloned}
+use Rattle.warg_log.proofs.AuthorityDataLemmas.{pairs-cloned}
 use Rattle.warg_log.proofs.authority.Authority.try_clone.Goals as goal
 
 pub returns : goal.returns

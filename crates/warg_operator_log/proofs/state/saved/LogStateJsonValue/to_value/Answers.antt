@@ -2,7 +2,7 @@ use Rattle.std.proofs.Common.{ℕ, List, [], ap, sym, subst, ◌∙◌}
 use Rattle.serde_json.specs.View.{view}
 use Rattle.warg_crypto.specs.Json.{AreReadBack, ReadsBack, wrote}
 use Rattle.warg_permissions.specs.declared.operator.Permission.{Permission}
-use Rattle.warg_log.specs.Contents.{Contents}
+use Rattle.warg_log.specs.AuthorityData.{AuthorityData}
 use Rattle.warg_log.specs.States.{State}
 use Rattle.warg_operator_log.specs.Namespaces.{Namespace}
 use Rattle.warg_operator_log.specs.SavedBack.{AreEqual}
@@ -12,7 +12,7 @@ use Rattle.warg_operator_log.proofs.state.saved.LogStateJsonValue.to_value.Goals
 
 pub returns-clause-back : goal.returns-clause-back
 returns-clause-back c =
-    subst (λ (s : State (Contents Permission) (List (List ℕ × Namespace))).
+    subst (λ (s : State (AuthorityData Permission) (List (List ℕ × Namespace))).
     AreReadBack [] → ReadsBack state_in AreEqual s (view c.object_value.result))
     c.self.view_is
     (λ back. state_back c.self.inside.log (view c.object_value.result) c.in_ok-members_of.ensures.savable

@@ -2,7 +2,7 @@ use Rattle.std.proofs.Common.{List, ap, sym, subst, ◌∙◌}
 use Rattle.serde_json.specs.View.{view}
 use Rattle.warg_crypto.specs.Json.{AreReadBack, ReadsBack, wrote}
 use Rattle.warg_permissions.specs.declared.package.Permission.{Permission}
-use Rattle.warg_log.specs.Contents.{Contents}
+use Rattle.warg_log.specs.AuthorityData.{AuthorityData}
 use Rattle.warg_log.specs.States.{State}
 use Rattle.warg_package_log.specs.Releases.{ReleaseView}
 use Rattle.warg_package_log.specs.SavedBack.{AreEqual, saved_versions}
@@ -12,7 +12,7 @@ use Rattle.warg_package_log.proofs.state.saved.LogStateJsonValue.to_value.Goals 
 
 pub returns-clause-back : goal.returns-clause-back
 returns-clause-back c =
-    subst (λ (s : State (Contents Permission) (List ReleaseView)).
+    subst (λ (s : State (AuthorityData Permission) (List ReleaseView)).
     AreReadBack (saved_versions s) → ReadsBack state_in AreEqual s (view c.object_value.result))
     c.self.view_is
     (λ back. state_back c.self.inside.log (view c.object_value.result) (c.in_ok-members_of.ensures.savable back)
