@@ -22,7 +22,7 @@ signature_fault fault.EmptyAlgorithm = signature.EmptyAlgorithm
 signature_fault fault.BadBase64 = signature.BadBase64
 signature_fault fault.OutOfMemory = signature.OutOfMemory
 
--- what a text says, or its fault, told as that of a key or of a signature
+-- what a text says, or its fault, as that of a key or of a signature
 abbrev pub with_fault : {E : Type 0} → (TagError → E) → Result NamedBytes TagError → Result NamedBytes E
 with_fault named (Ok tag) = Ok tag
 with_fault named (Err e) = Err (named e)

@@ -21,7 +21,7 @@ fn digit_value(byte: u8) -> u8
     }
 }
 
-/// Writes the bytes that the pairs of digits spell, and tells whether all are digits.
+/// Writes the bytes that the pairs of digits spell, and returns whether all are digits.
 /// Where they are not, what `bytes` then holds is not specified.
 pub fn decode_pairs(digits: &[u8], bytes: &mut [u8]) -> bool
     requires { length digits.now ≡ 2 * length bytes.old }

@@ -27,7 +27,7 @@ abbrev pub contents_fault_of : {F : Type 0} → Option F → EnvelopeFault F
 contents_fault_of (Some f) = Contents f
 contents_fault_of None = ContentsOutOfMemory
 
--- the fault that an error tells; out of memory tells none
+-- the fault that an error names; out of memory names none
 abbrev pub envelope_fault_of : {F : Type 0} → (DecodeError → Option F) → ParseEnvelopeError → Option (EnvelopeFault F)
 envelope_fault_of fault_of (error.ProtobufEnvelope w) = Some (ProtobufEnvelope w)
 envelope_fault_of fault_of (error.Contents e) = Some (contents_fault_of (fault_of e))

@@ -1,4 +1,4 @@
--- Laws of the errors that tell faults.
+-- Laws of the errors that name faults.
 use Rattle.std.specs.Prelude.{◌≡◌, Option, Some, None, Result, Ok, Err}
 use Rattle.std.proofs.Common.{ap, inl, inr, refl, subst, sym}
 use Rattle.warg_crypto.specs.Coding.{IsDecoded}
@@ -6,12 +6,12 @@ use Rattle.warg_crypto.specs.declared.coding.DecodeError.{DecodeError}
 use Rattle.warg_crypto.specs.declared.coding.DecodeError.TheVariants as error
 use Rattle.warg_envelope.specs.Faults.{RecordFault, IsReading, TellsFault, decoded, error_of, fault_of}
 
--- a fault is told
+-- a fault is named
 abbrev IsTold : Option RecordFault → Type 0
 IsTold (Some f) = Unit {0}
 IsTold None = ⊥
 
--- out of memory alone tells none
+-- out of memory alone names none
 pub fault_of-memory : (e : DecodeError) → fault_of e ≡ None → e ≡ error.OutOfMemory
 fault_of-memory (error.Wire w) h = absurd (subst IsTold h tt)
 fault_of-memory (error.Prev w) h = absurd (subst IsTold h tt)
@@ -25,7 +25,7 @@ fault_of-memory error.Version h = absurd (subst IsTold h tt)
 fault_of-memory (error.ContentHash x) h = absurd (subst IsTold h tt)
 fault_of-memory error.OutOfMemory h = refl
 
--- the error that tells a fault tells it
+-- the error that names a fault names it
 error_tells : (X : Type 0) (f : RecordFault) → TellsFault {X = X} (Err f) (fault_of (error_of f))
 error_tells X (RecordFault.Wire w) = refl
 error_tells X (RecordFault.Prev h) = refl
@@ -39,7 +39,7 @@ error_tells X RecordFault.Version = refl
 error_tells X (RecordFault.ContentHash h) = refl
 
 module _ {X Y : Type 0} (view : X → Y) where
-  -- what tells the fault that is said is the error of what is said
+  -- what names the fault that is said is the error of what is said
   pub reading_decodes : (said : Result Y RecordFault) (r : Result X DecodeError) → IsReading view fault_of said r
       → IsDecoded view (decoded said) r
   reading_decodes said (Ok x) h = ap decoded h

@@ -19,7 +19,7 @@ pub data RecordFault : Type 0 where
   Version : RecordFault
   ContentHash : AnyHashError → RecordFault
 
--- the fault that an error tells; out of memory tells none
+-- the fault that an error names; out of memory names none
 abbrev pub fault_of : DecodeError → Option RecordFault
 fault_of (error.Wire w) = Some (Wire w)
 fault_of (error.Prev h) = Some (Prev h)
@@ -33,7 +33,7 @@ fault_of error.Version = Some Version
 fault_of (error.ContentHash h) = Some (ContentHash h)
 fault_of error.OutOfMemory = None
 
--- the error that tells a fault
+-- the error that names a fault
 abbrev pub error_of : RecordFault → DecodeError
 error_of (Wire w) = error.Wire w
 error_of (Prev h) = error.Prev h
@@ -46,12 +46,12 @@ error_of (Permission v) = error.Permission v
 error_of Version = error.Version
 error_of (ContentHash h) = error.ContentHash h
 
--- what is said, its fault as the error that tells it
+-- what is said, its fault as the error that names it
 abbrev pub decoded : {X : Type 0} → Result X RecordFault → Result X DecodeError
 decoded (Ok x) = Ok x
 decoded (Err f) = Err (error_of f)
 
--- what is said ends with this fault; an error that tells none says nothing
+-- what is said ends with this fault; an error that names none says nothing
 abbrev pub TellsFault : {X F : Type 0} → Result X F → Option F → Type 0
 TellsFault said None = Unit {0}
 TellsFault said (Some f) = said ≡ Err f

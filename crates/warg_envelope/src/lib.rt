@@ -37,7 +37,7 @@ pub trait Record: Decode + Drop {
     // Why content bytes are no record.
     ghost Fault: { Type 0 };
 
-    // The fault that an error tells; out of memory alone tells none.
+    // The fault that an error names; out of memory alone names none.
     ghost fault_of: { DecodeError → Option Fault };
 
     // What content bytes say, or their first fault.
@@ -54,13 +54,13 @@ pub trait Record: Decode + Drop {
     fn try_clone(&self) -> Result<Self, AllocError>
         ensures { IfOk result (λ r. meaning r ≡ meaning self.now) };
 
-    /// What is decoded is what the content bytes say, or an error that tells their fault.
+    /// What is decoded is what the content bytes say, or an error that names their fault.
     ghost decodes_reading: { (b : List ℕ) (r : Result Self DecodeError) → IsDecoded Self.plain (Self.decodes b) r →
         IsReading meaning fault_of (read b) r };
 
-    /// Out of memory tells none.
+    /// Out of memory names none.
     ghost memory_tells_none: { fault_of error.OutOfMemory ≡ None };
 
-    /// It is the one error that tells none.
+    /// It is the one error that names none.
     ghost memory_alone: { (e : DecodeError) → fault_of e ≡ None → e ≡ error.OutOfMemory };
 }

@@ -1,4 +1,4 @@
--- No two refusals tell the same offence.
+-- No two refusals name the same offence.
 use Rattle.std.proofs.Common.{◌≡◌, refl, sym, ap, ◌∙◌}
 use Rattle.warg_log.specs.Offences.{offence_of, refusal_of}
 use Rattle.warg_log.specs.declared.refusal.Refusal.{Refusal}

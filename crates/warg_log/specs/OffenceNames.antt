@@ -21,7 +21,7 @@ shared_name (shared.ProtocolVersionNotAllowed version) = codes "ProtocolVersionN
 shared_name shared.TimestampLowerThanPrevious = codes "TimestampLowerThanPrevious"
 shared_name (shared.EmptyGrant key_id) = codes "EmptyGrant"
 
--- with the names of those that one kind alone has; no error tells a record that can't be read
+-- with the names of those that one kind alone has; no error names a record that can't be read
 abbrev pub wrong_name : {P F : Type 0} → (F → List ℕ) → Wrong P F → List ℕ
 wrong_name own_name (Wrong.Shared offence) = shared_name offence
 wrong_name own_name (Wrong.Own offence) = own_name offence

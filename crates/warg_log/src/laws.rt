@@ -49,7 +49,7 @@ pub fn equal_heads()
     ensures { (a b : Head) → (⟦<Head as PartialEq>⟧.eq a b ≡ true) ↔ (a ≡ b) }
 {}
 
-/// No two refusals tell the same offence.
+/// No two refusals name the same offence.
 pub fn refusals_tell_apart<P>()
     ensures { (r s : Refusal P) → offence_of r ≡ offence_of s → r ≡ s }
 {}

@@ -86,7 +86,7 @@ pub on_found : {A B C : Type 0} (P : Type 0) (f : A → B) (g : B → C) (o : Op
 on_found P f g None known is holds = tt
 on_found P f g (Some x) known is holds = holds (ap is_some (sym is))
 
--- what is known by name after changes, where f tells what was known before
+-- what is known by name after changes, where f says what was known before
 module _ (n : List ℕ) where
   over-none : (cs : List (List ℕ × Namespace)) (f : Names) → names cs n ≡ None → f n ≡ None → update_all bytes_eq f cs n ≡ None
   over-none [] f h none = none

@@ -1,4 +1,4 @@
--- What the envelopes of an operator log say, by the one list of all their entries, and a state that tells it.
+-- What the envelopes of an operator log say, by the one list of all their entries, and a state that says so.
 use Rattle.std.specs.Prelude.{◌≡◌, ◌≤◌, ℕ, List, length, map, None}
 use Rattle.std.specs.List.{filter_map, last_or}
 use Rattle.std.specs.Option.{option_map}
@@ -33,7 +33,7 @@ OneEntryEach h = (name : List ℕ) → length (filter_map (defines name) (owns h
 abbrev pub namespaces_of : List (Placed (EntryData Permission OperatorOwnEntry)) → Names
 namespaces_of h = listed_namespaces (owns h)
 
--- all that the state tells is what the history says; above each line the look-up of `LogState` that answers it
+-- all that the state says is what the history says; above each line the look-up of `LogState` that answers it
 pub record TellsHistory (s : State (AuthorityData Permission) (List (List ℕ × Namespace))) (es : List EnvelopeData) : Type 0 where
   -- `key_has_permission_to_sign_checkpoints`, for the permission to commit
   pub permissions : (k : List ℕ) (p : Permission)

@@ -38,7 +38,7 @@ pub fn extension()
         (kind.view_of es).state.own_state name ≡ Some s → (kind.view_of (es ++ fs)).state.own_state name ≡ Some s }
 {}
 
-/// Errors are equal exactly if they tell the same offence, and only out of memory tells none.
+/// Errors are equal exactly if they name the same offence, and only out of memory names none.
 pub fn errors_tell_apart()
     ensures apart { (e f : ValidationError) → (⟦<crate::error::ValidationError as PartialEq>⟧.eq e f ≡ true)
         ↔ (offence_of e ≡ offence_of f) }
@@ -60,7 +60,7 @@ pub fn form()
         HasForm record_id_of (records_of es) }
 {}
 
-/// A state that stands for a log tells what the log's history says: who holds what, who has
+/// A state that stands for a log says what the log's history says: who holds what, who has
 /// an entry, whose key is which, the namespaces by name and the head, from which the look-ups answer.
 /// What `run` answers as a state is one for an accepted log, the envelopes of the strings.
 pub fn states_tell_history()

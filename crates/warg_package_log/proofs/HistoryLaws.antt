@@ -1,4 +1,4 @@
--- A state that stands for envelopes tells their history, and `run` answers such a state.
+-- A state that stands for envelopes says what their history says, and `run` answers such a state.
 use Rattle.std.proofs.Common.{◌≡◌, ℕ, List, Result, ap}
 use Rattle.std.specs.Prelude.{IfOk}
 use Rattle.warg_envelope.specs.Envelopes.{envelope_of, envelope_fault_of}

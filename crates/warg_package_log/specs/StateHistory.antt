@@ -1,4 +1,4 @@
--- What the envelopes of a package log say, by the one list of all their entries, and a state that tells it.
+-- What the envelopes of a package log say, by the one list of all their entries, and a state that says so.
 use Rattle.std.specs.Prelude.{◌≡◌, ◌≤◌, ℕ, List, length, map, None}
 use Rattle.std.specs.List.{filter_map, last_or}
 use Rattle.std.specs.Option.{option_map}
@@ -33,7 +33,7 @@ OneYankEach h = (v : VersionParts) → length (filter_map (yanks v) (owns h)) �
 abbrev pub releases_of : List (Placed (EntryData Permission PackageOwnEntry)) → List ReleaseView
 releases_of h = listed_releases (owns h)
 
--- all that the state tells is what the history says; above each line the look-ups of `LogState` that answer it
+-- all that the state says is what the history says; above each line the look-ups of `LogState` that answer it
 pub record TellsHistory (s : State (AuthorityData Permission) (List ReleaseView)) (es : List EnvelopeData) : Type 0 where
   -- `key_permissions`: what the set has, and whether there is a set
   pub permissions : (k : List ℕ) (p : Permission)

@@ -1,4 +1,4 @@
--- Which tests of messages tell that their plain data are one.
+-- Which tests of messages say that their plain data are one.
 use Rattle.std.proofs.Common.{◌≡◌, ℕ, ℤ, nat_eq, ◌==◌, Bool, true, false, ◌&&◌, List, [], ◌∷◌, map, Option, Some, None, String, Global, refl, ap, sym, subst, ◌∙◌}
 use Rattle.std.specs.Bool.{Decides}
 use Rattle.std.specs.Cmp.Lexicographic.{pointwise}
@@ -38,7 +38,7 @@ use Rattle.warg_protobuf.specs.contracts.revoke_flat.RevokeFlatPartialEq.TheImpl
 use Rattle.warg_protobuf.specs.contracts.timestamp.TimestampPairPartialEq.TheImpl as times
 use Rattle.warg_protobuf.specs.contracts.yank.PackageYankPartialEq.TheImpl as yanks
 
--- the test of two values tells that they look alike, so that of two lists does
+-- the test of two values says that they look alike, so that of two lists does
 pub lists_decided : {K D : Type 0} (view : K → D) (test : K → K → Bool) → ((a b : K) → Decides (test a b) (view a ≡ view b))
     → (xs ys : List K) → Decides (pointwise test xs ys) (map view xs ≡ map view ys)
 lists_decided view test each [] [] = (λ _. refl, λ _. refl)

@@ -1,4 +1,4 @@
--- Which tests of the public types' parts tell that their plain data are one.
+-- Which tests of the public types' parts say that their plain data are one.
 use Rattle.std.proofs.Common.{◌≡◌, ℕ, nat_eq, ◌==◌, Bool, true, false, ◌&&◌, List, [], ◌∷◌, map, Option, Some, None, refl, ap, sym, subst, ◌∙◌}
 use Rattle.std.specs.Bool.{Decides}
 use Rattle.std.specs.Cmp.Lexicographic.{pointwise}
@@ -18,7 +18,7 @@ use Rattle.warg_records.specs.declared.log_record.LogRecord.{LogRecord}
 use Rattle.warg_records.specs.RecordData.{EntryData, Shared, Init, GrantFlat, RevokeFlat, RecordData}
 use Rattle.warg_records.specs.declared.record_id.RecordId.{RecordId}
 
--- the test of two values tells that they look alike, so that of two lists does
+-- the test of two values says that they look alike, so that of two lists does
 pub lists_decided : {K D : Type 0} (view : K → D) (test : K → K → Bool) → ((a b : K) → Decides (test a b) (view a ≡ view b))
     → (xs ys : List K) → Decides (pointwise test xs ys) (map view xs ≡ map view ys)
 lists_decided view test each [] [] = (λ _. refl, λ _. refl)

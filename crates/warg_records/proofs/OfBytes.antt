@@ -1,4 +1,4 @@
--- No reading gives a fault that tells of wanting memory.
+-- No reading gives the fault that memory ran out.
 use Rattle.std.proofs.Common.{◌≡◌, ℕ, List, [], ◌∷◌, Bool, true, false, cond, Option, Some, None, Result, Ok, Err, refl}
 use Rattle.std.specs.Prelude.{ℤ, IfErr, length, ◌==◌}
 use Rattle.std.specs.List.{before_first, after_first, position_or_len}

@@ -8,7 +8,7 @@ use Rattle.warg_records.specs.RecordData.{EntryData, RecordData}
 use Rattle.warg_records.specs.Steps.{◌>>=◌, prev_of, time_of}
 use Rattle.warg_records.specs.declared.entries.Entries.{Entries}
 
--- the fault that an error tells, as one of records; out of memory is never kept as one
+-- the fault that an error names, as one of records; out of memory is never kept as one
 abbrev pub fault_or_memory : Option RecordFault → RecordFault
 fault_or_memory (Some f) = f
 fault_or_memory None = Wire wire.OutOfMemory

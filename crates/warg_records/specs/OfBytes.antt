@@ -1,4 +1,4 @@
--- Which faults are faults of bytes: all but those that tell of wanting memory, or that no bytes have.
+-- Which faults are faults of bytes: all but those that say that memory ran out, or that no bytes have.
 use Rattle.warg_crypto.specs.declared.coding.WireFault.TheVariants as wire
 use Rattle.warg_crypto.specs.declared.signing.error.KeyParseError.TheVariants as key
 use Rattle.warg_crypto.specs.declared.signing.error.SignatureParseError.TheVariants as signature

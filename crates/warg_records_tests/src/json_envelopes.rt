@@ -71,7 +71,7 @@ fn is_no_envelope(rt: &impl Abort, alloc: Global, json: &str, want: JsonError) {
     is_refused::<SerdeEnvelope<AnyHash>>(rt, alloc, json, want);
 }
 
-// The first fault is told: a member's name before its value, the members in their order.
+// The first fault is named: a member's name before its value, the members in their order.
 #[test]
 fn refused_envelopes(rt: HostRuntime) {
     let alloc = rt.alloc();

@@ -1,4 +1,4 @@
--- The ids of logs: the hash of a prefix that names the kind of log, and of what tells the log from others.
+-- The ids of logs: the hash of a prefix that names the kind of log, and of what sets the log apart from others.
 use Rattle.std.specs.Prelude.{ℕ, List, ◌++◌, codes}
 use Rattle.warg_registry.specs.PrefixEncodings.{package_name_encoding_of}
 
