@@ -17,7 +17,7 @@ package_log = record {
   read = package_record_of;
   fault_name = record_fault_name;
   offence_name = release_offence_name;
-  shown = λ view. release_lines view.whole.own_state;
+  shown = λ view. release_lines view.state.own_state;
 }
 
 -- an operator log shows nothing more

@@ -39,7 +39,7 @@ impl Report for LogState {
 
     ghost name_of = { λ e. option_map offence_name (offence_of e) };
 
-    ghost lines_of = { λ state. release_lines (view_of state).whole.own_state };
+    ghost lines_of = { λ state. release_lines (view_of state).state.own_state };
 
     fn error_name(error: &ValidationError) -> Option<&'static str> {
         match error {

@@ -6,4 +6,4 @@ use Rattle.warg_audit.proofs.package_log.LogStateReport.append_lines.Given as go
 -- what is appended so far, and the lines of the releases that are left, are all
 abbrev pub invariant-releases : goal.invariant-releases
 invariant-releases l =
-    string_bytes l.text ++ release_lines l.release-iterator ≡ string_bytes l.fn.text ++ release_lines (view_of l.fn.self).whole.own_state
+    string_bytes l.text ++ release_lines l.release-iterator ≡ string_bytes l.fn.text ++ release_lines (view_of l.fn.self).state.own_state
