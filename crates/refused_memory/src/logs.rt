@@ -76,26 +76,37 @@ fn appended(log: &mut Log, input: &[u8]) -> Result<(), Refusal> {
     Ok(log.append(input)?)
 }
 
-// Takes the bytes. Where they are refused, the log has to be as before, and then to take them.
-fn take(alloc: Global, log: &mut Log, before: &[Vec<u8>], input: &[u8]) -> Result<(), Refusal> {
+// Takes the bytes. Where they are refused, the log has to be as before, and then to take them: then the refusal is the
+// inner error. The outer one says that they were not taken.
+fn take(
+    alloc: Global,
+    log: &mut Log,
+    before: &[Vec<u8>],
+    input: &[u8],
+) -> Result<Result<(), Refusal>, Refusal> {
     let Err(refusal) = appended(log, input) else {
-        return Ok(());
+        return Ok(Ok(()));
     };
     check(alloc, log, before)?;
     match appended(log, input) {
-        Ok(()) => Err(refusal),
+        Ok(()) => Ok(Err(refusal)),
         Err(_) => Err(Refusal::new("refused again")),
     }
 }
 
-fn take_each(alloc: Global, log: &mut Log, inputs: &[Vec<u8>]) -> Result<(), Refusal> {
+// The first refusal, if any, of inputs that the log took all the same.
+fn take_each(
+    alloc: Global,
+    log: &mut Log,
+    inputs: &[Vec<u8>],
+) -> Result<Result<(), Refusal>, Refusal> {
     let mut taken = Ok(());
     for (place, input) in inputs.iter().enumerate() {
         let (before, _) = inputs.split_at(place);
-        let next = take(alloc, log, before, input.as_slice());
+        let next = take(alloc, log, before, input.as_slice())?;
         taken = taken.and(next);
     }
-    taken
+    Ok(taken)
 }
 
 // What came of the inputs, all of which the log has by now.
@@ -113,7 +124,7 @@ fn told_after(
 /// `append` of each input. A refused one is appended once more.
 pub(crate) fn append(alloc: Global, inputs: &[Vec<u8>]) -> Result<String, Refusal> {
     let mut log = Log::new(alloc, ToyVerifier)?;
-    let taken = take_each(alloc, &mut log, inputs);
+    let taken = take_each(alloc, &mut log, inputs)?;
     told_after(alloc, &log, inputs, taken)
 }
 
@@ -126,16 +137,20 @@ fn appended_all(log: &mut Log, inputs: &[Vec<u8>]) -> Result<(), (usize, Refusal
 }
 
 // Takes the inputs. Where one is refused, those before it have to stand, and then the log has to take the others.
-fn take_all(alloc: Global, log: &mut Log, inputs: &[Vec<u8>]) -> Result<(), Refusal> {
+fn take_all(
+    alloc: Global,
+    log: &mut Log,
+    inputs: &[Vec<u8>],
+) -> Result<Result<(), Refusal>, Refusal> {
     let Err((index, refusal)) = appended_all(log, inputs) else {
-        return Ok(());
+        return Ok(Ok(()));
     };
     let Some((before, after)) = inputs.split_at_checked(index) else {
         return Err(Refusal::new("refused past the end"));
     };
     check(alloc, log, before)?;
     match appended_all(log, after) {
-        Ok(()) => Err(refusal),
+        Ok(()) => Ok(Err(refusal)),
         Err(_) => Err(Refusal::new("refused again")),
     }
 }
@@ -143,7 +158,7 @@ fn take_all(alloc: Global, log: &mut Log, inputs: &[Vec<u8>]) -> Result<(), Refu
 /// `append_all` of the inputs. From a refused one on they are appended once more.
 pub(crate) fn append_all(alloc: Global, inputs: &[Vec<u8>]) -> Result<String, Refusal> {
     let mut log = Log::new(alloc, ToyVerifier)?;
-    let taken = take_all(alloc, &mut log, inputs);
+    let taken = take_all(alloc, &mut log, inputs)?;
     told_after(alloc, &log, inputs, taken)
 }
 
