@@ -1,0 +1,6 @@
+pub mod Shortness
+pub mod Chunks
+pub mod Ups
+pub mod Forms
+pub mod Steps
+pub mod Marks

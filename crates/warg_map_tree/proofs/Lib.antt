@@ -1,0 +1,4 @@
+pub mod Ways
+pub mod EmptyRoots
+pub mod Values
+pub mod Open

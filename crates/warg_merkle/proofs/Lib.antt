@@ -1,0 +1,14 @@
+pub mod Climbs
+pub mod Sizes
+pub mod Levels
+pub mod Paths
+pub mod Rests
+pub mod Sound
+pub mod Parts
+pub mod JoinLevels
+pub mod Extending
+pub mod RestsBoth
+pub mod Lengths
+pub mod ExtensionPaths
+pub mod Subproofs
+pub mod Consistent

@@ -1,0 +1,4 @@
+pub mod Roots
+pub mod Leaves
+pub mod Joins
+pub mod Completing

@@ -1,0 +1,5 @@
+pub mod Heads
+pub mod MapLeaves
+pub mod MapTree
+pub mod Texts
+pub mod Views

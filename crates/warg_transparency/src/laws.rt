@@ -1,0 +1,62 @@
+//! Laws over all checkpoints. They have no effect.
+
+ghost use Rattle.std.specs.Prelude.{◌≡◌, ◌≢◌, ◌⊎◌, ◌≤◌, ◌^◌, ℕ, List, length, take, Some};
+ghost use Rattle.sha2.specs.Sha256.{sha256};
+ghost use Rattle.warg_crypto.specs.declared.hash.AnyHash.{AnyHash};
+ghost use Rattle.warg_envelope.specs.EnvelopeData.{EnvelopeData};
+ghost use Rattle.warg_records.specs.declared.record_id.RecordId.{RecordId};
+ghost use Rattle.warg_registry.specs.declared.checkpoint.Checkpoint.{Checkpoint};
+ghost use Rattle.warg_registry.specs.declared.leaf.MapLeaf.{MapLeaf};
+ghost use Rattle.warg_registry.specs.declared.log_id.LogId.{LogId};
+ghost use Rattle.warg_validator.specs.Kinds.{SignatureRelation, IsAccepted};
+ghost use Rattle.warg_audited_log.specs.Heads as records;
+ghost use Rattle.warg_audited_log.specs.Log.{contents};
+ghost use Rattle.warg_merkle.specs.Trees.{HaveCollision, tree_hash};
+ghost use Rattle.warg_merkle.specs.Extensions.{consistency_proof};
+ghost use Rattle.warg_transparency.specs.Heads.{head_leaf, ShowsHead, ShowsLeaf, tried_for};
+ghost use Rattle.warg_transparency.specs.Views.{GoesOn, IsLogOf};
+
+use warg_audited_log::laws::equal_heads;
+use warg_merkle::consistency_paths;
+use warg_registry::laws::no_encoding_begins_another;
+use warg_validator::Validator;
+
+/// Two leaves that are shown for one log under one root are one, or what is hashed for their proofs collides.
+pub fn one_leaf()
+    ensures { (root : AnyHash) (log_id : LogId) (leaf other : MapLeaf) (proof other_proof : List (List ℕ)) →
+        ShowsLeaf root log_id leaf proof → ShowsLeaf root log_id other other_proof → (leaf ≡ other)
+        ⊎ HaveCollision sha256 (tried_for log_id leaf proof) (tried_for log_id other other_proof) }
+{
+    no_encoding_begins_another();
+}
+
+/// Accepted logs whose heads are shown for one log under one checkpoint have equal content bytes, record for record, or two
+/// of their records collide, or what is hashed for the proofs of their heads does.
+pub fn heads<L: Validator>()
+    ensures { (b d : SignatureRelation) (es fs : List EnvelopeData) (head other : RecordId)
+        (checkpoint : Checkpoint) (log_id : LogId) (proof other_proof : List (List ℕ)) →
+        IsAccepted L.kind b es → IsAccepted L.kind d fs →
+        L.kind.head (L.kind.view_of es) ≡ Some head → L.kind.head (L.kind.view_of fs) ≡ Some other →
+        ShowsHead checkpoint log_id head proof → ShowsHead checkpoint log_id other other_proof →
+        (contents es ≡ contents fs) ⊎ records.HaveCollision L.kind.id (contents es) (contents fs)
+        ⊎ HaveCollision sha256 (tried_for log_id (head_leaf head) proof)
+        (tried_for log_id (head_leaf other) other_proof) }
+{
+    equal_heads::<L>();
+    one_leaf();
+}
+
+/// Where no proof shows that the log of a checkpoint begins with that of an older one, no entries with the length and root
+/// of the new one have the older root at the older length: the registry has shown two logs. It is enough that the entries'
+/// own proof is refused.
+pub fn split_view()
+    ensures own { (old new : Checkpoint) (entries : List (List ℕ)) → old.log_length ≤ new.log_length →
+        new.log_length ≤ 2 ^ 63 → IsLogOf new entries →
+        (GoesOn old new (consistency_proof sha256 old.log_length entries) → ⊥) →
+        tree_hash sha256 (take old.log_length entries) ≢ old.log_root.bytes }
+    ensures all { (old new : Checkpoint) → old.log_length ≤ new.log_length → new.log_length ≤ 2 ^ 63 →
+        ((proof : List (List ℕ)) → GoesOn old new proof → ⊥) → (entries : List (List ℕ)) → IsLogOf new entries →
+        tree_hash sha256 (take old.log_length entries) ≢ old.log_root.bytes }
+{
+    consistency_paths();
+}

@@ -1,0 +1,25 @@
+//! A registry's log and map, their checkpoints, and the checks of a client: that a leaf is in the log, that the log goes on
+//! from an older one, and what the map says of a log.
+#![tactic(auto)]
+
+mod checkpoint;
+mod decode;
+mod encode;
+mod error;
+pub mod laws;
+mod log;
+mod log_proof;
+mod log_tree;
+mod map;
+mod map_text;
+mod map_tree;
+mod text;
+
+pub use checkpoint::checkpoint_of;
+pub use error::ProofTextError;
+pub use log::{verify_consistency, verify_inclusion};
+pub use log_proof::LogProof;
+pub use log_tree::LogTree;
+pub use map::{verify_absence, verify_head, verify_presence};
+pub use map_text::{map_proof_text, parse_map_proof};
+pub use map_tree::MapTree;
