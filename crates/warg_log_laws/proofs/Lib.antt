@@ -1,0 +1,10 @@
+pub mod ListLemmas
+pub mod HistoryEntries
+pub mod RisingPlaces
+pub mod ChainWords
+pub mod Holdings
+pub mod EntryWalks
+pub mod GrammarLaws
+pub mod AuditedLaws
+pub mod PackageAudited
+pub mod OperatorAudited

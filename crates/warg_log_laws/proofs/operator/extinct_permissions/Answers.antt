@@ -1,0 +1,17 @@
+use Rattle.std.proofs.Common.{sym, ap, ◌∙◌}
+use Rattle.warg_permissions.specs.OperatorPermissions.{same_permission}
+use Rattle.warg_records.specs.OperatorReading.{operator_record_of}
+use Rattle.warg_operator_log.specs.Namespaces.{rules}
+use Rattle.warg_operator_log.specs.State.{View, view_of}
+use Rattle.warg_operator_log.specs.StateLaws.{effects}
+use Rattle.warg_log_laws.specs.Operator.{is_held}
+use Rattle.warg_log_laws.proofs.Holdings.{extinct-held}
+use Rattle.warg_log_laws.proofs.HistoryEntries.{effects-history}
+use Rattle.warg_log_laws.proofs.operator.extinct_permissions.Goals as goal
+
+pub returns-clause-history : goal.returns-clause-history
+returns-clause-history c = λ es p. extinct-held effects es p (λ k. is_held es k p) (λ k. effects-history rules same_permission operator_record_of es k p)
+
+pub returns-clause-state : goal.returns-clause-state
+returns-clause-state c = λ s es stands p. extinct-held effects es p (λ k. (view_of s).state.authority.holds k p)
+    (λ k. effects-history rules same_permission operator_record_of es k p ∙ sym (ap (λ (v : View). v.state.authority.holds k p) stands))

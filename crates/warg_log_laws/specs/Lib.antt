@@ -1,0 +1,5 @@
+pub mod GrantChains
+pub mod EntryByEntry
+pub mod Grammars
+pub mod Package
+pub mod Operator
