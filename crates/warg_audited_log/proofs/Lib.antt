@@ -7,3 +7,4 @@ pub mod ChainLemmas
 pub mod TrailLemmas
 pub mod LedgerLemmas
 pub mod HoldLemmas
+pub mod ComparisonLemmas

@@ -1,5 +1,6 @@
 pub mod Audited
 pub mod Chains
+pub mod Comparisons
 pub mod Extinction
 pub mod Heads
 pub mod Ledgers

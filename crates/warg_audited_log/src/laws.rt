@@ -1,13 +1,17 @@
 //! Laws over all logs of a kind, and when the public types of plain data are equal. They have no effect.
-ghost use Rattle.std.specs.Prelude.{◌≡◌, ◌↔◌, ◌⊎◌, ◌<◌, ◌+◌, ◌++◌, ℕ, List, [], length, take, Some, slice_index_or, IsTrue, true, false};
+ghost use Rattle.std.specs.Prelude.{◌≡◌, ◌↔◌, ◌⊎◌, ◌<◌, ◌+◌, ◌++◌, ℕ, List, [], length, take, Option, Some, slice_index_or, IsTrue, true, false};
 ghost use Rattle.warg_envelope.specs.EnvelopeData.{EnvelopeData};
+ghost use Rattle.warg_records.specs.declared.record_id.RecordId.{RecordId};
 ghost use Rattle.warg_validator.specs.Effects.{holds};
 ghost use Rattle.warg_validator.specs.Kinds.{SignatureRelation, IsAccepted};
 ghost use Rattle.warg_audited_log.specs.Chains.{Entry, entries_of, held_by, IsHeld};
+ghost use Rattle.warg_audited_log.specs.Comparisons.{IsComparison};
 ghost use Rattle.warg_audited_log.specs.Extinction.{StaysExtinct};
 ghost use Rattle.warg_audited_log.specs.Heads.{HaveCollision};
 ghost use Rattle.warg_audited_log.specs.Log.{contents};
+ghost use Rattle.warg_audited_log.specs.declared.comparison.Comparison.{Comparison};
 
+use crate::comparison::Comparison;
 use crate::heads::HeadComparison;
 use crate::link::Link;
 use warg_validator::Validator;
@@ -37,6 +41,16 @@ pub fn fronts<L: Validator>()
         (contents es ≡ take (n + 1) (contents fs)) ⊎ HaveCollision L.kind.id (contents es) (contents fs) }
 {}
 
+/// Exactly one comparison holds of two accepted logs: some does, and two that hold are one.
+pub fn one_comparison<L: Validator>()
+    ensures some { (b d : SignatureRelation) (es fs : List EnvelopeData) → IsAccepted L.kind b es →
+        IsAccepted L.kind d fs →
+        ((c : Comparison) × IsComparison (L.kind.head (L.kind.view_of es)) (L.kind.head (L.kind.view_of fs))
+        (contents es) (contents fs) c) }
+    ensures only { (left right : Option RecordId) (ls rs : List (List ℕ)) (c e : Comparison) →
+        IsComparison left right ls rs c → IsComparison left right ls rs e → c ≡ e }
+{}
+
 /// A permission that no key id holds after the records of a log that has any, none holds after more of them.
 pub fn extinction<L: Validator>()
     ensures { (b : SignatureRelation) (es fs : List EnvelopeData) → IsAccepted L.kind b (es ++ fs) →
@@ -52,7 +66,14 @@ pub fn last_entry_decides<L: Validator>()
         held_by false (entries_of L.effects es) k p ≡ holds L.effects es k p }
 {}
 
-/// `==` of two comparisons is true exactly where they are identical.
+/// `==` of two comparisons of logs is true exactly where they are identical.
+pub fn are_same_log_comparisons(a: Comparison, b: Comparison) -> bool
+    ensures { IsTrue result ↔ (a ≡ b) }
+{
+    a == b
+}
+
+/// `==` of two comparisons of heads is true exactly where they are identical.
 pub fn are_same_comparisons(a: HeadComparison, b: HeadComparison) -> bool
     ensures { IsTrue result ↔ (a ≡ b) }
 {

@@ -4,6 +4,7 @@
 #![tactic(auto)]
 
 mod audited_log;
+mod comparison;
 mod drafting;
 mod heads;
 pub mod laws;
@@ -11,5 +12,6 @@ mod ledger;
 mod link;
 
 pub use audited_log::AuditedLog;
+pub use comparison::Comparison;
 pub use heads::HeadComparison;
 pub use link::Link;

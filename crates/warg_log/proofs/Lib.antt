@@ -5,6 +5,7 @@ pub mod MapLaws
 pub mod Missing
 pub mod RightsLemmas
 pub mod Steps
+pub mod KeyLemmas
 pub mod HistoryLaws
 pub mod Coherence
 pub mod EquivalentStates

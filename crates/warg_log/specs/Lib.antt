@@ -2,6 +2,8 @@ pub mod SignedEntries
 pub mod Judging
 pub mod Rights
 pub mod AuthorityData
+pub mod Keys
+pub mod KeyEntries
 pub mod Changes
 pub mod Offences
 pub mod Records

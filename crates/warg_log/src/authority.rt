@@ -8,9 +8,11 @@ ghost use Rattle.warg_log.specs.SignedEntries.{nothing};
 ghost use Rattle.warg_log.specs.AuthorityData.{AuthorityData, rights_at, access_view, access_view_over};
 ghost use Rattle.warg_log.specs.Equal.{same_authority_data, same_maps, same_sets, same_algorithm};
 ghost use Rattle.warg_log.specs.EqualLaws.{authority_data_equiv};
+ghost use Rattle.warg_log.specs.Keys.{AreKeysOf, authority_keys};
 
 mod saved;
 
+use crate::keys::Keys;
 use crate::log_kind::LogKind;
 use crate::maps::{lay_over, make_room};
 use crate::permission_set::PermissionSet;
@@ -85,6 +87,17 @@ impl<P: LogPermission> Authority<P> {
             contains P.eq set.now p ≡ (access_view P.eq self.now).holds key_id.now p) }
     {
         Some(self.held(key_id)?.as_set())
+    }
+
+    /// The keys, each with its permissions.
+    pub fn listed_keys(&self) -> Keys<'_, P>
+        ensures list { result ≡ authority_keys self.now }
+        ensures keys { AreKeysOf P.eq (access_view P.eq self.now) result }
+    {
+        Keys {
+            keys: self.keys.iter(),
+            rights: &self.permissions,
+        }
     }
 
     /// The id as the keys here hold it, or the one given where none has it.

@@ -8,6 +8,7 @@ mod effects;
 mod fault;
 mod granting;
 mod head;
+mod keys;
 pub mod laws;
 mod log;
 mod log_kind;
@@ -17,6 +18,7 @@ mod refusal;
 mod rights;
 
 pub use head::{Head, head_member, head_version, put_head, put_head_text};
+pub use keys::{KeyEntry, Keys};
 pub use log::Log;
 pub use log_kind::{EntryRef, LogKind, RecordRef};
 pub use maps::put_all;

@@ -3,6 +3,7 @@ pub mod ExtensionLaws
 pub mod HistoryLaws
 pub mod NameLaws
 pub mod NamespaceLemmas
+pub mod NamespaceListLemmas
 pub mod NamespaceJsonLaws
 pub mod SavedNamespaces
 pub mod SavedStates

@@ -4,6 +4,7 @@ ghost use Rattle.std.specs.Prelude.{◌≡◌};
 ghost use Rattle.warg_operator_log.specs.OffenceNames.{error_name};
 
 use crate::error::ValidationError;
+use warg_validator::Named;
 
 impl ValidationError {
     /// The name of the error's case, without its fields, as the program prints it. `OutOfMemory` is the name
@@ -30,5 +31,13 @@ impl ValidationError {
             ValidationError::NamespaceAlreadyDefined { .. } => "NamespaceAlreadyDefined",
             ValidationError::OutOfMemory => "OutOfMemory",
         }
+    }
+}
+
+impl Named for ValidationError {
+    ghost name_of = { error_name };
+
+    fn name(&self) -> &'static str {
+        ValidationError::name(self)
     }
 }

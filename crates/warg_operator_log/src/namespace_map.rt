@@ -1,5 +1,7 @@
 //! The namespaces of a log, by name.
 ghost use Rattle.std.specs.Prelude.{◌≡◌, [], ◌∷◌, ◌++◌, ℕ, List, IfOk, OnOk, OnErr, OnSome, None, Some, if◌then◌else◌, string_bytes, refl, true, is_none, IsTrue};
+ghost use Rattle.std.specs.List.{IsDistinct};
+ghost use Rattle.std.specs.Map.{keys_of};
 ghost use Rattle.std.specs.Str.{bytes_eq};
 ghost use Rattle.std.specs.Option.{option_copied, option_map};
 ghost use Rattle.std.specs.Cmp.{partial_equiv_from_equiv};
@@ -10,7 +12,7 @@ ghost use Rattle.warg_log.specs.Judging.{ReturnsOffence};
 ghost use Rattle.warg_log.specs.Offences as shared;
 ghost use Rattle.warg_log.specs.Rules.{Wrong};
 ghost use Rattle.warg_operator_log.specs.Namespaces.{OwnOffence, Names, Namespace, names, names_over, name_offence, rules, names-none, names-append, equivalent_names_offence, equivalent_names_after};
-ghost use Rattle.warg_operator_log.specs.NamespaceMap.{namespace_view};
+ghost use Rattle.warg_operator_log.specs.NamespaceMap.{namespace_view, HasKebabNames};
 ghost use Rattle.warg_operator_log.specs.SameNamespaces.{same_namespaces};
 ghost use Rattle.warg_operator_log.specs.SameNamespaceLaws.{namespaces_decide, namespaces_equiv};
 ghost use Rattle.warg_operator_log.specs.State.{offence_of};
@@ -19,6 +21,7 @@ mod saved;
 
 use crate::error::ValidationError;
 use crate::namespace::NamespaceState;
+use crate::namespaces::Namespaces;
 use indexmap::IndexMap;
 use std::alloc::{AllocError, Global};
 use std::marker::Model;
@@ -79,6 +82,17 @@ impl NamespaceMap {
         ensures kebab { OnSome result (IsKebabName name.now) }
     {
         find(&self.map, name)
+    }
+
+    /// The namespaces, in the order in which they came.
+    pub fn namespaces(&self) -> Namespaces<'_>
+        ensures list { result ≡ self.now }
+        ensures distinct { IsDistinct bytes_eq (keys_of self.now) }
+        ensures kebabs { HasKebabNames self.now }
+    {
+        Namespaces {
+            inner: self.map.iter(),
+        }
     }
 
     /// Puts a namespace in the place of the one of its name, or last. The answer is whether its name is new.

@@ -15,4 +15,4 @@ pub use error::ValidationError;
 pub use release::{Release, ReleaseState};
 pub use releases::Releases;
 pub use state::LogState;
-pub use warg_log::Head;
+pub use warg_log::{Head, KeyEntry, Keys};

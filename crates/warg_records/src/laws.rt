@@ -1,6 +1,8 @@
 //! Laws of the definitions, and of the types that rest on them.
 
-ghost use Rattle.std.specs.Prelude.{List, ℕ, IfErr};
+ghost use Rattle.std.specs.Prelude.{◌≡◌, List, ℕ, IfErr, length};
+ghost use Rattle.hex.specs.Hex.{IsBytes};
+ghost use Rattle.warg_crypto.specs.HashText.{hash_text};
 ghost use Rattle.warg_envelope.specs.EnvelopeRelations.{ReadsEnvelope};
 ghost use Rattle.warg_envelope.specs.Envelopes.{envelope_of};
 ghost use Rattle.warg_protobuf.specs.OperatorRecord.{IsOperatorRecord, operator_record_table};
@@ -8,6 +10,8 @@ ghost use Rattle.warg_protobuf.specs.PackageRecord.{IsPackageRecord, package_rec
 ghost use Rattle.warg_records.specs.OfBytes.{IsOfContent, IsOfEnvelope};
 ghost use Rattle.warg_records.specs.OperatorReading.{operator_entry_of, operator_record_of};
 ghost use Rattle.warg_records.specs.PackageReading.{package_entry_of, package_record_of};
+ghost use Rattle.warg_records.specs.RecordIds.{id_of_text};
+ghost use Rattle.warg_records.specs.declared.record_id.RecordId.{RecordId};
 ghost use Rattle.warg_records.specs.Relations.{HasRecordFault, IsRecord, ReadsRecord};
 
 mod equality;
@@ -17,8 +21,17 @@ pub use equality::{
     are_same_operator_entries, are_same_operator_records, are_same_package_entries,
     are_same_package_records, are_same_record_ids, compare_record_ids, print_record_id,
 };
+use warg_crypto::laws::hash_reads_back;
 use warg_protobuf::laws::{decoding_computes, exactly_one};
 pub use whole::{operator_records_are_whole, package_records_are_whole};
+
+/// What is written of a record's id reads back.
+pub fn record_id_reads_back()
+    ensures { (id : RecordId) → length id.hash.bytes ≡ 32 → IsBytes id.hash.bytes →
+        id_of_text (hash_text id.hash) ≡ Ok id }
+{
+    hash_reads_back();
+}
 
 /// What is computed of content bytes is the record that they are, or their first fault.
 pub fn record_reading_computes()

@@ -4,18 +4,20 @@ ghost use Rattle.std.specs.Prelude.{◌≡◌, ◌++◌, Some, length};
 ghost use Rattle.hex.specs.Hex.{IsBytes};
 ghost use Rattle.warg_crypto.specs.HashText.{hash_text};
 ghost use Rattle.warg_crypto.specs.RecordIds.{operator_record_message, package_record_message};
-ghost use Rattle.warg_records.specs.RecordIds.{id_by};
+ghost use Rattle.warg_records.specs.RecordIds.{id_by, id_of_text};
 
 mod json;
 
 use crate::operator::OperatorRecord;
 use crate::package::PackageRecord;
 use std::fmt;
-use warg_crypto::hash::{AnyHash, Hash, HashAlgorithm, SupportedDigest};
+use std::str::FromStr;
+use warg_crypto::hash::{AnyHash, AnyHashError, Hash, HashAlgorithm, SupportedDigest};
 use warg_envelope::ProtoEnvelope;
 
 /// The id of a record: the hash of a prefix that names the kind of log, and of the record's bytes
-/// as they came. Ids are ordered as their hashes, by algorithm, then by bytes.
+/// as they came. Its text is its hash's, `sha256:` and 64 hex digits, and it is read from one. Ids are ordered as their
+/// hashes, by algorithm, then by bytes.
 #[derive(Clone, Copy, PartialEq, Eq, PartialOrd, Ord, Hash)]
 pub struct RecordId {
     hash: AnyHash,
@@ -98,6 +100,19 @@ impl fmt::Debug for RecordId {
         ensures styled { WritesStyledOnOk W.write_str_gives f.old result (hash_text self.now.hash) f.new }
     {
         fmt::Display::fmt(self, f)
+    }
+}
+
+impl FromStr for RecordId {
+    type Err = AnyHashError;
+
+    ghost from_str_gives = { λ text r. r ≡ id_of_text text };
+
+    fn from_str(text: &str) -> Result<RecordId, AnyHashError> {
+        match AnyHash::from_str(text) {
+            Ok(hash) => Ok(RecordId { hash }),
+            Err(fault) => Err(fault),
+        }
     }
 }
 

@@ -1,8 +1,12 @@
 //! Laws of the definitions, and of the types that rest on them.
 
-ghost use Rattle.std.specs.Prelude.{ℕ, List, IsTrue, ◌↔◌};
+ghost use Rattle.std.specs.Prelude.{◌≡◌, ℕ, List, IsTrue, ◌↔◌, length};
+ghost use Rattle.hex.specs.Hex.{IsBytes};
+ghost use Rattle.warg_crypto.specs.HashText.{hash_text};
 ghost use Rattle.warg_registry.specs.KebabNames.{IsKebabName, is_kebab_name};
+ghost use Rattle.warg_registry.specs.LogIds.{id_of_text};
 ghost use Rattle.warg_registry.specs.PrefixEncodings.{IsPrefixCode};
+ghost use Rattle.warg_registry.specs.declared.log_id.LogId.{LogId};
 
 mod equality;
 mod texts;
@@ -13,6 +17,15 @@ pub use equality::{
     compare_log_ids, compare_package_names, feed_package_name,
 };
 pub use texts::{print_log_id, print_package_name};
+use warg_crypto::laws::hash_reads_back;
+
+/// What is written of a log's id reads back.
+pub fn log_id_reads_back()
+    ensures { (id : LogId) → length id.hash.bytes ≡ 32 → IsBytes id.hash.bytes →
+        id_of_text (hash_text id.hash) ≡ Ok id }
+{
+    hash_reads_back();
+}
 
 /// What is tested of a name is the grammar: words of a letter and then letters and digits, joined by
 /// single hyphens.

@@ -2,16 +2,18 @@
 ghost use Rattle.std.specs.Prelude.{◌≡◌, Some, length};
 ghost use Rattle.hex.specs.Hex.{IsBytes};
 ghost use Rattle.warg_crypto.specs.HashText.{hash_text};
-ghost use Rattle.warg_registry.specs.LogIds.{operator_log_message, package_log_message};
+ghost use Rattle.warg_registry.specs.LogIds.{operator_log_message, package_log_message, id_of_text};
 
 use crate::PackageName;
 use std::alloc::AllocError;
 use std::fmt;
-use warg_crypto::hash::{AnyHash, Hash, SupportedDigest};
+use std::str::FromStr;
+use warg_crypto::hash::{AnyHash, AnyHashError, Hash, SupportedDigest};
 use warg_crypto::{ByteVisitor, VisitBytes};
 
 /// The id of a log: the hash of a prefix that names the kind of log and, for a package's log, of
-/// the name's prefix encoding. Ids are ordered as their hashes, by algorithm, then by bytes.
+/// the name's prefix encoding. Its text is its hash's, `sha256:` and 64 hex digits, and it is read from one. Ids are ordered
+/// as their hashes, by algorithm, then by bytes.
 #[derive(Clone, Copy, PartialEq, Eq, PartialOrd, Ord, Hash)]
 pub struct LogId {
     pub(super) hash: AnyHash,
@@ -77,6 +79,19 @@ impl VisitBytes for LogId {
 
     fn visit<BV: ByteVisitor>(&self, visitor: &mut BV) -> Result<(), AllocError> {
         visitor.visit_bytes(self.hash.bytes())
+    }
+}
+
+impl FromStr for LogId {
+    type Err = AnyHashError;
+
+    ghost from_str_gives = { λ text r. r ≡ id_of_text text };
+
+    fn from_str(text: &str) -> Result<LogId, AnyHashError> {
+        match AnyHash::from_str(text) {
+            Ok(hash) => Ok(LogId { hash }),
+            Err(fault) => Err(fault),
+        }
     }
 }
 

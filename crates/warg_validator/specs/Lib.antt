@@ -1,5 +1,6 @@
 pub mod Effects
 pub mod Kinds
+pub mod Messages
 pub mod Outcomes
 pub mod Strings
 pub mod Walks

@@ -3,9 +3,11 @@
 
 mod effect;
 pub mod laws;
+mod message;
 mod replay;
 mod validator;
 
 pub use effect::Effect;
+pub use message::Named;
 pub use replay::{RunCause, RunError, run, run_from};
 pub use validator::Validator;

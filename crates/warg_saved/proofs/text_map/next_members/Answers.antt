@@ -1,6 +1,5 @@
 use Rattle.std.proofs.Common.{◌≡◌, [], length, map, Some, None, Ok, true, sym, ap, ◌∙◌, refl, arith, rules}
 use Rattle.std.specs.Option.{option_map}
-use Rattle.indexmap.specs.IndexMap.{insert_entry}
 use Rattle.json.specs.Json.{read_key, value}
 use Rattle.json.proofs.Grammar.{read_key-shorter}
 use Rattle.serde_json.specs.Data.{no_members}
@@ -30,13 +29,12 @@ members-preserved g c =
     let name = c.in-Some.name.now in
     let named : read_key l.reader ≡ Some (Some name, c.next_key.new.self) = grind arith in
     let up : ascends (option_map (λ s. s.now) l.last) name ≡ true = grind arith in
-    let put : c.insert.new.self.entries ≡ insert_entry g.K.PartialEq.eq l.map.entries c.in_ok-key.key c.in_ok-key.value = grind arith in
-    let entry = c.in_ok-key.ensures in
+    let entry = c.in_ok-put_next.ensures.read in
     read_one_more g.K.SavedName.plain g.V.SavedValue.plain g.K.SavedName.name_of g.K.SavedName.named g.V.SavedValue.reads
     g.K.PartialEq.eq g.met.K.SavedName.one_key g.met.K.SavedName.back (value c.args.depth) c.args.reader.now
-    l.reader c.next_key.new.self c.next_entry.new.reader (option_map (λ s. s.now) l.last) l.map.entries c.insert.new.self.entries name entry.read.0
-    c.in_ok-key.key c.in_ok-key.value
-    up named (read_key-shorter l.reader (Some name) c.next_key.new.self named) entry.read.1 entry.shorter entry.read.2 entry.read.3 put l.invariant
+    l.reader c.next_key.new.self c.put_next.new.reader (option_map (λ s. s.now) l.last) l.map.entries c.put_next.new.map.entries name entry.0
+    entry.1 entry.2
+    up named (read_key-shorter l.reader (Some name) c.next_key.new.self named) entry.3 c.in_ok-put_next.ensures.shorter entry.4 entry.5 entry.6 l.invariant
 
 pub returns-clause-read : goal.returns-clause-read
 returns-clause-read g c =
