@@ -1,9 +1,9 @@
-//! Verifies a registry's checkpoint, by the operator log of one record in the file `0.envelope`: the checkpoints of three
-//! and of four leaves are held against the signature that the operator gave for the one of three.
+//! Verifies a registry's checkpoint: `example_checkpoint FILE..`, where the files hold the envelopes of an operator log in
+//! order, tests the checkpoints of three and of four leaves against the signature that alice gave for the one of three.
 #![tactic(auto)]
 
 use std::alloc::Global;
-use std::fs;
+use std::{env, fs};
 use warg_protocol::hash::HashAlgorithm;
 use warg_protocol::operator::LogState;
 use warg_protocol::registry::{Checkpoint, TimestampedCheckpoint};
@@ -62,7 +62,10 @@ fn told(alloc: Global, operator: &LogState, leaves: usize) -> anyhow::Result<&'s
 }
 
 fn main(rt: HostRuntime) -> anyhow::Result<()> {
-    let log = vec![in rt.alloc(); fs::read(&rt, "0.envelope")?]?;
+    let mut log = Vec::new(rt.alloc());
+    for file in env::args(&rt)?.skip(1) {
+        log.push(fs::read(&rt, file.as_str())?)?;
+    }
     let operator = state_of(rt.alloc(), log.as_slice())?;
     for leaves in [3, 4] {
         println!(rt; "{leaves} leaves: {}", told(rt.alloc(), &operator, leaves)?)?;

@@ -56,11 +56,32 @@ fn describe(alloc: Global, log: &[Vec<u8>]) -> Result<String, AllocError> {
     }
 }
 
+// How many releases a whole log has. `?` makes the program's own error of a refusal, with its text.
+fn count_releases(alloc: Global, log: &[Vec<u8>]) -> anyhow::Result<usize> {
+    let state = run::<LogState, ToyVerifier>(alloc, &ToyVerifier, log)?;
+    Ok(state.releases().count())
+}
+
+// The short name of what refuses a log, which takes no memory.
+fn refusal_name(alloc: Global, log: &[Vec<u8>]) -> Option<&'static str> {
+    match run::<LogState, ToyVerifier>(alloc, &ToyVerifier, log) {
+        Ok(_) => None,
+        Err(error) => Some(error.name()),
+    }
+}
+
 fn main(rt: HostRuntime) -> anyhow::Result<()> {
     let mut log = Vec::new(rt.alloc());
     for file in env::args(&rt)?.skip(1) {
         log.push(fs::read(&rt, file.as_str())?)?;
     }
     println!(rt; "{}", describe(rt.alloc(), log.as_slice())?)?;
+    match count_releases(rt.alloc(), log.as_slice()) {
+        Ok(count) => println!(rt; "{count} releases")?,
+        Err(error) => println!(rt; "{error}")?,
+    }
+    if let Some(name) = refusal_name(rt.alloc(), log.as_slice()) {
+        println!(rt; "{name}")?;
+    }
     Ok(())
 }

@@ -5,6 +5,8 @@ use Rattle.warg_audit.specs.declared.command.LogType.{LogType}
 use Rattle.warg_audit.specs.declared.command.LogType.TheVariants.{Package, Operator}
 use Rattle.warg_audit.specs.declared.command.Command.{Command}
 use Rattle.warg_audit.specs.declared.command.Command.TheVariants.{Id, Audit}
+use Rattle.warg_audit.specs.declared.information.Information.{Information}
+use Rattle.warg_audit.specs.declared.information.Information.TheVariants.{Help, Version}
 
 -- the type of log that a word names, if it names one
 abbrev pub log_type_of : List ℕ → Option LogType
@@ -29,3 +31,16 @@ command_of [] = None
 command_of (word ∷ []) = audit_of (log_type_of word)
 command_of (first ∷ second ∷ []) = if bytes_eq first (codes "id") then id_of (log_type_of second) else None
 command_of (first ∷ second ∷ third ∷ more) = None
+
+-- what a word asks about the program itself, if it asks about it
+abbrev pub information_named : List ℕ → Option Information
+information_named word =
+    if bytes_eq word (codes "--help") then Some Help
+    else if bytes_eq word (codes "--version") then Some Version
+    else None
+
+-- `--help` and `--version`, each alone
+abbrev pub information_of : List (List ℕ) → Option Information
+information_of [] = None
+information_of (word ∷ []) = information_named word
+information_of (first ∷ second ∷ more) = None

@@ -3,6 +3,7 @@
 
 mod command;
 mod identify;
+mod information;
 mod input;
 pub mod laws;
 mod lines;
@@ -16,6 +17,7 @@ mod reply;
 mod report;
 
 pub use command::{Command, LogType, parse_command};
+pub use information::{Information, parse_information};
 pub use input::Input;
 pub use output::Output;
 pub use program::{OUT_OF_MEMORY, USAGE, audit, make_reply};

@@ -1,38 +1,23 @@
-//! The tests of `warg_crypto`: worked rows, with values by hand.
+//! The tests of `warg_crypto` that are no rows of the conformance suite: copies, fakes that refuse or count, clocks, and
+//! the examples of the documentation.
 #![tactic(auto)]
 
 #[cfg(test)]
-mod coding;
+mod clocks;
 #[cfg(test)]
-mod errors;
+mod copies;
 #[cfg(test)]
 mod examples;
 #[cfg(test)]
-mod hashes;
+mod long_texts;
 #[cfg(test)]
-mod json;
+mod members;
 #[cfg(test)]
-mod json_members;
-#[cfg(test)]
-mod json_numbers;
-#[cfg(test)]
-mod json_texts;
-#[cfg(test)]
-mod keys;
-#[cfg(test)]
-mod options;
-#[cfg(test)]
-mod order;
+mod memory;
 #[cfg(test)]
 mod prefix;
 #[cfg(test)]
 mod signing;
-#[cfg(test)]
-mod system_clock;
-#[cfg(test)]
-mod times;
-#[cfg(test)]
-mod toy;
 #[cfg(test)]
 mod values;
 #[cfg(test)]

@@ -4,7 +4,7 @@ ghost use Rattle.std.specs.Prelude.{◌≡◌};
 ghost use Rattle.warg_protobuf.specs.Drafts.{TwoTextsKept, two_texts_kept, TextAndNumbersKept, text_and_numbers_kept, MemberKept, member_kept, no_member, member_with, entry_table, init_so_far, grant_flat_so_far, revoke_flat_so_far, fourth_so_far, fifth_so_far};
 ghost use Rattle.warg_protobuf.specs.Table.{takes};
 
-use crate::draft::{Draft, read_into};
+use crate::draft::{Draft, grown};
 use crate::error::WireError;
 use crate::field::{RawField, RawPayload};
 use crate::shape::{TextAndNumbers, TwoTexts};
@@ -111,31 +111,11 @@ impl<'a, F: Draft<'a>, G: Draft<'a>> Draft<'a> for EntryDraft<'a, F, G> {
             return Ok(());
         };
         match field.number {
-            1 => {
-                let mut draft = self.take_init();
-                read_into(&mut draft, bytes)?;
-                self.member = MemberDraft::Init(draft);
-            }
-            2 => {
-                let mut draft = self.take_grant_flat();
-                read_into(&mut draft, bytes)?;
-                self.member = MemberDraft::GrantFlat(draft);
-            }
-            3 => {
-                let mut draft = self.take_revoke_flat();
-                read_into(&mut draft, bytes)?;
-                self.member = MemberDraft::RevokeFlat(draft);
-            }
-            4 => {
-                let mut draft = self.take_fourth();
-                read_into(&mut draft, bytes)?;
-                self.member = MemberDraft::Fourth(draft);
-            }
-            5 => {
-                let mut draft = self.take_fifth();
-                read_into(&mut draft, bytes)?;
-                self.member = MemberDraft::Fifth(draft);
-            }
+            1 => self.member = MemberDraft::Init(grown(self.take_init(), bytes)?),
+            2 => self.member = MemberDraft::GrantFlat(grown(self.take_grant_flat(), bytes)?),
+            3 => self.member = MemberDraft::RevokeFlat(grown(self.take_revoke_flat(), bytes)?),
+            4 => self.member = MemberDraft::Fourth(grown(self.take_fourth(), bytes)?),
+            5 => self.member = MemberDraft::Fifth(grown(self.take_fifth(), bytes)?),
             _ => {}
         }
         Ok(())

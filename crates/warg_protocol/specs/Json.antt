@@ -1,6 +1,10 @@
 -- JSON: what `to_value` and `from_value` answer, and when what was written reads back.
-pub use Rattle.warg_crypto.specs.Json.{ReturnsOrNoMemory, ReadsBack, IsReadBack, Version, AreReadBack}
+pub use Rattle.warg_crypto.specs.Json.{Returns, ReturnsOrNoMemory, ReadsBack, IsReadBack, Version, AreReadBack}
 pub use Rattle.warg_crypto.specs.declared.json.error.JsonError.{JsonError}
+-- the members of objects: what is found, what is written, and what an optional one reads back as
+pub use Rattle.warg_crypto.specs.Json.{items_in, member_in, members_in, text_in, wrote}
+pub use Rattle.warg_crypto.specs.Members.{option_json, optional, optional_member, put_json, put_option}
+pub use Rattle.warg_crypto.specs.MemberLaws.{OptionReadsBack}
 -- what `to_json` writes: the JSON's text, and what that is read as
 pub use Rattle.warg_saved.specs.Texts.{IsReadAs, text_of}
 -- what `from_json` answers: what is read of the text's JSON, which error of a text a fault of its value is, and what reads back

@@ -1,11 +1,14 @@
--- What a clause of one's own may cite: of records, of whole logs, of package logs, of operator logs, of messages, of
--- errors, of JSON.
+-- What a clause of one's own may cite: of records, of whole logs and their history, of package logs, of operator logs, of
+-- messages, of keys and times, of a registry, of errors, of JSON.
 pub mod Records
 pub mod Logs
+pub mod History
 pub mod Package
 pub mod Operator
 pub mod ReleaseStates
 pub mod Messages
+pub mod Texts
+pub mod Registry
 pub mod Errors
 pub mod Json
 pub mod ParseEnvelopeErrors

@@ -13,7 +13,7 @@ pub mod registry;
 
 pub use indexmap::IndexSet;
 pub use semver::Error as VersionParseError;
-pub use warg_audited_log::{AuditedLog, HeadComparison, Link};
+pub use warg_audited_log::{AuditedLog, Comparison, HeadComparison, Link};
 pub use warg_crypto::{
     ByteVisitor, Clock, Decode, DecodeError, Encode, Incoherence, JsonError, JsonValue, Signable,
     SystemClock, TimeError, Timestamp, VisitBytes, WireFault, digits, hash, json, prefix, signing,
@@ -27,4 +27,4 @@ pub use warg_permissions::{InvalidPermission, PermissionParseError};
 pub use warg_protobuf::{Envelope, EnvelopeView, Message, WireError};
 pub use warg_records::{LogRecord, Version, VersionReq};
 pub use warg_saved::JsonTextError;
-pub use warg_validator::{Effect, RunCause, RunError, Validator, run, run_from};
+pub use warg_validator::{Effect, Named, RunCause, RunError, Validator, run, run_from};

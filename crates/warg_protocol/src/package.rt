@@ -1,6 +1,6 @@
 //! Package logs: who may release and yank, and which releases stand.
 
 pub use warg_package_log::{
-    Head, LogState, Release, ReleaseState, Releases, ValidationError, laws,
+    Head, KeyEntry, Keys, LogState, Release, ReleaseState, Releases, ValidationError, laws,
 };
 pub use warg_records::package::{PACKAGE_RECORD_VERSION, PackageEntry, PackageRecord, Permission};

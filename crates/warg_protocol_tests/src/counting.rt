@@ -3,6 +3,9 @@
 ghost use Rattle.std.specs.Prelude.{⊤};
 ghost use Rattle.warg_protocol.specs.Records.{toy_belongs};
 
+use crate::samples::{envelope, strings};
+use conformance_logs::people::signer;
+use conformance_logs::script::Scripted;
 use std::alloc::Global;
 use std::cell::Cell;
 use std::fmt::Debug;
@@ -13,8 +16,6 @@ use warg_protocol::toy::{ToySigner, ToyVerifier};
 use warg_protocol::{
     AuditedLog, ProtoEnvelope, SerdeEnvelope, Signable, Timestamp, operator, package, run,
 };
-use warg_scripts::people::signer;
-use warg_scripts::script::{Scripted, envelope_of, strings_of};
 
 fn count(calls: &Cell<u32>) {
     calls.set(calls.get().wrapping_add(1));
@@ -54,7 +55,7 @@ where
     L::Error: Debug,
 {
     let calls = Cell::new(0);
-    let strings = strings_of::<L>(alloc, LOG)?;
+    let strings = strings::<L>(alloc, LOG)?;
     let verifier = CountingVerifier { calls: &calls };
     let answer = run::<L, CountingVerifier>(alloc, &verifier, strings.as_slice());
     assert!(rt; answer.is_ok());
@@ -68,7 +69,7 @@ where
     L::Error: Debug,
 {
     let calls = Cell::new(0);
-    let strings = strings_of::<L>(alloc, LOG)?;
+    let strings = strings::<L>(alloc, LOG)?;
     let mut log = AuditedLog::<L, CountingVerifier>::new(
         alloc,
         CountingVerifier { calls: &calls },
@@ -85,7 +86,7 @@ where
 {
     let calls = Cell::new(0);
     let verifier = CountingVerifier { calls: &calls };
-    let envelope = envelope_of::<L>(alloc, None, "alice 1.0: init alice")?;
+    let envelope = envelope::<L>(alloc, "alice 1.0: init alice")?;
     let mut state = L::new(alloc)?;
     assert!(rt; state.append(&envelope, &verifier).is_ok());
     assert_eq!(rt; calls.get(), 1);

@@ -2,13 +2,13 @@
 ghost use Rattle.std.specs.Prelude.{◌≡◌};
 ghost use Rattle.warg_protocol.specs.Operator.{view_of};
 
+use crate::samples::state;
+use conformance_logs::people::id;
 use std::alloc::Global;
 use std::process::Abort;
 use std::test::Fail;
 use warg_protocol::operator::{LogState, Permission};
 use warg_protocol::signing::KeyID;
-use warg_scripts::people::id;
-use warg_scripts::play::state_of;
 
 /// Whether the key may sign checkpoints of the registry.
 fn may_sign(state: &LogState, key_id: &KeyID) -> bool
@@ -33,6 +33,6 @@ fn a_program_asks_an_operator_log(rt: HostRuntime) -> Result<(), Fail> {
     asks(
         &rt,
         alloc,
-        &state_of::<LogState>(alloc, "alice 1.0: init alice")?,
+        &state::<LogState>(alloc, "alice 1.0: init alice")?,
     )
 }

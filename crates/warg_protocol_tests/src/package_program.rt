@@ -9,6 +9,8 @@ ghost use Rattle.warg_protocol.specs.Package.{TellsHistory, kind, package_record
 ghost use Rattle.warg_protocol.specs.Package.{AreEqual, rules, same_permission, saved_versions};
 ghost use Rattle.warg_protocol.specs.Package.{IsGreatest, shows_candidate, shown_cmp, release_view};
 
+use crate::samples::strings;
+use conformance_logs::people::id;
 use serde_json::Value;
 use std::alloc::Global;
 use std::process::Abort;
@@ -19,8 +21,6 @@ use warg_protocol::toy::ToyVerifier;
 use warg_protocol::{
     JsonError, JsonTextError, JsonValue, RunError, Validator, VersionReq, laws, run,
 };
-use warg_scripts::people::id;
-use warg_scripts::play::log_of;
 
 /// The state of a package's log: what its history says.
 fn audited<V: Verifier>(
@@ -100,12 +100,8 @@ const LOG: &str = "
     bob 2.0: release 1.0.0 first, release 1.1.0 second
 ";
 
-fn strings(alloc: Global) -> Result<Vec<Vec<u8>>, Fail> {
-    Ok(log_of::<LogState>(alloc, LOG)?.strings)
-}
-
 fn state(alloc: Global) -> Result<LogState, Fail> {
-    let strings = strings(alloc)?;
+    let strings = strings::<LogState>(alloc, LOG)?;
     match audited(alloc, &ToyVerifier, strings.as_slice()) {
         Ok(state) => Ok(state),
         Err(error) => Err(Fail::from(error)),

@@ -2,6 +2,10 @@
 ghost use Rattle.std.specs.Prelude.{false, ⊤};
 ghost use Rattle.warg_protocol.specs.Records.{toy_belongs};
 
+use crate::samples::{envelope, told};
+use conformance_logs::cause_words;
+use conformance_logs::people::signer;
+use conformance_logs::script::Scripted;
 use std::alloc::Global;
 use std::cell::Cell;
 use std::fmt::Debug;
@@ -12,12 +16,8 @@ use warg_protocol::registry::{Checkpoint, TimestampedCheckpoint};
 use warg_protocol::signing::{PublicKey, Signature, SignatureError, Signer, Verifier};
 use warg_protocol::toy::{ToySigner, ToyVerifier};
 use warg_protocol::{
-    AuditedLog, ProtoEnvelope, RunCause, RunError, SerdeEnvelope, Signable, Timestamp, operator,
-    package, run,
+    AuditedLog, ProtoEnvelope, RunCause, SerdeEnvelope, Signable, Timestamp, operator, package, run,
 };
-use warg_scripts::fault::cause;
-use warg_scripts::people::signer;
-use warg_scripts::script::{Scripted, string_of};
 
 // Takes no signature.
 #[derive(Drop)]
@@ -69,7 +69,7 @@ fn without_memory() -> Poor {
 
 // The envelope that begins a log.
 fn first<L: Scripted>(alloc: Global) -> Result<Vec<u8>, Fail> {
-    string_of::<L>(alloc, &mut None, "alice 1.0: init alice")
+    Ok(envelope::<L>(alloc, "alice 1.0: init alice")?.to_protobuf(alloc)?)
 }
 
 // The first record is refused under this verifier, for this cause.
@@ -78,26 +78,27 @@ fn refuses<L: Scripted, V: Verifier>(
     alloc: Global,
     verifier: &V,
     words: &str,
-) -> Result<(), Fail>
-where
-    L::Error: Debug + PartialEq,
-{
+) -> Result<(), Fail> {
     let strings = vec![in alloc; first::<L>(alloc)?]?;
-    let cause = cause::<L>(alloc, words)?;
-    let error = run::<L, V>(alloc, verifier, strings.as_slice()).err();
-    assert_eq!(rt; error, Some(RunError { index: 0, cause }));
+    let Some(error) = run::<L, V>(alloc, verifier, strings.as_slice()).err() else {
+        return Err(Fail::new("the record is taken"));
+    };
+    let cause = told(cause_words::<L>(alloc, &error.cause))?;
+    assert!(rt; error.index == 0 && cause.as_str() == words);
     Ok(())
 }
 
 // A log whose verifier takes no signature refuses its first record, and stays as it is.
-fn takes_nothing<L: Scripted>(rt: &impl Abort, alloc: Global) -> Result<(), Fail>
-where
-    L::Error: Debug + PartialEq,
-{
+fn takes_nothing<L: Scripted>(rt: &impl Abort, alloc: Global) -> Result<(), Fail> {
     let mut log = AuditedLog::<L, Never>::new(alloc, Never)?;
     let string = first::<L>(alloc)?;
-    let refused = log.append(string.as_slice()).err();
-    assert_eq!(rt; refused, Some(cause::<L>(alloc, "SignatureError")?));
+    let Some(cause) = log.append(string.as_slice()).err() else {
+        return Err(Fail::new("the record is taken"));
+    };
+    assert_eq!(rt;
+        told(cause_words::<L>(alloc, &cause))?.as_str(),
+        "SignatureError"
+    );
     assert!(rt; log.records().is_empty() && *log.state() == L::new(alloc)?);
     Ok(())
 }

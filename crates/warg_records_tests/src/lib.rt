@@ -1,39 +1,15 @@
-//! Tests of `warg_permissions`, `warg_envelope`, `warg_records` and `warg_registry`, by their public paths.
+//! Tests of `warg_protobuf`, `warg_permissions`, `warg_envelope`, `warg_records` and `warg_registry`, by their public
+//! paths: what no row of the conformance suite can say.
 #![tactic(auto)]
 
+pub mod callers;
 #[cfg(test)]
-mod bodies;
+mod copies;
 #[cfg(test)]
-mod checkpoints;
+mod messages;
 #[cfg(test)]
-mod contents;
-#[cfg(test)]
-mod entries;
-#[cfg(test)]
-mod envelopes;
-#[cfg(test)]
-mod json;
-#[cfg(test)]
-mod json_envelopes;
-#[cfg(test)]
-mod json_hostile;
-#[cfg(test)]
-mod leaves;
-#[cfg(test)]
-mod log_ids;
-#[cfg(test)]
-mod names;
-#[cfg(test)]
-mod options;
-#[cfg(test)]
-mod permissions;
-#[cfg(test)]
-mod record_ids;
+mod registry;
 #[cfg(test)]
 mod samples;
 #[cfg(test)]
-mod signed;
-#[cfg(test)]
-mod values;
-#[cfg(test)]
-mod written;
+mod unsigned;

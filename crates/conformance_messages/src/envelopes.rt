@@ -1,0 +1,71 @@
+//! Envelopes, and the ids of the records in them.
+use crate::coded::{Coded, Shown};
+use crate::errors::envelope_fault;
+use crate::words::word;
+use conformance_rows::{Answer, Fail, Words, bytes, hex};
+use std::alloc::Global;
+use warg_crypto::hash::Sha256;
+use warg_envelope::{ProtoEnvelope, Record};
+use warg_records::RecordId;
+use warg_records::operator::OperatorRecord;
+use warg_records::package::PackageRecord;
+
+impl<C: Record + Shown> Shown for ProtoEnvelope<C> {
+    fn text(&self, alloc: Global) -> Result<String, Fail> {
+        let key_id = word(alloc, self.key_id().as_str())?;
+        let signature = word(alloc, self.signature().to_text(alloc)?.as_str())?;
+        let content = hex(alloc, self.content_bytes())?;
+        let record = self.contents().text(alloc)?;
+        Ok(format!(in alloc;
+            "key {key_id} signature {signature} content {content} record {record}"
+        )?)
+    }
+}
+
+impl<C: Record + Shown + PartialEq> Coded for ProtoEnvelope<C> {
+    fn read(alloc: Global, word: &str) -> Result<Result<ProtoEnvelope<C>, String>, Fail> {
+        match ProtoEnvelope::from_protobuf(alloc, bytes(alloc, word)?.as_slice()) {
+            Ok(envelope) => Ok(Ok(envelope)),
+            Err(error) => Ok(Err(envelope_fault(alloc, error)?)),
+        }
+    }
+
+    fn write(&self, alloc: Global) -> Result<String, Fail> {
+        hex(alloc, self.to_protobuf(alloc)?.as_slice())
+    }
+}
+
+/// The envelope that the word says, which has no fault.
+pub(crate) fn opened<C: Record>(alloc: Global, word: &str) -> Result<ProtoEnvelope<C>, Fail> {
+    Ok(ProtoEnvelope::from_protobuf(alloc, bytes(alloc, word)?.as_slice())?)
+}
+
+// The id of the record in an envelope, and that of its content bytes.
+fn ids(alloc: Global, log: &str, word: &str) -> Result<(RecordId, RecordId), Fail> {
+    match log {
+        "package" => {
+            let envelope = opened::<PackageRecord>(alloc, word)?;
+            let id = RecordId::package_record::<Sha256>(&envelope);
+            let content = envelope.content_bytes();
+            Ok((id, RecordId::of_package_content::<Sha256>(content)))
+        }
+        "operator" => {
+            let envelope = opened::<OperatorRecord>(alloc, word)?;
+            let id = RecordId::operator_record::<Sha256>(&envelope);
+            let content = envelope.content_bytes();
+            Ok((id, RecordId::of_operator_content::<Sha256>(content)))
+        }
+        _ => Err(Fail::new("a strange kind of log")),
+    }
+}
+
+/// The answer to `record-id`: of which kind of log, and the envelope. The id is also that of the content bytes alone.
+pub(crate) fn record_id(alloc: Global, mut words: Words<'_>) -> Result<Answer, Fail> {
+    let log = words.next_written();
+    let (id, of_content) = ids(alloc, log, words.rest())?;
+    if id == of_content {
+        Answer::value(alloc, &id)
+    } else {
+        Err(Fail::new("the content bytes have another id"))
+    }
+}

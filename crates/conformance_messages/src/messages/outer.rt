@@ -1,0 +1,65 @@
+//! The outer message, whose parts are also found where they stand in its bytes.
+use crate::coded::{Coded, Shown};
+use crate::fields::{Fields, put_braced, put_bytes, put_text};
+use conformance_rows::{Fail, bytes, hex};
+use std::alloc::Global;
+use warg_protobuf::{Envelope, EnvelopeView, Message, WireError};
+
+impl Fields for EnvelopeView<'_> {
+    fn put(&self, alloc: Global, out: &mut String) -> Result<(), Fail> {
+        put_bytes(alloc, out, "contents", self.contents)?;
+        put_text(alloc, out, "key_id", self.key_id)?;
+        put_text(alloc, out, "signature", self.signature)
+    }
+}
+
+/// The outer message. Its bytes are read into parts of its own and into borrowed ones, which have to be the same.
+#[derive(Drop, PartialEq)]
+pub(crate) struct Outer {
+    message: Envelope,
+}
+
+fn view_of(message: &Envelope) -> EnvelopeView<'_> {
+    EnvelopeView {
+        contents: message.contents.as_slice(),
+        key_id: message.key_id.as_str(),
+        signature: message.signature.as_str(),
+    }
+}
+
+fn is_viewed(
+    message: &Result<Envelope, WireError>,
+    view: Result<EnvelopeView<'_>, WireError>,
+) -> bool {
+    match (message, view) {
+        (Ok(message), Ok(view)) => view_of(message) == view,
+        (Err(fault), Err(other)) => *fault == other,
+        _ => false,
+    }
+}
+
+impl Shown for Outer {
+    fn text(&self, alloc: Global) -> Result<String, Fail> {
+        let mut text = String::new(alloc);
+        put_braced(alloc, &mut text, &view_of(&self.message))?;
+        Ok(text)
+    }
+}
+
+impl Coded for Outer {
+    fn read(alloc: Global, word: &str) -> Result<Result<Outer, String>, Fail> {
+        let bytes = bytes(alloc, word)?;
+        let message = Envelope::decode(alloc, bytes.as_slice());
+        if !is_viewed(&message, Envelope::view(bytes.as_slice())) {
+            return Err(Fail::new("the borrowed parts say otherwise"));
+        }
+        match message {
+            Ok(message) => Ok(Ok(Outer { message })),
+            Err(fault) => Ok(Err(fault.to_string(alloc)?)),
+        }
+    }
+
+    fn write(&self, alloc: Global) -> Result<String, Fail> {
+        hex(alloc, self.message.encode(alloc)?.as_slice())
+    }
+}

@@ -1,0 +1,19 @@
+//! The rows of the conformance suite: how a file is read into rows and scripts, how words, texts and bytes are written,
+//! and what becomes of each row. Nothing here knows of the protocol.
+#![tactic(auto)]
+
+mod answer;
+mod block;
+mod fail;
+mod quotes;
+mod report;
+mod row;
+mod words;
+
+pub use answer::Answer;
+pub use block::{Block, Line, blocks};
+pub use fail::Fail;
+pub use quotes::quoted;
+pub use report::{Failure, Report};
+pub use row::Row;
+pub use words::{Words, bytes, hex};

@@ -1,0 +1,81 @@
+//! Keys, signatures and what they are made of.
+
+use crate::encoding::answer_bytes;
+use crate::worded::{answer_of, no_such_kind, value_of};
+use conformance_rows::{Answer, Fail, Words, hex};
+use std::alloc::Global;
+use warg_crypto::hash::AnyHash;
+use warg_crypto::signing::{PublicKey, Signature, is_algorithm_name};
+use warg_registry::{LogId, PackageName};
+
+fn named_bytes(alloc: Global, name: &str, bytes: &[u8]) -> Result<Answer, Fail> {
+    let bytes = hex(alloc, bytes)?;
+    Answer::value(alloc, &format_args!("{name} {bytes}"))
+}
+
+/// `parts KIND TEXT`: the algorithm and the bytes of a hash, a key or a signature; the namespace and the name of a
+/// package; the bytes of the id of a log.
+pub(crate) fn parts(alloc: Global, mut words: Words<'_>) -> Result<Answer, Fail> {
+    match words.next(alloc)?.as_str() {
+        "hash" => {
+            let hash = value_of::<AnyHash>(alloc, words)?;
+            named_bytes(alloc, hash.algorithm().as_str(), hash.bytes())
+        }
+        "key" => {
+            let key = value_of::<PublicKey>(alloc, words)?;
+            named_bytes(alloc, key.algorithm(), key.bytes())
+        }
+        "signature" => {
+            let signature = value_of::<Signature>(alloc, words)?;
+            named_bytes(alloc, signature.algorithm(), signature.bytes())
+        }
+        "package-name" => {
+            let name = value_of::<PackageName>(alloc, words)?;
+            Answer::value(alloc, &format_args!("{} {}", name.namespace(), name.name()))
+        }
+        "log-id" => {
+            let id = value_of::<LogId>(alloc, words)?;
+            answer_bytes(alloc, id.as_bytes())
+        }
+        _ => no_such_kind(),
+    }
+}
+
+// The name and the bytes that the words say.
+fn name_and_bytes(alloc: Global, mut words: Words<'_>) -> Result<(String, Vec<u8>), Fail> {
+    let name = words.next(alloc)?;
+    let bytes = words.next_bytes(alloc)?;
+    words.end()?;
+    Ok((name, bytes))
+}
+
+/// `key-of NAME BYTES`: the key of the bytes under the algorithm's name.
+pub(crate) fn key_of(alloc: Global, words: Words<'_>) -> Result<Answer, Fail> {
+    let (name, bytes) = name_and_bytes(alloc, words)?;
+    if is_algorithm_name(name.as_str()) {
+        return Answer::value(alloc, &PublicKey::new(name, bytes));
+    }
+    Err(Fail::new("no name of an algorithm"))
+}
+
+/// `signature-of NAME BYTES`: the signature of the bytes under the algorithm's name.
+pub(crate) fn signature_of(alloc: Global, words: Words<'_>) -> Result<Answer, Fail> {
+    let (name, bytes) = name_and_bytes(alloc, words)?;
+    if is_algorithm_name(name.as_str()) {
+        return Answer::value(alloc, &Signature::new(name, bytes));
+    }
+    Err(Fail::new("no name of an algorithm"))
+}
+
+/// `algorithm-name TEXT`: whether the text may name an algorithm.
+pub(crate) fn algorithm_name(alloc: Global, mut words: Words<'_>) -> Result<Answer, Fail> {
+    let name = words.next(alloc)?;
+    words.end()?;
+    Answer::value(alloc, &is_algorithm_name(name.as_str()))
+}
+
+/// `fingerprint KEY`: the id of the key.
+pub(crate) fn fingerprint(alloc: Global, words: Words<'_>) -> Result<Answer, Fail> {
+    let key = value_of::<PublicKey>(alloc, words)?;
+    answer_of(alloc, key.fingerprint(alloc))
+}

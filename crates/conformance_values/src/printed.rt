@@ -1,0 +1,38 @@
+//! Values as they print, under any formatting options.
+
+use conformance_rows::Fail;
+use std::alloc::{AllocError, Global};
+use std::fmt::{Debug, Display};
+
+// What was printed under these options, which has to be the text.
+fn expect(
+    printed: Result<String, AllocError>,
+    text: &str,
+    options: &'static str,
+) -> Result<(), Fail> {
+    let printed = printed?;
+    if printed.as_str() == text {
+        return Ok(());
+    }
+    Err(Fail::new(format_args!("{options} prints {printed}")))
+}
+
+/// The value's text, which is the same under each of several options.
+pub(crate) fn text_of<T: Display>(alloc: Global, value: &T) -> Result<String, Fail> {
+    let text = format!(in alloc; "{value}")?;
+    let plain = text.as_str();
+    expect(format!(in alloc; "{value:>200}"), plain, ">200")?;
+    expect(format!(in alloc; "{value:*^200}"), plain, "*^200")?;
+    expect(format!(in alloc; "{value:#}"), plain, "#")?;
+    expect(format!(in alloc; "{value:.1}"), plain, ".1")?;
+    expect(format!(in alloc; "{value:+0200.1}"), plain, "+0200.1")?;
+    Ok(text)
+}
+
+/// The same of a value that prints so for programmers too.
+pub(crate) fn only_text_of<T: Display + Debug>(alloc: Global, value: &T) -> Result<String, Fail> {
+    let text = text_of(alloc, value)?;
+    expect(format!(in alloc; "{value:?}"), text.as_str(), "?")?;
+    expect(format!(in alloc; "{value:#?}"), text.as_str(), "#?")?;
+    Ok(text)
+}

@@ -1,0 +1,76 @@
+//! Signatures by the toy scheme, whose signers are told by the bytes of their keys' names.
+
+use crate::worded::{Worded, answer_of, ok_or_fault};
+use conformance_rows::{Answer, Fail, Words};
+use std::alloc::Global;
+use warg_crypto::Signable;
+use warg_crypto::signing::{PublicKey, Signature, Signer, Verifier};
+use warg_crypto::toy::{ToySigner, ToyVerifier};
+use warg_registry::TimestampedCheckpoint;
+
+// The signer whose key has the bytes of the next word.
+fn signer(alloc: Global, words: &mut Words<'_>) -> Result<ToySigner, Fail> {
+    let name = words.next(alloc)?;
+    Ok(ToySigner::new(alloc, name.as_bytes())?)
+}
+
+/// `toy-key NAME`: the signer's key.
+pub(crate) fn toy_key(alloc: Global, mut words: Words<'_>) -> Result<Answer, Fail> {
+    let signer = signer(alloc, &mut words)?;
+    words.end()?;
+    Answer::value(alloc, signer.public_key())
+}
+
+/// `toy-sign NAME BYTES`: the signer's signature of the message.
+pub(crate) fn toy_sign(alloc: Global, mut words: Words<'_>) -> Result<Answer, Fail> {
+    let signer = signer(alloc, &mut words)?;
+    let message = words.next_bytes(alloc)?;
+    words.end()?;
+    answer_of(alloc, signer.sign(alloc, message.as_slice()))
+}
+
+// The key, the bytes and the signature that the words say.
+fn signed_bytes(
+    alloc: Global,
+    mut words: Words<'_>,
+) -> Result<(PublicKey, Vec<u8>, Signature), Fail> {
+    let key = PublicKey::from_words(alloc, &mut words)?;
+    let bytes = words.next_bytes(alloc)?;
+    let signature = Signature::from_words(alloc, &mut words)?;
+    words.end()?;
+    Ok((key, bytes, signature))
+}
+
+/// `toy-verify KEY BYTES SIGNATURE`: `ok` where the signature belongs to the message under the key.
+pub(crate) fn toy_verify(alloc: Global, words: Words<'_>) -> Result<Answer, Fail> {
+    let (key, message, signature) = signed_bytes(alloc, words)?;
+    ok_or_fault(
+        alloc,
+        ToyVerifier.verify(alloc, &key, message.as_slice(), &signature),
+    )
+}
+
+/// `sign-checkpoint NAME CHECKPOINT`: the signer's signature of the timestamped checkpoint.
+pub(crate) fn sign_checkpoint(alloc: Global, mut words: Words<'_>) -> Result<Answer, Fail> {
+    let signer = signer(alloc, &mut words)?;
+    let checkpoint = TimestampedCheckpoint::from_words(alloc, &mut words)?;
+    words.end()?;
+    answer_of(alloc, checkpoint.sign(alloc, &signer))
+}
+
+/// `verify-checkpoint KEY BYTES SIGNATURE`: `ok` where the signature belongs to the timestamped checkpoint of these
+/// bytes under the key.
+pub(crate) fn verify_checkpoint(alloc: Global, words: Words<'_>) -> Result<Answer, Fail> {
+    let (key, bytes, signature) = signed_bytes(alloc, words)?;
+    let bytes = bytes.as_slice();
+    ok_or_fault(
+        alloc,
+        TimestampedCheckpoint::verify(alloc, &ToyVerifier, &key, bytes, &signature),
+    )
+}
+
+/// `checkpoint-prefix`: the prefix under which timestamped checkpoints are signed.
+pub(crate) fn checkpoint_prefix(alloc: Global, words: Words<'_>) -> Result<Answer, Fail> {
+    words.end()?;
+    Answer::value(alloc, &TimestampedCheckpoint::PREFIX)
+}

@@ -1,0 +1,20 @@
+//! Times.
+
+use crate::worded::{answer_of, value_of};
+use conformance_rows::{Answer, Fail, Words};
+use std::alloc::Global;
+use warg_crypto::Timestamp;
+
+/// `time SECONDS NANOS`: the time so many seconds and nanoseconds after the epoch, or before it.
+pub(crate) fn time(alloc: Global, mut words: Words<'_>) -> Result<Answer, Fail> {
+    let seconds = words.next(alloc)?.as_str().parse::<i64>()?;
+    let nanos = words.next(alloc)?.as_str().parse::<i32>()?;
+    words.end()?;
+    answer_of(alloc, Timestamp::from_parts(seconds, nanos))
+}
+
+/// `time-text TIME`: the text that JSON has of the time.
+pub(crate) fn time_text(alloc: Global, words: Words<'_>) -> Result<Answer, Fail> {
+    let time = value_of::<Timestamp>(alloc, words)?;
+    Answer::of(alloc, time.to_text(alloc))
+}

@@ -1,7 +1,0 @@
-//! Whole operator logs, told as scripts, through the public paths of `warg_protocol`.
-#![tactic(auto)]
-
-#[cfg(test)]
-mod envelopes;
-#[cfg(test)]
-mod log;

@@ -1,0 +1,110 @@
+//! Copies of entries, records, envelopes and bodies, by `try_clone` and by `clone`.
+
+use crate::samples::alice;
+use std::alloc::Global;
+use std::test::Fail;
+use warg_crypto::{Decode, DecodeError};
+use warg_envelope::{
+    ProtoEnvelope, ProtoEnvelopeBody, PublishedProtoEnvelope, PublishedProtoEnvelopeBody, Record,
+    SerdeEnvelope,
+};
+use warg_records::operator::OperatorRecord;
+use warg_records::package::PackageRecord;
+
+// Content bytes of records with a link, of version 7, before the epoch, and with an entry of each kind.
+const PACKAGE_CONTENT: &[u8] =
+    b"\x0aGsha256:e3b0c44298fc1c149afbf4c8996fb92427ae41e4649b934ca495991b7852b855\
+    \x10\x07\x1a\x11\x08\xfe\xff\xff\xff\xff\xff\xff\xff\xff\x01\x10\xff\x93\xeb\xdc\x03\
+    \x22\x18\x0a\x16\x0a\x0ctoy:YWxpY2U=\x12\x06sha256\
+    \x22\x10\x12\x0e\x0a\x08toy:Ym9i\x12\x02\x01\x02\
+    \x22N\x1aL\x0aGsha256:41217e6dcb8c0694d904eb6ff3e4098d479db7c8f90cd8db737d85701d464db0\x12\x01\x01\
+    \x22R\x22P\x0a\x051.0.0\x12Gsha256:054edec1d0211f624fed0cbca9d4f9400b0e491c43742af2c5b0abebf0c990d8\
+    \x22\x09*\x07\x0a\x051.0.0";
+
+const OPERATOR_CONTENT: &[u8] =
+    b"\x0aGsha256:e3b0c44298fc1c149afbf4c8996fb92427ae41e4649b934ca495991b7852b855\
+    \x10\x07\x1a\x11\x08\xfe\xff\xff\xff\xff\xff\xff\xff\xff\x01\x10\xff\x93\xeb\xdc\x03\
+    \x22\x18\x0a\x16\x0a\x0ctoy:YWxpY2U=\x12\x06sha256\
+    \x22\x0f\x12\x0d\x0a\x08toy:Ym9i\x12\x01\x01\
+    \x22N\x1aL\x0aGsha256:41217e6dcb8c0694d904eb6ff3e4098d479db7c8f90cd8db737d85701d464db0\x12\x01\x01\
+    \x22\x10\x22\x0e\x0a\x0cmy-namespace\
+    \x22,**\x0a\x12imported-namespace\x12\x14registry.example.com";
+
+fn package_record(alloc: Global) -> Result<PackageRecord, DecodeError> {
+    PackageRecord::decode(alloc, PACKAGE_CONTENT)
+}
+
+fn operator_record(alloc: Global) -> Result<OperatorRecord, DecodeError> {
+    OperatorRecord::decode(alloc, OPERATOR_CONTENT)
+}
+
+#[test]
+fn package_records(rt: HostRuntime) -> Result<(), Fail> {
+    let record = package_record(rt.alloc())?;
+    assert_eq!(rt; record.entries.len(), 5);
+    for entry in &record.entries {
+        assert!(rt; entry.try_clone()? == *entry);
+    }
+    assert!(rt; Record::try_clone(&record)? == record);
+    assert!(rt; record.clone()? == record);
+    Ok(())
+}
+
+#[test]
+fn operator_records(rt: HostRuntime) -> Result<(), Fail> {
+    let record = operator_record(rt.alloc())?;
+    assert_eq!(rt; record.entries.len(), 5);
+    for entry in &record.entries {
+        assert!(rt; entry.try_clone()? == *entry);
+    }
+    assert!(rt; Record::try_clone(&record)? == record);
+    assert!(rt; record.clone()? == record);
+    Ok(())
+}
+
+fn smallest(alloc: Global) -> Result<ProtoEnvelope<OperatorRecord>, Fail> {
+    let bytes = b"\x0a\x02\x1a\x00\x12\x01k\x1a\x04toy:";
+    Ok(ProtoEnvelope::from_protobuf(alloc, bytes)?)
+}
+
+#[test]
+fn envelopes(rt: HostRuntime) -> Result<(), Fail> {
+    let envelope = smallest(rt.alloc())?;
+    assert!(rt; envelope.try_clone()? == envelope);
+    assert!(rt; envelope.clone()? == envelope);
+    Ok(())
+}
+
+// An envelope of a body has that body again.
+#[test]
+fn bodies(rt: HostRuntime) -> Result<(), Fail> {
+    let body = ProtoEnvelopeBody::from(smallest(rt.alloc())?);
+    assert!(rt; body.clone()? == body);
+    let envelope = ProtoEnvelope::<OperatorRecord>::from_body(rt.alloc(), body.try_clone()?)?;
+    assert!(rt; ProtoEnvelopeBody::from(envelope) == body);
+    Ok(())
+}
+
+#[test]
+fn published_envelopes(rt: HostRuntime) -> Result<(), Fail> {
+    let published = PublishedProtoEnvelope {
+        envelope: smallest(rt.alloc())?,
+        registry_index: 7,
+    };
+    assert!(rt; published.try_clone()? == published);
+    let body = PublishedProtoEnvelopeBody::from(published);
+    assert_eq!(rt; body.registry_index, 7);
+    assert!(rt; body.try_clone()? == body);
+    Ok(())
+}
+
+#[test]
+fn envelopes_without_bytes(rt: HostRuntime) -> Result<(), Fail> {
+    let record = package_record(rt.alloc())?;
+    let alice = alice(rt.alloc())?;
+    let envelope = SerdeEnvelope::signed_contents(rt.alloc(), &alice, record.try_clone()?)?;
+    let copy = envelope.try_clone()?;
+    assert!(rt; copy == envelope);
+    assert!(rt; copy.into_contents() == record);
+    Ok(())
+}
