@@ -1,14 +1,25 @@
 """What the tools share: their help, the built programs, the examples, the logs of make_log, and runs that are measured."""
 import argparse
+import hashlib
 import os
 import pathlib
 import re
+import shutil
 import subprocess
 import sys
 import tempfile
 from typing import NamedTuple
 
 ROOT = pathlib.Path(__file__).resolve().parent.parent
+# The program that bin/prove builds, and the one that is in the repository.
+BUILT = ROOT / "crates/warg_audit_main/out/warg_audit_main"
+RELEASED = ROOT / "dist/x86_64-linux/warg_audit"
+
+
+def manifest():
+    """What dist/MANIFEST says of the program of dist/, by the first word of each line."""
+    lines = (ROOT / "dist/MANIFEST").read_text(encoding="utf-8").splitlines()
+    return {word: rest for word, _, rest in (line.partition(": ") for line in lines) if rest}
 
 
 def words_of(doc):
@@ -28,6 +39,23 @@ def stands_on(name, found=None):
     return found
 
 
+def copied(crates, to):
+    """Lays a repository of these crates alone anew in a folder, without their must-fail edits."""
+    shutil.rmtree(to, ignore_errors=True)
+    (to / "crates").mkdir(parents=True)
+    for crate in crates:
+        shutil.copytree(ROOT / "crates" / crate, to / "crates" / crate, ignore=shutil.ignore_patterns("out", "must-fail"))
+    lines = (ROOT / "crates.txt").read_text(encoding="utf-8").splitlines(keepends=True)
+    (to / "crates.txt").write_text("".join(it for it in lines if it.split(":")[0] in crates), encoding="utf-8")
+    shutil.copy(ROOT / "HANDLES", to)
+
+
+def room_of(name):
+    """A folder of this name in the user's cache, one for each checkout."""
+    cache = pathlib.Path(os.environ.get("XDG_CACHE_HOME") or pathlib.Path.home() / ".cache")
+    return cache / "weoldrin" / f"{name}-{hashlib.sha256(str(ROOT).encode()).hexdigest()[:16]}"
+
+
 def is_older(program, name):
     """Whether a source of the program, or of a crate that it stands on, is newer than it."""
     made = program.stat().st_mtime
@@ -41,7 +69,7 @@ def built(name):
     program = ROOT / f"crates/{name}/out/{name}"
     if not program.exists():
         print(f"{name} is not built: it is proved and built first", file=sys.stderr)
-        command = [ROOT / "bin/warg_audit"] if name == "warg_audit_main" else ["rt", "run"]
+        command = [ROOT / "bin/prove"] if name == "warg_audit_main" else ["rt", "run"]
         try:
             subprocess.run(command, cwd=ROOT / f"crates/{name}", stdin=subprocess.DEVNULL, stdout=subprocess.DEVNULL, check=False)
         except OSError as error:

@@ -1,0 +1,19 @@
+"""What the tools share that write a page of docs/ from the sources."""
+from common import ROOT
+
+
+def crates_below() -> list[str]:
+    """The crates of crates.txt, each after those that it stands on."""
+    lines = (ROOT / "crates.txt").read_text(encoding="utf-8").splitlines()
+    return [line.partition(":")[0] for line in lines if line and not line.startswith("#")]
+
+
+def write_or_compare(name: str, text: str, is_compared: bool) -> int:
+    """Writes a page that a tool makes, or compares it with what stands there. The result is the tool's exit status."""
+    path = ROOT / name
+    if not is_compared:
+        path.write_text(text, encoding="utf-8")
+    elif not path.is_file() or path.read_text(encoding="utf-8") != text:
+        print(f"{name} is not what its tool writes: run that, and read what has changed")
+        return 1
+    return 0
