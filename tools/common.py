@@ -11,15 +11,38 @@ import tempfile
 from typing import NamedTuple
 
 ROOT = pathlib.Path(__file__).resolve().parent.parent
-# The program that bin/prove builds, and the one that is in the repository.
-BUILT = ROOT / "crates/warg_audit_main/out/warg_audit_main"
-RELEASED = ROOT / "dist/x86_64-linux/warg_audit"
+class Product(NamedTuple):
+    """What dist/ has: its name there, the crate that it is built from, its manifest in dist/, and the source that names its
+    version."""
+
+    name: str
+    crate: str
+    manifest: str
+    information: str
+
+    @property
+    def built(self) -> pathlib.Path:
+        """Where bin/prove and `rt ci` leave it in this checkout."""
+        return ROOT / f"crates/{self.crate}/out/{self.crate}"
+
+    @property
+    def released(self) -> pathlib.Path:
+        return ROOT / f"dist/x86_64-linux/{self.name}"
+
+    def said(self) -> dict[str, str]:
+        """What the manifest says, by the first word of each line."""
+        lines = (ROOT / "dist" / self.manifest).read_text(encoding="utf-8").splitlines()
+        return {word: rest for word, _, rest in (line.partition(": ") for line in lines) if rest}
 
 
-def manifest():
-    """What dist/MANIFEST says of the program of dist/, by the first word of each line."""
-    lines = (ROOT / "dist/MANIFEST").read_text(encoding="utf-8").splitlines()
-    return {word: rest for word, _, rest in (line.partition(": ") for line in lines) if rest}
+PRODUCTS = {
+    it.name: it
+    for it in [
+        Product("warg_audit", "warg_audit_main", "MANIFEST", "crates/warg_audit/src/information.rt"),
+    ]
+}
+# The program that the examples, the fuzzer and the benchmarks run.
+BUILT = PRODUCTS["warg_audit"].built
 
 
 def words_of(doc):
