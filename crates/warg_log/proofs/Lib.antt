@@ -24,3 +24,5 @@ pub mod SavedParts
 pub mod SavedHead
 pub mod SavedEqual
 pub mod CanonicalHead
+pub mod AskingLaws
+pub mod EnclosedLaws

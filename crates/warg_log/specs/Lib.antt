@@ -21,3 +21,4 @@ pub mod EntryRefs
 pub mod Equal
 pub mod EqualLaws
 pub mod HeadJson
+pub mod Asking

@@ -14,6 +14,7 @@ mod log;
 mod log_kind;
 mod maps;
 mod permission_set;
+mod persistent;
 mod refusal;
 mod rights;
 
@@ -23,4 +24,5 @@ pub use log::Log;
 pub use log_kind::{EntryRef, LogKind, RecordRef};
 pub use maps::put_all;
 pub use permission_set::PermissionSet;
+pub use persistent::PersistentState;
 pub use refusal::Refusal;

@@ -203,6 +203,7 @@ pub fn runs()
     runs::links::<LogState>();
     runs::determination::<LogState>();
     runs::one_state::<LogState>();
+    runs::saved_versions::<LogState>();
     runs::strings_are_accepted::<LogState>();
     runs::first_offence::<LogState>();
     runs::resumption::<LogState>();

@@ -2,6 +2,7 @@
 #![tactic(auto)]
 
 mod error;
+mod hosted;
 pub mod laws;
 mod name;
 mod namespace;

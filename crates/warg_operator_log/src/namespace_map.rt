@@ -1,5 +1,5 @@
 //! The namespaces of a log, by name.
-ghost use Rattle.std.specs.Prelude.{◌≡◌, [], ◌∷◌, ◌++◌, ℕ, List, IfOk, OnOk, OnErr, OnSome, None, Some, if◌then◌else◌, string_bytes, refl, true, is_none, IsTrue};
+ghost use Rattle.std.specs.Prelude.{◌≡◌, ◌≤◌, [], ◌∷◌, ◌++◌, ℕ, length, List, IfOk, OnOk, OnErr, OnSome, None, Some, if◌then◌else◌, string_bytes, refl, true, is_none, IsTrue};
 ghost use Rattle.std.specs.List.{IsDistinct};
 ghost use Rattle.std.specs.Map.{keys_of};
 ghost use Rattle.std.specs.Str.{bytes_eq};
@@ -61,7 +61,9 @@ fn adds(entry: &OperatorEntry) -> bool {
 }
 
 /// How many namespaces the last entries of a record add at most.
-fn most_added(entries: &[OperatorEntry]) -> usize {
+fn most_added(entries: &[OperatorEntry]) -> usize
+    ensures { result ≤ length entries.now }
+{
     entries.iter().rev().take_while(|entry| adds(entry)).count()
 }
 
@@ -144,6 +146,9 @@ impl NamespaceMap {
 }
 
 impl LogKind for NamespaceMap {
+    ghost use Rattle.std.proofs.Common as common;
+    ghost use Rattle.warg_operator_log.specs.ErrorLaws as errors;
+
     type Permission = Permission;
 
     type Record = OperatorRecord;
@@ -175,6 +180,10 @@ impl LogKind for NamespaceMap {
     ghost told = { offence_of };
 
     ghost signs_under = { refl };
+
+    ghost one_out_of_memory = { errors.one_out_of_memory };
+
+    ghost equal_errors = { Prim.search common.rules };
 
     ghost after_none = { names-none };
 

@@ -1,6 +1,7 @@
 //! The namespaces of a log, one after another.
-ghost use Rattle.std.specs.Prelude.{◌≡◌, ⊤, length};
-ghost use Rattle.std.specs.Iterator.{at_most};
+ghost use Rattle.std.specs.Prelude.{◌≡◌, ⊤, length, IfSome, Some};
+ghost use Rattle.std.specs.Iterator.{UpTo, at_most};
+ghost use Rattle.std.specs.Iterator.SizeHint.{IsWithinCount};
 ghost use Rattle.std.specs.Map.Iter.{TakesFirst, TakesLast};
 ghost use Rattle.warg_operator_log.specs.NamespaceMap.{namespace_view};
 
@@ -41,7 +42,11 @@ impl<'a> Iterator for Namespaces<'a> {
         }
     }
 
-    fn size_hint(&self) -> (usize, Option<usize>) {
+    fn size_hint(&self) -> (usize, Option<usize>)
+        ensures exact { result ≡ (length self.now, Some (length self.now)) }
+        ensures lower { IsWithinCount result.0 (at_most (length self.now)) }
+        ensures upper { IfSome result.1 (UpTo (at_most (length self.now))) }
+    {
         let len = self.len();
         (len, Some(len))
     }

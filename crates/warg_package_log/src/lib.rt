@@ -2,6 +2,7 @@
 #![tactic(auto)]
 
 mod error;
+mod hosted;
 mod latest;
 pub mod laws;
 mod name;

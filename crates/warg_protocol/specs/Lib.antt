@@ -1,5 +1,5 @@
 -- What a clause of one's own may cite: of records, of whole logs and their history, of package logs, of operator logs, of
--- messages, of keys and times, of a registry, of errors, of JSON.
+-- messages, of keys and times, of a registry, of its log and its map, of errors, of JSON.
 pub mod Records
 pub mod Logs
 pub mod History
@@ -9,6 +9,8 @@ pub mod ReleaseStates
 pub mod Messages
 pub mod Texts
 pub mod Registry
+pub mod Transparency
+pub mod RegistryMaps
 pub mod Errors
 pub mod Json
 pub mod ParseEnvelopeErrors

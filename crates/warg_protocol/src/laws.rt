@@ -5,6 +5,7 @@
 pub use warg_audited_log::laws as audited_logs;
 pub use warg_crypto::laws as crypto;
 pub use warg_envelope::laws as envelopes;
+pub use warg_host::laws as hosts;
 pub use warg_log::laws as logs;
 pub use warg_operator_log::laws as operator;
 pub use warg_package_log::laws as package;
@@ -13,4 +14,5 @@ pub use warg_protobuf::laws as messages;
 pub use warg_records::laws as records;
 pub use warg_registry::laws as registry;
 pub use warg_saved::laws as saved;
+pub use warg_transparency::laws as transparency;
 pub use warg_validator::laws as runs;

@@ -6,14 +6,16 @@
 //! names `warg_protobuf` too, and who calls `to_value` or `from_value` names `serde_json`.
 #![tactic(auto)]
 
+pub mod host;
 pub mod laws;
 pub mod operator;
 pub mod package;
 pub mod registry;
+pub mod transparency;
 
 pub use indexmap::IndexSet;
 pub use semver::Error as VersionParseError;
-pub use warg_audited_log::{AuditedLog, Comparison, HeadComparison, Link};
+pub use warg_audited_log::{AuditedLog, Comparison, HeadComparison, HostedLog, Link};
 pub use warg_crypto::{
     ByteVisitor, Clock, Decode, DecodeError, Encode, Incoherence, JsonError, JsonValue, Signable,
     SystemClock, TimeError, Timestamp, VisitBytes, WireFault, digits, hash, json, prefix, signing,
@@ -23,6 +25,7 @@ pub use warg_envelope::{
     ParseEnvelopeError, ProtoEnvelope, ProtoEnvelopeBody, PublishedProtoEnvelope,
     PublishedProtoEnvelopeBody, Record, SerdeEnvelope,
 };
+pub use warg_log::PersistentState;
 pub use warg_permissions::{InvalidPermission, PermissionParseError};
 pub use warg_protobuf::{Envelope, EnvelopeView, Message, WireError};
 pub use warg_records::{LogRecord, Version, VersionReq};

@@ -1,4 +1,6 @@
 pub mod Effects
+pub mod Enclosed
+pub mod Judging
 pub mod Kinds
 pub mod Messages
 pub mod Outcomes

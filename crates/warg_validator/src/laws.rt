@@ -1,6 +1,7 @@
 //! Laws over all logs of a kind. They have no effect.
 ghost use Rattle.std.specs.Prelude.{◌≡◌, ◌==◌, ◌&&◌, ◌↔◌, ℕ, ◌+◌, List, [], ◌∷◌, ◌++◌, length, map, take, Option, Some, None, true};
 ghost use Rattle.std.specs.List.{slice_get};
+ghost use Rattle.warg_crypto.specs.Json.{AreReadBack};
 ghost use Rattle.warg_envelope.specs.Envelopes.{EnvelopeFault, envelope_of};
 ghost use Rattle.warg_envelope.specs.EnvelopeData.{EnvelopeData};
 ghost use Rattle.warg_validator.specs.Kinds.{SignatureRelation, either, IsAccepted, StandsFor, last_id};
@@ -55,6 +56,13 @@ pub fn one_state<L: Validator>()
         StandsFor L.kind L.view t es → L.eq s t ≡ true }
     ensures equivalent { (es : List EnvelopeData) (s t : L) → L.Validator.equivalent (L.view s) (L.kind.view_of es) →
         StandsFor L.kind L.view t es → L.eq s t ≡ true }
+{}
+
+/// What was saved of a state of an accepted log reads back, as a value and as a text: the texts of its versions do, which
+/// is all that those calls ask.
+pub fn saved_versions<L: Validator>()
+    ensures { (b : SignatureRelation) (es : List EnvelopeData) → IsAccepted L.kind b es →
+        (s : L) → StandsFor L.kind L.view s es → AreReadBack (L.JsonValue.versions (L.JsonValue.plain s)) }
 {}
 
 /// Strings without offence are an accepted log.

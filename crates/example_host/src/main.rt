@@ -1,0 +1,81 @@
+//! Audits the logs of packages, whose signatures are verified elsewhere once all logs are judged: `example_host FILE.. and
+//! FILE..`, where the files hold the envelopes of a log in order, and `and` begins another log.
+#![tactic(auto)]
+
+use std::alloc::Global;
+use std::rt::{Env, Files};
+use std::{env, fs, mem};
+use warg_protocol::host::{Question, Told, append, ask};
+use warg_protocol::package::LogState;
+use warg_protocol::signing::{SignatureError, Verifier};
+use warg_protocol::toy::ToyVerifier;
+
+/// A log that is lawful if all signatures belong that its records ask for.
+#[derive(Drop)]
+struct Judged {
+    state: LogState,
+    questions: Vec<Question>,
+}
+
+// Judges a whole log but for its signatures. It goes on as if each belonged: what is asked says what the result is worth.
+fn judge(alloc: Global, log: &[Vec<u8>]) -> anyhow::Result<Judged> {
+    let mut state = LogState::new(alloc)?;
+    let mut questions = Vec::new(alloc);
+    for string in log {
+        let bytes = string.as_slice();
+        let told = Told {
+            question: ask(alloc, &state, bytes)?,
+            belongs: true,
+        };
+        append(alloc, &mut state, bytes, &told)?;
+        questions.push(told.question)?;
+    }
+    Ok(Judged { state, questions })
+}
+
+// Stands for what verifies elsewhere: a library of another language, other threads, other machines.
+fn verify(alloc: Global, question: &Question) -> anyhow::Result<bool> {
+    let message = question.message.as_slice();
+    match ToyVerifier.verify(alloc, &question.key, message, &question.signature) {
+        Ok(()) => Ok(true),
+        Err(SignatureError::Refused) => Ok(false),
+        Err(SignatureError::OutOfMemory) => anyhow::bail!("out of memory"),
+    }
+}
+
+// What came of a log: where a signature does not belong, nothing of the state is worth anything.
+fn verdict(alloc: Global, log: &Judged) -> anyhow::Result<String> {
+    for (place, question) in log.questions.iter().enumerate() {
+        if !verify(alloc, question)? {
+            return Ok(format!(in alloc; "the signature of record {place} is wrong")?);
+        }
+    }
+    let releases = log.state.releases().count();
+    Ok(format!(in alloc; "lawful, with {releases} releases")?)
+}
+
+// The logs that the program's words name.
+fn read_logs(rt: &(impl Alloc<A = Global> + Env + Files)) -> anyhow::Result<Vec<Vec<Vec<u8>>>> {
+    let mut logs = Vec::new(rt.alloc());
+    let mut log = Vec::new(rt.alloc());
+    for word in env::args(rt)?.skip(1) {
+        if word.as_str() == "and" {
+            logs.push(mem::replace(&mut log, Vec::new(rt.alloc())))?;
+        } else {
+            log.push(fs::read(rt, word.as_str())?)?;
+        }
+    }
+    logs.push(log)?;
+    Ok(logs)
+}
+
+fn main(rt: HostRuntime) -> anyhow::Result<()> {
+    let mut judged = Vec::new(rt.alloc());
+    for log in read_logs(&rt)?.as_slice() {
+        judged.push(judge(rt.alloc(), log.as_slice())?)?;
+    }
+    for log in judged.as_slice() {
+        println!(rt; "{}", verdict(rt.alloc(), log)?)?;
+    }
+    Ok(())
+}

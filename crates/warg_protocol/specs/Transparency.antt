@@ -1,0 +1,14 @@
+-- A registry's log, the proofs on it, and the heads of logs under a checkpoint.
+-- trees of leaves, their roots and paths; what an accepted proof says; collisions by their place
+pub use Rattle.warg_merkle.specs.Trees.{Side, Includes, IsOwn, HaveCollision, leaf_input, tree_hash, inclusion_path}
+pub use Rattle.warg_merkle.specs.Extensions.{IsConsistent, IsBeginning, consistency_proof}
+pub use Rattle.warg_merkle_log.specs.Logs.{ForLeaves}
+-- what stands in a registry's log, and checkpoints that go on from one another
+pub use Rattle.warg_registry.specs.PrefixEncodings.{log_leaf_encoding_of}
+pub use Rattle.warg_transparency.specs.Standings.{IsOfTrees}
+pub use Rattle.warg_transparency.specs.Views.{GoesOn, IsLogOf}
+-- heads that are shown under a checkpoint
+pub use Rattle.warg_transparency.specs.Heads.{ShowsHead, ShowsLeaf, head_leaf, tried_for}
+-- the texts of proofs, and what texts are read as
+pub use Rattle.warg_crypto.specs.Results.{ReturnsOr}
+pub use Rattle.warg_transparency.specs.Texts.{log_proof_of, log_proof_text, map_proof_of, map_proof_text}
