@@ -1,5 +1,5 @@
 -- Short forms, and the paths that have them.
-use Rattle.std.proofs.Common.{◌≡◌, ◌↔◌, ℕ, zero, suc, ◌*◌, ◌<◌, ◌≤◌, true, IsTrue, List, [], ◌∷◌, ◌++◌, length, get_or, take, drop, reverse, if◌then◌else◌, inl, inr, refl, sym, ◌∙◌, ap, subst, arith}
+use Rattle.std.proofs.Common.{◌≡◌, ◌↔◌, ℕ, zero, suc, ◌*◌, ◌/◌, ◌<◌, ◌≤◌, true, IsTrue, List, [], ◌∷◌, ◌++◌, length, get_or, take, drop, reverse, if◌then◌else◌, inl, inr, refl, sym, ◌∙◌, ap, subst, arith}
 use Rattle.std.specs.List.{All, concat}
 use Rattle.std.specs.Simd.{first_chunks}
 use Rattle.std.proofs.lemmas.List.{length-append, length-drop, length-take, take_at, drop_at, take-append-drop, get_or-take, get_or_past}
@@ -7,7 +7,7 @@ use Rattle.std.proofs.lemmas.Bool.{cases_Bool, cases_lt}
 use Rattle.warg_merkle.specs.Trees.{Left, Right}
 use Rattle.warg_sparse_map.specs.Maps.{is_right, sides_up, empty_root}
 use Rattle.warg_sparse_map.proofs.Ways.{one_key}
-use Rattle.warg_map_proof.specs.ShortForms.{is_left_out, others_count, short_form_len, others_of, siblings, full_path, IsCanonical, AreParts, IsShortForm}
+use Rattle.warg_map_proof.specs.ShortForms.{is_left_out, others_count, short_form_len, others_in, others_of, siblings, full_path, IsCanonical, AreParts, IsShortForm, IsShort, path_of}
 use Rattle.warg_map_proof.proofs.Shortness.{length-others_of, all_others_of, all_siblings, length-siblings, others_of-siblings, bits_say, SayOf, siblings-others_of, canonical-others_of}
 use Rattle.warg_map_proof.proofs.Chunks.{length-concat, chunks-concat, concat-chunks, all_chunks}
 
@@ -17,7 +17,27 @@ same_sides zero k l same = refl
 same_sides (suc n) k l same =
     ap (λ b. (if b then Right else Left) ∷ sides_up n k) (same n (omega arith)) ∙ ap (λ ss. (if is_right l n then Right else Left) ∷ ss) (same_sides n k l (λ i below. same i (omega arith)))
 
-byte_of_take : (bytes : List ℕ) → ((i : ℕ) → get_or bytes i 0 < 256) → (i : ℕ) → get_or (take 32 bytes) i 0 < 256
+-- at most a hash for each height
+count_few : (n h : ℕ) (bits : List ℕ) → others_count n h bits ≤ n
+unfolding others_count
+count_few zero h bits = omega arith
+count_few (suc n) h bits = elim (cases_Bool (is_right bits h)) [
+  | inl out ↦ rw out (omega (arith, count_few n (suc h) bits))
+  | inr stays ↦ rw stays (omega (arith, count_few n (suc h) bits))
+]
+
+pub short_few : (bytes : List ℕ) → short_form_len bytes ≤ 8224
+short_few bytes = omega (arith, count_few 256 0 (take 32 bytes))
+
+-- the hashes behind the bits
+pub others_in-form : (bits : List ℕ) (os : List (List ℕ)) → length bits ≡ 32 → All (λ p. length p ≡ 32) os → others_in (bits ++ concat os) ≡ os
+others_in-form bits os size hs =
+    let rest : drop 32 (bits ++ concat os) ≡ concat os = drop_at bits (concat os) 32 size in
+    let long : length (concat os) ≡ 32 * length os = length-concat os hs in
+    let count : length (concat os) / 32 ≡ length os = omega arith in
+    ap (λ (r : List ℕ). first_chunks 32 (length r / 32) r) rest ∙ ap (λ k. first_chunks 32 k (concat os)) count ∙ chunks-concat os hs
+
+pub byte_of_take : (bytes : List ℕ) → ((i : ℕ) → get_or bytes i 0 < 256) → (i : ℕ) → get_or (take 32 bytes) i 0 < 256
 byte_of_take bytes hb i = elim (cases_lt i 32) [
   | inl inside ↦ rw (get_or-take 32 bytes i 0 inside) (hb i)
   | inr past ↦ rw (get_or_past (take 32 bytes) i 0 (omega (arith, length-take 32 bytes))) (omega arith)
@@ -117,8 +137,41 @@ module _ (hash : List ℕ → List ℕ) where
     ]
   ]
 
-  pub one_form : (path : List (List ℕ)) (bytes other : List ℕ) → ((i : ℕ) → get_or bytes i 0 < 256) → ((i : ℕ) → get_or other i 0 < 256) → IsShortForm hash path bytes → IsShortForm hash path other → bytes ≡ other
-  one_form path bytes other hb ho f g =
-      let bits : take 32 bytes ≡ take 32 other = one_key (take 32 bytes) (take 32 other) (omega (arith, length-take 32 bytes, f.whole)) (omega (arith, length-take 32 other, g.whole)) (byte_of_take bytes hb) (byte_of_take other ho) (ap reverse (same_sides 256 (take 32 bytes) (take 32 other) (same_bit path bytes other f g))) in
+  pub one_form_of : (path : List (List ℕ)) (bytes other : List ℕ) → ((i : ℕ) → get_or (take 32 bytes) i 0 < 256) → ((i : ℕ) → get_or (take 32 other) i 0 < 256) → IsShortForm hash path bytes → IsShortForm hash path other → bytes ≡ other
+  one_form_of path bytes other hb ho f g =
+      let bits : take 32 bytes ≡ take 32 other = one_key (take 32 bytes) (take 32 other) (omega (arith, length-take 32 bytes, f.whole)) (omega (arith, length-take 32 other, g.whole)) hb ho (ap reverse (same_sides 256 (take 32 bytes) (take 32 other) (same_bit path bytes other f g))) in
       let rest : drop 32 bytes ≡ drop 32 other = f.others ∙ ap (λ b. concat (others_of 0 b path)) bits ∙ sym g.others in
       sym (take-append-drop 32 bytes) ∙ ap (λ b. b ++ drop 32 bytes) bits ∙ ap (λ r. take 32 other ++ r) rest ∙ take-append-drop 32 other
+
+  pub one_form : (path : List (List ℕ)) (bytes other : List ℕ) → ((i : ℕ) → get_or bytes i 0 < 256) → ((i : ℕ) → get_or other i 0 < 256) → IsShortForm hash path bytes → IsShortForm hash path other → bytes ≡ other
+  one_form path bytes other hb ho f g = one_form_of path bytes other (byte_of_take bytes hb) (byte_of_take other ho) f g
+
+  -- the parts of bytes that are a short form, and their path
+  pub short_parts : (bytes : List ℕ) → IsShort hash bytes → AreParts hash (take 32 bytes) (others_in bytes)
+  short_parts bytes short =
+      let size = short.size in
+      record {
+        size = omega (arith, length-take 32 bytes);
+        hashes = all_chunks (length (drop 32 bytes) / 32) (drop 32 bytes) (omega arith);
+        canonical = short.canonical;
+      }
+
+  pub short_form : (bytes : List ℕ) → IsShort hash bytes → IsShortForm hash (path_of hash bytes) bytes
+  short_form bytes short =
+      let size = short.size in
+      let long : length (drop 32 bytes) ≡ 32 * (length (drop 32 bytes) / 32) = omega (arith, length-drop 32 bytes) in
+      accept bytes (take 32 bytes) (drop 32 bytes) (others_in bytes) (length (drop 32 bytes) / 32) refl refl (omega arith) long refl short.canonical
+
+  pub form_short : ((m : List ℕ) → length (hash m) ≡ 32) → (bits : List ℕ) (os : List (List ℕ)) → AreParts hash bits os → IsShort hash (bits ++ concat os)
+  form_short long bits os are =
+      let front : take 32 (bits ++ concat os) ≡ bits = take_at bits (concat os) 32 are.size in
+      let back : others_in (bits ++ concat os) ≡ os = others_in-form bits os are.size are.hashes in
+      record {
+        size = form_len (full_path hash bits os) (bits ++ concat os) (all_full long bits os are) (form bits os are);
+        canonical = rw (front, back) are.canonical;
+      }
+
+  pub form_path : (bits : List ℕ) (os : List (List ℕ)) → AreParts hash bits os → path_of hash (bits ++ concat os) ≡ full_path hash bits os
+  form_path bits os are =
+      ap (λ b. full_path hash b (others_in (bits ++ concat os))) (take_at bits (concat os) 32 are.size)
+      ∙ ap (full_path hash bits) (others_in-form bits os are.size are.hashes)

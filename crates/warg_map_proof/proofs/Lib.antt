@@ -4,3 +4,5 @@ pub mod Ups
 pub mod Forms
 pub mod Steps
 pub mod Marks
+pub mod Canonical
+pub mod ShortFormOf

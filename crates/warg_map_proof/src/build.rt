@@ -1,12 +1,13 @@
 //! The parts of a path's short form.
 
-ghost use Rattle.std.specs.Prelude.{◌≡◌, ◌↔◌, ◌<◌, ℕ, [], IsTrue, IfOk, length, slice_index_or};
+ghost use Rattle.std.specs.Prelude.{◌≡◌, ◌↔◌, ◌<◌, ◌++◌, ℕ, [], IsTrue, OnOk, length, slice_index_or};
+ghost use Rattle.std.specs.List.{concat};
 ghost use Rattle.sha2.specs.Sha256.{sha256};
 ghost use Rattle.warg_sparse_map.specs.Maps.{empty_root};
 ghost use Rattle.warg_map_proof.specs.ShortForms.{is_left_out, others_of};
 
 use sha2::{Digest, Sha256};
-use std::alloc::{AllocError, Global};
+use std::alloc::AllocError;
 use warg_merkle::node_hash;
 use warg_sparse_map::is_right;
 
@@ -36,22 +37,22 @@ pub(crate) fn bits_of(path: &[[u8; 32]]) -> [u8; 32]
     bits
 }
 
-// The siblings that the bits do not leave out.
-pub(crate) fn others_of(
-    alloc: Global,
+// Appends the siblings that the bits do not leave out.
+pub(crate) fn push_others(
+    bytes: &mut Vec<u8>,
     left_out: &[u8; 32],
     path: &[[u8; 32]],
-) -> Result<Vec<[u8; 32]>, AllocError>
+) -> Result<(), AllocError>
     requires { length path.now ≡ 256 }
-    ensures { IfOk result (λ others. others.items ≡ others_of 0 left_out.now path.now) }
+    ensures { OnOk result (bytes.new.items ≡
+        bytes.old.items ++ concat (others_of 0 left_out.now path.now)) }
 {
-    let mut others = Vec::new(alloc);
     let mut height = 0;
     while height < 256 {
         if !is_right(left_out, height) {
-            others.push(path[height])?;
+            bytes.extend_from_slice(path[height].as_slice())?;
         }
         height += 1;
     }
-    Ok(others)
+    Ok(())
 }

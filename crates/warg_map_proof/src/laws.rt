@@ -3,9 +3,9 @@
 ghost use Rattle.std.specs.Prelude.{◌≡◌, ◌<◌, ℕ, List, length, slice_index};
 ghost use Rattle.std.specs.List.{All};
 ghost use Rattle.sha2.specs.Sha256.{sha256};
-ghost use Rattle.warg_map_proof.specs.ShortForms.{IsShortForm};
+ghost use Rattle.warg_map_proof.specs.ShortForms.{short_form_of, IsShortForm};
 
-/// Bytes are the short form of one path of hashes at most, and a path has one short form at most.
+/// A path of 256 hashes has one short form, and bytes are the short form of one path of hashes at most.
 pub fn short_forms()
     ensures one_path { (path : List (List ℕ)) (other : List (List ℕ)) (bytes : List ℕ) →
         All (λ p. length p ≡ 32) path → All (λ p. length p ≡ 32) other →
@@ -13,4 +13,5 @@ pub fn short_forms()
     ensures one_form { (path : List (List ℕ)) (bytes : List ℕ) (other : List ℕ) →
         ((i : ℕ) → slice_index bytes i < 256) → ((i : ℕ) → slice_index other i < 256) →
         IsShortForm sha256 path bytes → IsShortForm sha256 path other → bytes ≡ other }
+    ensures own { (path : List (List ℕ)) → length path ≡ 256 → IsShortForm sha256 path (short_form_of sha256 path) }
 {}

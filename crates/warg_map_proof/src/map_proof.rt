@@ -1,36 +1,40 @@
 //! The proof as a value.
 
-ghost use Rattle.std.specs.Prelude.{◌≡◌, ◌<◌, ◌↔◌, ℕ, List, length, IfOk};
+ghost use Rattle.std.specs.Prelude.{◌≡◌, ◌<◌, ◌≤◌, ◌↔◌, ◌⊎◌, ℕ, List, Ok, length, slice_index, IfOk, MatchResult};
 ghost use Rattle.std.specs.List.{All};
 ghost use Rattle.sha2.specs.Sha256.{sha256};
-ghost use Rattle.warg_map_proof.specs.ShortForms.{IsShortForm, short_form_len};
+ghost use Rattle.warg_map_proof.specs.ShortForms.{full_path, path_in, short_form_len, short_form_of, AreParts, IsShortForm};
 ghost use Rattle.warg_map_proof.specs.declared.error.MapProofError.TheVariants as fault;
 
-use crate::build::{bits_of, others_of};
+use crate::build::{bits_of, push_others};
 use crate::decode::{is_short, others_count};
 use crate::error::MapProofError;
 use std::alloc::{AllocError, Global};
 use std::marker::Model;
 
-/// A key's path in a sparse map: 256 siblings from the leaf up. The roots of empty subtrees take a bit each, and the
-/// others 32 bytes.
+/// A key's path in a sparse map: 256 siblings from the leaf up, kept in its short form. The roots of empty subtrees take a
+/// bit each, and the others 32 bytes.
 #[derive(Debug, Drop)]
 pub struct MapProof {
-    pub(crate) left_out: [u8; 32],
-    pub(crate) others: Vec<[u8; 32]>,
+    bytes: Vec<u8>,
 }
 
 impl Model for MapProof {
     ghost use Rattle.std.specs.Prelude.{List, ℕ};
     ghost use Rattle.sha2.specs.Sha256.{sha256};
-    ghost use Rattle.warg_map_proof.specs.ShortForms.{full_path, AreParts};
+    ghost use Rattle.warg_map_proof.specs.ShortForms.{path_of, IsShort};
 
     ghost Value = { List (List ℕ) };
 
-    ghost view = { λ p. full_path sha256 p.left_out p.others.items };
+    ghost view = { λ p. path_of sha256 p.bytes.items };
 
-    ghost invariant = { λ p. AreParts sha256 p.left_out p.others.items };
+    ghost invariant = { λ p. IsShort sha256 p.bytes.items };
 }
+
+// Each byte is below 256: what its type promises, as a fact.
+fn byte_range(bytes: &[u8])
+    ensures { (i : ℕ) → slice_index bytes.now i < 256 }
+{}
 
 impl MapProof {
     /// The proof that the bytes are the short form of. Their length is tested first, before anything is hashed or takes
@@ -43,6 +47,8 @@ impl MapProof {
         ensures out_of_memory { result ≡ Err fault.OutOfMemory →
             (path : List (List ℕ)) × IsShortForm sha256 path bytes.now }
         ensures ok { IfOk result (λ proof. IsShortForm sha256 proof bytes.now) }
+        ensures exact { MatchResult result (λ proof. path_in sha256 bytes.now ≡ Ok proof)
+            (λ e. (e ≡ fault.OutOfMemory) ⊎ (path_in sha256 bytes.now ≡ Err e)) }
     {
         let Some((left_out, rest)) = bytes.split_first_chunk::<32>() else {
             return Err(MapProofError::TooShort);
@@ -58,22 +64,32 @@ impl MapProof {
         if !is_short(left_out, others) {
             return Err(MapProofError::EmptySibling);
         }
-        let others = Vec::from_slice(alloc, others)?;
-        Ok(MapProof {
-            left_out: *left_out,
-            others,
-        })
+        let bytes = Vec::from_slice(alloc, bytes)?;
+        Ok(MapProof { bytes })
     }
 
-    /// The short form of the proof.
-    pub fn encode(&self, alloc: Global) -> Result<Vec<u8>, AllocError>
-        ensures { IfOk result (λ bytes. IsShortForm sha256 self.now bytes.items) }
+    /// The short form of the proof, of at most 8224 bytes.
+    pub fn as_bytes(&self) -> &[u8]
+        ensures value { result.now ≡ short_form_of sha256 self.now }
+        ensures form { IsShortForm sha256 self.now result.now }
+        ensures reads_back { path_in sha256 result.now ≡ Ok self.now }
+        ensures few { length result.now ≤ 8224 }
     {
-        let mut bytes = Vec::from_slice(alloc, self.left_out.as_slice())?;
-        for other in self.others.as_slice() {
-            bytes.extend_from_slice(other.as_slice())?;
-        }
-        Ok(bytes)
+        let bytes = self.bytes.as_slice();
+        byte_range(bytes);
+        bytes
+    }
+
+    // The bits, and the siblings that they do not leave out.
+    pub(crate) fn parts(&self) -> (&[u8; 32], &[[u8; 32]])
+        ensures path { full_path sha256 result.0.now result.1.now ≡ self.now }
+        ensures parts { AreParts sha256 result.0.now result.1.now }
+    {
+        let Some((left_out, rest)) = self.bytes.split_first_chunk::<32>() else {
+            unreachable!();
+        };
+        let (others, _) = rest.as_chunks::<32>();
+        (left_out, others)
     }
 
     /// The proof of 256 siblings from the leaf up.
@@ -82,7 +98,8 @@ impl MapProof {
         ensures { IfOk result (λ proof. proof ≡ path.now) }
     {
         let left_out = bits_of(path);
-        let others = others_of(alloc, &left_out, path)?;
-        Ok(MapProof { left_out, others })
+        let mut bytes = Vec::from_slice(alloc, left_out.as_slice())?;
+        push_others(&mut bytes, &left_out, path)?;
+        Ok(MapProof { bytes })
     }
 }

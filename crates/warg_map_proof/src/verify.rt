@@ -50,10 +50,10 @@ fn climb(from: [u8; 32], key: &[u8; 32], proof: &MapProof) -> [u8; 32]
     ensures end { climb sha256 (sides_up 256 key.now) proof.now from ≡ Some result }
     ensures hashes { All (λ p. length p ≡ 32) proof.now }
 {
-    let left_out = &proof.left_out;
+    let (left_out, others) = proof.parts();
     let mut hash = from;
     let mut empty = Sha256::digest(b"");
-    let mut rest = proof.others.as_slice();
+    let mut rest = others;
     let mut height = 0;
     let mut depth = 256;
     while depth > 0 {

@@ -77,3 +77,15 @@ fn a_leaf_that_looks_like_a_node_is_none(rt: HostRuntime) -> Result<(), Fail> {
     assert!(rt; !verify_inclusion(&node, 0, 1, &[], &root(2)?));
     Ok(())
 }
+
+#[test]
+fn the_empty_path_is_of_a_tree_of_one_entry(rt: HostRuntime) -> Result<(), Fail> {
+    let extremes = [0, 1, 1 << 63, u64::MAX];
+    for index in extremes {
+        for size in extremes {
+            let is_shown = verify_inclusion(ENTRIES[0], index, size, &[], &root(1)?);
+            assert_eq!(rt; is_shown, index == 0 && size == 1);
+        }
+    }
+    Ok(())
+}

@@ -42,7 +42,7 @@ fn pairs(alloc: Global, count: u8) -> Result<MapTree, AllocError> {
 
 // Whether the map's proof, read back from its short form, shows the value, and neither absence nor another value.
 fn has(alloc: Global, map: &MapTree, key: &[u8; 32], value: &[u8]) -> Result<bool, Fail> {
-    let proof = MapProof::decode(alloc, map.proof(key)?.encode(alloc)?.as_slice())?;
+    let proof = MapProof::decode(alloc, map.proof(key)?.as_bytes())?;
     let root = map.root();
     Ok(
         map.get(key) == Some(value)
@@ -54,7 +54,7 @@ fn has(alloc: Global, map: &MapTree, key: &[u8; 32], value: &[u8]) -> Result<boo
 
 // Whether the map's proof, read back from its short form, shows that nothing stands there, and no value.
 fn lacks(alloc: Global, map: &MapTree, key: &[u8; 32]) -> Result<bool, Fail> {
-    let proof = MapProof::decode(alloc, map.proof(key)?.encode(alloc)?.as_slice())?;
+    let proof = MapProof::decode(alloc, map.proof(key)?.as_bytes())?;
     let root = map.root();
     Ok(
         map.get(key).is_none()
@@ -115,8 +115,8 @@ fn roots_are_the_known_ones(rt: HostRuntime) -> Result<(), Fail> {
 
 // Whether that short form is what the map has for the key.
 fn is_proof(alloc: Global, map: &MapTree, key: &[u8; 32], digits: &str) -> Result<bool, Fail> {
-    let short = map.proof(key)?.encode(alloc)?;
-    Ok(short.as_slice() == hex::decode(alloc, digits)?.as_slice())
+    let proof = map.proof(key)?;
+    Ok(proof.as_bytes() == hex::decode(alloc, digits)?.as_slice())
 }
 
 #[test]
@@ -215,6 +215,31 @@ fn each_byte_of_a_proof_counts(rt: HostRuntime) -> Result<(), Fail> {
     for index in 0..64 {
         assert!(rt; is_noticed(alloc, of_a.as_slice(), index)?);
     }
+    Ok(())
+}
+
+// Whether the short form of two hashes, with these in place of its own, shows that nothing stands at "c".
+fn is_shown(alloc: Global, first: &[u8], second: &[u8]) -> Result<bool, Fail> {
+    let of_c = hex::decode(alloc, OF_C)?;
+    let (bits, _) = of_c.as_slice().split_first_chunk::<32>().ok_or("no bits")?;
+    let mut bytes = Vec::from_slice(alloc, bits.as_slice())?;
+    bytes.extend_from_slice(first)?;
+    bytes.extend_from_slice(second)?;
+    let proof = MapProof::decode(alloc, bytes.as_slice())?;
+    Ok(verify_absence(&Sha256::digest(b"c"), &proof, &hash(TWO_ROOT)?))
+}
+
+#[test]
+fn hashes_of_a_proof_stand_in_order(rt: HostRuntime) -> Result<(), Fail> {
+    let alloc = rt.alloc();
+    let of_c = hex::decode(alloc, OF_C)?;
+    let (_, hashes) = of_c.as_slice().split_first_chunk::<32>().ok_or("no bits")?;
+    let (first, second) = hashes.split_first_chunk::<32>().ok_or("no hash")?;
+    let first = first.as_slice();
+    assert!(rt; is_shown(alloc, first, second)?);
+    assert!(rt; !is_shown(alloc, second, first)?);
+    assert!(rt; !is_shown(alloc, first, first)?);
+    assert!(rt; !is_shown(alloc, second, second)?);
     Ok(())
 }
 

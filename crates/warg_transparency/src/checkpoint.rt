@@ -1,25 +1,32 @@
 //! The checkpoint of a log and a map.
 
-ghost use Rattle.std.specs.Prelude.{◌≡◌, length};
-ghost use Rattle.sha2.specs.Sha256.{sha256};
-ghost use Rattle.warg_merkle.specs.Trees.{tree_hash};
-ghost use Rattle.warg_merkle_log.specs.Logs.{ForLeaves};
-ghost use Rattle.warg_sparse_map.specs.Maps.{map_root};
-ghost use Rattle.warg_transparency.specs.MapTree.{leaves_of};
+ghost use Rattle.warg_transparency.specs.declared.log_tree.LogTree as log;
+ghost use Rattle.warg_transparency.specs.declared.map_tree.MapTree as map;
 
 use crate::log_tree::LogTree;
 use crate::map_tree::MapTree;
 use warg_registry::Checkpoint;
 
-/// What the log and the map stand at.
-pub fn checkpoint_of(log: &LogTree, map: &MapTree) -> Checkpoint
-    ensures log_root { ForLeaves sha256 log.now (λ entries. result.log_root.bytes ≡ tree_hash sha256 entries) }
-    ensures log_length { result.log_length ≡ length log.now }
-    ensures map_root { result.map_root.bytes ≡ map_root sha256 256 (leaves_of map.now) }
-{
-    Checkpoint {
-        log_root: log.root(),
-        log_length: log.len(),
-        map_root: map.root(),
+/// What can be taken from a log and a map, as `Checkpoint::of(&log, &map)`.
+pub trait OfTrees: Sized {
+    // Whether the value says what the log and the map stand at.
+    ghost is_of_trees: { log.LogTree → map.MapTree → Self → Type 0 };
+
+    /// What the log and the map stand at.
+    fn of(log: &LogTree, map: &MapTree) -> Self
+        ensures { is_of_trees log.now map.now result };
+}
+
+impl OfTrees for Checkpoint {
+    ghost use Rattle.warg_transparency.specs.Standings.{IsOfTrees};
+
+    ghost is_of_trees = { IsOfTrees };
+
+    fn of(log: &LogTree, map: &MapTree) -> Checkpoint {
+        Checkpoint {
+            log_root: log.root(),
+            log_length: log.len(),
+            map_root: map.root(),
+        }
     }
 }

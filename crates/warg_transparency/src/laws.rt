@@ -1,18 +1,22 @@
 //! Laws over all checkpoints. They have no effect.
 
-ghost use Rattle.std.specs.Prelude.{◌≡◌, ◌≢◌, ◌⊎◌, ◌≤◌, ◌^◌, ℕ, List, length, take, Some};
+ghost use Rattle.std.specs.Prelude.{◌≡◌, ◌≢◌, ◌⊎◌, ◌≤◌, ◌^◌, ℕ, List, Option, length, take, Some};
+ghost use Rattle.std.specs.List.{All};
 ghost use Rattle.sha2.specs.Sha256.{sha256};
 ghost use Rattle.warg_crypto.specs.declared.hash.AnyHash.{AnyHash};
 ghost use Rattle.warg_envelope.specs.EnvelopeData.{EnvelopeData};
 ghost use Rattle.warg_records.specs.declared.record_id.RecordId.{RecordId};
 ghost use Rattle.warg_registry.specs.declared.checkpoint.Checkpoint.{Checkpoint};
+ghost use Rattle.warg_registry.specs.PrefixEncodings.{log_leaf_encoding_of};
+ghost use Rattle.warg_registry.specs.declared.leaf.LogLeaf.{LogLeaf};
 ghost use Rattle.warg_registry.specs.declared.leaf.MapLeaf.{MapLeaf};
 ghost use Rattle.warg_registry.specs.declared.log_id.LogId.{LogId};
 ghost use Rattle.warg_validator.specs.Kinds.{SignatureRelation, IsAccepted};
 ghost use Rattle.warg_audited_log.specs.Heads as records;
 ghost use Rattle.warg_audited_log.specs.Log.{contents};
-ghost use Rattle.warg_merkle.specs.Trees.{HaveCollision, tree_hash};
-ghost use Rattle.warg_merkle.specs.Extensions.{consistency_proof};
+ghost use Rattle.warg_merkle.specs.Trees.{HaveCollision, Includes, IsOwn, Side, tree_hash};
+ghost use Rattle.warg_merkle.specs.Extensions.{consistency_proof, IsBeginning};
+ghost use Rattle.warg_sparse_map.specs.Maps as maps;
 ghost use Rattle.warg_transparency.specs.Heads.{head_leaf, ShowsHead, ShowsLeaf, tried_for};
 ghost use Rattle.warg_transparency.specs.Views.{GoesOn, IsLogOf};
 
@@ -20,6 +24,25 @@ use warg_audited_log::laws::equal_heads;
 use warg_merkle::consistency_paths;
 use warg_registry::laws::no_encoding_begins_another;
 use warg_validator::Validator;
+
+/// What an accepted proof of hashes of 32 bytes says of every log of the length and root, and of every map of the root: what
+/// it shows is so, and it is the log's or the map's own proof, or what is hashed for the two collides.
+pub fn accepted_proofs()
+    ensures inclusion { (leaf : LogLeaf) (index size : ℕ) (proof : List (List ℕ)) (root : AnyHash) →
+        size ≤ 2 ^ 64 → All (λ hash. length hash ≡ 32) proof →
+        Includes sha256 (log_leaf_encoding_of leaf) index size proof root.bytes → (entries : List (List ℕ)) →
+        length entries ≡ size → tree_hash sha256 entries ≡ root.bytes →
+        IsOwn sha256 entries (log_leaf_encoding_of leaf) index proof }
+    ensures consistency { (old new : Checkpoint) (proof : List (List ℕ)) → new.log_length ≤ 2 ^ 64 →
+        length old.log_root.bytes ≡ 32 → All (λ hash. length hash ≡ 32) proof → GoesOn old new proof →
+        (entries : List (List ℕ)) → IsLogOf new entries →
+        IsBeginning sha256 entries old.log_length proof old.log_root.bytes }
+    // Of a leaf's encoding, or of nothing.
+    ensures map { (log_id : LogId) (value : Option (List ℕ)) (proof : List (List ℕ)) (root : AnyHash) →
+        All (λ hash. length hash ≡ 32) proof → maps.Leads sha256 value log_id.hash.bytes proof root.bytes →
+        (m : List Side → Option (List ℕ)) → maps.map_root sha256 256 m ≡ root.bytes →
+        maps.IsOwn sha256 m value log_id.hash.bytes proof }
+{}
 
 /// Two leaves that are shown for one log under one root are one, or what is hashed for their proofs collides.
 pub fn one_leaf()

@@ -12,9 +12,9 @@ ghost use Rattle.warg_transparency.specs.MapLeaves.{IsLeafEncoding};
 
 use crate::decode::leaf_read;
 use crate::encode::{key_of, map_leaf_bytes};
+use crate::map_proof::MapProof;
 use std::alloc::{AllocError, Global};
 use warg_crypto::hash::{AnyHash, HashAlgorithm};
-use warg_map_proof::MapProof;
 use warg_registry::{LogId, MapLeaf};
 
 /// The map of a registry: the leaf of each log, its root after each change, and proofs. An insertion costs 257 hashes and
@@ -95,6 +95,6 @@ impl MapTree {
             log_id.now.hash.bytes proof (map_root sha256 256 (leaves_of self.now))) }
     {
         let key = key_of(log_id);
-        self.tree.proof(&key)
+        Ok(MapProof::of_short(self.tree.proof(&key)?))
     }
 }

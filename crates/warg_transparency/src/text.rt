@@ -1,6 +1,6 @@
 //! Base64.
 
-ghost use Rattle.std.specs.Prelude.{◌≡◌, ◌≢◌, List, ℕ, Ok, IfOk};
+ghost use Rattle.std.specs.Prelude.{◌≡◌, ◌≢◌, ◌⊎◌, List, ℕ, Ok, IfErr, IfOk};
 ghost use Rattle.std.specs.Fmt.{WritesOnOk, WritesStyledOnOk};
 ghost use Rattle.base64.specs.Engines.{standard};
 ghost use Rattle.base64.specs.GeneralPurpose.{decode_of, encode_of};
@@ -15,6 +15,8 @@ use std::{fmt, str};
 // The bytes whose base64 the text is.
 pub(crate) fn decode_base64(alloc: Global, text: &str) -> Result<Vec<u8>, ProofTextError>
     ensures ok { IfOk result (λ bytes. decode_of standard text.now ≡ Ok bytes.items) }
+    ensures err { IfErr result (λ e. (e ≡ fault.OutOfMemory)
+        ⊎ ((e ≡ fault.BadBase64) × ((bytes : List ℕ) → decode_of standard text.now ≢ Ok bytes))) }
     ensures bad_base64 { result ≡ Err fault.BadBase64 → (bytes : List ℕ) → decode_of standard text.now ≢ Ok bytes }
     ensures too_long { result ≢ Err fault.TooLong }
     ensures bad_length { result ≢ Err fault.BadLength }
@@ -27,7 +29,7 @@ pub(crate) fn decode_base64(alloc: Global, text: &str) -> Result<Vec<u8>, ProofT
     }
 }
 
-// Writes the bytes in base64, under every formatting option.
+// Writes the bytes in base64, under every formatting option; of `Base64Display` no clause says what options do.
 pub(crate) fn write_base64<W: fmt::Write>(bytes: &[u8], f: &mut fmt::Formatter<W>) -> fmt::Result
     ensures writes { WritesOnOk W.write_str_gives f.old result (encode_of standard bytes.now) f.new }
     ensures styled { WritesStyledOnOk W.write_str_gives f.old result (encode_of standard bytes.now) f.new }

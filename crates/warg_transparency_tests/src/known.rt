@@ -6,7 +6,7 @@ use std::test::Fail;
 use warg_crypto::hash::{AnyHash, HashAlgorithm};
 use warg_records::RecordId;
 use warg_registry::{Checkpoint, LogId, LogLeaf, MapLeaf};
-use warg_transparency::{LogTree, MapTree, checkpoint_of};
+use warg_transparency::{LogTree, MapTree, OfTrees};
 
 /// The proof of the leaf at 5 of a log of 8.
 pub const INCLUSION: &str =
@@ -71,7 +71,7 @@ pub fn head(number: u8) -> MapLeaf {
 
 /// The checkpoint of the first leaves, and of the map of two logs.
 pub fn checkpoint(alloc: Global, count: u8) -> Result<Checkpoint, AllocError> {
-    Ok(checkpoint_of(&log_of(alloc, count)?, &map_of(alloc, 2)?))
+    Ok(Checkpoint::of(&log_of(alloc, count)?, &map_of(alloc, 2)?))
 }
 
 /// The hash of the text.

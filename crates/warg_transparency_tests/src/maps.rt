@@ -2,9 +2,7 @@
 
 use crate::known::{ABSENCE, PRESENCE, checkpoint, hash, head, log_id, map_of, record_id};
 use std::test::Fail;
-use warg_transparency::{
-    map_proof_text, parse_map_proof, verify_absence, verify_head, verify_presence,
-};
+use warg_transparency::{MapProof, verify_absence, verify_head, verify_presence};
 
 #[test]
 fn roots_are_the_known_ones(rt: HostRuntime) -> Result<(), Fail> {
@@ -68,14 +66,14 @@ fn heads_are_shown_where_they_stand_alone(rt: HostRuntime) -> Result<(), Fail> {
 fn proofs_are_the_known_ones(rt: HostRuntime) -> Result<(), Fail> {
     let map = map_of(rt.alloc(), 2)?;
     let root = map.root();
-    let presence = map_proof_text(rt.alloc(), &map.proof(&log_id(0))?)?;
+    let presence = map.proof(&log_id(0))?.to_text(rt.alloc())?;
     assert_eq!(rt; presence.as_str(), PRESENCE);
-    let absence = map_proof_text(rt.alloc(), &map.proof(&log_id(2))?)?;
-    assert_eq!(rt; absence.as_str(), ABSENCE);
-    let proof = parse_map_proof(rt.alloc(), PRESENCE)?;
+    let absence = map.proof(&log_id(2))?;
+    assert_eq!(rt; format!(in rt.alloc(); "{absence}")?.as_str(), ABSENCE);
+    let proof = MapProof::parse(rt.alloc(), PRESENCE)?;
     assert!(rt; verify_presence(&log_id(0), &head(0), &proof, &root));
     assert!(rt; !verify_presence(&log_id(0), &head(1), &proof, &root));
-    let proof = parse_map_proof(rt.alloc(), ABSENCE)?;
+    let proof = MapProof::parse(rt.alloc(), ABSENCE)?;
     assert!(rt; verify_absence(&log_id(2), &proof, &root));
     assert!(rt; !verify_absence(&log_id(1), &proof, &root));
     Ok(())

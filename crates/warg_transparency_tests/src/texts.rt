@@ -3,7 +3,7 @@
 use crate::known::{CONSISTENCY, PRESENCE};
 use std::alloc::{AllocError, Global};
 use std::test::Fail;
-use warg_transparency::{LogProof, ProofTextError, parse_map_proof};
+use warg_transparency::{LogProof, MapProof, ProofTextError};
 
 // The text of that many groups of zeros.
 fn zeros(alloc: Global, groups: usize) -> Result<String, AllocError> {
@@ -21,7 +21,7 @@ fn log_fault(alloc: Global, text: &str) -> Option<ProofTextError> {
 
 // The fault of the text of a proof on a map.
 fn map_fault(alloc: Global, text: &str) -> Option<ProofTextError> {
-    parse_map_proof(alloc, text).err()
+    MapProof::parse(alloc, text).err()
 }
 
 #[test]

@@ -11,21 +11,21 @@ use Rattle.warg_map_proof.proofs.verify.climb.Goals as goal
 
 pub loop-depth-init : goal.loop-depth-init
 loop-depth-init c =
-    let bits = c.proof.inside.left_out in
+    let bits = c.parts.result.0.now in
     let key = c.args.key.now in
     record {
       levels = refl;
       empty = c.digest-empty.ensures ∙ empty_leaf sha256;
-      canonical = rw c.as_slice-rest.ensures.value c.proof.invariant.canonical;
-      climbs = ap (λ os. end_of sha256 256 0 key bits os c.args.from) c.as_slice-rest.ensures.value ∙ whole sha256 key bits c.proof.inside.others.items c.args.from ∙ ap (λ path. climb sha256 (sides_up 256 key) path c.args.from) c.proof.view_is;
+      canonical = c.parts.ensures.parts.canonical;
+      climbs = whole sha256 key bits c.parts.result.1.now c.args.from ∙ ap (λ path. climb sha256 (sides_up 256 key) path c.args.from) c.parts.ensures.path;
     }
 
 pub next_sibling-requires-clause-some : goal.next_sibling-requires-clause-some
-next_sibling-requires-clause-some c = λ stays. some_left sha256 c.loop-depth.depth (c.loop-depth.depth - 1) c.loop-depth.height c.proof.inside.left_out c.loop-depth.rest.now (omega arith) c.loop-depth.invariant.canonical stays
+next_sibling-requires-clause-some c = λ stays. some_left sha256 c.loop-depth.depth (c.loop-depth.depth - 1) c.loop-depth.height c.parts.result.0.now c.loop-depth.rest.now (omega arith) c.loop-depth.invariant.canonical stays
 
 pub loop-depth-preserved : goal.loop-depth-preserved
 loop-depth-preserved c =
-    let bits = c.proof.inside.left_out in
+    let bits = c.parts.result.0.now in
     let key = c.args.key.now in
     let n = c.loop-depth.depth in
     let h = c.loop-depth.height in
@@ -47,8 +47,8 @@ loop-depth-preserved c =
     }
 
 pub returns-clause-end : goal.returns-clause-end
-returns-clause-end c = sym c.loop-depth.invariant.climbs ∙ at_top sha256 c.loop-depth.depth c.loop-depth.height c.args.key.now c.proof.inside.left_out c.loop-depth.rest.now c.loop-depth.hash (omega arith)
+returns-clause-end c = sym c.loop-depth.invariant.climbs ∙ at_top sha256 c.loop-depth.depth c.loop-depth.height c.args.key.now c.parts.result.0.now c.loop-depth.rest.now c.loop-depth.hash (omega arith)
 
 pub returns-clause-hashes : goal.returns-clause-hashes
 returns-clause-hashes c =
-    rw (sym c.proof.view_is) (all_full sha256 length-sha256 c.proof.inside.left_out c.proof.inside.others.items c.proof.invariant)
+    rw (sym c.parts.ensures.path) (all_full sha256 length-sha256 c.parts.result.0.now c.parts.result.1.now c.parts.ensures.parts)

@@ -8,7 +8,7 @@ flat : (hashes : List (List ℕ)) (bytes : List ℕ) → length bytes % 32 ≡ 0
 flat hashes bytes whole is = ap concat (sym is) ∙ concat-chunks (length bytes / 32) bytes (omega arith)
 
 pub returns-clause-writes : goal.returns-clause-writes
-returns-clause-writes g c = rw (flat c.args.self.now c.self.inside.bytes.items c.self.invariant c.self.view_is ∙ sym c.as_slice.ensures.value) c.write_base64.ensures.writes
+returns-clause-writes g c = rw (flat c.args.self.now c.self.inside.bytes.items c.self.invariant.0 c.self.view_is ∙ sym c.as_slice.ensures.value) c.write_base64.ensures.writes
 
 pub returns-clause-styled : goal.returns-clause-styled
-returns-clause-styled g c = rw (flat c.args.self.now c.self.inside.bytes.items c.self.invariant c.self.view_is ∙ sym c.as_slice.ensures.value) c.write_base64.ensures.styled
+returns-clause-styled g c = rw (flat c.args.self.now c.self.inside.bytes.items c.self.invariant.0 c.self.view_is ∙ sym c.as_slice.ensures.value) c.write_base64.ensures.styled
