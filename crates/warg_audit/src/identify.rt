@@ -47,7 +47,7 @@ fn envelope_reply(alloc: Global, log_type: LogType, bytes: &[u8]) -> Result<Repl
 }
 
 /// The answer to the text of one line.
-pub(crate) fn id_reply(alloc: Global, log_type: LogType, text: &[u8]) -> Result<Reply, AllocError>
+pub fn id_reply(alloc: Global, log_type: LogType, text: &[u8]) -> Result<Reply, AllocError>
     ensures { IfOk result (λ reply. IsIdAnswer log_type (lines_of text.now) (printed_of reply)) }
 {
     if text.is_empty() {

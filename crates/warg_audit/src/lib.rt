@@ -17,10 +17,13 @@ mod reply;
 mod report;
 
 pub use command::{Command, LogType, parse_command};
+pub use identify::id_reply;
 pub use information::{Information, parse_information};
 pub use input::Input;
+pub use lines::{LineError, cut_line, decode_line, without_return};
+pub use log::{accepted_reply, judge, log_reply, refusal_reply};
 pub use output::Output;
 pub use program::{OUT_OF_MEMORY, USAGE, audit, make_reply};
-pub use reading::MAX_INPUT;
-pub use reply::Reply;
+pub use reading::{InputError, MAX_INPUT, read_all};
+pub use reply::{Reply, bad_line_reply, refused_reply};
 pub use report::Report;

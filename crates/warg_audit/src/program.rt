@@ -19,6 +19,7 @@ use crate::reading::{InputError, read_all};
 use crate::reply::Reply;
 use std::alloc::{AllocError, Global};
 use std::io::{Read, Write};
+use warg_protocol::toy::ToyVerifier;
 use warg_protocol::{operator, package};
 
 /// What is printed for words that ask for nothing.
@@ -32,8 +33,12 @@ fn log_type_reply(alloc: Global, log_type: LogType, text: Vec<u8>) -> Result<Rep
     ensures { IfOk result (λ reply. IsLogTypeAnswer log_type (lines_of text.items) (printed_of reply)) }
 {
     match log_type {
-        LogType::Package => log_reply::<package::LogState>(alloc, text),
-        LogType::Operator => log_reply::<operator::LogState>(alloc, text),
+        LogType::Package => log_reply::<package::LogState, ToyVerifier>(alloc, &ToyVerifier, text),
+        LogType::Operator => log_reply::<operator::LogState, ToyVerifier>(
+            alloc,
+            &ToyVerifier,
+            text,
+        ),
     }
 }
 

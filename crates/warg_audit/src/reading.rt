@@ -16,14 +16,17 @@ const CHUNK: usize = 16_384;
 
 /// Why there is no input.
 #[derive(Clone, Copy, Debug, PartialEq, Eq)]
-pub(crate) enum InputError {
+pub enum InputError {
+    /// A read failed.
     Fault,
+    /// There are more bytes than the limit.
     TooLong,
+    /// Memory was refused.
     OutOfMemory,
 }
 
 /// All bytes of the input, up to the limit.
-pub(crate) fn read_all<R: Read>(alloc: Global, input: &mut Input<R>) -> Result<Vec<u8>, InputError>
+pub fn read_all<R: Read>(alloc: Global, input: &mut Input<R>) -> Result<Vec<u8>, InputError>
     ensures reading { ReadsToEnd R.remaining input.old input.new }
     ensures ok { IfOk result (λ v. IfSome (left R.remaining input.old) (λ bytes. bytes ≡ v.items)) }
     ensures short { IfOk result (λ v. length v.items ≤ 16_777_216) }

@@ -22,7 +22,8 @@ impl Reply {
     ghost use Rattle.warg_audit.specs.Replies.{printed_of, text_of};
     ghost use Rattle.std.specs.Prelude.{string_bytes};
 
-    pub(crate) fn owned(text: String, status: u8) -> Reply
+    /// A reply with a text in memory of its own.
+    pub fn owned(text: String, status: u8) -> Reply
         ensures { printed_of result ≡ record { text = string_bytes text; status = status } }
     {
         Reply {
@@ -32,7 +33,7 @@ impl Reply {
     }
 
     /// A reply that takes no memory.
-    pub(crate) fn fixed(text: &'static str, status: u8) -> Reply
+    pub fn fixed(text: &'static str, status: u8) -> Reply
         ensures { printed_of result ≡ record { text = text.entry.now; status = status } }
     {
         Reply {
@@ -64,14 +65,14 @@ ghost use Rattle.warg_audit.specs.Printed.{bad_line, refused};
 ghost use Rattle.warg_audit.specs.Replies.{printed_of};
 
 /// The reply to a line that spells no bytes, or to one too few or too many.
-pub(crate) fn bad_line_reply(alloc: Global, index: usize) -> Result<Reply, AllocError>
+pub fn bad_line_reply(alloc: Global, index: usize) -> Result<Reply, AllocError>
     ensures { IfOk result (λ reply. printed_of reply ≡ bad_line index) }
 {
     Ok(Reply::owned(format!(in alloc; "bad line {index}\n")?, 2))
 }
 
 /// The reply to a refused string.
-pub(crate) fn refused_reply(alloc: Global, index: usize, name: &str) -> Result<Reply, AllocError>
+pub fn refused_reply(alloc: Global, index: usize, name: &str) -> Result<Reply, AllocError>
     ensures { IfOk result (λ reply. printed_of reply ≡ refused index name.now) }
 {
     let text = format!(in alloc; "refused {index} {name}\n")?;

@@ -1,7 +1,7 @@
 use Rattle.std.proofs.lemmas.Result.{IfOk-weaker}
 use Rattle.warg_audit.specs.Lines.{lines_of}
 use Rattle.warg_audit.specs.Replies.{printed_of}
-use Rattle.warg_audit.proofs.LogLemmas.{lawful_answers, spelled_answers, bad_answers}
+use Rattle.warg_audit.proofs.LogLemmas.{lawful_answers, refused_answers, spelled_answers, bad_answers}
 use Rattle.warg_audit.proofs.log.log_reply.Goals as goal
 
 pub returns-in-Ok-Ok : goal.returns-in-Ok-Ok
@@ -21,7 +21,8 @@ returns-in-Ok-Err g c =
     IfOk-weaker c.refusal_reply.result _ _
     (λ reply is fault_name offence_name shown reports.
     spelled_answers _ _ (lines_of c.args.text.items) (printed_of reply) judged.0 judged.1.0
-    (is fault_name offence_name shown reports judged.0 judged.1.1))
+    (refused_answers _ _ judged.0 (printed_of reply)
+    (is (g.V.Verifier.belongs c.args.verifier.now) fault_name offence_name shown reports judged.0 judged.1.1)))
     c.refusal_reply.ensures
 
 pub returns-in-Err-Bad : goal.returns-in-Err-Bad

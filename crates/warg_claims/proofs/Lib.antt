@@ -1,0 +1,3 @@
+pub mod ClaimLaws
+pub mod HeldClaims
+pub mod Places

@@ -1,0 +1,5 @@
+pub mod BackLemmas
+pub mod CutLemmas
+pub mod HexLemmas
+pub mod SameLemmas
+pub mod TextLemmas

@@ -1,0 +1,37 @@
+-- Lines of claims, as they are read.
+use Rattle.std.specs.Prelude.{ℕ, ◌==◌, Bool, if◌then◌else◌, List, length, Result, Ok, Err}
+use Rattle.std.specs.List.{before_first, after_first, position_or_len}
+use Rattle.hex.specs.Hex.{decode_of}
+use Rattle.hex.specs.declared.error.FromHexError.{FromHexError}
+use Rattle.warg_crypto.specs.Keys.{public_key_of, signature_of}
+use Rattle.warg_crypto.specs.NamedBytes.{NamedBytes}
+use Rattle.warg_crypto.specs.declared.signing.error.KeyParseError.{KeyParseError}
+use Rattle.warg_crypto.specs.declared.signing.error.SignatureParseError.{SignatureParseError}
+use Rattle.warg_verified.specs.Claims.{ClaimData}
+use Rattle.warg_verified.specs.Faults.{key_fault, message_fault, signature_fault}
+use Rattle.warg_verified.specs.declared.error.ClaimParseError.{ClaimParseError}
+use Rattle.warg_verified.specs.declared.error.ClaimParseError.TheVariants as fault
+
+-- whether the byte is a space
+abbrev pub is_space : ℕ → Bool
+is_space b = b == 32
+
+-- whether no space stands in the text
+abbrev pub has_no_space : List ℕ → Bool
+has_no_space text = position_or_len is_space text == length text
+
+-- what the three parts of a line say, or the fault of the first that says nothing
+abbrev pub claim_of_parts : Result NamedBytes KeyParseError → Result (List ℕ) FromHexError → Result NamedBytes SignatureParseError
+    → Result ClaimData ClaimParseError
+claim_of_parts (Err e) message signature = Err (key_fault e)
+claim_of_parts (Ok key) (Err e) signature = Err (message_fault e)
+claim_of_parts (Ok key) (Ok message) (Err e) = Err (signature_fault e)
+claim_of_parts (Ok key) (Ok message) (Ok signature) = Ok (record { key = key; message = message; signature = signature })
+
+-- what a line says, or its first fault: the line is cut at its first two spaces
+abbrev pub claim_of : List ℕ → Result ClaimData ClaimParseError
+claim_of line =
+    let rest = after_first is_space line in
+    if has_no_space line then Err fault.MissingPart
+    else if has_no_space rest then Err fault.MissingPart
+    else claim_of_parts (public_key_of (before_first is_space line)) (decode_of (before_first is_space rest)) (signature_of (after_first is_space rest))

@@ -1,0 +1,13 @@
+//! Signatures that a host has verified: claims, their lines, and the verifier that takes what is among them.
+#![tactic(auto)]
+
+mod claim;
+mod error;
+pub mod laws;
+mod parts;
+mod shown;
+mod verified;
+
+pub use claim::Claim;
+pub use error::{ClaimParseError, VerifiedParseError};
+pub use verified::Verified;
