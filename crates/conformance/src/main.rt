@@ -2,6 +2,7 @@
 #![tactic(auto)]
 
 mod play;
+mod program;
 mod tally;
 
 use std::env;

@@ -1,4 +1,5 @@
 //! Plays the rows of one file.
+use crate::program::play_program;
 use conformance_rows::{Answer, Block, Fail, Report, Row, blocks};
 use std::alloc::Global;
 
@@ -23,11 +24,26 @@ fn play_block(alloc: Global, block: &Block, report: &mut Report) -> Result<(), F
 fn play_script(alloc: Global, head: &str, block: &Block, report: &mut Report) -> Result<(), Fail> {
     let (topic, words) = head.split_once(' ').unwrap_or((head, ""));
     let number = block.head.number;
-    match conformance_logs::play(alloc, topic, words, block, report) {
+    match play_topic(alloc, topic, words, block, report) {
         Ok(true) => Ok(()),
         Ok(false) => report.refuse(alloc, number, head, "an unknown topic"),
         Err(fail) => report.refuse(alloc, number, head, fail.as_str()),
     }
+}
+
+// Whether a library has the topic, and plays the script then.
+fn play_topic(
+    alloc: Global,
+    topic: &str,
+    words: &str,
+    script: &Block,
+    report: &mut Report,
+) -> Result<bool, Fail> {
+    if topic != "audit" {
+        return conformance_logs::play(alloc, topic, words, script, report);
+    }
+    play_program(alloc, words, script, report)?;
+    Ok(true)
 }
 
 fn play_row(alloc: Global, block: &Block, report: &mut Report) -> Result<(), Fail> {

@@ -1,28 +1,19 @@
 //! The topics of the conformance suite that speak of whole logs: scripts of logs of both kinds, strings that are read as a
-//! whole, saved states, the texts of refusals, and what the program `warg_audit` answers.
+//! whole, saved states, and the texts of refusals.
 #![tactic(auto)]
 
-pub mod answers;
-mod cause;
-mod check;
-pub mod draft;
 mod effect;
-mod operator;
-mod package;
-pub mod people;
 mod player;
-mod program;
 mod questions;
 mod runs;
 mod saved;
-pub mod script;
 mod steps;
 mod texts;
+mod written;
 
-pub use cause::cause_words;
 use conformance_rows::{Answer, Block, Fail, Report};
+use conformance_scripts::{Scripted, words_of};
 use player::play_log;
-use program::play_program;
 use runs::play_run;
 use std::alloc::Global;
 use warg_protocol::{operator as operator_log, package as package_log};
@@ -54,13 +45,23 @@ pub fn play(
     script: &Block,
     report: &mut Report,
 ) -> Result<bool, Fail> {
-    let (kind, _) = words.split_once(' ').unwrap_or((words, ""));
-    match (topic, kind) {
-        ("log", "package") => play_log::<package_log::LogState>(alloc, script, report)?,
-        ("log", "operator") => play_log::<operator_log::LogState>(alloc, script, report)?,
-        ("run", "package") => play_run::<package_log::LogState>(alloc, script, report)?,
-        ("run", "operator") => play_run::<operator_log::LogState>(alloc, script, report)?,
-        ("audit", _) => play_program(alloc, words, script, report)?,
+    let (kind, _, _) = words_of(words);
+    match kind {
+        "package" => play_kind::<package_log::LogState>(alloc, topic, script, report),
+        "operator" => play_kind::<operator_log::LogState>(alloc, topic, script, report),
+        _ => Ok(false),
+    }
+}
+
+fn play_kind<L: Scripted>(
+    alloc: Global,
+    topic: &str,
+    script: &Block,
+    report: &mut Report,
+) -> Result<bool, Fail> {
+    match topic {
+        "log" => play_log::<L>(alloc, script, report)?,
+        "run" => play_run::<L>(alloc, script, report)?,
         _ => return Ok(false),
     }
     Ok(true)

@@ -7,12 +7,10 @@
 //! - `state JSON`: the log goes on from this saved state.
 //! - `resume`: the state is saved and read back, and the log goes on from what was read.
 //! - `aside`: the log is put aside, and a new one begins, which is compared with it.
-use crate::cause::cause_words;
-use crate::check::check;
 use crate::questions::ask;
-use crate::script::{Scripted, next_string};
-use crate::steps::{Step, advance};
+use crate::steps::{advance, check_state};
 use conformance_rows::{Block, Fail, Line, Report, Row};
+use conformance_scripts::{Scripted, check, next_string};
 use std::alloc::Global;
 use std::mem;
 use warg_protocol::toy::ToyVerifier;
@@ -52,15 +50,11 @@ impl<L: Scripted> Log<L> {
         })
     }
 
-    // Whether its strings lead to its state again.
-    fn is_right(&self, alloc: Global) -> Result<bool, Fail> {
-        let again = run_from(
-            alloc,
-            self.base.try_clone()?,
-            &ToyVerifier,
-            self.strings.as_slice(),
-        );
-        Ok(again.is_ok_and(|state| state == self.state))
+    // Its strings have to lead to its state again.
+    fn run_again(&self, alloc: Global) -> Result<(), Fail> {
+        let base = self.base.try_clone()?;
+        let again = run_from(alloc, base, &ToyVerifier, self.strings.as_slice());
+        check_state(again, &self.state)
     }
 
     // Saves the state, and goes on from what is read back.
@@ -104,10 +98,7 @@ pub fn play_log<L: Scripted>(
         player.play_line(alloc, line, report)?;
     }
     player.tell_refusal(alloc, report)?;
-    check(
-        player.log.is_right(alloc)?,
-        "`run_from` makes another state",
-    )
+    player.log.run_again(alloc)
 }
 
 impl<L: Scripted> Player<L> {
@@ -153,7 +144,7 @@ impl<L: Scripted> Player<L> {
 
     fn put_aside(&mut self, alloc: Global) -> Result<(), Fail> {
         let new = Log::new(alloc)?;
-        check(self.log.is_right(alloc)?, "`run_from` makes another state")?;
+        self.log.run_again(alloc)?;
         self.aside = Some(mem::replace(&mut self.log, new));
         Ok(())
     }
@@ -164,17 +155,14 @@ impl<L: Scripted> Player<L> {
     }
 
     fn append(&mut self, alloc: Global, line: &Line, string: Vec<u8>) -> Result<(), Fail> {
-        match advance(alloc, &mut self.log, string)? {
-            Step::Taken => Ok(()),
-            Step::Refused(cause) => {
-                self.refusal = Some(Refusal {
-                    line: line.number,
-                    text: line.text.clone()?,
-                    words: cause_words::<L>(alloc, &cause)?,
-                });
-                Ok(())
-            }
+        if let Some(words) = advance(alloc, &mut self.log, string)? {
+            self.refusal = Some(Refusal {
+                line: line.number,
+                text: line.text.clone()?,
+                words,
+            });
         }
+        Ok(())
     }
 
     // The line that was refused last was refused for this cause.

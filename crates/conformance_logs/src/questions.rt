@@ -1,12 +1,9 @@
 //! What is asked of a log on the way.
-use crate::answers::none;
-use crate::check::check;
 use crate::effect::effect_of;
-use crate::people::id;
 use crate::player::Log;
-use crate::saved::{permissions_written, value_written, written};
-use crate::script::{Scripted, words_of};
+use crate::written::{permissions_written, value_written, written};
 use conformance_rows::{Answer, Fail};
+use conformance_scripts::{Scripted, check, id, none, words_of};
 use std::alloc::Global;
 use warg_protocol::toy::ToyVerifier;
 use warg_protocol::{AuditedLog, Comparison, HeadComparison};

@@ -1,22 +1,34 @@
 //! One string more at a log, which is taken or refused the same on every way: by `validate`, by `run_from`, and by the log
 //! that is kept.
-use crate::cause::cause_words;
-use crate::check::check;
 use crate::player::Log;
-use crate::script::Scripted;
 use conformance_rows::Fail;
+use conformance_scripts::{Scripted, cause_words, check};
 use std::alloc::Global;
 use std::slice;
 use warg_protocol::toy::ToyVerifier;
-use warg_protocol::{ProtoEnvelope, RunCause, run_from};
+use warg_protocol::{ProtoEnvelope, RunCause, RunError, run_from};
 
-/// What became of a string.
-#[derive(Drop)]
-pub enum Step<L: Scripted> {
-    /// It stands in the log.
-    Taken,
-    /// The log is as before.
-    Refused(RunCause<L::Error>),
+/// Appends the string, or leaves the log as it is and gives the cause in words.
+pub fn advance<L: Scripted>(
+    alloc: Global,
+    log: &mut Log<L>,
+    string: Vec<u8>,
+) -> Result<Option<String>, Fail> {
+    match judged(alloc, log.state.try_clone()?, string.as_slice()) {
+        Ok(state) => {
+            makes(alloc, log, &string, &state)?;
+            keep(log, &string, &state)?;
+            log.strings.push(string)?;
+            log.state = state;
+            Ok(None)
+        }
+        Err(cause) => {
+            let words = cause_words::<L>(alloc, &cause)?;
+            refuses(alloc, log, &string, words.as_str())?;
+            keep_out(alloc, log, &string, words.as_str())?;
+            Ok(Some(words))
+        }
+    }
 }
 
 // The state or the cause, where a string comes next.
@@ -25,60 +37,53 @@ fn judged<L: Scripted>(alloc: Global, state: L, string: &[u8]) -> Result<L, RunC
         Ok(envelope) => envelope,
         Err(error) => return Err(RunCause::Parse(error)),
     };
-    state
-        .validate(&envelope, &ToyVerifier)
-        .map_err(RunCause::Validation)
-}
-
-/// Appends the string, or leaves the log as it is.
-pub fn advance<L: Scripted>(
-    alloc: Global,
-    log: &mut Log<L>,
-    string: Vec<u8>,
-) -> Result<Step<L>, Fail> {
-    let before = log.state.try_clone()?;
-    match judged(alloc, log.state.try_clone()?, string.as_slice()) {
-        Ok(state) => {
-            check(
-                makes(alloc, before, &string, &state),
-                "`run_from` makes another state",
-            )?;
-            keep(log, &string, &state)?;
-            log.strings.push(string)?;
-            log.state = state;
-            Ok(Step::Taken)
-        }
-        Err(cause) => {
-            let words = cause_words::<L>(alloc, &cause)?;
-            check(
-                refuses(alloc, before, &string, words.as_str())?,
-                "`run_from` answers otherwise",
-            )?;
-            keep_out(alloc, log, &string, words.as_str())?;
-            Ok(Step::Refused(cause))
-        }
+    match state.validate(&envelope, &ToyVerifier) {
+        Ok(state) => Ok(state),
+        Err(error) => Err(RunCause::Validation(error)),
     }
 }
 
-// Whether the string leads from the one state to the other.
-fn makes<L: Scripted>(alloc: Global, before: L, string: &Vec<u8>, after: &L) -> bool {
-    let resumed = run_from(alloc, before, &ToyVerifier, slice::from_ref(string));
-    resumed.is_ok_and(|state| state == *after)
+/// Fails where `run_from` does not make this state.
+pub fn check_state<L: Scripted>(
+    made: Result<L, RunError<L::Error>>,
+    wanted: &L,
+) -> Result<(), Fail> {
+    let is_same = match made {
+        Ok(state) => state == *wanted,
+        Err(_) => false,
+    };
+    check(is_same, "`run_from` makes another state")
 }
 
-// Whether the string is refused after the state, for this cause.
+// The string leads from the log to this state.
+fn makes<L: Scripted>(
+    alloc: Global,
+    log: &Log<L>,
+    string: &Vec<u8>,
+    state: &L,
+) -> Result<(), Fail> {
+    let before = log.state.try_clone()?;
+    check_state(
+        run_from(alloc, before, &ToyVerifier, slice::from_ref(string)),
+        state,
+    )
+}
+
+// The string is refused after the log, for this cause.
 fn refuses<L: Scripted>(
     alloc: Global,
-    before: L,
+    log: &Log<L>,
     string: &Vec<u8>,
     words: &str,
-) -> Result<bool, Fail> {
-    match run_from(alloc, before, &ToyVerifier, slice::from_ref(string)) {
-        Ok(_) => Ok(false),
+) -> Result<(), Fail> {
+    let before = log.state.try_clone()?;
+    let is_same = match run_from(alloc, before, &ToyVerifier, slice::from_ref(string)) {
+        Ok(_) => false,
         Err(error) => {
-            Ok(error.index == 0 && cause_words::<L>(alloc, &error.cause)?.as_str() == words)
+            error.index == 0 && cause_words::<L>(alloc, &error.cause)?.as_str() == words
         }
-    }
+    };
+    check(is_same, "`run_from` answers otherwise")
 }
 
 // The kept log takes the string, and has this state then.

@@ -1,7 +1,6 @@
 //! What errors say, whatever options they are printed under.
-use crate::check::check;
-use crate::script::Scripted;
 use conformance_rows::{Answer, Fail, Words};
+use conformance_scripts::{Scripted, check};
 use std::alloc::Global;
 use std::fmt::Display;
 use warg_protocol::{

@@ -5,6 +5,7 @@
 mod logs;
 mod refusal;
 mod saved;
+mod trees;
 mod values;
 
 use refusal::{OUT_OF_MEMORY, Refusal};
@@ -84,12 +85,18 @@ fn tell_saved(rt: &impl Print, alloc: Global) -> io::Result<()> {
     Ok(())
 }
 
+fn tell_trees(rt: &impl Print, alloc: Global) -> io::Result<()> {
+    tell(rt, "consistency", trees::consistency(alloc))?;
+    tell(rt, "head", trees::head(alloc))
+}
+
 fn main(rt: HostRuntime) -> io::Result<()> {
     match inputs(&rt) {
         Ok(log) => {
             tell_logs(&rt, rt.alloc(), log.as_slice())?;
             tell_values(&rt, rt.alloc())?;
-            tell_saved(&rt, rt.alloc())
+            tell_saved(&rt, rt.alloc())?;
+            tell_trees(&rt, rt.alloc())
         }
         Err(refusal) => println!(rt; "log: {}", refusal.name),
     }

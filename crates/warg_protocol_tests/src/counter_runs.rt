@@ -4,7 +4,7 @@ use std::alloc::{AllocError, Global};
 use std::test::Fail;
 use warg_crypto::DecodeError;
 use warg_crypto::toy::ToyVerifier;
-use warg_envelope::ParseEnvelopeError;
+use warg_envelope::{ParseEnvelopeError, ProtoEnvelope};
 use warg_validator::{RunCause, RunError, Validator, run, run_from};
 
 /// A string whose record says the number; at 255 one whose content is no record.
@@ -86,6 +86,22 @@ fn a_log_goes_on(rt: HostRuntime) -> Result<(), Fail> {
         let rest = lines(alloc, &numbers)?;
         let found = run_from(alloc, state, &ToyVerifier, rest.as_slice());
         assert_eq!(rt; found.map(|state| state.count), want);
+    }
+    Ok(())
+}
+
+// The default body of `append`.
+#[test]
+fn a_record_is_taken_in_place(rt: HostRuntime) -> Result<(), Fail> {
+    let alloc = rt.alloc();
+    let mut state = Counter::new(alloc)?;
+    for (number, want) in [
+        (0, Ok(())),
+        (0, Err(RunCause::Validation(CountError::Misplaced(0)))),
+    ] {
+        let envelope = ProtoEnvelope::from_protobuf(alloc, line(alloc, number)?.as_slice())?;
+        assert!(rt; state.append(&envelope, &ToyVerifier) == want);
+        assert_eq!(rt; state.count, 1);
     }
     Ok(())
 }

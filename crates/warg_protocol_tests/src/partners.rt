@@ -3,9 +3,7 @@ ghost use Rattle.std.specs.Prelude.{false, ⊤};
 ghost use Rattle.warg_protocol.specs.Records.{toy_belongs};
 
 use crate::samples::{envelope, told};
-use conformance_logs::cause_words;
-use conformance_logs::people::signer;
-use conformance_logs::script::Scripted;
+use conformance_scripts::{Scripted, cause_words, signer};
 use std::alloc::Global;
 use std::cell::Cell;
 use std::fmt::Debug;

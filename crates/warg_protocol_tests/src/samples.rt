@@ -1,5 +1,5 @@
 //! Logs in few words, as the scripts of the conformance suite have them.
-use conformance_logs::script::{Scripted, envelope_of, strings_of};
+use conformance_scripts::{Scripted, envelope_of, strings_of};
 use std::alloc::Global;
 use std::test::Fail;
 use warg_protocol::toy::ToyVerifier;
@@ -23,7 +23,7 @@ pub(crate) fn envelope<L: Scripted>(
     alloc: Global,
     line: &str,
 ) -> Result<ProtoEnvelope<L::Record>, Fail> {
-    told(envelope_of::<L>(alloc, None, line))
+    told(envelope_of::<L>(alloc, line))
 }
 
 /// The state of these lines.

@@ -1,6 +1,6 @@
 //! What a kind of log adds to the script language, and the envelopes of scripted records.
 use crate::draft::Draft;
-use conformance_rows::Fail;
+use conformance_rows::{Fail, bytes};
 use std::alloc::Global;
 use std::fmt::Debug;
 use std::str::FromStr;
@@ -91,15 +91,25 @@ fn entries_of<L: Scripted>(alloc: Global, texts: &str) -> Result<Vec<L::Entry>, 
     Ok(entries)
 }
 
-/// The envelope of the record that a line says, in a log whose last record is `last`.
-pub fn envelope_of<L: Scripted>(
+// The draft's record in its envelope, in a log whose last record is `last`.
+fn signed<L: Scripted>(
     alloc: Global,
     last: Option<RecordId>,
+    draft: &Draft<'_>,
+) -> Result<ProtoEnvelope<L::Record>, Fail> {
+    let entries = entries_of::<L>(alloc, draft.entries)?;
+    L::signed(alloc, draft.prev(last), draft, entries)
+}
+
+/// The envelope of the record that a line says, which begins a log.
+pub fn envelope_of<L: Scripted>(
+    alloc: Global,
     line: &str,
 ) -> Result<ProtoEnvelope<L::Record>, Fail> {
-    let draft = Draft::parse(line)?;
-    let entries = entries_of::<L>(alloc, draft.entries)?;
-    L::signed(alloc, draft.prev(last), &draft, entries)
+    match Draft::parse(line)? {
+        Some(draft) => signed::<L>(alloc, None, &draft),
+        None => Err(Fail::new("a line without a colon")),
+    }
 }
 
 /// The string that a line says: hex digits, or a record in a log whose last one is `last`, which it then is itself.
@@ -108,10 +118,10 @@ pub fn string_of<L: Scripted>(
     last: &mut Option<RecordId>,
     line: &str,
 ) -> Result<Vec<u8>, Fail> {
-    if !line.contains(':') {
-        return Ok(hex::decode(alloc, line)?);
-    }
-    let envelope = envelope_of::<L>(alloc, *last, line)?;
+    let Some(draft) = Draft::parse(line)? else {
+        return bytes(alloc, line);
+    };
+    let envelope = signed::<L>(alloc, *last, &draft)?;
     *last = Some(L::record_id(&envelope));
     Ok(envelope.to_protobuf(alloc)?)
 }
@@ -119,15 +129,13 @@ pub fn string_of<L: Scripted>(
 /// The string that a line says: hex digits, or a record that comes after the state.
 pub fn next_string<L: Scripted>(alloc: Global, state: &L, line: &str) -> Result<Vec<u8>, Fail> {
     let mut last = state.head_digest().copied();
-    if !line.contains(':') {
-        return string_of::<L>(alloc, &mut last, line);
+    match Draft::parse(line)? {
+        Some(draft) if draft.is_next => {
+            let entries = entries_of::<L>(alloc, draft.entries)?;
+            Ok(state.next(alloc, &draft, entries)?.to_protobuf(alloc)?)
+        }
+        _ => string_of::<L>(alloc, &mut last, line),
     }
-    let draft = Draft::parse(line)?;
-    if !draft.is_next {
-        return string_of::<L>(alloc, &mut last, line);
-    }
-    let entries = entries_of::<L>(alloc, draft.entries)?;
-    Ok(state.next(alloc, &draft, entries)?.to_protobuf(alloc)?)
 }
 
 /// The strings of these lines. A record names the one before it, be that lawful or not.

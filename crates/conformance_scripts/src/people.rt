@@ -6,7 +6,7 @@ use warg_protocol::signing::{KeyID, PublicKey, Signer};
 use warg_protocol::toy::ToySigner;
 use warg_protocol::{ProtoEnvelope, Signable};
 
-const PEOPLE: [(&str, &str); 4] = [
+const PEOPLE: &[(&str, &str)] = &[
     (
         "alice",
         "sha256:6f03ae61d0fd3df261d400afe99bdcd613f266104552b6ad5281c7666633c6e2",
@@ -47,8 +47,8 @@ pub fn key(alloc: Global, name: &str) -> Result<PublicKey, AllocError> {
 
 fn id_text<'a>(name: &'a str) -> &'a str {
     for (person, id) in PEOPLE {
-        if person == name {
-            return id;
+        if *person == name {
+            return *id;
         }
     }
     name
@@ -62,8 +62,8 @@ pub fn id(alloc: Global, name: &str) -> Result<KeyID, AllocError> {
 /// Whose key the id names, or the id's own text.
 pub fn owner<'a>(id: &'a KeyID) -> &'a str {
     for (person, text) in PEOPLE {
-        if text == id.as_str() {
-            return person;
+        if *text == id.as_str() {
+            return *person;
         }
     }
     id.as_str()

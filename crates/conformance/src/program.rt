@@ -2,7 +2,7 @@
 //! inputs, and `? INPUT = STATUS PRINTED`, where `{NAME}` in the input stands for that part.
 use conformance_rows::{Block, Fail, Line, Report, Row, Words, quoted};
 use std::alloc::Global;
-use warg_audit::{Input, Output, audit};
+use warg_audit::{Input, Output, USAGE, audit};
 
 // The parts that are named, each as `{NAME}` and its text.
 type Parts = Vec<(String, String)>;
@@ -72,10 +72,14 @@ fn ask(
     report.count(alloc, line.number, question, wanted, seen.as_str())
 }
 
-// The exit status and what is printed.
+// The exit status and what is printed. Where that is the usage, nothing was read.
 fn answer(alloc: Global, words: &[String], input: &[u8]) -> Result<String, Fail> {
+    let mut input = Input::new(input);
     let mut output = Output::new(Vec::new(alloc));
-    let status = audit(alloc, words, &mut Input::new(input), &mut output);
+    let status = audit(alloc, words, &mut input, &mut output);
     let printed = String::from_utf8(output.into_inner())?;
+    if (printed.as_str() == USAGE) != (input.reads() == 0) {
+        return Err(Fail::new("the input is read where none is asked for, or is not read"));
+    }
     Ok(format!(in alloc; "= {status} {}", quoted(alloc, printed.as_str())?)?)
 }

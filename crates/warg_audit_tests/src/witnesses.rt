@@ -1,6 +1,5 @@
 //! A reader that notes what is read of it, and a writer that takes half.
-
-use crate::audit_answering::{log, status};
+use crate::asking::{ID_WORDS, LOG_WORDS, Row, id_row, log, log_row, status};
 use std::alloc::Global;
 use std::io;
 use std::io::{ErrorKind, Read, Write};
@@ -58,47 +57,39 @@ impl Read for Witness<'_> {
     }
 }
 
-// What is asked, and what is printed of an input.
-#[derive(Drop)]
-struct Row<'b> {
-    words: &'b [&'b str],
-    input: &'b [u8],
-    printed: &'b str,
-    status: u8,
-}
-
-// Whether this is printed with this status, by as many reads as both the input and the reader count, none of them late.
-fn is_witnessed(
+// How many reads were made for this answer, where both the input and the reader count as many, none of them late.
+fn witnessed(
     alloc: Global,
-    row: &Row<'_>,
+    words: &[&str],
     witness: Witness<'_>,
     printed: &str,
     wanted: u8,
 ) -> Result<Option<usize>, Fail> {
     let mut input = Input::new(witness);
     let mut output = Output::new(Vec::new(alloc));
-    let found = status(alloc, row.words, &mut input, &mut output)?;
+    let found = status(alloc, words, &mut input, &mut output)?;
     let counted = input.reads() as usize;
-    let late = input.late_reads();
+    let is_late = input.late_reads() != 0;
     let witness = input.into_inner();
-    let text = output.into_inner();
-    let same = found == wanted && text.as_slice() == printed.as_bytes();
-    let noted = witness.reads == counted && witness.late == 0 && late == 0;
-    Ok(if same && noted { Some(counted) } else { None })
+    let is_noted = witness.reads == counted && witness.late == 0 && !is_late;
+    let is_answer = found == wanted && output.into_inner().as_slice() == printed.as_bytes();
+    Ok(if is_answer && is_noted {
+        Some(counted)
+    } else {
+        None
+    })
 }
 
 // Reads by steps of several lengths, and failing at each read in turn.
 fn witness_row(rt: &impl Abort, alloc: Global, row: &Row<'_>) -> Result<(), Fail> {
     for step in [1usize, 2, 7, 100, 20_000] {
-        let whole = Witness::new(row.input, step, None);
-        let reads = is_witnessed(alloc, row, whole, row.printed, row.status)?.ok_or(
-            "another answer",
-        )?;
         let end = row.input.len().div_ceil(step).saturating_add(1);
-        assert!(rt; reads == end, "{step}");
+        let whole = Witness::new(row.input, step, None);
+        let reads = witnessed(alloc, row.words, whole, row.printed, row.status)?;
+        assert!(rt; reads == Some(end), "{step}");
         for failing in 0..end {
             let once = Witness::new(row.input, step, Some(failing));
-            let reads = is_witnessed(alloc, row, once, "read fault\n", 3)?;
+            let reads = witnessed(alloc, row.words, once, "read fault\n", 3)?;
             assert!(rt;
                 reads == Some(failing.saturating_add(1)),
                 "{step} {failing}"
@@ -109,26 +100,12 @@ fn witness_row(rt: &impl Abort, alloc: Global, row: &Row<'_>) -> Result<(), Fail
 }
 
 #[test]
-fn reads_an_id_once(rt: HostRuntime) -> Result<(), Fail> {
-    let row = Row {
-        words: ["id", "package"].as_slice(),
-        input: b"0a021a00\n".as_slice(),
-        printed: "sha256:0dc9969d2a2f84e5467b2f6003184c25d0f354a251864e0646e97436da784001\n",
-        status: 0,
-    };
-    witness_row(&rt, rt.alloc(), &row)
-}
-
-#[test]
-fn reads_a_log_once(rt: HostRuntime) -> Result<(), Fail> {
+fn reads_what_is_answered_once(rt: HostRuntime) -> Result<(), Fail> {
     let log = log(rt.alloc())?;
-    let row = Row {
-        words: ["package"].as_slice(),
-        input: log.as_bytes(),
-        printed: "ok 3 sha256:88e63a3e22d45d5304a601e1f3f96e4c8edb3772b5250b528a833bfbf3c3c718\n1.1.0 yanked\n",
-        status: 0,
-    };
-    witness_row(&rt, rt.alloc(), &row)
+    for row in [id_row(), log_row(log.as_str())] {
+        witness_row(&rt, rt.alloc(), &row)?;
+    }
+    Ok(())
 }
 
 // A failed read is told before a bad line, and before a refused record.
@@ -136,20 +113,20 @@ fn reads_a_log_once(rt: HostRuntime) -> Result<(), Fail> {
 fn reads_what_is_refused_once(rt: HostRuntime) -> Result<(), Fail> {
     for row in [
         Row {
-            words: ["id", "package"].as_slice(),
-            input: b"0g\n".as_slice(),
+            words: ID_WORDS,
+            input: b"0g\n",
             printed: "bad line 0\n",
             status: 2,
         },
         Row {
-            words: ["operator"].as_slice(),
-            input: b"0a021a00\r\n\r\n0".as_slice(),
+            words: &["operator"],
+            input: b"0a021a00\r\n\r\n0",
             printed: "bad line 2\n",
             status: 2,
         },
         Row {
-            words: ["package"].as_slice(),
-            input: b"0a021a00".as_slice(),
+            words: LOG_WORDS,
+            input: b"0a021a00",
             printed: "refused 0 Signature.MissingColon\n",
             status: 1,
         },
@@ -181,23 +158,16 @@ impl Write for Halves {
 
 #[test]
 fn writes_all_by_halves(rt: HostRuntime) -> Result<(), Fail> {
-    let mut input = Input::new(b"0a021a00".as_slice());
+    let row = id_row();
+    let mut input = Input::new(row.input);
     let mut output = Output::new(Halves {
         taken: Vec::new(rt.alloc()),
         writes: 0,
     });
-    let ended = status(
-        rt.alloc(),
-        ["id", "package"].as_slice(),
-        &mut input,
-        &mut output,
-    )?;
+    let ended = status(rt.alloc(), row.words, &mut input, &mut output)?;
     let failed = output.failures();
     let halves = output.into_inner();
-    let id = "sha256:0dc9969d2a2f84e5467b2f6003184c25d0f354a251864e0646e97436da784001\n";
-    assert_eq!(rt; ended, 0);
-    assert_eq!(rt; failed, 0);
-    assert_eq!(rt; halves.writes, 7);
-    assert!(rt; halves.taken.as_slice() == id.as_bytes());
+    assert!(rt; ended == 0 && failed == 0 && halves.writes == 7);
+    assert!(rt; halves.taken.as_slice() == row.printed.as_bytes());
     Ok(())
 }

@@ -1,6 +1,5 @@
 //! What package logs answer, in words.
-use crate::answers::{head, none, shown, text_of, time};
-use crate::check::check;
+use crate::answers::{head, key_entry, none, permissions, shown, text_of, time};
 use crate::people::{id, owner};
 use conformance_rows::Fail;
 use std::alloc::Global;
@@ -17,17 +16,13 @@ pub fn answer(
 ) -> Result<String, Fail> {
     match look_up {
         "head" => head(alloc, state.head(), subject),
-        "key" => key(alloc, state, subject),
-        "permissions" => permissions(alloc, state, subject),
+        "key" => text_of(alloc, state.public_key(&id(alloc, subject)?)),
+        "permissions" => permissions(alloc, state.key_permissions(&id(alloc, subject)?)),
         "keys" => keys(alloc, state),
         "releases" => releases(alloc, state),
         "latest" => latest(alloc, state, subject),
         _ => of_version(alloc, state, look_up, subject),
     }
-}
-
-fn key(alloc: Global, state: &LogState, name: &str) -> Result<String, Fail> {
-    text_of(alloc, state.public_key(&id(alloc, name)?))
 }
 
 fn latest(alloc: Global, state: &LogState, wanted: &str) -> Result<String, Fail> {
@@ -38,34 +33,13 @@ fn latest(alloc: Global, state: &LogState, wanted: &str) -> Result<String, Fail>
     }
 }
 
-fn permissions(alloc: Global, state: &LogState, name: &str) -> Result<String, Fail> {
-    let Some(permissions) = state.key_permissions(&id(alloc, name)?) else {
-        return none(alloc);
-    };
-    let mut text = String::from_str(alloc, "only")?;
-    for permission in permissions.iter() {
-        write!(text, " {permission}")?;
-    }
-    Ok(text)
-}
-
 // The keys of the log, each its owner and what it may do.
 fn keys(alloc: Global, state: &LogState) -> Result<String, Fail> {
     let mut text = String::from_str(alloc, "only")?;
     for entry in state.keys() {
-        let name = owner(entry.id);
-        write!(text, " {name}")?;
-        check(
-            state.public_key(entry.id) == Some(entry.key),
-            "another key is listed",
-        )?;
-        check(
-            state.key_permissions(entry.id) == entry.permissions,
-            "other permissions are listed",
-        )?;
-        for permission in entry.permissions.iter().flat_map(|set| set.iter()) {
-            write!(text, "+{permission}")?;
-        }
+        let (key, permissions) = (state.public_key(entry.id), state.key_permissions(entry.id));
+        let told = key_entry(alloc, entry, key, permissions)?;
+        write!(text, " {told}")?;
     }
     Ok(text)
 }

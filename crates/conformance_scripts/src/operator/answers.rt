@@ -1,7 +1,7 @@
 //! What operator logs answer, in words.
-use crate::answers::{head, none, text_of};
-use crate::check::check;
-use crate::people::{id, owner};
+use crate::answers::{head, key_entry, permissions, text_of};
+use crate::checking::check;
+use crate::people::id;
 use conformance_rows::Fail;
 use std::alloc::Global;
 use warg_protocol::operator::{LogState, NamespaceState};
@@ -15,8 +15,8 @@ pub fn answer(
 ) -> Result<String, Fail> {
     match look_up {
         "head" => head(alloc, state.head(), subject),
-        "key" => key(alloc, state, subject),
-        "permissions" => permissions(alloc, state, subject),
+        "key" => text_of(alloc, state.public_key(&id(alloc, subject)?)),
+        "permissions" => permissions(alloc, state.key_permissions(&id(alloc, subject)?)),
         "keys" => keys(alloc, state),
         "signs" => signs(alloc, state, subject),
         "namespaces" => namespaces(alloc, state),
@@ -25,43 +25,18 @@ pub fn answer(
     }
 }
 
-fn key(alloc: Global, state: &LogState, name: &str) -> Result<String, Fail> {
-    text_of(alloc, state.public_key(&id(alloc, name)?))
-}
-
 fn signs(alloc: Global, state: &LogState, name: &str) -> Result<String, Fail> {
     let signs = state.key_has_permission_to_sign_checkpoints(&id(alloc, name)?);
     Ok(signs.to_string(alloc)?)
-}
-
-fn permissions(alloc: Global, state: &LogState, name: &str) -> Result<String, Fail> {
-    let Some(permissions) = state.key_permissions(&id(alloc, name)?) else {
-        return none(alloc);
-    };
-    let mut text = String::from_str(alloc, "only")?;
-    for permission in permissions.iter() {
-        write!(text, " {permission}")?;
-    }
-    Ok(text)
 }
 
 // The keys of the log, each its owner and what it may do.
 fn keys(alloc: Global, state: &LogState) -> Result<String, Fail> {
     let mut text = String::from_str(alloc, "only")?;
     for entry in state.keys() {
-        let name = owner(entry.id);
-        write!(text, " {name}")?;
-        check(
-            state.public_key(entry.id) == Some(entry.key),
-            "another key is listed",
-        )?;
-        check(
-            state.key_permissions(entry.id) == entry.permissions,
-            "other permissions are listed",
-        )?;
-        for permission in entry.permissions.iter().flat_map(|set| set.iter()) {
-            write!(text, "+{permission}")?;
-        }
+        let (key, permissions) = (state.public_key(entry.id), state.key_permissions(entry.id));
+        let told = key_entry(alloc, entry, key, permissions)?;
+        write!(text, " {told}")?;
     }
     Ok(text)
 }

@@ -29,9 +29,11 @@ pub struct Draft<'a> {
 }
 
 impl<'a> Draft<'a> {
-    /// The draft that a line says.
-    pub fn parse(line: &'a str) -> Result<Draft<'a>, Fail> {
-        let (head, entries) = line.split_once(':').ok_or("a line without a colon")?;
+    /// The draft that a line says; none where the line has no colon.
+    pub fn parse(line: &'a str) -> Result<Option<Draft<'a>>, Fail> {
+        let Some((head, entries)) = line.split_once(':') else {
+            return Ok(None);
+        };
         let (signer, time, turns) = words_of(head);
         let mut draft = Draft {
             signer,
@@ -42,7 +44,7 @@ impl<'a> Draft<'a> {
             is_next: false,
         };
         draft.turn_all(turns)?;
-        Ok(draft)
+        Ok(Some(draft))
     }
 
     fn turn_all(&mut self, words: &str) -> Result<(), Fail> {

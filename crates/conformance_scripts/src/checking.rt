@@ -2,7 +2,7 @@
 use conformance_rows::Fail;
 
 /// Fails for this reason where something does not hold.
-pub(crate) fn check(holds: bool, reason: &'static str) -> Result<(), Fail> {
+pub fn check(holds: bool, reason: &'static str) -> Result<(), Fail> {
     if holds {
         Ok(())
     } else {
