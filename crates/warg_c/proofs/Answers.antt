@@ -1,0 +1,55 @@
+-- The caller's word for a question.
+use Rattle.std.proofs.Common.{◌≡◌, ℕ, List, Bool, true, Option, Some, Result, Ok, Err, sym, ◌∙◌, subst}
+use Rattle.std.specs.Prelude.{OnOk, IfErr}
+use Rattle.warg_validator.specs.Kinds.{SignatureRelation}
+use Rattle.warg_host.specs.Telling.{Holds}
+use Rattle.warg_host.specs.declared.told.Told.{Told}
+use Rattle.warg_c.specs.declared.failure.Failure.{Failure}
+use Rattle.warg_c.specs.declared.failure.Failure.TheVariants.{NotOpen, OutOfMemory, TooSmall, NoEnvelope, Refused, Absent, BadArgument}
+use Rattle.warg_c.specs.declared.held.Held.{Held}
+use Rattle.warg_c.specs.declared.held.Held.TheVariants.{Package, Operator}
+use Rattle.warg_c.specs.declared.question.Asked.{Asked}
+use Rattle.warg_c.specs.Held.{append_does, append_fails, append_moves, append_refuses}
+use Rattle.warg_c.specs.Questions.{Says, HoldsOf}
+use Rattle.warg_c.specs.Statuses.{status_of, Answers}
+use Rattle.warg_c.proofs.Codes.{answered}
+
+pub holds-told : (b : SignatureRelation) (belongs : Bool) (n : Asked) (question : List ℕ) (t : Told) → Says n question t.question → t.belongs ≡ belongs → HoldsOf b belongs n question → Holds b t
+holds-told b belongs n question t says same holds = λ yes. holds (sym same ∙ yes) t.question says
+
+-- no answer is refused as a bad argument
+refuses-no-argument : (held : Held) (t : Told) (envelope : List ℕ) (used : ℕ) (new : List ℕ) → append_refuses held t envelope used new BadArgument → ⊥
+refuses-no-argument (Package log) t envelope used new h = h
+refuses-no-argument (Operator log) t envelope used new h = h
+
+pub fails-told : (held : Held) (belongs : Bool) (n : Asked) (question envelope : List ℕ) (used : ℕ) (new : List ℕ) (t : Told) → Says n question t.question → t.belongs ≡ belongs → (f : Failure)
+    → append_refuses held t envelope used new f → append_fails held belongs n question envelope used new f
+fails-told held belongs n question envelope used new t says same NotOpen h = (t, says, same, h)
+fails-told held belongs n question envelope used new t says same OutOfMemory h = tt
+fails-told held belongs n question envelope used new t says same TooSmall h = (t, says, same, h)
+fails-told held belongs n question envelope used new t says same NoEnvelope h = (t, says, same, h)
+fails-told held belongs n question envelope used new t says same Refused h = (t, says, same, h)
+fails-told held belongs n question envelope used new t says same Absent h = (t, says, same, h)
+fails-told held belongs n question envelope used new t says same BadArgument h = absurd (refuses-no-argument held t envelope used new h)
+
+pub fails-if : {X : Type 0} (held : Held) (belongs : Bool) (n : Asked) (question envelope : List ℕ) (used : ℕ) (new : List ℕ) (t : Told) → Says n question t.question → t.belongs ≡ belongs → (r : Result X Failure)
+    → IfErr r (append_refuses held t envelope used new) → IfErr r (append_fails held belongs n question envelope used new)
+fails-if held belongs n question envelope used new t says same (Ok x) h = tt
+fails-if held belongs n question envelope used new t says same (Err f) h = fails-told held belongs n question envelope used new t says same f h
+
+-- what a handle held, with the record
+pub moves : (b : SignatureRelation) (envelope : List ℕ) (old : Held) (kept : Option Held) (new : Held) → kept ≡ Some new → append_does b envelope old new → append_moves b envelope old kept
+moves b envelope old kept new is does = subst (λ o. append_moves b envelope old o) (sym is) does
+
+does-moves : {X : Type 0} (belongs : Bool) (n : Asked) (question envelope : List ℕ) (old : Held) (kept : Option Held) (new : Held) → kept ≡ Some new → (r : Result X Failure) → OnOk r ((b : SignatureRelation) → HoldsOf b belongs n question → append_does b envelope old new)
+    → OnOk r ((b : SignatureRelation) → HoldsOf b belongs n question → append_moves b envelope old kept)
+does-moves belongs n question envelope old kept new is (Ok x) does = λ b holds. moves b envelope old kept new is (does b holds)
+does-moves belongs n question envelope old kept new is (Err f) does = tt
+
+-- the status of what became of a handle's log
+pub append-answers : (before after : Option Held) (old new : Held) → Some old ≡ before → after ≡ Some new → (r : Result Unit Failure) (status : ℕ) → status ≡ status_of r → (belongs : Bool) (n : Asked) (question envelope : List ℕ) (used : ℕ) (out : List ℕ)
+    → OnOk r ((b : SignatureRelation) → HoldsOf b belongs n question → append_does b envelope old new) → IfErr r (append_fails old belongs n question envelope used out)
+    → Answers status before (λ held. (b : SignatureRelation) → HoldsOf b belongs n question → append_moves b envelope held after) (λ held. append_fails held belongs n question envelope used out)
+append-answers before after old new was is r status e belongs n question envelope used out does fails =
+    subst (λ o. Answers status o (λ held. (b : SignatureRelation) → HoldsOf b belongs n question → append_moves b envelope held after) (λ held. append_fails held belongs n question envelope used out)) was
+    (answered ((b : SignatureRelation) → HoldsOf b belongs n question → append_moves b envelope old after) (λ f. append_fails old belongs n question envelope used out f) r status e (does-moves belongs n question envelope old after new is r does) fails)

@@ -1,0 +1,10 @@
+pub mod AsBox
+pub mod Steps
+pub mod Words
+pub mod Refusals
+pub mod Codes
+pub mod Answers
+pub mod Cuts
+pub mod Places
+pub mod Appending
+pub mod ProofOutcomes

@@ -1,0 +1,60 @@
+-- What a refusal tells.
+use Rattle.std.proofs.Common.{◌≡◌, ◌<◌, ℕ, List, length, take, Option, Some, None, Result, Ok, Err, Bool, true, refl, sym, ap, ◌∙◌, subst}
+use Rattle.std.specs.Prelude.{OnOk, IfErr}
+use Rattle.warg_envelope.specs.EnvelopeData.{EnvelopeData}
+use Rattle.warg_validator.specs.Kinds.{Kind}
+use Rattle.warg_validator.specs.Outcomes.{IfTold}
+use Rattle.warg_validator.specs.Strings.{Cause, Unread, Unlawful}
+use Rattle.warg_validator.specs.declared.replay.RunCause.{RunCause}
+use Rattle.warg_host.specs.Telling.{Asks}
+use Rattle.warg_host.specs.declared.question.Question.{Question}
+use Rattle.warg_host.specs.declared.told.Told.{Told}
+use Rattle.warg_c.specs.declared.failure.Failure.{Failure}
+use Rattle.warg_c.specs.declared.failure.Failure.TheVariants.{TooSmall}
+use Rattle.warg_c.specs.declared.question.Asked.{Asked}
+use Rattle.warg_c.specs.Logs.{IsAsked, IsWhy, IsWhyBy, IsTold, AskFails, Refuses}
+use Rattle.warg_c.specs.Questions.{Spells}
+use Rattle.warg_c.specs.Texts.{IsErrorText, failure_by}
+
+module _ {View Offence F E : Type 0} (k : Kind View Offence) (read : List ℕ → Result EnvelopeData F) (told_by : RunCause E → Option (Cause F Offence)) (name_by : RunCause E → List ℕ) where
+  ask-told : (v : View) (envelope : List ℕ) (n : Asked) (old : List ℕ) (used : ℕ) (new : List ℕ) (c : RunCause E) → IsErrorText (name_by c) used new → (t : Option (Cause F Offence)) → told_by c ≡ t → IfTold t (IsWhy k read v envelope)
+      → AskFails k read told_by name_by v envelope n old used new (failure_by t)
+  ask-told v envelope n old used new c text None tells why = tt
+  ask-told v envelope n old used new c text (Some (Unread fault)) tells why = (fault, why, record { cause = c; tells = tells; text = text })
+  ask-told v envelope n old used new c text (Some (Unlawful offence)) tells why = (offence, why, record { cause = c; tells = tells; text = text })
+
+  -- a cause that is told of an envelope is why nothing is asked
+  pub ask-refused : (v : View) (envelope : List ℕ) (n : Asked) (old : List ℕ) (used : ℕ) (new : List ℕ) (c : RunCause E) → IsErrorText (name_by c) used new → IfTold (told_by c) (IsWhy k read v envelope)
+      → AskFails k read told_by name_by v envelope n old used new (failure_by (told_by c))
+  ask-refused v envelope n old used new c text why = ask-told v envelope n old used new c text (told_by c) refl why
+
+  -- the same by the failure that was named
+  pub ask-fails : (v : View) (envelope : List ℕ) (n : Asked) (old : List ℕ) (used : ℕ) (new : List ℕ) (c : RunCause E) (f : Failure) → f ≡ failure_by (told_by c) → IsErrorText (name_by c) used new → IfTold (told_by c) (IsWhy k read v envelope)
+      → AskFails k read told_by name_by v envelope n old used new f
+  ask-fails v envelope n old used new c f is text why = subst (λ g. AskFails k read told_by name_by v envelope n old used new g) (sym is) (ask-refused v envelope n old used new c text why)
+
+  -- a question that was found is given, or there is no room for it
+  pub ask-given : {X : Type 0} (v : View) (envelope : List ℕ) (q : Question) → Asks k (read envelope) v q → (text : List ℕ) (n : Asked) → Spells n text q → (r : Result X Failure) (used : ℕ) (old new : List ℕ) → used ≡ length text
+      → OnOk r (take (length text) new ≡ text) → OnOk r (IsAsked k read v envelope n (take used new))
+  ask-given v envelope q asks text n spells (Ok x) used old new is given = (q, asks, subst (λ l. Spells n l q) (sym (ap (λ m. take m new) is ∙ given)) spells)
+  ask-given v envelope q asks text n spells (Err f) used old new is given = tt
+
+  pub ask-too-small : {X : Type 0} (v : View) (envelope : List ℕ) (q : Question) → Asks k (read envelope) v q → (text : List ℕ) (n : Asked) → Spells n text q → (r : Result X Failure) (used : ℕ) (old new : List ℕ) → used ≡ length text
+      → IfErr r (λ f. (f ≡ TooSmall) × (length old < length text)) → IfErr r (AskFails k read told_by name_by v envelope n old used new)
+  ask-too-small v envelope q asks text n spells (Ok x) used old new is small = tt
+  ask-too-small v envelope q asks text n spells (Err f) used old new is small = subst (λ g. AskFails k read told_by name_by v envelope n old used new g) (sym small.0) (text, (q, asks, spells), is, small.1)
+
+  append-told : (answer : Told) (v : View) (envelope : List ℕ) (used : ℕ) (new : List ℕ) (c : RunCause E) → IsErrorText (name_by c) used new → (t : Option (Cause F Offence)) → told_by c ≡ t → IfTold t (IsWhyBy k read answer v envelope)
+      → Refuses k read told_by name_by answer v envelope used new (failure_by t)
+  append-told answer v envelope used new c text None tells why = tt
+  append-told answer v envelope used new c text (Some (Unread fault)) tells why = (fault, why, record { cause = c; tells = tells; text = text })
+  append-told answer v envelope used new c text (Some (Unlawful offence)) tells why = (offence, why, record { cause = c; tells = tells; text = text })
+
+  -- a cause that is told by an answer is why nothing is appended
+  pub append-refused : (answer : Told) (v : View) (envelope : List ℕ) (used : ℕ) (new : List ℕ) (c : RunCause E) → IsErrorText (name_by c) used new → IfTold (told_by c) (IsWhyBy k read answer v envelope)
+      → Refuses k read told_by name_by answer v envelope used new (failure_by (told_by c))
+  append-refused answer v envelope used new c text why = append-told answer v envelope used new c text (told_by c) refl why
+
+  pub append-fails : (answer : Told) (v : View) (envelope : List ℕ) (used : ℕ) (new : List ℕ) (c : RunCause E) (f : Failure) → f ≡ failure_by (told_by c) → IsErrorText (name_by c) used new → IfTold (told_by c) (IsWhyBy k read answer v envelope)
+      → Refuses k read told_by name_by answer v envelope used new f
+  append-fails answer v envelope used new c f is text why = subst (λ g. Refuses k read told_by name_by answer v envelope used new g) (sym is) (append-refused answer v envelope used new c text why)

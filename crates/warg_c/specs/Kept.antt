@@ -1,0 +1,22 @@
+-- What a handle owns.
+use base.Fml.{Fml, ftrue}
+use base.Stored.{Coded}
+use denote.RawPtr.{Ptr}
+use Rattle.std.specs.Prelude.{List, Option, Some, None}
+use Rattle.std.specs.Coded.{coded_option}
+use Rattle.std.specs.Box.Ownership.{box_owns}
+use Rattle.std.specs.Global.{Global}
+use Rattle.std.specs.contracts.impls.GlobalAllocator.TheImpl.{ghosts}
+use Rattle.warg_c.specs.contracts.held.Held.{the_row}
+
+-- what is held
+abbrev pub Kept : Type 0
+Kept = the_row.Denot
+
+-- the block of the state, where there is one
+abbrev pub kept_owns : Global → Ptr → Option Kept → Fml
+kept_owns alloc p None = ftrue
+kept_owns alloc p (Some x) = box_owns (ghosts.dealloc_token alloc) the_row p x
+
+abbrev pub kept_coded : Coded (Option Kept)
+kept_coded = coded_option the_row.coded

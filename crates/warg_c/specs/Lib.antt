@@ -1,0 +1,15 @@
+pub mod Kept
+pub mod Statuses
+pub mod Texts
+pub mod Questions
+pub mod Logs
+pub mod Held
+pub mod Lookups
+pub mod Releases
+pub mod Namespaces
+pub mod Keys
+pub mod Chains
+pub mod Comparisons
+pub mod Saved
+pub mod Ids
+pub mod Proofs

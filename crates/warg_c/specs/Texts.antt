@@ -1,0 +1,49 @@
+-- Texts for the caller.
+use Rattle.std.specs.Prelude.{◌≡◌, ◌⊎◌, ◌<◌, ℕ, List, ◌∷◌, ◌++◌, length, take, Option, Some, None, Result, Ok, Err}
+use Rattle.warg_validator.specs.Strings.{Cause, Unread, Unlawful}
+use Rattle.warg_c.specs.Statuses.{code_of}
+use Rattle.warg_c.specs.declared.failure.Failure.{Failure}
+use Rattle.warg_c.specs.declared.failure.Failure.TheVariants.{NotOpen, OutOfMemory, TooSmall, NoEnvelope, Refused, Absent, BadArgument}
+
+-- no text, or the name, a colon, a space and a sentence
+abbrev pub IsErrorText : List ℕ → ℕ → List ℕ → Type 0
+IsErrorText name used out = (used ≡ 0) ⊎ ((sentence : List ℕ) × (take used out ≡ name ++ 58 ∷ 32 ∷ sentence))
+
+-- what kind of failure a cause is; none is named where memory ran out
+abbrev pub failure_by : {F Offence : Type 0} → Option (Cause F Offence) → Failure
+failure_by None = OutOfMemory
+failure_by (Some (Unread fault)) = NoEnvelope
+failure_by (Some (Unlawful offence)) = Refused
+
+-- the text (or list) that is told is longer than the buffer, and as long as is said
+abbrev pub NeedsRoom : {A : Type 0} → (List A → Type 0) → ℕ → List A → Type 0
+NeedsRoom {A} Tells used out = (text : List A) × Tells text × (used ≡ length text) × (length out < length text)
+
+-- what was found is given if there is room, and the failure otherwise; n is the status
+abbrev pub IsFinish : {V A : Type 0} → (V → List A) → Result V Failure → List A → ℕ → ℕ → List A → Type 0
+IsFinish items (Ok v) old n used new = (used ≡ length (items v)) × (((n ≡ 0) × (take (length (items v)) new ≡ items v)) ⊎ ((n ≡ 3) × (length old < length (items v))))
+IsFinish items (Err f) old n used new = n ≡ code_of f
+
+-- why nothing was found: no memory, there is no such thing, or an argument is not of its form
+abbrev pub FailsAs : Type 0 → Type 0 → Failure → Type 0
+FailsAs Lacks IsBad f = (f ≡ OutOfMemory) ⊎ (((f ≡ Absent) × Lacks) ⊎ ((f ≡ BadArgument) × IsBad))
+
+-- why a text is not given: the buffer is too small, there is none, or an argument is not of its form
+abbrev pub TextFails : {A : Type 0} → (List A → Type 0) → Type 0 → Type 0 → ℕ → List A → Failure → Type 0
+TextFails Tells Lacks IsBad used out NotOpen = ⊥
+TextFails Tells Lacks IsBad used out OutOfMemory = Unit {0}
+TextFails Tells Lacks IsBad used out TooSmall = NeedsRoom Tells used out
+TextFails Tells Lacks IsBad used out NoEnvelope = ⊥
+TextFails Tells Lacks IsBad used out Refused = ⊥
+TextFails Tells Lacks IsBad used out Absent = Lacks
+TextFails Tells Lacks IsBad used out BadArgument = IsBad
+
+-- why a call that gives no text is not done
+abbrev pub CallFails : Type 0 → Type 0 → Failure → Type 0
+CallFails Lacks IsBad NotOpen = ⊥
+CallFails Lacks IsBad OutOfMemory = Unit {0}
+CallFails Lacks IsBad TooSmall = ⊥
+CallFails Lacks IsBad NoEnvelope = ⊥
+CallFails Lacks IsBad Refused = ⊥
+CallFails Lacks IsBad Absent = Lacks
+CallFails Lacks IsBad BadArgument = IsBad

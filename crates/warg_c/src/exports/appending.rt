@@ -1,0 +1,121 @@
+//! Asking what has to be verified, and appending by what the caller says.
+ghost use Rattle.std.specs.Prelude.{◌≡◌, ◌≢◌, IfOk, IfErr, OnOk, OnErr, take};
+ghost use Rattle.warg_host.specs.Telling.{Holds};
+ghost use Rattle.warg_validator.specs.Kinds.{SignatureRelation};
+ghost use Rattle.warg_c.specs.Held.{ask_tells, ask_fails, append_does, append_moves, append_fails, append_refuses};
+ghost use Rattle.warg_c.specs.Questions.{HoldsOf};
+ghost use Rattle.warg_c.specs.Statuses.{Answers};
+
+use crate::asking::{append_log, ask_log};
+use crate::failure::{Failure, status};
+use crate::handle::WargLog;
+use crate::held::Held;
+use crate::question::{Asked, told};
+use std::alloc::Global;
+use warg_host::Told;
+
+fn ask_held(
+    alloc: Global,
+    held: &Held,
+    envelope: &[u8],
+    bytes: &mut [u8],
+    used: &mut usize,
+    asked: &mut Asked,
+) -> Result<(), Failure>
+    ensures asked { OnOk result (ask_tells held.now envelope.now asked.new (take used.new bytes.new)) }
+    ensures failed { IfErr result (ask_fails held.now envelope.now asked.new bytes.old used.new bytes.new) }
+{
+    match held {
+        Held::Package(log) => ask_log(alloc, log, envelope, bytes, used, asked),
+        Held::Operator(log) => ask_log(alloc, log, envelope, bytes, used, asked),
+    }
+}
+
+/// What has to be verified before the record of an envelope can be appended.
+#[unsafe(no_mangle)]
+pub extern "C" fn warg_ask(
+    alloc: Global,
+    log: &mut WargLog,
+    envelope: &[u8],
+    bytes: &mut [u8],
+    used: &mut usize,
+    asked: &mut Asked,
+) -> u32
+    ensures answer { Answers result log.old.owned.kept (λ held. ask_tells held envelope.now asked.new (take used.new bytes.new))
+        (λ held. ask_fails held envelope.now asked.new bytes.old used.new bytes.new) }
+    ensures unchanged { log.new.owned.kept ≡ log.old.owned.kept }
+{
+    *used = 0;
+    let Some(held) = log.take(alloc) else {
+        return status(Err(Failure::NotOpen));
+    };
+    let outcome = ask_held(alloc, &held, envelope, bytes, used, asked);
+    log.put(held);
+    status(outcome)
+}
+
+fn append_held(
+    alloc: Global,
+    held: &mut Held,
+    envelope: &[u8],
+    answer: &Told,
+    text: &mut [u8],
+    used: &mut usize,
+) -> Result<(), Failure>
+    ensures appended { OnOk result ((b : SignatureRelation) → Holds b answer.now → append_does b envelope.now held.old held.new) }
+    ensures failed { IfErr result (append_refuses held.old answer.now envelope.now used.new text.new) }
+    ensures unchanged { OnErr result (held.new ≡ held.old) }
+{
+    match held {
+        Held::Package(log) => append_log(alloc, log, envelope, answer, text, used),
+        Held::Operator(log) => append_log(alloc, log, envelope, answer, text, used),
+    }
+}
+
+// The record of the bytes, appended by the caller's word for a question.
+fn append_told(
+    alloc: Global,
+    held: &mut Held,
+    envelope: &[u8],
+    question: &[u8],
+    asked: &Asked,
+    belongs: bool,
+    text: &mut [u8],
+    used: &mut usize,
+) -> Result<(), Failure>
+    ensures appended { OnOk result ((b : SignatureRelation) → HoldsOf b belongs asked.now question.now → append_does b envelope.now held.old held.new) }
+    ensures failed { IfErr result (append_fails held.old belongs asked.now question.now envelope.now used.new text.new) }
+    ensures unchanged { OnErr result (held.new ≡ held.old) }
+{
+    let answer = told(alloc, question, asked, belongs)?;
+    append_held(alloc, held, envelope, &answer, text, used)
+}
+
+/// Appends the record of an envelope. The question is the bytes of `warg_ask`, with what the caller found.
+#[unsafe(no_mangle)]
+pub extern "C" fn warg_append(
+    alloc: Global,
+    log: &mut WargLog,
+    envelope: &[u8],
+    question: &[u8],
+    asked: &Asked,
+    belongs: bool,
+    text: &mut [u8],
+    used: &mut usize,
+) -> u32
+    // Whatever relation holds of what the caller said to belong: what was accepted under it still is, with the record.
+    ensures answer { Answers result log.old.owned.kept
+        (λ held. (b : SignatureRelation) → HoldsOf b belongs asked.now question.now → append_moves b envelope.now held log.new.owned.kept)
+        (λ held. append_fails held belongs asked.now question.now envelope.now used.new text.new) }
+    ensures unchanged { result ≢ 0 → log.new.owned.kept ≡ log.old.owned.kept }
+{
+    *used = 0;
+    let Some(mut held) = log.take(alloc) else {
+        return status(Err(Failure::NotOpen));
+    };
+    let outcome = append_told(
+        alloc, &mut held, envelope, question, asked, belongs, text, used,
+    );
+    log.put(held);
+    status(outcome)
+}

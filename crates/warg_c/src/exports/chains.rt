@@ -1,0 +1,112 @@
+//! By which entries keys came to hold permissions.
+ghost use Rattle.std.specs.Prelude.{◌≡◌, ◌⊎◌, None, IfErr, IfOk, map, take};
+ghost use Rattle.warg_c.specs.Chains.{ChainIs, NoChain, chain_bad, chain_lacks, chain_tells, shown_link};
+ghost use Rattle.warg_c.specs.Keys.{IsNoPermission};
+ghost use Rattle.warg_c.specs.Logs.{whole_of};
+ghost use Rattle.warg_c.specs.Statuses.{Answers};
+ghost use Rattle.warg_c.specs.Texts.{FailsAs, TextFails};
+
+use crate::argument::{key_id_of, permission_of};
+use crate::failure::{Failure, status};
+use crate::given::finish;
+use crate::handle::WargLog;
+use crate::held::Held;
+use crate::kept_log::KeptLog;
+use std::alloc::{AllocError, Global};
+use warg_audited_log::Link as LogLink;
+use warg_permissions::LogPermission;
+use warg_validator::Validator;
+
+/// The place of an entry.
+#[repr(C)]
+#[derive(Clone, Copy)]
+pub struct Link {
+    /// The place of the record in the log.
+    pub record_index: usize,
+    /// The place of the entry in its record.
+    pub entry_index: usize,
+}
+
+fn shown(link: &LogLink) -> Link
+    ensures { result ≡ shown_link link.now }
+{
+    Link {
+        record_index: link.record_index,
+        entry_index: link.entry_index,
+    }
+}
+
+// The links for the caller.
+fn shown_all(alloc: Global, found: &[LogLink]) -> Result<Vec<Link>, AllocError>
+    ensures { IfOk result (λ v. v.items ≡ map shown_link found.now) }
+{
+    found.iter().map(|link| shown(link)).collect(alloc)
+}
+
+// The chain of a key's permission.
+fn chain_of_log<L: Validator>(
+    alloc: Global,
+    log: &KeptLog<L>,
+    key_id: &[u8],
+    permission: &[u8],
+) -> Result<Vec<Link>, Failure>
+where
+    L::Permission: LogPermission,
+    ensures ok { IfOk result (λ v. ChainIs L.effects L.Permission.named (whole_of log.now) key_id.now permission.now v.items) }
+    ensures err { IfErr result (FailsAs (NoChain L.effects L.Permission.named (whole_of log.now) key_id.now permission.now)
+        ((whole_of log.now ≡ None) ⊎ IsNoPermission L.Permission.named key_id.now permission.now)) }
+{
+    let Some(log) = log.whole() else {
+        return Err(Failure::BadArgument);
+    };
+    let key_id = key_id_of(alloc, key_id)?;
+    let permission = permission_of::<L::Permission>(permission)?;
+    let found = match log.permission_chain(&key_id, permission) {
+        Ok(Some(found)) => found,
+        Ok(None) => return Err(Failure::Absent),
+        Err(_) => return Err(Failure::OutOfMemory),
+    };
+    match shown_all(alloc, found.as_slice()) {
+        Ok(links) => Ok(links),
+        Err(_) => Err(Failure::OutOfMemory),
+    }
+}
+
+fn chain_of(
+    alloc: Global,
+    held: &Held,
+    key_id: &[u8],
+    permission: &[u8],
+) -> Result<Vec<Link>, Failure>
+    ensures ok { IfOk result (λ v. chain_tells held.now key_id.now permission.now v.items) }
+    ensures err { IfErr result (FailsAs (chain_lacks held.now key_id.now permission.now) (chain_bad held.now key_id.now permission.now)) }
+{
+    match held {
+        Held::Package(log) => chain_of_log(alloc, log, key_id, permission),
+        Held::Operator(log) => chain_of_log(alloc, log, key_id, permission),
+    }
+}
+
+/// By which entries a key id came to hold a permission.
+#[unsafe(no_mangle)]
+pub extern "C" fn warg_chain(
+    alloc: Global,
+    log: &mut WargLog,
+    key_id: &[u8],
+    permission: &[u8],
+    links: &mut [Link],
+    used: &mut usize,
+) -> u32
+    ensures answer { Answers result log.old.owned.kept (λ held. chain_tells held key_id.now permission.now (take used.new links.new))
+        (λ held. TextFails (chain_tells held key_id.now permission.now) (chain_lacks held key_id.now permission.now)
+        (chain_bad held key_id.now permission.now) used.new links.old) }
+    ensures unchanged { log.new.owned.kept ≡ log.old.owned.kept }
+{
+    *used = 0;
+    let Some(held) = log.take(alloc) else {
+        return status(Err(Failure::NotOpen));
+    };
+    let outcome = chain_of(alloc, &held, key_id, permission);
+    log.put(held);
+    finish(outcome, links, used)
+}

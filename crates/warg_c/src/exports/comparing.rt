@@ -1,0 +1,96 @@
+//! Comparing two logs.
+ghost use Rattle.std.specs.Prelude.{◌≡◌, ◌⊎◌, None, Some, IfOk, IfErr};
+ghost use Rattle.warg_c.specs.Comparisons.{ComparisonIs, compare_tells, compare_answers, compare_bad, shown_of};
+ghost use Rattle.warg_c.specs.Logs.{whole_of};
+ghost use Rattle.warg_c.specs.Statuses.{Answers};
+ghost use Rattle.warg_c.specs.Texts.{CallFails, FailsAs};
+
+use crate::failure::{Failure, status};
+use crate::given::finish_value;
+use crate::handle::WargLog;
+use crate::held::Held;
+use crate::kept_log::KeptLog;
+use std::alloc::Global;
+use warg_audited_log::Comparison as LogComparison;
+use warg_validator::Validator;
+
+/// How two logs compare.
+#[repr(C)]
+#[derive(Clone, Copy)]
+pub struct Comparison {
+    /// 0 same, 1 the left one is a prefix, 2 the right one is, 3 they fork, 4 their heads collide.
+    pub is: u32,
+    /// The place in the left log.
+    pub left: usize,
+    /// The place in the right log.
+    pub right: usize,
+}
+
+fn shown(comparison: LogComparison) -> Comparison
+    ensures { result ≡ shown_of comparison }
+{
+    let (is, left, right) = match comparison {
+        LogComparison::Same => (0, 0, 0),
+        LogComparison::LeftIsPrefix { at } => (1, at, at),
+        LogComparison::RightIsPrefix { at } => (2, at, at),
+        LogComparison::Fork { at } => (3, at, at),
+        LogComparison::Collision { left, right } => (4, left, right),
+    };
+    Comparison { is, left, right }
+}
+
+fn compare_logs<L: Validator>(left: &KeptLog<L>, right: &KeptLog<L>) -> Result<Comparison, Failure>
+    ensures ok { IfOk result (ComparisonIs L.kind L.view (whole_of left.now) (whole_of right.now)) }
+    ensures err { IfErr result (FailsAs ⊥ ((whole_of left.now ≡ None) ⊎ (whole_of right.now ≡ None))) }
+{
+    let Some(left) = left.whole() else {
+        return Err(Failure::BadArgument);
+    };
+    let Some(right) = right.whole() else {
+        return Err(Failure::BadArgument);
+    };
+    Ok(shown(left.compare(right)))
+}
+
+fn compare_held(left: &Held, right: &Held) -> Result<Comparison, Failure>
+    ensures ok { IfOk result (compare_tells left.now right.now) }
+    ensures err { IfErr result (FailsAs ⊥ (compare_bad left.now right.now)) }
+{
+    match (left, right) {
+        (Held::Package(left), Held::Package(right)) => compare_logs(left, right),
+        (Held::Operator(left), Held::Operator(right)) => compare_logs(left, right),
+        _ => Err(Failure::BadArgument),
+    }
+}
+
+// Compares a log that is open with a handle's.
+fn compare_with(alloc: Global, left: &Held, right: &mut WargLog, comparison: &mut Comparison) -> u32
+    ensures answer { Answers result right.old.owned.kept (λ held. compare_tells left.now held comparison.new) (λ held. CallFails ⊥ (compare_bad left.now held)) }
+    ensures unchanged { right.new.owned.kept ≡ right.old.owned.kept }
+{
+    let Some(held) = right.take(alloc) else {
+        return status(Err(Failure::NotOpen));
+    };
+    let outcome = compare_held(left, &held);
+    right.put(held);
+    finish_value(outcome, comparison)
+}
+
+/// Compares the records of two logs.
+#[unsafe(no_mangle)]
+pub extern "C" fn warg_compare(
+    alloc: Global,
+    left: &mut WargLog,
+    right: &mut WargLog,
+    comparison: &mut Comparison,
+) -> u32
+    ensures answer { compare_answers result left.old.owned.kept right.old.owned.kept comparison.new }
+    ensures unchanged { (left.new.owned.kept ≡ left.old.owned.kept) × (right.new.owned.kept ≡ right.old.owned.kept) }
+{
+    let Some(held) = left.take(alloc) else {
+        return status(Err(Failure::NotOpen));
+    };
+    let answer = compare_with(alloc, &held, right, comparison);
+    left.put(held);
+    answer
+}

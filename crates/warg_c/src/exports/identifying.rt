@@ -1,0 +1,71 @@
+//! The id of an envelope's record.
+ghost use Rattle.std.specs.Prelude.{◌≡◌, ◌⊎◌, Ok, Some, IfErr, OnOk, take};
+ghost use Rattle.warg_envelope.specs.Envelopes.{envelope_of, envelope_fault_of};
+ghost use Rattle.warg_c.specs.Ids.{IsIdOf, IdFails, id_tells, id_fails};
+ghost use Rattle.warg_c.specs.Statuses.{Answered};
+
+use crate::exports::records::id_text;
+use crate::failure::{Failure, status};
+use crate::given::give;
+use crate::held::Kind;
+use crate::refusal::refuse;
+use std::alloc::Global;
+use std::fmt;
+use warg_envelope::ProtoEnvelope;
+use warg_operator_log::LogState as OperatorState;
+use warg_package_log::LogState as PackageState;
+use warg_validator::{Named, RunCause, Validator};
+
+// The text of the id of an envelope's record.
+fn id_in<L: Validator>(
+    alloc: Global,
+    envelope: &[u8],
+    text: &mut [u8],
+    used: &mut usize,
+) -> Result<(), Failure>
+where
+    L::Error: Named + fmt::Display,
+    ensures ok { OnOk result (IsIdOf L.kind (envelope_of L.Record.read) envelope.now (take used.new text.new)) }
+    ensures err { IfErr result (IdFails L.kind (envelope_of L.Record.read) envelope.now used.new text.old) }
+{
+    let envelope = match ProtoEnvelope::<L::Record>::from_protobuf(alloc, envelope) {
+        Ok(envelope) => envelope,
+        Err(error) => {
+            let cause: RunCause<L::Error> = RunCause::Parse(error);
+            return Err(refuse::<L>(alloc, &cause, text, used));
+        }
+    };
+    let id = id_text(alloc, &L::record_id(&envelope))?;
+    give(id.as_slice(), text, used)
+}
+
+fn id_of(
+    alloc: Global,
+    kind: u32,
+    envelope: &[u8],
+    text: &mut [u8],
+    used: &mut usize,
+) -> Result<(), Failure>
+    ensures ok { OnOk result (id_tells kind envelope.now (take used.new text.new)) }
+    ensures err { IfErr result (id_fails kind envelope.now used.new text.old) }
+{
+    match Kind::numbered(kind)? {
+        Kind::Package => id_in::<PackageState>(alloc, envelope, text, used),
+        Kind::Operator => id_in::<OperatorState>(alloc, envelope, text, used),
+    }
+}
+
+/// The text of the id of an envelope's record.
+#[unsafe(no_mangle)]
+pub extern "C" fn warg_id(
+    alloc: Global,
+    kind: u32,
+    envelope: &[u8],
+    text: &mut [u8],
+    used: &mut usize,
+) -> u32
+    ensures { Answered result (id_tells kind envelope.now (take used.new text.new)) (id_fails kind envelope.now used.new text.old) }
+{
+    *used = 0;
+    status(id_of(alloc, kind, envelope, text, used))
+}

@@ -1,0 +1,233 @@
+//! Keys, and what they may do.
+ghost use Rattle.std.specs.Prelude.{◌≡◌, ◌⊎◌, None, Some, true, false, Bool, IfOk, IfErr, OnOk, take, string_bytes};
+ghost use Rattle.std.specs.Option.{option_copied};
+ghost use Rattle.std.specs.Str.{IsUtf8};
+ghost use Rattle.warg_c.specs.Keys.{HoldsIs, IsNoPermission, KeyText, added, holds_tells, holds_bad, key_of, PackageText, OperatorText, permissions_tell, permissions_lack, package_permissions, operator_permissions};
+ghost use Rattle.warg_operator_log.specs.State as operators;
+ghost use Rattle.warg_package_log.specs.State as packages;
+ghost use Rattle.warg_c.specs.Logs.{state_of};
+ghost use Rattle.warg_c.specs.Statuses.{Answers};
+ghost use Rattle.warg_c.specs.Texts.{CallFails, FailsAs, TextFails};
+
+use crate::argument::{key_id_of, permission_of};
+use crate::failure::{Failure, status};
+use crate::given::finish;
+use crate::handle::WargLog;
+use crate::held::Held;
+use crate::kept_log::KeptLog;
+use std::alloc::{AllocError, Global};
+use warg_crypto::signing::{KeyID, PublicKey};
+use warg_operator_log::LogState as OperatorState;
+use warg_package_log::LogState as PackageState;
+use warg_permissions::LogPermission;
+use warg_records::operator::Permission as OperatorPermission;
+use warg_records::package::Permission as PackagePermission;
+use warg_validator::Validator;
+
+fn log_holds<L: Validator>(
+    alloc: Global,
+    log: &KeptLog<L>,
+    key_id: &[u8],
+    permission: &[u8],
+) -> Result<(), Failure>
+where
+    L::Permission: LogPermission,
+    ensures ok { OnOk result (HoldsIs L.Permission.named (L.held (L.view (state_of log.now))) key_id.now permission.now true) }
+    ensures err { IfErr result (FailsAs (HoldsIs L.Permission.named (L.held (L.view (state_of log.now))) key_id.now permission.now false)
+        (IsNoPermission L.Permission.named key_id.now permission.now)) }
+{
+    let key_id = key_id_of(alloc, key_id)?;
+    let permission = permission_of::<L::Permission>(permission)?;
+    if log.state().holds(&key_id, permission) {
+        Ok(())
+    } else {
+        Err(Failure::Absent)
+    }
+}
+
+fn holds(alloc: Global, held: &Held, key_id: &[u8], permission: &[u8]) -> Result<(), Failure>
+    ensures ok { OnOk result (holds_tells held.now key_id.now permission.now true) }
+    ensures err { IfErr result (FailsAs (holds_tells held.now key_id.now permission.now false) (holds_bad held.now key_id.now permission.now)) }
+{
+    match held {
+        Held::Package(log) => log_holds(alloc, log, key_id, permission),
+        Held::Operator(log) => log_holds(alloc, log, key_id, permission),
+    }
+}
+
+/// Whether a key id holds a permission.
+#[unsafe(no_mangle)]
+pub extern "C" fn warg_holds(
+    alloc: Global,
+    log: &mut WargLog,
+    key_id: &[u8],
+    permission: &[u8],
+) -> u32
+    ensures answer { Answers result log.old.owned.kept (λ held. holds_tells held key_id.now permission.now true)
+        (λ held. CallFails (holds_tells held key_id.now permission.now false) (holds_bad held key_id.now permission.now)) }
+    ensures unchanged { log.new.owned.kept ≡ log.old.owned.kept }
+{
+    let Some(held) = log.take(alloc) else {
+        return status(Err(Failure::NotOpen));
+    };
+    let outcome = holds(alloc, &held, key_id, permission);
+    log.put(held);
+    status(outcome)
+}
+
+// Adds a name to the text, behind a space where it is not the first, if it is held.
+fn add(text: &mut Vec<u8>, is_held: bool, name: &str) -> Result<(), AllocError>
+    ensures { OnOk result (text.new.items ≡ added text.old.items is_held name.now) }
+{
+    if is_held {
+        if !text.is_empty() {
+            text.push(b' ')?;
+        }
+        text.extend_from_slice(name.as_bytes())?;
+    }
+    Ok(())
+}
+
+fn package_text(alloc: Global, release: bool, yank: bool) -> Result<Vec<u8>, AllocError>
+    ensures { IfOk result (λ v. v.items ≡ package_permissions release yank) }
+{
+    let mut text = Vec::new(alloc);
+    add(&mut text, release, "release")?;
+    add(&mut text, yank, "yank")?;
+    Ok(text)
+}
+
+fn operator_text(
+    alloc: Global,
+    commit: bool,
+    define: bool,
+    import: bool,
+) -> Result<Vec<u8>, AllocError>
+    ensures { IfOk result (λ v. v.items ≡ operator_permissions commit define import) }
+{
+    let mut text = Vec::new(alloc);
+    add(&mut text, commit, "commit")?;
+    add(&mut text, define, "defineNamespace")?;
+    add(&mut text, import, "importNamespace")?;
+    Ok(text)
+}
+
+// What a key id holds in a package log.
+fn package_permissions(
+    alloc: Global,
+    state: &PackageState,
+    key_id: &KeyID,
+) -> Result<Vec<u8>, Failure>
+    ensures ok { IfOk result (λ v. PackageText (packages.view_of state.now) key_id.now v.items) }
+    ensures err { IfErr result (FailsAs ((packages.view_of state.now).state.authority.has_entry key_id.now ≡ false) ⊥) }
+{
+    let Some(_set) = state.key_permissions(key_id) else {
+        return Err(Failure::Absent);
+    };
+    let release = state.holds(key_id, PackagePermission::Release);
+    let yank = state.holds(key_id, PackagePermission::Yank);
+    match package_text(alloc, release, yank) {
+        Ok(text) => Ok(text),
+        Err(_) => Err(Failure::OutOfMemory),
+    }
+}
+
+// What a key id holds in an operator log.
+fn operator_permissions(
+    alloc: Global,
+    state: &OperatorState,
+    key_id: &KeyID,
+) -> Result<Vec<u8>, Failure>
+    ensures ok { IfOk result (λ v. OperatorText (operators.view_of state.now) key_id.now v.items) }
+    ensures err { IfErr result (FailsAs ((operators.view_of state.now).state.authority.has_entry key_id.now ≡ false) ⊥) }
+{
+    let Some(_set) = state.key_permissions(key_id) else {
+        return Err(Failure::Absent);
+    };
+    let commit = state.holds(key_id, OperatorPermission::Commit);
+    let define = state.holds(key_id, OperatorPermission::DefineNamespace);
+    let import = state.holds(key_id, OperatorPermission::ImportNamespace);
+    match operator_text(alloc, commit, define, import) {
+        Ok(text) => Ok(text),
+        Err(_) => Err(Failure::OutOfMemory),
+    }
+}
+
+fn permissions_of(alloc: Global, held: &Held, key_id: &[u8]) -> Result<Vec<u8>, Failure>
+    ensures ok { IfOk result (λ v. permissions_tell held.now key_id.now v.items) }
+    ensures err { IfErr result (FailsAs (permissions_lack held.now key_id.now) (IsUtf8 key_id.now → ⊥)) }
+{
+    let key_id = key_id_of(alloc, key_id)?;
+    match held {
+        Held::Package(log) => package_permissions(alloc, log.state(), &key_id),
+        Held::Operator(log) => operator_permissions(alloc, log.state(), &key_id),
+    }
+}
+
+/// The permissions of a key id, with a space between two.
+#[unsafe(no_mangle)]
+pub extern "C" fn warg_permissions(
+    alloc: Global,
+    log: &mut WargLog,
+    key_id: &[u8],
+    text: &mut [u8],
+    used: &mut usize,
+) -> u32
+    ensures answer { Answers result log.old.owned.kept (λ held. permissions_tell held key_id.now (take used.new text.new))
+        (λ held. TextFails (permissions_tell held key_id.now) (permissions_lack held key_id.now) (IsUtf8 key_id.now → ⊥) used.new text.old) }
+    ensures unchanged { log.new.owned.kept ≡ log.old.owned.kept }
+{
+    *used = 0;
+    let Some(held) = log.take(alloc) else {
+        return status(Err(Failure::NotOpen));
+    };
+    let outcome = permissions_of(alloc, &held, key_id);
+    log.put(held);
+    finish(outcome, text, used)
+}
+
+// The key of an id.
+fn key_of<'a>(held: &'a Held, key_id: &KeyID) -> Option<&'a PublicKey>
+    ensures { option_copied result ≡ key_of held.now key_id.now }
+{
+    match held {
+        Held::Package(log) => log.state().public_key(key_id),
+        Held::Operator(log) => log.state().public_key(key_id),
+    }
+}
+
+fn key_text(alloc: Global, held: &Held, key_id: &[u8]) -> Result<Vec<u8>, Failure>
+    ensures ok { IfOk result (λ v. KeyText (key_of held.now key_id.now) v.items) }
+    ensures err { IfErr result (FailsAs (key_of held.now key_id.now ≡ None) (IsUtf8 key_id.now → ⊥)) }
+{
+    let key_id = key_id_of(alloc, key_id)?;
+    let Some(key) = key_of(held, &key_id) else {
+        return Err(Failure::Absent);
+    };
+    match key.to_text(alloc) {
+        Ok(text) => Ok(text.into_bytes()),
+        Err(_) => Err(Failure::OutOfMemory),
+    }
+}
+
+/// The text of the key of a key id.
+#[unsafe(no_mangle)]
+pub extern "C" fn warg_key(
+    alloc: Global,
+    log: &mut WargLog,
+    key_id: &[u8],
+    text: &mut [u8],
+    used: &mut usize,
+) -> u32
+    ensures answer { Answers result log.old.owned.kept (λ held. KeyText (key_of held key_id.now) (take used.new text.new))
+        (λ held. TextFails (KeyText (key_of held key_id.now)) (key_of held key_id.now ≡ None) (IsUtf8 key_id.now → ⊥) used.new text.old) }
+    ensures unchanged { log.new.owned.kept ≡ log.old.owned.kept }
+{
+    *used = 0;
+    let Some(held) = log.take(alloc) else {
+        return status(Err(Failure::NotOpen));
+    };
+    let outcome = key_text(alloc, &held, key_id);
+    log.put(held);
+    finish(outcome, text, used)
+}

@@ -1,0 +1,78 @@
+//! The namespaces of an operator log.
+ghost use Rattle.std.specs.Prelude.{◌≡◌, ◌⊎◌, None, Some, IfOk, IfErr, take};
+ghost use Rattle.std.specs.Option.{option_copied, option_map};
+ghost use Rattle.std.specs.Str.{IsUtf8};
+ghost use Rattle.warg_operator_log.specs.NamespaceMap.{namespace_view};
+ghost use Rattle.warg_operator_log.specs.State.{view_of};
+ghost use Rattle.warg_c.specs.Namespaces.{NamespaceIs, namespace_tells, namespace_lacks, namespace_bad};
+ghost use Rattle.warg_c.specs.Statuses.{Answers};
+ghost use Rattle.warg_c.specs.Texts.{FailsAs, TextFails};
+
+use crate::failure::{Failure, status};
+use crate::given::finish_with;
+use crate::handle::WargLog;
+use crate::held::Held;
+use std::alloc::{AllocError, Global};
+use warg_operator_log::{LogState, NamespaceState};
+
+// What a namespace is, as bytes and a number.
+fn spell_namespace(alloc: Global, state: &NamespaceState) -> Result<(Vec<u8>, u32), AllocError>
+    ensures { IfOk result (λ p. NamespaceIs (Some (namespace_view state.now)) p.1 p.0.items) }
+{
+    match state {
+        NamespaceState::Defined => Ok((Vec::new(alloc), 0)),
+        NamespaceState::Imported { registry } => {
+            let name = Vec::from_slice(alloc, registry.as_bytes())?;
+            Ok((name, 1))
+        }
+    }
+}
+
+fn namespace_in(alloc: Global, state: &LogState, name: &[u8]) -> Result<(Vec<u8>, u32), Failure>
+    ensures ok { IfOk result (λ p. NamespaceIs ((view_of state.now).state.own_state name.now) p.1 p.0.items) }
+    ensures err { IfErr result (FailsAs ((view_of state.now).state.own_state name.now ≡ None) (IsUtf8 name.now → ⊥)) }
+{
+    let Ok(name) = str::from_utf8(name) else {
+        return Err(Failure::BadArgument);
+    };
+    let Some(found) = state.namespace_state(name) else {
+        return Err(Failure::Absent);
+    };
+    match spell_namespace(alloc, found) {
+        Ok(spelled) => Ok(spelled),
+        Err(_) => Err(Failure::OutOfMemory),
+    }
+}
+
+fn namespace_of(alloc: Global, held: &Held, name: &[u8]) -> Result<(Vec<u8>, u32), Failure>
+    ensures ok { IfOk result (λ p. namespace_tells held.now name.now p.1 p.0.items) }
+    ensures err { IfErr result (FailsAs (namespace_lacks held.now name.now) (namespace_bad held.now name.now)) }
+{
+    match held {
+        Held::Package(_) => Err(Failure::BadArgument),
+        Held::Operator(log) => namespace_in(alloc, log.state(), name),
+    }
+}
+
+/// What a namespace is.
+#[unsafe(no_mangle)]
+pub extern "C" fn warg_namespace(
+    alloc: Global,
+    log: &mut WargLog,
+    name: &[u8],
+    text: &mut [u8],
+    used: &mut usize,
+    is_imported: &mut u32,
+) -> u32
+    ensures answer { Answers result log.old.owned.kept (λ held. namespace_tells held name.now is_imported.new (take used.new text.new))
+        (λ held. TextFails (namespace_tells held name.now is_imported.new) (namespace_lacks held name.now) (namespace_bad held name.now) used.new text.old) }
+    ensures unchanged { log.new.owned.kept ≡ log.old.owned.kept }
+{
+    *used = 0;
+    let Some(held) = log.take(alloc) else {
+        return status(Err(Failure::NotOpen));
+    };
+    let outcome = namespace_of(alloc, &held, name);
+    log.put(held);
+    finish_with(outcome, text, used, is_imported)
+}

@@ -1,0 +1,48 @@
+//! Opening and closing.
+ghost use Rattle.std.specs.Prelude.{◌≡◌, ◌≢◌, ◌⊎◌, None, Some, IfOk, IfErr, IsSomeAnd};
+ghost use Rattle.warg_c.specs.Held.{IsNew, IsOfNumber, IsNoKind};
+ghost use Rattle.warg_c.specs.Statuses.{Answered};
+ghost use Rattle.warg_c.specs.Texts.{CallFails, FailsAs};
+
+use crate::failure::{Failure, status};
+use crate::handle::WargLog;
+use crate::held::{Held, Kind};
+use std::alloc::Global;
+
+// A log of no records, of the kind that the number names.
+fn opened(alloc: Global, kind: u32) -> Result<Box<Held>, Failure>
+    ensures ok { IfOk result (λ b. IsNew b.value × IsOfNumber kind b.value) }
+    ensures err { IfErr result (FailsAs ⊥ (IsNoKind kind)) }
+{
+    let kind = Kind::numbered(kind)?;
+    let Ok(held) = Held::new(alloc, kind) else {
+        return Err(Failure::OutOfMemory);
+    };
+    match held.boxed(alloc) {
+        Ok(held) => Ok(held),
+        Err(_) => Err(Failure::OutOfMemory),
+    }
+}
+
+/// Begins a log of no records. One that was open is closed.
+#[unsafe(no_mangle)]
+pub extern "C" fn warg_open(alloc: Global, log: &mut WargLog, kind: u32) -> u32
+    ensures answer { Answered result (IsSomeAnd log.new.owned.kept (λ held. IsNew held × IsOfNumber kind held)) (CallFails ⊥ (IsNoKind kind)) }
+    ensures unchanged { result ≢ 0 → log.new.owned.kept ≡ log.old.owned.kept }
+{
+    match opened(alloc, kind) {
+        Ok(held) => {
+            log.put(held);
+            status(Ok(()))
+        }
+        Err(failure) => status(Err(failure)),
+    }
+}
+
+/// Closes a log. One that is none stays none.
+#[unsafe(no_mangle)]
+pub extern "C" fn warg_close(alloc: Global, log: &mut WargLog)
+    ensures { log.new.owned.kept ≡ None }
+{
+    log.take(alloc);
+}

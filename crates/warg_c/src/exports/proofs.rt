@@ -1,0 +1,173 @@
+//! What a registry proves of its log and its map.
+ghost use Rattle.std.specs.Prelude.{OnOk, IfErr};
+ghost use Rattle.warg_c.specs.Proofs.{Consistent, Included, IsAbsence, IsConsistency, IsInclusion, IsNoAbsence, IsNoConsistency, IsNoInclusion, IsNoPresence, IsPresence, Lacking, NotConsistent, NotIncluded, NotLacking, NotPresent, Present, ProofFails};
+ghost use Rattle.warg_c.specs.Statuses.{Answered};
+
+use crate::failure::{Failure, status};
+use crate::proof_text::{hash_in, leaf_in, log_proof_in, map_proof_in};
+use std::alloc::Global;
+use warg_registry::{Checkpoint, LogId, MapLeaf};
+use warg_transparency::{verify_absence, verify_consistency, verify_inclusion, verify_presence};
+
+fn inclusion(
+    alloc: Global,
+    log_id: &[u8],
+    record_id: &[u8],
+    place: u64,
+    length: u64,
+    root: &[u8],
+    proof: &[u8],
+) -> Result<(), Failure>
+    ensures ok { OnOk result (IsInclusion log_id.now record_id.now root.now proof.now (Included place length)) }
+    ensures err { IfErr result (ProofFails
+        (IsInclusion log_id.now record_id.now root.now proof.now (NotIncluded place length))
+        (IsNoInclusion log_id.now record_id.now root.now proof.now)) }
+{
+    let leaf = leaf_in(log_id, record_id)?;
+    let root = hash_in(root)?;
+    let proof = log_proof_in(alloc, proof)?;
+    if verify_inclusion(&leaf, place, length, proof.hashes(), &root) {
+        Ok(())
+    } else {
+        Err(Failure::Refused)
+    }
+}
+
+/// Whether the leaf of a log's record stands at the place of the log of that length and root.
+#[unsafe(no_mangle)]
+pub extern "C" fn warg_verify_inclusion(
+    alloc: Global,
+    log_id: &[u8],
+    record_id: &[u8],
+    place: u64,
+    length: u64,
+    root: &[u8],
+    proof: &[u8],
+) -> u32
+    ensures { Answered result (IsInclusion log_id.now record_id.now root.now proof.now (Included place length))
+        (ProofFails (IsInclusion log_id.now record_id.now root.now proof.now (NotIncluded place length))
+        (IsNoInclusion log_id.now record_id.now root.now proof.now)) }
+{
+    status(inclusion(alloc, log_id, record_id, place, length, root, proof))
+}
+
+fn consistency(
+    alloc: Global,
+    old_length: u64,
+    old_root: &[u8],
+    new_length: u64,
+    new_root: &[u8],
+    proof: &[u8],
+) -> Result<(), Failure>
+    ensures ok { OnOk result (IsConsistency old_root.now new_root.now proof.now (Consistent old_length new_length)) }
+    ensures err { IfErr result (ProofFails
+        (IsConsistency old_root.now new_root.now proof.now (NotConsistent old_length new_length))
+        (IsNoConsistency old_root.now new_root.now proof.now)) }
+{
+    let old_root = hash_in(old_root)?;
+    let new_root = hash_in(new_root)?;
+    let proof = log_proof_in(alloc, proof)?;
+    // Of a checkpoint's map nothing is asked here.
+    let old = Checkpoint {
+        log_root: old_root,
+        log_length: old_length as usize,
+        map_root: old_root,
+    };
+    let new = Checkpoint {
+        log_root: new_root,
+        log_length: new_length as usize,
+        map_root: new_root,
+    };
+    if verify_consistency(&old, &new, proof.hashes()) {
+        Ok(())
+    } else {
+        Err(Failure::Refused)
+    }
+}
+
+/// Whether the log of the new length and root begins with that of the old ones.
+#[unsafe(no_mangle)]
+pub extern "C" fn warg_verify_consistency(
+    alloc: Global,
+    old_length: u64,
+    old_root: &[u8],
+    new_length: u64,
+    new_root: &[u8],
+    proof: &[u8],
+) -> u32
+    ensures { Answered result (IsConsistency old_root.now new_root.now proof.now (Consistent old_length new_length))
+        (ProofFails (IsConsistency old_root.now new_root.now proof.now (NotConsistent old_length new_length))
+        (IsNoConsistency old_root.now new_root.now proof.now)) }
+{
+    status(consistency(alloc, old_length, old_root, new_length, new_root, proof))
+}
+
+fn presence(
+    alloc: Global,
+    log_id: &[u8],
+    record_id: &[u8],
+    root: &[u8],
+    proof: &[u8],
+) -> Result<(), Failure>
+    ensures ok { OnOk result (IsPresence log_id.now record_id.now root.now proof.now Present) }
+    ensures err { IfErr result (ProofFails (IsPresence log_id.now record_id.now root.now proof.now NotPresent)
+        (IsNoPresence log_id.now record_id.now root.now proof.now)) }
+{
+    let leaf = leaf_in(log_id, record_id)?;
+    let root = hash_in(root)?;
+    let proof = map_proof_in(alloc, proof)?;
+    let head = MapLeaf {
+        record_id: leaf.record_id,
+    };
+    if verify_presence(&leaf.log_id, &head, &proof, &root) {
+        Ok(())
+    } else {
+        Err(Failure::Refused)
+    }
+}
+
+/// Whether the map of that root says that the record is the last of the log.
+#[unsafe(no_mangle)]
+pub extern "C" fn warg_verify_presence(
+    alloc: Global,
+    log_id: &[u8],
+    record_id: &[u8],
+    root: &[u8],
+    proof: &[u8],
+) -> u32
+    ensures { Answered result (IsPresence log_id.now record_id.now root.now proof.now Present)
+        (ProofFails (IsPresence log_id.now record_id.now root.now proof.now NotPresent)
+        (IsNoPresence log_id.now record_id.now root.now proof.now)) }
+{
+    status(presence(alloc, log_id, record_id, root, proof))
+}
+
+fn absence(alloc: Global, log_id: &[u8], root: &[u8], proof: &[u8]) -> Result<(), Failure>
+    ensures ok { OnOk result (IsAbsence log_id.now root.now proof.now Lacking) }
+    ensures err { IfErr result (ProofFails (IsAbsence log_id.now root.now proof.now NotLacking)
+        (IsNoAbsence log_id.now root.now proof.now)) }
+{
+    let log = hash_in(log_id)?;
+    let root = hash_in(root)?;
+    let proof = map_proof_in(alloc, proof)?;
+    if verify_absence(&LogId::from(log), &proof, &root) {
+        Ok(())
+    } else {
+        Err(Failure::Refused)
+    }
+}
+
+/// Whether the map of that root says nothing of the log.
+#[unsafe(no_mangle)]
+pub extern "C" fn warg_verify_absence(
+    alloc: Global,
+    log_id: &[u8],
+    root: &[u8],
+    proof: &[u8],
+) -> u32
+    ensures { Answered result (IsAbsence log_id.now root.now proof.now Lacking)
+        (ProofFails (IsAbsence log_id.now root.now proof.now NotLacking)
+        (IsNoAbsence log_id.now root.now proof.now)) }
+{
+    status(absence(alloc, log_id, root, proof))
+}

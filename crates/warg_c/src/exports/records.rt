@@ -1,0 +1,185 @@
+//! The records of a log, and their ids.
+ghost use Rattle.std.specs.Prelude.{◌≡◌, ◌⊎◌, ◌++◌, None, Some, IfOk, IfErr, OnOk, length, take};
+ghost use Rattle.std.specs.Option.{option_copied};
+ghost use Rattle.warg_c.specs.Lookups.{IdText, LengthIs, IsBeyond, IsRecord, IsRecordAt, head_of, length_tells, has_no_records, record_tells, record_lacks};
+ghost use Rattle.warg_c.specs.Logs.{whole_of};
+ghost use Rattle.warg_c.specs.Statuses.{Answers};
+ghost use Rattle.warg_c.specs.Texts.{TextFails, CallFails, FailsAs};
+
+use crate::failure::{Failure, status};
+use crate::given::{finish, finish_value, finish_with};
+use crate::handle::WargLog;
+use crate::held::Held;
+use crate::kept_log::KeptLog;
+use std::alloc::{AllocError, Global};
+use warg_envelope::ProtoEnvelope;
+use warg_records::RecordId;
+use warg_validator::Validator;
+
+/// How many bytes of a kept record are its envelope and the text of its id.
+#[repr(C)]
+#[derive(Clone, Copy)]
+pub struct KeptLengths {
+    /// The length of the envelope.
+    pub envelope_len: usize,
+    /// The length of the id's text.
+    pub id_len: usize,
+}
+
+// The text of an id.
+pub(crate) fn id_text(alloc: Global, id: &RecordId) -> Result<Vec<u8>, Failure>
+    ensures ok { IfOk result (λ v. IdText (Some id.now) v.items) }
+    ensures err { IfErr result (FailsAs ⊥ ⊥) }
+{
+    match id.to_string(alloc) {
+        Ok(text) => Ok(text.into_bytes()),
+        Err(_) => Err(Failure::OutOfMemory),
+    }
+}
+
+// The id of the last record.
+fn head_of(held: &Held) -> Option<&RecordId>
+    ensures { option_copied result ≡ head_of held.now }
+{
+    match held {
+        Held::Package(log) => log.state().head_digest(),
+        Held::Operator(log) => log.state().head_digest(),
+    }
+}
+
+fn head_text(alloc: Global, held: &Held) -> Result<Vec<u8>, Failure>
+    ensures ok { IfOk result (λ v. IdText (head_of held.now) v.items) }
+    ensures err { IfErr result (FailsAs (head_of held.now ≡ None) ⊥) }
+{
+    match head_of(held) {
+        Some(id) => id_text(alloc, id),
+        None => Err(Failure::Absent),
+    }
+}
+
+/// The text of the id of the last record.
+#[unsafe(no_mangle)]
+pub extern "C" fn warg_head(
+    alloc: Global,
+    log: &mut WargLog,
+    text: &mut [u8],
+    used: &mut usize,
+) -> u32
+    ensures answer { Answers result log.old.owned.kept (λ held. IdText (head_of held) (take used.new text.new))
+        (λ held. TextFails (IdText (head_of held)) (head_of held ≡ None) ⊥ used.new text.old) }
+    ensures unchanged { log.new.owned.kept ≡ log.old.owned.kept }
+{
+    *used = 0;
+    let Some(held) = log.take(alloc) else {
+        return status(Err(Failure::NotOpen));
+    };
+    let outcome = head_text(alloc, &held);
+    log.put(held);
+    finish(outcome, text, used)
+}
+
+fn length_of_log<L: Validator>(log: &KeptLog<L>) -> Result<usize, Failure>
+    ensures ok { IfOk result (λ n. LengthIs (whole_of log.now) n) }
+    ensures err { IfErr result (FailsAs ⊥ (whole_of log.now ≡ None)) }
+{
+    match log.whole() {
+        Some(log) => Ok(log.len()),
+        None => Err(Failure::BadArgument),
+    }
+}
+
+fn length_of(held: &Held) -> Result<usize, Failure>
+    ensures ok { IfOk result (length_tells held.now) }
+    ensures err { IfErr result (FailsAs ⊥ (has_no_records held.now)) }
+{
+    match held {
+        Held::Package(log) => length_of_log(log),
+        Held::Operator(log) => length_of_log(log),
+    }
+}
+
+/// How many records the log has.
+#[unsafe(no_mangle)]
+pub extern "C" fn warg_length(alloc: Global, log: &mut WargLog, length: &mut usize) -> u32
+    ensures answer { Answers result log.old.owned.kept (λ held. length_tells held length.new)
+        (λ held. CallFails ⊥ (has_no_records held)) }
+    ensures unchanged { log.new.owned.kept ≡ log.old.owned.kept }
+{
+    let Some(held) = log.take(alloc) else {
+        return status(Err(Failure::NotOpen));
+    };
+    let outcome = length_of(&held);
+    log.put(held);
+    finish_value(outcome, length)
+}
+
+// A record as bytes: its envelope, and the text of its id.
+fn spell_record<L: Validator>(
+    alloc: Global,
+    envelope: &ProtoEnvelope<L::Record>,
+) -> Result<(Vec<u8>, KeptLengths), AllocError>
+    ensures { IfOk result (λ p. IsRecord L.kind envelope.now.envelope p.1 p.0.items) }
+{
+    let mut bytes = envelope.to_protobuf(alloc)?;
+    let envelope_len = bytes.len();
+    let id = L::record_id(envelope).to_string(alloc)?;
+    bytes.extend_from_slice(id.as_bytes())?;
+    let lengths = KeptLengths {
+        envelope_len,
+        id_len: id.as_bytes().len(),
+    };
+    Ok((bytes, lengths))
+}
+
+fn record_of<L: Validator>(
+    alloc: Global,
+    log: &KeptLog<L>,
+    place: usize,
+) -> Result<(Vec<u8>, KeptLengths), Failure>
+    ensures ok { IfOk result (λ p. IsRecordAt L.kind (whole_of log.now) place p.1 p.0.items) }
+    ensures err { IfErr result (FailsAs (IsBeyond (whole_of log.now) place) (whole_of log.now ≡ None)) }
+{
+    let Some(log) = log.whole() else {
+        return Err(Failure::BadArgument);
+    };
+    let Some(envelope) = log.records().get(place) else {
+        return Err(Failure::Absent);
+    };
+    match spell_record::<L>(alloc, envelope) {
+        Ok(spelled) => Ok(spelled),
+        Err(_) => Err(Failure::OutOfMemory),
+    }
+}
+
+fn record_in(alloc: Global, held: &Held, place: usize) -> Result<(Vec<u8>, KeptLengths), Failure>
+    ensures ok { IfOk result (λ p. record_tells held.now place p.1 p.0.items) }
+    ensures err { IfErr result (FailsAs (record_lacks held.now place) (has_no_records held.now)) }
+{
+    match held {
+        Held::Package(log) => record_of(alloc, log, place),
+        Held::Operator(log) => record_of(alloc, log, place),
+    }
+}
+
+/// The record at a place: its envelope, and the text of its id.
+#[unsafe(no_mangle)]
+pub extern "C" fn warg_record(
+    alloc: Global,
+    log: &mut WargLog,
+    place: usize,
+    bytes: &mut [u8],
+    used: &mut usize,
+    kept: &mut KeptLengths,
+) -> u32
+    ensures answer { Answers result log.old.owned.kept (λ held. record_tells held place kept.new (take used.new bytes.new))
+        (λ held. TextFails (record_tells held place kept.new) (record_lacks held place) (has_no_records held) used.new bytes.old) }
+    ensures unchanged { log.new.owned.kept ≡ log.old.owned.kept }
+{
+    *used = 0;
+    let Some(held) = log.take(alloc) else {
+        return status(Err(Failure::NotOpen));
+    };
+    let outcome = record_in(alloc, &held, place);
+    log.put(held);
+    finish_with(outcome, bytes, used, kept)
+}

@@ -1,0 +1,210 @@
+//! The releases of a package log.
+ghost use Rattle.std.specs.Prelude.{◌≡◌, ◌⊎◌, Ok, Some, None, ◌↔◌, IsTrue, IfOk, IfErr, map, take};
+ghost use Rattle.std.specs.Option.{option_copied, option_map};
+ghost use Rattle.warg_package_log.specs.Releases.{ReleaseView};
+ghost use Rattle.semver.specs.Identifiers.{comparator_view, parts_of};
+ghost use Rattle.semver.specs.Parse.{memory_error, req_of, version_parts};
+ghost use Rattle.warg_package_log.specs.ReleaseMap.{release_view};
+ghost use Rattle.warg_c.specs.Releases.{IsAt, IsLatest, IsNoRequirement, IsNoVersion, IsReleaseOf, Shows, latest_bad, latest_lacks, latest_tells, place_bad, place_lacks, place_tells, release_bad, release_lacks, release_tells};
+ghost use Rattle.warg_c.specs.Statuses.{Answers};
+ghost use Rattle.warg_c.specs.Texts.{FailsAs, TextFails};
+
+use crate::failure::{Failure, status};
+use crate::given::finish_with;
+use crate::handle::WargLog;
+use crate::held::Held;
+use crate::release_text::{ShownRelease, spell_release};
+use semver::{Error as VersionError, Version, VersionReq};
+use std::alloc::{AllocError, Global};
+use warg_package_log::{LogState, Release};
+
+// Whether an error of a version or a requirement is one of memory.
+fn is_memory(error: &VersionError) -> bool
+    ensures { IsTrue result ↔ (error.now ≡ memory_error) }
+{
+    *error == VersionError::from(AllocError)
+}
+
+// The requirement that a text says.
+fn parse_requirement(alloc: Global, text: &[u8]) -> Result<VersionReq, Failure>
+    ensures ok { IfOk result (λ r. req_of text.now ≡ Ok (map comparator_view r.comparators.items)) }
+    ensures err { IfErr result (FailsAs ⊥ (IsNoRequirement text.now)) }
+{
+    let Ok(text) = str::from_utf8(text) else {
+        return Err(Failure::BadArgument);
+    };
+    match VersionReq::parse(alloc, text) {
+        Ok(requirement) => Ok(requirement),
+        Err(error) if is_memory(&error) => Err(Failure::OutOfMemory),
+        Err(_) => Err(Failure::BadArgument),
+    }
+}
+
+// The version that a text says.
+fn parse_version(alloc: Global, text: &[u8]) -> Result<Version, Failure>
+    ensures ok { IfOk result (λ v. version_parts text.now ≡ Ok (parts_of v)) }
+    ensures err { IfErr result (FailsAs ⊥ (IsNoVersion text.now)) }
+{
+    let Ok(text) = str::from_utf8(text) else {
+        return Err(Failure::BadArgument);
+    };
+    match Version::parse(alloc, text) {
+        Ok(version) => Ok(version),
+        Err(error) if is_memory(&error) => Err(Failure::OutOfMemory),
+        Err(_) => Err(Failure::BadArgument),
+    }
+}
+
+// A release as bytes, if there is one.
+fn shown(alloc: Global, release: Option<&Release>) -> Result<(Vec<u8>, ShownRelease), Failure>
+    ensures ok { IfOk result (λ p. (r : ReleaseView) × (option_map release_view (option_copied release.entry) ≡ Some r) × Shows r p.1 p.0.items) }
+    ensures err { IfErr result (FailsAs (option_map release_view (option_copied release.entry) ≡ None) ⊥) }
+{
+    let Some(release) = release else {
+        return Err(Failure::Absent);
+    };
+    match spell_release(alloc, release) {
+        Ok(spelled) => Ok(spelled),
+        Err(_) => Err(Failure::OutOfMemory),
+    }
+}
+
+fn latest_in(
+    alloc: Global,
+    state: &LogState,
+    requirement: &[u8],
+) -> Result<(Vec<u8>, ShownRelease), Failure>
+    ensures ok { IfOk result (λ p. (r : ReleaseView) × IsLatest state.now.own_state requirement.now (Some r) × Shows r p.1 p.0.items) }
+    ensures err { IfErr result (FailsAs (IsLatest state.now.own_state requirement.now None) (IsNoRequirement requirement.now)) }
+{
+    let requirement = parse_requirement(alloc, requirement)?;
+    shown(alloc, state.find_latest_release(&requirement))
+}
+
+fn latest_of(
+    alloc: Global,
+    held: &Held,
+    requirement: &[u8],
+) -> Result<(Vec<u8>, ShownRelease), Failure>
+    ensures ok { IfOk result (λ p. latest_tells held.now requirement.now p.1 p.0.items) }
+    ensures err { IfErr result (FailsAs (latest_lacks held.now requirement.now) (latest_bad held.now requirement.now)) }
+{
+    match held {
+        Held::Package(log) => latest_in(alloc, log.state(), requirement),
+        Held::Operator(_) => Err(Failure::BadArgument),
+    }
+}
+
+/// The release that is not yanked, meets a requirement, and has the greatest version.
+#[unsafe(no_mangle)]
+pub extern "C" fn warg_latest(
+    alloc: Global,
+    log: &mut WargLog,
+    requirement: &[u8],
+    text: &mut [u8],
+    used: &mut usize,
+    release: &mut ShownRelease,
+) -> u32
+    ensures answer { Answers result log.old.owned.kept (λ held. latest_tells held requirement.now release.new (take used.new text.new))
+        (λ held. TextFails (latest_tells held requirement.now release.new) (latest_lacks held requirement.now)
+        (latest_bad held requirement.now) used.new text.old) }
+    ensures unchanged { log.new.owned.kept ≡ log.old.owned.kept }
+{
+    *used = 0;
+    let Some(held) = log.take(alloc) else {
+        return status(Err(Failure::NotOpen));
+    };
+    let outcome = latest_of(alloc, &held, requirement);
+    log.put(held);
+    finish_with(outcome, text, used, release)
+}
+
+fn release_in(
+    alloc: Global,
+    state: &LogState,
+    version: &[u8],
+) -> Result<(Vec<u8>, ShownRelease), Failure>
+    ensures ok { IfOk result (λ p. (r : ReleaseView) × IsReleaseOf state.now.own_state version.now (Some r) × Shows r p.1 p.0.items) }
+    ensures err { IfErr result (FailsAs (IsReleaseOf state.now.own_state version.now None) (IsNoVersion version.now)) }
+{
+    let version = parse_version(alloc, version)?;
+    shown(alloc, state.release(&version))
+}
+
+fn release_of(
+    alloc: Global,
+    held: &Held,
+    version: &[u8],
+) -> Result<(Vec<u8>, ShownRelease), Failure>
+    ensures ok { IfOk result (λ p. release_tells held.now version.now p.1 p.0.items) }
+    ensures err { IfErr result (FailsAs (release_lacks held.now version.now) (release_bad held.now version.now)) }
+{
+    match held {
+        Held::Package(log) => release_in(alloc, log.state(), version),
+        Held::Operator(_) => Err(Failure::BadArgument),
+    }
+}
+
+/// The release of a version, yanked or not.
+#[unsafe(no_mangle)]
+pub extern "C" fn warg_release(
+    alloc: Global,
+    log: &mut WargLog,
+    version: &[u8],
+    text: &mut [u8],
+    used: &mut usize,
+    release: &mut ShownRelease,
+) -> u32
+    ensures answer { Answers result log.old.owned.kept (λ held. release_tells held version.now release.new (take used.new text.new))
+        (λ held. TextFails (release_tells held version.now release.new) (release_lacks held version.now)
+        (release_bad held version.now) used.new text.old) }
+    ensures unchanged { log.new.owned.kept ≡ log.old.owned.kept }
+{
+    *used = 0;
+    let Some(held) = log.take(alloc) else {
+        return status(Err(Failure::NotOpen));
+    };
+    let outcome = release_of(alloc, &held, version);
+    log.put(held);
+    finish_with(outcome, text, used, release)
+}
+
+// The release at a place.
+fn place_in(state: &LogState, place: usize) -> Option<&Release>
+    ensures { IsAt place state.now.own_state (option_map release_view (option_copied result)) }
+{
+    state.releases().nth(place)
+}
+
+fn release_at(alloc: Global, held: &Held, place: usize) -> Result<(Vec<u8>, ShownRelease), Failure>
+    ensures ok { IfOk result (λ p. place_tells held.now place p.1 p.0.items) }
+    ensures err { IfErr result (FailsAs (place_lacks held.now place) (place_bad held.now)) }
+{
+    match held {
+        Held::Package(log) => shown(alloc, place_in(log.state(), place)),
+        Held::Operator(_) => Err(Failure::BadArgument),
+    }
+}
+
+/// The release at a place, in the order of release.
+#[unsafe(no_mangle)]
+pub extern "C" fn warg_releases(
+    alloc: Global,
+    log: &mut WargLog,
+    place: usize,
+    text: &mut [u8],
+    used: &mut usize,
+    release: &mut ShownRelease,
+) -> u32
+    ensures answer { Answers result log.old.owned.kept (λ held. place_tells held place release.new (take used.new text.new))
+        (λ held. TextFails (place_tells held place release.new) (place_lacks held place) (place_bad held) used.new text.old) }
+    ensures unchanged { log.new.owned.kept ≡ log.old.owned.kept }
+{
+    *used = 0;
+    let Some(held) = log.take(alloc) else {
+        return status(Err(Failure::NotOpen));
+    };
+    let outcome = release_at(alloc, &held, place);
+    log.put(held);
+    finish_with(outcome, text, used, release)
+}

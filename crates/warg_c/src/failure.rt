@@ -1,0 +1,61 @@
+//! Why a call was not done.
+ghost use Rattle.std.specs.Prelude.{◌≡◌};
+ghost use Rattle.warg_c.specs.Statuses.{code_of, status_of};
+
+use std::alloc::AllocError;
+
+/// Why a call was not done.
+#[derive(Clone, Copy, Debug, PartialEq, Eq)]
+pub enum Failure {
+    /// The log is none.
+    NotOpen,
+    /// There was no memory.
+    OutOfMemory,
+    /// The caller's buffer is too small.
+    TooSmall,
+    /// The bytes are no envelope.
+    NoEnvelope,
+    /// The record is unlawful, or the proof does not hold.
+    Refused,
+    /// There is no such thing.
+    Absent,
+    /// An argument is not of its form, or the log has no such call.
+    BadArgument,
+}
+
+impl From<AllocError> for Failure {
+    ghost use Rattle.warg_c.specs.declared.failure.Failure.TheVariants.{OutOfMemory};
+
+    ghost from_gives = { λ _ f. f ≡ OutOfMemory };
+
+    fn from(_error: AllocError) -> Failure {
+        Failure::OutOfMemory
+    }
+}
+
+impl Failure {
+    // The status of the failure.
+    fn code(self) -> u32
+        ensures { result ≡ code_of self }
+    {
+        match self {
+            Failure::NotOpen => 1,
+            Failure::OutOfMemory => 2,
+            Failure::TooSmall => 3,
+            Failure::NoEnvelope => 4,
+            Failure::Refused => 5,
+            Failure::Absent => 6,
+            Failure::BadArgument => 7,
+        }
+    }
+}
+
+/// The status of an outcome.
+pub(crate) fn status(outcome: Result<(), Failure>) -> u32
+    ensures { result ≡ status_of outcome }
+{
+    match outcome {
+        Ok(()) => 0,
+        Err(failure) => failure.code(),
+    }
+}

@@ -1,0 +1,17 @@
+//! Logs of both kinds for callers in C. `include/warg.h` declares what is exported.
+#![tactic(auto)]
+
+mod argument;
+mod asking;
+mod exports;
+mod failure;
+mod given;
+mod handle;
+mod held;
+mod kept_log;
+mod owned;
+mod parts;
+mod proof_text;
+mod question;
+mod refusal;
+mod release_text;

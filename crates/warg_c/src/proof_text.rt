@@ -1,0 +1,70 @@
+//! The texts of hashes and of proofs among the arguments of calls.
+ghost use Rattle.std.specs.Prelude.{◌≡◌, ◌⊎◌, Ok, IfOk, IfErr};
+ghost use Rattle.warg_crypto.specs.HashText.{hash_of};
+ghost use Rattle.warg_transparency.specs.Texts.{log_proof_of, map_proof_of};
+ghost use Rattle.warg_c.specs.Proofs.{AreLeafTexts, IsNoText};
+ghost use Rattle.warg_c.specs.Texts.{FailsAs};
+
+use crate::failure::Failure;
+use std::alloc::Global;
+use warg_crypto::hash::AnyHash;
+use warg_records::RecordId;
+use warg_registry::{LogId, LogLeaf};
+use warg_transparency::{LogProof, MapProof, ProofTextError};
+
+/// The hash of a text.
+pub(crate) fn hash_in(text: &[u8]) -> Result<AnyHash, Failure>
+    ensures ok { IfOk result (λ hash. hash_of text.now ≡ Ok hash) }
+    ensures err { IfErr result (FailsAs ⊥ (IsNoText hash_of text.now)) }
+{
+    let Ok(text) = str::from_utf8(text) else {
+        return Err(Failure::BadArgument);
+    };
+    match text.parse::<AnyHash>() {
+        Ok(hash) => Ok(hash),
+        Err(_) => Err(Failure::BadArgument),
+    }
+}
+
+/// The leaf of a record of a log, by the texts of their ids.
+pub(crate) fn leaf_in(log_id: &[u8], record_id: &[u8]) -> Result<LogLeaf, Failure>
+    ensures ok { IfOk result (AreLeafTexts log_id.now record_id.now) }
+    ensures err { IfErr result (FailsAs ⊥ (IsNoText hash_of log_id.now ⊎ IsNoText hash_of record_id.now)) }
+{
+    let log = hash_in(log_id)?;
+    let record = hash_in(record_id)?;
+    Ok(LogLeaf {
+        log_id: LogId::from(log),
+        record_id: RecordId::from(record),
+    })
+}
+
+/// The proof on a log of a text.
+pub(crate) fn log_proof_in(alloc: Global, text: &[u8]) -> Result<LogProof, Failure>
+    ensures ok { IfOk result (λ proof. log_proof_of text.now ≡ Ok proof) }
+    ensures err { IfErr result (FailsAs ⊥ (IsNoText log_proof_of text.now)) }
+{
+    let Ok(text) = str::from_utf8(text) else {
+        return Err(Failure::BadArgument);
+    };
+    match LogProof::parse(alloc, text) {
+        Ok(proof) => Ok(proof),
+        Err(ProofTextError::OutOfMemory) => Err(Failure::OutOfMemory),
+        Err(_) => Err(Failure::BadArgument),
+    }
+}
+
+/// The proof on a map of a text.
+pub(crate) fn map_proof_in(alloc: Global, text: &[u8]) -> Result<MapProof, Failure>
+    ensures ok { IfOk result (λ proof. map_proof_of text.now ≡ Ok proof) }
+    ensures err { IfErr result (FailsAs ⊥ (IsNoText map_proof_of text.now)) }
+{
+    let Ok(text) = str::from_utf8(text) else {
+        return Err(Failure::BadArgument);
+    };
+    match MapProof::parse(alloc, text) {
+        Ok(proof) => Ok(proof),
+        Err(ProofTextError::OutOfMemory) => Err(Failure::OutOfMemory),
+        Err(_) => Err(Failure::BadArgument),
+    }
+}

@@ -1,0 +1,85 @@
+//! The texts of refusals.
+ghost use Rattle.std.specs.Prelude.{◌≡◌, ◌⊎◌, ◌++◌, ◌∷◌, ℕ, List, IfOk, length, take, string_bytes};
+ghost use Rattle.warg_envelope.specs.Envelopes.{envelope_fault_of};
+ghost use Rattle.warg_validator.specs.Messages.{cause_name};
+ghost use Rattle.warg_validator.specs.Outcomes.{told};
+ghost use Rattle.warg_c.specs.Texts.{IsErrorText, failure_by};
+
+use crate::failure::Failure;
+use crate::given::give;
+use std::alloc::{AllocError, Global};
+use std::fmt;
+use warg_envelope::ParseEnvelopeError;
+use warg_validator::{Named, RunCause, Validator};
+
+// What kind of failure a cause is.
+fn failure_of<L: Validator>(cause: &RunCause<L::Error>) -> Failure
+    ensures { result ≡ failure_by (told (envelope_fault_of L.Record.fault_of) L.offence_of cause.now) }
+{
+    match cause {
+        RunCause::Parse(ParseEnvelopeError::OutOfMemory) => Failure::OutOfMemory,
+        RunCause::Parse(_) => Failure::NoEnvelope,
+        RunCause::Validation(error) if L::is_out_of_memory(error) => Failure::OutOfMemory,
+        RunCause::Validation(_) => Failure::Refused,
+    }
+}
+
+/// Writes the text where there is memory and room for it.
+pub(crate) fn give_if_room(told: &str, text: &mut [u8], used: &mut usize)
+    ensures text { (used.new ≡ 0) ⊎ (take used.new text.new ≡ told.now) }
+    ensures length { length text.new ≡ length text.old }
+{
+    if give(told.as_bytes(), text, used).is_err() {
+        *used = 0;
+    }
+}
+
+// The name, a colon, a space, and the error's sentence.
+fn sentence_of<E: fmt::Display>(alloc: Global, name: &str, error: &E) -> Result<String, AllocError>
+    ensures { IfOk result (λ told. (sentence : List ℕ) × (string_bytes told ≡ name.now ++ 58 ∷ 32 ∷ sentence)) }
+{
+    let sentence = error.to_string(alloc)?;
+    let mut told = String::from_str(alloc, name)?;
+    told.push_str(": ")?;
+    told.push_str(sentence.as_str())?;
+    Ok(told)
+}
+
+// Writes the text of an error where there is memory and room for it.
+fn tell_text<E: fmt::Display>(
+    alloc: Global,
+    name: &str,
+    error: &E,
+    text: &mut [u8],
+    used: &mut usize,
+)
+    ensures text { IsErrorText name.now used.new text.new }
+    ensures length { length text.new ≡ length text.old }
+{
+    *used = 0;
+    if let Ok(told) = sentence_of(alloc, name, error) {
+        give_if_room(told.as_str(), text, used);
+    }
+}
+
+/// Says why a record is refused, as a failure and, where there is memory and room for it, as a text.
+pub(crate) fn refuse<L: Validator>(
+    alloc: Global,
+    cause: &RunCause<L::Error>,
+    text: &mut [u8],
+    used: &mut usize,
+) -> Failure
+where
+    L::Error: Named + fmt::Display,
+    ensures failure { result ≡ failure_by (told (envelope_fault_of L.Record.fault_of) L.offence_of cause.now) }
+    ensures text { IsErrorText (cause_name L.Error.name_of cause.now) used.new text.new }
+    ensures length { length text.new ≡ length text.old }
+{
+    let failure = failure_of::<L>(cause);
+    if failure == Failure::OutOfMemory {
+        *used = 0;
+    } else {
+        tell_text(alloc, cause.name(), cause, text, used);
+    }
+    failure
+}
