@@ -1,0 +1,22 @@
+"""Audits all logs of a folder: `python3 many_logs.py FOLDER processes|threads WORKERS`."""
+
+import pathlib
+import sys
+
+from weoldrin import Kind, audit_many, p256, processes
+
+
+def main() -> int:
+    """Runs the words of the command line; the status is 0 where all logs are accepted."""
+    folder, way, workers = sys.argv[1:]
+    paths = sorted(pathlib.Path(folder).glob("*.hex"))
+    if way == "threads":
+        verdicts = audit_many(paths, Kind.PACKAGE, p256.verify, int(workers))
+    else:
+        with processes(int(workers)) as executor:
+            verdicts = audit_many(paths, Kind.PACKAGE, p256.verify, executor=executor)
+    return 0 if all(it.accepted for it in verdicts) else 1
+
+
+if __name__ == "__main__":
+    sys.exit(main())

@@ -1,0 +1,147 @@
+"""A client of the registry: publishes releases of a package, and fetches logs to audit them.
+
+    python3 client.py publish URL PACKAGE KEY VERSION..   publishes releases; KEY is a file, which is made where there is none
+    python3 client.py fetch URL PACKAGE                   prints the package's envelopes, a line each in hex
+"""
+
+import argparse
+import http.client
+import json
+import pathlib
+import sys
+import time
+import urllib.parse
+from typing import Self
+
+from weoldrin import Kind, PackageLog, p256, records
+
+
+class RegistryError(Exception):
+    """The registry refused something. `name` is the refusal's."""
+
+    def __init__(self, status: int, name: str, sentence: str) -> None:
+        super().__init__(f"{status} {name}: {sentence}")
+        self.status, self.name = status, name
+
+
+class Client:
+    """A connection to a registry."""
+
+    def __init__(self, url: str) -> None:
+        self._connection = http.client.HTTPConnection(urllib.parse.urlsplit(url).netloc, timeout=60)
+
+    def __enter__(self) -> Self:
+        return self
+
+    def __exit__(self, *_: object) -> None:
+        self._connection.close()
+
+    def publish(self, package: str, envelope: bytes) -> int:
+        """Publishes the record of an envelope, and gives its place."""
+        return int(json.loads(self._asked("POST", f"/package/{package}", envelope))["place"])
+
+    def head(self, package: str) -> str | None:
+        """The id of the last record of a package; none if there is no such package."""
+        try:
+            return self._asked("GET", f"/package/{package}/head").strip()
+        except RegistryError as error:
+            if error.status == http.HTTPStatus.NOT_FOUND:
+                return None
+            raise
+
+    def latest(self, package: str, requirement: str) -> str:
+        """The greatest version that meets a requirement."""
+        words = urllib.parse.urlencode({"requirement": requirement})
+        return str(json.loads(self._asked("GET", f"/package/{package}/latest?{words}"))["version"])
+
+    def packages(self) -> list[str]:
+        """The names of all packages."""
+        return self._asked("GET", "/package").split()
+
+    def records(self, package: str, start: int = 0) -> list[bytes]:
+        """The envelopes of a package from a place on."""
+        found: list[bytes] = []
+        while lines := self._asked("GET", f"/package/{package}/records?from={start + len(found)}").split():
+            found += [bytes.fromhex(it) for it in lines]
+        return found
+
+    def _asked(self, method: str, path: str, body: bytes | None = None) -> str:
+        self._connection.request(method, path, body)
+        response = self._connection.getresponse()
+        text = response.read().decode()
+        if response.status >= http.HTTPStatus.BAD_REQUEST:
+            refusal = json.loads(text)
+            raise RegistryError(response.status, refusal["error"], refusal["sentence"])
+        return text
+
+
+# Refusals of a record that would have been lawful, if no other record had come before it.
+_OVERTAKEN = {"RecordHashDoesNotMatch", "NoPreviousHashAfterInit", "TimestampLowerThanPrevious"}
+
+
+def key_in(path: pathlib.Path) -> p256.SigningKey:
+    """The key in a file. A new one is made and kept there, for its owner alone, where there is none."""
+    if path.exists():
+        return p256.SigningKey.from_pem(path.read_bytes())
+    key = p256.SigningKey.generate()
+    path.touch(mode=0o600)
+    path.write_bytes(key.to_pem())
+    return key
+
+
+def signed(prev: str | None, key: p256.SigningKey, entries: list[bytes]) -> bytes:
+    """The envelope of a package's record that goes on from the one with the id `prev`."""
+    contents = records.contents(prev, time.time_ns(), entries)
+    return records.signed(Kind.PACKAGE, contents, key.public_key, key.sign)
+
+
+def publish(client: Client, package: str, versions: list[str], key: p256.SigningKey) -> None:
+    """Publishes releases, each on what the package's log then is, and prints the place of each record.
+
+    Begins the package where there is none. If another publisher's record came in between, the record is made anew.
+    """
+    waiting = [[records.release(it, records.sha256_text(f"{package} {it}".encode()))] for it in versions]
+    while waiting:
+        head = client.head(package)
+        entries = [records.init(key.public_key)] if head is None else waiting[0]
+        try:
+            place = client.publish(package, signed(head, key, entries))
+        except RegistryError as error:
+            if error.name not in _OVERTAKEN:
+                raise
+            continue
+        print(place, flush=True)
+        if head is not None:
+            del waiting[0]
+
+
+def fetch(client: Client, package: str) -> None:
+    """Prints a package's envelopes, checked."""
+    with PackageLog() as log:
+        for envelope in client.records(package):
+            log.append(envelope, p256.verify)
+            print(envelope.hex())
+
+
+def main() -> int:
+    """Runs a command."""
+    parser = argparse.ArgumentParser(description=__doc__, formatter_class=argparse.RawDescriptionHelpFormatter)
+    commands = parser.add_subparsers(dest="command", required=True)
+    for name in ("publish", "fetch"):
+        command = commands.add_parser(name)
+        command.add_argument("url")
+        command.add_argument("package")
+    publishing = commands.choices["publish"]
+    publishing.add_argument("key", type=pathlib.Path)
+    publishing.add_argument("versions", nargs="+", metavar="VERSION")
+    words = parser.parse_args()
+    with Client(words.url) as client:
+        if words.command == "publish":
+            publish(client, words.package, words.versions, key_in(words.key))
+        else:
+            fetch(client, words.package)
+    return 0
+
+
+if __name__ == "__main__":
+    sys.exit(main())

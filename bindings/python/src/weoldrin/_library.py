@@ -1,0 +1,155 @@
+"""The library's calls, as include/warg.h declares them. WEOLDRIN_LIBRARY names another file of the library."""
+
+import ctypes
+import os
+import pathlib
+from collections.abc import Callable
+from typing import Any
+
+from .errors import BadArgument, Error, NoEnvelope, NotOpen, OutOfMemory, Refused
+
+OK, TOO_SMALL, NO_ENVELOPE, REFUSED, NONE, BAD_ARGUMENT = 0, 3, 4, 5, 6, 7
+
+_RAISED: dict[int, type[Error]] = {
+    1: NotOpen,
+    2: OutOfMemory,
+    NO_ENVELOPE: NoEnvelope,
+    REFUSED: Refused,
+    BAD_ARGUMENT: BadArgument,
+}
+
+
+class Log(ctypes.Structure):
+    """A `struct warg_log`. All 0 is none."""
+
+    _fields_ = [("at", ctypes.c_void_p), ("is_open", ctypes.c_bool)]
+
+
+class Asked(ctypes.Structure):
+    """A `struct warg_asked`."""
+
+    _fields_ = [("key_len", ctypes.c_size_t), ("message_len", ctypes.c_size_t), ("signature_len", ctypes.c_size_t)]
+
+
+class Kept(ctypes.Structure):
+    """A `struct warg_kept`."""
+
+    _fields_ = [("envelope_len", ctypes.c_size_t), ("id_len", ctypes.c_size_t)]
+
+
+class Release(ctypes.Structure):
+    """A `struct warg_release`."""
+
+    _fields_ = [
+        ("version_len", ctypes.c_size_t),
+        ("record_id_len", ctypes.c_size_t),
+        ("key_id_len", ctypes.c_size_t),
+        ("state_len", ctypes.c_size_t),
+        ("seconds", ctypes.c_int64),
+        ("yanked_seconds", ctypes.c_int64),
+        ("nanos", ctypes.c_uint32),
+        ("yanked_nanos", ctypes.c_uint32),
+        ("is_yanked", ctypes.c_uint32),
+    ]
+
+
+class Link(ctypes.Structure):
+    """A `struct warg_link`."""
+
+    _fields_ = [("record_index", ctypes.c_size_t), ("entry_index", ctypes.c_size_t)]
+
+
+class Comparison(ctypes.Structure):
+    """A `struct warg_comparison`."""
+
+    # The first field is named `is` in C, which is a keyword here.
+    _fields_ = [("case", ctypes.c_uint32), ("left", ctypes.c_size_t), ("right", ctypes.c_size_t)]
+
+
+_LOG, _SIZE, _USED = ctypes.POINTER(Log), ctypes.c_size_t, ctypes.POINTER(ctypes.c_size_t)
+_U32, _U64 = ctypes.c_uint32, ctypes.c_uint64
+# Bytes that are read, bytes that are written, and how many were written.
+_IN: list[Any] = [ctypes.c_char_p, _SIZE]
+_OUT: list[Any] = [ctypes.c_void_p, _SIZE, _USED]
+
+_CALLS: dict[str, list[Any]] = {
+    "open": [_LOG, _U32],
+    "close": [_LOG],
+    "ask": [_LOG, *_IN, *_OUT, ctypes.POINTER(Asked)],
+    "append": [_LOG, *_IN, *_IN, ctypes.POINTER(Asked), ctypes.c_bool, *_OUT],
+    "head": [_LOG, *_OUT],
+    "length": [_LOG, _USED],
+    "record": [_LOG, _SIZE, *_OUT, ctypes.POINTER(Kept)],
+    "id": [_U32, *_IN, *_OUT],
+    "latest": [_LOG, *_IN, *_OUT, ctypes.POINTER(Release)],
+    "release": [_LOG, *_IN, *_OUT, ctypes.POINTER(Release)],
+    "releases": [_LOG, _SIZE, *_OUT, ctypes.POINTER(Release)],
+    "namespace": [_LOG, *_IN, *_OUT, ctypes.POINTER(_U32)],
+    "holds": [_LOG, *_IN, *_IN],
+    "permissions": [_LOG, *_IN, *_OUT],
+    "key": [_LOG, *_IN, *_OUT],
+    "chain": [_LOG, *_IN, *_IN, ctypes.POINTER(Link), _SIZE, _USED],
+    "compare": [_LOG, _LOG, ctypes.POINTER(Comparison)],
+    "save": [_LOG, *_OUT],
+    "resume": [_LOG, _U32, *_IN, *_OUT],
+    "verify_inclusion": [*_IN, *_IN, _U64, _U64, *_IN, *_IN],
+    "verify_consistency": [_U64, *_IN, _U64, *_IN, *_IN],
+    "verify_presence": [*_IN, *_IN, *_IN, *_IN],
+    "verify_absence": [*_IN, *_IN, *_IN],
+    "version": [*_OUT],
+}
+
+
+class Calls(dict[str, Callable[..., int]]):
+    """All calls, by their names in C without `warg_`, each looked up when it is first made. They let go of the interpreter's lock
+    while they run."""
+
+    def __init__(self) -> None:
+        beside = pathlib.Path(__file__).parent / "libwarg.so"
+        self._library = ctypes.CDLL(os.environ.get("WEOLDRIN_LIBRARY") or str(beside))
+
+    def __missing__(self, name: str) -> Callable[..., int]:
+        call = getattr(self._library, f"warg_{name}")
+        call.argtypes, call.restype = _CALLS[name], None if name == "close" else _U32
+        self[name] = call
+        return self[name]
+
+
+CALLS = Calls()
+
+
+class Buffer:
+    """Room that calls write to; it grows as they ask."""
+
+    __slots__ = ("_bytes", "_used")
+
+    def __init__(self) -> None:
+        self._bytes = ctypes.create_string_buffer(4096)
+        self._used = ctypes.c_size_t(0)
+
+    def filled(self, call: Callable[..., int], before: tuple[Any, ...], after: tuple[Any, ...] = (), room: int = 0) -> bytes | None:
+        """What a call writes, whose arguments stand before and after the buffer; none where it says that there is none.
+
+        An error's text finds `room`, and at least 4096 bytes.
+        """
+        if len(self._bytes) < room:
+            self._grow(room)
+        status = call(*before, self._bytes, len(self._bytes), self._used, *after)
+        while status == TOO_SMALL:
+            self._grow(self._used.value)
+            status = call(*before, self._bytes, len(self._bytes), self._used, *after)
+        if status == OK:
+            return ctypes.string_at(self._bytes, self._used.value)
+        if status == NONE:
+            return None
+        raise _RAISED[status](ctypes.string_at(self._bytes, self._used.value).decode())
+
+    def _grow(self, size: int) -> None:
+        self._bytes = ctypes.create_string_buffer(size)
+
+
+def checked(status: int) -> bool:
+    """Whether a call that writes no text was done, and not answered by "none"."""
+    if status in (OK, NONE):
+        return status == OK
+    raise _RAISED[status]()

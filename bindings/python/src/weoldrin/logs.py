@@ -1,0 +1,359 @@
+"""Logs of packages and of operators. What decides is the library; see include/warg.h."""
+
+import ctypes
+import enum
+import threading
+from collections.abc import Callable, Iterator
+from typing import Any, ClassVar, NamedTuple, Self, TypeVar
+
+from . import _library
+from ._library import CALLS, Buffer, checked
+from .errors import BadArgument
+
+T = TypeVar("T")
+
+
+class Question(NamedTuple):
+    """What has to be verified before a record can be appended: whether the signature belongs to the message under the key."""
+
+    key: str
+    """The text of the signer's key: the algorithm's name, a colon, base64."""
+    message: bytes
+    """What was signed."""
+    signature: str
+    """The signature's text, in the form of the key's."""
+
+
+Verify = Callable[[Question], bool]
+
+
+class Record(NamedTuple):
+    """A record that a log keeps."""
+
+    envelope: bytes
+    id: str
+
+
+class Release(NamedTuple):
+    """A release. Times are those of the records, in nanoseconds since 1970."""
+
+    version: str
+    record_id: str
+    """The id of the record that released it."""
+    by: str
+    """The id of the key that signed that record."""
+    timestamp: int
+    content: str | None
+    """The digest of the content; none if the release was yanked."""
+    yanked_by: str | None
+    """The id of the key that signed the yank."""
+    yanked_timestamp: int | None
+
+    @property
+    def yanked(self) -> bool:
+        """Whether the release was yanked."""
+        return self.yanked_by is not None
+
+
+class Link(NamedTuple):
+    """The place of an entry: of its record in the log, and of the entry in the record, from 0."""
+
+    record: int
+    entry: int
+
+
+class Namespace(NamedTuple):
+    """A namespace: one that is imported has the name of the registry that it is imported from."""
+
+    imported_from: str | None
+
+
+class Relation(enum.Enum):
+    """How two logs stand to each other, by the contents of their records."""
+
+    SAME = 0
+    LEFT_IS_PREFIX = 1
+    RIGHT_IS_PREFIX = 2
+    FORK = 3
+    COLLISION = 4
+
+
+class Comparison(NamedTuple):
+    """How two logs compare. `left` and `right` are the places where they part; both are 0 for equal logs."""
+
+    relation: Relation
+    left: int
+    right: int
+
+
+class Kind(enum.Enum):
+    """The kinds of logs."""
+
+    PACKAGE = 0
+    OPERATOR = 1
+
+
+_NANOS = 1_000_000_000
+# An error's text has so many bytes beside what it quotes of an envelope, and fewer.
+_SENTENCE = 1024
+
+
+def _release(text: bytes, lengths: _library.Release) -> Release:
+    ends = [lengths.version_len, lengths.record_id_len, lengths.key_id_len, lengths.state_len]
+    parts, at = [], 0
+    for length in ends:
+        parts.append(text[at : at + length].decode())
+        at += length
+    version, record_id, by, state = parts
+    timestamp = lengths.seconds * _NANOS + lengths.nanos
+    if lengths.is_yanked:
+        return Release(version, record_id, by, timestamp, None, state, lengths.yanked_seconds * _NANOS + lengths.yanked_nanos)
+    return Release(version, record_id, by, timestamp, state, None, None)
+
+
+class Log:
+    """A log of either kind; make a `PackageLog` or an `OperatorLog`. It may be used by many threads: its calls wait for each other.
+
+    Each call raises an `Error` where it was refused, and the log is then as it was. A log that is not closed is closed when it
+    is forgotten.
+    """
+
+    KIND: ClassVar[Kind]
+
+    __slots__ = ("_buffer", "_lock", "_log", "__weakref__")
+
+    def __init__(self) -> None:
+        self._log, self._buffer, self._lock = _library.Log(), Buffer(), threading.Lock()
+        checked(CALLS["open"](self._log, self.KIND.value))
+
+    def close(self) -> None:
+        """Gives the log's memory back. Closing twice is harmless; any other call then raises `NotOpen`."""
+        with self._lock:
+            CALLS["close"](self._log)
+
+    def __enter__(self) -> Self:
+        return self
+
+    def __exit__(self, *_: object) -> None:
+        self.close()
+
+    def __del__(self) -> None:
+        if hasattr(self, "_lock"):
+            self.close()
+
+    def __reduce__(self) -> Any:
+        raise TypeError("a log is not copied: save its state by to_json")
+
+    # Appending
+
+    def ask(self, envelope: bytes) -> Question:
+        """What has to be verified before the envelope's record can be appended. Changes nothing.
+
+        The record is lawful exactly if the signature belongs. Raises `Refused` where no signature could help.
+        """
+        asked = _library.Asked()
+        text = self._said("ask", envelope, len(envelope), after=(asked,), room=len(envelope) + _SENTENCE)
+        assert text is not None
+        end = asked.key_len + asked.message_len
+        return Question(text[: asked.key_len].decode(), text[asked.key_len : end], text[end:].decode())
+
+    def append_answered(self, envelope: bytes, question: Question, belongs: bool) -> None:
+        """Appends the envelope's record by the answer to its question. The answer to any other question is refused."""
+        key, signature = question.key.encode(), question.signature.encode()
+        asked = _library.Asked(len(key), len(question.message), len(signature))
+        text = key + question.message + signature
+        room = len(envelope) + _SENTENCE
+        self._said("append", envelope, len(envelope), text, len(text), asked, bool(belongs), room=room)
+
+    def append(self, envelope: bytes, verify: Verify) -> None:
+        """Appends the envelope's record if `verify` says that its signature belongs.
+
+        The log may be used by other threads while `verify` runs. If the record is no longer the next one then, it is refused.
+        """
+        question = self.ask(envelope)
+        self.append_answered(envelope, question, verify(question))
+
+    # Records
+
+    def head(self) -> str | None:
+        """The id of the last record; none before any."""
+        return self._text("head")
+
+    def __len__(self) -> int:
+        """How many records there are. A resumed log does not know, and raises `BadArgument`."""
+        length = ctypes.c_size_t(0)
+        self._done("length", length)
+        return length.value
+
+    def __bool__(self) -> bool:
+        """A log is true, also one of no records."""
+        return True
+
+    def record(self, place: int) -> Record | None:
+        """The record at a place, from 0; none if the log has none there."""
+        kept = _library.Kept()
+        text = self._said("record", _place(place), after=(kept,))
+        return None if text is None else Record(text[: kept.envelope_len], text[kept.envelope_len :].decode())
+
+    def records(self) -> Iterator[Record]:
+        """The records in order."""
+        return _by_place(self.record)
+
+    # Keys
+
+    def holds(self, key_id: str, permission: str) -> bool:
+        """Whether a key id holds a permission. Raises `BadArgument` where logs of this kind have none of that name."""
+        key_id_text, permission_text = key_id.encode(), permission.encode()
+        return self._done("holds", key_id_text, len(key_id_text), permission_text, len(permission_text))
+
+    def permissions(self, key_id: str) -> list[str] | None:
+        """The permissions that a key id holds; none if no record spoke of the key id."""
+        text = self._text("permissions", key_id)
+        return None if text is None else text.split()
+
+    def public_key(self, key_id: str) -> str | None:
+        """The text of a key; none if the log does not know it."""
+        return self._text("key", key_id)
+
+    def chain(self, key_id: str, permission: str) -> list[Link] | None:
+        """The entries by which a key id came to hold a permission, from the first one of the log on; none if it does not hold it."""
+        key_id_text, permission_text = key_id.encode(), permission.encode()
+        used, room = ctypes.c_size_t(0), 16
+        while True:
+            links = (_library.Link * room)()
+            with self._lock:
+                status = CALLS["chain"](
+                    self._log, key_id_text, len(key_id_text), permission_text, len(permission_text), links, room, used
+                )
+            if status != _library.TOO_SMALL:
+                break
+            room = used.value
+        if not checked(status):
+            return None
+        return [Link(it.record_index, it.entry_index) for it in links[: used.value]]
+
+    # Two logs, and saved states
+
+    def compare(self, other: Self) -> Comparison:
+        """Compares the records of this log, the left one, with those of another. A resumed log has none to compare."""
+        if other is self:
+            len(self)
+            return Comparison(Relation.SAME, 0, 0)
+        found = _library.Comparison()
+        first, second = sorted((self, other), key=id)
+        with first._lock, second._lock:
+            checked(CALLS["compare"](self._log, other._log, found))
+        return Comparison(Relation(found.case), found.left, found.right)
+
+    def to_json(self) -> str:
+        """The state as a text of JSON: all that further records are judged by and that is looked up, but no records.
+
+        Raises `BadArgument` with the name `TimeBeforeEpoch` where a time of the state lies before 1970, which its text can't say.
+        """
+        text = self._text("save")
+        if text is None:
+            raise BadArgument("TimeBeforeEpoch: a time of the state lies before 1970")
+        return text
+
+    @classmethod
+    def from_json(cls, saved: str) -> Self:
+        """A log that goes on from a saved state. It has no records: `len`, `record`, `chain` and `compare` raise `BadArgument`.
+
+        Raises `BadArgument`, with the fault's name, where the text is no saved state of this kind.
+        """
+        log, text = cls(), saved.encode()
+        log._said("resume", cls.KIND.value, text, len(text))
+        return log
+
+    # Calls of the library: one at a time
+
+    def _said(self, name: str, *before: Any, after: tuple[Any, ...] = (), room: int = 0) -> bytes | None:
+        with self._lock:
+            return self._buffer.filled(CALLS[name], (self._log, *before), after, room)
+
+    def _text(self, name: str, *words: str) -> str | None:
+        texts = [it.encode() for it in words]
+        said = self._said(name, *(part for it in texts for part in (it, len(it))))
+        return None if said is None else said.decode()
+
+    def _done(self, name: str, *arguments: Any) -> bool:
+        with self._lock:
+            return checked(CALLS[name](self._log, *arguments))
+
+
+class PackageLog(Log):
+    """The log of a package."""
+
+    KIND = Kind.PACKAGE
+
+    __slots__ = ()
+
+    def latest(self, requirement: str) -> Release | None:
+        """The release that is not yanked, meets the requirement (as ">=1.2, <2") and has the greatest version."""
+        return self._found("latest", requirement)
+
+    def release(self, version: str) -> Release | None:
+        """The release of a version, yanked or not."""
+        return self._found("release", version)
+
+    def releases(self) -> Iterator[Release]:
+        """The releases in their order; those of a resumed log come first, by the bytes of their versions."""
+        return _by_place(self._release_at)
+
+    def _release_at(self, place: int) -> Release | None:
+        found = _library.Release()
+        text = self._said("releases", place, after=(found,))
+        return None if text is None else _release(text, found)
+
+    def _found(self, name: str, word: str) -> Release | None:
+        found, text = _library.Release(), word.encode()
+        said = self._said(name, text, len(text), after=(found,))
+        return None if said is None else _release(said, found)
+
+
+class OperatorLog(Log):
+    """The log of a registry's operators."""
+
+    KIND = Kind.OPERATOR
+
+    __slots__ = ()
+
+    def namespace_state(self, name: str) -> Namespace | None:
+        """What a namespace is; none if the log has none of that name."""
+        is_imported, text = ctypes.c_uint32(0), name.encode()
+        said = self._said("namespace", text, len(text), after=(is_imported,))
+        if said is None:
+            return None
+        return Namespace(said.decode() if is_imported.value else None)
+
+
+def log_of(kind: Kind) -> PackageLog | OperatorLog:
+    """A log of no records, of a kind."""
+    return PackageLog() if kind is Kind.PACKAGE else OperatorLog()
+
+
+def record_id(kind: Kind, envelope: bytes) -> str:
+    """The id of an envelope's record. The record need not be lawful. Raises `NoEnvelope`."""
+    text = Buffer().filled(CALLS["id"], (kind.value, envelope, len(envelope)))
+    assert text is not None
+    return text.decode()
+
+
+def library_version() -> str:
+    """The library's version."""
+    text = Buffer().filled(CALLS["version"], ())
+    assert text is not None
+    return text.decode()
+
+
+def _place(place: int) -> int:
+    if place < 0:
+        raise IndexError("places are counted from 0")
+    return place
+
+
+def _by_place(at: Callable[[int], T | None]) -> Iterator[T]:
+    place = 0
+    while (found := at(place)) is not None:
+        yield found
+        place += 1

@@ -1,0 +1,38 @@
+"""What a registry proves of its log and its map. Roots are texts of hashes, ids are texts of ids, proofs are texts of base64.
+
+Each call says whether the proof holds, and raises `BadArgument` where a text is not of its form.
+"""
+
+from ._library import CALLS, REFUSED, checked
+
+
+def _holds(name: str, *arguments: str | int) -> bool:
+    passed: list[bytes | int] = []
+    for it in arguments:
+        if isinstance(it, str):
+            text = it.encode()
+            passed += [text, len(text)]
+        else:
+            passed.append(it)
+    status = CALLS[f"verify_{name}"](*passed)
+    return False if status == REFUSED else checked(status)
+
+
+def verify_inclusion(log_id: str, record_id: str, place: int, length: int, root: str, proof: str) -> bool:
+    """Whether the leaf of a log's record stands at a place of the registry's log, which has `length` leaves and this root."""
+    return _holds("inclusion", log_id, record_id, place, length, root, proof)
+
+
+def verify_consistency(old_length: int, old_root: str, new_length: int, new_root: str, proof: str) -> bool:
+    """Whether the registry's log of `new_length` leaves begins with the one of `old_length` leaves."""
+    return _holds("consistency", old_length, old_root, new_length, new_root, proof)
+
+
+def verify_presence(log_id: str, record_id: str, root: str, proof: str) -> bool:
+    """Whether the registry's map says that a log's last record is this one."""
+    return _holds("presence", log_id, record_id, root, proof)
+
+
+def verify_absence(log_id: str, root: str, proof: str) -> bool:
+    """Whether the registry's map says nothing of a log."""
+    return _holds("absence", log_id, root, proof)

@@ -1,0 +1,113 @@
+"""Proofs of a registry's log of 8 leaves and of its map of two logs, worked out elsewhere, and each forged."""
+
+import base64
+import hashlib
+import unittest
+from collections.abc import Callable
+
+from weoldrin import BadArgument, verify_absence, verify_consistency, verify_inclusion, verify_presence
+from weoldrin._library import CALLS
+
+INCLUSION = (
+    "bML0VncumO1gymhI9p9DawMcQnVTNa2WUrNw14Aq7DELD7yQO/3GX1TnDyNdlyNl+BI5/0o0nLbP5Kt1TH2/cg371IIl6nKYXW5cNRhz0vRw+5C8x4IjFkOBx8eooRUN"
+)
+CONSISTENCY = (
+    "wvE5Wb/Jqop3nsQ6f2wHydAFG6uJNOVcji8dnUA6//YLD7yQO/3GX1TnDyNdlyNl+BI5/0o0nLbP5Kt1TH2/cg371IIl6nKYXW5cNRhz0vRw+5C8x4IjFkOBx8eooRUN"
+)
+PRESENCE = "//////////////////////////////////////////3A8d/zksmUM6URQFUFx4j90WyBlQhgSMcs1XArvTUtmA=="
+ABSENCE = (
+    "//////////////////////////////////////////kD9Qnw3FPJsRDX8sHizDLkLf83af8CgoV9sRxfkXpx08Dx3/OSyZQzpRFAVQXHiP3RbIGVCGBIxyzVcCu9NS2Y"
+)
+
+
+def _id(text: str) -> str:
+    return f"sha256:{hashlib.sha256(text.encode()).hexdigest()}"
+
+
+def _text(text: str) -> bytes:
+    """A text in the prefix encoding; it is shorter than 128 bytes."""
+    return bytes([len(text)]) + text.encode()
+
+
+def _leaf(place: int) -> bytes:
+    leaf = b"WARG-LOG-LEAF-V0" + _text(_id(f"log {place % 3}")) + _text(_id(f"record {place}"))
+    return hashlib.sha256(b"\0" + leaf).digest()
+
+
+def _root(hashes: list[bytes]) -> bytes:
+    """The root of a tree, by RFC 9162, section 2.1.1."""
+    if len(hashes) == 1:
+        return hashes[0]
+    half = 1 << (len(hashes) - 1).bit_length() - 1
+    return hashlib.sha256(b"\1" + _root(hashes[:half]) + _root(hashes[half:])).digest()
+
+
+def root_of(count: int) -> str:
+    """The root's text of the log of the first leaves."""
+    return f"sha256:{_root([_leaf(place) for place in range(count)]).hex()}"
+
+
+MAP_ROOT = "sha256:6b3b29793c461452ef689fdfac26511b3862f7b70a4f576163ca60308bad21e6"
+
+
+def _has_proofs() -> bool:
+    try:
+        return CALLS["verify_inclusion"] is not None
+    except AttributeError:
+        return False
+
+
+def _changed(proof: str) -> str:
+    data = bytearray(base64.b64decode(proof))
+    data[-1] ^= 1
+    return base64.b64encode(data).decode()
+
+
+@unittest.skipUnless(_has_proofs(), "this library has no proofs")
+class Proofs(unittest.TestCase):
+    """Each call, on what holds, on what does not, and on texts that are of no form."""
+
+    def test_inclusion(self) -> None:
+        log, record, root = _id("log 2"), _id("record 5"), root_of(8)
+        self.assertTrue(verify_inclusion(log, record, 5, 8, root, INCLUSION))
+        self.assertFalse(verify_inclusion(log, record, 4, 8, root, INCLUSION))
+        self.assertFalse(verify_inclusion(log, record, 8, 8, root, INCLUSION))
+        self.assertFalse(verify_inclusion(log, record, 2**64 - 1, 2**64 - 1, root, INCLUSION))
+        self.assertFalse(verify_inclusion(log, _id("record 6"), 5, 8, root, INCLUSION))
+        self.assertFalse(verify_inclusion(_id("log 1"), record, 5, 8, root, INCLUSION))
+        self.assertFalse(verify_inclusion(log, record, 5, 8, root_of(7), INCLUSION))
+        self.assertFalse(verify_inclusion(log, record, 5, 8, root, _changed(INCLUSION)))
+        self.assertFalse(verify_inclusion(log, record, 5, 8, root, ""))
+        self._refuses_texts(lambda it: verify_inclusion(it, record, 5, 8, root, INCLUSION))
+        self._refuses_texts(lambda it: verify_inclusion(log, it, 5, 8, root, INCLUSION))
+        self._refuses_texts(lambda it: verify_inclusion(log, record, 5, 8, it, INCLUSION))
+        self._refuses_texts(lambda it: verify_inclusion(log, record, 5, 8, root, it))
+
+    def test_consistency(self) -> None:
+        self.assertTrue(verify_consistency(6, root_of(6), 8, root_of(8), CONSISTENCY))
+        self.assertTrue(verify_consistency(8, root_of(8), 8, root_of(8), ""))
+        self.assertFalse(verify_consistency(5, root_of(5), 8, root_of(8), CONSISTENCY))
+        self.assertFalse(verify_consistency(8, root_of(8), 6, root_of(6), CONSISTENCY))
+        self.assertFalse(verify_consistency(6, root_of(6), 8, root_of(8), _changed(CONSISTENCY)))
+        self._refuses_texts(lambda it: verify_consistency(6, it, 8, root_of(8), CONSISTENCY))
+        self._refuses_texts(lambda it: verify_consistency(6, root_of(6), 8, root_of(8), it))
+
+    def test_map(self) -> None:
+        self.assertTrue(verify_presence(_id("log 0"), _id("record 6"), MAP_ROOT, PRESENCE))
+        self.assertFalse(verify_presence(_id("log 0"), _id("record 3"), MAP_ROOT, PRESENCE))
+        self.assertFalse(verify_presence(_id("log 1"), _id("record 6"), MAP_ROOT, PRESENCE))
+        self.assertFalse(verify_presence(_id("log 0"), _id("record 6"), MAP_ROOT, _changed(PRESENCE)))
+        self.assertTrue(verify_absence(_id("log 2"), MAP_ROOT, ABSENCE))
+        self.assertFalse(verify_absence(_id("log 0"), MAP_ROOT, PRESENCE))
+        self.assertFalse(verify_absence(_id("log 2"), root_of(8), ABSENCE))
+        self.assertFalse(verify_absence(_id("log 2"), MAP_ROOT, _changed(ABSENCE)))
+        self._refuses_texts(lambda it: verify_presence(_id("log 0"), _id("record 6"), MAP_ROOT, it))
+        self._refuses_texts(lambda it: verify_absence(_id("log 2"), it, ABSENCE))
+
+    def _refuses_texts(self, call: Callable[[str], bool]) -> None:
+        for wrong in ("sha256", "sha256:00", "!", "A"):
+            self.assertRaises(BadArgument, call, wrong)
+
+
+if __name__ == "__main__":
+    unittest.main()

@@ -1,0 +1,87 @@
+//! Publishes a package's log with keys of P-256, audits it from its bytes alone, and shows that a forged record is refused.
+//!
+//! With the word `print` the log goes to standard output, an envelope a line in hex; with `audit` one is read from standard input.
+use std::error::Error;
+use std::io::stdin;
+use std::time::SystemTime;
+use weoldrin::p256::{key_id, sha256_text, verify_p256, SigningKey};
+use weoldrin::records::{Entry, NewRecord};
+use weoldrin::{Package, PackageLog, PackagePermission};
+
+/// Signs a record that goes on from the log, and appends it.
+fn publish(log: &mut PackageLog, signer: &SigningKey, entries: Vec<Entry<Package>>) -> Result<Vec<u8>, Box<dyn Error>> {
+    let record = NewRecord { prev: log.head()?, version: 1, timestamp: SystemTime::now(), entries };
+    let signature = |message: &[u8]| signer.sign(message).unwrap_or_default();
+    let envelope = record.signed(&key_id(signer.public_key()), signature);
+    log.append(&envelope, verify_p256)?;
+    Ok(envelope)
+}
+
+/// The envelopes of a new log: alice begins it and lets bob release.
+fn published(count: usize) -> Result<Vec<Vec<u8>>, Box<dyn Error>> {
+    let (alice, bob) = (SigningKey::generate()?, SigningKey::generate()?);
+    let mut log = PackageLog::new()?;
+    let begin = vec![Entry::init(alice.public_key()), Entry::grant(bob.public_key(), &[PackagePermission::Release])];
+    let mut envelopes = vec![publish(&mut log, &alice, begin)?];
+    for minor in 1..count {
+        let content = sha256_text(format!("content {minor}").as_bytes());
+        let release = vec![Entry::release(&format!("1.{minor}.0"), &content)];
+        envelopes.push(publish(&mut log, &bob, release)?);
+    }
+    Ok(envelopes)
+}
+
+/// Audits a log: the one that its envelopes add up to, or the place of the first that is refused, and why.
+fn audited(envelopes: &[Vec<u8>]) -> Result<PackageLog, Box<dyn Error>> {
+    let mut log = PackageLog::new()?;
+    for (place, envelope) in envelopes.iter().enumerate() {
+        log.append(envelope, verify_p256).map_err(|error| format!("refused {place} {error}"))?;
+    }
+    Ok(log)
+}
+
+/// Names another content in a release than was signed: the digest behind that of the record before it.
+fn forge(envelope: &mut [u8]) {
+    let mut digests = (0..envelope.len()).filter(|&at| envelope[at..].starts_with(b"sha256:"));
+    if let Some(at) = digests.nth(1) {
+        envelope[at + 7] = if envelope[at + 7] == b'0' { b'1' } else { b'0' };
+    }
+}
+
+fn verdict(log: &PackageLog) -> Result<String, weoldrin::Error> {
+    let head = log.head()?.unwrap_or_else(|| "none".to_owned());
+    Ok(format!("ok {} {head}", log.len()?))
+}
+
+fn from_hex(line: &str) -> Result<Vec<u8>, Box<dyn Error>> {
+    let digits = line.as_bytes().chunks(2).map(std::str::from_utf8);
+    digits.map(|pair| Ok(u8::from_str_radix(pair?, 16)?)).collect()
+}
+
+fn main() -> Result<(), Box<dyn Error>> {
+    match std::env::args().nth(1).as_deref() {
+        Some("print") => {
+            for envelope in published(50)? {
+                let digits: String = envelope.iter().map(|it| format!("{it:02x}")).collect();
+                println!("{digits}");
+            }
+        }
+        Some("audit") => {
+            let envelopes: Result<Vec<_>, Box<dyn Error>> = stdin().lines().map(|line| from_hex(&line?)).collect();
+            println!("{}", verdict(&audited(&envelopes?)?)?);
+        }
+        _ => {
+            let mut envelopes = published(50)?;
+            let log = audited(&envelopes)?;
+            println!("{}", verdict(&log)?);
+            let latest = log.latest("*")?.map(|it| it.version);
+            println!("latest {}", latest.as_deref().unwrap_or("none"));
+            forge(&mut envelopes[7]);
+            match audited(&envelopes) {
+                Ok(_) => println!("the forged record was taken"),
+                Err(error) => println!("{error}"),
+            }
+        }
+    }
+    Ok(())
+}

@@ -1,0 +1,68 @@
+//! Why a call did nothing.
+use crate::raw;
+use std::fmt;
+
+/// What the library says of an error: its name, and a sentence.
+#[derive(Clone, Debug, PartialEq, Eq)]
+pub struct Reason {
+    /// The error's name, as `SignatureError` or `ProtobufEnvelope.Truncated`.
+    pub name: String,
+    /// What it means.
+    pub sentence: String,
+}
+
+impl fmt::Display for Reason {
+    fn fmt(&self, f: &mut fmt::Formatter<'_>) -> fmt::Result {
+        write!(f, "{}: {}", self.name, self.sentence)
+    }
+}
+
+/// Why a call did nothing. The log is as it was.
+#[derive(Clone, Debug, PartialEq, Eq)]
+#[non_exhaustive]
+pub enum Error {
+    /// There was no memory in the library. The same call may be made again.
+    OutOfMemory,
+    /// The bytes are no envelope of a record of the log's kind.
+    NoEnvelope(Reason),
+    /// The record is unlawful.
+    Refused(Reason),
+    /// An argument is not of its form, or the log was resumed and has no records. A text that is no saved state has the fault's name.
+    BadArgument(Option<Reason>),
+}
+
+impl Error {
+    /// What the library says of the error, where it says more than the case.
+    pub fn reason(&self) -> Option<&Reason> {
+        match self {
+            Error::NoEnvelope(reason) | Error::Refused(reason) => Some(reason),
+            Error::BadArgument(reason) => reason.as_ref(),
+            Error::OutOfMemory => None,
+        }
+    }
+
+    // The error of a status that is neither 0 nor "too small" nor "none", with its text.
+    pub(crate) fn of(status: u32, text: &[u8]) -> Self {
+        let text = String::from_utf8_lossy(text);
+        let (name, sentence) = text.split_once(": ").unwrap_or((&text, ""));
+        let reason = Reason { name: name.to_owned(), sentence: sentence.to_owned() };
+        match status {
+            raw::OUT_OF_MEMORY => Error::OutOfMemory,
+            raw::NO_ENVELOPE => Error::NoEnvelope(reason),
+            raw::REFUSED => Error::Refused(reason),
+            _ => Error::BadArgument(Some(reason).filter(|it| !it.name.is_empty())),
+        }
+    }
+}
+
+impl fmt::Display for Error {
+    fn fmt(&self, f: &mut fmt::Formatter<'_>) -> fmt::Result {
+        match self.reason() {
+            Some(reason) => reason.fmt(f),
+            None if *self == Error::OutOfMemory => f.write_str("out of memory"),
+            None => f.write_str("an argument is not of its form, or the log has no such call"),
+        }
+    }
+}
+
+impl std::error::Error for Error {}

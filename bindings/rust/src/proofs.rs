@@ -1,0 +1,83 @@
+//! What a registry proves of its log and its map. Roots are texts of hashes, ids are texts of ids, proofs are texts of base64.
+//!
+//! Each call says whether the proof holds. The error is [`Error::BadArgument`] where a text is not of its form.
+use crate::error::Error;
+use crate::raw;
+
+/// Whether the leaf of a log's record stands at a place of the registry's log, which has `length` leaves and this root.
+pub fn verify_inclusion(
+    log_id: &str,
+    record_id: &str,
+    place: u64,
+    length: u64,
+    root: &str,
+    proof: &str,
+) -> Result<bool, Error> {
+    said(unsafe {
+        raw::warg_verify_inclusion(
+            log_id.as_ptr(),
+            log_id.len(),
+            record_id.as_ptr(),
+            record_id.len(),
+            place,
+            length,
+            root.as_ptr(),
+            root.len(),
+            proof.as_ptr(),
+            proof.len(),
+        )
+    })
+}
+
+/// Whether the registry's log of `new_length` leaves begins with the one of `old_length` leaves.
+pub fn verify_consistency(
+    old_length: u64,
+    old_root: &str,
+    new_length: u64,
+    new_root: &str,
+    proof: &str,
+) -> Result<bool, Error> {
+    said(unsafe {
+        raw::warg_verify_consistency(
+            old_length,
+            old_root.as_ptr(),
+            old_root.len(),
+            new_length,
+            new_root.as_ptr(),
+            new_root.len(),
+            proof.as_ptr(),
+            proof.len(),
+        )
+    })
+}
+
+/// Whether the registry's map says that a log's last record is this one.
+pub fn verify_presence(log_id: &str, record_id: &str, root: &str, proof: &str) -> Result<bool, Error> {
+    said(unsafe {
+        raw::warg_verify_presence(
+            log_id.as_ptr(),
+            log_id.len(),
+            record_id.as_ptr(),
+            record_id.len(),
+            root.as_ptr(),
+            root.len(),
+            proof.as_ptr(),
+            proof.len(),
+        )
+    })
+}
+
+/// Whether the registry's map says nothing of a log.
+pub fn verify_absence(log_id: &str, root: &str, proof: &str) -> Result<bool, Error> {
+    said(unsafe {
+        raw::warg_verify_absence(log_id.as_ptr(), log_id.len(), root.as_ptr(), root.len(), proof.as_ptr(), proof.len())
+    })
+}
+
+fn said(status: u32) -> Result<bool, Error> {
+    match status {
+        raw::OK => Ok(true),
+        raw::REFUSED => Ok(false),
+        status => Err(Error::of(status, &[])),
+    }
+}

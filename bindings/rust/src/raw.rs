@@ -1,0 +1,230 @@
+//! The library's calls, as `include/warg.h` declares them.
+use std::ffi::c_void;
+
+pub(crate) const OK: u32 = 0;
+pub(crate) const OUT_OF_MEMORY: u32 = 2;
+pub(crate) const TOO_SMALL: u32 = 3;
+pub(crate) const NO_ENVELOPE: u32 = 4;
+pub(crate) const REFUSED: u32 = 5;
+pub(crate) const NONE: u32 = 6;
+pub(crate) const BAD_ARGUMENT: u32 = 7;
+
+/// A `struct warg_log`. All 0 is none.
+#[repr(C)]
+pub(crate) struct Log {
+    pub at: *mut c_void,
+    pub is_open: bool,
+}
+
+/// A `struct warg_asked`.
+#[repr(C)]
+#[derive(Clone, Copy, Default, Debug, PartialEq, Eq)]
+pub(crate) struct Asked {
+    pub key_len: usize,
+    pub message_len: usize,
+    pub signature_len: usize,
+}
+
+/// A `struct warg_kept`.
+#[repr(C)]
+#[derive(Default)]
+pub(crate) struct Kept {
+    pub envelope_len: usize,
+    pub id_len: usize,
+}
+
+/// A `struct warg_release`.
+#[repr(C)]
+#[derive(Default)]
+pub(crate) struct Release {
+    pub version_len: usize,
+    pub record_id_len: usize,
+    pub key_id_len: usize,
+    pub state_len: usize,
+    pub seconds: i64,
+    pub yanked_seconds: i64,
+    pub nanos: u32,
+    pub yanked_nanos: u32,
+    pub is_yanked: u32,
+}
+
+/// A `struct warg_link`.
+#[repr(C)]
+#[derive(Clone, Copy, Default)]
+pub(crate) struct Link {
+    pub record_index: usize,
+    pub entry_index: usize,
+}
+
+/// A `struct warg_comparison`, whose first field is named `is` there.
+#[repr(C)]
+#[derive(Default)]
+pub(crate) struct Comparison {
+    pub case: u32,
+    pub left: usize,
+    pub right: usize,
+}
+
+extern "C" {
+    pub(crate) fn warg_open(log: *mut Log, kind: u32) -> u32;
+    pub(crate) fn warg_close(log: *mut Log);
+    pub(crate) fn warg_ask(
+        log: *mut Log,
+        envelope: *const u8,
+        envelope_len: usize,
+        bytes: *mut u8,
+        bytes_len: usize,
+        used: *mut usize,
+        asked: *mut Asked,
+    ) -> u32;
+    pub(crate) fn warg_append(
+        log: *mut Log,
+        envelope: *const u8,
+        envelope_len: usize,
+        question: *const u8,
+        question_len: usize,
+        asked: *const Asked,
+        belongs: bool,
+        text: *mut u8,
+        text_len: usize,
+        used: *mut usize,
+    ) -> u32;
+    pub(crate) fn warg_head(log: *mut Log, text: *mut u8, text_len: usize, used: *mut usize) -> u32;
+    pub(crate) fn warg_length(log: *mut Log, length: *mut usize) -> u32;
+    pub(crate) fn warg_record(
+        log: *mut Log,
+        place: usize,
+        bytes: *mut u8,
+        bytes_len: usize,
+        used: *mut usize,
+        kept: *mut Kept,
+    ) -> u32;
+    pub(crate) fn warg_id(
+        kind: u32,
+        envelope: *const u8,
+        envelope_len: usize,
+        text: *mut u8,
+        text_len: usize,
+        used: *mut usize,
+    ) -> u32;
+    pub(crate) fn warg_latest(
+        log: *mut Log,
+        requirement: *const u8,
+        requirement_len: usize,
+        text: *mut u8,
+        text_len: usize,
+        used: *mut usize,
+        release: *mut Release,
+    ) -> u32;
+    pub(crate) fn warg_release(
+        log: *mut Log,
+        version: *const u8,
+        version_len: usize,
+        text: *mut u8,
+        text_len: usize,
+        used: *mut usize,
+        release: *mut Release,
+    ) -> u32;
+    pub(crate) fn warg_releases(
+        log: *mut Log,
+        place: usize,
+        text: *mut u8,
+        text_len: usize,
+        used: *mut usize,
+        release: *mut Release,
+    ) -> u32;
+    pub(crate) fn warg_namespace(
+        log: *mut Log,
+        name: *const u8,
+        name_len: usize,
+        text: *mut u8,
+        text_len: usize,
+        used: *mut usize,
+        is_imported: *mut u32,
+    ) -> u32;
+    pub(crate) fn warg_holds(
+        log: *mut Log,
+        key_id: *const u8,
+        key_id_len: usize,
+        permission: *const u8,
+        permission_len: usize,
+    ) -> u32;
+    pub(crate) fn warg_permissions(
+        log: *mut Log,
+        key_id: *const u8,
+        key_id_len: usize,
+        text: *mut u8,
+        text_len: usize,
+        used: *mut usize,
+    ) -> u32;
+    pub(crate) fn warg_key(
+        log: *mut Log,
+        key_id: *const u8,
+        key_id_len: usize,
+        text: *mut u8,
+        text_len: usize,
+        used: *mut usize,
+    ) -> u32;
+    pub(crate) fn warg_chain(
+        log: *mut Log,
+        key_id: *const u8,
+        key_id_len: usize,
+        permission: *const u8,
+        permission_len: usize,
+        links: *mut Link,
+        links_len: usize,
+        used: *mut usize,
+    ) -> u32;
+    pub(crate) fn warg_compare(left: *mut Log, right: *mut Log, comparison: *mut Comparison) -> u32;
+    pub(crate) fn warg_save(log: *mut Log, text: *mut u8, text_len: usize, used: *mut usize) -> u32;
+    pub(crate) fn warg_resume(
+        log: *mut Log,
+        kind: u32,
+        saved: *const u8,
+        saved_len: usize,
+        text: *mut u8,
+        text_len: usize,
+        used: *mut usize,
+    ) -> u32;
+    pub(crate) fn warg_verify_inclusion(
+        log_id: *const u8,
+        log_id_len: usize,
+        record_id: *const u8,
+        record_id_len: usize,
+        place: u64,
+        length: u64,
+        root: *const u8,
+        root_len: usize,
+        proof: *const u8,
+        proof_len: usize,
+    ) -> u32;
+    pub(crate) fn warg_verify_consistency(
+        old_length: u64,
+        old_root: *const u8,
+        old_root_len: usize,
+        new_length: u64,
+        new_root: *const u8,
+        new_root_len: usize,
+        proof: *const u8,
+        proof_len: usize,
+    ) -> u32;
+    pub(crate) fn warg_verify_presence(
+        log_id: *const u8,
+        log_id_len: usize,
+        record_id: *const u8,
+        record_id_len: usize,
+        root: *const u8,
+        root_len: usize,
+        proof: *const u8,
+        proof_len: usize,
+    ) -> u32;
+    pub(crate) fn warg_verify_absence(
+        log_id: *const u8,
+        log_id_len: usize,
+        root: *const u8,
+        root_len: usize,
+        proof: *const u8,
+        proof_len: usize,
+    ) -> u32;
+    pub(crate) fn warg_version(text: *mut u8, text_len: usize, used: *mut usize) -> u32;
+}

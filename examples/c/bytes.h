@@ -1,0 +1,32 @@
+/* Bytes that grow, and their digits in hex and base64. */
+#ifndef BYTES_H
+#define BYTES_H
+
+#include <stdbool.h>
+#include <stddef.h>
+#include <stdint.h>
+#include <stdio.h>
+
+/* Bytes on the heap. All 0 is no bytes. `at` is null only then. */
+struct bytes {
+    uint8_t *at;
+    size_t len;
+    size_t room;
+};
+
+/* Each of these that grows bytes ends the program where there is no memory. */
+void bytes_add(struct bytes *bytes, const void *at, size_t len);
+void bytes_add_text(struct bytes *bytes, const char *text);
+void bytes_add_base64(struct bytes *bytes, const uint8_t *at, size_t len);
+/* The bytes of base64, which is false where they are none. */
+bool bytes_add_from_base64(struct bytes *bytes, const uint8_t *digits, size_t len);
+void bytes_free(struct bytes *bytes);
+
+/* Reads a line of hex digits; false at the end of the file. Ends the program where the line is none. */
+bool bytes_read_hex(struct bytes *bytes, FILE *from);
+void bytes_print_hex(const struct bytes *bytes, FILE *to);
+
+/* Ends the program, and says why. */
+_Noreturn void give_up(const char *why);
+
+#endif
