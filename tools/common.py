@@ -11,38 +11,45 @@ import tempfile
 from typing import NamedTuple
 
 ROOT = pathlib.Path(__file__).resolve().parent.parent
+
+
 class Product(NamedTuple):
-    """What dist/ has: its name there, the crate that it is built from, its manifest in dist/, and the source that names its
-    version."""
+    """What dist/ has: its name, its files there, the crate that they are built from and what is built of it in that crate's
+    out/, its manifest in dist/, and the source that names its version."""
 
     name: str
+    files: tuple[str, ...]
     crate: str
+    built_in: str
     manifest: str
     information: str
 
-    @property
-    def built(self) -> pathlib.Path:
-        """Where bin/prove and `rt ci` leave it in this checkout."""
-        return ROOT / f"crates/{self.crate}/out/{self.crate}"
+    def built(self) -> dict[str, pathlib.Path]:
+        """By the files of dist/, where they are left in this checkout."""
+        here = ROOT / "crates" / self.crate / "out" / self.built_in
+        return {it: here / (it if self.built_in else self.crate) for it in self.files}
 
-    @property
-    def released(self) -> pathlib.Path:
-        return ROOT / f"dist/x86_64-linux/{self.name}"
+    def released(self) -> dict[str, pathlib.Path]:
+        return {it: ROOT / "dist/x86_64-linux" / it for it in self.files}
 
     def said(self) -> dict[str, str]:
         """What the manifest says, by the first word of each line."""
         lines = (ROOT / "dist" / self.manifest).read_text(encoding="utf-8").splitlines()
         return {word: rest for word, _, rest in (line.partition(": ") for line in lines) if rest}
 
+    def is_program(self) -> bool:
+        return not self.built_in
+
 
 PRODUCTS = {
     it.name: it
     for it in [
-        Product("warg_audit", "warg_audit_main", "MANIFEST", "crates/warg_audit/src/information.rt"),
+        Product("warg_audit", ("warg_audit",), "warg_audit_main", "", "MANIFEST", "crates/warg_audit/src/information.rt"),
+        Product("libwarg", ("libwarg.a", "libwarg.so", "warg.pc"), "warg_c", "c", "MANIFEST.libwarg", "crates/warg_c/src/exports/version.rt"),
     ]
 }
 # The program that the examples, the fuzzer and the benchmarks run.
-BUILT = PRODUCTS["warg_audit"].built
+BUILT = PRODUCTS["warg_audit"].built()["warg_audit"]
 
 
 def words_of(doc):
@@ -54,7 +61,7 @@ def stands_on(name, found=None):
     """The crate and all crates of the repository that it stands on, by crates.txt."""
     found = set() if found is None else found
     lines = (line.partition(":") for line in (ROOT / "crates.txt").read_text(encoding="utf-8").splitlines())
-    below = {crate: words.split() for crate, _, words in lines if words}
+    below = {crate.split()[0]: words.split() for crate, _, words in lines if words and crate.split()}
     if name in below and name not in found:
         found.add(name)
         for word in below[name]:
@@ -69,7 +76,7 @@ def copied(crates, to):
     for crate in crates:
         shutil.copytree(ROOT / "crates" / crate, to / "crates" / crate, ignore=shutil.ignore_patterns("out", "must-fail"))
     lines = (ROOT / "crates.txt").read_text(encoding="utf-8").splitlines(keepends=True)
-    (to / "crates.txt").write_text("".join(it for it in lines if it.split(":")[0] in crates), encoding="utf-8")
+    (to / "crates.txt").write_text("".join(it for it in lines if it.partition(":")[0].partition(" ")[0] in crates), encoding="utf-8")
     shutil.copy(ROOT / "HANDLES", to)
 
 
@@ -102,6 +109,25 @@ def built(name):
     if is_older(program, name):
         print(f"{name} is older than its sources: it is not what these make", file=sys.stderr)
     return program
+
+
+def program_of(name, stands, line):
+    """The built program of a folder beside this tool, over a copy of the crates that it stands on."""
+    folder, sources = room_of(name), sorted((ROOT / "tools" / name).glob("*.rs"))
+    crates = set().union(*(stands_on(it) for it in stands))
+    newest = max(path.stat().st_mtime for it in crates for path in (ROOT / "crates" / it / "src").rglob("*.rt"))
+    made = folder / f"crates/{name}/out/{name}"
+    if not made.exists() or made.stat().st_mtime < max(newest, *(it.stat().st_mtime for it in sources)):
+        copied(crates, folder)
+        (folder / f"crates/{name}/src").mkdir(parents=True)
+        for it in sources:
+            shutil.copy(it, folder / f"crates/{name}/src" / it.with_suffix(".rt").name)
+        with open(folder / "crates.txt", "a", encoding="utf-8") as it:
+            it.write(f"{name}: {line}\n")
+        subprocess.run(["rt", "run"], cwd=made.parent.parent, stdin=subprocess.DEVNULL, stdout=subprocess.DEVNULL, check=False)
+    if not made.exists():
+        raise SystemExit(f"{name} could not be built")
+    return made
 
 
 class Example(NamedTuple):
