@@ -32,7 +32,7 @@
  *     a space, and a sentence. At WARG_BAD_ARGUMENT of `warg_resume`, that of the error's name alone. 0 where the buffer or the
  *     memory had no room for it;
  *   - at any other status 0.
- * What else a call gives (`asked`, `release` and the like) is written at WARG_OK alone, unless its text below says otherwise. */
+ * What else a call gives (`asked`, `kept`, `release`, `is_imported`) is written at WARG_OK and at WARG_TOO_SMALL. */
 #ifndef WARG_H
 #define WARG_H
 
