@@ -49,7 +49,8 @@ class Packages(unittest.TestCase):
         self.assertEqual([it.id for it in self.log.records()], [record_id(Kind.PACKAGE, it) for it in self.envelopes])
         self.assertEqual(self.log.head(), record_id(Kind.PACKAGE, self.envelopes[-1]))
         self.assertNotEqual(self.log.head(), record_id(Kind.OPERATOR, self.envelopes[-1]))
-        self.assertIsNone(self.log.record(4))
+        for place in (4, 2**64 - 1, 2**64, 2**64 + 1):
+            self.assertIsNone(self.log.record(place))
         self.assertIsNone(PackageLog().head())
         with self.assertRaises(IndexError):
             self.log.record(-1)
@@ -182,6 +183,11 @@ class WrongUse(unittest.TestCase):
         copies: list[Callable[[object], object]] = [copy.copy, copy.deepcopy, pickle.dumps]
         for copied in copies:
             self.assertRaises(TypeError, copied, log)
+
+    def test_answers_that_are_none(self) -> None:
+        log = PackageLog()
+        for answer in (1, 0, -1, "no", None, object()):
+            self.assertRaises(TypeError, log.append_answered, b"", Question("toy:", b"", "toy:"), answer)
 
     def test_texts(self) -> None:
         log = PackageLog()

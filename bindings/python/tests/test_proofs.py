@@ -104,6 +104,15 @@ class Proofs(unittest.TestCase):
         self._refuses_texts(lambda it: verify_presence(_id("log 0"), _id("record 6"), MAP_ROOT, it))
         self._refuses_texts(lambda it: verify_absence(_id("log 2"), it, ABSENCE))
 
+    def test_numbers_beyond_the_calls(self) -> None:
+        log_id, record_id, root = _id("log 2"), _id("record 5"), root_of(8)
+        self.assertTrue(verify_inclusion(log_id, record_id, 5, 8, root, INCLUSION))
+        for place, length in ((5 + 2**64, 8), (5, 8 + 2**64), (5, 8 - 2**64), (5 - 2**64, 8)):
+            self.assertRaises(BadArgument, verify_inclusion, log_id, record_id, place, length, root, INCLUSION)
+        self.assertTrue(verify_consistency(6, root_of(6), 8, root, CONSISTENCY))
+        for old, new in ((6 + 2**64, 8), (6, 8 + 2**64), (-1, 8)):
+            self.assertRaises(BadArgument, verify_consistency, old, root_of(6), new, root, CONSISTENCY)
+
     def _refuses_texts(self, call: Callable[[str], bool]) -> None:
         for wrong in ("sha256", "sha256:00", "!", "A"):
             self.assertRaises(BadArgument, call, wrong)

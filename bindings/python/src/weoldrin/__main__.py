@@ -11,7 +11,7 @@ def _parser() -> argparse.ArgumentParser:
     parser = argparse.ArgumentParser(
         prog="python3 -m weoldrin",
         description="Audits logs of a Warg registry. A log is a file with an envelope a line, in hex.",
-        epilog="Status: 0 all accepted, 1 one was refused, 2 a file could not be read.",
+        epilog="Status: 0 all accepted, 1 one was refused, 2 a file could not be read, or cryptography is not there.",
     )
     parser.add_argument("--version", action="version", version=f"weoldrin {library_version()}")
     commands = parser.add_subparsers(dest="command", required=True)
@@ -27,8 +27,12 @@ def _parser() -> argparse.ArgumentParser:
 def main(words: list[str] | None = None) -> int:
     """Runs the words of a command line, and gives the exit status."""
     asked = _parser().parse_args(words)
-    # The package `cryptography` is needed here alone.
-    from . import p256
+    try:
+        # The package `cryptography` is needed here alone.
+        from . import p256
+    except ModuleNotFoundError as error:
+        print(f"weoldrin: to verify signatures the package cryptography is needed: {error}", file=sys.stderr)
+        return 2
 
     kind, workers = Kind[asked.kind.upper()], max(1, min(asked.workers or 1, len(asked.logs)))
     if workers == 1:

@@ -10,6 +10,9 @@ from .errors import BadArgument, Error, NoEnvelope, NotOpen, OutOfMemory, Refuse
 
 OK, TOO_SMALL, NO_ENVELOPE, REFUSED, NONE, BAD_ARGUMENT = 0, 3, 4, 5, 6, 7
 
+# The greatest number that a call takes. `ctypes` passes a greater one on without its upper digits.
+GREATEST = 2**64 - 1
+
 _RAISED: dict[int, type[Error]] = {
     1: NotOpen,
     2: OutOfMemory,

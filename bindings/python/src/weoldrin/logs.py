@@ -158,12 +158,18 @@ class Log:
         return Question(text[: asked.key_len].decode(), text[asked.key_len : end], text[end:].decode())
 
     def append_answered(self, envelope: bytes, question: Question, belongs: bool) -> None:
-        """Appends the envelope's record by the answer to its question. The answer to any other question is refused."""
+        """Appends the envelope's record by the answer to its question. The answer to any other question is refused.
+
+        An answer is True or False and nothing else: whatever a verifier returns in their place, such as a number or a coroutine,
+        is a `TypeError`, and says nothing of the signature.
+        """
+        if not isinstance(belongs, bool):
+            raise TypeError(f"whether a signature belongs is True or False, not {belongs!r}")
         key, signature = question.key.encode(), question.signature.encode()
         asked = _library.Asked(len(key), len(question.message), len(signature))
         text = key + question.message + signature
         room = len(envelope) + _SENTENCE
-        self._said("append", envelope, len(envelope), text, len(text), asked, bool(belongs), room=room)
+        self._said("append", envelope, len(envelope), text, len(text), asked, belongs, room=room)
 
     def append(self, envelope: bytes, verify: Verify) -> None:
         """Appends the envelope's record if `verify` says that its signature belongs.
@@ -191,6 +197,8 @@ class Log:
 
     def record(self, place: int) -> Record | None:
         """The record at a place, from 0; none if the log has none there."""
+        if place > _library.GREATEST:
+            return None
         kept = _library.Kept()
         text = self._said("record", _place(place), after=(kept,))
         return None if text is None else Record(text[: kept.envelope_len], text[kept.envelope_len :].decode())

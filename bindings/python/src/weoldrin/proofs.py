@@ -1,9 +1,11 @@
 """What a registry proves of its log and its map. Roots are texts of hashes, ids are texts of ids, proofs are texts of base64.
 
-Each call says whether the proof holds, and raises `BadArgument` where a text is not of its form.
+Each call says whether the proof holds, and raises `BadArgument` where a text is not of its form, or where a place or a length is
+not from 0 to 2**64 - 1.
 """
 
-from ._library import CALLS, REFUSED, checked
+from ._library import CALLS, GREATEST, REFUSED, checked
+from .errors import BadArgument
 
 
 def _holds(name: str, *arguments: str | int) -> bool:
@@ -12,8 +14,10 @@ def _holds(name: str, *arguments: str | int) -> bool:
         if isinstance(it, str):
             text = it.encode()
             passed += [text, len(text)]
-        else:
+        elif 0 <= it <= GREATEST:
             passed.append(it)
+        else:
+            raise BadArgument(f"OutOfRange: {it} is not from 0 to {GREATEST}")
     status = CALLS[f"verify_{name}"](*passed)
     return False if status == REFUSED else checked(status)
 
