@@ -22,15 +22,16 @@ static void refuse(const struct bytes *envelope, const char *name) {
     bytes_free(&after);
 }
 
-/* The answer yes to a question, for an envelope that asks another one, or that can't be the next. */
-static void refuse_answer(const struct bytes *envelope, const struct bytes *question, const struct warg_asked *asked) {
+/* The answer yes to a question, for an envelope that asks another one, or that can't be the next: it is refused with an error of this name. */
+static void refuse_answer(const struct bytes *envelope, const struct bytes *question, const struct warg_asked *asked,
+                          const char *name) {
     uint8_t text[1024] = {0};
     size_t used = 0;
     struct bytes before = {0}, after = {0};
     CHECK(head_of(&the_log, &before) == WARG_OK);
     CHECK(warg_append(&the_log, envelope->at, envelope->len, question->at, question->len, asked, true, text, sizeof text,
                       &used) == WARG_REFUSED);
-    CHECK(used > 0);
+    CHECK(BEGINS(text, used, name));
     CHECK(head_of(&the_log, &after) == WARG_OK);
     CHECK(before.len == after.len && !memcmp(before.at, after.at, after.len));
     bytes_free(&before);
@@ -76,7 +77,7 @@ static void forge(size_t place, const struct bytes *envelope, const struct bytes
     /* The answer to the question of the true record, for this one. */
     CHECK(ask(&the_log, envelope, &question, &asked) == WARG_OK);
     CHECK(p256_verify(question.at, &asked));
-    refuse_answer(&forged, &question, &asked);
+    refuse_answer(&forged, &question, &asked, "SignatureError: ");
     copy(&forged, envelope);
     change_message(&forged, place);
     refuse(&forged, "SignatureError: ");
@@ -99,7 +100,7 @@ int main(void) {
         forge(place, &envelope, &head, &alice, &bob);
         CHECK(ask(&the_log, &envelope, &question, &asked) == WARG_OK);
         CHECK(append(&the_log, &envelope, p256_verify, &text) == WARG_OK);
-        refuse_answer(&envelope, &question, &asked);
+        refuse_answer(&envelope, &question, &asked, place ? "RecordHashDoesNotMatch: " : "NoPreviousHashAfterInit: ");
     }
     size_t length = 0;
     CHECK(warg_length(&the_log, &length) == WARG_OK && length == RECORDS);

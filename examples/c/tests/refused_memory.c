@@ -1,4 +1,4 @@
-/* Refuses each request for memory in turn, in each call. The call then says that there was no
+/* Refuses each request for memory in turn, in each call, on logs that have their records and on resumed ones. The call then says that there was no
  * memory, and all logs are as they were; or it does without, and at most gives an error without its text. Made again it does what it does with memory. */
 #include "../p256.h"
 #include "check.h"
@@ -6,8 +6,8 @@
 #include "refusing.h"
 
 static struct warg_log package, operators, other, fresh;
-static struct bytes next, forged, begin, yes;
-static struct warg_asked asked;
+static struct bytes next, forged, begin, yes, begin_yes;
+static struct warg_asked asked, begin_asked;
 static struct signer alice, bob;
 static uint8_t text[1 << 16], saved[2][1 << 14];
 static size_t saved_len[2], used;
@@ -43,6 +43,10 @@ static uint32_t append_no(void) {
 }
 static uint32_t append_other(void) {
     return warg_append(&package, forged.at, forged.len, yes.at, yes.len, &asked, true, text, sizeof text, &used);
+}
+static uint32_t append_begin(void) {
+    return warg_append(&fresh, begin.at, begin.len, begin_yes.at, begin_yes.len, &begin_asked, true, text, sizeof text,
+                       &used);
 }
 static uint32_t head(void) { return warg_head(&package, text, sizeof text, &used); }
 static uint32_t length(void) { return warg_length(&package, &used); }
@@ -87,112 +91,173 @@ static uint32_t resume_nonsense(void) {
 }
 static uint32_t version(void) { return warg_version(text, sizeof text, &used); }
 
-/* Each call, and its status with memory. Those that change a log stand at the end. */
-static const struct {
+/* A call, and its status with memory: on a log that has its records, and on a resumed one. */
+struct call {
     const char *name;
-    uint32_t (*call)(void);
-    uint32_t status;
-} calls[] = {
-    {"ask", ask_next, WARG_OK},
-    {"ask, of a first record", ask_begin, WARG_OK},
-    {"ask, of no envelope", ask_nonsense, WARG_NO_ENVELOPE},
-    {"ask, of a refused record", ask_refused, WARG_REFUSED},
-    {"append, of a wrong signature", append_no, WARG_REFUSED},
-    {"append, by another answer", append_other, WARG_REFUSED},
-    {"head", head, WARG_OK},
-    {"length", length, WARG_OK},
-    {"record", record, WARG_OK},
-    {"id", id, WARG_OK},
-    {"id, of an operator's", operator_id, WARG_OK},
-    {"latest", latest, WARG_OK},
-    {"latest, of no requirement", bad_requirement, WARG_BAD_ARGUMENT},
-    {"release", release_of, WARG_OK},
-    {"releases", releases, WARG_OK},
-    {"namespace", namespace_of, WARG_OK},
-    {"holds", holds, WARG_OK},
-    {"permissions", permissions, WARG_OK},
-    {"permissions, of operators", operator_permissions, WARG_OK},
-    {"key", key, WARG_OK},
-    {"chain", chain, WARG_OK},
-    {"compare", compare, WARG_OK},
-    {"save", save, WARG_OK},
-    {"save, of operators", save_operators, WARG_OK},
-    {"resume, of no state", resume_nonsense, WARG_BAD_ARGUMENT},
-    {"version", version, WARG_OK},
-    {"resume", resume, WARG_OK},
-    {"resume, of operators", resume_operators, WARG_OK},
-    {"open", open_again, WARG_OK},
-    {"open, of operators", open_operators, WARG_OK},
-    {"append", append_next, WARG_OK},
+    uint32_t (*make)(void);
+    uint32_t status[2];
 };
 
-/* The states of all logs, as texts behind each other. */
-static void states(struct bytes *all) {
+/* Those that only look. */
+static const struct call looking[] = {
+    {"ask", ask_next, {WARG_OK, WARG_OK}},
+    {"ask, of a first record", ask_begin, {WARG_OK, WARG_OK}},
+    {"ask, of no envelope", ask_nonsense, {WARG_NO_ENVELOPE, WARG_NO_ENVELOPE}},
+    {"ask, of a refused record", ask_refused, {WARG_REFUSED, WARG_REFUSED}},
+    {"append, of a wrong signature", append_no, {WARG_REFUSED, WARG_REFUSED}},
+    {"append, by another answer", append_other, {WARG_REFUSED, WARG_REFUSED}},
+    {"head", head, {WARG_OK, WARG_OK}},
+    {"length", length, {WARG_OK, WARG_BAD_ARGUMENT}},
+    {"record", record, {WARG_OK, WARG_BAD_ARGUMENT}},
+    {"id", id, {WARG_OK, WARG_OK}},
+    {"id, of an operator's", operator_id, {WARG_OK, WARG_OK}},
+    {"latest", latest, {WARG_OK, WARG_OK}},
+    {"latest, of no requirement", bad_requirement, {WARG_BAD_ARGUMENT, WARG_BAD_ARGUMENT}},
+    {"release", release_of, {WARG_OK, WARG_OK}},
+    {"releases", releases, {WARG_OK, WARG_OK}},
+    {"namespace", namespace_of, {WARG_OK, WARG_OK}},
+    {"holds", holds, {WARG_OK, WARG_OK}},
+    {"permissions", permissions, {WARG_OK, WARG_OK}},
+    {"permissions, of operators", operator_permissions, {WARG_OK, WARG_OK}},
+    {"key", key, {WARG_OK, WARG_OK}},
+    {"chain", chain, {WARG_OK, WARG_BAD_ARGUMENT}},
+    {"compare", compare, {WARG_OK, WARG_BAD_ARGUMENT}},
+    {"save", save, {WARG_OK, WARG_OK}},
+    {"save, of operators", save_operators, {WARG_OK, WARG_OK}},
+    {"resume, of no state", resume_nonsense, {WARG_BAD_ARGUMENT, WARG_BAD_ARGUMENT}},
+    {"version", version, {WARG_OK, WARG_OK}},
+};
+
+/* Those that change a log. */
+static const struct call changing[] = {
+    {"append, of a first record", append_begin, {WARG_OK, WARG_OK}},
+    {"resume", resume, {WARG_OK, WARG_OK}},
+    {"resume, of operators", resume_operators, {WARG_OK, WARG_OK}},
+    {"open", open_again, {WARG_OK, WARG_OK}},
+    {"open, of operators", open_operators, {WARG_OK, WARG_OK}},
+    {"append", append_next, {WARG_OK, WARG_OK}},
+};
+
+/* What a log says of itself: its state as a text, its last record's id, how many records it has, and these. */
+static void add_log(struct bytes *all, struct warg_log *log) {
     static uint8_t room[1 << 15];
-    struct warg_log *logs[] = {&package, &operators, &other, &fresh};
-    all->len = 0;
-    for (size_t i = 0; i < 4; i++) {
-        size_t len = 0;
-        uint32_t status = warg_save(logs[i], room, sizeof room, &len);
-        CHECK(status == WARG_OK);
+    size_t len = 0, count = 0;
+    struct warg_kept kept = {0};
+    CHECK(warg_save(log, room, sizeof room, &len) == WARG_OK);
+    bytes_add(all, room, len);
+    uint32_t status = warg_head(log, room, sizeof room, &len);
+    CHECK(status == WARG_OK || status == WARG_NONE);
+    bytes_add(all, room, len);
+    status = warg_length(log, &count);
+    /* A resumed log has no records. */
+    CHECK(status == WARG_OK || status == WARG_BAD_ARGUMENT);
+    bytes_add(all, &status, sizeof status);
+    if (status != WARG_OK)
+        return;
+    bytes_add(all, &count, sizeof count);
+    for (size_t place = 0; place < count; place++) {
+        CHECK(warg_record(log, place, room, sizeof room, &len, &kept) == WARG_OK);
+        CHECK(kept.envelope_len + kept.id_len == len);
         bytes_add(all, room, len);
     }
 }
 
+/* What all logs say of themselves. */
+static void add_logs(struct bytes *all) {
+    struct warg_log *logs[] = {&package, &operators, &other, &fresh};
+    all->len = 0;
+    for (size_t i = 0; i < sizeof logs / sizeof *logs; i++)
+        add_log(all, logs[i]);
+}
+
 /* Refuses each request of a call in turn, and says how many there are. */
-static long refuse_each(size_t i) {
+static long refuse_each(const struct call *call, bool changes, bool are_resumed) {
     struct bytes before = {0}, after = {0};
-    states(&before);
+    uint32_t wanted = call->status[are_resumed];
+    add_logs(&before);
     for (long place = 0;; place++) {
         refuse_request(place);
-        uint32_t status = calls[i].call();
-        if (!was_refused()) {
-            CHECK(status == calls[i].status);
+        uint32_t status = call->make();
+        bool is_last = !was_refused();
+        /* A call may do without what it asked for, or say no more than the status. */
+        CHECK(status == wanted || (status == WARG_OUT_OF_MEMORY && !is_last));
+        add_logs(&after);
+        bool are_same = before.len == after.len && !memcmp(before.at, after.at, after.len);
+        CHECK(are_same || (changes && status == WARG_OK));
+        if (is_last) {
             bytes_free(&before);
             bytes_free(&after);
             return place;
         }
-        /* A call may do without what it asked for, or say no more than the status. */
-        CHECK(status == WARG_OUT_OF_MEMORY || status == calls[i].status);
-        states(&after);
         if (status == WARG_OK)
-            states(&before);
-        CHECK(before.len == after.len && !memcmp(before.at, after.at, after.len));
+            add_logs(&before);
     }
 }
 
-static void prepare(void) {
+static long refuse_all(const struct call *calls, size_t count, bool changes, bool are_resumed) {
+    long all = 0;
+    for (size_t i = 0; i < count; i++) {
+        long requests = refuse_each(&calls[i], changes, are_resumed);
+        printf("%4ld requests refused: %s\n", requests, calls[i].name);
+        all += requests;
+    }
+    return all;
+}
+
+/* Puts the log that goes on from its saved state in its place. */
+static void resume_log(struct warg_log *log, uint32_t kind) {
+    static uint8_t state[1 << 15];
+    size_t len = 0;
+    CHECK(warg_save(log, state, sizeof state, &len) == WARG_OK);
+    CHECK(warg_resume(log, kind, state, len, text, sizeof text, &used) == WARG_OK);
+    CHECK(warg_length(log, &used) == WARG_BAD_ARGUMENT);
+}
+
+static void prepare(bool are_resumed) {
     struct bytes none = {0};
-    alice = p256_signer();
-    bob = p256_signer();
     package = package_log(4, &alice, &bob);
     other = package_log(2, &alice, &bob);
     operators = operator_log(&alice);
+    CHECK(warg_open(&fresh, WARG_PACKAGE) == WARG_OK);
+    if (are_resumed) {
+        resume_log(&package, WARG_PACKAGE);
+        resume_log(&other, WARG_PACKAGE);
+        resume_log(&operators, WARG_OPERATOR);
+        resume_log(&fresh, WARG_PACKAGE);
+    }
     next_envelope(&next, &package, 4, &alice, &bob);
     next_envelope(&forged, &package, 5, &alice, &bob);
     publish(&begin, 0, &none, &alice, &bob);
-    CHECK(warg_open(&fresh, WARG_PACKAGE) == WARG_OK);
     CHECK(ask(&package, &next, &yes, &asked) == WARG_OK);
+    CHECK(ask(&fresh, &begin, &begin_yes, &begin_asked) == WARG_OK);
     CHECK(warg_save(&package, saved[0], sizeof saved[0], &saved_len[0]) == WARG_OK);
     CHECK(warg_save(&operators, saved[1], sizeof saved[1], &saved_len[1]) == WARG_OK);
 }
 
+static void finish(void) {
+    struct warg_log *logs[] = {&package, &operators, &other, &fresh};
+    struct bytes *all[] = {&next, &forged, &begin, &yes, &begin_yes};
+    for (size_t i = 0; i < sizeof logs / sizeof *logs; i++) {
+        /* Closing asks for no memory. */
+        refuse_request(0);
+        warg_close(logs[i]);
+        CHECK(!was_refused());
+    }
+    for (size_t i = 0; i < sizeof all / sizeof *all; i++)
+        bytes_free(all[i]);
+}
+
 int main(void) {
     long all = 0;
-    prepare();
-    for (size_t i = 0; i < sizeof calls / sizeof *calls; i++) {
-        long count = refuse_each(i);
-        printf("%4ld requests refused: %s\n", count, calls[i].name);
-        all += count;
+    alice = p256_signer();
+    bob = p256_signer();
+    for (int are_resumed = 0; are_resumed < 2; are_resumed++) {
+        puts(are_resumed ? "resumed logs:" : "logs that have their records:");
+        prepare(are_resumed);
+        all += refuse_all(looking, sizeof looking / sizeof *looking, false, are_resumed);
+        all += refuse_all(changing, sizeof changing / sizeof *changing, true, are_resumed);
+        finish();
     }
-    warg_close(&package);
-    warg_close(&operators);
-    warg_close(&other);
-    warg_close(&fresh);
-    bytes_free(&next);
-    bytes_free(&forged);
-    bytes_free(&begin);
-    bytes_free(&yes);
     p256_signer_free(&alice);
     p256_signer_free(&bob);
     printf("%ld requests refused in all\n", all);
