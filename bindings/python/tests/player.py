@@ -4,6 +4,7 @@ import contextlib
 import hashlib
 import json
 import re
+from collections import Counter
 from collections.abc import Iterator
 from typing import Any
 
@@ -25,6 +26,7 @@ from weoldrin import (
 
 from . import toy
 from .rows import Block, Line, json_written, quoted, row_of, text_of
+from .sentences import Sentences, words_of
 
 PEOPLE = ["alice", "bob", "carol", "mallory"]
 _IDS = {name: records.key_id(toy.key_of(name)) for name in PEOPLE}
@@ -33,7 +35,7 @@ _NANOS = 1_000_000_000
 
 
 class LeftOut(Exception):
-    """A question that the library's calls do not answer."""
+    """A question that the library's calls do not answer, and why."""
 
 
 def id_of(name: str) -> str:
@@ -100,24 +102,27 @@ def append(log: Log, envelope: bytes) -> Error | None:
     return None
 
 
-def answers(error: Error, wanted: str, sentences: dict[str, str], kind: Kind) -> bool:
-    """Whether an error is the cause that a row wants: its name, and what it says."""
-    case, *fields = wanted.split(" ")
+def answers(error: Error, wanted: str, sentences: Sentences, kind: Kind) -> bool:
+    """Whether an error is the cause that a row wants: its name, and the whole sentence."""
+    case, *fields = words_of(wanted)
     if case == "Parse":
-        return isinstance(error, NoEnvelope) and error.name == fields[0] and error.sentence != ""
-    told = " ".join([case, *map(id_of, fields)])
-    sentence = sentences.get(f"{kind.name.lower()} {told}")
-    is_told = error.sentence == sentence if sentence else all(id_of(it) in error.sentence for it in fields)
-    return isinstance(error, Refused) and error.name == case and (is_told or case == "KeyIDNotRecognized")
+        (name,) = fields
+        # The sentence says which part of the envelope is wrong.
+        told = sentences.case_of_envelope(name)
+        is_told = error.sentence != "" if told is None else sentences.is_told("envelope", told, [], error.sentence)
+        return isinstance(error, NoEnvelope) and error.name == name and is_told
+    is_told = sentences.is_told(kind.name.lower(), case, [id_of(it) for it in fields], error.sentence)
+    return isinstance(error, Refused) and error.name == case and is_told
 
 
 class Player:
     """A script on the way: a log that keeps its records, the state, which may have been saved and read back, and what was put aside."""
 
-    def __init__(self, kind: Kind, sentences: dict[str, str]) -> None:
+    def __init__(self, kind: Kind, sentences: Sentences) -> None:
         self.kind, self.sentences = kind, sentences
         self.failures: list[str] = []
-        self.rows = self.left_out = 0
+        self.rows = 0
+        self.left_out: Counter[str] = Counter()
         self.aside: tuple[Log | None, Log] | None = None
         self.refusal: tuple[Line, Error] | None = None
         self._begin()
@@ -205,13 +210,12 @@ class Player:
         question, wanted = row_of(line.text.removeprefix("? "))
         try:
             seen = f"= {self._answer(question)}"
-        except LeftOut:
-            self.left_out += 1
+        except LeftOut as why:
+            self.left_out[str(why)] += 1
             return
         except BadArgument as error:
             if error.name == "TimeBeforeEpoch" and question == "head time":
-                # No call gives a head's time but that of the saved state.
-                self.left_out += 1
+                self.left_out["a head's time before 1970: only the saved state says the time, and not such a one"] += 1
                 return
             seen = f"! {error.name}"
         self.rows += 1
@@ -225,7 +229,7 @@ class Player:
         look_up, subject, rest = (*question.split(" ", 2), "", "")[:3]
         match look_up:
             case "effect":
-                raise LeftOut
+                raise LeftOut("what one entry gives or takes: no call says it")
             case "records":
                 return str(len(self._kept()))
             case "chain":

@@ -1,40 +1,50 @@
 """The rows of conformance/logs that speak of whole logs, states, chains and comparisons, answer for answer."""
 
 import io
+import itertools
 import json
 import pathlib
 import unittest
+from collections import Counter
 
 from weoldrin import (
     BadArgument,
     BadLine,
     Error,
     Kind,
+    NoEnvelope,
     OperatorLog,
     PackageLog,
     append_all,
     envelopes_of,
     log_of,
+    record_id,
 )
 
 from . import toy
-from .player import Player, answers, run_envelopes, state_answer
+from .player import LeftOut, Player, answers, run_envelopes, state_answer
 from .rows import Block, blocks, json_written, quoted, row_of, text_of
+from .sentences import Sentences, words_of
 
 ROWS = pathlib.Path(__file__).resolve().parents[3] / "conformance/logs"
 LOGS = {"package": PackageLog, "operator": OperatorLog}
-# What no call of the library answers: the texts of errors by themselves, and single values.
-OTHER_TOPICS = {"refusal", "newest-version"}
-
-
-def sentences() -> dict[str, str]:
-    """What each refusal says, by its kind and cause."""
-    found = {}
-    for block in blocks(ROWS / "refusals.rows"):
-        row = row_of(block.head.text)
-        if row.question.startswith("refusal "):
-            found[row.question.removeprefix("refusal ")] = text_of(row.wanted.removeprefix("= "))
-    return found
+# What no call of the library answers, by the topic.
+OTHER_TOPICS = {
+    "refusal": "an error's sentence by itself: the library says it of what it refuses",
+    "newest-version": "the newest version of the protocol: no call says it",
+    "saved": "a part of a saved state: the library reads whole states",
+    "audit": "other words of the program than the two audits and the two ids",
+}
+# The refusals that no log shows: there is one hash algorithm, want of memory has a status of its own, and any other entry of
+# operators than an init asks for a permission first.
+NEVER_SHOWN = {
+    "package IncorrectHashAlgorithm",
+    "package OutOfMemory",
+    "operator FirstEntryIsNotInit",
+    "operator IncorrectHashAlgorithm",
+    "operator OutOfMemory",
+    "envelope OutOfMemory",
+}
 
 
 @unittest.skipUnless(ROWS.is_dir(), "there are no rows here")
@@ -42,25 +52,41 @@ class Conformance(unittest.TestCase):
     """Each file of rows."""
 
     def setUp(self) -> None:
-        self.sentences = sentences()
+        self.sentences = Sentences(ROWS / "refusals.rows")
         self.failures: list[str] = []
-        self.played = self.left_out = 0
+        self.played = 0
+        self.left_out: Counter[str] = Counter()
 
     def test_rows(self) -> None:
         for path in sorted(ROWS.glob("*.rows")):
             for block in blocks(path):
                 self._play(path.name, block)
-        print(f"\n{self.played} rows played, {self.left_out} left out, {len(self.failures)} failed")
+        self._print()
         self.assertEqual(self.failures, [])
-        self.assertGreater(self.played, 500)
+        self.assertGreater(self.played, 700)
+        self.assertEqual(set(self.sentences.not_compared()), NEVER_SHOWN)
+
+    def test_sentences(self) -> None:
+        """The rows of one case say one sentence, but for its fields."""
+        for question, sentence in self.sentences.rows.items():
+            topic, case, *fields = words_of(question)
+            self.assertEqual(self.sentences.of(topic, case, fields), sentence)
+
+    def _print(self) -> None:
+        print(f"\n{self.played} rows played, {self.left_out.total()} left out, {len(self.failures)} failed")
+        for why, count in self.left_out.most_common():
+            print(f"  left out {count}: {why}")
+        compared, others = self.sentences.compared, self.sentences.not_compared()
+        print(f"{compared.total()} whole sentences compared, of {len(compared)} cases; no log shows {', '.join(others)}")
 
     def _fail(self, name: str, block: Block, seen: object) -> None:
         self.failures.append(f"{name} {block.head.number} {block.head.text}: {seen}")
 
     def _play(self, name: str, block: Block) -> None:
-        topic, kind, *_ = (*block.head.text.removesuffix(":").split(" "), "", "")
-        if topic in OTHER_TOPICS or (topic == "saved" and kind not in LOGS):
-            self.left_out += max(1, sum(it.text.startswith("? ") for it in block.lines))
+        topic, *words = block.head.text.removesuffix(":").split(" ")
+        kind = words[0] if words else ""
+        if topic in ("refusal", "newest-version") or (topic == "saved" and kind not in LOGS):
+            self.left_out[OTHER_TOPICS[topic]] += 1
         elif topic == "log":
             player = Player(Kind[kind.upper()], self.sentences)
             player.play(block)
@@ -68,7 +94,7 @@ class Conformance(unittest.TestCase):
             self.left_out += player.left_out
             self.failures += [f"{name} {it}" for it in player.failures]
         elif topic == "audit":
-            self._program(name, block, block.head.text.removesuffix(":").split(" ")[1:])
+            self._program(name, block, words)
         elif topic == "run":
             self._run(name, block, Kind[kind.upper()])
         elif topic == "saved":
@@ -122,14 +148,19 @@ class Conformance(unittest.TestCase):
                 part, _, text = line.text.partition(" = ")
                 parts[f"{{{part}}}"] = text
                 continue
-            if words not in (["package"], ["operator"]):
-                self.left_out += 1
+            if not words or words[-1] not in LOGS or words[:-1] not in ([], ["id"]):
+                self.left_out[OTHER_TOPICS["audit"]] += 1
                 continue
             row = row_of(line.text.removeprefix("? "))
             given = text_of(row.question)
             for part, text in parts.items():
                 given = given.replace(part, text)
-            status, printed = audited(Kind[words[0].upper()], given.encode())
+            answer = identified if words[0] == "id" else audited
+            try:
+                status, printed = answer(Kind[words[-1].upper()], given.encode())
+            except LeftOut as why:
+                self.left_out[str(why)] += 1
+                continue
             self.played += 1
             if f"= {status} {quoted(printed)}" != row.wanted:
                 self._fail(name, block, f"{line.number}: {status} {printed}")
@@ -148,6 +179,22 @@ def audited(kind: Kind, given: bytes) -> tuple[int, str]:
         releases = log.releases() if isinstance(log, PackageLog) else iter(())
         told = [f"{it.version} {'yanked' if it.yanked else f'released {it.content}'}\n" for it in releases]
         return 0, f"ok {taken} {log.head() or 'none'}\n" + "".join(told)
+
+
+def identified(kind: Kind, given: bytes) -> tuple[int, str]:
+    """The status and the text of the id of the one record that there is a line of."""
+    try:
+        envelopes = list(itertools.islice(envelopes_of(io.BytesIO(given)), 2))
+    except BadLine as error:
+        return 2, f"{error}\n"
+    if len(envelopes) != 1:
+        return 2, f"bad line {min(len(envelopes), 1)}\n"
+    try:
+        return 0, f"{record_id(kind, envelopes[0])}\n"
+    except NoEnvelope as error:
+        if not error.name.startswith("ProtobufEnvelope."):
+            raise LeftOut("the id of contents that are no record: the library gives those of records alone") from None
+        return 1, f"refused 0 {error.name}\n"
 
 
 if __name__ == "__main__":
