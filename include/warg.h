@@ -269,25 +269,31 @@ uint32_t warg_resume(struct warg_log *log, uint32_t kind, const uint8_t *saved, 
 
 /* What a registry proves of its log and its map. These are functions of their arguments alone. Roots are texts of hashes (`sha256:` and 64
  * digits of hex), ids are texts of ids, proofs are texts of base64.
- *   WARG_OK: the proof holds.
- *   WARG_REFUSED: it does not.
- *   WARG_BAD_ARGUMENT: a text is not of its form.
+ *   WARG_OK: the proof holds. What that is worth is said of each call: there, two strings collide if they differ, are hashed at one place
+ *     on the way to the root, the proof's and the log's or map's own, and have one hash. No call knows whose root it is, nor whether a
+ *     log of this root has this length: so a log's length and root have to be signed together, and the map's root with them.
+ *   WARG_REFUSED: it does not hold.
+ *   WARG_BAD_ARGUMENT: a text is not of its form. No fault is named.
  *   WARG_OUT_OF_MEMORY: nothing is said. */
 
-/* That the leaf of a log's record stands at a place of the registry's log, which has `length` leaves and this root. */
+/* That the leaf of a log's record stands at a place of the registry's log, which has `length` leaves and this root.
+ *   WARG_OK: every log of this length and root has the leaf at this place, or two strings collide. */
 uint32_t warg_verify_inclusion(const uint8_t *log_id, size_t log_id_len, const uint8_t *record_id, size_t record_id_len,
                                uint64_t place, uint64_t length, const uint8_t *root, size_t root_len, const uint8_t *proof,
                                size_t proof_len);
 
-/* That the registry's log of `new_length` leaves begins with the one of `old_length` leaves. */
+/* That the registry's log of `new_length` leaves begins with the one of `old_length` leaves.
+ *   WARG_OK: every log of the new length and root begins with one of the old length and root, or two strings collide. */
 uint32_t warg_verify_consistency(uint64_t old_length, const uint8_t *old_root, size_t old_root_len, uint64_t new_length,
                                  const uint8_t *new_root, size_t new_root_len, const uint8_t *proof, size_t proof_len);
 
-/* That the registry's map says that a log's last record is this one. */
+/* That the registry's map says that a log's last record is this one.
+ *   WARG_OK: every map of this root says so, or two strings collide. */
 uint32_t warg_verify_presence(const uint8_t *log_id, size_t log_id_len, const uint8_t *record_id, size_t record_id_len,
                               const uint8_t *root, size_t root_len, const uint8_t *proof, size_t proof_len);
 
-/* That the registry's map says nothing of a log. */
+/* That the registry's map says nothing of a log.
+ *   WARG_OK: no map of this root says anything of the log, or two strings collide. */
 uint32_t warg_verify_absence(const uint8_t *log_id, size_t log_id_len, const uint8_t *root, size_t root_len,
                              const uint8_t *proof, size_t proof_len);
 
