@@ -1,6 +1,10 @@
 //! What a registry proves of its log and its map. Roots are texts of hashes, ids are texts of ids, proofs are texts of base64.
 //!
-//! Each call says whether the proof holds. The error is [`Error::BadArgument`] where a text is not of its form.
+//! Each call says whether the proof holds. The error is [`Error::BadArgument`], which names no fault, where a text is not of its form.
+//!
+//! What an accepted proof shows is so of every log of that length and root, and of every map of that root, or two strings that differ
+//! have one hash. No call knows whose root it is, or how long its log is: take a log's length and root, and the map's root, from one
+//! signed checkpoint.
 use crate::error::Error;
 use crate::raw;
 

@@ -2,6 +2,10 @@
 
 Each call says whether the proof holds, and raises `BadArgument` where a text is not of its form, or where a place or a length is
 not from 0 to 2**64 - 1.
+
+What an accepted proof shows is so of every log of that length and root, and of every map of that root, or two strings that differ
+have one hash. No call knows whose root it is, or how long its log is: take a log's length and root, and the map's root, from one
+signed checkpoint.
 """
 
 from ._library import CALLS, GREATEST, REFUSED, checked
