@@ -83,6 +83,11 @@ class Proofs(unittest.TestCase):
         self._refuses_texts(lambda it: verify_inclusion(log, record, 5, 8, it, INCLUSION))
         self._refuses_texts(lambda it: verify_inclusion(log, record, 5, 8, root, it))
 
+    def test_a_length_is_taken_on_trust(self) -> None:
+        """The proof has the same form in a log of 7: a root is worth nothing without the length that is signed with it."""
+        for length, holds in ((6, False), (7, True), (8, True), (9, False)):
+            self.assertEqual(verify_inclusion(_id("log 2"), _id("record 5"), 5, length, root_of(8), INCLUSION), holds)
+
     def test_consistency(self) -> None:
         self.assertTrue(verify_consistency(6, root_of(6), 8, root_of(8), CONSISTENCY))
         self.assertTrue(verify_consistency(8, root_of(8), 8, root_of(8), ""))

@@ -64,6 +64,15 @@ fn inclusion() -> Tested {
     Ok(())
 }
 
+/// The proof has the same form in a log of 7: a root is worth nothing without the length that is signed with it.
+#[test]
+fn a_length_is_taken_on_trust() -> Tested {
+    assert!(verify_inclusion(LOG_2, RECORD_5, 5, 7, ROOT_8, INCLUSION)?);
+    assert!(!verify_inclusion(LOG_2, RECORD_5, 5, 6, ROOT_8, INCLUSION)?);
+    assert!(!verify_inclusion(LOG_2, RECORD_5, 5, 9, ROOT_8, INCLUSION)?);
+    Ok(())
+}
+
 #[test]
 fn consistency() -> Tested {
     assert!(verify_consistency(6, ROOT_6, 8, ROOT_8, CONSISTENCY)?);

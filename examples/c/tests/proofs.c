@@ -29,6 +29,9 @@
 static uint32_t inclusion(const char *record, uint64_t place, const char *proof) {
     return warg_verify_inclusion(TEXT(LOG_2), TEXT(record), place, 8, TEXT(ROOT_8), TEXT(proof));
 }
+static uint32_t inclusion_of(uint64_t length) {
+    return warg_verify_inclusion(TEXT(LOG_2), TEXT(RECORD_5), 5, length, TEXT(ROOT_8), TEXT(INCLUSION));
+}
 static uint32_t consistency(uint64_t old_length, const char *old_root, const char *proof) {
     return warg_verify_consistency(old_length, TEXT(old_root), 8, TEXT(ROOT_8), TEXT(proof));
 }
@@ -62,6 +65,10 @@ int main(void) {
     CHECK(inclusion(RECORD_5, 4, INCLUSION) == WARG_REFUSED);
     CHECK(inclusion(RECORD_5, UINT64_MAX, INCLUSION) == WARG_REFUSED);
     CHECK(inclusion(RECORD_5, 5, "") == WARG_REFUSED);
+    /* The proof has the same form in a log of 7: a root is worth nothing without the length that is signed with it. */
+    CHECK(inclusion_of(9) == WARG_REFUSED);
+    CHECK(inclusion_of(7) == WARG_OK);
+    CHECK(inclusion_of(6) == WARG_REFUSED);
     CHECK(inclusion(RECORD_5, 5, "!") == WARG_BAD_ARGUMENT);
     CHECK(inclusion("sha256:00", 5, INCLUSION) == WARG_BAD_ARGUMENT);
     CHECK(inclusion("\xff", 5, INCLUSION) == WARG_BAD_ARGUMENT);
