@@ -2,6 +2,7 @@
 
 import pathlib
 import re
+import string
 from collections import Counter
 
 from .rows import blocks, row_of, text_of
@@ -51,6 +52,17 @@ class Sentences:
         """Whether a sentence is the whole one of a cause."""
         self.compared[topic, case] += 1
         return sentence == self.of(topic, case, fields)
+
+    def is_told_by_name(self, kind: str, name: str, sentence: str) -> bool:
+        """Whether a sentence is the one of an error of this name, whatever its fields. If no row has it, it may be any."""
+        case = self.case_of_envelope(name)
+        cause = (kind, name) if case is None else ("envelope", case)
+        if cause not in self._forms:
+            return sentence != ""
+        self.compared[cause] += 1
+        parts = string.Formatter().parse(self._forms[cause])
+        form = "".join(re.escape(text) + ("" if field is None else ".*") for text, field, _, _ in parts)
+        return re.fullmatch(form, sentence, re.DOTALL) is not None
 
     def not_compared(self) -> list[str]:
         """The cases of refusals of both kinds, and of envelopes, whose sentence was not compared."""

@@ -15,6 +15,7 @@ from weoldrin import (
     NoEnvelope,
     OperatorLog,
     PackageLog,
+    Refusal,
     append_all,
     envelopes_of,
     log_of,
@@ -77,7 +78,7 @@ class Conformance(unittest.TestCase):
         for why, count in self.left_out.most_common():
             print(f"  left out {count}: {why}")
         compared, others = self.sentences.compared, self.sentences.not_compared()
-        print(f"{compared.total()} whole sentences compared, of {len(compared)} cases; no log shows {', '.join(others)}")
+        print(f"{compared.total()} sentences compared, of {len(compared)} cases; no log shows {', '.join(others)}")
 
     def _fail(self, name: str, block: Block, seen: object) -> None:
         self.failures.append(f"{name} {block.head.number} {block.head.text}: {seen}")
@@ -157,44 +158,45 @@ class Conformance(unittest.TestCase):
                 given = given.replace(part, text)
             answer = identified if words[0] == "id" else audited
             try:
-                status, printed = answer(Kind[words[-1].upper()], given.encode())
+                status, printed, refusal = answer(Kind[words[-1].upper()], given.encode())
             except LeftOut as why:
                 self.left_out[str(why)] += 1
                 continue
             self.played += 1
-            if f"= {status} {quoted(printed)}" != row.wanted:
-                self._fail(name, block, f"{line.number}: {status} {printed}")
+            is_told = refusal is None or self.sentences.is_told_by_name(words[-1], refusal.name, refusal.sentence)
+            if f"= {status} {quoted(printed)}" != row.wanted or not is_told:
+                self._fail(name, block, f"{line.number}: {status} {printed} {refusal}")
 
 
-def audited(kind: Kind, given: bytes) -> tuple[int, str]:
-    """The status and the text of an audit of lines."""
+def audited(kind: Kind, given: bytes) -> tuple[int, str, Refusal | None]:
+    """The status and the text of an audit of lines, and why a record is refused."""
     try:
         envelopes = list(envelopes_of(io.BytesIO(given)))
     except BadLine as error:
-        return 2, f"{error}\n"
+        return 2, f"{error}\n", None
     with log_of(kind) as log:
         taken, refusal = append_all(log, envelopes, toy.verify)
         if refusal is not None:
-            return 1, f"refused {refusal.place} {refusal.name}\n"
+            return 1, f"refused {refusal.place} {refusal.name}\n", refusal
         releases = log.releases() if isinstance(log, PackageLog) else iter(())
         told = [f"{it.version} {'yanked' if it.yanked else f'released {it.content}'}\n" for it in releases]
-        return 0, f"ok {taken} {log.head() or 'none'}\n" + "".join(told)
+        return 0, f"ok {taken} {log.head() or 'none'}\n" + "".join(told), None
 
 
-def identified(kind: Kind, given: bytes) -> tuple[int, str]:
-    """The status and the text of the id of the one record that there is a line of."""
+def identified(kind: Kind, given: bytes) -> tuple[int, str, Refusal | None]:
+    """The same of the id of the one record that there is a line of."""
     try:
         envelopes = list(itertools.islice(envelopes_of(io.BytesIO(given)), 2))
     except BadLine as error:
-        return 2, f"{error}\n"
+        return 2, f"{error}\n", None
     if len(envelopes) != 1:
-        return 2, f"bad line {min(len(envelopes), 1)}\n"
+        return 2, f"bad line {min(len(envelopes), 1)}\n", None
     try:
-        return 0, f"{record_id(kind, envelopes[0])}\n"
+        return 0, f"{record_id(kind, envelopes[0])}\n", None
     except NoEnvelope as error:
         if not error.name.startswith("ProtobufEnvelope."):
             raise LeftOut("the id of contents that are no record: the library gives those of records alone") from None
-        return 1, f"refused 0 {error.name}\n"
+        return 1, f"refused 0 {error.name}\n", Refusal(0, error.name, error.sentence)
 
 
 if __name__ == "__main__":
