@@ -269,9 +269,9 @@ uint32_t warg_resume(struct warg_log *log, uint32_t kind, const uint8_t *saved, 
 
 /* What a registry proves of its log and its map. These are functions of their arguments alone. Roots are texts of hashes (`sha256:` and 64
  * digits of hex), ids are texts of ids, proofs are texts of base64.
- *   WARG_OK: the proof holds. What that is worth is said of each call: there, two strings collide if they differ, are hashed at one place
- *     on the way to the root, the proof's and the log's or map's own, and have one hash. No call knows whose root it is, nor whether a
- *     log of this root has this length: so a log's length and root have to be signed together, and the map's root with them.
+ *   WARG_OK: the proof holds. What that is worth is said of each call: there, two strings collide if they differ and have one hash, and are
+ *     hashed at one place on two ways to the root, the proof's and the log's or the map's own. No call knows whose root it is, nor whether
+ *     a log of this root has this length: so a log's length and root have to be signed together, and the map's root with them.
  *   WARG_REFUSED: it does not hold.
  *   WARG_BAD_ARGUMENT: a text is not of its form. No fault is named.
  *   WARG_OUT_OF_MEMORY: nothing is said. */
