@@ -33,7 +33,7 @@ def write(path: str, text: str) -> None:
 def span_at(file: str, lines: list[str], at: int) -> Span | None:
     """The function round a line, which is counted from 0, by the layout."""
     for start in range(at, -1, -1):
-        head = re.match(r"( *)(?:pub(?:\([a-z]+\))? )?(?:const )?fn (\w+)", lines[start])
+        head = re.match(r"( *)(?:pub(?:\([a-z]+\))? )?(?:const )?(?:extern \"C\" )?fn (\w+)", lines[start])
         if head:
             ends = (i for i in range(start, len(lines)) if re.match(head[1] + r"}|" + head[1] + r"\S.*(;|})$", lines[i]))
             end = next(ends, len(lines))

@@ -1,5 +1,5 @@
 -- The caller's word for a question.
-use Rattle.std.proofs.Common.{◌≡◌, ℕ, List, Bool, true, Option, Some, Result, Ok, Err, sym, ◌∙◌, subst}
+use Rattle.std.proofs.Common.{◌≡◌, ◌≤◌, ℕ, List, Bool, true, Option, Some, Result, Ok, Err, sym, ◌∙◌, subst}
 use Rattle.std.specs.Prelude.{OnOk, IfErr}
 use Rattle.warg_validator.specs.Kinds.{SignatureRelation}
 use Rattle.warg_host.specs.Telling.{Holds}
@@ -47,9 +47,9 @@ does-moves belongs n question envelope old kept new is (Ok x) does = λ b holds.
 does-moves belongs n question envelope old kept new is (Err f) does = tt
 
 -- the status of what became of a handle's log
-pub append-answers : (before after : Option Held) (old new : Held) → Some old ≡ before → after ≡ Some new → (r : Result Unit Failure) (status : ℕ) → status ≡ status_of r → (belongs : Bool) (n : Asked) (question envelope : List ℕ) (used : ℕ) (out : List ℕ)
+pub append-answers : (before after : Option Held) (old new : Held) → Some old ≡ before → after ≡ Some new → (r : Result Unit Failure) (status : ℕ) → status ≡ status_of r → status ≤ 7 → (belongs : Bool) (n : Asked) (question envelope : List ℕ) (used : ℕ) (out : List ℕ)
     → OnOk r ((b : SignatureRelation) → HoldsOf b belongs n question → append_does b envelope old new) → IfErr r (append_fails old belongs n question envelope used out)
     → Answers status before (λ held. (b : SignatureRelation) → HoldsOf b belongs n question → append_moves b envelope held after) (λ held. append_fails held belongs n question envelope used out)
-append-answers before after old new was is r status e belongs n question envelope used out does fails =
+append-answers before after old new was is r status e small belongs n question envelope used out does fails =
     subst (λ o. Answers status o (λ held. (b : SignatureRelation) → HoldsOf b belongs n question → append_moves b envelope held after) (λ held. append_fails held belongs n question envelope used out)) was
-    (answered ((b : SignatureRelation) → HoldsOf b belongs n question → append_moves b envelope old after) (λ f. append_fails old belongs n question envelope used out f) r status e (does-moves belongs n question envelope old after new is r does) fails)
+    (answered ((b : SignatureRelation) → HoldsOf b belongs n question → append_moves b envelope old after) (λ f. append_fails old belongs n question envelope used out f) r status e small (does-moves belongs n question envelope old after new is r does) fails)

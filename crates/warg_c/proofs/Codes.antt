@@ -1,5 +1,5 @@
 -- A status tells its outcome.
-use Rattle.std.proofs.Common.{◌≡◌, ℕ, ◌==◌, true, false, Result, Ok, Err, refl, sym, ap, ◌∙◌, subst}
+use Rattle.std.proofs.Common.{◌≡◌, ◌≤◌, ℕ, ◌==◌, true, false, Result, Ok, Err, refl, sym, ap, ◌∙◌, subst}
 use Rattle.std.specs.Prelude.{OnOk, IfErr, if◌then◌else◌}
 use Rattle.std.proofs.lemmas.Bool.{false≢true}
 use Rattle.warg_c.specs.declared.failure.Failure.{Failure}
@@ -32,6 +32,6 @@ is-no-zero BadArgument = refl
 no-zero : (f : Failure) → code_of f ≡ 0 → ⊥
 no-zero f h = false≢true (sym (is-no-zero f) ∙ ap (λ n. n == 0) h)
 
-pub answered : (P : Type 0) (Q : Failure → Type 0) (r : Result Unit Failure) (n : ℕ) → n ≡ status_of r → OnOk r P → IfErr r Q → Answered n P Q
-answered P Q (Ok u) n e p q = (λ _. p, λ f h. absurd (no-zero f (sym h ∙ e)))
-answered P Q (Err g) n e p q = (λ h. absurd (no-zero g (sym e ∙ h)), λ f h. subst Q (sym (decodes g) ∙ ap by_code (sym e ∙ h) ∙ decodes f) q)
+pub answered : (P : Type 0) (Q : Failure → Type 0) (r : Result Unit Failure) (n : ℕ) → n ≡ status_of r → n ≤ 7 → OnOk r P → IfErr r Q → Answered n P Q
+answered P Q (Ok u) n e small p q = (small, λ _. p, λ f h. absurd (no-zero f (sym h ∙ e)))
+answered P Q (Err g) n e small p q = (small, λ h. absurd (no-zero g (sym e ∙ h)), λ f h. subst Q (sym (decodes g) ∙ ap by_code (sym e ∙ h) ∙ decodes f) q)

@@ -1,7 +1,9 @@
 -- What a refusal tells.
 use Rattle.std.proofs.Common.{◌≡◌, ◌<◌, ℕ, List, length, take, Option, Some, None, Result, Ok, Err, Bool, true, refl, sym, ap, ◌∙◌, subst}
 use Rattle.std.specs.Prelude.{OnOk, IfErr}
+use Rattle.std.specs.Option.{option_map}
 use Rattle.warg_envelope.specs.EnvelopeData.{EnvelopeData}
+use Rattle.warg_envelope.specs.Faults.{TellsFault}
 use Rattle.warg_validator.specs.Kinds.{Kind}
 use Rattle.warg_validator.specs.Outcomes.{IfTold}
 use Rattle.warg_validator.specs.Strings.{Cause, Unread, Unlawful}
@@ -12,6 +14,7 @@ use Rattle.warg_host.specs.declared.told.Told.{Told}
 use Rattle.warg_c.specs.declared.failure.Failure.{Failure}
 use Rattle.warg_c.specs.declared.failure.Failure.TheVariants.{TooSmall}
 use Rattle.warg_c.specs.declared.question.Asked.{Asked}
+use Rattle.warg_c.specs.Ids.{IdFails}
 use Rattle.warg_c.specs.Logs.{IsAsked, IsWhy, IsWhyBy, IsTold, AskFails, Refuses}
 use Rattle.warg_c.specs.Questions.{Spells}
 use Rattle.warg_c.specs.Texts.{IsErrorText, failure_by}
@@ -58,3 +61,14 @@ module _ {View Offence F E : Type 0} (k : Kind View Offence) (read : List ℕ �
   pub append-fails : (answer : Told) (v : View) (envelope : List ℕ) (used : ℕ) (new : List ℕ) (c : RunCause E) (f : Failure) → f ≡ failure_by (told_by c) → IsErrorText (name_by c) used new → IfTold (told_by c) (IsWhyBy k read answer v envelope)
       → Refuses k read told_by name_by answer v envelope used new f
   append-fails answer v envelope used new c f is text why = subst (λ g. Refuses k read told_by name_by answer v envelope used new g) (sym is) (append-refused answer v envelope used new c text why)
+
+  id-told : (envelope old : List ℕ) (used : ℕ) (new : List ℕ) (c : RunCause E) → IsErrorText (name_by c) used new → (found : Option F) → told_by c ≡ option_map Unread found → TellsFault (read envelope) found
+      → IdFails k read told_by name_by envelope old used new (failure_by {Offence = Offence} (option_map Unread found))
+  id-told envelope old used new c text None told tells = tt
+  id-told envelope old used new c text (Some fault) told tells = (fault, tells, record { cause = c; tells = told; text = text })
+
+  -- bytes that are no envelope have no id
+  pub id-fails : (envelope old : List ℕ) (used : ℕ) (new : List ℕ) (c : RunCause E) (f : Failure) → f ≡ failure_by (told_by c) → IsErrorText (name_by c) used new → (found : Option F) → told_by c ≡ option_map Unread found → TellsFault (read envelope) found
+      → IdFails k read told_by name_by envelope old used new f
+  id-fails envelope old used new c f is text found told tells =
+      subst (λ g. IdFails k read told_by name_by envelope old used new g) (sym (is ∙ ap (λ t. failure_by t) told)) (id-told envelope old used new c text found told tells)

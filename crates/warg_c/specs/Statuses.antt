@@ -1,5 +1,5 @@
 -- The statuses of outcomes.
-use Rattle.std.specs.Prelude.{◌≡◌, ℕ, Option, Some, None, Result, Ok, Err}
+use Rattle.std.specs.Prelude.{◌≡◌, ◌≤◌, ℕ, Option, Some, None, Result, Ok, Err}
 use Rattle.warg_c.specs.declared.failure.Failure.{Failure}
 use Rattle.warg_c.specs.declared.failure.Failure.TheVariants.{NotOpen, OutOfMemory, TooSmall, NoEnvelope, Refused, Absent, BadArgument}
 
@@ -16,9 +16,9 @@ abbrev pub status_of : {T : Type 0} → Result T Failure → ℕ
 status_of (Ok _) = 0
 status_of (Err f) = code_of f
 
--- P at the status 0, and Q of the failure at each other
+-- a status: P at 0, and Q of the failure at each other
 abbrev pub Answered : ℕ → Type 0 → (Failure → Type 0) → Type 0
-Answered n P Q = (n ≡ 0 → P) × ((f : Failure) → n ≡ code_of f → Q f)
+Answered n P Q = (n ≤ 7) × (n ≡ 0 → P) × ((f : Failure) → n ≡ code_of f → Q f)
 
 -- the same of what a handle holds; the status is 1 where it holds nothing
 abbrev pub Answers : {H : Type 0} → ℕ → Option H → (H → Type 0) → (H → Failure → Type 0) → Type 0

@@ -1,9 +1,14 @@
 -- Texts for the caller.
-use Rattle.std.specs.Prelude.{◌≡◌, ◌⊎◌, ◌<◌, ℕ, List, ◌∷◌, ◌++◌, length, take, Option, Some, None, Result, Ok, Err}
+use Rattle.std.specs.Prelude.{◌≡◌, ◌≢◌, ◌⊎◌, ◌<◌, ◌≤◌, ℕ, List, ◌∷◌, ◌++◌, length, take, Option, Some, None, Result, Ok, Err}
 use Rattle.warg_validator.specs.Strings.{Cause, Unread, Unlawful}
 use Rattle.warg_c.specs.Statuses.{code_of}
 use Rattle.warg_c.specs.declared.failure.Failure.{Failure}
 use Rattle.warg_c.specs.declared.failure.Failure.TheVariants.{NotOpen, OutOfMemory, TooSmall, NoEnvelope, Refused, Absent, BadArgument}
+
+-- what is said to be used lies within the buffer, unless that is too small
+abbrev pub IsWithin : {T A : Type 0} → Result T Failure → ℕ → List A → Type 0
+IsWithin (Ok _) used out = used ≤ length out
+IsWithin (Err f) used out = f ≢ TooSmall → used ≤ length out
 
 -- no text, or the name, a colon, a space and a sentence
 abbrev pub IsErrorText : List ℕ → ℕ → List ℕ → Type 0

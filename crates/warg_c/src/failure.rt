@@ -1,5 +1,5 @@
 //! Why a call was not done.
-ghost use Rattle.std.specs.Prelude.{◌≡◌};
+ghost use Rattle.std.specs.Prelude.{◌≡◌, ◌≤◌};
 ghost use Rattle.warg_c.specs.Statuses.{code_of, status_of};
 
 use std::alloc::AllocError;
@@ -36,7 +36,8 @@ impl From<AllocError> for Failure {
 impl Failure {
     // The status of the failure.
     fn code(self) -> u32
-        ensures { result ≡ code_of self }
+        ensures code { result ≡ code_of self }
+        ensures status { result ≤ 7 }
     {
         match self {
             Failure::NotOpen => 1,
@@ -52,7 +53,8 @@ impl Failure {
 
 /// The status of an outcome.
 pub(crate) fn status(outcome: Result<(), Failure>) -> u32
-    ensures { result ≡ status_of outcome }
+    ensures code { result ≡ status_of outcome }
+    ensures status { result ≤ 7 }
 {
     match outcome {
         Ok(()) => 0,

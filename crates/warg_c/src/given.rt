@@ -1,7 +1,7 @@
 //! What calls give.
-ghost use Rattle.std.specs.Prelude.{◌≡◌, ◌<◌, IfOk, IfErr, OnOk, OnErr, length, take};
+ghost use Rattle.std.specs.Prelude.{◌≡◌, ◌≢◌, ◌<◌, ◌≤◌, IfOk, IfErr, OnOk, OnErr, length, take};
 ghost use Rattle.warg_c.specs.Statuses.{status_of};
-ghost use Rattle.warg_c.specs.Texts.{IsFinish};
+ghost use Rattle.warg_c.specs.Texts.{IsFinish, IsWithin};
 ghost use Rattle.warg_c.specs.declared.failure.Failure.TheVariants.{TooSmall};
 
 use crate::failure::{Failure, status};
@@ -13,6 +13,7 @@ pub(crate) fn give<T: Copy>(items: &[T], out: &mut [T], used: &mut usize) -> Res
     ensures given { OnOk result (take (length items.now) out.new ≡ items.now) }
     ensures too_small { IfErr result (λ f. (f ≡ TooSmall) × (length out.old < length items.now)) }
     ensures unchanged { OnErr result (out.new ≡ out.old) }
+    ensures within { IsWithin result used.new out.new }
 {
     let len = items.len();
     *used = len;
@@ -29,7 +30,11 @@ pub(crate) fn finish<T: Copy>(
     out: &mut [T],
     used: &mut usize,
 ) -> u32
-    ensures { IsFinish (λ v. v.items) outcome out.old result used.new out.new }
+    ensures text { IsFinish (λ v. v.items) outcome out.old result used.new out.new }
+    ensures status { result ≤ 7 }
+    ensures buffer { result ≢ 0 → out.new ≡ out.old }
+    ensures used { result ≢ 0 → result ≢ 3 → used.new ≡ 0 }
+    ensures within { result ≢ 3 → used.new ≤ length out.new }
 {
     *used = 0;
     match outcome {
@@ -46,6 +51,10 @@ pub(crate) fn finish_with<T: Copy>(
     shown: &mut T,
 ) -> u32
     ensures text { IsFinish (λ p. p.0.items) outcome out.old result used.new out.new }
+    ensures status { result ≤ 7 }
+    ensures buffer { result ≢ 0 → out.new ≡ out.old }
+    ensures used { result ≢ 0 → result ≢ 3 → used.new ≡ 0 }
+    ensures within { result ≢ 3 → used.new ≤ length out.new }
     ensures shown { IfOk outcome (λ p. shown.new ≡ p.1) }
 {
     *used = 0;
@@ -60,7 +69,8 @@ pub(crate) fn finish_with<T: Copy>(
 
 /// Gives a value that was found, and returns the status.
 pub(crate) fn finish_value<T: Copy>(outcome: Result<T, Failure>, value: &mut T) -> u32
-    ensures status { result ≡ status_of outcome }
+    ensures code { result ≡ status_of outcome }
+    ensures status { result ≤ 7 }
     ensures value { IfOk outcome (λ found. value.new ≡ found) }
 {
     match outcome {

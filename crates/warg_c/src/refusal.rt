@@ -1,9 +1,10 @@
 //! The texts of refusals.
-ghost use Rattle.std.specs.Prelude.{◌≡◌, ◌⊎◌, ◌++◌, ◌∷◌, ℕ, List, IfOk, length, take, string_bytes};
+ghost use Rattle.std.specs.Prelude.{◌≡◌, ◌≢◌, ◌⊎◌, ◌++◌, ◌∷◌, ◌≤◌, ℕ, List, IfOk, length, take, string_bytes};
 ghost use Rattle.warg_envelope.specs.Envelopes.{envelope_fault_of};
 ghost use Rattle.warg_validator.specs.Messages.{cause_name};
 ghost use Rattle.warg_validator.specs.Outcomes.{told};
 ghost use Rattle.warg_c.specs.Texts.{IsErrorText, failure_by};
+ghost use Rattle.warg_c.specs.declared.failure.Failure.TheVariants.{TooSmall};
 
 use crate::failure::Failure;
 use crate::given::give;
@@ -14,7 +15,8 @@ use warg_validator::{Named, RunCause, Validator};
 
 // What kind of failure a cause is.
 fn failure_of<L: Validator>(cause: &RunCause<L::Error>) -> Failure
-    ensures { result ≡ failure_by (told (envelope_fault_of L.Record.fault_of) L.offence_of cause.now) }
+    ensures failure { result ≡ failure_by (told (envelope_fault_of L.Record.fault_of) L.offence_of cause.now) }
+    ensures other { result ≢ TooSmall }
 {
     match cause {
         RunCause::Parse(ParseEnvelopeError::OutOfMemory) => Failure::OutOfMemory,
@@ -28,6 +30,7 @@ fn failure_of<L: Validator>(cause: &RunCause<L::Error>) -> Failure
 pub(crate) fn give_if_room(told: &str, text: &mut [u8], used: &mut usize)
     ensures text { (used.new ≡ 0) ⊎ (take used.new text.new ≡ told.now) }
     ensures length { length text.new ≡ length text.old }
+    ensures within { used.new ≤ length text.new }
 {
     if give(told.as_bytes(), text, used).is_err() {
         *used = 0;
@@ -55,6 +58,7 @@ fn tell_text<E: fmt::Display>(
 )
     ensures text { IsErrorText name.now used.new text.new }
     ensures length { length text.new ≡ length text.old }
+    ensures within { used.new ≤ length text.new }
 {
     *used = 0;
     if let Ok(told) = sentence_of(alloc, name, error) {
@@ -72,8 +76,10 @@ pub(crate) fn refuse<L: Validator>(
 where
     L::Error: Named + fmt::Display,
     ensures failure { result ≡ failure_by (told (envelope_fault_of L.Record.fault_of) L.offence_of cause.now) }
+    ensures other { result ≢ TooSmall }
     ensures text { IsErrorText (cause_name L.Error.name_of cause.now) used.new text.new }
     ensures length { length text.new ≡ length text.old }
+    ensures within { used.new ≤ length text.new }
 {
     let failure = failure_of::<L>(cause);
     if failure == Failure::OutOfMemory {

@@ -1,10 +1,12 @@
 //! Asking what has to be verified, and appending by what the caller says.
-ghost use Rattle.std.specs.Prelude.{◌≡◌, ◌≢◌, IfOk, IfErr, OnOk, OnErr, take};
+ghost use Rattle.std.specs.Prelude.{◌≡◌, ◌≢◌, ◌≤◌, IfOk, IfErr, OnOk, OnErr, length, take};
 ghost use Rattle.warg_host.specs.Telling.{Holds};
 ghost use Rattle.warg_validator.specs.Kinds.{SignatureRelation};
 ghost use Rattle.warg_c.specs.Held.{ask_tells, ask_fails, append_does, append_moves, append_fails, append_refuses};
 ghost use Rattle.warg_c.specs.Questions.{HoldsOf};
 ghost use Rattle.warg_c.specs.Statuses.{Answers};
+ghost use Rattle.warg_c.specs.Texts.{IsWithin};
+ghost use Rattle.warg_c.specs.declared.failure.Failure.TheVariants.{TooSmall};
 
 use crate::asking::{append_log, ask_log};
 use crate::failure::{Failure, status};
@@ -24,6 +26,8 @@ fn ask_held(
 ) -> Result<(), Failure>
     ensures asked { OnOk result (ask_tells held.now envelope.now asked.new (take used.new bytes.new)) }
     ensures failed { IfErr result (ask_fails held.now envelope.now asked.new bytes.old used.new bytes.new) }
+    ensures buffer { IfErr result (λ f. f ≡ TooSmall → bytes.new ≡ bytes.old) }
+    ensures within { used.old ≡ 0 → IsWithin result used.new bytes.new }
 {
     match held {
         Held::Package(log) => ask_log(alloc, log, envelope, bytes, used, asked),
@@ -44,6 +48,8 @@ pub extern "C" fn warg_ask(
     ensures answer { Answers result log.old.owned.kept (λ held. ask_tells held envelope.now asked.new (take used.new bytes.new))
         (λ held. ask_fails held envelope.now asked.new bytes.old used.new bytes.new) }
     ensures unchanged { log.new.owned.kept ≡ log.old.owned.kept }
+    ensures buffer { result ≡ 3 → bytes.new ≡ bytes.old }
+    ensures within { result ≢ 3 → used.new ≤ length bytes.new }
 {
     *used = 0;
     let Some(held) = log.take(alloc) else {
@@ -65,6 +71,7 @@ fn append_held(
     ensures appended { OnOk result ((b : SignatureRelation) → Holds b answer.now → append_does b envelope.now held.old held.new) }
     ensures failed { IfErr result (append_refuses held.old answer.now envelope.now used.new text.new) }
     ensures unchanged { OnErr result (held.new ≡ held.old) }
+    ensures within { used.old ≡ 0 → used.new ≤ length text.new }
 {
     match held {
         Held::Package(log) => append_log(alloc, log, envelope, answer, text, used),
@@ -86,6 +93,7 @@ fn append_told(
     ensures appended { OnOk result ((b : SignatureRelation) → HoldsOf b belongs asked.now question.now → append_does b envelope.now held.old held.new) }
     ensures failed { IfErr result (append_fails held.old belongs asked.now question.now envelope.now used.new text.new) }
     ensures unchanged { OnErr result (held.new ≡ held.old) }
+    ensures within { used.old ≡ 0 → used.new ≤ length text.new }
 {
     let answer = told(alloc, question, asked, belongs)?;
     append_held(alloc, held, envelope, &answer, text, used)
@@ -108,6 +116,7 @@ pub extern "C" fn warg_append(
         (λ held. (b : SignatureRelation) → HoldsOf b belongs asked.now question.now → append_moves b envelope.now held log.new.owned.kept)
         (λ held. append_fails held belongs asked.now question.now envelope.now used.new text.new) }
     ensures unchanged { result ≢ 0 → log.new.owned.kept ≡ log.old.owned.kept }
+    ensures within { used.new ≤ length text.new }
 {
     *used = 0;
     let Some(mut held) = log.take(alloc) else {

@@ -1,5 +1,5 @@
 //! By which entries keys came to hold permissions.
-ghost use Rattle.std.specs.Prelude.{◌≡◌, ◌⊎◌, None, IfErr, IfOk, map, take};
+ghost use Rattle.std.specs.Prelude.{◌≡◌, ◌≢◌, ◌≤◌, ◌⊎◌, None, IfErr, IfOk, map, length, take};
 ghost use Rattle.warg_c.specs.Chains.{ChainIs, NoChain, chain_bad, chain_lacks, chain_tells, shown_link};
 ghost use Rattle.warg_c.specs.Keys.{IsNoPermission};
 ghost use Rattle.warg_c.specs.Logs.{whole_of};
@@ -101,6 +101,9 @@ pub extern "C" fn warg_chain(
         (λ held. TextFails (chain_tells held key_id.now permission.now) (chain_lacks held key_id.now permission.now)
         (chain_bad held key_id.now permission.now) used.new links.old) }
     ensures unchanged { log.new.owned.kept ≡ log.old.owned.kept }
+    ensures buffer { result ≢ 0 → links.new ≡ links.old }
+    ensures used { result ≢ 0 → result ≢ 3 → used.new ≡ 0 }
+    ensures within { result ≢ 3 → used.new ≤ length links.new }
 {
     *used = 0;
     let Some(held) = log.take(alloc) else {

@@ -1,8 +1,12 @@
 //! The id of an envelope's record.
-ghost use Rattle.std.specs.Prelude.{◌≡◌, ◌⊎◌, Ok, Some, IfErr, OnOk, take};
+ghost use Rattle.std.specs.Prelude.{◌≡◌, ◌≢◌, ◌≤◌, ◌⊎◌, Ok, Some, IfErr, OnOk, length, take};
 ghost use Rattle.warg_envelope.specs.Envelopes.{envelope_of, envelope_fault_of};
+ghost use Rattle.warg_validator.specs.Messages.{cause_name};
+ghost use Rattle.warg_validator.specs.Outcomes.{told};
 ghost use Rattle.warg_c.specs.Ids.{IsIdOf, IdFails, id_tells, id_fails};
 ghost use Rattle.warg_c.specs.Statuses.{Answered};
+ghost use Rattle.warg_c.specs.Texts.{IsWithin};
+ghost use Rattle.warg_c.specs.declared.failure.Failure.TheVariants.{TooSmall};
 
 use crate::exports::records::id_text;
 use crate::failure::{Failure, status};
@@ -26,7 +30,10 @@ fn id_in<L: Validator>(
 where
     L::Error: Named + fmt::Display,
     ensures ok { OnOk result (IsIdOf L.kind (envelope_of L.Record.read) envelope.now (take used.new text.new)) }
-    ensures err { IfErr result (IdFails L.kind (envelope_of L.Record.read) envelope.now used.new text.old) }
+    ensures err { IfErr result (IdFails L.kind (envelope_of L.Record.read) (told (envelope_fault_of L.Record.fault_of) L.offence_of) (cause_name L.Error.name_of)
+        envelope.now text.old used.new text.new) }
+    ensures buffer { IfErr result (λ f. f ≡ TooSmall → text.new ≡ text.old) }
+    ensures within { used.old ≡ 0 → IsWithin result used.new text.new }
 {
     let envelope = match ProtoEnvelope::<L::Record>::from_protobuf(alloc, envelope) {
         Ok(envelope) => envelope,
@@ -47,7 +54,9 @@ fn id_of(
     used: &mut usize,
 ) -> Result<(), Failure>
     ensures ok { OnOk result (id_tells kind envelope.now (take used.new text.new)) }
-    ensures err { IfErr result (id_fails kind envelope.now used.new text.old) }
+    ensures err { IfErr result (id_fails kind envelope.now text.old used.new text.new) }
+    ensures buffer { IfErr result (λ f. f ≡ TooSmall → text.new ≡ text.old) }
+    ensures within { used.old ≡ 0 → IsWithin result used.new text.new }
 {
     match Kind::numbered(kind)? {
         Kind::Package => id_in::<PackageState>(alloc, envelope, text, used),
@@ -64,7 +73,9 @@ pub extern "C" fn warg_id(
     text: &mut [u8],
     used: &mut usize,
 ) -> u32
-    ensures { Answered result (id_tells kind envelope.now (take used.new text.new)) (id_fails kind envelope.now used.new text.old) }
+    ensures answer { Answered result (id_tells kind envelope.now (take used.new text.new)) (id_fails kind envelope.now text.old used.new text.new) }
+    ensures buffer { result ≡ 3 → text.new ≡ text.old }
+    ensures within { result ≢ 3 → used.new ≤ length text.new }
 {
     *used = 0;
     status(id_of(alloc, kind, envelope, text, used))

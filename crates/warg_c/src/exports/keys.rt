@@ -1,5 +1,5 @@
 //! Keys, and what they may do.
-ghost use Rattle.std.specs.Prelude.{◌≡◌, ◌⊎◌, None, Some, true, false, Bool, IfOk, IfErr, OnOk, take, string_bytes};
+ghost use Rattle.std.specs.Prelude.{◌≡◌, ◌≢◌, ◌≤◌, ◌⊎◌, None, Some, true, false, Bool, IfOk, IfErr, OnOk, take, string_bytes, length};
 ghost use Rattle.std.specs.Option.{option_copied};
 ghost use Rattle.std.specs.Str.{IsUtf8};
 ghost use Rattle.warg_c.specs.Keys.{HoldsIs, IsNoPermission, KeyText, added, holds_tells, holds_bad, key_of, PackageText, OperatorText, permissions_tell, permissions_lack, package_permissions, operator_permissions};
@@ -176,6 +176,9 @@ pub extern "C" fn warg_permissions(
     ensures answer { Answers result log.old.owned.kept (λ held. permissions_tell held key_id.now (take used.new text.new))
         (λ held. TextFails (permissions_tell held key_id.now) (permissions_lack held key_id.now) (IsUtf8 key_id.now → ⊥) used.new text.old) }
     ensures unchanged { log.new.owned.kept ≡ log.old.owned.kept }
+    ensures buffer { result ≢ 0 → text.new ≡ text.old }
+    ensures used { result ≢ 0 → result ≢ 3 → used.new ≡ 0 }
+    ensures within { result ≢ 3 → used.new ≤ length text.new }
 {
     *used = 0;
     let Some(held) = log.take(alloc) else {
@@ -222,6 +225,9 @@ pub extern "C" fn warg_key(
     ensures answer { Answers result log.old.owned.kept (λ held. KeyText (key_of held key_id.now) (take used.new text.new))
         (λ held. TextFails (KeyText (key_of held key_id.now)) (key_of held key_id.now ≡ None) (IsUtf8 key_id.now → ⊥) used.new text.old) }
     ensures unchanged { log.new.owned.kept ≡ log.old.owned.kept }
+    ensures buffer { result ≢ 0 → text.new ≡ text.old }
+    ensures used { result ≢ 0 → result ≢ 3 → used.new ≡ 0 }
+    ensures within { result ≢ 3 → used.new ≤ length text.new }
 {
     *used = 0;
     let Some(held) = log.take(alloc) else {

@@ -1,5 +1,5 @@
 //! The namespaces of an operator log.
-ghost use Rattle.std.specs.Prelude.{◌≡◌, ◌⊎◌, None, Some, IfOk, IfErr, take};
+ghost use Rattle.std.specs.Prelude.{◌≡◌, ◌≢◌, ◌≤◌, ◌⊎◌, None, Some, IfOk, IfErr, length, take};
 ghost use Rattle.std.specs.Option.{option_copied, option_map};
 ghost use Rattle.std.specs.Str.{IsUtf8};
 ghost use Rattle.warg_operator_log.specs.NamespaceMap.{namespace_view};
@@ -67,6 +67,9 @@ pub extern "C" fn warg_namespace(
     ensures answer { Answers result log.old.owned.kept (λ held. namespace_tells held name.now is_imported.new (take used.new text.new))
         (λ held. TextFails (namespace_tells held name.now is_imported.new) (namespace_lacks held name.now) (namespace_bad held name.now) used.new text.old) }
     ensures unchanged { log.new.owned.kept ≡ log.old.owned.kept }
+    ensures buffer { result ≢ 0 → text.new ≡ text.old }
+    ensures used { result ≢ 0 → result ≢ 3 → used.new ≡ 0 }
+    ensures within { result ≢ 3 → used.new ≤ length text.new }
 {
     *used = 0;
     let Some(held) = log.take(alloc) else {

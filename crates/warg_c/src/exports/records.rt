@@ -1,5 +1,5 @@
 //! The records of a log, and their ids.
-ghost use Rattle.std.specs.Prelude.{◌≡◌, ◌⊎◌, ◌++◌, None, Some, IfOk, IfErr, OnOk, length, take};
+ghost use Rattle.std.specs.Prelude.{◌≡◌, ◌≢◌, ◌≤◌, ◌⊎◌, ◌++◌, None, Some, IfOk, IfErr, OnOk, length, take};
 ghost use Rattle.std.specs.Option.{option_copied};
 ghost use Rattle.warg_c.specs.Lookups.{IdText, LengthIs, IsBeyond, IsRecord, IsRecordAt, head_of, length_tells, has_no_records, record_tells, record_lacks};
 ghost use Rattle.warg_c.specs.Logs.{whole_of};
@@ -68,6 +68,9 @@ pub extern "C" fn warg_head(
     ensures answer { Answers result log.old.owned.kept (λ held. IdText (head_of held) (take used.new text.new))
         (λ held. TextFails (IdText (head_of held)) (head_of held ≡ None) ⊥ used.new text.old) }
     ensures unchanged { log.new.owned.kept ≡ log.old.owned.kept }
+    ensures buffer { result ≢ 0 → text.new ≡ text.old }
+    ensures used { result ≢ 0 → result ≢ 3 → used.new ≡ 0 }
+    ensures within { result ≢ 3 → used.new ≤ length text.new }
 {
     *used = 0;
     let Some(held) = log.take(alloc) else {
@@ -174,6 +177,9 @@ pub extern "C" fn warg_record(
     ensures answer { Answers result log.old.owned.kept (λ held. record_tells held place kept.new (take used.new bytes.new))
         (λ held. TextFails (record_tells held place kept.new) (record_lacks held place) (has_no_records held) used.new bytes.old) }
     ensures unchanged { log.new.owned.kept ≡ log.old.owned.kept }
+    ensures buffer { result ≢ 0 → bytes.new ≡ bytes.old }
+    ensures used { result ≢ 0 → result ≢ 3 → used.new ≡ 0 }
+    ensures within { result ≢ 3 → used.new ≤ length bytes.new }
 {
     *used = 0;
     let Some(held) = log.take(alloc) else {

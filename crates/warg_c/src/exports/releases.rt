@@ -1,5 +1,5 @@
 //! The releases of a package log.
-ghost use Rattle.std.specs.Prelude.{◌≡◌, ◌⊎◌, Ok, Some, None, ◌↔◌, IsTrue, IfOk, IfErr, map, take};
+ghost use Rattle.std.specs.Prelude.{◌≡◌, ◌≢◌, ◌≤◌, ◌⊎◌, Ok, Some, None, ◌↔◌, IsTrue, IfOk, IfErr, map, length, take};
 ghost use Rattle.std.specs.Option.{option_copied, option_map};
 ghost use Rattle.warg_package_log.specs.Releases.{ReleaseView};
 ghost use Rattle.semver.specs.Identifiers.{comparator_view, parts_of};
@@ -109,6 +109,9 @@ pub extern "C" fn warg_latest(
         (λ held. TextFails (latest_tells held requirement.now release.new) (latest_lacks held requirement.now)
         (latest_bad held requirement.now) used.new text.old) }
     ensures unchanged { log.new.owned.kept ≡ log.old.owned.kept }
+    ensures buffer { result ≢ 0 → text.new ≡ text.old }
+    ensures used { result ≢ 0 → result ≢ 3 → used.new ≡ 0 }
+    ensures within { result ≢ 3 → used.new ≤ length text.new }
 {
     *used = 0;
     let Some(held) = log.take(alloc) else {
@@ -159,6 +162,9 @@ pub extern "C" fn warg_release(
         (λ held. TextFails (release_tells held version.now release.new) (release_lacks held version.now)
         (release_bad held version.now) used.new text.old) }
     ensures unchanged { log.new.owned.kept ≡ log.old.owned.kept }
+    ensures buffer { result ≢ 0 → text.new ≡ text.old }
+    ensures used { result ≢ 0 → result ≢ 3 → used.new ≡ 0 }
+    ensures within { result ≢ 3 → used.new ≤ length text.new }
 {
     *used = 0;
     let Some(held) = log.take(alloc) else {
@@ -199,6 +205,9 @@ pub extern "C" fn warg_releases(
     ensures answer { Answers result log.old.owned.kept (λ held. place_tells held place release.new (take used.new text.new))
         (λ held. TextFails (place_tells held place release.new) (place_lacks held place) (place_bad held) used.new text.old) }
     ensures unchanged { log.new.owned.kept ≡ log.old.owned.kept }
+    ensures buffer { result ≢ 0 → text.new ≡ text.old }
+    ensures used { result ≢ 0 → result ≢ 3 → used.new ≡ 0 }
+    ensures within { result ≢ 3 → used.new ≤ length text.new }
 {
     *used = 0;
     let Some(held) = log.take(alloc) else {

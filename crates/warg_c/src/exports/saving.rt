@@ -1,5 +1,5 @@
 //! Saving a state, and going on from one.
-ghost use Rattle.std.specs.Prelude.{◌≡◌, ◌≢◌, ◌⊎◌, ℕ, List, Result, Ok, Err, IfOk, IfErr, IsSomeAnd, string_bytes, take};
+ghost use Rattle.std.specs.Prelude.{◌≡◌, ◌≢◌, ◌≤◌, ◌⊎◌, ℕ, List, Result, Ok, Err, IfOk, IfErr, IsSomeAnd, string_bytes, length, take};
 ghost use Rattle.std.specs.Str.{IsUtf8};
 ghost use Rattle.warg_crypto.specs.Json.{ReturnsOrNoMemory};
 ghost use Rattle.warg_crypto.specs.declared.json.error.JsonError.{JsonError};
@@ -54,6 +54,9 @@ pub extern "C" fn warg_save(
     ensures answer { Answers result log.old.owned.kept (λ held. save_tells held (take used.new text.new))
         (λ held. TextFails (save_tells held) (save_lacks held) ⊥ used.new text.old) }
     ensures unchanged { log.new.owned.kept ≡ log.old.owned.kept }
+    ensures buffer { result ≢ 0 → text.new ≡ text.old }
+    ensures used { result ≢ 0 → result ≢ 3 → used.new ≡ 0 }
+    ensures within { result ≢ 3 → used.new ≤ length text.new }
 {
     *used = 0;
     let Some(held) = log.take(alloc) else {
@@ -66,7 +69,8 @@ pub extern "C" fn warg_save(
 
 // Says why a text is no saved state, where there is memory and room for it.
 fn refuse_saved(alloc: Global, error: JsonTextError, text: &mut [u8], used: &mut usize) -> Failure
-    ensures { (result ≡ OutOfMemory) ⊎ ((result ≡ BadArgument) × (error ≢ json.OutOfMemory)) }
+    ensures failure { (result ≡ OutOfMemory) ⊎ ((result ≡ BadArgument) × (error ≢ json.OutOfMemory)) }
+    ensures within { used.old ≡ 0 → used.new ≤ length text.new }
 {
     if let JsonTextError::OutOfMemory | JsonTextError::Value(JsonError::OutOfMemory) = error {
         return Failure::OutOfMemory;
@@ -103,6 +107,7 @@ fn resumed(
 ) -> Result<Box<Held>, Failure>
     ensures ok { IfOk result (λ b. resumes_number kind saved.now b.value) }
     ensures err { IfErr result (FailsAs ⊥ (is_no_saved kind saved.now)) }
+    ensures within { used.old ≡ 0 → used.new ≤ length text.new }
 {
     let kind = Kind::numbered(kind)?;
     let Ok(saved) = str::from_utf8(saved) else {
@@ -129,6 +134,7 @@ pub extern "C" fn warg_resume(
 ) -> u32
     ensures answer { Answered result (IsSomeAnd log.new.owned.kept (resumes_number kind saved.now)) (CallFails ⊥ (is_no_saved kind saved.now)) }
     ensures unchanged { result ≢ 0 → log.new.owned.kept ≡ log.old.owned.kept }
+    ensures within { used.new ≤ length text.new }
 {
     *used = 0;
     match resumed(alloc, kind, saved, text, used) {

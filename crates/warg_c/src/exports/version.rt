@@ -1,5 +1,5 @@
 //! The library's version.
-ghost use Rattle.std.specs.Prelude.{◌≡◌, codes, take};
+ghost use Rattle.std.specs.Prelude.{◌≡◌, ◌≢◌, ◌≤◌, codes, length, take};
 ghost use Rattle.warg_c.specs.Statuses.{Answered};
 ghost use Rattle.warg_c.specs.Texts.{TextFails};
 
@@ -12,7 +12,10 @@ const VERSION: &str = "0.1.0";
 /// The library's version.
 #[unsafe(no_mangle)]
 pub extern "C" fn warg_version(text: &mut [u8], used: &mut usize) -> u32
-    ensures { Answered result (take used.new text.new ≡ codes "0.1.0") (TextFails (λ version. version ≡ codes "0.1.0") ⊥ ⊥ used.new text.old) }
+    ensures answer { Answered result (take used.new text.new ≡ codes "0.1.0") (TextFails (λ version. version ≡ codes "0.1.0") ⊥ ⊥ used.new text.old) }
+    ensures buffer { result ≢ 0 → text.new ≡ text.old }
+    ensures used { result ≢ 0 → result ≢ 3 → used.new ≡ 0 }
+    ensures within { result ≢ 3 → used.new ≤ length text.new }
 {
     status(give(VERSION.as_bytes(), text, used))
 }
