@@ -7,8 +7,8 @@ use Rattle.warg_audit.proofs.log.refusal_reply.Goals as goal
 pub returns-in-Some : goal.returns-in-Some
 returns-in-Some g c =
     IfOk-weaker c.refused_reply.result _ _
-    (λ reply is belongs fault_name offence_name shown reports strings refusal.
-    told_answers _ _ strings (printed_of reply) c.args.error.now.index c.in-Some.name.now
+    (λ reply is belongs seen fault_name offence_name shown reports strings refusal.
+    told_answers _ _ strings (printed_of reply) seen c.args.error.now.index c.in-Some.name.now
     (told (envelope_fault_of g.L.Record.Record.fault_of) g.L.Validator.offence_of c.args.error.now.cause)
     refusal.first (c.in-Some.ensures fault_name offence_name shown reports) is)
     c.refused_reply.ensures

@@ -1,0 +1,88 @@
+//! Why words make no record.
+
+use std::alloc::{AllocError, AllocFailed};
+use thiserror::Error;
+use warg_protocol::JsonError;
+use warg_protocol::signing::SignatureError;
+
+/// Why words say no entry.
+#[derive(Clone, Copy, Debug, PartialEq, Eq, Error)]
+pub enum EntryFault {
+    /// The first word is no entry of the kind.
+    #[error("it begins with no entry's word")]
+    UnknownEntry,
+    /// A word is missing.
+    #[error("a word is missing")]
+    MissingWord,
+    /// A word is neither a name nor a key's text.
+    #[error("a word is no key")]
+    BadKey,
+    /// A word is no permission of the kind.
+    #[error("a word is no permission")]
+    BadPermission,
+    /// A word is no version.
+    #[error("a word is no version")]
+    BadVersion,
+    /// There was no memory.
+    #[error("out of memory")]
+    OutOfMemory,
+}
+
+impl From<AllocError> for EntryFault {
+    fn from(_error: AllocError) -> EntryFault {
+        EntryFault::OutOfMemory
+    }
+}
+
+impl<T: Drop> From<AllocFailed<T>> for EntryFault {
+    fn from(_error: AllocFailed<T>) -> EntryFault {
+        EntryFault::OutOfMemory
+    }
+}
+
+/// Why words make no record.
+#[derive(Clone, Copy, Debug, PartialEq, Eq, Error)]
+pub enum MakeError {
+    /// The time is not seconds, a point, and nanoseconds.
+    #[error("the time is not seconds, a point, and nanoseconds, as 1700000000.0")]
+    BadTime,
+    /// The words of the entry at this place, counted from 0, say none.
+    #[error("entry {place}: {fault}")]
+    Entry {
+        /// The place of the entry.
+        place: usize,
+        /// Why its words say none.
+        fault: EntryFault,
+    },
+    /// There was no memory.
+    #[error("out of memory")]
+    OutOfMemory,
+}
+
+impl From<AllocError> for MakeError {
+    fn from(_error: AllocError) -> MakeError {
+        MakeError::OutOfMemory
+    }
+}
+
+impl<T: Drop> From<AllocFailed<T>> for MakeError {
+    fn from(_error: AllocFailed<T>) -> MakeError {
+        MakeError::OutOfMemory
+    }
+}
+
+impl From<JsonError> for MakeError {
+    fn from(error: JsonError) -> MakeError {
+        match error {
+            JsonError::OutOfMemory => MakeError::OutOfMemory,
+            _ => MakeError::BadTime,
+        }
+    }
+}
+
+// A toy signer refuses no message, so what is left is memory.
+impl From<SignatureError> for MakeError {
+    fn from(_error: SignatureError) -> MakeError {
+        MakeError::OutOfMemory
+    }
+}

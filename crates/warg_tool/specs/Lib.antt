@@ -1,0 +1,13 @@
+pub mod RecordLines
+pub mod Texts
+pub mod Answers
+pub mod Verdicts
+pub mod StateFaults
+pub mod Questions
+pub mod Resumption
+pub mod JsonLines
+pub mod Additions
+pub mod ClaimTexts
+pub mod Proofs
+pub mod Unusable
+pub mod Requests

@@ -1,0 +1,148 @@
+-- What is answered to requests, by the words that they have and what the files that they name hold.
+use Rattle.std.specs.Prelude.{◌≡◌, ◌⊎◌, ℕ, Bool, true, false, List, [], ◌∷◌, Option, Some, None, Result}
+use Rattle.std.specs.Borrow.{Bor}
+use Rattle.std.specs.Str.Lines.{lines}
+use Rattle.warg_permissions.specs.declared.operator.Permission.TheVariants as operator_permission
+use Rattle.warg_permissions.specs.declared.package.Permission.TheVariants as package_permission
+use Rattle.warg_protocol.specs.Json.{JsonError, JsonTextError, in_text, text_of}
+use Rattle.warg_protocol.specs.Logs.{Effects, EnvelopeData, Kind, SignatureRelation, envelope_of}
+use Rattle.warg_protocol.specs.Operator as operators
+use Rattle.warg_protocol.specs.Package as packages
+use Rattle.warg_protocol.specs.Records.{toy_belongs}
+use Rattle.warg_audit.specs.LogAnswers.{Shown}
+use Rattle.warg_audit.specs.LogTypes.{operator_log, package_log}
+use Rattle.warg_audit.specs.declared.command.LogType.{LogType}
+use Rattle.warg_audit.specs.declared.command.LogType.TheVariants as log_type
+use Rattle.warg_audit.specs.Printed.{Printed}
+use Rattle.warg_verified.specs.Claims.{ClaimData, is_claimed}
+use Rattle.warg_verified.specs.Texts.{IsReadFrom}
+use Rattle.warg_tool.specs.Additions.{Files, Reads}
+use Rattle.warg_tool.specs.ClaimTexts.{IsClaimsAnswer}
+use Rattle.warg_tool.specs.JsonLines.{IsInJson}
+use Rattle.warg_tool.specs.Proofs.{IsStatementVerdict}
+use Rattle.warg_tool.specs.Questions.{IsStateText, IsPermissionsText, IsChainText, IsCompared}
+use Rattle.warg_tool.specs.Resumption.{IsResumed}
+use Rattle.warg_tool.specs.Unusable.{IfUsable, IsUnusable, IsOfFile, IsOfLines, IsOfWord}
+use Rattle.warg_tool.specs.Verdicts.{IsPrintedOf}
+use Rattle.warg_tool.specs.declared.request.Invocation.{Invocation}
+use Rattle.warg_tool.specs.declared.request.Question.{Question}
+use Rattle.warg_tool.specs.declared.request.Question.TheVariants as question
+use Rattle.warg_tool.specs.declared.request.Request.{Request}
+use Rattle.warg_tool.specs.declared.request.Request.TheVariants as request
+use Rattle.warg_tool.specs.declared.task.Task.{Task}
+use Rattle.warg_tool.specs.declared.task.Task.TheVariants as task
+
+-- a kind of log that questions are asked of: how it is shown, and what is said of its states and its keys
+pub record Askable (Meaning Fault View Offence S P : Type 0) : Type 0 where
+  pub shown : Shown Meaning Fault View Offence
+  pub view : S → View
+  pub json : S → Result (List ℕ) JsonError
+  pub reads : List ℕ → Result S JsonTextError
+  pub knows : S → List ℕ → Bool
+  pub held : View → List ℕ → P → Bool
+  pub order : List P
+  pub text_of : P → List ℕ
+  pub effects : Effects P
+
+module _ {Meaning Fault View Offence S P : Type 0} (kind : Askable Meaning Fault View Offence S P) (belongs : SignatureRelation) (files : Option Files) where
+  -- what is answered to a question, by what files hold; of a log in words nothing is said
+  abbrev pub IsQuestionAnswer : Question → Printed → Type 0
+  IsQuestionAnswer (question.Show log) printed = Unit {0}
+  IsQuestionAnswer (question.State log) printed =
+      IsOfLines files log.now (IsPrintedOf kind.shown belongs (IsStateText kind.shown kind.view kind.json)) printed
+  IsQuestionAnswer (question.Resume state log) printed =
+      IsOfFile files state.now (λ saved. IsOfLines files log.now (IsResumed kind.shown belongs kind.view kind.json kind.reads saved)) printed
+  IsQuestionAnswer (question.Permissions key_id log) printed =
+      IsOfLines files log.now (IsPrintedOf kind.shown belongs
+      (IsPermissionsText kind.shown kind.view kind.knows kind.held kind.order kind.text_of key_id.now)) printed
+  IsQuestionAnswer (question.Chain key_id permission log) printed =
+      IsOfWord (λ it. kind.text_of it ≡ permission.now)
+      (λ it. IsOfLines files log.now (IsPrintedOf kind.shown belongs (IsChainText kind.shown kind.effects key_id.now it))) printed
+  IsQuestionAnswer (question.Compare left right) printed =
+      IsOfLines files left.now (λ here. IsOfLines files right.now (IsCompared kind.shown belongs here)) printed
+
+-- what is answered to a question on logs of a kind
+abbrev pub IsAskedAnswer : LogType → SignatureRelation → Option Files → Question → Printed → Type 0
+IsAskedAnswer log_type.Package belongs files question printed =
+    IsQuestionAnswer (record {
+      shown = package_log;
+      view = packages.view_of;
+      json = λ state. text_of (packages.state_json state);
+      reads = in_text packages.state_in;
+      knows = λ state key. (packages.view_of state).state.authority.has_entry key;
+      held = λ view key permission. view.state.authority.holds key permission;
+      order = package_permission.Release ∷ package_permission.Yank ∷ [];
+      text_of = packages.permission_text;
+      effects = packages.effects;
+    }) belongs files question printed
+IsAskedAnswer log_type.Operator belongs files question printed =
+    IsQuestionAnswer (record {
+      shown = operator_log;
+      view = operators.view_of;
+      json = λ state. text_of (operators.state_json state);
+      reads = in_text operators.state_in;
+      knows = λ state key. (operators.view_of state).state.authority.has_entry key;
+      held = λ view key permission. view.state.authority.holds key permission;
+      order = operator_permission.Commit ∷ operator_permission.DefineNamespace ∷ operator_permission.ImportNamespace ∷ [];
+      text_of = operators.permission_text;
+      effects = operators.effects;
+    }) belongs files question printed
+
+module _ {View Offence F : Type 0} (kind : Kind View Offence) (read : List ℕ → Result EnvelopeData F) (files : Option Files) where
+  -- what is answered when a task is done; of records that are made or added nothing is said
+  abbrev pub IsTaskAnswer : Task → Printed → Type 0
+  IsTaskAnswer (task.Claims log) printed = IsOfLines files log.now (IsClaimsAnswer kind read) printed
+  IsTaskAnswer (task.Make log name time entries) printed = Unit {0}
+  IsTaskAnswer (task.Append log lines) printed = Unit {0}
+
+-- the same of a task on a log of a kind
+abbrev pub IsDoneAnswer : LogType → Option Files → Task → Printed → Type 0
+IsDoneAnswer log_type.Package files it printed = IsTaskAnswer package_log.kind (envelope_of package_log.read) files it printed
+IsDoneAnswer log_type.Operator files it printed = IsTaskAnswer operator_log.kind (envelope_of operator_log.read) files it printed
+
+-- what is answered to a request
+abbrev pub IsRequestAnswer : SignatureRelation → Option Files → Request → Printed → Type 0
+IsRequestAnswer belongs files (request.Id kind path) printed = Unit {0}
+IsRequestAnswer belongs files (request.Audit kind path) printed = Unit {0}
+IsRequestAnswer belongs files (request.Audits kind paths) printed = Unit {0}
+IsRequestAnswer belongs files (request.Latest requirement path) printed = Unit {0}
+IsRequestAnswer belongs files (request.Prove wanted path) printed = Unit {0}
+IsRequestAnswer belongs files (request.Verify statement) printed = IfUsable (IsStatementVerdict files statement) printed
+IsRequestAnswer belongs files (request.Ask kind question) printed = IsAskedAnswer kind belongs files question printed
+IsRequestAnswer belongs files (request.Do kind task) printed = IsDoneAnswer kind files task printed
+
+-- whether the verdicts on many logs are asked for
+abbrev pub is_many : Request → Bool
+is_many (request.Id kind path) = false
+is_many (request.Audit kind path) = false
+is_many (request.Audits kind paths) = true
+is_many (request.Latest requirement path) = false
+is_many (request.Prove wanted path) = false
+is_many (request.Verify statement) = false
+is_many (request.Ask kind question) = false
+is_many (request.Do kind task) = false
+
+-- what is printed of an answer: itself, or its JSON
+abbrev pub IsGiven : Bool → List ℕ → Printed → Printed → Type 0
+IsGiven false command plain printed = printed ≡ plain
+IsGiven true command plain printed = IsInJson command plain printed
+
+-- the same of an answer of which P holds
+abbrev pub IsGivenAs : Bool → List ℕ → (Printed → Type 0) → Printed → Type 0
+IsGivenAs json command P printed = (plain : Printed) × P plain × IsGiven json command plain printed
+
+-- the claims that the file of a path lists
+pub record AreClaimsIn (files : Option Files) (path : List ℕ) (claims : List ClaimData) : Type 0 where
+  pub bytes : List ℕ
+  pub held : Reads files path bytes
+  pub said : IsReadFrom (lines bytes) claims
+
+-- P of what tells which signatures belong: the toy scheme, or the claims that a file lists, if it can be used
+abbrev pub IsUnder : Option Files → Option (Bor (List ℕ)) → (SignatureRelation → Printed → Type 0) → Printed → Type 0
+IsUnder files None P printed = P toy_belongs printed
+IsUnder files (Some path) P printed = IsUnusable printed ⊎ ((claims : List ClaimData) × AreClaimsIn files path.now claims × P (is_claimed claims) printed)
+
+-- what is answered to an invocation, by what files hold
+abbrev pub IsInvocationAnswer : Option Files → Invocation → Printed → Type 0
+IsInvocationAnswer files it printed =
+    IsGivenAs it.json it.command.now (IsUnder files it.verified (λ belongs. IsRequestAnswer belongs files it.request)) printed

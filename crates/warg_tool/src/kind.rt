@@ -1,0 +1,85 @@
+//! What the commands ask of a kind of log.
+
+ghost use Rattle.std.specs.Prelude.{◌≡◌, ℕ, Bool, List, Result, IfOk, IfSome, string_bytes};
+ghost use Rattle.warg_protocol.specs.Json.{JsonError as OfJsonError, JsonTextError as OfJsonTextError, ReturnsOrNoMemory};
+ghost use Rattle.warg_saved.specs.JsonText.{ReturnsOfText};
+
+use std::alloc::{AllocError, Global};
+use warg_audit::Report;
+use warg_protocol::signing::KeyID;
+use warg_protocol::{JsonError, JsonTextError, ProtoEnvelope};
+
+/// A state of a log that the commands speak of.
+pub trait ToolLog: Report {
+    // The permissions of the kind in their order, and their texts.
+    ghost order: { List Self.Permission };
+
+    ghost text_of: { Self.Permission → List ℕ };
+
+    // Whether a record spoke of a key id.
+    ghost knows: { Self → List ℕ → Bool };
+
+    // The text of a state's JSON, and the state of a text.
+    ghost json_of: { Self → Result (List ℕ) OfJsonError };
+
+    ghost state_of: { List ℕ → Result Self OfJsonTextError };
+
+    /// The permissions of the kind, in their order.
+    fn permissions(alloc: Global) -> Result<Vec<Self::Permission>, AllocError>
+        ensures { IfOk result (λ permissions. permissions.items ≡ order) };
+
+    /// The text of a permission.
+    fn permission_text(permission: Self::Permission) -> &'static str
+        ensures { result.now ≡ text_of permission };
+
+    /// Whether a record spoke of the key.
+    fn has_entry(&self, key_id: &KeyID) -> bool
+        ensures { result ≡ knows self.now key_id.now };
+
+    /// The state's JSON.
+    fn json_text(&self, alloc: Global) -> Result<String, JsonError>
+        ensures { ReturnsOrNoMemory string_bytes result (json_of self.now) };
+
+    /// The state of a text of JSON.
+    fn of_json_text(alloc: Global, text: &str) -> Result<Self, JsonTextError>
+        ensures { ReturnsOfText (λ state. state) result (state_of text.now) };
+
+    /// Appends the error in words.
+    fn append_error(
+        alloc: Global,
+        error: &Self::Error,
+        text: &mut String,
+    ) -> Result<(), AllocError>;
+
+    /// Appends the record's time, its signer, and its entries in words.
+    fn append_record(
+        alloc: Global,
+        envelope: &ProtoEnvelope<Self::Record>,
+        text: &mut String,
+    ) -> Result<(), AllocError>;
+
+    /// The content bytes of the record with so many of its first entries.
+    fn first_entries(
+        alloc: Global,
+        envelope: &ProtoEnvelope<Self::Record>,
+        count: usize,
+    ) -> Result<Vec<u8>, AllocError>;
+
+    /// Appends a line for each key, and for each release or namespace.
+    fn append_state(&self, alloc: Global, text: &mut String) -> Result<(), AllocError>;
+}
+
+/// The permission that the text names.
+pub(crate) fn permission_of<L: ToolLog>(
+    alloc: Global,
+    text: &str,
+) -> Result<Option<L::Permission>, AllocError>
+    ensures { IfOk result (λ found. IfSome found (λ permission. L.text_of permission ≡ text.now)) }
+{
+    for permission in L::permissions(alloc)?.iter() {
+        if L::permission_text(*permission) == text {
+            return Ok(Some(*permission));
+        }
+    }
+    Ok(None)
+}

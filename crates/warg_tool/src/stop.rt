@@ -1,0 +1,35 @@
+//! Why a command ends before its own answer.
+
+use crate::answer::Answer;
+use std::alloc::{AllocError, AllocFailed};
+
+/// Why a command ends before its own answer.
+#[derive(Debug, Drop)]
+pub enum Stop {
+    /// This is answered instead: a file can't be read, a log is refused, or a word is none.
+    Answer(Answer),
+    /// Memory was refused.
+    OutOfMemory,
+}
+
+impl From<AllocError> for Stop {
+    ghost use Rattle.std.specs.Prelude.{◌≡◌};
+    ghost use Rattle.warg_tool.specs.declared.stop.Stop.TheVariants.{OutOfMemory};
+
+    ghost from_gives = { λ _ stop. stop ≡ OutOfMemory };
+
+    fn from(_error: AllocError) -> Stop {
+        Stop::OutOfMemory
+    }
+}
+
+impl<T: Drop> From<AllocFailed<T>> for Stop {
+    ghost use Rattle.std.specs.Prelude.{◌≡◌};
+    ghost use Rattle.warg_tool.specs.declared.stop.Stop.TheVariants.{OutOfMemory};
+
+    ghost from_gives = { λ _ stop. stop ≡ OutOfMemory };
+
+    fn from(_error: AllocFailed<T>) -> Stop {
+        Stop::OutOfMemory
+    }
+}

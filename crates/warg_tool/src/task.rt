@@ -1,0 +1,117 @@
+//! The commands that list what is to be verified, make records, and add to logs.
+
+ghost use Rattle.warg_protocol.specs.Logs.{envelope_of};
+ghost use Rattle.warg_tool.specs.Answers.{Answers};
+ghost use Rattle.warg_tool.specs.ClaimTexts.{IsClaimsAnswer};
+ghost use Rattle.warg_tool.specs.Requests.{IsTaskAnswer};
+ghost use Rattle.warg_tool.specs.Unusable.{IsOfLines};
+
+use crate::answer::Answer;
+use crate::append::append_answer;
+use crate::claim_lines::claims_answer;
+use crate::input::{Store, read_input, read_log};
+use crate::kind::ToolLog;
+use crate::making::make_answer;
+use crate::stop::Stop;
+use crate::words::value;
+use clap::ArgMatches;
+use std::alloc::{AllocError, Global};
+use warg_host::Hosted;
+use warg_make::Worded;
+use warg_protocol::signing::Verifier;
+
+/// What is done with a log, with the paths of the files. `-` is standard input.
+#[derive(Debug, Drop)]
+pub enum Task<'a> {
+    /// What a host has to verify is listed.
+    Claims {
+        /// The log.
+        log: &'a str,
+    },
+    /// The next record is made, and signed by the toy scheme.
+    Make {
+        /// The log. Where there is no such file, it has no records yet.
+        log: &'a str,
+        /// Whose toy key signs.
+        name: &'a str,
+        /// The record's time.
+        time: &'a str,
+        /// The record's entries, in words.
+        entries: Vec<&'a str>,
+    },
+    /// Records are added to the log.
+    Append {
+        /// The log. Where there is no such file, it has no records yet.
+        log: &'a str,
+        /// The file with the records' lines.
+        lines: &'a str,
+    },
+}
+
+/// The task of a command, if the command is one.
+pub(crate) fn parse_task<'a>(
+    alloc: Global,
+    command: &str,
+    matches: &ArgMatches<'a>,
+) -> Result<Option<Task<'a>>, AllocError> {
+    let log = value(matches, "LOG");
+    match command {
+        "claims" => Ok(Some(Task::Claims { log })),
+        "make" => Ok(Some(Task::Make {
+            log,
+            name: value(matches, "NAME"),
+            time: value(matches, "TIME"),
+            entries: match matches.get_strs("ENTRY") {
+                Some(entries) => entries.to_vec(alloc)?,
+                None => Vec::new(alloc),
+            },
+        })),
+        "append" => Ok(Some(Task::Append {
+            log,
+            lines: value(matches, "LINES"),
+        })),
+        _ => Ok(None),
+    }
+}
+
+// The claims of the log in a file.
+fn claims_of_file<L: ToolLog + Hosted, S: Store>(
+    alloc: Global,
+    log: &str,
+    store: &mut S,
+) -> Result<Answer, Stop>
+    ensures { Answers (IsOfLines (S.files store.old) log.now (IsClaimsAnswer L.kind (envelope_of L.Record.read))) result }
+{
+    match read_input(alloc, store, log) {
+        Ok(input) => claims_answer::<L>(alloc, input),
+        Err(stop) => Err(stop),
+    }
+}
+
+/// What is answered when the task is done.
+pub(crate) fn task_answer<L: ToolLog + Hosted + Worded, V: Verifier, S: Store>(
+    alloc: Global,
+    verifier: &V,
+    task: &Task<'_>,
+    store: &mut S,
+) -> Result<Answer, Stop>
+    ensures { Answers (IsTaskAnswer L.kind (envelope_of L.Record.read) (S.files store.old) task.now) result }
+{
+    match task {
+        Task::Claims { log } => claims_of_file::<L, S>(alloc, log, store),
+        Task::Make {
+            log,
+            name,
+            time,
+            entries,
+        } => {
+            let input = read_log(alloc, store, log)?;
+            make_answer::<L, V>(alloc, verifier, input, name, time, entries.as_slice())
+        }
+        Task::Append { log, lines } => {
+            let input = read_log(alloc, store, log)?;
+            let lines = read_input(alloc, store, lines)?;
+            append_answer::<L, V, S>(alloc, verifier, input, lines, store)
+        }
+    }
+}

@@ -1,0 +1,102 @@
+//! The verifier of a request: the toy scheme, or what a file says was verified.
+
+ghost use Rattle.std.specs.Prelude.{◌≡◌, false, IfOk, IfErr};
+ghost use Rattle.std.specs.Str.Lines.{lines};
+ghost use Rattle.warg_verified.specs.Texts.{IsReadFrom};
+ghost use Rattle.warg_tool.specs.Answers.{answer_view, IfStopped};
+ghost use Rattle.warg_tool.specs.Requests.{AreClaimsIn, is_many, IsGivenAs, IsInvocationAnswer};
+ghost use Rattle.warg_tool.specs.Unusable.{IsUnusable};
+
+use crate::answer::Answer;
+use crate::commands::{given, respond};
+use crate::input::{Input, Store, line_sentence, read_input};
+use crate::read_words::{file_stop, unusable};
+use crate::request::Invocation;
+use crate::stop::Stop;
+use std::alloc::{AllocError, Global};
+use std::str;
+use warg_protocol::toy::ToyVerifier;
+use warg_verified::{ClaimParseError, Verified, VerifiedParseError};
+
+fn claim_sentence(
+    alloc: Global,
+    path: &str,
+    error: VerifiedParseError,
+) -> Result<String, AllocError> {
+    let fault = format!(in alloc; "no claim: {}", error.fault)?;
+    line_sentence(alloc, path, error.line, fault.as_str())
+}
+
+// The end of a command for a line that says no claim.
+fn claim_stop(alloc: Global, path: &str, error: VerifiedParseError) -> Stop
+    ensures { IfStopped IsUnusable result }
+{
+    if error.fault == ClaimParseError::OutOfMemory {
+        return Stop::OutOfMemory;
+    }
+    unusable(alloc, claim_sentence(alloc, path, error))
+}
+
+// The claims that a text lists.
+fn verified_of(alloc: Global, path: &str, text: &str) -> Result<Verified, Stop>
+    ensures ok { IfOk result (IsReadFrom (lines text.now)) }
+    ensures stopped { IfErr result (IfStopped IsUnusable) }
+{
+    match Verified::parse(alloc, text) {
+        Ok(verified) => Ok(verified),
+        Err(error) => Err(claim_stop(alloc, path, error)),
+    }
+}
+
+// The claims that a file lists.
+fn verified_of_file(alloc: Global, input: &Input<'_>) -> Result<Verified, Stop>
+    ensures ok { IfOk result (IsReadFrom (lines input.now.bytes.items)) }
+    ensures stopped { IfErr result (IfStopped IsUnusable) }
+{
+    match str::from_utf8(input.bytes.as_slice()) {
+        Ok(text) => verified_of(alloc, input.path, text),
+        Err(_) => Err(file_stop(alloc, input.path, "it is no UTF-8")),
+    }
+}
+
+// The claims that the file of this path lists.
+fn read_verified<S: Store>(alloc: Global, path: &str, store: &mut S) -> Result<Verified, Stop>
+    ensures ok { IfOk result (AreClaimsIn (S.files store.old) path.now) }
+    ensures stopped { IfErr result (IfStopped IsUnusable) }
+    ensures kept { S.files store.new ≡ S.files store.old }
+{
+    match read_input(alloc, store, path) {
+        Ok(input) => verified_of_file(alloc, &input),
+        Err(stop) => Err(stop),
+    }
+}
+
+// The end of a command that can't use a file, as the invocation wants its answer.
+fn given_end(alloc: Global, invocation: &Invocation<'_>, stop: Stop) -> Result<Answer, AllocError>
+    ensures { IfStopped IsUnusable stop → IfOk result (λ it. IsGivenAs invocation.now.json invocation.now.command.now
+        IsUnusable (answer_view it)) }
+{
+    match stop {
+        Stop::Answer(answer) => given(alloc, invocation, answer),
+        Stop::OutOfMemory => Err(AllocError),
+    }
+}
+
+/// What the invocation is answered, under the verifier that it names, from the bytes of the files that it names.
+pub fn invocation_answer<S: Store>(
+    alloc: Global,
+    invocation: &Invocation<'_>,
+    store: &mut S,
+) -> Result<Answer, AllocError>
+    // Verdicts on many logs have an object for each log.
+    ensures { is_many invocation.now.request ≡ false →
+        IfOk result (λ answer. IsInvocationAnswer (S.files store.old) invocation.now (answer_view answer)) }
+{
+    match invocation.verified {
+        None => respond(alloc, &ToyVerifier, invocation, store),
+        Some(path) => match read_verified(alloc, path, store) {
+            Ok(verified) => respond(alloc, &verified, invocation, store),
+            Err(stop) => given_end(alloc, invocation, stop),
+        },
+    }
+}
