@@ -22,7 +22,7 @@ def lay_out(row: Row, folder: pathlib.Path) -> None:
     for name, value in row.get("files", {}).items():
         (folder / name).write_text(text_of(value), encoding="utf-8")
     for name in row.get("folders", []):
-        (folder / name).mkdir()
+        (folder / name).mkdir(exist_ok=True)
     for name in row.get("unreadable", []):
         (folder / name).write_text("", encoding="utf-8")
         (folder / name).chmod(0)

@@ -18,7 +18,9 @@ use crate::stop::Stop;
 use std::alloc::{AllocError, Global};
 use warg_audit::refusal_reply;
 use warg_protocol::signing::{PublicKey, Signature, SignatureError, Verifier};
-use warg_protocol::{AuditedLog, Envelope, Message, ProtoEnvelope, RunCause, RunError};
+use warg_protocol::{
+    AuditedLog, Envelope, Message, ParseEnvelopeError, ProtoEnvelope, RunCause, RunError,
+};
 
 /// Takes each signature.
 #[derive(Clone, Copy, Debug)]
@@ -40,6 +42,18 @@ impl Verifier for AnySignature {
     }
 }
 
+// The envelope that the bytes are, if they are one.
+fn envelope_in<L: ToolLog>(
+    alloc: Global,
+    bytes: &[u8],
+) -> Result<Option<ProtoEnvelope<L::Record>>, AllocError> {
+    match ProtoEnvelope::<L::Record>::from_protobuf(alloc, bytes) {
+        Ok(envelope) => Ok(Some(envelope)),
+        Err(ParseEnvelopeError::OutOfMemory) => Err(AllocError),
+        Err(_) => Ok(None),
+    }
+}
+
 // The record with so many of its first entries, in an envelope with the same signer and signature.
 fn shortened<L: ToolLog>(
     alloc: Global,
@@ -52,7 +66,15 @@ fn shortened<L: ToolLog>(
         signature: envelope.signature().to_string(alloc)?,
     };
     let bytes = shorter.encode(alloc)?;
-    Ok(ProtoEnvelope::from_protobuf(alloc, bytes.as_slice()).ok())
+    envelope_in::<L>(alloc, bytes.as_slice())
+}
+
+// Whether an error is the same as another, unless memory was refused.
+fn is_same<L: ToolLog>(error: &L::Error, offence: &L::Error) -> Result<bool, AllocError> {
+    if L::is_out_of_memory(error) {
+        return Err(AllocError);
+    }
+    Ok(*error == *offence)
 }
 
 // Whether the record's first entries, so many, are refused for the same cause.
@@ -68,7 +90,7 @@ fn is_refused_so<L: ToolLog>(
     };
     match state.try_clone()?.validate(&shorter, &AnySignature) {
         Ok(_) => Ok(false),
-        Err(error) => Ok(error == *offence),
+        Err(error) => is_same::<L>(&error, offence),
     }
 }
 
@@ -113,9 +135,11 @@ fn append_cause<L: ToolLog>(
         RunCause::Validation(offence) => {
             text.push_str("why: ")?;
             L::append_error(alloc, offence, text)?;
-            if let Ok(envelope) = ProtoEnvelope::<L::Record>::from_protobuf(alloc, string)
-                && let Some(entry) = entry_of_offence(alloc, state, &envelope, offence)?
-            {
+            let entry = match envelope_in::<L>(alloc, string)? {
+                Some(envelope) => entry_of_offence(alloc, state, &envelope, offence)?,
+                None => None,
+            };
+            if let Some(entry) = entry {
                 let line = format!(in alloc; "\nentry: {entry}")?;
                 text.push_str(line.as_str())?;
             }
