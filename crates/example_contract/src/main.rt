@@ -25,7 +25,8 @@ fn audited<V: Verifier>(
     strings: &[Vec<u8>],
 ) -> Result<LogState, RunError<ValidationError>>
     ensures { let log = read_all (envelope_of package_record_of) (map vec_items strings.now) in
-        IfOk result (λ state. IsAccepted kind (V.belongs verifier.now) log × TellsHistory state log) }
+        IfOk result (λ state. IsAccepted kind (V.belongs verifier.now) log ×
+        TellsHistory state log) }
 {
     laws::package::states_tell_history();
     run(alloc, verifier, strings)
@@ -39,7 +40,8 @@ fn content_for<V: Verifier>(
     wanted: &VersionReq,
 ) -> Result<Option<AnyHash>, RunError<ValidationError>>
     ensures { let log = read_all (envelope_of package_record_of) (map vec_items strings.now) in
-        IfOk result (λ found. IfSome found (λ content. IsOffered log wanted.now.comparators.items content)) }
+        IfOk result (λ found. IfSome found
+        (λ content. IsOffered log wanted.now.comparators.items content)) }
 {
     let state = audited(alloc, verifier, strings)?;
     Ok(match state.find_latest_release(wanted) {

@@ -74,7 +74,8 @@ impl Verifier for StampVerifier {
 fn what_is_signed_is_taken(signer: &Stamper, verifier: &StampVerifier)
     ensures { (message : List ℕ) (name bytes : List ℕ) →
         ⟦<Stamper as Signer>⟧.gives signer.now message (record { name = name; bytes = bytes }) →
-        ⟦<StampVerifier as Verifier>⟧.belongs verifier.now (⟦<Stamper as Signer>⟧.key_of signer.now) message
+        ⟦<StampVerifier as Verifier>⟧.belongs verifier.now
+        (⟦<Stamper as Signer>⟧.key_of signer.now) message
         (record { name = name; bytes = bytes }) ≡ true }
 {
     let _ = &signer.key;

@@ -28,7 +28,8 @@ fn record_id(log_type: LogType, content: &[u8]) -> RecordId
 
 // The reply to an envelope's first fault.
 fn fault_reply(alloc: Global, fault: WireError) -> Result<Reply, AllocError>
-    ensures { IfOk result (λ reply. printed_of reply ≡ refused 0 (error_name (ProtobufEnvelope fault))) }
+    ensures { IfOk result (λ reply. printed_of reply ≡
+        refused 0 (error_name (ProtobufEnvelope fault))) }
 {
     refused_reply(alloc, 0, ParseEnvelopeError::ProtobufEnvelope(fault).name())
 }

@@ -86,7 +86,8 @@ impl<R: Read> Input<R> {
         ensures late { self.new.late ≡ (if self.old.ended then min (self.old.late + 1)
             (2 ^ 64 - 1) else self.old.late) }
         ensures bound { ReadsAtMost result buf.new }
-        ensures bytes { ReadConsumes (R.remaining self.old.reader) (R.remaining self.new.reader) result buf.new }
+        ensures bytes { ReadConsumes (R.remaining self.old.reader)
+            (R.remaining self.new.reader) result buf.new }
     {
         let (failures, taken, ended) = (self.failures, self.taken, self.ended);
         self.reads = self.reads.saturating_add(1);

@@ -14,7 +14,8 @@ use warg_protocol::{operator, package};
 /// Each text has lines, and no other ones.
 pub fn one_list_of_lines()
     ensures some { (text : List ℕ) → AreLines text (lines_of text) }
-    ensures only { (text : List ℕ) (lines : List (List ℕ)) → AreLines text lines → lines ≡ lines_of text }
+    ensures only { (text : List ℕ) (lines : List (List ℕ)) → AreLines text lines →
+        lines ≡ lines_of text }
 {}
 
 /// Lines of which an id is asked have an answer, and no other one.
@@ -40,8 +41,10 @@ pub fn one_log_answer()
 
 /// Words and bytes have an answer, and no other one: a text, printed whole, and a status.
 pub fn one_answer()
-    ensures some { (words : List (List ℕ)) (bytes : List ℕ) → IsAnswer words bytes (answer_of words bytes) }
-    ensures only { (words : List (List ℕ)) (bytes : List ℕ) (printed : Printed) → IsAnswer words bytes printed →
+    ensures some { (words : List (List ℕ)) (bytes : List ℕ) →
+        IsAnswer words bytes (answer_of words bytes) }
+    ensures only { (words : List (List ℕ)) (bytes : List ℕ) (printed : Printed) →
+        IsAnswer words bytes printed →
         printed ≡ answer_of words bytes }
 {
     one_id_answer();

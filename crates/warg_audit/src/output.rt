@@ -47,7 +47,8 @@ impl<W: Write> Output<W> {
     pub fn write_all(&mut self, bytes: &[u8]) -> io::Result<()>
         ensures failures { self.new.failures ≡ (if is_err result then min (self.old.failures + 1)
             (2 ^ 64 - 1) else self.old.failures) }
-        ensures bytes { OnOk result (Appends (W.contents self.old.writer) (W.contents self.new.writer) bytes.now) }
+        ensures bytes { OnOk result (Appends (W.contents self.old.writer)
+            (W.contents self.new.writer) bytes.now) }
     {
         let failures = self.failures;
         let outcome = self.writer.write_all(bytes);

@@ -10,7 +10,8 @@ use warg_protocol::package::{LogState, Release, ReleaseState, ValidationError};
 
 // Appends what became of a release.
 fn append_state(state: &ReleaseState, text: &mut String) -> Result<(), AllocError>
-    ensures { OnOk result (string_bytes text.new ≡ string_bytes text.old ++ release_state_text state.now) }
+    ensures { OnOk result (string_bytes text.new ≡ string_bytes text.old ++
+        release_state_text state.now) }
 {
     match state {
         ReleaseState::Released { content } => {
@@ -24,7 +25,8 @@ fn append_state(state: &ReleaseState, text: &mut String) -> Result<(), AllocErro
 
 // Appends the line of one release.
 fn append_line(alloc: Global, release: &Release, text: &mut String) -> Result<(), AllocError>
-    ensures { OnOk result (string_bytes text.new ≡ string_bytes text.old ++ release_line (release_view release.now)) }
+    ensures { OnOk result (string_bytes text.new ≡ string_bytes text.old ++
+        release_line (release_view release.now)) }
 {
     let version = release.version.to_string(alloc)?;
     text.push_str(version.as_str())?;

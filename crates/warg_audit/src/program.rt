@@ -30,7 +30,8 @@ pub const OUT_OF_MEMORY: &str = "out of memory\n";
 
 // The answer to the text of a log of this type.
 fn log_type_reply(alloc: Global, log_type: LogType, text: Vec<u8>) -> Result<Reply, AllocError>
-    ensures { IfOk result (λ reply. IsLogTypeAnswer log_type (lines_of text.items) (printed_of reply)) }
+    ensures { IfOk result (λ reply. IsLogTypeAnswer log_type
+        (lines_of text.items) (printed_of reply)) }
 {
     match log_type {
         LogType::Package => log_reply::<package::LogState, ToyVerifier>(alloc, &ToyVerifier, text),
@@ -44,7 +45,8 @@ fn log_type_reply(alloc: Global, log_type: LogType, text: Vec<u8>) -> Result<Rep
 
 // The answer to an input of no more than the limit.
 fn command_reply(alloc: Global, command: Command, bytes: Vec<u8>) -> Result<Reply, AllocError>
-    ensures { IfOk result (λ reply. IsCommandAnswer command (lines_of bytes.items) (printed_of reply)) }
+    ensures { IfOk result (λ reply. IsCommandAnswer command
+        (lines_of bytes.items) (printed_of reply)) }
 {
     match command {
         Command::Id(log_type) => id_reply(alloc, log_type, bytes.as_slice()),
@@ -55,7 +57,8 @@ fn command_reply(alloc: Global, command: Command, bytes: Vec<u8>) -> Result<Repl
 /// What the program prints to the words, whole before anything is written. For words that
 /// ask for nothing, nothing is read and no memory is taken.
 pub fn make_reply<R: Read>(alloc: Global, words: &[String], input: &mut Input<R>) -> Reply
-    ensures reply { IsReply (map string_bytes words.now) (left R.remaining input.old) (ReadFailed input.old input.new)
+    ensures reply { IsReply (map string_bytes words.now) (left R.remaining input.old)
+        (ReadFailed input.old input.new)
         (printed_of result) }
     ensures other_words { command_of (map string_bytes words.now) ≡ None → (input.new ≡ input.old) ×
         (printed_of result ≡ usage) }
@@ -84,11 +87,13 @@ pub fn audit<R: Read, W: Write>(
     output: &mut Output<W>,
 ) -> u8
     // Any other status than 3 is that of the answer, which was written whole and alone.
-    ensures answered { result ≢ 3 → IsAnswered (map string_bytes words.now) (left R.remaining input.old)
+    ensures answered { result ≢ 3 →
+        IsAnswered (map string_bytes words.now) (left R.remaining input.old)
         (held W.contents output.old) (held W.contents output.new) result }
 
     // Status 3: a failed read or refused memory, with its line, or a failed write.
-    ensures trouble { result ≡ 3 → IsTrouble (held W.contents output.old) (held W.contents output.new)
+    ensures trouble { result ≡ 3 →
+        IsTrouble (held W.contents output.old) (held W.contents output.new)
         (ReadFailed input.old input.new) (WriteFailed output.old output.new) }
 
     // Where a read failed, its line is written, unless the write fails too.

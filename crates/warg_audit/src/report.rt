@@ -20,5 +20,6 @@ pub trait Report: Validator {
 
     /// Appends what is printed of a log after the first line. A refusal leaves some of it.
     fn append_lines(&self, alloc: Global, text: &mut String) -> Result<(), AllocError>
-        ensures { OnOk result (string_bytes text.new ≡ string_bytes text.old ++ lines_of self.now) };
+        ensures { OnOk result (string_bytes text.new ≡
+            string_bytes text.old ++ lines_of self.now) };
 }

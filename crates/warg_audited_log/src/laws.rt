@@ -29,23 +29,27 @@ pub fn equal_heads<L: Validator>()
 pub fn equal_contents<L: Validator>()
     ensures { (b d : SignatureRelation) (es fs : List EnvelopeData) → IsAccepted L.kind b es →
         IsAccepted L.kind d fs →
-        contents es ≡ contents fs → L.kind.head (L.kind.view_of es) ≡ L.kind.head (L.kind.view_of fs) }
+        contents es ≡ contents fs → L.kind.head (L.kind.view_of es) ≡
+        L.kind.head (L.kind.view_of fs) }
 {}
 
 /// An accepted log whose head is the id of a record of another has the contents of the other up to that
 /// record, or two of their records collide.
 pub fn fronts<L: Validator>()
-    ensures { (b d : SignatureRelation) (es fs : List EnvelopeData) (n : ℕ) → IsAccepted L.kind b es →
+    ensures { (b d : SignatureRelation) (es fs : List EnvelopeData) (n : ℕ) →
+        IsAccepted L.kind b es →
         IsAccepted L.kind d fs → n < length fs →
         L.kind.head (L.kind.view_of es) ≡ Some (L.kind.id (slice_index_or (contents fs) n [])) →
-        (contents es ≡ take (n + 1) (contents fs)) ⊎ HaveCollision L.kind.id (contents es) (contents fs) }
+        (contents es ≡ take (n + 1) (contents fs)) ⊎
+        HaveCollision L.kind.id (contents es) (contents fs) }
 {}
 
 /// Exactly one comparison holds of two accepted logs: some does, and two that hold are one.
 pub fn one_comparison<L: Validator>()
     ensures some { (b d : SignatureRelation) (es fs : List EnvelopeData) → IsAccepted L.kind b es →
         IsAccepted L.kind d fs →
-        ((c : Comparison) × IsComparison (L.kind.head (L.kind.view_of es)) (L.kind.head (L.kind.view_of fs))
+        ((c : Comparison) × IsComparison (L.kind.head (L.kind.view_of es))
+        (L.kind.head (L.kind.view_of fs))
         (contents es) (contents fs) c) }
     ensures only { (left right : Option RecordId) (ls rs : List (List ℕ)) (c e : Comparison) →
         IsComparison left right ls rs c → IsComparison left right ls rs e → c ≡ e }
@@ -60,7 +64,8 @@ pub fn extinction<L: Validator>()
 /// A key id holds a permission after entries exactly if the last of them that speaks of both gives it, and the
 /// entries of records are all of theirs, in one list.
 pub fn last_entry_decides<L: Validator>()
-    ensures held { (h : List (Entry L.Permission)) (k : List ℕ) (p : L.Permission) → (held_by false h k p ≡ true) ↔
+    ensures held { (h : List (Entry L.Permission)) (k : List ℕ) (p : L.Permission) →
+        (held_by false h k p ≡ true) ↔
         IsHeld h k p }
     ensures records { (es : List EnvelopeData) (k : List ℕ) (p : L.Permission) →
         held_by false (entries_of L.effects es) k p ≡ holds L.effects es k p }

@@ -29,7 +29,8 @@ pub(crate) fn hash_in(text: &[u8]) -> Result<AnyHash, Failure>
 /// The leaf of a record of a log, by the texts of their ids.
 pub(crate) fn leaf_in(log_id: &[u8], record_id: &[u8]) -> Result<LogLeaf, Failure>
     ensures ok { IfOk result (AreLeafTexts log_id.now record_id.now) }
-    ensures err { IfErr result (FailsAs ⊥ (IsNoText hash_of log_id.now ⊎ IsNoText hash_of record_id.now)) }
+    ensures err { IfErr result (FailsAs ⊥ (IsNoText hash_of log_id.now ⊎
+        IsNoText hash_of record_id.now)) }
 {
     let log = hash_in(log_id)?;
     let record = hash_in(record_id)?;

@@ -26,9 +26,12 @@ pub struct Asked {
 
 // The three parts of the bytes, if they are long enough.
 fn parts<'a>(bytes: &'a [u8], lengths: &Asked) -> Option<(&'a [u8], &'a [u8], &'a [u8])>
-    ensures { MatchOption result (length bytes.now < (lengths.now.key_len + lengths.now.message_len) + lengths.now.signature_len)
-        (λ p. ((lengths.now.key_len + lengths.now.message_len) + lengths.now.signature_len ≤ length bytes.now) × (p.0.now ≡ key_part lengths.now bytes.now)
-        × (p.1.now ≡ message_part lengths.now bytes.now) × (p.2.now ≡ signature_part lengths.now bytes.now)) }
+    ensures { MatchOption result (length bytes.now <
+        (lengths.now.key_len + lengths.now.message_len) + lengths.now.signature_len)
+        (λ p. ((lengths.now.key_len + lengths.now.message_len) + lengths.now.signature_len ≤
+        length bytes.now) × (p.0.now ≡ key_part lengths.now bytes.now)
+        × (p.1.now ≡ message_part lengths.now bytes.now) ×
+        (p.2.now ≡ signature_part lengths.now bytes.now)) }
 {
     let (key, rest) = bytes.split_at_checked(lengths.key_len)?;
     let (message, rest) = rest.split_at_checked(lengths.message_len)?;
@@ -39,7 +42,9 @@ fn parts<'a>(bytes: &'a [u8], lengths: &Asked) -> Option<(&'a [u8], &'a [u8], &'
 // The key that a text says.
 fn parse_key(alloc: Global, text: &[u8]) -> Result<PublicKey, Failure>
     ensures ok { IfOk result (λ key. IsUtf8 text.now × (public_key_of text.now ≡ Ok key)) }
-    ensures err { IfErr result (λ f. (f ≡ OutOfMemory) ⊎ ((f ≡ BadArgument) × ((key : NamedBytes) → IsUtf8 text.now → public_key_of text.now ≡ Ok key → ⊥))) }
+    ensures err { IfErr result (λ f. (f ≡ OutOfMemory) ⊎
+        ((f ≡ BadArgument) × ((key : NamedBytes) → IsUtf8 text.now →
+        public_key_of text.now ≡ Ok key → ⊥))) }
 {
     let Ok(text) = str::from_utf8(text) else {
         return Err(Failure::BadArgument);
@@ -53,8 +58,11 @@ fn parse_key(alloc: Global, text: &[u8]) -> Result<PublicKey, Failure>
 
 // The signature that a text says.
 fn parse_signature(alloc: Global, text: &[u8]) -> Result<Signature, Failure>
-    ensures ok { IfOk result (λ signature. IsUtf8 text.now × (signature_of text.now ≡ Ok signature)) }
-    ensures err { IfErr result (λ f. (f ≡ OutOfMemory) ⊎ ((f ≡ BadArgument) × ((signature : NamedBytes) → IsUtf8 text.now → signature_of text.now ≡ Ok signature → ⊥))) }
+    ensures ok { IfOk result (λ signature. IsUtf8 text.now ×
+        (signature_of text.now ≡ Ok signature)) }
+    ensures err { IfErr result (λ f. (f ≡ OutOfMemory) ⊎
+        ((f ≡ BadArgument) × ((signature : NamedBytes) → IsUtf8 text.now →
+        signature_of text.now ≡ Ok signature → ⊥))) }
 {
     let Ok(text) = str::from_utf8(text) else {
         return Err(Failure::BadArgument);
@@ -74,7 +82,8 @@ pub(crate) fn told(
     belongs: bool,
 ) -> Result<Told, Failure>
     ensures ok { IfOk result (λ t. Says lengths.now bytes.now t.question × (t.belongs ≡ belongs)) }
-    ensures err { IfErr result (λ f. (f ≡ OutOfMemory) ⊎ ((f ≡ BadArgument) × SaysNone lengths.now bytes.now)) }
+    ensures err { IfErr result (λ f. (f ≡ OutOfMemory) ⊎
+        ((f ≡ BadArgument) × SaysNone lengths.now bytes.now)) }
 {
     let Some((key, message, signature)) = parts(bytes, lengths) else {
         return Err(Failure::BadArgument);

@@ -15,7 +15,8 @@ use warg_validator::{Named, RunCause, Validator};
 
 // What kind of failure a cause is.
 fn failure_of<L: Validator>(cause: &RunCause<L::Error>) -> Failure
-    ensures failure { result ≡ failure_by (told (envelope_fault_of L.Record.fault_of) L.offence_of cause.now) }
+    ensures failure { result ≡ failure_by (told (envelope_fault_of L.Record.fault_of)
+        L.offence_of cause.now) }
     ensures other { result ≢ TooSmall }
 {
     match cause {
@@ -39,7 +40,8 @@ pub(crate) fn give_if_room(told: &str, text: &mut [u8], used: &mut usize)
 
 // The name, a colon, a space, and the error's sentence.
 fn sentence_of<E: fmt::Display>(alloc: Global, name: &str, error: &E) -> Result<String, AllocError>
-    ensures { IfOk result (λ told. (sentence : List ℕ) × (string_bytes told ≡ name.now ++ 58 ∷ 32 ∷ sentence)) }
+    ensures { IfOk result (λ told. (sentence : List ℕ) ×
+        (string_bytes told ≡ name.now ++ 58 ∷ 32 ∷ sentence)) }
 {
     let sentence = error.to_string(alloc)?;
     let mut told = String::from_str(alloc, name)?;
@@ -75,7 +77,8 @@ pub(crate) fn refuse<L: Validator>(
 ) -> Failure
 where
     L::Error: Named + fmt::Display,
-    ensures failure { result ≡ failure_by (told (envelope_fault_of L.Record.fault_of) L.offence_of cause.now) }
+    ensures failure { result ≡ failure_by (told (envelope_fault_of L.Record.fault_of)
+        L.offence_of cause.now) }
     ensures other { result ≢ TooSmall }
     ensures text { IsErrorText (cause_name L.Error.name_of cause.now) used.new text.new }
     ensures length { length text.new ≡ length text.old }

@@ -48,7 +48,8 @@ fn join(
     key_id: &[u8],
     state: &[u8],
 ) -> Result<Vec<u8>, AllocError>
-    ensures { IfOk result (λ v. v.items ≡ ((version.now ++ record_id.now) ++ key_id.now) ++ state.now) }
+    ensures { IfOk result (λ v. v.items ≡ ((version.now ++ record_id.now) ++ key_id.now) ++
+        state.now) }
 {
     let mut text = Vec::new(alloc);
     text.extend_from_slice(version)?;
@@ -65,9 +66,11 @@ fn shape(
     record_id_len: usize,
     state_len: usize,
 ) -> ShownRelease
-    ensures lengths { (result.version_len ≡ version_len) × (result.record_id_len ≡ record_id_len) × (result.state_len ≡ state_len) }
+    ensures lengths { (result.version_len ≡ version_len) × (result.record_id_len ≡ record_id_len) ×
+        (result.state_len ≡ state_len) }
     ensures key_id { result.key_id_len ≡ length release.now.by }
-    ensures times { (result.seconds ≡ release.now.timestamp.seconds) × (result.nanos ≡ release.now.timestamp.nanos) }
+    ensures times { (result.seconds ≡ release.now.timestamp.seconds) ×
+        (result.nanos ≡ release.now.timestamp.nanos) }
     ensures yank { IsYank release.now.state result }
 {
     let (is_yanked, yanked_seconds, yanked_nanos) = match &release.state {

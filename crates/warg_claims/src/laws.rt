@@ -15,7 +15,8 @@ use warg_validator::Validator;
 pub fn claims_decide<L: Hosted>()
     ensures { (strings : List (List ℕ)) (claims : List ClaimData) →
         AreClaims L.kind (envelope_of L.Record.read) strings claims → (b : SignatureRelation) →
-        HasNoOffence L.kind b (envelope_of L.Record.read) L.kind.view_of strings ↔ HoldsOf b claims }
+        HasNoOffence L.kind b (envelope_of L.Record.read) L.kind.view_of strings ↔
+        HoldsOf b claims }
 {}
 
 /// A record that is refused whatever its signature is the first offence under each relation that holds of the claims
@@ -26,7 +27,8 @@ pub fn refusal_comes_first<L: Hosted>()
         AreClaims L.kind (envelope_of L.Record.read) (take (length claims) strings) claims →
         IsRefusedAnyway L.kind (envelope_of L.Record.read) strings (length claims) why →
         (b : SignatureRelation) → HoldsOf b claims →
-        IsFirstOffence L.kind b (envelope_of L.Record.read) L.kind.view_of strings (length claims) why }
+        IsFirstOffence L.kind b (envelope_of L.Record.read) L.kind.view_of
+        strings (length claims) why }
 {}
 
 /// A host that hands back just those claims of a log that hold under a relation, or these and others that hold, has the
@@ -35,17 +37,22 @@ pub fn verified_as_held<L: Hosted>()
     ensures { (strings : List (List ℕ)) (claims held : List ClaimData) (b : SignatureRelation) →
         AreClaims L.kind (envelope_of L.Record.read) strings claims →
         ((c : ClaimData) → Contains held c → b c.key c.message c.signature ≡ true) →
-        ((c : ClaimData) → Contains claims c → b c.key c.message c.signature ≡ true → Contains held c) →
+        ((c : ClaimData) → Contains claims c → b c.key c.message c.signature ≡
+        true → Contains held c) →
         HasNoOffence L.kind (is_claimed held) (envelope_of L.Record.read) L.kind.view_of strings ↔
         HasNoOffence L.kind b (envelope_of L.Record.read) L.kind.view_of strings }
 {}
 
 /// More claims keep every accepted log accepted, and states that stand for it equal.
 pub fn more_claims<L: Validator>()
-    ensures accepted { (few many : List ClaimData) → ((c : ClaimData) → Contains few c → Contains many c) →
-        (es : List EnvelopeData) → IsAccepted L.kind (is_claimed few) es → IsAccepted L.kind (is_claimed many) es }
-    ensures strings { (few many : List ClaimData) → ((c : ClaimData) → Contains few c → Contains many c) →
-        (ss : List (List ℕ)) → HasNoOffence L.kind (is_claimed few) (envelope_of L.Record.read) L.kind.view_of ss →
+    ensures accepted { (few many : List ClaimData) →
+        ((c : ClaimData) → Contains few c → Contains many c) →
+        (es : List EnvelopeData) → IsAccepted L.kind (is_claimed few) es →
+        IsAccepted L.kind (is_claimed many) es }
+    ensures strings { (few many : List ClaimData) →
+        ((c : ClaimData) → Contains few c → Contains many c) →
+        (ss : List (List ℕ)) → HasNoOffence L.kind (is_claimed few)
+        (envelope_of L.Record.read) L.kind.view_of ss →
         HasNoOffence L.kind (is_claimed many) (envelope_of L.Record.read) L.kind.view_of ss }
     ensures states { (es : List EnvelopeData) (s t : L) → StandsFor L.kind L.view s es →
         StandsFor L.kind L.view t es → L.eq s t ≡ true }

@@ -28,8 +28,10 @@ fn take_next<L: Hosted>(
     state: &mut L,
     bytes: &[u8],
 ) -> Result<Claim, RunCause<L::Error>>
-    ensures claim { IfOk result (AsksClaim L.kind (L.view state.old) (envelope_of L.Record.read bytes.now)) }
-    ensures taken { OnOk result (IsTaken L.kind L.view state.old (envelope_of L.Record.read bytes.now) state.new) }
+    ensures claim { IfOk result (AsksClaim L.kind (L.view state.old)
+        (envelope_of L.Record.read bytes.now)) }
+    ensures taken { OnOk result (IsTaken L.kind L.view state.old
+        (envelope_of L.Record.read bytes.now) state.new) }
     ensures refused { IfErr result (λ c. RefusesAnyway L.kind (envelope_of L.Record.read)
         (told (envelope_fault_of L.Record.fault_of) L.offence_of) (L.view state.old) bytes.now c) }
 {
@@ -66,7 +68,8 @@ fn out_of_memory<E>(claims: Vec<Claim>) -> LogClaims<E>
 pub fn claims<L: Hosted>(alloc: Global, log: &[Vec<u8>]) -> LogClaims<L::Error>
     ensures claims { AreClaims L.kind (envelope_of L.Record.read)
         (take (length result.claims.items) (map vec_items log.now)) result.claims.items }
-    ensures end { EndsAt L.kind (envelope_of L.Record.read) (told (envelope_fault_of L.Record.fault_of) L.offence_of)
+    ensures end { EndsAt L.kind (envelope_of L.Record.read)
+        (told (envelope_fault_of L.Record.fault_of) L.offence_of)
         (map vec_items log.now) (length result.claims.items) result.refusal }
 {
     let mut claims = Vec::new(alloc);

@@ -171,7 +171,8 @@ impl fmt::Debug for AnyHash {
     ghost debug_output = { λ h. Some (hash_text h) };
 
     fn fmt<W: fmt::Write>(&self, f: &mut fmt::Formatter<W>) -> fmt::Result
-        ensures styled { WritesStyledOnOk W.write_str_gives f.old result (hash_text self.now) f.new }
+        ensures styled { WritesStyledOnOk W.write_str_gives f.old result
+            (hash_text self.now) f.new }
     {
         fmt::Display::fmt(self, f)
     }

@@ -40,7 +40,8 @@ pub fn hash_reads_back()
 
 /// What is written of a key reads back.
 pub fn public_key_reads_back()
-    ensures { (key : NamedBytes) → IsName key.name → IsBytes key.bytes → public_key_of (tag_text key) ≡ Ok key }
+    ensures { (key : NamedBytes) → IsName key.name → IsBytes key.bytes →
+        public_key_of (tag_text key) ≡ Ok key }
 {}
 
 /// What is written of a signature reads back.
@@ -56,7 +57,8 @@ pub fn hash_text_grammar()
 
 /// A text says a key exactly if it is the key's name, a colon, and base64 of the key's bytes.
 pub fn public_key_text_grammar()
-    ensures { (text : List ℕ) (key : NamedBytes) → (public_key_of text ≡ Ok key) ↔ IsKeyText text key }
+    ensures { (text : List ℕ) (key : NamedBytes) →
+        (public_key_of text ≡ Ok key) ↔ IsKeyText text key }
 {}
 
 /// A text says a signature exactly if it is the signature's name, a colon, and base64 of its
@@ -102,7 +104,8 @@ pub fn unsigned_is_shortest()
 /// What begins with the bytes of a number begins with those of no other, so none are a proper
 /// beginning of others.
 pub fn unsigned_is_no_beginning()
-    ensures { (v w : ℕ) (r s : List ℕ) → unsigned_of v ++ r ≡ unsigned_of w ++ s → (v ≡ w) × (r ≡ s) }
+    ensures { (v w : ℕ) (r s : List ℕ) → unsigned_of v ++ r ≡ unsigned_of w ++ s → (v ≡ w) ×
+        (r ≡ s) }
 {}
 
 /// The same for texts behind their lengths.

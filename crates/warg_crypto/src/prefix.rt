@@ -45,7 +45,8 @@ impl<'a, BV: ByteVisitor> PrefixEncodeVisitor<'a, BV> {
         ensures same { self.new.visitor.ghost_name ≡ self.old.visitor.ghost_name }
         ensures ok { (m : List ℕ) → BV.seen self.old.visitor.now m →
             OnOk result (BV.seen self.new.visitor.now (m ++ text.now)) }
-        ensures err { OnErr result (Stops BV.seen BV.refuses self.old.visitor.now self.new.visitor.now text.now) }
+        ensures err { OnErr result (Stops BV.seen BV.refuses self.old.visitor.now
+            self.new.visitor.now text.now) }
     {
         self.visitor.visit_bytes(text.as_bytes())
     }
@@ -55,7 +56,8 @@ impl<'a, BV: ByteVisitor> PrefixEncodeVisitor<'a, BV> {
         ensures same { self.new.visitor.ghost_name ≡ self.old.visitor.ghost_name }
         ensures ok { (m : List ℕ) → BV.seen self.old.visitor.now m →
             OnOk result (BV.seen self.new.visitor.now (m ++ unsigned_of number)) }
-        ensures err { OnErr result (Stops BV.seen BV.refuses self.old.visitor.now self.new.visitor.now
+        ensures err { OnErr result (Stops BV.seen BV.refuses
+            self.old.visitor.now self.new.visitor.now
             (unsigned_of number)) }
     {
         let mut buffer = [0u8; 10];
@@ -68,7 +70,8 @@ impl<'a, BV: ByteVisitor> PrefixEncodeVisitor<'a, BV> {
         ensures same { self.new.visitor.ghost_name ≡ self.old.visitor.ghost_name }
         ensures ok { (m : List ℕ) → BV.seen self.old.visitor.now m →
             OnOk result (BV.seen self.new.visitor.now (m ++ str_of text.now)) }
-        ensures err { OnErr result (Stops BV.seen BV.refuses self.old.visitor.now self.new.visitor.now
+        ensures err { OnErr result (Stops BV.seen BV.refuses
+            self.old.visitor.now self.new.visitor.now
             (str_of text.now)) }
     {
         self.visit_unsigned(text.len() as u64)?;
@@ -105,14 +108,16 @@ pub trait VisitPrefixEncode {
         ensures same { visitor.new.visitor.ghost_name ≡ visitor.old.visitor.ghost_name }
         ensures ok { (m : List ℕ) → BV.seen visitor.old.visitor.now m →
             OnOk result (BV.seen visitor.new.visitor.now (m ++ prefix_encoding_of self.now)) }
-        ensures err { OnErr result (Stops BV.seen BV.refuses visitor.old.visitor.now visitor.new.visitor.now
+        ensures err { OnErr result (Stops BV.seen BV.refuses visitor.old.visitor.now
+            visitor.new.visitor.now
             (prefix_encoding_of self.now)) };
 
     /// The same for a plain visitor of bytes.
     fn visit_bv<BV: ByteVisitor>(&self, visitor: &mut BV) -> Result<(), AllocError>
         ensures ok { (m : List ℕ) → BV.seen visitor.old m →
             OnOk result (BV.seen visitor.new (m ++ prefix_encoding_of self.now)) }
-        ensures err { OnErr result (Stops BV.seen BV.refuses visitor.old visitor.new (prefix_encoding_of self.now)) }
+        ensures err { OnErr result (Stops BV.seen BV.refuses visitor.old visitor.new
+            (prefix_encoding_of self.now)) }
     {
         let mut encoder = PrefixEncodeVisitor::new(visitor);
         self.visit_pe(&mut encoder)

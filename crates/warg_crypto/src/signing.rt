@@ -66,7 +66,8 @@ pub trait Verifier {
         signature: &Signature,
     ) -> Result<(), SignatureError>
         ensures ok { IfOk result (λ _. belongs self.now key.now message.now signature.now ≡ true) }
-        ensures refused { result ≡ Err Refused → belongs self.now key.now message.now signature.now ≡ false };
+        ensures refused { result ≡ Err Refused →
+            belongs self.now key.now message.now signature.now ≡ false };
 }
 
 /// Signs messages by one key.
@@ -151,7 +152,8 @@ pub trait Signable: Encode {
 
     /// The signer's signature of the value.
     fn sign<S: Signer>(&self, alloc: Global, signer: &S) -> Result<Signature, SignatureError>
-        ensures ok { IfOk result (λ s. S.gives signer.now (signed_message signed_prefix (Self.encoding self.now)) s) }
+        ensures ok { IfOk result (λ s. S.gives signer.now
+            (signed_message signed_prefix (Self.encoding self.now)) s) }
         ensures refused { result ≡ Err Refused → S.refuses signer.now
             (signed_message signed_prefix (Self.encoding self.now)) }
     {

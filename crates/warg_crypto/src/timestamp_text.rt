@@ -43,7 +43,8 @@ impl Timestamp {
 
 // The time of the texts on both sides of the dot.
 fn sides_time(left: &str, right: &str) -> Result<Timestamp, JsonError>
-    ensures { Returns (λ t. t) result (time_sides (number_of (2 ^ 64) left.now) (number_of (2 ^ 32) right.now)) }
+    ensures { Returns (λ t. t) result
+        (time_sides (number_of (2 ^ 64) left.now) (number_of (2 ^ 32) right.now)) }
 {
     let Ok(seconds) = left.parse::<u64>() else {
         return Err(JsonError::BadText);

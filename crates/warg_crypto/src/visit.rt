@@ -59,8 +59,10 @@ pub trait VisitBytes {
     /// Appends the bytes of the value to what the visitor saw. Where the visitor refuses a piece,
     /// it has seen a beginning of them.
     fn visit<V: ByteVisitor>(&self, visitor: &mut V) -> Result<(), AllocError>
-        ensures ok { (m : List ℕ) → V.seen visitor.old m → OnOk result (V.seen visitor.new (m ++ bytes_of self.now)) }
-        ensures err { OnErr result (Stops V.seen V.refuses visitor.old visitor.new (bytes_of self.now)) };
+        ensures ok { (m : List ℕ) → V.seen visitor.old m →
+            OnOk result (V.seen visitor.new (m ++ bytes_of self.now)) }
+        ensures err { OnErr result (Stops V.seen V.refuses visitor.old visitor.new
+            (bytes_of self.now)) };
 }
 
 impl ByteVisitor for Vec<u8> {

@@ -95,7 +95,8 @@ fn sign_by<S: Signer>(
 }
 
 fn visit_by<V: ByteVisitor, T: VisitBytes>(visitor: &mut V, value: &T) -> Result<(), AllocError>
-    ensures { (m : List ℕ) → V.seen visitor.old m → OnOk result (V.seen visitor.new (m ++ T.bytes_of value.now)) }
+    ensures { (m : List ℕ) → V.seen visitor.old m →
+        OnOk result (V.seen visitor.new (m ++ T.bytes_of value.now)) }
 {
     value.visit(visitor)
 }

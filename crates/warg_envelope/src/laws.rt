@@ -19,7 +19,8 @@ use warg_protobuf::laws::decoding_computes;
 
 /// The text of an envelope's signature reads back as the signature.
 pub fn signature_reads_back<C>(envelope: &ProtoEnvelope<C>)
-    ensures { signature_of (tag_text envelope.now.envelope.signature) ≡ Ok envelope.now.envelope.signature }
+    ensures { signature_of (tag_text envelope.now.envelope.signature) ≡
+        Ok envelope.now.envelope.signature }
 {
     let signature = envelope.signature();
     let _algorithm = signature.algorithm();

@@ -48,7 +48,8 @@ pub trait Record: Decode + Drop {
 
     /// The hashes that the record mentions as its content, each once, by first mention.
     fn contents(&self, alloc: Global) -> Result<IndexSet<AnyHash>, AllocError>
-        ensures { IfOk result (λ s. s.keys ≡ distinct ⟦<AnyHash as PartialEq>⟧.eq (mentions (meaning self.now))) };
+        ensures { IfOk result (λ s. s.keys ≡
+            distinct ⟦<AnyHash as PartialEq>⟧.eq (mentions (meaning self.now))) };
 
     /// A copy.
     fn try_clone(&self) -> Result<Self, AllocError>

@@ -77,8 +77,10 @@ impl<C> ProtoEnvelope<C> {
 impl<C> ProtoEnvelope<C> {
     /// The bytes of the envelope, with the content bytes as they came.
     pub fn to_protobuf(&self, alloc: Global) -> Result<Vec<u8>, AllocError>
-        ensures spelled { IfOk result (λ v. v.items ≡ envelope_bytes (envelope_message self.now.envelope)) }
-        ensures read_again { IfOk result (λ v. IsEnvelope v.items (envelope_message self.now.envelope)) }
+        ensures spelled { IfOk result (λ v. v.items ≡
+            envelope_bytes (envelope_message self.now.envelope)) }
+        ensures read_again { IfOk result
+            (λ v. IsEnvelope v.items (envelope_message self.now.envelope)) }
     {
         let envelope = Envelope {
             contents: self.content_bytes.clone()?,
@@ -169,7 +171,8 @@ impl<C: Signable + Drop> ProtoEnvelope<C> {
     ) -> Result<ProtoEnvelope<C>, SignatureError>
         ensures contents { IfOk result (λ e. e.contents ≡ contents) }
         ensures content { IfOk result (λ e. e.envelope.content ≡ C.encoding contents) }
-        ensures key_id { IfOk result (λ e. e.envelope.key_id ≡ fingerprint_of (S.key_of signer.now)) }
+        ensures key_id { IfOk result (λ e. e.envelope.key_id ≡
+            fingerprint_of (S.key_of signer.now)) }
         ensures signature { IfOk result (λ e. S.gives signer.now
             (signed_message C.signed_prefix (C.encoding contents)) e.envelope.signature) }
         ensures refused { result ≡ Err Refused → S.refuses signer.now

@@ -13,9 +13,11 @@ pub trait Hosted: Validator {
     /// What is to be verified of a record that may come next, or what is wrong with it, whatever its signature.
     fn ask(&self, envelope: &ProtoEnvelope<Self::Record>) -> Result<Question, Self::Error>
         ensures asks { IsHonest Self.Record.read Self.Record.meaning envelope.now →
-            IfOk result (λ q. AsksOf Self.Validator.kind (Self.Validator.view self.now) envelope.now.envelope q) }
+            IfOk result (λ q. AsksOf Self.Validator.kind (Self.Validator.view self.now)
+            envelope.now.envelope q) }
         ensures refused { IsHonest Self.Record.read Self.Record.meaning envelope.now →
-            IfErr result (λ e. RefusesAlways Self.Validator.kind (Self.Validator.view self.now) envelope.now.envelope
+            IfErr result (λ e. RefusesAlways Self.Validator.kind
+            (Self.Validator.view self.now) envelope.now.envelope
             (Self.Validator.offence_of e)) };
 
     // A record that may come asks for one signature.

@@ -15,7 +15,8 @@ pub fn accepted_as_asked<L: Hosted>()
 
 /// Where an answer makes a record lawful, the host said yes to just what the record asks.
 pub fn answers_what_is_asked<L: Hosted>()
-    ensures { (t : Told) (v : L.View) (e : EnvelopeData) → L.kind.offence (told_belongs t) v e ≡ None →
+    ensures { (t : Told) (v : L.View) (e : EnvelopeData) →
+        L.kind.offence (told_belongs t) v e ≡ None →
         Answers L.kind v e t }
 {}
 

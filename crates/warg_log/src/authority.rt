@@ -48,7 +48,8 @@ impl<P: LogPermission> Authority<P> {
     /// Before any entry; over another, no change.
     pub fn new(alloc: Global) -> Authority<P>
         ensures start { access_view P.eq result ≡ nothing }
-        ensures no_change { (c : AuthorityData P) → access_view_over P.eq c result ≡ access_view P.eq c }
+        ensures no_change { (c : AuthorityData P) →
+            access_view_over P.eq c result ≡ access_view P.eq c }
     {
         Authority {
             alloc,
@@ -124,7 +125,8 @@ impl<P: LogPermission> Authority<P> {
         own_state: &mut M,
         change: M::Change,
     ) -> Result<(), AllocError>
-        ensures made { OnOk result (access_view P.eq self.new ≡ access_view_over P.eq self.old changes) }
+        ensures made { OnOk result (access_view P.eq self.new ≡
+            access_view_over P.eq self.old changes) }
         ensures own_state { OnOk result (M.view own_state.new ≡ M.changed own_state.old change) }
         ensures unchanged { OnErr result (self.new ≡ self.old) }
         ensures own_state_unchanged { OnErr result (own_state.new ≡ own_state.old) }

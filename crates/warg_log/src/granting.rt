@@ -51,7 +51,8 @@ impl<P: LogPermission> Authority<P> {
         permission: P,
     ) -> bool
         requires { option_copied before ≡ rights_at self.now key_id.now }
-        ensures { result ≡ (access_view_over P.eq self.now changes.now).holds key_id.now permission }
+        ensures { result ≡ (access_view_over P.eq self.now changes.now).holds
+            key_id.now permission }
     {
         rights::is_among(self.rights_with(changes, key_id, before), permission)
     }
@@ -62,7 +63,8 @@ impl<P: LogPermission> Authority<P> {
         changes: &'a Authority<P>,
         key_id: &KeyID,
     ) -> Option<&'a PublicKey>
-        ensures { option_copied result ≡ (access_view_over P.eq self.now changes.now).key key_id.now }
+        ensures { option_copied result ≡
+            (access_view_over P.eq self.now changes.now).key key_id.now }
     {
         rights::look(self.keys.get(key_id), &changes.keys, key_id)
     }
@@ -108,7 +110,8 @@ impl<P: LogPermission> Authority<P> {
 
     /// Refuses where no Init stands.
     pub fn check_begun(&self, changes: &Authority<P>) -> Result<(), Refusal<P>>
-        ensures { ReturnsOffence offence_of (not_begun (access_view_over P.eq self.now changes.now)) result }
+        ensures { ReturnsOffence offence_of (not_begun (access_view_over P.eq self.now changes.now))
+            result }
     {
         if self.is_begun(changes) {
             Ok(())
@@ -193,7 +196,8 @@ impl<P: LogPermission> Authority<P> {
         key: &PublicKey,
         permissions: &[P],
     ) -> Result<(), Refusal<P>>
-        ensures { ReturnsOffence offence_of (empty_grant version (fingerprint_of key.now) permissions.now) result }
+        ensures { ReturnsOffence offence_of
+            (empty_grant version (fingerprint_of key.now) permissions.now) result }
     {
         if version != 0 && permissions.is_empty() {
             return Err(Refusal::EmptyGrant {
@@ -215,7 +219,8 @@ impl<P: LogPermission> Authority<P> {
     ) -> Result<(), Refusal<P>>
         requires { option_copied before ≡ rights_at self.now signer.now }
         ensures judges { ReturnsOffence offence_of (grant_offence version
-            (access_view_over P.eq self.now changes.old) signer.now key.now permissions.now) result }
+            (access_view_over P.eq self.now changes.old) signer.now key.now permissions.now)
+            result }
         ensures after { OnOk result (access_view_over P.eq self.now changes.new ≡ after P.eq
             (access_view_over P.eq self.now changes.old)
             (record { signer = signer.now; entry = GrantFlat key.now permissions.now } ∷ [])) }
@@ -250,7 +255,8 @@ impl<P: LogPermission> Authority<P> {
     ) -> Result<(), Refusal<P>>
         requires { option_copied before ≡ rights_at self.now signer.now }
         ensures judges { ReturnsOffence offence_of (revoke_offence P.eq
-            (access_view_over P.eq self.now changes.old) signer.now key_id.now permissions.now) result }
+            (access_view_over P.eq self.now changes.old) signer.now key_id.now permissions.now)
+            result }
         ensures after { OnOk result (access_view_over P.eq self.now changes.new ≡ after P.eq
             (access_view_over P.eq self.now changes.old)
             (record { signer = signer.now; entry = RevokeFlat key_id.now permissions.now } ∷ [])) }

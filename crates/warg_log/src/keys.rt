@@ -52,7 +52,8 @@ fn set_of<'a, P: LogPermission>(
     rights: &'a IndexMap<KeyID, PermissionSet<P>>,
     id: &KeyID,
 ) -> Option<&'a IndexSet<P>>
-    ensures { option_map (λ set. set.now.keys) result ≡ lookup (bytes_eq id.now) rights.now.entries }
+    ensures { option_map (λ set. set.now.keys) result ≡
+        lookup (bytes_eq id.now) rights.now.entries }
 {
     Some(rights.get(id)?.as_set())
 }

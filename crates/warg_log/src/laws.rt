@@ -40,8 +40,10 @@ pub fn gives_what_is_held<M: LogKind>()
 
 /// Logs are equal exactly if their views are equivalent.
 pub fn equal_logs_are_equivalent<M: LogKind>()
-    ensures { (s t : State (AuthorityData M.Permission) M) → (same_states M.Permission.eq M.eq s t ≡ true) ↔
-        IsEquivalent M.equivalent (view_of_state M.Permission.eq M.view s) (view_of_state M.Permission.eq M.view t) }
+    ensures { (s t : State (AuthorityData M.Permission) M) →
+        (same_states M.Permission.eq M.eq s t ≡ true) ↔
+        IsEquivalent M.equivalent (view_of_state M.Permission.eq M.view s)
+        (view_of_state M.Permission.eq M.view t) }
 {}
 
 /// `==` of two heads is true exactly where they are identical.
@@ -57,13 +59,15 @@ pub fn refusals_tell_apart<P>()
 /// What is wrong with a record is never out of memory within another error, nor a second algorithm,
 /// nor that its bytes are no record: the record is held.
 pub fn offences_are_possible<M: LogKind>()
-    ensures { (belongs : SignatureRelation) (v : View M.Permission M.View) (e : SignedRecord M.Permission M.Own) →
+    ensures { (belongs : SignatureRelation) (v : View M.Permission M.View)
+        (e : SignedRecord M.Permission M.Own) →
         IfSome (record_offence M.rules M.Permission.eq belongs v e) IsPossible }
 {}
 
 /// What the entries of records do to permissions, one after another, is what the view of those records holds.
 pub fn effects_are_what_is_held<M: LogKind>()
-    ensures { (read : List ℕ → Result (RecordData M.Permission M.Own) RecordFault) (es : List EnvelopeData)
+    ensures { (read : List ℕ → Result (RecordData M.Permission M.Own) RecordFault)
+        (es : List EnvelopeData)
         (k : List ℕ)
         (p : M.Permission) → effects.holds (effects_of M.rules M.Permission.eq read) es k p ≡
         (view_after (kind_of M.rules M.Permission.eq read (M.rules.after M.rules.start))
@@ -80,7 +84,8 @@ pub fn last_entry_decides<M: LogKind>()
 /// key that lists it.
 pub fn gifts<M: LogKind>()
     ensures { (signer k : List ℕ) (p : M.Permission) (r : EntryData M.Permission M.Own) →
-        (effect_of (entry_on M.Permission.eq k p signer r) ≡ Gives) ↔ IsGift M.Permission.eq k p signer r }
+        (effect_of (entry_on M.Permission.eq k p signer r) ≡ Gives) ↔
+        IsGift M.Permission.eq k p signer r }
 {}
 
 /// The contents of an accepted log are records. Where it has any, their times never fall, the first
@@ -88,11 +93,14 @@ pub fn gifts<M: LogKind>()
 /// key: whatever content bytes are read as, and whatever the kind says of its own entries.
 pub fn form<M: LogKind>()
     ensures records { (read : List ℕ → Result (RecordData M.Permission M.Own) RecordFault)
-        (own_state : List (Event M.Own) → M.View) → KindLaws (kind_of M.rules M.Permission.eq read own_state) →
+        (own_state : List (Event M.Own) → M.View) →
+        KindLaws (kind_of M.rules M.Permission.eq read own_state) →
         (b : SignatureRelation) (es : List EnvelopeData) →
-        IsAccepted (kind_of M.rules M.Permission.eq read own_state) b es → All (λ e. IsOk (read e.content)) es }
+        IsAccepted (kind_of M.rules M.Permission.eq read own_state) b es →
+        All (λ e. IsOk (read e.content)) es }
     ensures form { (read : List ℕ → Result (RecordData M.Permission M.Own) RecordFault)
-        (own_state : List (Event M.Own) → M.View) → KindLaws (kind_of M.rules M.Permission.eq read own_state) →
+        (own_state : List (Event M.Own) → M.View) →
+        KindLaws (kind_of M.rules M.Permission.eq read own_state) →
         (b : SignatureRelation) (es : List EnvelopeData) → 0 < length es →
         IsAccepted (kind_of M.rules M.Permission.eq read own_state) b es →
         HasForm M.rules.id_of (map (opened M.rules M.Permission.eq read) es) }
@@ -103,8 +111,10 @@ pub fn form<M: LogKind>()
 /// signer's id. That is so in each kind that asks the signer of an Init of version 1 to own its key,
 /// whatever content bytes are read as.
 pub fn no_key_brings_itself_in<M: LogKind>()
-    ensures { M.rules.by_own_key 1 ≡ true → (read : List ℕ → Result (RecordData M.Permission M.Own) RecordFault)
-        (own_state : List (Event M.Own) → M.View) → KindLaws (kind_of M.rules M.Permission.eq read own_state) →
+    ensures { M.rules.by_own_key 1 ≡ true →
+        (read : List ℕ → Result (RecordData M.Permission M.Own) RecordFault)
+        (own_state : List (Event M.Own) → M.View) →
+        KindLaws (kind_of M.rules M.Permission.eq read own_state) →
         (b : SignatureRelation) (es : List EnvelopeData) →
         IsAccepted (kind_of M.rules M.Permission.eq read own_state) b es →
         All (λ r. r.contents.version ≡ 1) (map (opened M.rules M.Permission.eq read) es) →

@@ -16,7 +16,8 @@ pub fn put_all<K: Eq + Hash + Drop, V: Drop>(
     map: &mut IndexMap<K, V>,
     mut changes: IndexMap<K, V>,
 ) -> Result<(), AllocError>
-    ensures entries { OnOk result (map.new.entries ≡ insert_all K.eq map.old.entries changes.entries) }
+    ensures entries { OnOk result (map.new.entries ≡
+        insert_all K.eq map.old.entries changes.entries) }
     ensures unchanged { OnErr result (map.new.entries ≡ map.old.entries) }
 {
     // The contract of `len` says that no two keys are equal.
@@ -54,7 +55,8 @@ fn keep_others<V: Drop>(map: &mut IndexMap<KeyID, V>, changes: &IndexMap<KeyID, 
 {
     map.retain(
         |key: &KeyID, value: &mut V| -> bool
-            ensures { (result ≡ not (is_some (get bytes_eq changes.entry.now key.now))) × (value.new ≡ value.old) }
+            ensures { (result ≡ not (is_some (get bytes_eq changes.entry.now key.now))) ×
+                (value.new ≡ value.old) }
         { !changes.contains_key(key) },
     );
 }

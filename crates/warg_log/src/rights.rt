@@ -59,7 +59,8 @@ pub(crate) fn put<X: Drop>(
     key_id: KeyID,
     value: X,
 ) -> Result<(), AllocError>
-    ensures { OnOk result ((base : List (List ℕ × X)) (k : List ℕ) → layered base changes.new.entries k
+    ensures { OnOk result ((base : List (List ℕ × X)) (k : List ℕ) →
+        layered base changes.new.entries k
         ≡ (if bytes_eq key_id k then Some value else layered base changes.old.entries k)) }
 {
     changes.insert(key_id, value)?;
@@ -131,7 +132,8 @@ pub(crate) fn give<P: LogPermission>(
     permissions: &[P],
 ) -> Result<(), AllocError>
     ensures holds { OnOk result ((k : List ℕ) (p : P) → held_over P.eq base.now changes.new k p
-        ≡ (if bytes_eq key_id k && lists P.eq permissions.now p then true else held_over P.eq base.now changes.old k p)) }
+        ≡ (if bytes_eq key_id k && lists P.eq permissions.now p then true else held_over P.eq
+        base.now changes.old k p)) }
     ensures entries { OnOk result ((k : List ℕ) → has_entry_over base.now changes.new k ≡
         (has_entry_over base.now changes.old k || bytes_eq key_id k)) }
 {
@@ -193,9 +195,11 @@ pub(crate) fn take_all<P: LogPermission>(
         (held_over P.eq base.now changes.old key_id.now) [] permissions.now) }
     ensures holds { IfOk result (λ missing. IfNone missing
         ((k : List ℕ) (p : P) → held_over P.eq base.now changes.new k p
-        ≡ (if bytes_eq key_id.now k && lists P.eq permissions.now p then false else held_over P.eq base.now changes.old k p))) }
+        ≡ (if bytes_eq key_id.now k && lists P.eq permissions.now p then false else held_over P.eq
+        base.now changes.old k p))) }
     ensures entries { IfOk result (λ missing. IfNone missing
-        ((k : List ℕ) → has_entry_over base.now changes.new k ≡ has_entry_over base.now changes.old k)) }
+        ((k : List ℕ) → has_entry_over base.now changes.new k ≡
+        has_entry_over base.now changes.old k)) }
 {
     if permissions.is_empty() {
         return Ok(None);

@@ -196,7 +196,8 @@ pub fn runs()
         IsAccepted kind b (es ++ e ∷ []) ↔
         (IsAccepted kind b es × (kind.offence b (kind.view_of es) e ≡ None)) }
     ensures determined { (b d : SignatureRelation) (es fs : List EnvelopeData) →
-        IsAccepted kind b es → IsAccepted kind d fs → map (λ e. e.content) es ≡ map (λ e. e.content) fs →
+        IsAccepted kind b es → IsAccepted kind d fs → map (λ e. e.content) es ≡
+        map (λ e. e.content) fs →
         map (λ e. e.key_id) es ≡ map (λ e. e.key_id) fs → kind.view_of es ≡ kind.view_of fs }
 {
     runs::one_more::<LogState>();

@@ -14,7 +14,8 @@ pub(crate) fn sealed<C: Signable + Drop>(
     name: &str,
     contents: C,
 ) -> Result<Vec<u8>, MakeError>
-    ensures { IfOk result (λ bytes. IsSealed name.now C.signed_prefix (C.encoding contents) bytes.items) }
+    ensures { IfOk result (λ bytes. IsSealed name.now C.signed_prefix
+        (C.encoding contents) bytes.items) }
 {
     let signer = ToySigner::new(alloc, name.as_bytes())?;
     Ok(ProtoEnvelope::signed_contents(alloc, &signer, contents)?.to_protobuf(alloc)?)

@@ -22,7 +22,8 @@ pub(crate) fn is_same_hash(left: &[u8; 32], right: &[u8; 32]) -> bool
 pub(crate) fn bits_of(path: &[[u8; 32]]) -> [u8; 32]
     requires { length path.now ≡ 256 }
     ensures { (height : ℕ) → height < 256 →
-        IsTrue (is_left_out result height) ↔ (slice_index_or path.now height [] ≡ empty_root sha256 height) }
+        IsTrue (is_left_out result height) ↔
+        (slice_index_or path.now height [] ≡ empty_root sha256 height) }
 {
     let mut bits = [0u8; 32];
     let mut empty = Sha256::digest(b"");

@@ -13,5 +13,6 @@ pub fn short_forms()
     ensures one_form { (path : List (List ℕ)) (bytes : List ℕ) (other : List ℕ) →
         ((i : ℕ) → slice_index bytes i < 256) → ((i : ℕ) → slice_index other i < 256) →
         IsShortForm sha256 path bytes → IsShortForm sha256 path other → bytes ≡ other }
-    ensures own { (path : List (List ℕ)) → length path ≡ 256 → IsShortForm sha256 path (short_form_of sha256 path) }
+    ensures own { (path : List (List ℕ)) → length path ≡ 256 →
+        IsShortForm sha256 path (short_form_of sha256 path) }
 {}

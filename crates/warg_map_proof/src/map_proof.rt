@@ -40,10 +40,13 @@ impl MapProof {
     /// The proof that the bytes are the short form of. Their length is tested first, before anything is hashed or takes
     /// memory.
     pub fn decode(alloc: Global, bytes: &[u8]) -> Result<MapProof, MapProofError>
-        ensures too_short { (result ≡ Err fault.TooShort) ↔ (length bytes.now < short_form_len bytes.now) }
-        ensures too_long { (result ≡ Err fault.TooLong) ↔ (short_form_len bytes.now < length bytes.now) }
+        ensures too_short { (result ≡ Err fault.TooShort) ↔
+            (length bytes.now < short_form_len bytes.now) }
+        ensures too_long { (result ≡ Err fault.TooLong) ↔
+            (short_form_len bytes.now < length bytes.now) }
         ensures empty_sibling { result ≡ Err fault.EmptySibling →
-            (path : List (List ℕ)) → All (λ p. length p ≡ 32) path → ¬ IsShortForm sha256 path bytes.now }
+            (path : List (List ℕ)) → All (λ p. length p ≡ 32) path →
+            ¬ IsShortForm sha256 path bytes.now }
         ensures out_of_memory { result ≡ Err fault.OutOfMemory →
             (path : List (List ℕ)) × IsShortForm sha256 path bytes.now }
         ensures ok { IfOk result (λ proof. IsShortForm sha256 proof bytes.now) }

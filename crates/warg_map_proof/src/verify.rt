@@ -70,7 +70,8 @@ fn climb(from: [u8; 32], key: &[u8; 32], proof: &MapProof) -> [u8; 32]
 /// Whether the proof leads from the value at the key to the root.
 pub fn verify_presence(key: &[u8; 32], value: &[u8], proof: &MapProof, root: &[u8; 32]) -> bool
     ensures exact { IsTrue result ↔ Leads sha256 (Some value.now) key.now proof.now root.now }
-    ensures sound { IsTrue result → (m : List Side → Option (List ℕ)) → map_root sha256 256 m ≡ root.now →
+    ensures sound { IsTrue result → (m : List Side → Option (List ℕ)) →
+        map_root sha256 256 m ≡ root.now →
         IsOwn sha256 m (Some value.now) key.now proof.now }
     ensures hashes { All (λ sibling. length sibling ≡ 32) proof.now }
 {
@@ -80,7 +81,8 @@ pub fn verify_presence(key: &[u8; 32], value: &[u8], proof: &MapProof, root: &[u
 /// Whether the proof leads from no value at the key to the root.
 pub fn verify_absence(key: &[u8; 32], proof: &MapProof, root: &[u8; 32]) -> bool
     ensures exact { IsTrue result ↔ Leads sha256 None key.now proof.now root.now }
-    ensures sound { IsTrue result → (m : List Side → Option (List ℕ)) → map_root sha256 256 m ≡ root.now →
+    ensures sound { IsTrue result → (m : List Side → Option (List ℕ)) →
+        map_root sha256 256 m ≡ root.now →
         IsOwn sha256 m None key.now proof.now }
     ensures hashes { All (λ sibling. length sibling ≡ 32) proof.now }
 {

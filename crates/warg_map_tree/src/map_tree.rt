@@ -75,8 +75,10 @@ impl MapTree {
     /// Puts the value at the key, and gives the one that stood there. It is refused where the memory is, or where the
     /// number of keys would pass `usize`.
     pub fn insert(&mut self, key: &[u8; 32], value: Vec<u8>) -> Result<Option<Vec<u8>>, AllocError>
-        ensures ok { OnOk result (Sets (map_of self.old) (map_of self.new) (way_down key.now) value.items) }
-        ensures old { IfOk result (λ old. option_map (λ v. v.items) old ≡ map_of self.old (way_down key.now)) }
+        ensures ok { OnOk result (Sets (map_of self.old) (map_of self.new)
+            (way_down key.now) value.items) }
+        ensures old { IfOk result (λ old. option_map (λ v. v.items) old ≡
+            map_of self.old (way_down key.now)) }
         ensures count { IfOk result (λ old. map_count 256 (map_of self.new) ≡
             map_count 256 (map_of self.old) + (if is_some old then 0 else 1)) }
         ensures err { OnErr result ((way : List Side) → map_of self.new way ≡ map_of self.old way) }
@@ -95,9 +97,11 @@ impl MapTree {
 
     /// The proof of what stands at the key, or that nothing does.
     pub fn proof(&self, key: &[u8; 32]) -> Result<MapProof, AllocError>
-        ensures path { IfOk result (λ proof. proof ≡ map_path sha256 (map_of self.now) (way_down key.now)) }
+        ensures path { IfOk result (λ proof. proof ≡
+            map_path sha256 (map_of self.now) (way_down key.now)) }
         ensures verifies { IfOk result (λ proof.
-            Leads sha256 (map_of self.now (way_down key.now)) key.now proof (map_root sha256 256 (map_of self.now))) }
+            Leads sha256 (map_of self.now (way_down key.now)) key.now proof
+            (map_root sha256 256 (map_of self.now))) }
     {
         let path = self.node.path(self.alloc, key, 0, self.empties.as_slice())?;
         MapProof::from_path(self.alloc, path.as_slice())

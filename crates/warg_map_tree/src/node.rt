@@ -172,7 +172,8 @@ impl Node {
         requires empties { empties.now ≡ empty_roots sha256 257 }
         ensures hashed { IsHashed sha256 (256 - depth) self.new }
         ensures sets { OnOk result
-            (Sets (value_at self.old) (value_at self.new) (way_from (256 - depth) depth key.now) value.items) }
+            (Sets (value_at self.old) (value_at self.new)
+            (way_from (256 - depth) depth key.now) value.items) }
         ensures old { IfOk result (λ old. option_map (λ v. v.items) old ≡
             value_at self.old (way_from (256 - depth) depth key.now)) }
         ensures count { IfOk result (λ old. leaf_count self.new ≡
@@ -208,7 +209,8 @@ impl Branch {
     // Takes the hash from the children, where `empty` is the root of an empty one.
     fn rehash(&mut self, empty: &[u8; 32])
         ensures hash { self.new.hash ≡
-            sha256 (node_input (stored_root self.old.left empty.now) (stored_root self.old.right empty.now)) }
+            sha256 (node_input (stored_root self.old.left empty.now)
+            (stored_root self.old.right empty.now)) }
         ensures left { self.new.left ≡ self.old.left }
         ensures right { self.new.right ≡ self.old.right }
     {

@@ -72,7 +72,8 @@ fn both_roots(
 ) -> Option<([u8; 32], [u8; 32])>
     requires some { 0 < first }
     requires more { first < size }
-    ensures { result ≡ climb_from sha256 (extension_sides first size) (with_start sha256 first old.now path.now) }
+    ensures { result ≡ climb_from sha256 (extension_sides first size)
+        (with_start sha256 first old.now path.now) }
 {
     let (at, end) = start(first - 1, size - 1);
     if at == 0 {
@@ -147,7 +148,8 @@ pub fn verify_consistency(
     new: &[u8; 32],
 ) -> bool
     ensures exact { IsTrue result ↔ IsConsistent sha256 first size path.now old.now new.now }
-    ensures sound { IsTrue result → (leaves : List (List ℕ)) → length leaves ≡ size → tree_hash sha256 leaves ≡ new.now → IsBeginning sha256 leaves first path.now old.now }
+    ensures sound { IsTrue result → (leaves : List (List ℕ)) → length leaves ≡ size →
+        tree_hash sha256 leaves ≡ new.now → IsBeginning sha256 leaves first path.now old.now }
 {
     if first == 0 {
         extends_none(size, path, old, new)

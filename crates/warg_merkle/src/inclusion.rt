@@ -42,7 +42,8 @@ pub fn verify_inclusion(
     root: &[u8; 32],
 ) -> bool
     ensures exact { IsTrue result ↔ Includes sha256 leaf.now index size path.now root.now }
-    ensures sound { IsTrue result → (leaves : List (List ℕ)) → length leaves ≡ size → tree_hash sha256 leaves ≡ root.now → IsOwn sha256 leaves leaf.now index path.now }
+    ensures sound { IsTrue result → (leaves : List (List ℕ)) → length leaves ≡ size →
+        tree_hash sha256 leaves ≡ root.now → IsOwn sha256 leaves leaf.now index path.now }
 {
     if index >= size || path.len() > 64 {
         return false;

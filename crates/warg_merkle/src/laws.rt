@@ -17,5 +17,6 @@ pub fn roots_and_paths()
 pub fn consistency_paths()
     ensures rfc { IsSubproof sha256 (subproof sha256) }
     ensures own { OwnPathsExtend sha256 }
-    ensures whole { (first : ℕ) → 0 < first → first ≤ 2 ^ 64 → (start_index 64 (first - 1) ≡ 0) ↔ IsPowerOfTwo first }
+    ensures whole { (first : ℕ) → 0 < first → first ≤ 2 ^ 64 →
+        (start_index 64 (first - 1) ≡ 0) ↔ IsPowerOfTwo first }
 {}

@@ -39,7 +39,8 @@ pub fn tree_hash(leaves: &[&[u8]]) -> [u8; 32]
 // The siblings on the way up from the leaf at the index.
 fn own_path(alloc: Global, leaves: &[&[u8]], index: usize) -> Result<Vec<[u8; 32]>, AllocError>
     requires { index < length leaves.now }
-    ensures { IfOk result (λ path. path.items ≡ inclusion_path sha256 index (map (λ leaf. leaf.now) leaves.now)) }
+    ensures { IfOk result (λ path. path.items ≡
+        inclusion_path sha256 index (map (λ leaf. leaf.now) leaves.now)) }
 {
     if leaves.len() == 1 {
         return Ok(Vec::new(alloc));
@@ -63,8 +64,11 @@ pub fn prove_inclusion(
     index: usize,
 ) -> Result<Vec<[u8; 32]>, AllocError>
     requires { index < length leaves.now }
-    ensures path { IfOk result (λ path. path.items ≡ inclusion_path sha256 index (map (λ leaf. leaf.now) leaves.now)) }
-    ensures verifies { let all = map (λ leaf. leaf.now) leaves.now in IfOk result (λ path. Includes sha256 (slice_index_or all index []) index (length all) path.items (tree_hash sha256 all)) }
+    ensures path { IfOk result (λ path. path.items ≡
+        inclusion_path sha256 index (map (λ leaf. leaf.now) leaves.now)) }
+    ensures verifies { let all = map (λ leaf. leaf.now) leaves.now in IfOk result
+        (λ path. Includes sha256 (slice_index_or all index []) index (length all) path.items
+        (tree_hash sha256 all)) }
 {
     let size = leaves.len();
     prove!(index < size);

@@ -32,7 +32,9 @@ impl<'a> Subtree<'a> {
     // The roots of the left part, and then those of the right one.
     fn roots_of_parts(&self) -> &'a [[u8; 32]]
         requires { 1 < length self.now.leaves.now }
-        ensures { let size = left_size (length self.now.leaves.now) in result.now ≡ whole_roots (hash_of_nodes sha256) (take size self.now.leaves.now) ++ whole_roots (hash_of_nodes sha256) (drop size self.now.leaves.now) }
+        ensures { let size = left_size (length self.now.leaves.now) in result.now ≡
+            whole_roots (hash_of_nodes sha256) (take size self.now.leaves.now) ++
+            whole_roots (hash_of_nodes sha256) (drop size self.now.leaves.now) }
     {
         let size = self.leaves.len();
         if size == 2 * left_size(size) {
@@ -45,12 +47,15 @@ impl<'a> Subtree<'a> {
     // The left and the right part.
     fn split(&self) -> (Subtree<'a>, Subtree<'a>)
         requires { 1 < length self.now.leaves.now }
-        ensures left { result.0.leaves.now ≡ take (left_size (length self.now.leaves.now)) self.now.leaves.now }
-        ensures right { result.1.leaves.now ≡ drop (left_size (length self.now.leaves.now)) self.now.leaves.now }
+        ensures left { result.0.leaves.now ≡
+            take (left_size (length self.now.leaves.now)) self.now.leaves.now }
+        ensures right { result.1.leaves.now ≡
+            drop (left_size (length self.now.leaves.now)) self.now.leaves.now }
         ensures size { length result.0.leaves.now ≡ left_size (length self.now.leaves.now) }
         ensures left_some { 0 < length result.0.leaves.now }
         ensures right_some { 0 < length result.1.leaves.now }
-        ensures all { length result.0.leaves.now + length result.1.leaves.now ≡ length self.now.leaves.now }
+        ensures all { length result.0.leaves.now + length result.1.leaves.now ≡
+            length self.now.leaves.now }
     {
         let size = left_size(self.leaves.len());
         let (left, right) = self.leaves.split_at(size);
@@ -86,7 +91,8 @@ impl<'a> Subtree<'a> {
     // The siblings on the way up from the leaf at the index.
     pub fn path(&self, alloc: Global, index: usize) -> Result<Vec<[u8; 32]>, AllocError>
         requires { index < length self.now.leaves.now }
-        ensures { IfOk result (λ path. path.items ≡ inclusion_path (hash_of_nodes sha256) index self.now.leaves.now) }
+        ensures { IfOk result (λ path. path.items ≡
+            inclusion_path (hash_of_nodes sha256) index self.now.leaves.now) }
     {
         if self.leaves.len() == 1 {
             return Ok(Vec::new(alloc));
@@ -112,7 +118,8 @@ impl<'a> Subtree<'a> {
     ) -> Result<Vec<[u8; 32]>, AllocError>
         requires some { 0 < first }
         requires inside { first ≤ length self.now.leaves.now }
-        ensures { IfOk result (λ path. path.items ≡ subproof (hash_of_nodes sha256) first self.now.leaves.now known) }
+        ensures { IfOk result (λ path. path.items ≡
+            subproof (hash_of_nodes sha256) first self.now.leaves.now known) }
     {
         if first == self.leaves.len() {
             let mut path = Vec::new(alloc);

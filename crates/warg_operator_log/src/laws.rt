@@ -35,19 +35,22 @@ use warg_records::operator::OPERATOR_RECORD_VERSION;
 pub fn extension()
     ensures { (b : SignatureRelation) (es fs : List EnvelopeData) → IsAccepted kind b (es ++ fs) →
         (name : List ℕ) (s : Namespace) →
-        (kind.view_of es).state.own_state name ≡ Some s → (kind.view_of (es ++ fs)).state.own_state name ≡ Some s }
+        (kind.view_of es).state.own_state name ≡ Some s →
+        (kind.view_of (es ++ fs)).state.own_state name ≡ Some s }
 {}
 
 /// Errors are equal exactly if they name the same offence, and only out of memory names none.
 pub fn errors_tell_apart()
-    ensures apart { (e f : ValidationError) → (⟦<crate::error::ValidationError as PartialEq>⟧.eq e f ≡ true)
+    ensures apart { (e f : ValidationError) →
+        (⟦<crate::error::ValidationError as PartialEq>⟧.eq e f ≡ true)
         ↔ (offence_of e ≡ offence_of f) }
     ensures memory { (e : ValidationError) → (offence_of e ≡ None) ↔ (e ≡ OutOfMemory) }
 {}
 
 /// Each namespace of an accepted log has one entry, which says what it is.
 pub fn one_entry_each()
-    ensures { (b : SignatureRelation) (es : List EnvelopeData) → IsAccepted kind b es → OneEntryEach (history es) }
+    ensures { (b : SignatureRelation) (es : List EnvelopeData) → IsAccepted kind b es →
+        OneEntryEach (history es) }
 {}
 
 /// The contents of an accepted log are records. Where it has any, their times never fall, the first
@@ -56,7 +59,8 @@ pub fn one_entry_each()
 pub fn form()
     ensures records { (b : SignatureRelation) (es : List EnvelopeData) → IsAccepted kind b es →
         All (λ e. IsOk (operator_record_of e.content)) es }
-    ensures form { (b : SignatureRelation) (es : List EnvelopeData) → 0 < length es → IsAccepted kind b es →
+    ensures form { (b : SignatureRelation) (es : List EnvelopeData) →
+        0 < length es → IsAccepted kind b es →
         HasForm record_id_of (records_of es) }
 {}
 
@@ -64,14 +68,17 @@ pub fn form()
 /// an entry, whose key is which, the namespaces by name and the head, from which the look-ups answer.
 /// What `run` answers as a state is one for an accepted log, the envelopes of the strings.
 pub fn states_tell_history()
-    ensures stands { (s : State (AuthorityData Permission) (List (List ℕ × Namespace))) (es : List EnvelopeData) →
+    ensures stands { (s : State (AuthorityData Permission) (List (List ℕ × Namespace)))
+        (es : List EnvelopeData) →
         StandsFor kind view_of s es → TellsHistory s es }
     ensures run { let read = envelope_of operator_record_of in
         let told_by = told (envelope_fault_of fault_of) offence_of in
         (b : SignatureRelation) (strings : List (List ℕ))
-        (answer : Result (State (AuthorityData Permission) (List (List ℕ × Namespace))) (RunError ValidationError)) →
+        (answer : Result (State (AuthorityData Permission) (List (List ℕ × Namespace)))
+        (RunError ValidationError)) →
         IfStarted (IsRun kind b read kind.view_of view_of told_by ◌≡◌ strings) answer →
-        IfOk answer (λ s. IsAccepted kind b (read_all read strings) × TellsHistory s (read_all read strings)) }
+        IfOk answer (λ s. IsAccepted kind b (read_all read strings) ×
+        TellsHistory s (read_all read strings)) }
 {}
 
 /// What is wrong with a record is never out of memory within another error, nor a second algorithm:
@@ -85,16 +92,19 @@ pub fn offences_are_possible()
 /// states exactly where their views are equivalent.
 pub fn equality()
     ensures heads { (a b : Head) → (⟦<Head as PartialEq>⟧.eq a b ≡ true) ↔ (a ≡ b) }
-    ensures namespaces { (a b : NamespaceState) → (⟦<crate::namespace::NamespaceState as PartialEq>⟧.eq a b ≡ true) ↔
+    ensures namespaces { (a b : NamespaceState) →
+        (⟦<crate::namespace::NamespaceState as PartialEq>⟧.eq a b ≡ true) ↔
         (namespace_view a ≡ namespace_view b) }
     ensures states { (s t : State (AuthorityData Permission) (List (List ℕ × Namespace))) →
-        (⟦<crate::state::LogState as PartialEq>⟧.eq s t ≡ true) ↔ AreEquivalent (view_of s) (view_of t) }
+        (⟦<crate::state::LogState as PartialEq>⟧.eq s t ≡ true) ↔
+        AreEquivalent (view_of s) (view_of t) }
 {}
 
 /// A record's version is lawful exactly if it is at most `OPERATOR_RECORD_VERSION`, the newest, and not below the
 /// head's.
 pub fn newest_version()
-    ensures { (head : Option Head) (version : ℕ) → (version_offence {P = Permission} head version ≡ None) ↔
+    ensures { (head : Option Head) (version : ℕ) →
+        (version_offence {P = Permission} head version ≡ None) ↔
         ((version ≤ OPERATOR_RECORD_VERSION) × IfSome head (λ h. h.version ≤ version)) }
 {}
 

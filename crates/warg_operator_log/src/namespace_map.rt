@@ -110,7 +110,8 @@ impl NamespaceMap {
 
     /// Adds the namespaces of the changes, or none.
     fn add_all(&mut self, changes: NamespaceMap) -> Result<(), AllocError>
-        ensures added { OnOk result ((k : List ℕ) → names self.new k ≡ names_over self.old changes k) }
+        ensures added { OnOk result ((k : List ℕ) → names self.new k ≡
+            names_over self.old changes k) }
         ensures unchanged { OnErr result (self.new ≡ self.old) }
     {
         let NamespaceMap { map } = changes;

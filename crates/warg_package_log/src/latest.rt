@@ -39,7 +39,8 @@ fn greater<'a>(
 
 /// The greatest release that meets the requirement and was not yanked.
 pub(crate) fn latest<'a>(releases: &'a [Release], req: &VersionReq) -> Option<&'a Release>
-    ensures { IsGreatest (is_candidate req.now.comparators.items) release_cmp releases.now (option_copied result) }
+    ensures { IsGreatest (is_candidate req.now.comparators.items) release_cmp releases.now
+        (option_copied result) }
 {
     let mut best: Option<&'a Release> = None;
     for release in releases {

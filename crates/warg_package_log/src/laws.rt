@@ -48,14 +48,16 @@ pub fn distinct_versions()
 
 /// Errors are equal exactly if they name the same offence, and only out of memory names none.
 pub fn errors_tell_apart()
-    ensures apart { (e f : ValidationError) → (⟦<crate::error::ValidationError as PartialEq>⟧.eq e f ≡ true)
+    ensures apart { (e f : ValidationError) →
+        (⟦<crate::error::ValidationError as PartialEq>⟧.eq e f ≡ true)
         ↔ (offence_of e ≡ offence_of f) }
     ensures memory { (e : ValidationError) → (offence_of e ≡ None) ↔ (e ≡ OutOfMemory) }
 {}
 
 /// No version is yanked twice in an accepted log, so the Yank of a release is one.
 pub fn one_yank_each()
-    ensures { (b : SignatureRelation) (es : List EnvelopeData) → IsAccepted kind b es → OneYankEach (history es) }
+    ensures { (b : SignatureRelation) (es : List EnvelopeData) → IsAccepted kind b es →
+        OneYankEach (history es) }
 {}
 
 /// The contents of an accepted log are records. Where it has any, their times never fall, the first
@@ -64,7 +66,8 @@ pub fn one_yank_each()
 pub fn form()
     ensures records { (b : SignatureRelation) (es : List EnvelopeData) → IsAccepted kind b es →
         All (λ e. IsOk (package_record_of e.content)) es }
-    ensures form { (b : SignatureRelation) (es : List EnvelopeData) → 0 < length es → IsAccepted kind b es →
+    ensures form { (b : SignatureRelation) (es : List EnvelopeData) →
+        0 < length es → IsAccepted kind b es →
         HasForm record_id_of (records_of es) }
 {}
 
@@ -72,14 +75,17 @@ pub fn form()
 /// an entry, whose key is which, the releases in order and the head, from which the look-ups answer.
 /// What `run` answers as a state is one for an accepted log, the envelopes of the strings.
 pub fn states_tell_history()
-    ensures stands { (s : State (AuthorityData Permission) (List ReleaseView)) (es : List EnvelopeData) →
+    ensures stands { (s : State (AuthorityData Permission) (List ReleaseView))
+        (es : List EnvelopeData) →
         StandsFor kind view_of s es → TellsHistory s es }
     ensures run { let read = envelope_of package_record_of in
         let told_by = told (envelope_fault_of fault_of) offence_of in
         (b : SignatureRelation) (strings : List (List ℕ))
-        (answer : Result (State (AuthorityData Permission) (List ReleaseView)) (RunError ValidationError)) →
+        (answer : Result (State (AuthorityData Permission) (List ReleaseView))
+        (RunError ValidationError)) →
         IfStarted (IsRun kind b read kind.view_of view_of told_by ◌≡◌ strings) answer →
-        IfOk answer (λ s. IsAccepted kind b (read_all read strings) × TellsHistory s (read_all read strings)) }
+        IfOk answer (λ s. IsAccepted kind b (read_all read strings) ×
+        TellsHistory s (read_all read strings)) }
 {}
 
 /// What is wrong with a record is never out of memory within another error, nor a second algorithm:
@@ -93,18 +99,21 @@ pub fn offences_are_possible()
 /// where their fields are, a version by its numbers and texts; of states exactly where their views are equivalent.
 pub fn equality()
     ensures heads { (a b : Head) → (⟦<Head as PartialEq>⟧.eq a b ≡ true) ↔ (a ≡ b) }
-    ensures release_states { (a b : ReleaseState) → (⟦<crate::release::ReleaseState as PartialEq>⟧.eq a b ≡ true) ↔
+    ensures release_states { (a b : ReleaseState) →
+        (⟦<crate::release::ReleaseState as PartialEq>⟧.eq a b ≡ true) ↔
         (a ≡ b) }
     ensures releases { (a b : Release) → (⟦<crate::release::Release as PartialEq>⟧.eq a b ≡ true) ↔
         (release_view a ≡ release_view b) }
     ensures states { (s t : State (AuthorityData Permission) (List ReleaseView)) →
-        (⟦<crate::state::LogState as PartialEq>⟧.eq s t ≡ true) ↔ AreEquivalent (view_of s) (view_of t) }
+        (⟦<crate::state::LogState as PartialEq>⟧.eq s t ≡ true) ↔
+        AreEquivalent (view_of s) (view_of t) }
 {}
 
 /// A record's version is lawful exactly if it is at most `PACKAGE_RECORD_VERSION`, the newest, and not below the
 /// head's.
 pub fn newest_version()
-    ensures { (head : Option Head) (version : ℕ) → (version_offence {P = Permission} head version ≡ None) ↔
+    ensures { (head : Option Head) (version : ℕ) →
+        (version_offence {P = Permission} head version ≡ None) ↔
         ((version ≤ PACKAGE_RECORD_VERSION) × IfSome head (λ h. h.version ≤ version)) }
 {}
 

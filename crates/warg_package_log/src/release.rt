@@ -125,7 +125,8 @@ impl Release {
 
     /// A copy, with this state in place of its own.
     pub(crate) fn with_state(&self, state: ReleaseState) -> Result<Release, AllocError>
-        ensures { IfOk result (λ copy. release_view copy ≡ record (release_view self.now) { state = state }) }
+        ensures { IfOk result (λ copy. release_view copy ≡
+            record (release_view self.now) { state = state }) }
     {
         Ok(Release {
             record_id: self.record_id,

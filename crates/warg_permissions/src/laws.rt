@@ -42,7 +42,8 @@ pub fn print_package_permission<W: Write>(
     permission: &package::Permission,
     f: &mut Formatter<W>,
 ) -> Result
-    ensures plain { WritesOnOk W.write_str_gives f.old result (in_package.permission_text permission.now) f.new }
+    ensures plain { WritesOnOk W.write_str_gives f.old result
+        (in_package.permission_text permission.now) f.new }
     ensures styled { WritesStyledOnOk W.write_str_gives f.old result
         (in_package.permission_text permission.now) f.new }
 {
@@ -54,7 +55,8 @@ pub fn print_operator_permission<W: Write>(
     permission: &operator::Permission,
     f: &mut Formatter<W>,
 ) -> Result
-    ensures plain { WritesOnOk W.write_str_gives f.old result (in_operator.permission_text permission.now) f.new }
+    ensures plain { WritesOnOk W.write_str_gives f.old result
+        (in_operator.permission_text permission.now) f.new }
     ensures styled { WritesStyledOnOk W.write_str_gives f.old result
         (in_operator.permission_text permission.now) f.new }
 {

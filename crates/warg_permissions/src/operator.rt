@@ -28,7 +28,8 @@ pub enum Permission {
 impl Permission {
     /// All permissions, in the order of their numbers in messages.
     pub const fn all() -> [Permission; 3]
-        ensures { result ≡ Permission.Commit ∷ Permission.DefineNamespace ∷ Permission.ImportNamespace ∷ [] }
+        ensures { result ≡ Permission.Commit ∷ Permission.DefineNamespace ∷
+            Permission.ImportNamespace ∷ [] }
     {
         [
             Permission::Commit,

@@ -23,7 +23,8 @@ impl OperatorDefineNamespace {
         alloc: Global,
         draft: OneText<'_>,
     ) -> Result<OperatorDefineNamespace, AllocError>
-        ensures { IfOk result (λ v. define_namespace_view v ≡ define_namespace_made (one_text_kept draft.entry)) }
+        ensures { IfOk result (λ v. define_namespace_view v ≡
+            define_namespace_made (one_text_kept draft.entry)) }
     {
         Ok(OperatorDefineNamespace {
             namespace: String::from_str(alloc, draft.text)?,

@@ -61,7 +61,8 @@ pub(crate) fn read_into<'a, D: Draft<'a>>(draft: &mut D, bytes: &'a [u8]) -> Res
 
 /// The draft, after it has read the fields of these bytes too.
 pub(crate) fn grown<'a, D: Draft<'a>>(mut draft: D, bytes: &'a [u8]) -> Result<D, WireError>
-    ensures given { ReturnsOrNoMemory D.kept result (kept_of D.with_field (D.kept draft) (fields_of D.table bytes.now)) }
+    ensures given { ReturnsOrNoMemory D.kept result
+        (kept_of D.with_field (D.kept draft) (fields_of D.table bytes.now)) }
     ensures memory { IfErr result (λ e. e ≡ OutOfMemory → D.TakesMemory) }
 {
     read_into(&mut draft, bytes)?;
@@ -70,7 +71,8 @@ pub(crate) fn grown<'a, D: Draft<'a>>(mut draft: D, bytes: &'a [u8]) -> Result<D
 
 /// What is kept of the fields of a message, all of the bytes.
 pub(crate) fn read_draft<'a, D: Draft<'a>>(alloc: Global, bytes: &'a [u8]) -> Result<D, WireError>
-    ensures { ReturnsOrNoMemory D.kept result (kept_of D.with_field D.empty (fields_of D.table bytes.now)) }
+    ensures { ReturnsOrNoMemory D.kept result
+        (kept_of D.with_field D.empty (fields_of D.table bytes.now)) }
 {
     grown(D::new(alloc), bytes)
 }

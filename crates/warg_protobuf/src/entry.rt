@@ -40,7 +40,8 @@ impl<'a, F: Draft<'a>, G: Draft<'a>> EntryDraft<'a, F, G> {
     }
 
     fn take_grant_flat(&mut self) -> TextAndNumbers<'a>
-        ensures { text_and_numbers_kept result ≡ grant_flat_so_far (member_kept F.kept G.kept self.old.member) }
+        ensures { text_and_numbers_kept result ≡
+            grant_flat_so_far (member_kept F.kept G.kept self.old.member) }
     {
         match mem::replace(&mut self.member, MemberDraft::Absent) {
             MemberDraft::GrantFlat(draft) => draft,
@@ -49,7 +50,8 @@ impl<'a, F: Draft<'a>, G: Draft<'a>> EntryDraft<'a, F, G> {
     }
 
     fn take_revoke_flat(&mut self) -> TextAndNumbers<'a>
-        ensures { text_and_numbers_kept result ≡ revoke_flat_so_far (member_kept F.kept G.kept self.old.member) }
+        ensures { text_and_numbers_kept result ≡
+            revoke_flat_so_far (member_kept F.kept G.kept self.old.member) }
     {
         match mem::replace(&mut self.member, MemberDraft::Absent) {
             MemberDraft::RevokeFlat(draft) => draft,
@@ -58,7 +60,8 @@ impl<'a, F: Draft<'a>, G: Draft<'a>> EntryDraft<'a, F, G> {
     }
 
     fn take_fourth(&mut self) -> F
-        ensures { F.kept result ≡ fourth_so_far F.empty (member_kept F.kept G.kept self.old.member) }
+        ensures { F.kept result ≡ fourth_so_far F.empty
+            (member_kept F.kept G.kept self.old.member) }
     {
         match mem::replace(&mut self.member, MemberDraft::Absent) {
             MemberDraft::Fourth(draft) => draft,

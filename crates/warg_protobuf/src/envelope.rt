@@ -47,7 +47,8 @@ impl Envelope {
         ensures no_memory { IfErr result (λ e. e ≢ OutOfMemory) }
 
         // What the bytes say is read.
-        ensures only { (v : EnvelopeValue) → IsEnvelope bytes.now v → Returns borrowed_envelope result (Ok v) }
+        ensures only { (v : EnvelopeValue) → IsEnvelope bytes.now v →
+            Returns borrowed_envelope result (Ok v) }
         ensures only_fault { (e : WireError) → HasFault envelope_table bytes.now e →
             Returns borrowed_envelope result (Err e) }
         ensures computed { Returns borrowed_envelope result (envelope_of bytes.now) }

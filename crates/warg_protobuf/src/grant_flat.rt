@@ -28,7 +28,8 @@ pub type PackageGrantFlat = GrantFlat;
 impl GrantFlat {
     /// The message of what is kept.
     pub(crate) fn finish(alloc: Global, draft: TextAndNumbers<'_>) -> Result<GrantFlat, AllocError>
-        ensures { IfOk result (λ v. grant_flat_view v ≡ grant_flat_made (text_and_numbers_kept draft.entry)) }
+        ensures { IfOk result (λ v. grant_flat_view v ≡
+            grant_flat_made (text_and_numbers_kept draft.entry)) }
     {
         Ok(GrantFlat {
             key: String::from_str(alloc, draft.text)?,

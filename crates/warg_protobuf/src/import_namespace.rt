@@ -25,7 +25,8 @@ impl OperatorImportNamespace {
         alloc: Global,
         draft: TwoTexts<'_>,
     ) -> Result<OperatorImportNamespace, AllocError>
-        ensures { IfOk result (λ v. import_namespace_view v ≡ import_namespace_made (two_texts_kept draft.entry)) }
+        ensures { IfOk result (λ v. import_namespace_view v ≡
+            import_namespace_made (two_texts_kept draft.entry)) }
     {
         Ok(OperatorImportNamespace {
             namespace: String::from_str(alloc, draft.first)?,

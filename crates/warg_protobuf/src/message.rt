@@ -40,7 +40,8 @@ pub(crate) trait Codec: Drop {
 
     /// Appends the fields that are written.
     fn write(&self, alloc: Global, out: &mut Vec<u8>) -> Result<(), AllocError>
-        ensures spelled { OnOk result (out.new.items ≡ out.old.items ++ bytes_of (written (view self.now))) }
+        ensures spelled { OnOk result (out.new.items ≡ out.old.items ++
+            bytes_of (written (view self.now))) }
         ensures sound { OnOk result (is_sound (view self.now)) };
 
     /// What is computed of fields is the only value that they say, and what is written is read again. This has no effect.
@@ -75,7 +76,8 @@ pub trait Message: Codec {
             ReturnsOrNoMemory Self.view result (Ok v) }
         ensures only_fault { (e : WireError) → HasFault Self.table bytes.now e →
             ReturnsOrNoMemory Self.view result (Err e) }
-        ensures computed { ReturnsOrNoMemory Self.view result (message_of Self.table Self.value bytes.now) }
+        ensures computed { ReturnsOrNoMemory Self.view result
+            (message_of Self.table Self.value bytes.now) }
     {
         Self::laws();
         Self::read(alloc, bytes)
@@ -85,8 +87,10 @@ pub trait Message: Codec {
     final fn encode(&self, alloc: Global) -> Result<Vec<u8>, AllocError>
     where
         Self: Sized,
-        ensures spelled { IfOk result (λ v. v.items ≡ bytes_of (Self.written (Self.view self.now))) }
-        ensures read_again { IfOk result (λ v. IsMessage Self.table Self.Says v.items (Self.view self.now)) }
+        ensures spelled { IfOk result (λ v. v.items ≡
+            bytes_of (Self.written (Self.view self.now))) }
+        ensures read_again { IfOk result
+            (λ v. IsMessage Self.table Self.Says v.items (Self.view self.now)) }
     {
         Self::laws();
         write_message::<Self>(alloc, self)

@@ -123,7 +123,8 @@ impl<'a, S: EntrySink> RecordDraft<'a, S> {
     fn grow_time(&mut self, bytes: &'a [u8]) -> Result<(), WireError>
         ensures given { ReturnsOrNoMemory (λ _. option_view timestamp_kept self.new.time) result
             (time_grown (option_view timestamp_kept self.old.time) bytes.now) }
-        ensures others { OnOk result ((self.new.prev ≡ self.old.prev) × (self.new.version ≡ self.old.version) ×
+        ensures others { OnOk result ((self.new.prev ≡ self.old.prev) ×
+            (self.new.version ≡ self.old.version) ×
             (self.new.entries ≡ self.old.entries)) }
     {
         let mut time = match self.time {
@@ -196,7 +197,8 @@ impl<S: EntrySink> Record<S> {
 
     /// The message of what is kept.
     fn finish(alloc: Global, draft: RecordDraft<'_, S>) -> Result<Record<S>, AllocError>
-        ensures { IfOk result (λ v. record_view S.held v ≡ record_made (record_kept S.held draft.entry)) }
+        ensures { IfOk result (λ v. record_view S.held v ≡
+            record_made (record_kept S.held draft.entry)) }
     {
         Ok(Record {
             prev: own_text(alloc, draft.prev)?,
@@ -208,7 +210,8 @@ impl<S: EntrySink> Record<S> {
 }
 
 fn own_text(alloc: Global, text: Option<&str>) -> Result<Option<String>, AllocError>
-    ensures { IfOk result (λ t. option_view (λ s. string_bytes s) t ≡ option_view (λ t. t.now) text.entry) }
+    ensures { IfOk result (λ t. option_view (λ s. string_bytes s) t ≡
+        option_view (λ t. t.now) text.entry) }
 {
     let Some(text) = text else {
         return Ok(None);
@@ -217,7 +220,8 @@ fn own_text(alloc: Global, text: Option<&str>) -> Result<Option<String>, AllocEr
 }
 
 fn finish_time(time: Option<TimestampDraft>) -> Option<TimestampPair>
-    ensures { option_view timestamp_view result ≡ option_view time_made (option_view timestamp_kept time) }
+    ensures { option_view timestamp_view result ≡
+        option_view time_made (option_view timestamp_kept time) }
 {
     let time = time?;
     Some(time.finish())
@@ -268,7 +272,8 @@ pub(crate) fn push_record<E: Codec>(
 ) -> Result<(), AllocError>
     ensures spelled { let value = record_value (option_view (λ s. string_bytes s) prev.now) version
         (option_view timestamp_view time.now) (map E.view entries.now) in
-        OnOk result (out.new.items ≡ out.old.items ++ bytes_of (record_fields (λ v. bytes_of (E.written v)) value)) }
+        OnOk result (out.new.items ≡ out.old.items ++
+        bytes_of (record_fields (λ v. bytes_of (E.written v)) value)) }
     ensures sound { let value = record_value (option_view (λ s. string_bytes s) prev.now) version
         (option_view timestamp_view time.now) (map E.view entries.now) in
         OnOk result (IsSoundRecord E.is_sound value) }

@@ -28,7 +28,8 @@ pub type PackageRevokeFlat = RevokeFlat;
 impl RevokeFlat {
     /// The message of what is kept.
     pub(crate) fn finish(alloc: Global, draft: TextAndNumbers<'_>) -> Result<RevokeFlat, AllocError>
-        ensures { IfOk result (λ v. revoke_flat_view v ≡ revoke_flat_made (text_and_numbers_kept draft.entry)) }
+        ensures { IfOk result (λ v. revoke_flat_view v ≡
+            revoke_flat_made (text_and_numbers_kept draft.entry)) }
     {
         Ok(RevokeFlat {
             key_id: String::from_str(alloc, draft.text)?,

@@ -49,7 +49,8 @@ pub(crate) trait FromMessage: Drop {
 
     // The message that the bytes are, all of them.
     fn decode_message(alloc: Global, bytes: &[u8]) -> Result<Self::Message, WireError>
-        ensures { ReturnsOrNoMemory message_view result (wire_message_of table message_view_from bytes.now) };
+        ensures { ReturnsOrNoMemory message_view result
+            (wire_message_of table message_view_from bytes.now) };
 
     // Fields that fit say a message. This has no effect.
     fn laws()
@@ -145,7 +146,8 @@ pub(crate) fn read_content<T: FromMessage>(
 ) -> Result<Record<Entries<T>>, DecodeError>
     ensures { IsReading (record_view (entries_held T.plain)) fault_of
         (message_of (gathered_of (next_entry T.read) (Ok [])
-        (wire_message_of (record_table T.table) (record_from T.table T.message_view_from) content.now))) result }
+        (wire_message_of (record_table T.table) (record_from T.table T.message_view_from)
+        content.now))) result }
 {
     match Record::<Entries<T>>::gather(alloc, content) {
         Ok(record) => Ok(record),

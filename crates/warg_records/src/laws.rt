@@ -35,9 +35,11 @@ pub fn record_id_reads_back()
 
 /// What is computed of content bytes is the record that they are, or their first fault.
 pub fn record_reading_computes()
-    ensures of_package { (content : List ℕ) → ReadsRecord package_record_table IsPackageRecord package_entry_of
+    ensures of_package { (content : List ℕ) →
+        ReadsRecord package_record_table IsPackageRecord package_entry_of
         (package_record_of content) content }
-    ensures of_operator { (content : List ℕ) → ReadsRecord operator_record_table IsOperatorRecord operator_entry_of
+    ensures of_operator { (content : List ℕ) →
+        ReadsRecord operator_record_table IsOperatorRecord operator_entry_of
         (operator_record_of content) content }
 {
     decoding_computes();
@@ -62,8 +64,10 @@ pub fn envelope_reading_computes()
 pub fn no_fault_of_memory()
     ensures of_package { (content : List ℕ) → IfErr (package_record_of content) IsOfContent }
     ensures of_operator { (content : List ℕ) → IfErr (operator_record_of content) IsOfContent }
-    ensures of_package_envelope { (bytes : List ℕ) → IfErr (envelope_of package_record_of bytes) IsOfEnvelope }
-    ensures of_operator_envelope { (bytes : List ℕ) → IfErr (envelope_of operator_record_of bytes) IsOfEnvelope }
+    ensures of_package_envelope { (bytes : List ℕ) →
+        IfErr (envelope_of package_record_of bytes) IsOfEnvelope }
+    ensures of_operator_envelope { (bytes : List ℕ) →
+        IfErr (envelope_of operator_record_of bytes) IsOfEnvelope }
 {
     decoding_computes();
     exactly_one();

@@ -34,7 +34,8 @@ fn read_permissions<P: LogPermission>(
     alloc: Global,
     numbers: Vec<i32>,
 ) -> Result<Vec<P>, DecodeError>
-    ensures { IsReading (λ v. v.items) fault_of (each (permission_in P.permission_of) numbers.items) result }
+    ensures { IsReading (λ v. v.items) fault_of (each (permission_in P.permission_of) numbers.items)
+        result }
 {
     let mut permissions = Vec::with_capacity(alloc, numbers.len())?;
     for number in numbers {
@@ -61,7 +62,8 @@ pub(crate) fn wire_error(error: WireError) -> DecodeError
 
 /// The id of the record before.
 pub(crate) fn read_prev(prev: Option<String>) -> Result<Option<RecordId>, DecodeError>
-    ensures { IsReading (λ p. p) fault_of (prev_of (option_view (λ s. string_bytes s) prev)) result }
+    ensures { IsReading (λ p. p) fault_of (prev_of (option_view (λ s. string_bytes s) prev))
+        result }
 {
     let Some(text) = prev else {
         return Ok(None);

@@ -54,14 +54,16 @@ fn hashed_id<D: SupportedDigest>(prefix: &[u8], content: &[u8]) -> RecordId
 impl RecordId {
     /// The id of an operator record: the hash of `WARG-OPERATOR-LOG-RECORD-V0:` and the content bytes as they came.
     pub fn operator_record<D: SupportedDigest>(envelope: &ProtoEnvelope<OperatorRecord>) -> RecordId
-        ensures { result ≡ id_by D.ALGORITHM D.digest_of (operator_record_message envelope.now.envelope.content) }
+        ensures { result ≡ id_by D.ALGORITHM D.digest_of
+            (operator_record_message envelope.now.envelope.content) }
     {
         RecordId::of_operator_content::<D>(envelope.content_bytes())
     }
 
     /// The id of a package record: the hash of `WARG-PACKAGE-LOG-RECORD-V0:` and the content bytes as they came.
     pub fn package_record<D: SupportedDigest>(envelope: &ProtoEnvelope<PackageRecord>) -> RecordId
-        ensures { result ≡ id_by D.ALGORITHM D.digest_of (package_record_message envelope.now.envelope.content) }
+        ensures { result ≡ id_by D.ALGORITHM D.digest_of
+            (package_record_message envelope.now.envelope.content) }
     {
         RecordId::of_package_content::<D>(envelope.content_bytes())
     }
@@ -97,7 +99,8 @@ impl fmt::Debug for RecordId {
     ghost debug_output = { λ id. Some (hash_text id.hash) };
 
     fn fmt<W: fmt::Write>(&self, f: &mut fmt::Formatter<W>) -> fmt::Result
-        ensures styled { WritesStyledOnOk W.write_str_gives f.old result (hash_text self.now.hash) f.new }
+        ensures styled { WritesStyledOnOk W.write_str_gives f.old result
+            (hash_text self.now.hash) f.new }
     {
         fmt::Display::fmt(self, f)
     }

@@ -85,7 +85,8 @@ pub(crate) fn write_grant<P: LogPermission>(
     key: &PublicKey,
     permissions: &[P],
 ) -> Result<GrantFlat, AllocError>
-    ensures { IfOk result (λ m. grant_flat_view m ≡ grant_message P.number_of key.now permissions.now) }
+    ensures { IfOk result (λ m. grant_flat_view m ≡
+        grant_message P.number_of key.now permissions.now) }
 {
     let key = key.to_string(alloc)?;
     let permissions = write_permissions(alloc, permissions)?;
@@ -98,7 +99,8 @@ pub(crate) fn write_revoke<P: LogPermission>(
     key_id: &KeyID,
     permissions: &[P],
 ) -> Result<RevokeFlat, AllocError>
-    ensures { IfOk result (λ m. revoke_flat_view m ≡ revoke_message P.number_of key_id.now permissions.now) }
+    ensures { IfOk result (λ m. revoke_flat_view m ≡
+        revoke_message P.number_of key_id.now permissions.now) }
 {
     let key_id = String::from_str(alloc, key_id.as_str())?;
     let permissions = write_permissions(alloc, permissions)?;

@@ -57,7 +57,8 @@ pub fn write_any<M: Message>(alloc: Global, message: &M) -> Result<Vec<u8>, Allo
 pub fn read_envelope(alloc: Global, bytes: &[u8]) -> Result<Envelope, WireError>
     ensures found { IfOk result (λ v. IsEnvelope bytes.now (envelope_view v)) }
     ensures fault { IfErr result (λ e. e ≢ OutOfMemory → HasFault envelope_table bytes.now e) }
-    ensures only { (v : EnvelopeValue) → IsEnvelope bytes.now v → ReturnsOrNoMemory envelope_view result (Ok v) }
+    ensures only { (v : EnvelopeValue) → IsEnvelope bytes.now v →
+        ReturnsOrNoMemory envelope_view result (Ok v) }
     ensures only_fault { (e : WireError) → HasFault envelope_table bytes.now e →
         ReturnsOrNoMemory envelope_view result (Err e) }
     ensures computed { ReturnsOrNoMemory envelope_view result (envelope_of bytes.now) }
@@ -75,7 +76,8 @@ pub fn write_envelope(alloc: Global, message: &Envelope) -> Result<Vec<u8>, Allo
 pub fn read_timestamp(alloc: Global, bytes: &[u8]) -> Result<TimestampPair, WireError>
     ensures found { IfOk result (λ v. IsTimestamp bytes.now (timestamp_view v)) }
     ensures fault { IfErr result (λ e. e ≢ OutOfMemory → HasFault timestamp_table bytes.now e) }
-    ensures only { (v : TimestampValue) → IsTimestamp bytes.now v → ReturnsOrNoMemory timestamp_view result (Ok v) }
+    ensures only { (v : TimestampValue) → IsTimestamp bytes.now v →
+        ReturnsOrNoMemory timestamp_view result (Ok v) }
     ensures only_fault { (e : WireError) → HasFault timestamp_table bytes.now e →
         ReturnsOrNoMemory timestamp_view result (Err e) }
     ensures computed { ReturnsOrNoMemory timestamp_view result (timestamp_of bytes.now) }
@@ -93,8 +95,10 @@ pub fn write_timestamp(alloc: Global, message: &TimestampPair) -> Result<Vec<u8>
 pub fn read_init(alloc: Global, bytes: &[u8]) -> Result<PackageInit, WireError>
     ensures found { IfOk result (λ v. IsInit bytes.now (init_view v)) }
     ensures fault { IfErr result (λ e. e ≢ OutOfMemory → HasFault init_table bytes.now e) }
-    ensures only { (v : InitValue) → IsInit bytes.now v → ReturnsOrNoMemory init_view result (Ok v) }
-    ensures only_fault { (e : WireError) → HasFault init_table bytes.now e → ReturnsOrNoMemory init_view result
+    ensures only { (v : InitValue) → IsInit bytes.now v →
+        ReturnsOrNoMemory init_view result (Ok v) }
+    ensures only_fault { (e : WireError) → HasFault init_table bytes.now e →
+        ReturnsOrNoMemory init_view result
         (Err e) }
     ensures computed { ReturnsOrNoMemory init_view result (init_of bytes.now) }
 {
@@ -111,7 +115,8 @@ pub fn write_init(alloc: Global, message: &PackageInit) -> Result<Vec<u8>, Alloc
 pub fn read_grant_flat(alloc: Global, bytes: &[u8]) -> Result<PackageGrantFlat, WireError>
     ensures found { IfOk result (λ v. IsGrantFlat bytes.now (grant_flat_view v)) }
     ensures fault { IfErr result (λ e. e ≢ OutOfMemory → HasFault grant_flat_table bytes.now e) }
-    ensures only { (v : GrantFlatValue) → IsGrantFlat bytes.now v → ReturnsOrNoMemory grant_flat_view result (Ok v) }
+    ensures only { (v : GrantFlatValue) → IsGrantFlat bytes.now v →
+        ReturnsOrNoMemory grant_flat_view result (Ok v) }
     ensures only_fault { (e : WireError) → HasFault grant_flat_table bytes.now e →
         ReturnsOrNoMemory grant_flat_view result (Err e) }
     ensures computed { ReturnsOrNoMemory grant_flat_view result (grant_flat_of bytes.now) }
@@ -129,7 +134,8 @@ pub fn write_grant_flat(alloc: Global, message: &PackageGrantFlat) -> Result<Vec
 pub fn read_revoke_flat(alloc: Global, bytes: &[u8]) -> Result<OperatorRevokeFlat, WireError>
     ensures found { IfOk result (λ v. IsRevokeFlat bytes.now (revoke_flat_view v)) }
     ensures fault { IfErr result (λ e. e ≢ OutOfMemory → HasFault revoke_flat_table bytes.now e) }
-    ensures only { (v : RevokeFlatValue) → IsRevokeFlat bytes.now v → ReturnsOrNoMemory revoke_flat_view result
+    ensures only { (v : RevokeFlatValue) → IsRevokeFlat bytes.now v →
+        ReturnsOrNoMemory revoke_flat_view result
         (Ok v) }
     ensures only_fault { (e : WireError) → HasFault revoke_flat_table bytes.now e →
         ReturnsOrNoMemory revoke_flat_view result (Err e) }
@@ -139,7 +145,8 @@ pub fn read_revoke_flat(alloc: Global, bytes: &[u8]) -> Result<OperatorRevokeFla
 }
 
 pub fn write_revoke_flat(alloc: Global, message: &OperatorRevokeFlat) -> Result<Vec<u8>, AllocError>
-    ensures spelled { IfOk result (λ v. v.items ≡ revoke_flat_bytes (revoke_flat_view message.now)) }
+    ensures spelled { IfOk result (λ v. v.items ≡
+        revoke_flat_bytes (revoke_flat_view message.now)) }
     ensures read_again { IfOk result (λ v. IsRevokeFlat v.items (revoke_flat_view message.now)) }
 {
     message.encode(alloc)
@@ -148,7 +155,8 @@ pub fn write_revoke_flat(alloc: Global, message: &OperatorRevokeFlat) -> Result<
 pub fn read_release(alloc: Global, bytes: &[u8]) -> Result<PackageRelease, WireError>
     ensures found { IfOk result (λ v. IsRelease bytes.now (release_view v)) }
     ensures fault { IfErr result (λ e. e ≢ OutOfMemory → HasFault release_table bytes.now e) }
-    ensures only { (v : ReleaseValue) → IsRelease bytes.now v → ReturnsOrNoMemory release_view result (Ok v) }
+    ensures only { (v : ReleaseValue) → IsRelease bytes.now v →
+        ReturnsOrNoMemory release_view result (Ok v) }
     ensures only_fault { (e : WireError) → HasFault release_table bytes.now e →
         ReturnsOrNoMemory release_view result (Err e) }
     ensures computed { ReturnsOrNoMemory release_view result (release_of bytes.now) }
@@ -166,8 +174,10 @@ pub fn write_release(alloc: Global, message: &PackageRelease) -> Result<Vec<u8>,
 pub fn read_yank(alloc: Global, bytes: &[u8]) -> Result<PackageYank, WireError>
     ensures found { IfOk result (λ v. IsYank bytes.now (yank_view v)) }
     ensures fault { IfErr result (λ e. e ≢ OutOfMemory → HasFault yank_table bytes.now e) }
-    ensures only { (v : YankValue) → IsYank bytes.now v → ReturnsOrNoMemory yank_view result (Ok v) }
-    ensures only_fault { (e : WireError) → HasFault yank_table bytes.now e → ReturnsOrNoMemory yank_view result
+    ensures only { (v : YankValue) → IsYank bytes.now v →
+        ReturnsOrNoMemory yank_view result (Ok v) }
+    ensures only_fault { (e : WireError) → HasFault yank_table bytes.now e →
+        ReturnsOrNoMemory yank_view result
         (Err e) }
     ensures computed { ReturnsOrNoMemory yank_view result (yank_of bytes.now) }
 {
@@ -186,12 +196,14 @@ pub fn read_define_namespace(
     bytes: &[u8],
 ) -> Result<OperatorDefineNamespace, WireError>
     ensures found { IfOk result (λ v. IsDefineNamespace bytes.now (define_namespace_view v)) }
-    ensures fault { IfErr result (λ e. e ≢ OutOfMemory → HasFault define_namespace_table bytes.now e) }
+    ensures fault { IfErr result (λ e. e ≢ OutOfMemory →
+        HasFault define_namespace_table bytes.now e) }
     ensures only { (v : DefineNamespaceValue) → IsDefineNamespace bytes.now v →
         ReturnsOrNoMemory define_namespace_view result (Ok v) }
     ensures only_fault { (e : WireError) → HasFault define_namespace_table bytes.now e →
         ReturnsOrNoMemory define_namespace_view result (Err e) }
-    ensures computed { ReturnsOrNoMemory define_namespace_view result (define_namespace_of bytes.now) }
+    ensures computed { ReturnsOrNoMemory define_namespace_view result
+        (define_namespace_of bytes.now) }
 {
     OperatorDefineNamespace::decode(alloc, bytes)
 }
@@ -200,8 +212,10 @@ pub fn write_define_namespace(
     alloc: Global,
     message: &OperatorDefineNamespace,
 ) -> Result<Vec<u8>, AllocError>
-    ensures spelled { IfOk result (λ v. v.items ≡ define_namespace_bytes (define_namespace_view message.now)) }
-    ensures read_again { IfOk result (λ v. IsDefineNamespace v.items (define_namespace_view message.now)) }
+    ensures spelled { IfOk result (λ v. v.items ≡
+        define_namespace_bytes (define_namespace_view message.now)) }
+    ensures read_again { IfOk result
+        (λ v. IsDefineNamespace v.items (define_namespace_view message.now)) }
 {
     message.encode(alloc)
 }
@@ -211,12 +225,14 @@ pub fn read_import_namespace(
     bytes: &[u8],
 ) -> Result<OperatorImportNamespace, WireError>
     ensures found { IfOk result (λ v. IsImportNamespace bytes.now (import_namespace_view v)) }
-    ensures fault { IfErr result (λ e. e ≢ OutOfMemory → HasFault import_namespace_table bytes.now e) }
+    ensures fault { IfErr result (λ e. e ≢ OutOfMemory →
+        HasFault import_namespace_table bytes.now e) }
     ensures only { (v : ImportNamespaceValue) → IsImportNamespace bytes.now v →
         ReturnsOrNoMemory import_namespace_view result (Ok v) }
     ensures only_fault { (e : WireError) → HasFault import_namespace_table bytes.now e →
         ReturnsOrNoMemory import_namespace_view result (Err e) }
-    ensures computed { ReturnsOrNoMemory import_namespace_view result (import_namespace_of bytes.now) }
+    ensures computed { ReturnsOrNoMemory import_namespace_view result
+        (import_namespace_of bytes.now) }
 {
     OperatorImportNamespace::decode(alloc, bytes)
 }
@@ -225,8 +241,10 @@ pub fn write_import_namespace(
     alloc: Global,
     message: &OperatorImportNamespace,
 ) -> Result<Vec<u8>, AllocError>
-    ensures spelled { IfOk result (λ v. v.items ≡ import_namespace_bytes (import_namespace_view message.now)) }
-    ensures read_again { IfOk result (λ v. IsImportNamespace v.items (import_namespace_view message.now)) }
+    ensures spelled { IfOk result (λ v. v.items ≡
+        import_namespace_bytes (import_namespace_view message.now)) }
+    ensures read_again { IfOk result
+        (λ v. IsImportNamespace v.items (import_namespace_view message.now)) }
 {
     message.encode(alloc)
 }
@@ -244,15 +262,18 @@ pub fn read_package_entry(alloc: Global, bytes: &[u8]) -> Result<PackageEntry, W
 }
 
 pub fn write_package_entry(alloc: Global, message: &PackageEntry) -> Result<Vec<u8>, AllocError>
-    ensures spelled { IfOk result (λ v. v.items ≡ package_entry_bytes (package_entry_view message.now)) }
-    ensures read_again { IfOk result (λ v. IsPackageEntry v.items (package_entry_view message.now)) }
+    ensures spelled { IfOk result (λ v. v.items ≡
+        package_entry_bytes (package_entry_view message.now)) }
+    ensures read_again { IfOk result
+        (λ v. IsPackageEntry v.items (package_entry_view message.now)) }
 {
     message.encode(alloc)
 }
 
 pub fn read_operator_entry(alloc: Global, bytes: &[u8]) -> Result<OperatorEntry, WireError>
     ensures found { IfOk result (λ v. IsOperatorEntry bytes.now (operator_entry_view v)) }
-    ensures fault { IfErr result (λ e. e ≢ OutOfMemory → HasFault operator_entry_table bytes.now e) }
+    ensures fault { IfErr result (λ e. e ≢ OutOfMemory →
+        HasFault operator_entry_table bytes.now e) }
     ensures only { (v : Option OperatorMember) → IsOperatorEntry bytes.now v →
         ReturnsOrNoMemory operator_entry_view result (Ok v) }
     ensures only_fault { (e : WireError) → HasFault operator_entry_table bytes.now e →
@@ -263,15 +284,18 @@ pub fn read_operator_entry(alloc: Global, bytes: &[u8]) -> Result<OperatorEntry,
 }
 
 pub fn write_operator_entry(alloc: Global, message: &OperatorEntry) -> Result<Vec<u8>, AllocError>
-    ensures spelled { IfOk result (λ v. v.items ≡ operator_entry_bytes (operator_entry_view message.now)) }
-    ensures read_again { IfOk result (λ v. IsOperatorEntry v.items (operator_entry_view message.now)) }
+    ensures spelled { IfOk result (λ v. v.items ≡
+        operator_entry_bytes (operator_entry_view message.now)) }
+    ensures read_again { IfOk result
+        (λ v. IsOperatorEntry v.items (operator_entry_view message.now)) }
 {
     message.encode(alloc)
 }
 
 pub fn read_package_record(alloc: Global, bytes: &[u8]) -> Result<PackageRecord, WireError>
     ensures found { IfOk result (λ v. IsPackageRecord bytes.now (package_record_view v)) }
-    ensures fault { IfErr result (λ e. e ≢ OutOfMemory → HasFault package_record_table bytes.now e) }
+    ensures fault { IfErr result (λ e. e ≢ OutOfMemory →
+        HasFault package_record_table bytes.now e) }
     ensures only { (v : RecordValue (List (Option PackageMember))) → IsPackageRecord bytes.now v →
         ReturnsOrNoMemory package_record_view result (Ok v) }
     ensures only_fault { (e : WireError) → HasFault package_record_table bytes.now e →
@@ -282,27 +306,33 @@ pub fn read_package_record(alloc: Global, bytes: &[u8]) -> Result<PackageRecord,
 }
 
 pub fn write_package_record(alloc: Global, message: &PackageRecord) -> Result<Vec<u8>, AllocError>
-    ensures spelled { IfOk result (λ v. v.items ≡ package_record_bytes (package_record_view message.now)) }
-    ensures read_again { IfOk result (λ v. IsPackageRecord v.items (package_record_view message.now)) }
+    ensures spelled { IfOk result (λ v. v.items ≡
+        package_record_bytes (package_record_view message.now)) }
+    ensures read_again { IfOk result
+        (λ v. IsPackageRecord v.items (package_record_view message.now)) }
 {
     message.encode(alloc)
 }
 
 pub fn read_operator_record(alloc: Global, bytes: &[u8]) -> Result<OperatorRecord, WireError>
     ensures found { IfOk result (λ v. IsOperatorRecord bytes.now (operator_record_view v)) }
-    ensures fault { IfErr result (λ e. e ≢ OutOfMemory → HasFault operator_record_table bytes.now e) }
+    ensures fault { IfErr result (λ e. e ≢ OutOfMemory →
+        HasFault operator_record_table bytes.now e) }
     ensures only { (v : RecordValue (List (Option OperatorMember))) → IsOperatorRecord bytes.now v →
         ReturnsOrNoMemory operator_record_view result (Ok v) }
     ensures only_fault { (e : WireError) → HasFault operator_record_table bytes.now e →
         ReturnsOrNoMemory operator_record_view result (Err e) }
-    ensures computed { ReturnsOrNoMemory operator_record_view result (operator_record_of bytes.now) }
+    ensures computed { ReturnsOrNoMemory operator_record_view result
+        (operator_record_of bytes.now) }
 {
     OperatorRecord::decode(alloc, bytes)
 }
 
 pub fn write_operator_record(alloc: Global, message: &OperatorRecord) -> Result<Vec<u8>, AllocError>
-    ensures spelled { IfOk result (λ v. v.items ≡ operator_record_bytes (operator_record_view message.now)) }
-    ensures read_again { IfOk result (λ v. IsOperatorRecord v.items (operator_record_view message.now)) }
+    ensures spelled { IfOk result (λ v. v.items ≡
+        operator_record_bytes (operator_record_view message.now)) }
+    ensures read_again { IfOk result
+        (λ v. IsOperatorRecord v.items (operator_record_view message.now)) }
 {
     message.encode(alloc)
 }

@@ -68,7 +68,8 @@ impl fmt::Debug for LogId {
     ghost debug_output = { λ id. Some (hash_text id.hash) };
 
     fn fmt<W: fmt::Write>(&self, f: &mut fmt::Formatter<W>) -> fmt::Result
-        ensures styled { WritesStyledOnOk W.write_str_gives f.old result (hash_text self.now.hash) f.new }
+        ensures styled { WritesStyledOnOk W.write_str_gives f.old result
+            (hash_text self.now.hash) f.new }
     {
         fmt::Display::fmt(self, f)
     }

@@ -16,7 +16,8 @@ pub fn visit_hash<BV: ByteVisitor>(
     ensures same { visitor.new.visitor.ghost_name ≡ visitor.old.visitor.ghost_name }
     ensures ok { (m : List ℕ) → BV.seen visitor.old.visitor.now m →
         OnOk result (BV.seen visitor.new.visitor.now (m ++ hash_encoding_of hash.now)) }
-    ensures err { OnErr result (Stops BV.seen BV.refuses visitor.old.visitor.now visitor.new.visitor.now
+    ensures err { OnErr result (Stops BV.seen BV.refuses visitor.old.visitor.now
+        visitor.new.visitor.now
         (hash_encoding_of hash.now)) }
 {
     let mut buffer = [0u8; 71];

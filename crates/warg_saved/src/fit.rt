@@ -78,7 +78,8 @@ pub fn check_rights<V: SavedValue>(
     rights: &IndexMap<KeyID, V>,
     keys: &IndexMap<KeyID, PublicKey>,
 ) -> Result<(), JsonError>
-    ensures { RefusesCase (rights_case (plain_pairs (λ id. id) V.plain rights.now.entries) keys.now.entries) result }
+    ensures { RefusesCase (rights_case (plain_pairs (λ id. id) V.plain rights.now.entries)
+        keys.now.entries) result }
 {
     if has_unknown(rights, keys) {
         return Err(JsonError::Incoherent(Incoherence::PermissionsWithoutKey));

@@ -34,8 +34,10 @@ pub fn map_value<K: SavedName, V: SavedValue>(
 ) -> Result<Value, JsonError>
     ensures written { ReturnsOrNoMemory view result (pairs_json K.name_of V.writes
         (plain_pairs K.plain V.plain map.now.entries)) }
-    ensures back { OnOk result (AreVersionsBack K.versions V.versions (plain_pairs K.plain V.plain map.now.entries)
-        → AreBack K.name_of K.named V.writes V.reads (plain_pairs K.plain V.plain map.now.entries)) }
+    ensures back { OnOk result (AreVersionsBack K.versions V.versions
+        (plain_pairs K.plain V.plain map.now.entries)
+        → AreBack K.name_of K.named V.writes V.reads
+        (plain_pairs K.plain V.plain map.now.entries)) }
 {
     let mut members = Map::new(alloc);
     'entries: for (key, value) in map.iter() {
@@ -63,9 +65,12 @@ pub fn put_map<K: SavedName, V: SavedValue>(
     ensures written { ReturnsOrNoMemory (λ _. members_view members.new.entries) result
         (put_pairs K.name_of V.writes name.now (plain_pairs K.plain V.plain map.now.entries)
         (members_view members.old.entries)) }
-    ensures back { OnOk result (AreVersionsBack K.versions V.versions (plain_pairs K.plain V.plain map.now.entries)
-        → AreBack K.name_of K.named V.writes V.reads (plain_pairs K.plain V.plain map.now.entries)) }
-    ensures kept { OnErr result (members_view members.new.entries ≡ members_view members.old.entries) }
+    ensures back { OnOk result (AreVersionsBack K.versions V.versions
+        (plain_pairs K.plain V.plain map.now.entries)
+        → AreBack K.name_of K.named V.writes V.reads
+        (plain_pairs K.plain V.plain map.now.entries)) }
+    ensures kept { OnErr result (members_view members.new.entries ≡
+        members_view members.old.entries) }
 {
     if map.is_empty() {
         return Ok(());

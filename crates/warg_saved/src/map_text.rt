@@ -24,11 +24,15 @@ fn by_name<'m, K: SavedName, V: SavedValue>(
     map: &'m IndexMap<K, V>,
 ) -> Result<BTreeMap<String, &'m V>, JsonError>
     ensures ok { IfOk result (λ named. (ms : Members) × AreMembers V.plain V.writes named.entries ms
-        × (pairs_onto K.name_of V.writes no_members (plain_pairs K.plain V.plain map.now.entries) ≡ Ok ms)) }
-    ensures back { OnOk result (AreVersionsBack K.versions V.versions (plain_pairs K.plain V.plain map.now.entries)
-        → AreBack K.name_of K.named V.writes V.reads (plain_pairs K.plain V.plain map.now.entries)) }
+        × (pairs_onto K.name_of V.writes no_members (plain_pairs K.plain V.plain map.now.entries) ≡
+        Ok ms)) }
+    ensures back { OnOk result (AreVersionsBack K.versions V.versions
+        (plain_pairs K.plain V.plain map.now.entries)
+        → AreBack K.name_of K.named V.writes V.reads
+        (plain_pairs K.plain V.plain map.now.entries)) }
     ensures err { IfErr result (λ e. (e ≡ fault.OutOfMemory)
-        ⊎ (pairs_onto K.name_of V.writes no_members (plain_pairs K.plain V.plain map.now.entries) ≡ Err e)) }
+        ⊎ (pairs_onto K.name_of V.writes no_members (plain_pairs K.plain V.plain map.now.entries) ≡
+        Err e)) }
 {
     let mut named = BTreeMap::new(alloc);
     'entries: for (key, value) in map.iter() {
@@ -72,8 +76,10 @@ pub(crate) fn map_text<K: SavedName, V: SavedValue>(
 ) -> Result<String, JsonError>
     ensures written { ReturnsOrNoMemory string_bytes result (text_of (pairs_json K.name_of V.writes
         (plain_pairs K.plain V.plain map.now.entries))) }
-    ensures back { OnOk result (AreVersionsBack K.versions V.versions (plain_pairs K.plain V.plain map.now.entries)
-        → AreBack K.name_of K.named V.writes V.reads (plain_pairs K.plain V.plain map.now.entries)) }
+    ensures back { OnOk result (AreVersionsBack K.versions V.versions
+        (plain_pairs K.plain V.plain map.now.entries)
+        → AreBack K.name_of K.named V.writes V.reads
+        (plain_pairs K.plain V.plain map.now.entries)) }
 {
     let named = by_name(alloc, map)?;
     joined(alloc, &named)

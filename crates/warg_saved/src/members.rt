@@ -26,8 +26,10 @@ pub fn put_algorithm(
     algorithm: &Option<HashAlgorithm>,
 ) -> Result<(), JsonError>
     ensures written { ReturnsOrNoMemory (λ _. members_view members.new.entries) result
-        (put_option algorithm_json (codes "algorithm") algorithm.now (members_view members.old.entries)) }
-    ensures kept { OnErr result (members_view members.new.entries ≡ members_view members.old.entries) }
+        (put_option algorithm_json (codes "algorithm") algorithm.now
+        (members_view members.old.entries)) }
+    ensures kept { OnErr result (members_view members.new.entries ≡
+        members_view members.old.entries) }
 {
     let Some(algorithm) = algorithm else {
         return Ok(());
@@ -37,7 +39,8 @@ pub fn put_algorithm(
 
 /// The algorithm of a state, where a missing one and null are none.
 pub fn algorithm_member(alloc: Global, value: &Value) -> Result<Option<HashAlgorithm>, JsonError>
-    ensures { ReturnsOrNoMemory (λ a. a) result (optional_member algorithm_in (codes "algorithm") (view value.now)) }
+    ensures { ReturnsOrNoMemory (λ a. a) result
+        (optional_member algorithm_in (codes "algorithm") (view value.now)) }
 {
     optional_member::<HashAlgorithm>(alloc, value, "algorithm")
 }
@@ -49,9 +52,11 @@ pub fn put_keys(
     keys: &IndexMap<KeyID, PublicKey>,
 ) -> Result<(), JsonError>
     ensures written { ReturnsOrNoMemory (λ _. members_view members.new.entries) result
-        (put_pairs text_name key_json (codes "keys") keys.now.entries (members_view members.old.entries)) }
+        (put_pairs text_name key_json (codes "keys") keys.now.entries
+        (members_view members.old.entries)) }
     ensures back { OnOk result (AreBack text_name text_named key_json key_in keys.now.entries) }
-    ensures kept { OnErr result (members_view members.new.entries ≡ members_view members.old.entries) }
+    ensures kept { OnErr result (members_view members.new.entries ≡
+        members_view members.old.entries) }
 {
     put_map(members, alloc, "keys", keys)
 }

@@ -38,7 +38,8 @@ pub(crate) fn owned_value(alloc: Global, value: &TextValue<'_>) -> Option<Value>
 
 #[cycle(owned_value)]
 fn owned_items(alloc: Global, items: &Vec<TextValue<'_>>) -> Option<Vec<Value>>
-    ensures { IfSome result (λ list. of_items (text.items_view items.now.items) ≡ Some (items_view list.items)) }
+    ensures { IfSome result (λ list. of_items (text.items_view items.now.items) ≡
+        Some (items_view list.items)) }
 {
     let mut list = Vec::with_capacity(alloc, items.len()).ok()?;
     'items: for item in items.iter() {

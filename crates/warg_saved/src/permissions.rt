@@ -28,7 +28,8 @@ fn permissions_of<P: LogPermission>(
     alloc: Global,
     items: &Vec<Value>,
 ) -> Result<IndexSet<P>, JsonError>
-    ensures { ReturnsOrNoMemory (λ s. s.keys) result (permissions_from P.eq P.named [] (items_view items.now.items)) }
+    ensures { ReturnsOrNoMemory (λ s. s.keys) result
+        (permissions_from P.eq P.named [] (items_view items.now.items)) }
 {
     let mut set = IndexSet::new(alloc);
     'items: for value in items.iter() {

@@ -92,8 +92,10 @@ impl MemberTexts {
         value: &Option<T>,
     ) -> Result<(), JsonError>
         requires { (x : T.Plain) → HasNoFloat (T.writes x) }
-        ensures written { PutsText (put_option T.writes name.now (option_map T.plain value.now)) result self.old self.new }
-        ensures back { OnOk result ((x : T.Plain) → option_map T.plain value.now ≡ Some x → AreReadBack (T.versions x)
+        ensures written { PutsText (put_option T.writes name.now (option_map T.plain value.now))
+            result self.old self.new }
+        ensures back { OnOk result ((x : T.Plain) → option_map T.plain value.now ≡ Some x →
+            AreReadBack (T.versions x)
             → IsReadBack T.writes T.reads T.equivalent x) }
     {
         let Some(value) = value else {
@@ -111,8 +113,10 @@ impl MemberTexts {
     ) -> Result<(), JsonError>
         ensures written { PutsText (put_pairs K.name_of V.writes name.now
             (plain_pairs K.plain V.plain map.now.entries)) result self.old self.new }
-        ensures back { OnOk result (AreVersionsBack K.versions V.versions (plain_pairs K.plain V.plain map.now.entries)
-            → AreBack K.name_of K.named V.writes V.reads (plain_pairs K.plain V.plain map.now.entries)) }
+        ensures back { OnOk result (AreVersionsBack K.versions V.versions
+            (plain_pairs K.plain V.plain map.now.entries)
+            → AreBack K.name_of K.named V.writes V.reads
+            (plain_pairs K.plain V.plain map.now.entries)) }
     {
         if map.is_empty() {
             return Ok(());
@@ -123,7 +127,8 @@ impl MemberTexts {
 
     /// Puts the keys, unless there are none. After an error the texts are of no use.
     pub fn put_keys(&mut self, keys: &IndexMap<KeyID, PublicKey>) -> Result<(), JsonError>
-        ensures written { PutsText (put_pairs text_name key_json (codes "keys") keys.now.entries) result self.old self.new }
+        ensures written { PutsText (put_pairs text_name key_json (codes "keys") keys.now.entries)
+            result self.old self.new }
         ensures back { OnOk result (AreBack text_name text_named key_json key_in keys.now.entries) }
     {
         self.put_map("keys", keys)
@@ -141,7 +146,8 @@ impl MemberTexts {
 
     /// The text of the object, with no space. The error is `OutOfMemory`.
     pub fn text(&self) -> Result<String, JsonError>
-        ensures ok { IfOk result (λ s. (ms : Members) → self.now ≡ texts_of ms → string_bytes s ≡ compact_text
+        ensures ok { IfOk result (λ s. (ms : Members) → self.now ≡ texts_of ms →
+            string_bytes s ≡ compact_text
             (object ms)) }
         ensures err { IfErr result (λ e. e ≡ fault.OutOfMemory) }
     {

@@ -35,7 +35,8 @@ fn ascends(last: Option<&str>, name: &str) -> bool
 
 /// The value that comes next.
 fn next_value(alloc: Global, reader: &mut Reader<'_>, depth: usize) -> Option<Value>
-    ensures read { IfSome result (λ v. converted of_json (value depth reader.old) ≡ Some (view v, reader.new)) }
+    ensures read { IfSome result (λ v. converted of_json (value depth reader.old) ≡
+        Some (view v, reader.new)) }
     ensures shorter { OnSome result (length reader.new < length reader.old) }
 {
     let value = TextValue::read(alloc, reader, depth).ok()?;
@@ -90,7 +91,8 @@ fn next_members<K: SavedName, V: SavedValue>(
     depth: usize,
 ) -> Option<IndexMap<K, V>>
     ensures read { IfSome result (λ map. (ms : Members)
-        × (converted (λ js. of_members js no_members) (members (value depth) (length reader.old) reader.old)
+        × (converted (λ js. of_members js no_members)
+        (members (value depth) (length reader.old) reader.old)
         ≡ Some (ms, reader.new))
         × (pairs_of K.named V.reads ms ≡ Ok (plain_pairs K.plain V.plain map.entries))) }
     ensures shorter { OnSome result (length reader.new < length reader.old) }
@@ -135,7 +137,8 @@ fn next_other(
     name: &str,
     others: &mut Map<String, Value>,
 ) -> Option<()>
-    ensures read { OnSome result ((d : Data) × (converted of_json (value 126 reader.old) ≡ Some (d, reader.new))
+    ensures read { OnSome result ((d : Data) ×
+        (converted of_json (value 126 reader.old) ≡ Some (d, reader.new))
         × (members_view others.new.entries ≡ put name.now d (members_view others.old.entries))) }
     ensures shorter { OnSome result (length reader.new < length reader.old) }
 {
@@ -152,11 +155,13 @@ fn next_parts<K: SavedName, V: SavedValue>(
     apart: &str,
 ) -> Option<(Map<String, Value>, IndexMap<K, V>)>
     ensures { IfSome result (λ p. (ms : Members)
-        × (converted (λ js. of_members js no_members) (members (value 126) (length reader.old) reader.old)
+        × (converted (λ js. of_members js no_members)
+        (members (value 126) (length reader.old) reader.old)
         ≡ Some (ms, reader.new))
         × ((name : List ℕ) → bytes_eq name apart.now ≡ false
         → get_member name (members_view p.0.entries) ≡ get_member name ms)
-        × (pairs_or_none K.named V.reads (get_member apart.now ms) ≡ Ok (plain_pairs K.plain V.plain p.1.entries))) }
+        × (pairs_or_none K.named V.reads (get_member apart.now ms) ≡
+        Ok (plain_pairs K.plain V.plain p.1.entries))) }
 {
     let mut others = Map::new(alloc);
     let mut map = IndexMap::new(alloc);

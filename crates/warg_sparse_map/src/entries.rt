@@ -51,7 +51,8 @@ fn leads(from: [u8; 32], key: &[u8; 32], path: &[[u8; 32]], root: &[u8; 32]) -> 
 /// Whether the path leads from the value at the key to the root.
 pub fn verify_entry(key: &[u8; 32], value: &[u8], path: &[[u8; 32]], root: &[u8; 32]) -> bool
     ensures exact { IsTrue result ↔ Leads sha256 (Some value.now) key.now path.now root.now }
-    ensures sound { IsTrue result → (m : List Side → Option (List ℕ)) → map_root sha256 256 m ≡ root.now → IsOwn sha256 m (Some value.now) key.now path.now }
+    ensures sound { IsTrue result → (m : List Side → Option (List ℕ)) → map_root sha256 256 m ≡
+        root.now → IsOwn sha256 m (Some value.now) key.now path.now }
 {
     leads(leaf_hash(value), key, path, root)
 }
@@ -59,7 +60,8 @@ pub fn verify_entry(key: &[u8; 32], value: &[u8], path: &[[u8; 32]], root: &[u8;
 /// Whether the path leads from no value at the key to the root.
 pub fn verify_absence(key: &[u8; 32], path: &[[u8; 32]], root: &[u8; 32]) -> bool
     ensures exact { IsTrue result ↔ Leads sha256 None key.now path.now root.now }
-    ensures sound { IsTrue result → (m : List Side → Option (List ℕ)) → map_root sha256 256 m ≡ root.now → IsOwn sha256 m None key.now path.now }
+    ensures sound { IsTrue result → (m : List Side → Option (List ℕ)) → map_root sha256 256 m ≡
+        root.now → IsOwn sha256 m None key.now path.now }
 {
     leads(Sha256::digest(b""), key, path, root)
 }

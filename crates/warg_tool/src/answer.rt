@@ -37,7 +37,8 @@ impl Answer {
 
     /// A fixed text that says nothing on standard error.
     pub(crate) fn fixed(alloc: Global, text: &str, status: u8) -> Result<Answer, AllocError>
-        ensures { IfOk result (λ answer. answer_view answer ≡ record { text = text.now; status = status }) }
+        ensures { IfOk result (λ answer. answer_view answer ≡
+            record { text = text.now; status = status }) }
     {
         Ok(Answer::new(alloc, String::from_str(alloc, text)?, status))
     }

@@ -31,7 +31,8 @@ pub(crate) fn id_answer(alloc: Global, kind: LogType, input: Input<'_>) -> Resul
 
 // The verdict on a lawful log.
 pub(crate) fn accepted<L: ToolLog>(alloc: Global, state: &L, count: usize) -> Result<Answer, Stop>
-    ensures { Answers (λ printed. printed ≡ accepted count (L.kind.head (L.view state.now)) (L.lines_of state.now)) result }
+    ensures { Answers (λ printed. printed ≡ accepted count (L.kind.head (L.view state.now))
+        (L.lines_of state.now)) result }
 {
     let reply = accepted_reply(alloc, state, count)?;
     Ok(Answer::of_reply(alloc, &reply)?)
@@ -42,8 +43,10 @@ fn verdict<L: ToolLog, V: Verifier>(
     verifier: &V,
     input: Input<'_>,
 ) -> Result<Answer, Stop>
-    ensures { ForShown L.view L.kind L.Record.read L.Record.fault_of L.offence_of L.name_of L.lines_of (λ log.
-        Answers (IsAuditAnswer log (V.belongs verifier.now) (record_lines input.entry.bytes.items)) result) }
+    ensures { ForShown L.view L.kind L.Record.read L.Record.fault_of L.offence_of
+        L.name_of L.lines_of (λ log.
+        Answers (IsAuditAnswer log (V.belongs verifier.now) (record_lines input.entry.bytes.items))
+        result) }
 {
     match judged::<L, V>(alloc, verifier, input) {
         Ok((state, count)) => accepted(alloc, &state, count),
@@ -58,7 +61,8 @@ pub(crate) fn audit_answer<V: Verifier>(
     kind: LogType,
     input: Input<'_>,
 ) -> Result<Answer, Stop>
-    ensures { Answers (IsAuditOf kind (V.belongs verifier.now) (record_lines input.entry.bytes.items)) result }
+    ensures { Answers (IsAuditOf kind (V.belongs verifier.now)
+        (record_lines input.entry.bytes.items)) result }
 {
     match kind {
         LogType::Package => verdict::<package::LogState, V>(alloc, verifier, input),

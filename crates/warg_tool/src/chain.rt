@@ -52,7 +52,8 @@ fn chain_lines<C>(
     links: &[Link],
     key_id: &KeyID,
 ) -> Result<String, AllocError>
-    ensures { IfOk result (λ text. string_bytes text ≡ links_text (envelopes records.now) key_id.now links.now) }
+    ensures { IfOk result (λ text. string_bytes text ≡
+        links_text (envelopes records.now) key_id.now links.now) }
 {
     let mut text = String::new(alloc);
     let mut rest = links;
@@ -110,8 +111,10 @@ pub(crate) fn chain_answer<L: ToolLog, V: Verifier>(
     permission: L::Permission,
     input: Input<'_>,
 ) -> Result<Answer, Stop>
-    ensures { ForShown L.view L.kind L.Record.read L.Record.fault_of L.offence_of L.name_of L.lines_of (λ log.
-        Answers (IsPrintedOf log (V.belongs verifier.now) (IsChainText log L.effects key_id.now permission)
+    ensures { ForShown L.view L.kind L.Record.read L.Record.fault_of L.offence_of
+        L.name_of L.lines_of (λ log.
+        Answers (IsPrintedOf log (V.belongs verifier.now)
+        (IsChainText log L.effects key_id.now permission)
         (record_lines input.entry.bytes.items)) result) }
 {
     let key_id = KeyID::from(String::from_str(alloc, key_id)?);

@@ -22,7 +22,8 @@ use warg_verified::Claim;
 
 // Appends the line of a claim.
 fn append_claim(alloc: Global, claim: &Claim, text: &mut String) -> Result<(), AllocError>
-    ensures { OnOk result (string_bytes text.new ≡ string_bytes text.old ++ line (claim_text claim.now)) }
+    ensures { OnOk result (string_bytes text.new ≡ string_bytes text.old ++
+        line (claim_text claim.now)) }
 {
     let said = claim.to_string(alloc)?;
     text.push_str(said.as_str())?;
@@ -57,7 +58,8 @@ fn cut_answer<L: ToolLog + Hosted>(
     count: usize,
     cause: RunCause<L::Error>,
 ) -> Result<Answer, Stop>
-    ensures { Answers (λ printed. printed ≡ record { text = string_bytes text; status = 1 }) result }
+    ensures { Answers (λ printed. printed ≡ record { text = string_bytes text; status = 1 })
+        result }
 {
     if is_out_of_memory::<L>(&cause) {
         return Err(Stop::OutOfMemory);
@@ -76,7 +78,8 @@ fn list_answer<L: ToolLog + Hosted>(
     path: &str,
     strings: &[Vec<u8>],
 ) -> Result<Answer, Stop>
-    ensures { Answers (IsClaimList L.kind (envelope_of L.Record.read) (map vec_items strings.now)) result }
+    ensures { Answers (IsClaimList L.kind (envelope_of L.Record.read) (map vec_items strings.now))
+        result }
 {
     let LogClaims { claims, refusal } = claims::<L>(alloc, strings);
     let text = claim_lines(alloc, claims.as_slice())?;
@@ -91,7 +94,8 @@ pub(crate) fn claims_answer<L: ToolLog + Hosted>(
     alloc: Global,
     input: Input<'_>,
 ) -> Result<Answer, Stop>
-    ensures { Answers (IsClaimsAnswer L.kind (envelope_of L.Record.read) (record_lines input.entry.bytes.items)) result }
+    ensures { Answers (IsClaimsAnswer L.kind (envelope_of L.Record.read)
+        (record_lines input.entry.bytes.items)) result }
 {
     match file_strings(alloc, input.path, input.bytes) {
         Ok(strings) => list_answer::<L>(alloc, input.path, strings.as_slice()),

@@ -38,7 +38,8 @@ fn asked_answer<V: Verifier, S: Store>(
     question: &Question<'_>,
     store: &mut S,
 ) -> Result<Answer, Stop>
-    ensures { Answers (IsAskedAnswer kind (V.belongs verifier.now) (S.files store.old) question.now) result }
+    ensures { Answers (IsAskedAnswer kind (V.belongs verifier.now) (S.files store.old) question.now)
+        result }
 {
     match kind {
         LogType::Package => {
@@ -106,7 +107,8 @@ fn request_answer<V: Verifier, S: Store>(
     request: &Request<'_>,
     store: &mut S,
 ) -> Result<Answer, Stop>
-    ensures { Answers (IsRequestAnswer (V.belongs verifier.now) (S.files store.old) request.now) result }
+    ensures { Answers (IsRequestAnswer (V.belongs verifier.now) (S.files store.old) request.now)
+        result }
 {
     match request {
         Request::Id { kind, log } => id_of_file(alloc, *kind, log, store),
@@ -130,7 +132,8 @@ pub(crate) fn given(
     invocation: &Invocation<'_>,
     answer: Answer,
 ) -> Result<Answer, AllocError>
-    ensures { IfOk result (λ it. IsGiven invocation.now.json invocation.now.command.now (answer_view answer)
+    ensures { IfOk result (λ it. IsGiven invocation.now.json invocation.now.command.now
+        (answer_view answer)
         (answer_view it)) }
 {
     if invocation.json {
@@ -148,8 +151,10 @@ pub fn respond<V: Verifier, S: Store>(
     store: &mut S,
 ) -> Result<Answer, AllocError>
     // Verdicts on many logs have an object for each log.
-    ensures { is_many invocation.now.request ≡ false → IfOk result (λ answer. IsGivenAs invocation.now.json
-        invocation.now.command.now (IsRequestAnswer (V.belongs verifier.now) (S.files store.old) invocation.now.request)
+    ensures { is_many invocation.now.request ≡ false →
+        IfOk result (λ answer. IsGivenAs invocation.now.json
+        invocation.now.command.now (IsRequestAnswer (V.belongs verifier.now) (S.files store.old)
+        invocation.now.request)
         (answer_view answer)) }
 {
     match &invocation.request {

@@ -51,11 +51,13 @@ fn side<L: ToolLog, V: Verifier + Drop>(
     name: &str,
     input: Input<'_>,
 ) -> Result<AuditedLog<L, V>, Stop>
-    ensures lawful { ForShown L.view L.kind L.Record.read L.Record.fault_of L.offence_of L.name_of L.lines_of (λ log.
+    ensures lawful { ForShown L.view L.kind L.Record.read L.Record.fault_of L.offence_of
+        L.name_of L.lines_of (λ log.
         IfOk result (λ kept. (strings : List (List ℕ)) ×
         (IsLawful log (V.belongs verifier) (record_lines input.entry.bytes.items) strings
         × (envelopes kept.records ≡ envelopes_of log strings)))) }
-    ensures stopped { ForShown L.view L.kind L.Record.read L.Record.fault_of L.offence_of L.name_of L.lines_of (λ log.
+    ensures stopped { ForShown L.view L.kind L.Record.read L.Record.fault_of L.offence_of
+        L.name_of L.lines_of (λ log.
         IfErr result (IfStopped (λ printed. (it : Printed) ×
         (IsNegative log (V.belongs verifier) (record_lines input.entry.bytes.items) it
         × (printed ≡ side_text name.now it))))) }
@@ -83,7 +85,8 @@ fn fork_answer<L: ToolLog>(
 ) -> Result<Answer, AllocError>
     requires left { place < length (contents (envelopes left.now)) }
     requires right { place < length (contents (envelopes right.now)) }
-    ensures { IfOk result (λ answer. answer_view answer ≡ comparison_text L.kind.id (contents (envelopes left.now))
+    ensures { IfOk result (λ answer. answer_view answer ≡
+        comparison_text L.kind.id (contents (envelopes left.now))
         (contents (envelopes right.now)) (outcome.Fork place)) }
 {
     let here = id_at::<L>(left, place);
@@ -99,8 +102,10 @@ fn comparison_answer<L: ToolLog>(
     left: &[ProtoEnvelope<L::Record>],
     right: &[ProtoEnvelope<L::Record>],
 ) -> Result<Answer, AllocError>
-    requires { IsForkWithin (contents (envelopes left.now)) (contents (envelopes right.now)) comparison }
-    ensures { IfOk result (λ answer. answer_view answer ≡ comparison_text L.kind.id (contents (envelopes left.now))
+    requires { IsForkWithin (contents (envelopes left.now))
+        (contents (envelopes right.now)) comparison }
+    ensures { IfOk result (λ answer. answer_view answer ≡
+        comparison_text L.kind.id (contents (envelopes left.now))
         (contents (envelopes right.now)) comparison) }
 {
     match comparison {
@@ -131,7 +136,8 @@ fn compared<L: ToolLog, V: Verifier + Drop>(
     left: &AuditedLog<L, V>,
     right: &AuditedLog<L, V>,
 ) -> Result<Answer, Stop>
-    ensures { Answers (IsComparisonOf L.kind (envelopes left.now.records) (envelopes right.now.records)) result }
+    ensures { Answers (IsComparisonOf L.kind (envelopes left.now.records)
+        (envelopes right.now.records)) result }
 {
     let comparison = left.compare(right);
     let (here, there) = (left.records(), right.records());
@@ -145,9 +151,11 @@ fn compared_with<L: ToolLog, V: Verifier + Drop>(
     verifier: V,
     right: Input<'_>,
 ) -> Result<Answer, Stop>
-    ensures { ForShown L.view L.kind L.Record.read L.Record.fault_of L.offence_of L.name_of L.lines_of (λ log.
+    ensures { ForShown L.view L.kind L.Record.read L.Record.fault_of L.offence_of
+        L.name_of L.lines_of (λ log.
         (here : List (List ℕ)) → envelopes left.now.records ≡ envelopes_of log here →
-        Answers (IsComparedWith log (V.belongs verifier) here (record_lines right.entry.bytes.items)) result) }
+        Answers (IsComparedWith log (V.belongs verifier) here
+        (record_lines right.entry.bytes.items)) result) }
 {
     match side::<L, V>(alloc, verifier, "right", right) {
         Ok(right) => compared(alloc, left, &right),
@@ -162,7 +170,8 @@ pub(crate) fn compare_answer<L: ToolLog, V: Verifier>(
     left: Input<'_>,
     right: Input<'_>,
 ) -> Result<Answer, Stop>
-    ensures { ForShown L.view L.kind L.Record.read L.Record.fault_of L.offence_of L.name_of L.lines_of (λ log.
+    ensures { ForShown L.view L.kind L.Record.read L.Record.fault_of L.offence_of
+        L.name_of L.lines_of (λ log.
         Answers (IsCompared log (V.belongs verifier.now) (record_lines left.entry.bytes.items)
         (record_lines right.entry.bytes.items)) result) }
 {

@@ -118,7 +118,8 @@ pub(crate) fn read_input<'a, S: Store>(
 ) -> Result<Input<'a>, Stop>
     ensures path { IfOk result (λ input. input.path.now ≡ path.now) }
     ensures bytes { IfOk result (λ input. Reads (S.files store.old) path.now input.bytes.items) }
-    ensures stopped { IfErr result (IfStopped (λ printed. (printed.text ≡ []) × (printed.status ≢ 0))) }
+    ensures stopped { IfErr result
+        (IfStopped (λ printed. (printed.text ≡ []) × (printed.status ≢ 0))) }
     ensures kept { S.files store.new ≡ S.files store.old }
 {
     match store.read(path) {
@@ -136,7 +137,8 @@ pub(crate) fn read_log<'a, S: Store>(
     ensures path { IfOk result (λ input. input.path.now ≡ path.now) }
     ensures bytes { IfOk result (λ input. (input.bytes.items ≡ [])
         ⊎ Reads (S.files store.old) path.now input.bytes.items) }
-    ensures stopped { IfErr result (IfStopped (λ printed. (printed.text ≡ []) × (printed.status ≢ 0))) }
+    ensures stopped { IfErr result
+        (IfStopped (λ printed. (printed.text ≡ []) × (printed.status ≢ 0))) }
     ensures kept { S.files store.new ≡ S.files store.old }
 {
     match store.read(path) {

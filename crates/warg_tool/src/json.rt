@@ -26,7 +26,8 @@ fn object(
     json: &str,
     status: u8,
 ) -> Result<String, AllocError>
-    ensures { IfOk result (λ text. string_bytes text ≡ json_object command.now member.now json.now status) }
+    ensures { IfOk result (λ text. string_bytes text ≡
+        json_object command.now member.now json.now status) }
 {
     format!(in alloc; "{{\"command\":\"{command}\",\"{member}\":{json},\"status\":{status}}}\n")
 }
@@ -68,7 +69,8 @@ fn line_object(alloc: Global, command: &str, status: u8, line: &str) -> Result<S
 
 // The object of each line of an answer's text.
 fn line_objects(alloc: Global, command: &str, status: u8, text: &str) -> Result<String, AllocError>
-    ensures { IfOk result (λ objects. string_bytes objects ≡ line_objects command.now status (lines text.now)) }
+    ensures { IfOk result (λ objects. string_bytes objects ≡
+        line_objects command.now status (lines text.now)) }
 {
     let mut objects = String::new(alloc);
     for line in text.lines() {
@@ -85,7 +87,8 @@ fn message_object(
     status: u8,
     sentence: &str,
 ) -> Result<String, AllocError>
-    ensures { IfOk result (λ text. string_bytes text ≡ message_object command.now status sentence.now) }
+    ensures { IfOk result (λ text. string_bytes text ≡
+        message_object command.now status sentence.now) }
 {
     let json = quoted(alloc, sentence)?;
     object(alloc, command, "message", json.as_str(), status)
@@ -93,7 +96,8 @@ fn message_object(
 
 // The objects of an answer.
 fn json_text(alloc: Global, command: &str, answer: &Answer) -> Result<String, AllocError>
-    ensures { IfOk result (λ text. IsJsonText command.now (answer_view answer.now) (string_bytes text)) }
+    ensures { IfOk result (λ text. IsJsonText command.now
+        (answer_view answer.now) (string_bytes text)) }
 {
     let text = answer.text.as_str();
     if text.is_empty() {

@@ -41,7 +41,8 @@ fn release_answer(alloc: Global, release: Option<&Release>) -> Result<Answer, Al
 
 /// The answer of a state: the greatest release that meets the requirement and is not yanked.
 fn latest_of(alloc: Global, state: &LogState, wanted: &VersionReq) -> Result<Answer, AllocError>
-    ensures { IfOk result (λ answer. IsLatestText (view_of state.now).state.own_state wanted.now.comparators.items
+    ensures { IfOk result (λ answer. IsLatestText (view_of state.now).state.own_state
+        wanted.now.comparators.items
         (answer_view answer)) }
 {
     release_answer(alloc, state.find_latest_release(wanted))
@@ -49,7 +50,8 @@ fn latest_of(alloc: Global, state: &LogState, wanted: &VersionReq) -> Result<Ans
 
 /// The requirement that the word says.
 pub(crate) fn requirement_of(alloc: Global, word: &str) -> Result<VersionReq, Stop>
-    ensures { IfOk result (λ wanted. req_of word.now ≡ Ok (map comparator_view wanted.comparators.items)) }
+    ensures { IfOk result (λ wanted. req_of word.now ≡
+        Ok (map comparator_view wanted.comparators.items)) }
 {
     match VersionReq::parse(alloc, word) {
         Ok(wanted) => Ok(wanted),
@@ -69,7 +71,8 @@ pub(crate) fn latest_answer<V: Verifier>(
     wanted: &VersionReq,
     input: Input<'_>,
 ) -> Result<Answer, Stop>
-    ensures { Answers (IsPrintedOf package_log (V.belongs verifier.now) (IsLatestOf wanted.now.comparators.items)
+    ensures { Answers (IsPrintedOf package_log (V.belongs verifier.now)
+        (IsLatestOf wanted.now.comparators.items)
         (record_lines input.entry.bytes.items)) result }
 {
     match judged::<LogState, V>(alloc, verifier, input) {

@@ -23,7 +23,8 @@ fn append_held<L: ToolLog>(
     text: &mut String,
 ) -> Result<(), AllocError>
     ensures { OnOk result (string_bytes text.new ≡ string_bytes text.old ++
-        (if L.held (L.view state.now) key_id.now permission then line (L.text_of permission) else [])) }
+        (if L.held (L.view state.now) key_id.now permission then line
+        (L.text_of permission) else [])) }
 {
     if !state.holds(key_id, permission) {
         return Ok(());
@@ -57,7 +58,8 @@ fn permissions_of<L: ToolLog>(
     state: &L,
     key_id: &KeyID,
 ) -> Result<Answer, AllocError>
-    ensures { IfOk result (λ answer. answer_view answer ≡ permissions_text (L.knows state.now key_id.now)
+    ensures { IfOk result (λ answer. answer_view answer ≡
+        permissions_text (L.knows state.now key_id.now)
         L.order L.text_of (L.held (L.view state.now) key_id.now)) }
 {
     if !state.has_entry(key_id) {
@@ -75,7 +77,8 @@ pub(crate) fn permissions_answer<L: ToolLog, V: Verifier>(
     key_id: &str,
     input: Input<'_>,
 ) -> Result<Answer, Stop>
-    ensures { ForShown L.view L.kind L.Record.read L.Record.fault_of L.offence_of L.name_of L.lines_of (λ log.
+    ensures { ForShown L.view L.kind L.Record.read L.Record.fault_of L.offence_of
+        L.name_of L.lines_of (λ log.
         Answers (IsPrintedOf log (V.belongs verifier.now)
         (IsPermissionsText log L.view L.knows L.held L.order L.text_of key_id.now)
         (record_lines input.entry.bytes.items)) result) }

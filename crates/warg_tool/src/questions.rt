@@ -38,8 +38,10 @@ fn state_of_file<L: ToolLog, V: Verifier, S: Store>(
     path: &str,
     store: &mut S,
 ) -> Result<Answer, Stop>
-    ensures { ForShown L.view L.kind L.Record.read L.Record.fault_of L.offence_of L.name_of L.lines_of (λ log.
-        Answers (IsOfLines (S.files store.old) path.now (IsPrintedOf log (V.belongs verifier.now) (IsStateText log L.view L.json_of))) result) }
+    ensures { ForShown L.view L.kind L.Record.read L.Record.fault_of L.offence_of
+        L.name_of L.lines_of (λ log.
+        Answers (IsOfLines (S.files store.old) path.now
+        (IsPrintedOf log (V.belongs verifier.now) (IsStateText log L.view L.json_of))) result) }
 {
     match read_input(alloc, store, path) {
         Ok(input) => state_answer::<L, V>(alloc, verifier, input),
@@ -54,7 +56,8 @@ fn permissions_of_file<L: ToolLog, V: Verifier, S: Store>(
     path: &str,
     store: &mut S,
 ) -> Result<Answer, Stop>
-    ensures { ForShown L.view L.kind L.Record.read L.Record.fault_of L.offence_of L.name_of L.lines_of (λ log.
+    ensures { ForShown L.view L.kind L.Record.read L.Record.fault_of L.offence_of
+        L.name_of L.lines_of (λ log.
         Answers (IsOfLines (S.files store.old) path.now (IsPrintedOf log (V.belongs verifier.now)
         (IsPermissionsText log L.view L.knows L.held L.order L.text_of key_id.now))) result) }
 {
@@ -72,8 +75,11 @@ fn chain_of_file<L: ToolLog, V: Verifier, S: Store>(
     path: &str,
     store: &mut S,
 ) -> Result<Answer, Stop>
-    ensures { ForShown L.view L.kind L.Record.read L.Record.fault_of L.offence_of L.name_of L.lines_of (λ log.
-        Answers (IsOfLines (S.files store.old) path.now (IsPrintedOf log (V.belongs verifier.now) (IsChainText log L.effects key_id.now permission)))
+    ensures { ForShown L.view L.kind L.Record.read L.Record.fault_of L.offence_of
+        L.name_of L.lines_of (λ log.
+        Answers (IsOfLines (S.files store.old) path.now
+        (IsPrintedOf log (V.belongs verifier.now)
+        (IsChainText log L.effects key_id.now permission)))
         result) }
 {
     match read_input(alloc, store, path) {
@@ -91,9 +97,12 @@ fn chain_of_word<L: ToolLog, V: Verifier, S: Store>(
     path: &str,
     store: &mut S,
 ) -> Result<Answer, Stop>
-    ensures { ForShown L.view L.kind L.Record.read L.Record.fault_of L.offence_of L.name_of L.lines_of (λ log.
+    ensures { ForShown L.view L.kind L.Record.read L.Record.fault_of L.offence_of
+        L.name_of L.lines_of (λ log.
         Answers (IsOfWord (λ permission. L.text_of permission ≡ word.now) (λ permission.
-        IsOfLines (S.files store.old) path.now (IsPrintedOf log (V.belongs verifier.now) (IsChainText log L.effects key_id.now permission)))) result) }
+        IsOfLines (S.files store.old) path.now
+        (IsPrintedOf log (V.belongs verifier.now)
+        (IsChainText log L.effects key_id.now permission)))) result) }
 {
     match wanted_permission::<L>(alloc, word) {
         Ok(permission) => {
@@ -110,8 +119,11 @@ fn resumed_from_file<L: ToolLog, V: Verifier, S: Store>(
     path: &str,
     store: &mut S,
 ) -> Result<Answer, Stop>
-    ensures { ForShown L.view L.kind L.Record.read L.Record.fault_of L.offence_of L.name_of L.lines_of (λ log.
-        Answers (IsOfLines (S.files store.old) path.now (IsResumed log (V.belongs verifier.now) L.view L.json_of L.state_of saved.entry.bytes.items))
+    ensures { ForShown L.view L.kind L.Record.read L.Record.fault_of L.offence_of
+        L.name_of L.lines_of (λ log.
+        Answers (IsOfLines (S.files store.old) path.now
+        (IsResumed log (V.belongs verifier.now) L.view L.json_of L.state_of
+        saved.entry.bytes.items))
         result) }
 {
     match read_input(alloc, store, path) {
@@ -127,9 +139,11 @@ fn resumed_from_files<L: ToolLog, V: Verifier, S: Store>(
     path: &str,
     store: &mut S,
 ) -> Result<Answer, Stop>
-    ensures { ForShown L.view L.kind L.Record.read L.Record.fault_of L.offence_of L.name_of L.lines_of (λ log.
+    ensures { ForShown L.view L.kind L.Record.read L.Record.fault_of L.offence_of
+        L.name_of L.lines_of (λ log.
         Answers (IsOfFile (S.files store.old) state.now (λ saved.
-        IsOfLines (S.files store.old) path.now (IsResumed log (V.belongs verifier.now) L.view L.json_of L.state_of saved))) result) }
+        IsOfLines (S.files store.old) path.now
+        (IsResumed log (V.belongs verifier.now) L.view L.json_of L.state_of saved))) result) }
 {
     match read_input(alloc, store, state) {
         Ok(saved) => resumed_from_file::<L, V, S>(alloc, verifier, saved, path, store),
@@ -144,8 +158,11 @@ fn compared_with_file<L: ToolLog, V: Verifier, S: Store>(
     path: &str,
     store: &mut S,
 ) -> Result<Answer, Stop>
-    ensures { ForShown L.view L.kind L.Record.read L.Record.fault_of L.offence_of L.name_of L.lines_of (λ log.
-        Answers (IsOfLines (S.files store.old) path.now (IsCompared log (V.belongs verifier.now) (record_lines left.entry.bytes.items))) result) }
+    ensures { ForShown L.view L.kind L.Record.read L.Record.fault_of L.offence_of
+        L.name_of L.lines_of (λ log.
+        Answers (IsOfLines (S.files store.old) path.now
+        (IsCompared log (V.belongs verifier.now) (record_lines left.entry.bytes.items)))
+        result) }
 {
     match read_input(alloc, store, path) {
         Ok(right) => compare_answer::<L, V>(alloc, verifier, left, right),
@@ -160,8 +177,11 @@ fn compared_files<L: ToolLog, V: Verifier, S: Store>(
     right: &str,
     store: &mut S,
 ) -> Result<Answer, Stop>
-    ensures { ForShown L.view L.kind L.Record.read L.Record.fault_of L.offence_of L.name_of L.lines_of (λ log.
-        Answers (IsOfLines (S.files store.old) left.now (λ here. IsOfLines (S.files store.old) right.now (IsCompared log (V.belongs verifier.now) here))) result) }
+    ensures { ForShown L.view L.kind L.Record.read L.Record.fault_of L.offence_of
+        L.name_of L.lines_of (λ log.
+        Answers (IsOfLines (S.files store.old) left.now
+        (λ here. IsOfLines (S.files store.old) right.now
+        (IsCompared log (V.belongs verifier.now) here))) result) }
 {
     match read_input(alloc, store, left) {
         Ok(left) => compared_with_file::<L, V, S>(alloc, verifier, left, right, store),
@@ -176,17 +196,20 @@ pub(crate) fn question_answer<L: ToolLog, V: Verifier, S: Store>(
     question: &Question<'_>,
     store: &mut S,
 ) -> Result<Answer, Stop>
-    ensures { ForShown L.view L.kind L.Record.read L.Record.fault_of L.offence_of L.name_of L.lines_of (λ log.
-        Answers (IsQuestionAnswer (record {
+    ensures { ForShown L.view L.kind L.Record.read L.Record.fault_of L.offence_of L.name_of
+        L.lines_of (λ log. Answers
+        (IsQuestionAnswer (record {
           shown = log;
           view = L.view;
           json = L.json_of;
-          reads = L.state_of;
+          reads =
+              L.state_of;
           knows = L.knows;
           held = L.held;
           order = L.order;
           text_of = L.text_of;
-          effects = L.effects;
+          effects =
+              L.effects;
         }) (V.belongs verifier.now) (S.files store.old) question.now) result) }
 {
     match question {

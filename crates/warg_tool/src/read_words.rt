@@ -86,7 +86,8 @@ fn checkpoint_of(alloc: Global, path: &str, value: &Value) -> Result<Checkpoint,
 
 // The checkpoint whose JSON the file holds.
 fn checkpoint_of_file(alloc: Global, input: &Input<'_>) -> Result<Checkpoint, Stop>
-    ensures ok { IfOk result (λ checkpoint. (value : Data) × (read input.now.bytes.items ≡ Some value)
+    ensures ok { IfOk result (λ checkpoint. (value : Data) ×
+        (read input.now.bytes.items ≡ Some value)
         × (checkpoint_in value ≡ Ok checkpoint)) }
     ensures stopped { IfErr result (IfStopped IsUnusable) }
 {

@@ -108,7 +108,8 @@ fn state_stop(alloc: Global, path: &str, fault: JsonTextError) -> Stop
 fn saved_state<L: ToolLog>(alloc: Global, input: &Input<'_>) -> Result<L, Stop>
     ensures ok { IfOk result (λ state. read_state L.state_of input.now.bytes.items ≡ Ok state) }
     ensures stopped { IfErr result (IfStopped (λ printed. (fault : OfJsonTextError) ×
-        ((read_state L.state_of input.now.bytes.items ≡ Err fault) × (printed ≡ bad_state fault)))) }
+        ((read_state L.state_of input.now.bytes.items ≡ Err fault) ×
+        (printed ≡ bad_state fault)))) }
 {
     match read_state::<L>(alloc, input.bytes.as_slice()) {
         Ok(state) => Ok(state),
@@ -124,7 +125,8 @@ fn state_after_strings<L: ToolLog, V: Verifier>(
     path: &str,
     strings: &[Vec<u8>],
 ) -> Result<Answer, Stop>
-    ensures { ForShown L.view L.kind L.Record.read L.Record.fault_of L.offence_of L.name_of L.lines_of (λ log.
+    ensures { ForShown L.view L.kind L.Record.read L.Record.fault_of L.offence_of
+        L.name_of L.lines_of (λ log.
         (lines : List (List ℕ)) → strings_of lines ≡ Ok (map vec_items strings.now) →
         Answers (IsGoneOn log (V.belongs verifier.now) L.view L.json_of state lines) result) }
 {
@@ -141,7 +143,8 @@ fn state_after<L: ToolLog, V: Verifier>(
     state: L,
     input: Input<'_>,
 ) -> Result<Answer, Stop>
-    ensures { ForShown L.view L.kind L.Record.read L.Record.fault_of L.offence_of L.name_of L.lines_of (λ log.
+    ensures { ForShown L.view L.kind L.Record.read L.Record.fault_of L.offence_of
+        L.name_of L.lines_of (λ log.
         Answers (IsGoneOn log (V.belongs verifier.now) L.view L.json_of state
         (record_lines input.entry.bytes.items)) result) }
 {
@@ -160,8 +163,10 @@ pub(crate) fn resume_answer<L: ToolLog, V: Verifier>(
     saved: Input<'_>,
     input: Input<'_>,
 ) -> Result<Answer, Stop>
-    ensures { ForShown L.view L.kind L.Record.read L.Record.fault_of L.offence_of L.name_of L.lines_of (λ log.
-        Answers (IsResumed log (V.belongs verifier.now) L.view L.json_of L.state_of saved.entry.bytes.items
+    ensures { ForShown L.view L.kind L.Record.read L.Record.fault_of L.offence_of
+        L.name_of L.lines_of (λ log.
+        Answers (IsResumed log (V.belongs verifier.now) L.view L.json_of L.state_of
+        saved.entry.bytes.items
         (record_lines input.entry.bytes.items)) result) }
 {
     match saved_state::<L>(alloc, &saved) {

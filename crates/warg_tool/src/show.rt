@@ -158,8 +158,10 @@ fn append_refusal<L: ToolLog>(
     error: &RunError<L::Error>,
     text: &mut String,
 ) -> Result<(), AllocError>
-    ensures { ForShown L.view L.kind L.Record.read L.Record.fault_of L.offence_of L.name_of L.lines_of (λ log.
-        OnOk result ((belongs : SignatureRelation) (seen : List EnvelopeData → L.View) (strings : List (List ℕ)) →
+    ensures { ForShown L.view L.kind L.Record.read L.Record.fault_of L.offence_of
+        L.name_of L.lines_of (λ log.
+        OnOk result ((belongs : SignatureRelation) (seen : List EnvelopeData → L.View)
+        (strings : List (List ℕ)) →
         IsRefusal L.kind belongs (envelope_of L.Record.read) seen
         (told (envelope_fault_of L.Record.fault_of) L.offence_of) strings error.now →
         (audited : Printed) × IsRefused log belongs seen strings audited)) }
@@ -220,8 +222,10 @@ fn refused_answer<L: ToolLog, V: Verifier + Drop>(
     error: &RunError<L::Error>,
 ) -> Result<Answer, AllocError>
     ensures status { IfOk result (λ answer. answer.status ≡ 1) }
-    ensures refused { ForShown L.view L.kind L.Record.read L.Record.fault_of L.offence_of L.name_of L.lines_of (λ shown.
-        IfOk result (λ _. (belongs : SignatureRelation) (seen : List EnvelopeData → L.View) (all : List (List ℕ)) →
+    ensures refused { ForShown L.view L.kind L.Record.read L.Record.fault_of L.offence_of
+        L.name_of L.lines_of (λ shown.
+        IfOk result (λ _. (belongs : SignatureRelation) (seen : List EnvelopeData → L.View)
+        (all : List (List ℕ)) →
         IsRefusal L.kind belongs (envelope_of L.Record.read) seen
         (told (envelope_fault_of L.Record.fault_of) L.offence_of) all error.now →
         (audited : Printed) × IsRefused shown belongs seen all audited)) }
@@ -242,8 +246,10 @@ fn strings_answer<L: ToolLog, V: Verifier + Drop>(
     verifier: V,
     strings: &[Vec<u8>],
 ) -> Result<Answer, AllocError>
-    ensures { ForShown L.view L.kind L.Record.read L.Record.fault_of L.offence_of L.name_of L.lines_of (λ log.
-        IfOk result (λ answer. HasStatusOf (IsLogAnswer log (V.belongs verifier) (map vec_items strings.now))
+    ensures { ForShown L.view L.kind L.Record.read L.Record.fault_of L.offence_of
+        L.name_of L.lines_of (λ log.
+        IfOk result (λ answer. HasStatusOf
+        (IsLogAnswer log (V.belongs verifier) (map vec_items strings.now))
         answer.status)) }
 {
     let mut log = AuditedLog::<L, V>::new(alloc, verifier)?;
@@ -260,8 +266,10 @@ pub(crate) fn show_answer<L: ToolLog, V: Verifier>(
     input: Input<'_>,
 ) -> Result<Answer, Stop>
     // The status is that of the audit.
-    ensures { ForShown L.view L.kind L.Record.read L.Record.fault_of L.offence_of L.name_of L.lines_of (λ log.
-        Answers (HasAuditStatus log (V.belongs verifier.now) (record_lines input.entry.bytes.items)) result) }
+    ensures { ForShown L.view L.kind L.Record.read L.Record.fault_of L.offence_of
+        L.name_of L.lines_of (λ log.
+        Answers (HasAuditStatus log (V.belongs verifier.now) (record_lines input.entry.bytes.items))
+        result) }
 {
     match file_strings(alloc, input.path, input.bytes) {
         Ok(strings) => Ok(strings_answer::<L, Lent<'_, V>>(

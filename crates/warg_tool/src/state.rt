@@ -36,7 +36,8 @@ pub(crate) fn state_answer<L: ToolLog, V: Verifier>(
     verifier: &V,
     input: Input<'_>,
 ) -> Result<Answer, Stop>
-    ensures { ForShown L.view L.kind L.Record.read L.Record.fault_of L.offence_of L.name_of L.lines_of (λ log.
+    ensures { ForShown L.view L.kind L.Record.read L.Record.fault_of L.offence_of
+        L.name_of L.lines_of (λ log.
         Answers (IsPrintedOf log (V.belongs verifier.now) (IsStateText log L.view L.json_of)
         (record_lines input.entry.bytes.items)) result) }
 {

@@ -80,7 +80,8 @@ fn claims_of_file<L: ToolLog + Hosted, S: Store>(
     log: &str,
     store: &mut S,
 ) -> Result<Answer, Stop>
-    ensures { Answers (IsOfLines (S.files store.old) log.now (IsClaimsAnswer L.kind (envelope_of L.Record.read))) result }
+    ensures { Answers (IsOfLines (S.files store.old) log.now
+        (IsClaimsAnswer L.kind (envelope_of L.Record.read))) result }
 {
     match read_input(alloc, store, log) {
         Ok(input) => claims_answer::<L>(alloc, input),
@@ -95,7 +96,8 @@ pub(crate) fn task_answer<L: ToolLog + Hosted + Worded, V: Verifier, S: Store>(
     task: &Task<'_>,
     store: &mut S,
 ) -> Result<Answer, Stop>
-    ensures { Answers (IsTaskAnswer L.kind (envelope_of L.Record.read) (S.files store.old) task.now) result }
+    ensures { Answers (IsTaskAnswer L.kind (envelope_of L.Record.read) (S.files store.old) task.now)
+        result }
 {
     match task {
         Task::Claims { log } => claims_of_file::<L, S>(alloc, log, store),

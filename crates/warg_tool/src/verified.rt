@@ -73,7 +73,8 @@ fn read_verified<S: Store>(alloc: Global, path: &str, store: &mut S) -> Result<V
 
 // The end of a command that can't use a file, as the invocation wants its answer.
 fn given_end(alloc: Global, invocation: &Invocation<'_>, stop: Stop) -> Result<Answer, AllocError>
-    ensures { IfStopped IsUnusable stop → IfOk result (λ it. IsGivenAs invocation.now.json invocation.now.command.now
+    ensures { IfStopped IsUnusable stop →
+        IfOk result (λ it. IsGivenAs invocation.now.json invocation.now.command.now
         IsUnusable (answer_view it)) }
 {
     match stop {
@@ -90,7 +91,8 @@ pub fn invocation_answer<S: Store>(
 ) -> Result<Answer, AllocError>
     // Verdicts on many logs have an object for each log.
     ensures { is_many invocation.now.request ≡ false →
-        IfOk result (λ answer. IsInvocationAnswer (S.files store.old) invocation.now (answer_view answer)) }
+        IfOk result (λ answer. IsInvocationAnswer (S.files store.old) invocation.now
+        (answer_view answer)) }
 {
     match invocation.verified {
         None => respond(alloc, &ToyVerifier, invocation, store),

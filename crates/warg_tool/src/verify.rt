@@ -38,7 +38,8 @@ pub(crate) fn inclusion_verdict(
     place: u64,
     proof: &LogProof,
 ) -> Result<Answer, AllocError>
-    ensures { IfOk result (λ answer. IsVerdict (Includes sha256 (log_leaf_encoding_of leaf.now) place
+    ensures { IfOk result (λ answer. IsVerdict
+        (Includes sha256 (log_leaf_encoding_of leaf.now) place
         checkpoint.now.log_length proof.now checkpoint.now.log_root.bytes) (answer_view answer)) }
 {
     let size = checkpoint.log_length as u64;
@@ -56,7 +57,8 @@ pub(crate) fn consistency_verdict(
     new: &Checkpoint,
     proof: &LogProof,
 ) -> Result<Answer, AllocError>
-    ensures { IfOk result (λ answer. IsVerdict (GoesOn old.now new.now proof.now) (answer_view answer)) }
+    ensures { IfOk result (λ answer. IsVerdict (GoesOn old.now new.now proof.now)
+        (answer_view answer)) }
 {
     verdict(alloc, verify_consistency(old, new, proof.hashes()))
 }
@@ -68,7 +70,8 @@ pub(crate) fn head_verdict(
     leaf: &LogLeaf,
     proof: &MapProof,
 ) -> Result<Answer, AllocError>
-    ensures { IfOk result (λ answer. IsVerdict (ShowsHead checkpoint.now leaf.now.log_id leaf.now.record_id proof.now)
+    ensures { IfOk result (λ answer. IsVerdict
+        (ShowsHead checkpoint.now leaf.now.log_id leaf.now.record_id proof.now)
         (answer_view answer)) }
 {
     verdict(
@@ -118,7 +121,8 @@ fn inclusion_answer<S: Store>(
     proof: &str,
     store: &mut S,
 ) -> Result<Answer, Stop>
-    ensures { Answers (IfUsable (IsInclusionVerdict (S.files store.old) checkpoint.now place.now log_id.now record_id.now
+    ensures { Answers (IfUsable (IsInclusionVerdict (S.files store.old) checkpoint.now place.now
+        log_id.now record_id.now
         proof.now)) result }
 {
     let leaf = leaf_of(alloc, log_id, record_id)?;
@@ -136,7 +140,8 @@ fn consistency_answer<S: Store>(
     proof: &str,
     store: &mut S,
 ) -> Result<Answer, Stop>
-    ensures { Answers (IfUsable (IsConsistencyVerdict (S.files store.old) old.now new.now proof.now)) result }
+    ensures { Answers (IfUsable (IsConsistencyVerdict (S.files store.old) old.now
+        new.now proof.now)) result }
 {
     let old = read_checkpoint(alloc, old, store)?;
     let new = read_checkpoint(alloc, new, store)?;
@@ -153,7 +158,8 @@ fn head_answer<S: Store>(
     proof: &str,
     store: &mut S,
 ) -> Result<Answer, Stop>
-    ensures { Answers (IfUsable (IsHeadVerdict (S.files store.old) checkpoint.now log_id.now record_id.now proof.now)) result }
+    ensures { Answers (IfUsable (IsHeadVerdict (S.files store.old) checkpoint.now log_id.now
+        record_id.now proof.now)) result }
 {
     let leaf = leaf_of(alloc, log_id, record_id)?;
     let checkpoint = read_checkpoint(alloc, checkpoint, store)?;
@@ -169,7 +175,8 @@ fn absence_answer<S: Store>(
     proof: &str,
     store: &mut S,
 ) -> Result<Answer, Stop>
-    ensures { Answers (IfUsable (IsAbsenceVerdict (S.files store.old) checkpoint.now log_id.now proof.now)) result }
+    ensures { Answers (IfUsable (IsAbsenceVerdict (S.files store.old) checkpoint.now
+        log_id.now proof.now)) result }
 {
     let log_id = value_of::<LogId>(alloc, log_id, "id of a log")?;
     let checkpoint = read_checkpoint(alloc, checkpoint, store)?;

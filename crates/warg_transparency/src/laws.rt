@@ -30,23 +30,28 @@ use warg_validator::Validator;
 pub fn accepted_proofs()
     ensures inclusion { (leaf : LogLeaf) (index size : ℕ) (proof : List (List ℕ)) (root : AnyHash) →
         size ≤ 2 ^ 64 → All (λ hash. length hash ≡ 32) proof →
-        Includes sha256 (log_leaf_encoding_of leaf) index size proof root.bytes → (entries : List (List ℕ)) →
+        Includes sha256 (log_leaf_encoding_of leaf) index size proof root.bytes →
+        (entries : List (List ℕ)) →
         length entries ≡ size → tree_hash sha256 entries ≡ root.bytes →
         IsOwn sha256 entries (log_leaf_encoding_of leaf) index proof }
     ensures consistency { (old new : Checkpoint) (proof : List (List ℕ)) → new.log_length ≤ 2 ^ 64 →
-        length old.log_root.bytes ≡ 32 → All (λ hash. length hash ≡ 32) proof → GoesOn old new proof →
+        length old.log_root.bytes ≡ 32 → All (λ hash. length hash ≡ 32) proof →
+        GoesOn old new proof →
         (entries : List (List ℕ)) → IsLogOf new entries →
         IsBeginning sha256 entries old.log_length proof old.log_root.bytes }
     // Of a leaf's encoding, or of nothing.
-    ensures map { (log_id : LogId) (value : Option (List ℕ)) (proof : List (List ℕ)) (root : AnyHash) →
-        All (λ hash. length hash ≡ 32) proof → maps.Leads sha256 value log_id.hash.bytes proof root.bytes →
+    ensures map { (log_id : LogId) (value : Option (List ℕ))
+        (proof : List (List ℕ)) (root : AnyHash) →
+        All (λ hash. length hash ≡ 32) proof →
+        maps.Leads sha256 value log_id.hash.bytes proof root.bytes →
         (m : List Side → Option (List ℕ)) → maps.map_root sha256 256 m ≡ root.bytes →
         maps.IsOwn sha256 m value log_id.hash.bytes proof }
 {}
 
 /// Two leaves that are shown for one log under one root are one, or what is hashed for their proofs collides.
 pub fn one_leaf()
-    ensures { (root : AnyHash) (log_id : LogId) (leaf other : MapLeaf) (proof other_proof : List (List ℕ)) →
+    ensures { (root : AnyHash) (log_id : LogId) (leaf other : MapLeaf)
+        (proof other_proof : List (List ℕ)) →
         ShowsLeaf root log_id leaf proof → ShowsLeaf root log_id other other_proof → (leaf ≡ other)
         ⊎ HaveCollision sha256 (tried_for log_id leaf proof) (tried_for log_id other other_proof) }
 {
@@ -73,12 +78,15 @@ pub fn heads<L: Validator>()
 /// of the new one have the older root at the older length: the registry has shown two logs. It is enough that the entries'
 /// own proof is refused.
 pub fn split_view()
-    ensures own { (old new : Checkpoint) (entries : List (List ℕ)) → old.log_length ≤ new.log_length →
+    ensures own { (old new : Checkpoint) (entries : List (List ℕ)) →
+        old.log_length ≤ new.log_length →
         new.log_length ≤ 2 ^ 63 → IsLogOf new entries →
         (GoesOn old new (consistency_proof sha256 old.log_length entries) → ⊥) →
         tree_hash sha256 (take old.log_length entries) ≢ old.log_root.bytes }
-    ensures all { (old new : Checkpoint) → old.log_length ≤ new.log_length → new.log_length ≤ 2 ^ 63 →
-        ((proof : List (List ℕ)) → GoesOn old new proof → ⊥) → (entries : List (List ℕ)) → IsLogOf new entries →
+    ensures all { (old new : Checkpoint) → old.log_length ≤ new.log_length →
+        new.log_length ≤ 2 ^ 63 →
+        ((proof : List (List ℕ)) → GoesOn old new proof → ⊥) →
+        (entries : List (List ℕ)) → IsLogOf new entries →
         tree_hash sha256 (take old.log_length entries) ≢ old.log_root.bytes }
 {
     consistency_paths();

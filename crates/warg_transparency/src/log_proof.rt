@@ -63,10 +63,14 @@ impl LogProof {
         ensures ok { IfOk result (λ proof. decode_of standard text.now ≡ Ok (concat proof)) }
         ensures few { IfOk result (λ proof. length proof ≤ 64) }
         ensures too_long { (result ≡ Err fault.TooLong) ↔ (2732 < length text.now) }
-        ensures bad_base64 { result ≡ Err fault.BadBase64 → (bytes : List ℕ) → decode_of standard text.now ≢ Ok bytes }
-        ensures bad_length { result ≡ Err fault.BadLength → (hashes : List (List ℕ)) → length hashes ≤ 64 →
-            All (λ hash. length hash ≡ 32) hashes → decode_of standard text.now ≢ Ok (concat hashes) }
-        ensures value { ReturnsOr fault.OutOfMemory (λ proof. proof) result (log_proof_of text.now) }
+        ensures bad_base64 { result ≡ Err fault.BadBase64 → (bytes : List ℕ) →
+            decode_of standard text.now ≢ Ok bytes }
+        ensures bad_length { result ≡ Err fault.BadLength →
+            (hashes : List (List ℕ)) → length hashes ≤ 64 →
+            All (λ hash. length hash ≡ 32) hashes →
+            decode_of standard text.now ≢ Ok (concat hashes) }
+        ensures value { ReturnsOr fault.OutOfMemory (λ proof. proof) result
+            (log_proof_of text.now) }
         ensures no_empty_sibling { result ≢ Err fault.EmptySibling }
     {
         if text.len() > LONGEST_TEXT {

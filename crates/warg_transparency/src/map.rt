@@ -16,9 +16,11 @@ use warg_registry::{Checkpoint, LogId, MapLeaf};
 /// Whether the proof leads from the leaf of the log to the map's root.
 pub fn verify_presence(log_id: &LogId, leaf: &MapLeaf, proof: &MapProof, root: &AnyHash) -> bool
     ensures exact { IsTrue result ↔
-        Leads sha256 (Some (map_leaf_encoding_of leaf.now)) log_id.now.hash.bytes proof.now root.now.bytes }
+        Leads sha256 (Some (map_leaf_encoding_of leaf.now)) log_id.now.hash.bytes
+        proof.now root.now.bytes }
     // Every map with that root has exactly the leaf for the log, or there is a collision.
-    ensures sound { IsTrue result → (m : List Side → Option (List ℕ)) → map_root sha256 256 m ≡ root.now.bytes →
+    ensures sound { IsTrue result → (m : List Side → Option (List ℕ)) →
+        map_root sha256 256 m ≡ root.now.bytes →
         IsOwn sha256 m (Some (map_leaf_encoding_of leaf.now)) log_id.now.hash.bytes proof.now }
     ensures shown { IsTrue result → ShowsLeaf root.now log_id.now leaf.now proof.now }
 {
@@ -33,9 +35,11 @@ pub fn verify_presence(log_id: &LogId, leaf: &MapLeaf, proof: &MapProof, root: &
 
 /// Whether the proof leads from no leaf of the log to the map's root.
 pub fn verify_absence(log_id: &LogId, proof: &MapProof, root: &AnyHash) -> bool
-    ensures exact { IsTrue result ↔ Leads sha256 None log_id.now.hash.bytes proof.now root.now.bytes }
+    ensures exact { IsTrue result ↔
+        Leads sha256 None log_id.now.hash.bytes proof.now root.now.bytes }
     // Every map with that root has nothing for the log, or there is a collision.
-    ensures sound { IsTrue result → (m : List Side → Option (List ℕ)) → map_root sha256 256 m ≡ root.now.bytes →
+    ensures sound { IsTrue result → (m : List Side → Option (List ℕ)) →
+        map_root sha256 256 m ≡ root.now.bytes →
         IsOwn sha256 m None log_id.now.hash.bytes proof.now }
 {
     let key = key_of(log_id);
@@ -50,12 +54,14 @@ pub fn verify_head(
     proof: &MapProof,
 ) -> bool
     ensures exact { IsTrue result ↔
-        Leads sha256 (Some (map_leaf_encoding_of (head_leaf record_id.now))) log_id.now.hash.bytes proof.now
+        Leads sha256 (Some (map_leaf_encoding_of (head_leaf record_id.now)))
+        log_id.now.hash.bytes proof.now
         checkpoint.now.map_root.bytes }
     // Every map with the checkpoint's root has exactly that head for the log, or there is a collision.
     ensures sound { IsTrue result → (m : List Side → Option (List ℕ)) →
         map_root sha256 256 m ≡ checkpoint.now.map_root.bytes →
-        IsOwn sha256 m (Some (map_leaf_encoding_of (head_leaf record_id.now))) log_id.now.hash.bytes proof.now }
+        IsOwn sha256 m (Some (map_leaf_encoding_of (head_leaf record_id.now)))
+        log_id.now.hash.bytes proof.now }
     ensures shown { IsTrue result → ShowsHead checkpoint.now log_id.now record_id.now proof.now }
 {
     let leaf = MapLeaf {

@@ -67,13 +67,17 @@ impl MapProof {
         ensures ok { IfOk result (λ proof. (bytes : List ℕ) × IsShortForm sha256 proof bytes
             × (decode_of standard text.now ≡ Ok bytes)) }
         ensures too_long { (result ≡ Err fault.TooLong) ↔ (10968 < length text.now) }
-        ensures bad_base64 { result ≡ Err fault.BadBase64 → (bytes : List ℕ) → decode_of standard text.now ≢ Ok bytes }
-        ensures bad_length { result ≡ Err fault.BadLength → (bytes : List ℕ) → decode_of standard text.now ≡ Ok bytes →
+        ensures bad_base64 { result ≡ Err fault.BadBase64 → (bytes : List ℕ) →
+            decode_of standard text.now ≢ Ok bytes }
+        ensures bad_length { result ≡ Err fault.BadLength → (bytes : List ℕ) →
+            decode_of standard text.now ≡ Ok bytes →
             length bytes ≢ short_form_len bytes }
         ensures empty_sibling { result ≡ Err fault.EmptySibling → (path : List (List ℕ)) →
-            All (λ sibling. length sibling ≡ 32) path → (bytes : List ℕ) → decode_of standard text.now ≡ Ok bytes →
+            All (λ sibling. length sibling ≡ 32) path → (bytes : List ℕ) →
+            decode_of standard text.now ≡ Ok bytes →
             ¬ IsShortForm sha256 path bytes }
-        ensures value { ReturnsOr fault.OutOfMemory (λ proof. proof) result (map_proof_of text.now) }
+        ensures value { ReturnsOr fault.OutOfMemory (λ proof. proof) result
+            (map_proof_of text.now) }
     {
         if text.len() > LONGEST_TEXT {
             return Err(ProofTextError::TooLong);

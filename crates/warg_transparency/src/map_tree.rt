@@ -78,7 +78,8 @@ impl MapTree {
             option_map map_leaf_encoding_of old ≡ leaves_of self.old (way_of log_id.now)) }
         ensures count { IfOk result (λ old. map_count 256 (leaves_of self.new) ≡
             map_count 256 (leaves_of self.old) + (if is_some old then 0 else 1)) }
-        ensures err { OnErr result ((way : List Side) → leaves_of self.new way ≡ leaves_of self.old way) }
+        ensures err { OnErr result ((way : List Side) → leaves_of self.new way ≡
+            leaves_of self.old way) }
     {
         let key = key_of(log_id);
         let bytes = Vec::from_slice(self.alloc, &map_leaf_bytes(leaf))?;
@@ -90,8 +91,10 @@ impl MapTree {
 
     /// The proof of the leaf of the log, or that it has none.
     pub fn proof(&self, log_id: &LogId) -> Result<MapProof, AllocError>
-        ensures path { IfOk result (λ proof. proof ≡ map_path sha256 (leaves_of self.now) (way_of log_id.now)) }
-        ensures verifies { IfOk result (λ proof. Leads sha256 (leaves_of self.now (way_of log_id.now))
+        ensures path { IfOk result (λ proof. proof ≡
+            map_path sha256 (leaves_of self.now) (way_of log_id.now)) }
+        ensures verifies { IfOk result
+            (λ proof. Leads sha256 (leaves_of self.now (way_of log_id.now))
             log_id.now.hash.bytes proof (map_root sha256 256 (leaves_of self.now))) }
     {
         let key = key_of(log_id);

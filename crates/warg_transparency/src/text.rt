@@ -17,7 +17,8 @@ pub(crate) fn decode_base64(alloc: Global, text: &str) -> Result<Vec<u8>, ProofT
     ensures ok { IfOk result (λ bytes. decode_of standard text.now ≡ Ok bytes.items) }
     ensures err { IfErr result (λ e. (e ≡ fault.OutOfMemory)
         ⊎ ((e ≡ fault.BadBase64) × ((bytes : List ℕ) → decode_of standard text.now ≢ Ok bytes))) }
-    ensures bad_base64 { result ≡ Err fault.BadBase64 → (bytes : List ℕ) → decode_of standard text.now ≢ Ok bytes }
+    ensures bad_base64 { result ≡ Err fault.BadBase64 → (bytes : List ℕ) →
+        decode_of standard text.now ≢ Ok bytes }
     ensures too_long { result ≢ Err fault.TooLong }
     ensures bad_length { result ≢ Err fault.BadLength }
     ensures empty_sibling { result ≢ Err fault.EmptySibling }
@@ -31,8 +32,10 @@ pub(crate) fn decode_base64(alloc: Global, text: &str) -> Result<Vec<u8>, ProofT
 
 // Writes the bytes in base64, under every formatting option; of `Base64Display` no clause says what options do.
 pub(crate) fn write_base64<W: fmt::Write>(bytes: &[u8], f: &mut fmt::Formatter<W>) -> fmt::Result
-    ensures writes { WritesOnOk W.write_str_gives f.old result (encode_of standard bytes.now) f.new }
-    ensures styled { WritesStyledOnOk W.write_str_gives f.old result (encode_of standard bytes.now) f.new }
+    ensures writes { WritesOnOk W.write_str_gives f.old result
+        (encode_of standard bytes.now) f.new }
+    ensures styled { WritesStyledOnOk W.write_str_gives f.old result
+        (encode_of standard bytes.now) f.new }
 {
     // A piece of a multiple of three bytes needs no padding, so only the last one may have it.
     let mut buffer = [0u8; 1024];

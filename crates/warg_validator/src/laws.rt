@@ -41,20 +41,20 @@ pub fn links<L: Validator>()
 /// states that stand for them are equal, whatever the signatures and whoever verified them.
 pub fn determination<L: Validator>()
     ensures views { (b d : SignatureRelation) (es fs : List EnvelopeData) → IsAccepted L.kind b es →
-        IsAccepted L.kind d fs →
-        map (λ e. e.content) es ≡ map (λ e. e.content) fs → map (λ e. e.key_id) es ≡ map (λ e. e.key_id) fs →
-        L.kind.view_of es ≡ L.kind.view_of fs }
-    ensures states { (b d : SignatureRelation) (es fs : List EnvelopeData) → IsAccepted L.kind b es →
-        IsAccepted L.kind d fs →
-        map (λ e. e.content) es ≡ map (λ e. e.content) fs → map (λ e. e.key_id) es ≡ map (λ e. e.key_id) fs →
-        (s t : L) → StandsFor L.kind L.view s es → StandsFor L.kind L.view t fs → L.eq s t ≡ true }
+        IsAccepted L.kind d fs → map (λ e. e.content) es ≡ map (λ e. e.content) fs →
+        map (λ e. e.key_id) es ≡ map (λ e. e.key_id) fs → L.kind.view_of es ≡ L.kind.view_of fs }
+    ensures states { (b d : SignatureRelation) (es fs : List EnvelopeData) →
+        IsAccepted L.kind b es → IsAccepted L.kind d fs → map (λ e. e.content) es ≡
+        map (λ e. e.content) fs → map (λ e. e.key_id) es ≡ map (λ e. e.key_id) fs → (s t : L) →
+        StandsFor L.kind L.view s es → StandsFor L.kind L.view t fs → L.eq s t ≡ true }
 {}
 
 /// States that stand for one log are equal, also where the view of one is only equivalent to that of such a state.
 pub fn one_state<L: Validator>()
     ensures same { (es : List EnvelopeData) (s t : L) → StandsFor L.kind L.view s es →
         StandsFor L.kind L.view t es → L.eq s t ≡ true }
-    ensures equivalent { (es : List EnvelopeData) (s t : L) → L.Validator.equivalent (L.view s) (L.kind.view_of es) →
+    ensures equivalent { (es : List EnvelopeData) (s t : L) →
+        L.Validator.equivalent (L.view s) (L.kind.view_of es) →
         StandsFor L.kind L.view t es → L.eq s t ≡ true }
 {}
 
@@ -62,7 +62,8 @@ pub fn one_state<L: Validator>()
 /// is all that those calls ask.
 pub fn saved_versions<L: Validator>()
     ensures { (b : SignatureRelation) (es : List EnvelopeData) → IsAccepted L.kind b es →
-        (s : L) → StandsFor L.kind L.view s es → AreReadBack (L.JsonValue.versions (L.JsonValue.plain s)) }
+        (s : L) → StandsFor L.kind L.view s es →
+        AreReadBack (L.JsonValue.versions (L.JsonValue.plain s)) }
 {}
 
 /// Strings without offence are an accepted log.
@@ -94,13 +95,15 @@ pub fn resumption<L: Validator>()
         (i : ℕ) (c : Cause (EnvelopeFault L.Record.Fault) L.Offence) →
         IsFirstOffence L.kind b (envelope_of L.Record.read)
         (λ fs. L.kind.view_of (read_all (envelope_of L.Record.read) ss ++ fs)) ts i c →
-        IsFirstOffence L.kind b (envelope_of L.Record.read) L.kind.view_of (ss ++ ts) (length ss + i) c }
+        IsFirstOffence L.kind b (envelope_of L.Record.read) L.kind.view_of
+        (ss ++ ts) (length ss + i) c }
 {}
 
 /// A log whose front one verifier accepted, and whose other strings another: one that takes whatever
 /// either takes accepts the whole.
 pub fn two_verifiers<L: Validator>()
-    ensures { (d b : SignatureRelation) (es : List EnvelopeData) (ss : List (List ℕ)) → IsAccepted L.kind d es →
+    ensures { (d b : SignatureRelation) (es : List EnvelopeData) (ss : List (List ℕ)) →
+        IsAccepted L.kind d es →
         HasNoOffence L.kind b (envelope_of L.Record.read) (λ fs. L.kind.view_of (es ++ fs)) ss →
         IsAccepted L.kind (either d b) (es ++ read_all (envelope_of L.Record.read) ss) }
 {}

@@ -37,7 +37,8 @@ impl Model for Claim {
 
 // The three parts of a line, cut at its first two spaces.
 fn cut(line: &str) -> Option<(&str, &str, &str)>
-    ensures { MatchOption result (claim_of line.now ≡ Err fault.MissingPart) (λ p. claim_of line.now ≡
+    ensures { MatchOption result (claim_of line.now ≡ Err fault.MissingPart)
+        (λ p. claim_of line.now ≡
         claim_of_parts (public_key_of p.0.now) (decode_of p.1.now) (signature_of p.2.now)) }
 {
     let Some((key, rest)) = line.split_once(' ') else {
@@ -139,7 +140,8 @@ impl fmt::Debug for Claim {
     ghost debug_output = { λ c. Some (claim_text c) };
 
     fn fmt<W: fmt::Write>(&self, f: &mut fmt::Formatter<W>) -> fmt::Result
-        ensures styled { WritesStyledOnOk W.write_str_gives f.old result (claim_text self.now) f.new }
+        ensures styled { WritesStyledOnOk W.write_str_gives f.old result
+            (claim_text self.now) f.new }
     {
         fmt::Display::fmt(self, f)
     }

@@ -9,7 +9,8 @@ ghost use Rattle.warg_verified.specs.Lines.{claim_of, is_space};
 
 /// A triple is taken exactly if it is one of the claims.
 pub fn taken_is_claimed()
-    ensures { (claims : List ClaimData) (key : NamedBytes) (message : List ℕ) (signature : NamedBytes) →
+    ensures { (claims : List ClaimData) (key : NamedBytes) (message : List ℕ)
+        (signature : NamedBytes) →
         (is_claimed claims key message signature ≡ true) ↔
         Contains claims (record { key = key; message = message; signature = signature }) }
 {}
@@ -23,6 +24,8 @@ pub fn more_claims_take_more()
 
 /// What is written of a claim reads back, where no space stands in its key's text.
 pub fn claim_reads_back()
-    ensures { (c : ClaimData) → IsName c.key.name → IsName c.signature.name → list_any is_space (tag_text c.key) ≡ false →
-        IsBytes c.key.bytes → IsBytes c.message → IsBytes c.signature.bytes → claim_of (claim_text c) ≡ Ok c }
+    ensures { (c : ClaimData) → IsName c.key.name → IsName c.signature.name →
+        list_any is_space (tag_text c.key) ≡ false →
+        IsBytes c.key.bytes → IsBytes c.message → IsBytes c.signature.bytes →
+        claim_of (claim_text c) ≡ Ok c }
 {}

@@ -9,7 +9,8 @@ use std::{fmt, str};
 /// Writes the bytes in lower-case hex digits.
 pub fn write_hex<W: fmt::Write>(bytes: &[u8], f: &mut fmt::Formatter<W>) -> fmt::Result
     ensures writes { WritesOnOk W.write_str_gives f.old result (encode_lower bytes.now) f.new }
-    ensures styled { WritesStyledOnOk W.write_str_gives f.old result (encode_lower bytes.now) f.new }
+    ensures styled { WritesStyledOnOk W.write_str_gives f.old result
+        (encode_lower bytes.now) f.new }
 {
     let mut buffer = [0u8; 512];
     'pieces: for piece in bytes.chunks(256) {

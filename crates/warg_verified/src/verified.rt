@@ -96,7 +96,8 @@ impl Verified {
     /// The claims that the lines of a text say, each as [`Claim::parse`] reads it, or the first line that says none.
     pub fn parse(alloc: Global, text: &str) -> Result<Verified, VerifiedParseError>
         ensures ok { IfOk result (IsReadFrom (lines text.now)) }
-        ensures err { IfErr result (λ e. (e.fault ≡ fault.OutOfMemory) ⊎ IsFirstFault (lines text.now) e.line e.fault) }
+        ensures err { IfErr result (λ e. (e.fault ≡ fault.OutOfMemory) ⊎
+            IsFirstFault (lines text.now) e.line e.fault) }
     {
         let mut verified = Verified::new(alloc);
         for (line, claim) in text.lines().enumerate() {

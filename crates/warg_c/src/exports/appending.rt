@@ -24,8 +24,10 @@ fn ask_held(
     used: &mut usize,
     asked: &mut Asked,
 ) -> Result<(), Failure>
-    ensures asked { OnOk result (ask_tells held.now envelope.now asked.new (take used.new bytes.new)) }
-    ensures failed { IfErr result (ask_fails held.now envelope.now asked.new bytes.old used.new bytes.new) }
+    ensures asked { OnOk result (ask_tells held.now envelope.now asked.new
+        (take used.new bytes.new)) }
+    ensures failed { IfErr result (ask_fails held.now envelope.now asked.new
+        bytes.old used.new bytes.new) }
     ensures buffer { IfErr result (λ f. f ≡ TooSmall → bytes.new ≡ bytes.old) }
     ensures within { used.old ≡ 0 → IsWithin result used.new bytes.new }
 {
@@ -45,7 +47,8 @@ pub extern "C" fn warg_ask(
     used: &mut usize,
     asked: &mut Asked,
 ) -> u32
-    ensures answer { Answers result log.old.owned.kept (λ held. ask_tells held envelope.now asked.new (take used.new bytes.new))
+    ensures answer { Answers result log.old.owned.kept
+        (λ held. ask_tells held envelope.now asked.new (take used.new bytes.new))
         (λ held. ask_fails held envelope.now asked.new bytes.old used.new bytes.new) }
     ensures unchanged { log.new.owned.kept ≡ log.old.owned.kept }
     ensures buffer { result ≡ 3 → bytes.new ≡ bytes.old }
@@ -68,8 +71,10 @@ fn append_held(
     text: &mut [u8],
     used: &mut usize,
 ) -> Result<(), Failure>
-    ensures appended { OnOk result ((b : SignatureRelation) → Holds b answer.now → append_does b envelope.now held.old held.new) }
-    ensures failed { IfErr result (append_refuses held.old answer.now envelope.now used.new text.new) }
+    ensures appended { OnOk result ((b : SignatureRelation) → Holds b answer.now →
+        append_does b envelope.now held.old held.new) }
+    ensures failed { IfErr result (append_refuses held.old answer.now
+        envelope.now used.new text.new) }
     ensures unchanged { OnErr result (held.new ≡ held.old) }
     ensures within { used.old ≡ 0 → used.new ≤ length text.new }
 {
@@ -90,8 +95,11 @@ fn append_told(
     text: &mut [u8],
     used: &mut usize,
 ) -> Result<(), Failure>
-    ensures appended { OnOk result ((b : SignatureRelation) → HoldsOf b belongs asked.now question.now → append_does b envelope.now held.old held.new) }
-    ensures failed { IfErr result (append_fails held.old belongs asked.now question.now envelope.now used.new text.new) }
+    ensures appended { OnOk result
+        ((b : SignatureRelation) → HoldsOf b belongs asked.now question.now →
+        append_does b envelope.now held.old held.new) }
+    ensures failed { IfErr result (append_fails held.old belongs asked.now question.now
+        envelope.now used.new text.new) }
     ensures unchanged { OnErr result (held.new ≡ held.old) }
     ensures within { used.old ≡ 0 → used.new ≤ length text.new }
 {
@@ -113,7 +121,8 @@ pub extern "C" fn warg_append(
 ) -> u32
     // Whatever relation holds of what the caller said to belong: what was accepted under it still is, with the record.
     ensures answer { Answers result log.old.owned.kept
-        (λ held. (b : SignatureRelation) → HoldsOf b belongs asked.now question.now → append_moves b envelope.now held log.new.owned.kept)
+        (λ held. (b : SignatureRelation) → HoldsOf b belongs asked.now question.now →
+        append_moves b envelope.now held log.new.owned.kept)
         (λ held. append_fails held belongs asked.now question.now envelope.now used.new text.new) }
     ensures unchanged { result ≢ 0 → log.new.owned.kept ≡ log.old.owned.kept }
     ensures within { used.new ≤ length text.new }

@@ -52,8 +52,10 @@ fn chain_of_log<L: Validator>(
 ) -> Result<Vec<Link>, Failure>
 where
     L::Permission: LogPermission,
-    ensures ok { IfOk result (λ v. ChainIs L.effects L.Permission.named (whole_of log.now) key_id.now permission.now v.items) }
-    ensures err { IfErr result (FailsAs (NoChain L.effects L.Permission.named (whole_of log.now) key_id.now permission.now)
+    ensures ok { IfOk result (λ v. ChainIs L.effects L.Permission.named (whole_of log.now)
+        key_id.now permission.now v.items) }
+    ensures err { IfErr result (FailsAs
+        (NoChain L.effects L.Permission.named (whole_of log.now) key_id.now permission.now)
         ((whole_of log.now ≡ None) ⊎ IsNoPermission L.Permission.named key_id.now permission.now)) }
 {
     let Some(log) = log.whole() else {
@@ -79,7 +81,8 @@ fn chain_of(
     permission: &[u8],
 ) -> Result<Vec<Link>, Failure>
     ensures ok { IfOk result (λ v. chain_tells held.now key_id.now permission.now v.items) }
-    ensures err { IfErr result (FailsAs (chain_lacks held.now key_id.now permission.now) (chain_bad held.now key_id.now permission.now)) }
+    ensures err { IfErr result (FailsAs (chain_lacks held.now key_id.now permission.now)
+        (chain_bad held.now key_id.now permission.now)) }
 {
     match held {
         Held::Package(log) => chain_of_log(alloc, log, key_id, permission),
@@ -97,8 +100,10 @@ pub extern "C" fn warg_chain(
     links: &mut [Link],
     used: &mut usize,
 ) -> u32
-    ensures answer { Answers result log.old.owned.kept (λ held. chain_tells held key_id.now permission.now (take used.new links.new))
-        (λ held. TextFails (chain_tells held key_id.now permission.now) (chain_lacks held key_id.now permission.now)
+    ensures answer { Answers result log.old.owned.kept
+        (λ held. chain_tells held key_id.now permission.now (take used.new links.new))
+        (λ held. TextFails (chain_tells held key_id.now permission.now)
+        (chain_lacks held key_id.now permission.now)
         (chain_bad held key_id.now permission.now) used.new links.old) }
     ensures unchanged { log.new.owned.kept ≡ log.old.owned.kept }
     ensures buffer { result ≢ 0 → links.new ≡ links.old }

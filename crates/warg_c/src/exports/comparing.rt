@@ -41,7 +41,8 @@ fn shown(comparison: LogComparison) -> Comparison
 
 fn compare_logs<L: Validator>(left: &KeptLog<L>, right: &KeptLog<L>) -> Result<Comparison, Failure>
     ensures ok { IfOk result (ComparisonIs L.kind L.view (whole_of left.now) (whole_of right.now)) }
-    ensures err { IfErr result (FailsAs ⊥ ((whole_of left.now ≡ None) ⊎ (whole_of right.now ≡ None))) }
+    ensures err { IfErr result (FailsAs ⊥ ((whole_of left.now ≡ None) ⊎
+        (whole_of right.now ≡ None))) }
 {
     let Some(left) = left.whole() else {
         return Err(Failure::BadArgument);
@@ -65,7 +66,9 @@ fn compare_held(left: &Held, right: &Held) -> Result<Comparison, Failure>
 
 // Compares a log that is open with a handle's.
 fn compare_with(alloc: Global, left: &Held, right: &mut WargLog, comparison: &mut Comparison) -> u32
-    ensures answer { Answers result right.old.owned.kept (λ held. compare_tells left.now held comparison.new) (λ held. CallFails ⊥ (compare_bad left.now held)) }
+    ensures answer { Answers result right.old.owned.kept
+        (λ held. compare_tells left.now held comparison.new)
+        (λ held. CallFails ⊥ (compare_bad left.now held)) }
     ensures unchanged { right.new.owned.kept ≡ right.old.owned.kept }
 {
     let Some(held) = right.take(alloc) else {
@@ -84,8 +87,10 @@ pub extern "C" fn warg_compare(
     right: &mut WargLog,
     comparison: &mut Comparison,
 ) -> u32
-    ensures answer { compare_answers result left.old.owned.kept right.old.owned.kept comparison.new }
-    ensures unchanged { (left.new.owned.kept ≡ left.old.owned.kept) × (right.new.owned.kept ≡ right.old.owned.kept) }
+    ensures answer { compare_answers result left.old.owned.kept
+        right.old.owned.kept comparison.new }
+    ensures unchanged { (left.new.owned.kept ≡ left.old.owned.kept) ×
+        (right.new.owned.kept ≡ right.old.owned.kept) }
 {
     let Some(held) = left.take(alloc) else {
         return status(Err(Failure::NotOpen));

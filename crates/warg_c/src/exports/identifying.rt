@@ -29,8 +29,10 @@ fn id_in<L: Validator>(
 ) -> Result<(), Failure>
 where
     L::Error: Named + fmt::Display,
-    ensures ok { OnOk result (IsIdOf L.kind (envelope_of L.Record.read) envelope.now (take used.new text.new)) }
-    ensures err { IfErr result (IdFails L.kind (envelope_of L.Record.read) (told (envelope_fault_of L.Record.fault_of) L.offence_of) (cause_name L.Error.name_of)
+    ensures ok { OnOk result (IsIdOf L.kind (envelope_of L.Record.read) envelope.now
+        (take used.new text.new)) }
+    ensures err { IfErr result (IdFails L.kind (envelope_of L.Record.read)
+        (told (envelope_fault_of L.Record.fault_of) L.offence_of) (cause_name L.Error.name_of)
         envelope.now text.old used.new text.new) }
     ensures buffer { IfErr result (λ f. f ≡ TooSmall → text.new ≡ text.old) }
     ensures within { used.old ≡ 0 → IsWithin result used.new text.new }
@@ -73,7 +75,8 @@ pub extern "C" fn warg_id(
     text: &mut [u8],
     used: &mut usize,
 ) -> u32
-    ensures answer { Answered result (id_tells kind envelope.now (take used.new text.new)) (id_fails kind envelope.now text.old used.new text.new) }
+    ensures answer { Answered result (id_tells kind envelope.now (take used.new text.new))
+        (id_fails kind envelope.now text.old used.new text.new) }
     ensures buffer { result ≡ 3 → text.new ≡ text.old }
     ensures within { result ≢ 3 → used.new ≤ length text.new }
 {

@@ -32,8 +32,11 @@ fn log_holds<L: Validator>(
 ) -> Result<(), Failure>
 where
     L::Permission: LogPermission,
-    ensures ok { OnOk result (HoldsIs L.Permission.named (L.held (L.view (state_of log.now))) key_id.now permission.now true) }
-    ensures err { IfErr result (FailsAs (HoldsIs L.Permission.named (L.held (L.view (state_of log.now))) key_id.now permission.now false)
+    ensures ok { OnOk result (HoldsIs L.Permission.named (L.held (L.view (state_of log.now)))
+        key_id.now permission.now true) }
+    ensures err { IfErr result (FailsAs
+        (HoldsIs L.Permission.named (L.held (L.view (state_of log.now)))
+        key_id.now permission.now false)
         (IsNoPermission L.Permission.named key_id.now permission.now)) }
 {
     let key_id = key_id_of(alloc, key_id)?;
@@ -47,7 +50,8 @@ where
 
 fn holds(alloc: Global, held: &Held, key_id: &[u8], permission: &[u8]) -> Result<(), Failure>
     ensures ok { OnOk result (holds_tells held.now key_id.now permission.now true) }
-    ensures err { IfErr result (FailsAs (holds_tells held.now key_id.now permission.now false) (holds_bad held.now key_id.now permission.now)) }
+    ensures err { IfErr result (FailsAs (holds_tells held.now key_id.now permission.now false)
+        (holds_bad held.now key_id.now permission.now)) }
 {
     match held {
         Held::Package(log) => log_holds(alloc, log, key_id, permission),
@@ -63,8 +67,10 @@ pub extern "C" fn warg_holds(
     key_id: &[u8],
     permission: &[u8],
 ) -> u32
-    ensures answer { Answers result log.old.owned.kept (λ held. holds_tells held key_id.now permission.now true)
-        (λ held. CallFails (holds_tells held key_id.now permission.now false) (holds_bad held key_id.now permission.now)) }
+    ensures answer { Answers result log.old.owned.kept
+        (λ held. holds_tells held key_id.now permission.now true)
+        (λ held. CallFails (holds_tells held key_id.now permission.now false)
+        (holds_bad held key_id.now permission.now)) }
     ensures unchanged { log.new.owned.kept ≡ log.old.owned.kept }
 {
     let Some(held) = log.take(alloc) else {
@@ -119,7 +125,8 @@ fn package_permissions(
     key_id: &KeyID,
 ) -> Result<Vec<u8>, Failure>
     ensures ok { IfOk result (λ v. PackageText (packages.view_of state.now) key_id.now v.items) }
-    ensures err { IfErr result (FailsAs ((packages.view_of state.now).state.authority.has_entry key_id.now ≡ false) ⊥) }
+    ensures err { IfErr result (FailsAs
+        ((packages.view_of state.now).state.authority.has_entry key_id.now ≡ false) ⊥) }
 {
     let Some(_set) = state.key_permissions(key_id) else {
         return Err(Failure::Absent);
@@ -139,7 +146,8 @@ fn operator_permissions(
     key_id: &KeyID,
 ) -> Result<Vec<u8>, Failure>
     ensures ok { IfOk result (λ v. OperatorText (operators.view_of state.now) key_id.now v.items) }
-    ensures err { IfErr result (FailsAs ((operators.view_of state.now).state.authority.has_entry key_id.now ≡ false) ⊥) }
+    ensures err { IfErr result (FailsAs
+        ((operators.view_of state.now).state.authority.has_entry key_id.now ≡ false) ⊥) }
 {
     let Some(_set) = state.key_permissions(key_id) else {
         return Err(Failure::Absent);
@@ -155,7 +163,8 @@ fn operator_permissions(
 
 fn permissions_of(alloc: Global, held: &Held, key_id: &[u8]) -> Result<Vec<u8>, Failure>
     ensures ok { IfOk result (λ v. permissions_tell held.now key_id.now v.items) }
-    ensures err { IfErr result (FailsAs (permissions_lack held.now key_id.now) (IsUtf8 key_id.now → ⊥)) }
+    ensures err { IfErr result (FailsAs (permissions_lack held.now key_id.now)
+        (IsUtf8 key_id.now → ⊥)) }
 {
     let key_id = key_id_of(alloc, key_id)?;
     match held {
@@ -173,8 +182,10 @@ pub extern "C" fn warg_permissions(
     text: &mut [u8],
     used: &mut usize,
 ) -> u32
-    ensures answer { Answers result log.old.owned.kept (λ held. permissions_tell held key_id.now (take used.new text.new))
-        (λ held. TextFails (permissions_tell held key_id.now) (permissions_lack held key_id.now) (IsUtf8 key_id.now → ⊥) used.new text.old) }
+    ensures answer { Answers result log.old.owned.kept
+        (λ held. permissions_tell held key_id.now (take used.new text.new))
+        (λ held. TextFails (permissions_tell held key_id.now) (permissions_lack held key_id.now)
+        (IsUtf8 key_id.now → ⊥) used.new text.old) }
     ensures unchanged { log.new.owned.kept ≡ log.old.owned.kept }
     ensures buffer { result ≢ 0 → text.new ≡ text.old }
     ensures used { result ≢ 0 → result ≢ 3 → used.new ≡ 0 }
@@ -201,7 +212,8 @@ fn key_of<'a>(held: &'a Held, key_id: &KeyID) -> Option<&'a PublicKey>
 
 fn key_text(alloc: Global, held: &Held, key_id: &[u8]) -> Result<Vec<u8>, Failure>
     ensures ok { IfOk result (λ v. KeyText (key_of held.now key_id.now) v.items) }
-    ensures err { IfErr result (FailsAs (key_of held.now key_id.now ≡ None) (IsUtf8 key_id.now → ⊥)) }
+    ensures err { IfErr result (FailsAs (key_of held.now key_id.now ≡ None)
+        (IsUtf8 key_id.now → ⊥)) }
 {
     let key_id = key_id_of(alloc, key_id)?;
     let Some(key) = key_of(held, &key_id) else {
@@ -222,8 +234,10 @@ pub extern "C" fn warg_key(
     text: &mut [u8],
     used: &mut usize,
 ) -> u32
-    ensures answer { Answers result log.old.owned.kept (λ held. KeyText (key_of held key_id.now) (take used.new text.new))
-        (λ held. TextFails (KeyText (key_of held key_id.now)) (key_of held key_id.now ≡ None) (IsUtf8 key_id.now → ⊥) used.new text.old) }
+    ensures answer { Answers result log.old.owned.kept
+        (λ held. KeyText (key_of held key_id.now) (take used.new text.new))
+        (λ held. TextFails (KeyText (key_of held key_id.now))
+        (key_of held key_id.now ≡ None) (IsUtf8 key_id.now → ⊥) used.new text.old) }
     ensures unchanged { log.new.owned.kept ≡ log.old.owned.kept }
     ensures buffer { result ≢ 0 → text.new ≡ text.old }
     ensures used { result ≢ 0 → result ≢ 3 → used.new ≡ 0 }

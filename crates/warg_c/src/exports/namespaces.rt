@@ -29,8 +29,10 @@ fn spell_namespace(alloc: Global, state: &NamespaceState) -> Result<(Vec<u8>, u3
 }
 
 fn namespace_in(alloc: Global, state: &LogState, name: &[u8]) -> Result<(Vec<u8>, u32), Failure>
-    ensures ok { IfOk result (λ p. NamespaceIs ((view_of state.now).state.own_state name.now) p.1 p.0.items) }
-    ensures err { IfErr result (FailsAs ((view_of state.now).state.own_state name.now ≡ None) (IsUtf8 name.now → ⊥)) }
+    ensures ok { IfOk result (λ p. NamespaceIs ((view_of state.now).state.own_state name.now) p.1
+        p.0.items) }
+    ensures err { IfErr result (FailsAs ((view_of state.now).state.own_state name.now ≡ None)
+        (IsUtf8 name.now → ⊥)) }
 {
     let Ok(name) = str::from_utf8(name) else {
         return Err(Failure::BadArgument);
@@ -46,7 +48,8 @@ fn namespace_in(alloc: Global, state: &LogState, name: &[u8]) -> Result<(Vec<u8>
 
 fn namespace_of(alloc: Global, held: &Held, name: &[u8]) -> Result<(Vec<u8>, u32), Failure>
     ensures ok { IfOk result (λ p. namespace_tells held.now name.now p.1 p.0.items) }
-    ensures err { IfErr result (FailsAs (namespace_lacks held.now name.now) (namespace_bad held.now name.now)) }
+    ensures err { IfErr result (FailsAs (namespace_lacks held.now name.now)
+        (namespace_bad held.now name.now)) }
 {
     match held {
         Held::Package(_) => Err(Failure::BadArgument),
@@ -64,8 +67,10 @@ pub extern "C" fn warg_namespace(
     used: &mut usize,
     is_imported: &mut u32,
 ) -> u32
-    ensures answer { Answers result log.old.owned.kept (λ held. namespace_tells held name.now is_imported.new (take used.new text.new))
-        (λ held. TextFails (namespace_tells held name.now is_imported.new) (namespace_lacks held name.now) (namespace_bad held name.now) used.new text.old) }
+    ensures answer { Answers result log.old.owned.kept
+        (λ held. namespace_tells held name.now is_imported.new (take used.new text.new))
+        (λ held. TextFails (namespace_tells held name.now is_imported.new)
+        (namespace_lacks held name.now) (namespace_bad held name.now) used.new text.old) }
     ensures unchanged { log.new.owned.kept ≡ log.old.owned.kept }
     ensures buffer { result ≢ 0 → text.new ≡ text.old }
     ensures used { result ≢ 0 → result ≢ 3 → used.new ≡ 0 }

@@ -27,7 +27,9 @@ fn opened(alloc: Global, kind: u32) -> Result<Box<Held>, Failure>
 /// Begins a log of no records. One that was open is closed.
 #[unsafe(no_mangle)]
 pub extern "C" fn warg_open(alloc: Global, log: &mut WargLog, kind: u32) -> u32
-    ensures answer { Answered result (IsSomeAnd log.new.owned.kept (λ held. IsNew held × IsOfNumber kind held)) (CallFails ⊥ (IsNoKind kind)) }
+    ensures answer { Answered result
+        (IsSomeAnd log.new.owned.kept (λ held. IsNew held × IsOfNumber kind held))
+        (CallFails ⊥ (IsNoKind kind)) }
     ensures unchanged { result ≢ 0 → log.new.owned.kept ≡ log.old.owned.kept }
 {
     match opened(alloc, kind) {

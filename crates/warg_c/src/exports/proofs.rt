@@ -18,7 +18,8 @@ fn inclusion(
     root: &[u8],
     proof: &[u8],
 ) -> Result<(), Failure>
-    ensures ok { OnOk result (IsInclusion log_id.now record_id.now root.now proof.now (Included place length)) }
+    ensures ok { OnOk result (IsInclusion log_id.now record_id.now root.now proof.now
+        (Included place length)) }
     ensures err { IfErr result (ProofFails
         (IsInclusion log_id.now record_id.now root.now proof.now (NotIncluded place length))
         (IsNoInclusion log_id.now record_id.now root.now proof.now)) }
@@ -44,8 +45,10 @@ pub extern "C" fn warg_verify_inclusion(
     root: &[u8],
     proof: &[u8],
 ) -> u32
-    ensures { Answered result (IsInclusion log_id.now record_id.now root.now proof.now (Included place length))
-        (ProofFails (IsInclusion log_id.now record_id.now root.now proof.now (NotIncluded place length))
+    ensures { Answered result (IsInclusion log_id.now record_id.now root.now proof.now
+        (Included place length))
+        (ProofFails (IsInclusion log_id.now record_id.now root.now proof.now
+        (NotIncluded place length))
         (IsNoInclusion log_id.now record_id.now root.now proof.now)) }
 {
     status(inclusion(alloc, log_id, record_id, place, length, root, proof))
@@ -59,7 +62,8 @@ fn consistency(
     new_root: &[u8],
     proof: &[u8],
 ) -> Result<(), Failure>
-    ensures ok { OnOk result (IsConsistency old_root.now new_root.now proof.now (Consistent old_length new_length)) }
+    ensures ok { OnOk result (IsConsistency old_root.now new_root.now proof.now
+        (Consistent old_length new_length)) }
     ensures err { IfErr result (ProofFails
         (IsConsistency old_root.now new_root.now proof.now (NotConsistent old_length new_length))
         (IsNoConsistency old_root.now new_root.now proof.now)) }
@@ -95,8 +99,10 @@ pub extern "C" fn warg_verify_consistency(
     new_root: &[u8],
     proof: &[u8],
 ) -> u32
-    ensures { Answered result (IsConsistency old_root.now new_root.now proof.now (Consistent old_length new_length))
-        (ProofFails (IsConsistency old_root.now new_root.now proof.now (NotConsistent old_length new_length))
+    ensures { Answered result (IsConsistency old_root.now new_root.now proof.now
+        (Consistent old_length new_length))
+        (ProofFails (IsConsistency old_root.now new_root.now proof.now
+        (NotConsistent old_length new_length))
         (IsNoConsistency old_root.now new_root.now proof.now)) }
 {
     status(consistency(alloc, old_length, old_root, new_length, new_root, proof))
@@ -110,7 +116,8 @@ fn presence(
     proof: &[u8],
 ) -> Result<(), Failure>
     ensures ok { OnOk result (IsPresence log_id.now record_id.now root.now proof.now Present) }
-    ensures err { IfErr result (ProofFails (IsPresence log_id.now record_id.now root.now proof.now NotPresent)
+    ensures err { IfErr result (ProofFails
+        (IsPresence log_id.now record_id.now root.now proof.now NotPresent)
         (IsNoPresence log_id.now record_id.now root.now proof.now)) }
 {
     let leaf = leaf_in(log_id, record_id)?;

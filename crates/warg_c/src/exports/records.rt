@@ -65,7 +65,8 @@ pub extern "C" fn warg_head(
     text: &mut [u8],
     used: &mut usize,
 ) -> u32
-    ensures answer { Answers result log.old.owned.kept (λ held. IdText (head_of held) (take used.new text.new))
+    ensures answer { Answers result log.old.owned.kept
+        (λ held. IdText (head_of held) (take used.new text.new))
         (λ held. TextFails (IdText (head_of held)) (head_of held ≡ None) ⊥ used.new text.old) }
     ensures unchanged { log.new.owned.kept ≡ log.old.owned.kept }
     ensures buffer { result ≢ 0 → text.new ≡ text.old }
@@ -140,7 +141,8 @@ fn record_of<L: Validator>(
     place: usize,
 ) -> Result<(Vec<u8>, KeptLengths), Failure>
     ensures ok { IfOk result (λ p. IsRecordAt L.kind (whole_of log.now) place p.1 p.0.items) }
-    ensures err { IfErr result (FailsAs (IsBeyond (whole_of log.now) place) (whole_of log.now ≡ None)) }
+    ensures err { IfErr result (FailsAs (IsBeyond (whole_of log.now) place)
+        (whole_of log.now ≡ None)) }
 {
     let Some(log) = log.whole() else {
         return Err(Failure::BadArgument);
@@ -174,8 +176,10 @@ pub extern "C" fn warg_record(
     used: &mut usize,
     kept: &mut KeptLengths,
 ) -> u32
-    ensures answer { Answers result log.old.owned.kept (λ held. record_tells held place kept.new (take used.new bytes.new))
-        (λ held. TextFails (record_tells held place kept.new) (record_lacks held place) (has_no_records held) used.new bytes.old) }
+    ensures answer { Answers result log.old.owned.kept
+        (λ held. record_tells held place kept.new (take used.new bytes.new))
+        (λ held. TextFails (record_tells held place kept.new) (record_lacks held place)
+        (has_no_records held) used.new bytes.old) }
     ensures unchanged { log.new.owned.kept ≡ log.old.owned.kept }
     ensures buffer { result ≢ 0 → bytes.new ≡ bytes.old }
     ensures used { result ≢ 0 → result ≢ 3 → used.new ≡ 0 }

@@ -57,8 +57,10 @@ fn parse_version(alloc: Global, text: &[u8]) -> Result<Version, Failure>
 
 // A release as bytes, if there is one.
 fn shown(alloc: Global, release: Option<&Release>) -> Result<(Vec<u8>, ShownRelease), Failure>
-    ensures ok { IfOk result (λ p. (r : ReleaseView) × (option_map release_view (option_copied release.entry) ≡ Some r) × Shows r p.1 p.0.items) }
-    ensures err { IfErr result (FailsAs (option_map release_view (option_copied release.entry) ≡ None) ⊥) }
+    ensures ok { IfOk result (λ p. (r : ReleaseView) ×
+        (option_map release_view (option_copied release.entry) ≡ Some r) × Shows r p.1 p.0.items) }
+    ensures err { IfErr result (FailsAs
+        (option_map release_view (option_copied release.entry) ≡ None) ⊥) }
 {
     let Some(release) = release else {
         return Err(Failure::Absent);
@@ -74,8 +76,10 @@ fn latest_in(
     state: &LogState,
     requirement: &[u8],
 ) -> Result<(Vec<u8>, ShownRelease), Failure>
-    ensures ok { IfOk result (λ p. (r : ReleaseView) × IsLatest state.now.own_state requirement.now (Some r) × Shows r p.1 p.0.items) }
-    ensures err { IfErr result (FailsAs (IsLatest state.now.own_state requirement.now None) (IsNoRequirement requirement.now)) }
+    ensures ok { IfOk result (λ p. (r : ReleaseView) ×
+        IsLatest state.now.own_state requirement.now (Some r) × Shows r p.1 p.0.items) }
+    ensures err { IfErr result (FailsAs (IsLatest state.now.own_state requirement.now None)
+        (IsNoRequirement requirement.now)) }
 {
     let requirement = parse_requirement(alloc, requirement)?;
     shown(alloc, state.find_latest_release(&requirement))
@@ -87,7 +91,8 @@ fn latest_of(
     requirement: &[u8],
 ) -> Result<(Vec<u8>, ShownRelease), Failure>
     ensures ok { IfOk result (λ p. latest_tells held.now requirement.now p.1 p.0.items) }
-    ensures err { IfErr result (FailsAs (latest_lacks held.now requirement.now) (latest_bad held.now requirement.now)) }
+    ensures err { IfErr result (FailsAs (latest_lacks held.now requirement.now)
+        (latest_bad held.now requirement.now)) }
 {
     match held {
         Held::Package(log) => latest_in(alloc, log.state(), requirement),
@@ -105,8 +110,10 @@ pub extern "C" fn warg_latest(
     used: &mut usize,
     release: &mut ShownRelease,
 ) -> u32
-    ensures answer { Answers result log.old.owned.kept (λ held. latest_tells held requirement.now release.new (take used.new text.new))
-        (λ held. TextFails (latest_tells held requirement.now release.new) (latest_lacks held requirement.now)
+    ensures answer { Answers result log.old.owned.kept
+        (λ held. latest_tells held requirement.now release.new (take used.new text.new))
+        (λ held. TextFails (latest_tells held requirement.now release.new)
+        (latest_lacks held requirement.now)
         (latest_bad held requirement.now) used.new text.old) }
     ensures unchanged { log.new.owned.kept ≡ log.old.owned.kept }
     ensures buffer { result ≢ 0 → text.new ≡ text.old }
@@ -127,8 +134,10 @@ fn release_in(
     state: &LogState,
     version: &[u8],
 ) -> Result<(Vec<u8>, ShownRelease), Failure>
-    ensures ok { IfOk result (λ p. (r : ReleaseView) × IsReleaseOf state.now.own_state version.now (Some r) × Shows r p.1 p.0.items) }
-    ensures err { IfErr result (FailsAs (IsReleaseOf state.now.own_state version.now None) (IsNoVersion version.now)) }
+    ensures ok { IfOk result (λ p. (r : ReleaseView) ×
+        IsReleaseOf state.now.own_state version.now (Some r) × Shows r p.1 p.0.items) }
+    ensures err { IfErr result (FailsAs (IsReleaseOf state.now.own_state version.now None)
+        (IsNoVersion version.now)) }
 {
     let version = parse_version(alloc, version)?;
     shown(alloc, state.release(&version))
@@ -140,7 +149,8 @@ fn release_of(
     version: &[u8],
 ) -> Result<(Vec<u8>, ShownRelease), Failure>
     ensures ok { IfOk result (λ p. release_tells held.now version.now p.1 p.0.items) }
-    ensures err { IfErr result (FailsAs (release_lacks held.now version.now) (release_bad held.now version.now)) }
+    ensures err { IfErr result (FailsAs (release_lacks held.now version.now)
+        (release_bad held.now version.now)) }
 {
     match held {
         Held::Package(log) => release_in(alloc, log.state(), version),
@@ -158,8 +168,10 @@ pub extern "C" fn warg_release(
     used: &mut usize,
     release: &mut ShownRelease,
 ) -> u32
-    ensures answer { Answers result log.old.owned.kept (λ held. release_tells held version.now release.new (take used.new text.new))
-        (λ held. TextFails (release_tells held version.now release.new) (release_lacks held version.now)
+    ensures answer { Answers result log.old.owned.kept
+        (λ held. release_tells held version.now release.new (take used.new text.new))
+        (λ held. TextFails (release_tells held version.now release.new)
+        (release_lacks held version.now)
         (release_bad held version.now) used.new text.old) }
     ensures unchanged { log.new.owned.kept ≡ log.old.owned.kept }
     ensures buffer { result ≢ 0 → text.new ≡ text.old }
@@ -202,8 +214,10 @@ pub extern "C" fn warg_releases(
     used: &mut usize,
     release: &mut ShownRelease,
 ) -> u32
-    ensures answer { Answers result log.old.owned.kept (λ held. place_tells held place release.new (take used.new text.new))
-        (λ held. TextFails (place_tells held place release.new) (place_lacks held place) (place_bad held) used.new text.old) }
+    ensures answer { Answers result log.old.owned.kept
+        (λ held. place_tells held place release.new (take used.new text.new))
+        (λ held. TextFails (place_tells held place release.new) (place_lacks held place)
+        (place_bad held) used.new text.old) }
     ensures unchanged { log.new.owned.kept ≡ log.old.owned.kept }
     ensures buffer { result ≢ 0 → text.new ≡ text.old }
     ensures used { result ≢ 0 → result ≢ 3 → used.new ≡ 0 }

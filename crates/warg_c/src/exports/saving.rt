@@ -24,7 +24,8 @@ use warg_saved::JsonTextError;
 
 // What became of writing a text.
 fn written(outcome: Result<String, JsonError>) -> Result<Vec<u8>, Failure>
-    ensures { (want : Result (List ℕ) JsonError) → ReturnsOrNoMemory string_bytes outcome want → IsWritten (λ v. v.items) want result }
+    ensures { (want : Result (List ℕ) JsonError) → ReturnsOrNoMemory string_bytes outcome want →
+        IsWritten (λ v. v.items) want result }
 {
     match outcome {
         Ok(text) => Ok(text.into_bytes()),
@@ -51,7 +52,8 @@ pub extern "C" fn warg_save(
     text: &mut [u8],
     used: &mut usize,
 ) -> u32
-    ensures answer { Answers result log.old.owned.kept (λ held. save_tells held (take used.new text.new))
+    ensures answer { Answers result log.old.owned.kept
+        (λ held. save_tells held (take used.new text.new))
         (λ held. TextFails (save_tells held) (save_lacks held) ⊥ used.new text.old) }
     ensures unchanged { log.new.owned.kept ≡ log.old.owned.kept }
     ensures buffer { result ≢ 0 → text.new ≡ text.old }
@@ -69,7 +71,8 @@ pub extern "C" fn warg_save(
 
 // Says why a text is no saved state, where there is memory and room for it.
 fn refuse_saved(alloc: Global, error: JsonTextError, text: &mut [u8], used: &mut usize) -> Failure
-    ensures failure { (result ≡ OutOfMemory) ⊎ ((result ≡ BadArgument) × (error ≢ json.OutOfMemory)) }
+    ensures failure { (result ≡ OutOfMemory) ⊎
+        ((result ≡ BadArgument) × (error ≢ json.OutOfMemory)) }
     ensures within { used.old ≡ 0 → used.new ≤ length text.new }
 {
     if let JsonTextError::OutOfMemory | JsonTextError::Value(JsonError::OutOfMemory) = error {
@@ -132,7 +135,8 @@ pub extern "C" fn warg_resume(
     text: &mut [u8],
     used: &mut usize,
 ) -> u32
-    ensures answer { Answered result (IsSomeAnd log.new.owned.kept (resumes_number kind saved.now)) (CallFails ⊥ (is_no_saved kind saved.now)) }
+    ensures answer { Answered result (IsSomeAnd log.new.owned.kept (resumes_number kind saved.now))
+        (CallFails ⊥ (is_no_saved kind saved.now)) }
     ensures unchanged { result ≢ 0 → log.new.owned.kept ≡ log.old.owned.kept }
     ensures within { used.new ≤ length text.new }
 {

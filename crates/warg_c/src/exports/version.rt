@@ -12,7 +12,8 @@ const VERSION: &str = "0.1.0";
 /// The library's version.
 #[unsafe(no_mangle)]
 pub extern "C" fn warg_version(text: &mut [u8], used: &mut usize) -> u32
-    ensures answer { Answered result (take used.new text.new ≡ codes "0.1.0") (TextFails (λ version. version ≡ codes "0.1.0") ⊥ ⊥ used.new text.old) }
+    ensures answer { Answered result (take used.new text.new ≡ codes "0.1.0")
+        (TextFails (λ version. version ≡ codes "0.1.0") ⊥ ⊥ used.new text.old) }
     ensures buffer { result ≢ 0 → text.new ≡ text.old }
     ensures used { result ≢ 0 → result ≢ 3 → used.new ≡ 0 }
     ensures within { result ≢ 3 → used.new ≤ length text.new }

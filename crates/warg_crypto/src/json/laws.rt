@@ -19,6 +19,7 @@ pub fn time_texts_read_back()
 /// What was written of a value that may be missing reads back as the same one, where null is none.
 pub fn optional_values_read_back<T: JsonValue>()
     ensures { (o : Option T.Plain) (d : Option Data) (e : JsonError) → T.reads null ≡ Err e
-        → ((x : T.Plain) → o ≡ Some x → IsReadBack T.writes T.reads T.equivalent x) → option_json T.writes o ≡ Ok d
+        → ((x : T.Plain) → o ≡ Some x → IsReadBack T.writes T.reads T.equivalent x) →
+        option_json T.writes o ≡ Ok d
         → OptionReadsBack T.reads T.equivalent o d }
 {}

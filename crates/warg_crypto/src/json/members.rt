@@ -67,7 +67,8 @@ pub fn optional_member<T: JsonValue + Drop>(
     value: &Value,
     name: &str,
 ) -> Result<Option<T>, JsonError>
-    ensures { ReturnsOrNoMemory (option_map T.plain) result (optional_member T.reads name.now (view value.now)) }
+    ensures { ReturnsOrNoMemory (option_map T.plain) result
+        (optional_member T.reads name.now (view value.now)) }
 {
     let _members = members_in(value)?;
     optional::<T>(alloc, value.get(name))
@@ -118,7 +119,8 @@ pub fn put_optional<T: JsonValue>(
     value: &Option<T>,
 ) -> Result<(), JsonError>
     ensures written { ReturnsOrNoMemory (λ _. members_view map.new.entries) result
-        (put_option T.writes name.now (option_map T.plain value.now) (members_view map.old.entries)) }
+        (put_option T.writes name.now (option_map T.plain value.now)
+        (members_view map.old.entries)) }
     ensures kept { OnErr result (members_view map.new.entries ≡ members_view map.old.entries) }
 {
     let Some(value) = value else {

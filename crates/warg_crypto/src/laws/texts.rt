@@ -14,7 +14,8 @@ use std::fmt::{Display, Formatter, Result, Write};
 /// An algorithm prints as its name.
 pub fn print_algorithm<W: Write>(algorithm: &HashAlgorithm, f: &mut Formatter<W>) -> Result
     ensures plain { WritesOnOk W.write_str_gives f.old result (algorithm_text algorithm.now) f.new }
-    ensures styled { WritesStyledOnOk W.write_str_gives f.old result (algorithm_text algorithm.now) f.new }
+    ensures styled { WritesStyledOnOk W.write_str_gives f.old result
+        (algorithm_text algorithm.now) f.new }
 {
     algorithm.fmt(f)
 }
@@ -59,7 +60,8 @@ pub fn print_key<W: Write>(key: &PublicKey, f: &mut Formatter<W>) -> Result
 /// A signature prints as its text.
 pub fn print_signature<W: Write>(signature: &Signature, f: &mut Formatter<W>) -> Result
     ensures plain { WritesOnOk W.write_str_gives f.old result (tag_text signature.now) f.new }
-    ensures styled { WritesStyledOnOk W.write_str_gives f.old result (tag_text signature.now) f.new }
+    ensures styled { WritesStyledOnOk W.write_str_gives f.old result
+        (tag_text signature.now) f.new }
 {
     signature.fmt(f)
 }

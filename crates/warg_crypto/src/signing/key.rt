@@ -227,7 +227,8 @@ impl PublicKey {
     /// The key that a text says: a name, a colon, and bytes in base64 (RFC 4648, with padding).
     pub fn parse(alloc: Global, text: &str) -> Result<PublicKey, KeyParseError>
         ensures ok { IfOk result (λ k. public_key_of text.now ≡ Ok k) }
-        ensures err { IfErr result (λ e. (e ≡ fault.OutOfMemory) ⊎ (public_key_of text.now ≡ Err e)) }
+        ensures err { IfErr result (λ e. (e ≡ fault.OutOfMemory) ⊎
+            (public_key_of text.now ≡ Err e)) }
     {
         let tagged = Tagged::parse(alloc, text)?;
         Ok(PublicKey { tagged })

@@ -10,8 +10,10 @@ use std::{fmt, str};
 
 /// Writes the bytes in base64. What `base64`'s own `Display` does, under every formatting option.
 pub fn write_base64<W: fmt::Write>(bytes: &[u8], f: &mut fmt::Formatter<W>) -> fmt::Result
-    ensures writes { WritesOnOk W.write_str_gives f.old result (encode_of standard bytes.now) f.new }
-    ensures styled { WritesStyledOnOk W.write_str_gives f.old result (encode_of standard bytes.now) f.new }
+    ensures writes { WritesOnOk W.write_str_gives f.old result
+        (encode_of standard bytes.now) f.new }
+    ensures styled { WritesStyledOnOk W.write_str_gives f.old result
+        (encode_of standard bytes.now) f.new }
 {
     // A piece of a multiple of three bytes needs no padding, so only the last one may have it.
     let mut buffer = [0u8; 1024];

@@ -60,7 +60,8 @@ impl Signature {
     /// The signature that a text says: a name, a colon, and bytes in base64 (RFC 4648, with padding).
     pub fn parse(alloc: Global, text: &str) -> Result<Signature, SignatureParseError>
         ensures ok { IfOk result (λ k. signature_of text.now ≡ Ok k) }
-        ensures err { IfErr result (λ e. (e ≡ fault.OutOfMemory) ⊎ (signature_of text.now ≡ Err e)) }
+        ensures err { IfErr result (λ e. (e ≡ fault.OutOfMemory) ⊎
+            (signature_of text.now ≡ Err e)) }
     {
         let tagged = Tagged::parse(alloc, text)?;
         Ok(Signature { tagged })

@@ -10,7 +10,8 @@ use crate::{
 
 /// Envelopes: as their records are equal, and the bytes, the key id and the signature one.
 pub fn are_same_envelopes<C: Eq>(a: &ProtoEnvelope<C>, b: &ProtoEnvelope<C>) -> bool
-    ensures { IsTrue result ↔ ((C.eq a.now.contents b.now.contents ≡ true) × (a.now.envelope ≡ b.now.envelope)) }
+    ensures { IsTrue result ↔ ((C.eq a.now.contents b.now.contents ≡ true) ×
+        (a.now.envelope ≡ b.now.envelope)) }
 {
     a == b
 }
@@ -28,7 +29,8 @@ pub fn are_same_published_envelopes<C: Eq>(
     b: &PublishedProtoEnvelope<C>,
 ) -> bool
     ensures { IsTrue result ↔ ((C.eq a.now.envelope.contents b.now.envelope.contents ≡ true)
-        × (a.now.envelope.envelope ≡ b.now.envelope.envelope) × (a.now.registry_index ≡ b.now.registry_index)) }
+        × (a.now.envelope.envelope ≡ b.now.envelope.envelope) ×
+        (a.now.registry_index ≡ b.now.registry_index)) }
 {
     a == b
 }

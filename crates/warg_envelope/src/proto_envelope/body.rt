@@ -86,7 +86,8 @@ impl<C: Record> ProtoEnvelope<C> {
         body: ProtoEnvelopeBody,
     ) -> Result<ProtoEnvelope<C>, DecodeError>
         ensures envelope { IfOk result (λ e. e.envelope ≡ body) }
-        ensures contents { IsReading (λ e. C.meaning e.contents) C.fault_of (C.read body.content) result }
+        ensures contents { IsReading (λ e. C.meaning e.contents) C.fault_of
+            (C.read body.content) result }
     {
         let contents = decode_contents::<C>(alloc, body.content_bytes.as_slice())?;
         Ok(ProtoEnvelope {
@@ -169,7 +170,8 @@ impl<C: Record> PublishedProtoEnvelope<C> {
     pub fn try_clone(&self) -> Result<PublishedProtoEnvelope<C>, AllocError>
         ensures index { IfOk result (λ e. e.registry_index ≡ self.now.registry_index) }
         ensures envelope { IfOk result (λ e. e.envelope.envelope ≡ self.now.envelope.envelope) }
-        ensures contents { IfOk result (λ e. C.meaning e.envelope.contents ≡ C.meaning self.now.envelope.contents) }
+        ensures contents { IfOk result
+            (λ e. C.meaning e.envelope.contents ≡ C.meaning self.now.envelope.contents) }
     {
         Ok(PublishedProtoEnvelope {
             envelope: self.envelope.try_clone()?,

@@ -42,7 +42,8 @@ fn outer_name(error: WireError) -> &'static str
 }
 
 fn contents_name(error: DecodeError) -> &'static str
-    ensures { result.now ≡ envelope_fault_name record_fault_name (contents_fault_of (fault_of error)) }
+    ensures { result.now ≡ envelope_fault_name record_fault_name
+        (contents_fault_of (fault_of error)) }
 {
     match error {
         DecodeError::Wire(fault) => wire_fault_name(fault),

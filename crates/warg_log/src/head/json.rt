@@ -19,9 +19,11 @@ use warg_records::RecordId;
 /// Puts the version, unless it is 0.
 fn put_version(map: &mut Map<String, Value>, alloc: Global, version: u32) -> Result<(), JsonError>
     ensures written { ReturnsOrNoMemory (λ _. members_view map.new.entries) result
-        (put_option number_json (codes "version") (unless_zero version) (members_view map.old.entries)) }
+        (put_option number_json (codes "version") (unless_zero version)
+        (members_view map.old.entries)) }
     ensures back { OnOk result ((d : Option Data) × (version_or_zero d ≡ Ok version)
-        × (members_view map.new.entries ≡ put_some (codes "version") d (members_view map.old.entries))) }
+        × (members_view map.new.entries ≡
+        put_some (codes "version") d (members_view map.old.entries))) }
 {
     if version == 0 {
         return Ok(());

@@ -23,8 +23,10 @@ pub fn put_head(
 ) -> Result<(), JsonError>
     ensures written { ReturnsOrNoMemory (λ _. members_view members.new.entries) result
         (put_option head_json (codes "head") head.now (members_view members.old.entries)) }
-    ensures back { OnOk result ((h : OfHead) → head.now ≡ Some h → IsReadBack head_json head_in (λ x y. x ≡ y) h) }
-    ensures kept { OnErr result (members_view members.new.entries ≡ members_view members.old.entries) }
+    ensures back { OnOk result ((h : OfHead) → head.now ≡ Some h →
+        IsReadBack head_json head_in (λ x y. x ≡ y) h) }
+    ensures kept { OnErr result (members_view members.new.entries ≡
+        members_view members.old.entries) }
 {
     let Some(head) = head else {
         return Ok(());
@@ -34,15 +36,18 @@ pub fn put_head(
 
 /// Puts the head as text, if there is one. After an error the texts are of no use.
 pub fn put_head_text(members: &mut MemberTexts, head: &Option<Head>) -> Result<(), JsonError>
-    ensures written { PutsText (put_option head_json (codes "head") head.now) result members.old members.new }
-    ensures back { OnOk result ((h : OfHead) → head.now ≡ Some h → IsReadBack head_json head_in (λ x y. x ≡ y) h) }
+    ensures written { PutsText (put_option head_json (codes "head") head.now) result
+        members.old members.new }
+    ensures back { OnOk result ((h : OfHead) → head.now ≡ Some h →
+        IsReadBack head_json head_in (λ x y. x ≡ y) h) }
 {
     members.put_optional("head", head)
 }
 
 /// The head of a state, where a missing one and null are none.
 pub fn head_member(alloc: Global, value: &Value) -> Result<Option<Head>, JsonError>
-    ensures { ReturnsOrNoMemory (λ h. h) result (optional_member head_in (codes "head") (view value.now)) }
+    ensures { ReturnsOrNoMemory (λ h. h) result
+        (optional_member head_in (codes "head") (view value.now)) }
 {
     optional_member::<Head>(alloc, value, "head")
 }

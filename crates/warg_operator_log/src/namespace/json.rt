@@ -59,7 +59,8 @@ fn is_one(members: &Map<String, Value>) -> bool
 
 /// The value of the member `imported`, where it is the only one, else `BadText`.
 fn only_imported<'v>(value: &'v Value, members: &Map<String, Value>) -> Result<&'v Value, JsonError>
-    ensures { Returns (λ v. view v.now) result (only_imported (view value.now) (members_view members.now.entries)) }
+    ensures { Returns (λ v. view v.now) result
+        (only_imported (view value.now) (members_view members.now.entries)) }
 {
     if !is_one(members) {
         return Err(JsonError::BadText);

@@ -19,7 +19,8 @@ impl NamespaceMap {
 
     /// The namespaces of the map, whose names have to be kebab names.
     pub(crate) fn restore(namespaces: IndexMap<String, NamespaceState>) -> NamespaceMap
-        requires { namespaces_case (plain_pairs string_bytes namespace_view namespaces.entries) ≡ None }
+        requires { namespaces_case (plain_pairs string_bytes namespace_view namespaces.entries) ≡
+            None }
         ensures { result ≡ plain_pairs string_bytes namespace_view namespaces.entries }
     {
         NamespaceMap { map: namespaces }

@@ -15,8 +15,10 @@ impl LogState {
     /// Judges all of a record but its signature, which is left to the caller: the record is lawful exactly if the
     /// signature of the answer belongs. Anything else is what is wrong first, whatever the signature.
     pub fn ask(&self, envelope: &ProtoEnvelope<OperatorRecord>) -> Result<Question, ValidationError>
-        ensures asks { IfOk result (λ q. Asks rules same_permission (view_of self.now) (plain_envelope envelope.now) q) }
-        ensures refused { IfErr result (λ e. RefusesAnyway rules same_permission (offence_of e) (view_of self.now)
+        ensures asks { IfOk result (λ q. Asks rules same_permission (view_of self.now)
+            (plain_envelope envelope.now) q) }
+        ensures refused { IfErr result
+            (λ e. RefusesAnyway rules same_permission (offence_of e) (view_of self.now)
             (plain_envelope envelope.now)) }
     {
         self.log.ask(envelope)

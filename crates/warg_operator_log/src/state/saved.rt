@@ -88,7 +88,8 @@ fn text_parts(alloc: Global, text: &str) -> Result<SavedParts, JsonTextError>
 
 /// Whether some name is no kebab name.
 fn has_misnamed(namespaces: &IndexMap<String, NamespaceState>) -> bool
-    ensures { result ≡ list_any is_misnamed (plain_pairs string_bytes namespace_view namespaces.now.entries) }
+    ensures { result ≡ list_any is_misnamed (plain_pairs string_bytes namespace_view
+        namespaces.now.entries) }
 {
     'namespaces: for (name, _state) in namespaces.iter() {
         if !PackageName::is_valid_namespace(name.as_str()) {
@@ -100,7 +101,8 @@ fn has_misnamed(namespaces: &IndexMap<String, NamespaceState>) -> bool
 
 /// Refuses a name that is no kebab name.
 fn check_namespaces(namespaces: &IndexMap<String, NamespaceState>) -> Result<(), JsonError>
-    ensures { RefusesCase (namespaces_case (plain_pairs string_bytes namespace_view namespaces.now.entries)) result }
+    ensures { RefusesCase (namespaces_case
+        (plain_pairs string_bytes namespace_view namespaces.now.entries)) result }
 {
     if has_misnamed(namespaces) {
         return Err(JsonError::Incoherent(Incoherence::InvalidNamespace));
@@ -120,7 +122,8 @@ fn are_empty(parts: &SavedParts) -> bool
 fn check_maps(alloc: Global, parts: &SavedParts) -> Result<(), JsonError>
     ensures { RefusesCase (first_case (keys_case (parts_view parts.now).keys ∷ namespaces_case
         (parts_view parts.now).namespaces
-        ∷ rights_case (parts_view parts.now).rights (parts_view parts.now).keys ∷ version_case (head_version (parts_view parts.now).head) ∷ [])) result }
+        ∷ rights_case (parts_view parts.now).rights (parts_view parts.now).keys ∷ version_case
+        (head_version (parts_view parts.now).head) ∷ [])) result }
 {
     check_keys(alloc, &parts.keys)?;
     check_namespaces(&parts.namespaces)?;
@@ -166,7 +169,8 @@ fn state_of_parts(alloc: Global, parts: SavedParts) -> Result<LogState, JsonErro
 
 /// The members of the state's JSON.
 fn members_of(alloc: Global, log: &Log<NamespaceMap>) -> Result<Map<String, Value>, JsonError>
-    ensures written { ReturnsOrNoMemory (λ m. object (members_view m.entries)) result (state_json log.now) }
+    ensures written { ReturnsOrNoMemory (λ m. object (members_view m.entries))
+        result (state_json log.now) }
     ensures savable { OnOk result (IsSavable log.now) }
 {
     let mut members = Map::new(alloc);
@@ -201,7 +205,8 @@ impl LogState {
     pub fn to_json(&self, alloc: Global) -> Result<String, JsonError>
         ensures written { ReturnsOrNoMemory string_bytes result (text_of (state_json self.now)) }
         ensures read { IfOk result (λ text. IsReadAs (state_json self.now) (string_bytes text)) }
-        ensures back { IfOk result (λ text. TextReadsBack state_in AreEqual self.now (string_bytes text)) }
+        ensures back { IfOk result (λ text. TextReadsBack state_in AreEqual
+            self.now (string_bytes text)) }
     {
         log_text(alloc, &self.log)
     }

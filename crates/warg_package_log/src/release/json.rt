@@ -41,7 +41,8 @@ fn version_in(alloc: Global, value: &Value) -> Result<Version, JsonError>
 
 /// The status as the first member of a state.
 fn status_member(alloc: Global, status: &str) -> Result<Map<String, Value>, JsonError>
-    ensures { ReturnsOrNoMemory (λ map. members_view map.entries) result (wrote (status_member status.now)) }
+    ensures { ReturnsOrNoMemory (λ map. members_view map.entries) result
+        (wrote (status_member status.now)) }
 {
     let mut map = Map::new(alloc);
     put_member(&mut map, alloc, "status", text_value(alloc, status)?)?;
@@ -60,7 +61,8 @@ fn released_value(alloc: Global, content: &AnyHash) -> Result<Value, JsonError>
 
 /// The state of a release that was yanked, as JSON.
 fn yanked_value(alloc: Global, by: &KeyID, timestamp: &Timestamp) -> Result<Value, JsonError>
-    ensures written { ReturnsOrNoMemory view result (release_state_json (Yanked by.now timestamp.now)) }
+    ensures written { ReturnsOrNoMemory view result
+        (release_state_json (Yanked by.now timestamp.now)) }
     ensures back { IfOk result (λ v. release_state_in (view v) ≡ Ok (Yanked by.now timestamp.now)) }
 {
     let mut map = status_member(alloc, "yanked")?;

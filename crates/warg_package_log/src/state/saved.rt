@@ -89,7 +89,8 @@ fn text_parts(alloc: Global, text: &str) -> Result<SavedParts, JsonTextError>
 
 /// Whether some release stands under another version than its own.
 fn has_misfiled(releases: &IndexMap<Version, Release>) -> bool
-    ensures { result ≡ list_any is_misfiled (plain_pairs parts_of release_view releases.now.entries) }
+    ensures { result ≡ list_any is_misfiled (plain_pairs parts_of release_view
+        releases.now.entries) }
 {
     'releases: for (version, release) in releases.iter() {
         if *version != release.version {
@@ -101,7 +102,8 @@ fn has_misfiled(releases: &IndexMap<Version, Release>) -> bool
 
 /// Refuses a release that stands under another version than its own.
 fn check_releases(releases: &IndexMap<Version, Release>) -> Result<(), JsonError>
-    ensures { RefusesCase (releases_case (plain_pairs parts_of release_view releases.now.entries)) result }
+    ensures { RefusesCase (releases_case (plain_pairs parts_of release_view releases.now.entries))
+        result }
 {
     if has_misfiled(releases) {
         return Err(JsonError::Incoherent(Incoherence::ReleaseUnderOtherVersion));
@@ -121,7 +123,8 @@ fn are_empty(parts: &SavedParts) -> bool
 fn check_maps(alloc: Global, parts: &SavedParts) -> Result<(), JsonError>
     ensures { RefusesCase (first_case (releases_case (parts_view parts.now).releases ∷ keys_case
         (parts_view parts.now).keys
-        ∷ rights_case (parts_view parts.now).rights (parts_view parts.now).keys ∷ version_case (head_version (parts_view parts.now).head) ∷ [])) result }
+        ∷ rights_case (parts_view parts.now).rights (parts_view parts.now).keys ∷ version_case
+        (head_version (parts_view parts.now).head) ∷ [])) result }
 {
     check_releases(&parts.releases)?;
     check_keys(alloc, &parts.keys)?;
@@ -167,7 +170,8 @@ fn state_of_parts(alloc: Global, parts: SavedParts) -> Result<LogState, JsonErro
 
 /// The members of the state's JSON.
 fn members_of(alloc: Global, log: &Log<ReleaseMap>) -> Result<Map<String, Value>, JsonError>
-    ensures written { ReturnsOrNoMemory (λ m. object (members_view m.entries)) result (state_json log.now) }
+    ensures written { ReturnsOrNoMemory (λ m. object (members_view m.entries))
+        result (state_json log.now) }
     ensures savable { OnOk result (AreReadBack (saved_versions log.now) → IsSavable log.now) }
 {
     let mut members = Map::new(alloc);

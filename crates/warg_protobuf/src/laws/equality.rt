@@ -128,7 +128,8 @@ pub fn are_same_operator_entries(a: &OperatorEntry, b: &OperatorEntry) -> bool
 
 /// Records, wherever their entries are: as what holds the entries is equal, and all else is one.
 pub fn are_same_records<L: Eq>(a: &Record<L>, b: &Record<L>) -> bool
-    ensures { IsTrue result ↔ ((option_view string_bytes a.now.prev ≡ option_view string_bytes b.now.prev)
+    ensures { IsTrue result ↔ ((option_view string_bytes a.now.prev ≡
+        option_view string_bytes b.now.prev)
         × (a.now.version ≡ b.now.version)
         × (option_view timestamp_view a.now.time ≡ option_view timestamp_view b.now.time)
         × (L.eq a.now.entries b.now.entries ≡ true)) }

@@ -94,7 +94,8 @@ impl OperatorEntry {
         alloc: Global,
         message: message::OperatorEntry,
     ) -> Result<OperatorEntry, DecodeError>
-        ensures { IsReading entry_data fault_of (operator_entry_of (operator_entry_view message)) result }
+        ensures { IsReading entry_data fault_of (operator_entry_of (operator_entry_view message))
+            result }
     {
         OperatorEntry::from_message(alloc, message)
     }
@@ -106,7 +107,8 @@ impl OperatorRecord {
         alloc: Global,
         message: message::OperatorRecord,
     ) -> Result<OperatorRecord, DecodeError>
-        ensures { IsReading record_data fault_of (record_of operator_entry_of (operator_record_view message)) result }
+        ensures { IsReading record_data fault_of
+            (record_of operator_entry_of (operator_record_view message)) result }
     {
         LogRecord::from_message(alloc, message)
     }

@@ -129,7 +129,8 @@ impl PackageEntry {
         alloc: Global,
         message: message::PackageEntry,
     ) -> Result<PackageEntry, DecodeError>
-        ensures { IsReading entry_data fault_of (package_entry_of (package_entry_view message)) result }
+        ensures { IsReading entry_data fault_of (package_entry_of (package_entry_view message))
+            result }
     {
         PackageEntry::from_message(alloc, message)
     }
@@ -141,7 +142,8 @@ impl PackageRecord {
         alloc: Global,
         message: message::PackageRecord,
     ) -> Result<PackageRecord, DecodeError>
-        ensures { IsReading record_data fault_of (record_of package_entry_of (package_record_view message)) result }
+        ensures { IsReading record_data fault_of
+            (record_of package_entry_of (package_record_view message)) result }
     {
         LogRecord::from_message(alloc, message)
     }

@@ -41,7 +41,8 @@ fn bytes_in(alloc: Global, value: &Value) -> Result<Vec<u8>, JsonError>
 
 /// The members of an envelope's JSON.
 fn body_members(alloc: Global, body: &ProtoEnvelopeBody) -> Result<Map<String, Value>, JsonError>
-    ensures written { ReturnsOrNoMemory (λ map. members_view map.entries) result (body_members body.now) }
+    ensures written { ReturnsOrNoMemory (λ map. members_view map.entries) result
+        (body_members body.now) }
     ensures back { IfOk result (λ map. AreBodyMembers body.now (members_view map.entries)) }
 {
     let mut map = Map::new(alloc);
