@@ -11,7 +11,7 @@ from pages import crates_below
 KINDS = ("struct", "enum", "trait", "type", "fn", "const")
 # Members of impls that are proofs, or repeat what another member says.
 PROOFS = re.compile(
-    r"(laws|inverse|styled_output|one_\w+|equal_errors|equals|saved_equal|equivalent_\w+|held_by_effects|gives_what_is_held"
+    r"(laws|inverse|styled_output|one_\w+|equal_errors|equals|versions_written|versions_read|equivalent_\w+|held_by_effects|gives_what_is_held"
     r"|decodes_reading|memory_\w+|respects_\w+|matches_\w+|total)$"
 )
 

@@ -27,7 +27,7 @@ pub(crate) fn value_of(alloc: Global, json: &str) -> Result<Value, Fail> {
     Ok(Value::from_str(alloc, json)?)
 }
 
-impl<T: JsonValue + Shown + PartialEq + Drop> Coded for Json<T> {
+impl<T: JsonValue + Shown + Drop> Coded for Json<T> {
     fn read(alloc: Global, word: &str) -> Result<Result<Json<T>, String>, Fail> {
         match T::from_value(alloc, &value_of(alloc, word)?) {
             Ok(value) => Ok(Ok(Json { value })),

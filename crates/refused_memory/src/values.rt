@@ -46,10 +46,7 @@ pub(crate) fn to_protobuf(alloc: Global) -> Result<String, Refusal> {
 }
 
 // The JSON of the value, which reads back as it.
-pub(crate) fn written<T: JsonValue + PartialEq + Drop>(
-    alloc: Global,
-    value: &T,
-) -> Result<String, Refusal> {
+pub(crate) fn written<T: JsonValue + Drop>(alloc: Global, value: &T) -> Result<String, Refusal> {
     let json = value.to_value(alloc)?;
     if T::from_value(alloc, &json)? != *value {
         return Err(Refusal::new("reads back as another value"));

@@ -4,6 +4,7 @@ pub mod Visits
 pub mod NamedBytes
 pub mod KeyTexts
 pub mod Same
+pub mod EqualLaws
 pub mod Keys
 pub mod Signed
 pub mod Times
@@ -13,6 +14,7 @@ pub mod Prefix
 pub mod HashLemmas
 pub mod Names
 pub mod Json
+pub mod Within
 pub mod Steps
 pub mod JsonTexts
 pub mod Members
@@ -20,5 +22,7 @@ pub mod MemberLaws
 pub mod Numbers
 pub mod Pairs
 pub mod PairsLaws
+pub mod PairsReadLaws
+pub mod WithinLaws
 pub mod TimeText
 pub mod TimeTextLaws

@@ -1,5 +1,5 @@
 -- Bytes under the name of an algorithm, and their text: the name, a colon, base64.
-use Rattle.std.specs.Prelude.{ℕ, ◌≡◌, ◌<◌, ◌==◌, ◌&&◌, Bool, false, if◌then◌else◌, List, ◌∷◌, ◌++◌, length, Result, Ok, Err}
+use Rattle.std.specs.Prelude.{ℕ, ◌≡◌, ◌≢◌, ◌<◌, ◌==◌, ◌&&◌, Bool, false, if◌then◌else◌, List, ◌∷◌, ◌++◌, length, Result, Ok, Err}
 use Rattle.std.specs.List.{list_any, before_first, after_first, position_or_len}
 use Rattle.std.specs.Str.{bytes_eq}
 use Rattle.base64.specs.Engines.{standard}
@@ -43,6 +43,10 @@ tag_of_parts is_colon_missing name decoded =
 abbrev pub tag_of : List ℕ → Result NamedBytes TagError
 tag_of text =
     tag_of_parts (position_or_len is_colon text == length text) (before_first is_colon text) (decode_of standard (after_first is_colon text))
+
+-- a name and a colon behind it begin the text, so that its base64 is read, which takes memory
+abbrev pub HasName : List ℕ → Type 0
+HasName text = (tag_of text ≢ Err fault.MissingColon) × (tag_of text ≢ Err fault.EmptyAlgorithm)
 
 -- the fingerprint of a key, which is its id: the text of the hash of the key's text
 unfoldable pub fingerprint_of : NamedBytes → List ℕ

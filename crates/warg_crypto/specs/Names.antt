@@ -1,5 +1,5 @@
 -- The name before the first colon.
-use Rattle.std.proofs.Common.{◌≡◌, ◌<◌, ◌==◌, Bool, ℕ, List, length, take, false, arith, length-take, [], ◌∷◌, ◌++◌, Ok, Result, refl, drop, ap, ◌∙◌, ◌+◌, length-append}
+use Rattle.std.proofs.Common.{◌≡◌, ◌≢◌, ◌<◌, ◌==◌, Bool, ℕ, List, length, take, false, arith, length-take, [], ◌∷◌, ◌++◌, Ok, Err, Result, refl, drop, ap, ◌∙◌, ◌+◌, length-append}
 use Rattle.std.specs.List.{list_any, before_first, after_first, position_or_len}
 use Rattle.std.proofs.lemmas.List.{get_or-take}
 use Rattle.std.proofs.lemmas.List.Folds.{list_any_none}
@@ -11,6 +11,7 @@ use Rattle.base64.specs.Engines.{standard}
 use Rattle.base64.proofs.EngineFacts.{decode_of-encode_of}
 use Rattle.warg_crypto.specs.NamedBytes.{NamedBytes, IsName, tag_of, tag_text, tag_of_parts}
 use Rattle.warg_crypto.specs.HashText.{is_colon}
+use Rattle.warg_crypto.specs.declared.signing.tagged.TagError.TheVariants as fault
 use Rattle.warg_crypto.specs.Keys.{key_fault, public_key_of, signature_fault, signature_of, with_fault}
 
 -- no colon stands before the first colon
@@ -34,6 +35,13 @@ parts_read : (missing : Bool) (name front bytes : List ℕ) (decoded : Result (L
     → front ≡ name → 0 < length name → decoded ≡ Ok bytes
     → tag_of_parts missing front decoded ≡ Ok (record { name = name; bytes = bytes })
 parts_read missing name front bytes decoded m f some d = rw (m, f, d) (grind (arith))
+
+-- a text with a name and a colon behind it has neither of the first two faults
+pub later_fault : (missing : Bool) (name : List ℕ) (decoded : Result (List ℕ) DecodeError) → missing ≡ false
+    → 0 < length name
+    → (tag_of_parts missing name decoded ≢ Err fault.MissingColon) × (tag_of_parts missing name decoded ≢ Err fault.EmptyAlgorithm)
+later_fault missing name (Ok bytes) m some = (λ h. grind (arith), λ h. grind (arith))
+later_fault missing name (Err e) m some = (λ h. grind (arith), λ h. grind (arith))
 
 inside : (n len : ℕ) (text name : List ℕ) (p : ℕ) → p ≡ length name → length text ≡ length name + (n + 1)
     → (p == length text) ≡ false

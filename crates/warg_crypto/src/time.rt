@@ -144,6 +144,11 @@ impl fmt::Display for Timestamp {
 
 /// Tells the time. The system's clock is one, as [`SystemClock`](crate::SystemClock).
 ///
+/// It is another trait than the toolchain's `std::rt::Clock`, which is the bound of a runtime whose
+/// system has a clock: [`Timestamp::now`] reads such a runtime, and what takes a `&mut` of a clock,
+/// as `TimestampedCheckpoint::now` of `warg_registry`, wants this trait. Where both are in one file,
+/// write the other as `rt::Clock`, by `use std::rt`.
+///
 /// The least impl says which time it tells, by the clock as it stood and as it stands then. Here a
 /// clock that ticks once a call:
 ///

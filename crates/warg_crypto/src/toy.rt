@@ -1,7 +1,8 @@
 //! The toy scheme, which is not secure.
 
-ghost use Rattle.std.specs.Prelude.{◌≡◌, codes, IfOk, true};
+ghost use Rattle.std.specs.Prelude.{◌≡◌, codes, Err, IfErr, IfOk, false, true};
 ghost use Rattle.warg_crypto.specs.Signed.{toy_signature, toy_belongs};
+ghost use Rattle.warg_crypto.specs.declared.signing.error.SignatureError.TheVariants.{Refused};
 
 use crate::signing::{PublicKey, Signature, SignatureError, Signer, Verifier};
 use sha2::{Digest, Sha256};
@@ -74,13 +75,19 @@ pub struct ToyVerifier;
 impl Verifier for ToyVerifier {
     ghost belongs = { λ _ key message signature. toy_belongs key message signature };
 
+    /// `Ok` exactly where the signature belongs to the message under the key, else `Refused`: it takes no memory.
     fn verify(
         &self,
         _alloc: Global,
         key: &PublicKey,
         message: &[u8],
         signature: &Signature,
-    ) -> Result<(), SignatureError> {
+    ) -> Result<(), SignatureError>
+        ensures ok { IfOk result (λ _. toy_belongs key.now message.now signature.now ≡ true) }
+        ensures refused { result ≡ Err Refused →
+            toy_belongs key.now message.now signature.now ≡ false }
+        ensures no_memory { IfErr result (λ e. e ≡ Refused) }
+    {
         let digest = toy_digest(key.bytes(), message);
         if key.algorithm() == "toy"
             && signature.algorithm() == "toy"

@@ -1,29 +1,58 @@
 -- Laws of the errors that name faults.
 use Rattle.std.specs.Prelude.{◌≡◌, Option, Some, None, Result, Ok, Err}
-use Rattle.std.proofs.Common.{ap, inl, inr, refl, subst, sym}
+use Rattle.std.proofs.Common.{◌∙◌, ap, inl, inr, refl, subst, sym}
 use Rattle.warg_crypto.specs.Coding.{IsDecoded}
 use Rattle.warg_crypto.specs.declared.coding.DecodeError.{DecodeError}
 use Rattle.warg_crypto.specs.declared.coding.DecodeError.TheVariants as error
 use Rattle.warg_envelope.specs.Faults.{RecordFault, IsReading, TellsFault, decoded, error_of, fault_of}
 
--- a fault is named
-abbrev IsTold : Option RecordFault → Type 0
-IsTold (Some f) = Unit {0}
-IsTold None = ⊥
+-- the error that names what an error names
+abbrev named_error : Option RecordFault → DecodeError
+named_error (Some f) = error_of f
+named_error None = error.OutOfMemory
+
+-- each error is the one that names its fault
+error_of_its_fault : (e : DecodeError) → named_error (fault_of e) ≡ e
+error_of_its_fault (error.Wire w) = refl
+error_of_its_fault (error.Prev h) = refl
+error_of_its_fault error.MissingTime = refl
+error_of_its_fault error.TimeOutOfRange = refl
+error_of_its_fault error.EmptyEntry = refl
+error_of_its_fault error.Algorithm = refl
+error_of_its_fault (error.Key k) = refl
+error_of_its_fault (error.Permission v) = refl
+error_of_its_fault error.Version = refl
+error_of_its_fault (error.ContentHash h) = refl
+error_of_its_fault error.OutOfMemory = refl
+
+-- no two errors name one fault
+pub fault_of-one : (d e : DecodeError) → fault_of d ≡ fault_of e → d ≡ e
+fault_of-one d e h = sym (error_of_its_fault d) ∙ ap named_error h ∙ error_of_its_fault e
 
 -- out of memory alone names none
 pub fault_of-memory : (e : DecodeError) → fault_of e ≡ None → e ≡ error.OutOfMemory
-fault_of-memory (error.Wire w) h = absurd (subst IsTold h tt)
-fault_of-memory (error.Prev w) h = absurd (subst IsTold h tt)
-fault_of-memory error.MissingTime h = absurd (subst IsTold h tt)
-fault_of-memory error.TimeOutOfRange h = absurd (subst IsTold h tt)
-fault_of-memory error.EmptyEntry h = absurd (subst IsTold h tt)
-fault_of-memory error.Algorithm h = absurd (subst IsTold h tt)
-fault_of-memory (error.Key k) h = absurd (subst IsTold h tt)
-fault_of-memory (error.Permission v) h = absurd (subst IsTold h tt)
-fault_of-memory error.Version h = absurd (subst IsTold h tt)
-fault_of-memory (error.ContentHash x) h = absurd (subst IsTold h tt)
-fault_of-memory error.OutOfMemory h = refl
+fault_of-memory e h = fault_of-one e error.OutOfMemory h
+
+-- a fault is no lack of memory
+error_of-memory : (f : RecordFault) → error_of f ≡ error.OutOfMemory → ⊥
+error_of-memory (RecordFault.Wire w) h = cc
+error_of-memory (RecordFault.Prev x) h = cc
+error_of-memory RecordFault.MissingTime h = cc
+error_of-memory RecordFault.TimeOutOfRange h = cc
+error_of-memory RecordFault.EmptyEntry h = cc
+error_of-memory RecordFault.Algorithm h = cc
+error_of-memory (RecordFault.Key k) h = cc
+error_of-memory (RecordFault.Permission v) h = cc
+error_of-memory RecordFault.Version h = cc
+error_of-memory (RecordFault.ContentHash x) h = cc
+
+-- what is said never ends with out of memory
+pub decoded-memory : {Y : Type 0} (said : Result Y RecordFault) → decoded said ≡ Err error.OutOfMemory → ⊥
+decoded-memory (Ok y) h = cc
+decoded-memory {Y} (Err f) h = error_of-memory f (same h)
+  where
+    same : decoded {X = Y} (Err f) ≡ Err error.OutOfMemory → error_of f ≡ error.OutOfMemory
+    same h = cc
 
 -- the error that names a fault names it
 error_tells : (X : Type 0) (f : RecordFault) → TellsFault {X = X} (Err f) (fault_of (error_of f))

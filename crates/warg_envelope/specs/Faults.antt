@@ -1,5 +1,5 @@
 -- Why bytes are no record or no envelope. Out of memory is none of these.
-use Rattle.std.specs.Prelude.{◌≡◌, ℤ, Option, Some, None, Result, Ok, Err}
+use Rattle.std.specs.Prelude.{◌≡◌, ℤ, Option, Some, None, IsSomeAnd, Result, Ok, Err, MatchResult}
 use Rattle.warg_crypto.specs.declared.coding.WireFault.{WireFault}
 use Rattle.warg_crypto.specs.declared.coding.DecodeError.{DecodeError}
 use Rattle.warg_crypto.specs.declared.coding.DecodeError.TheVariants as error
@@ -60,3 +60,7 @@ TellsFault said (Some f) = said ≡ Err f
 abbrev pub IsReading : {X Y E F : Type 0} → (X → Y) → (E → Option F) → Result Y F → Result X E → Type 0
 IsReading view told said (Ok x) = said ≡ Ok (view x)
 IsReading view told said (Err e) = TellsFault said (told e)
+
+-- what was answered, seen by view, is what is said, where no memory is taken
+abbrev pub IsExactReading : {X Y E F : Type 0} → (X → Y) → (E → Option F) → Result Y F → Result X E → Type 0
+IsExactReading view told said r = MatchResult r (λ x. said ≡ Ok (view x)) (λ e. IsSomeAnd (told e) (λ f. said ≡ Err f))

@@ -8,3 +8,4 @@ pub mod Same
 pub mod Mentions
 pub mod EnvelopeRelations
 pub mod EnvelopeJson
+pub mod SignedVersionLaws

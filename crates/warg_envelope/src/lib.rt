@@ -2,7 +2,7 @@
 //! first fault named, written, and signed.
 #![tactic(auto)]
 
-ghost use Rattle.std.specs.Prelude.{◌≡◌, ℕ, List, Result, Ok, Err, Option, None, IfOk};
+ghost use Rattle.std.specs.Prelude.{◌≡◌, ◌≢◌, ◌↔◌, ℕ, List, Result, Ok, Err, Option, None, IfOk};
 ghost use Rattle.warg_crypto.specs.Coding.{IsDecoded};
 ghost use Rattle.warg_crypto.specs.declared.coding.DecodeError.{DecodeError};
 ghost use Rattle.warg_crypto.specs.declared.coding.DecodeError.TheVariants as error;
@@ -64,4 +64,13 @@ pub trait Record: Decode + Drop {
 
     /// It is the one error that names none.
     ghost memory_alone: { (e : DecodeError) → fault_of e ≡ None → e ≡ error.OutOfMemory };
+
+    /// No two errors name one fault.
+    ghost one_fault: { (d e : DecodeError) → fault_of d ≡ fault_of e → d ≡ e };
+
+    /// No content bytes say that there was no memory.
+    ghost no_fault_of_memory: { (b : List ℕ) → Self.decodes b ≢ Err error.OutOfMemory };
+
+    /// Two records say the same exactly if they are the same plain data.
+    ghost means_plain: { (a b : Self) → (meaning a ≡ meaning b) ↔ (Self.plain a ≡ Self.plain b) };
 }

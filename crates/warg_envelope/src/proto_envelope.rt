@@ -1,11 +1,13 @@
 //! Envelopes: the record, its bytes as they came, who signed them, and the signature.
 
-ghost use Rattle.std.specs.Prelude.{◌≡◌, Err, IfOk};
+ghost use Rattle.std.specs.Prelude.{◌≡◌, Err, IfOk, IfErr, IsOk};
 ghost use Rattle.warg_crypto.specs.Signed.{signed_message};
 ghost use Rattle.warg_crypto.specs.NamedBytes.{fingerprint_of};
 ghost use Rattle.warg_crypto.specs.declared.signing.error.SignatureError.TheVariants.{Refused};
 ghost use Rattle.warg_envelope.specs.Envelopes.{IsOpening, envelope_message};
+ghost use Rattle.warg_envelope.specs.declared.proto_envelope.error.ParseEnvelopeError.TheVariants.{OutOfMemory};
 ghost use Rattle.warg_protobuf.specs.Envelope.{IsEnvelope, envelope_bytes};
+ghost use Rattle.warg_protobuf.specs.Envelope as outer;
 ghost use Rattle.warg_envelope.specs.Faults.{IsReading};
 ghost use Rattle.warg_envelope.specs.Same.{same_held, same_held_equiv, same_held_per};
 
@@ -98,7 +100,10 @@ impl<C: Record> ProtoEnvelope<C> {
         alloc: Global,
         bytes: &[u8],
     ) -> Result<ProtoEnvelope<C>, ParseEnvelopeError>
-        ensures { IsOpening C.read C.meaning C.fault_of bytes.now result }
+        ensures opened { IsOpening C.read C.meaning C.fault_of bytes.now result }
+
+        // The outer message takes no memory: where memory is refused, it was read.
+        ensures memory { IfErr result (λ e. e ≡ OutOfMemory → IsOk (outer.envelope_of bytes.now)) }
     {
         let envelope = Envelope::view(bytes)?;
         let contents = decode_contents::<C>(alloc, envelope.contents)?;

@@ -16,7 +16,9 @@ pub mod StateHistory
 pub mod StateLaws
 pub mod Versions
 pub mod ReleaseJson
+pub mod ReleaseVersionLaws
 pub mod CanonicalReleases
 pub mod SavedState
 pub mod SavedParts
 pub mod SavedBack
+pub mod SavedVersionLaws

@@ -127,6 +127,7 @@ impl LogPermission for Permission {
 
     ghost same_is = { same_permission-is };
 
+    #[tactic(auto, using(crate::proofs::Distinct::operator_permissions_distinct))]
     fn all(alloc: Global) -> Result<Vec<Permission>, AllocError> {
         Permission::all().to_vec(alloc)
     }

@@ -1,6 +1,7 @@
 //! What both kinds' permissions share.
 
 ghost use Rattle.std.specs.Prelude.{◌≡◌, ℕ, ℤ, List, Option, Some, IfOk, true};
+ghost use Rattle.std.specs.List.{IsDistinct};
 ghost use Rattle.warg_permissions.specs.Permissions.{lists};
 
 use std::alloc::{AllocError, Global};
@@ -34,9 +35,10 @@ pub trait LogPermission: Copy + Eq + Hash {
     // The text that names a permission.
     ghost text_of: { Self → List ℕ };
 
-    /// All permissions of the kind, in any order: what the signer of an Init gets.
+    /// All permissions of the kind, each once, in any order: what the signer of an Init gets.
     fn all(alloc: Global) -> Result<Vec<Self>, AllocError>
-        ensures { IfOk result (λ ps. (p : Self) → lists Self.eq ps.items p ≡ true) };
+        ensures all { IfOk result (λ ps. (p : Self) → lists Self.eq ps.items p ≡ true) }
+        ensures distinct { IfOk result (λ ps. IsDistinct Self.eq ps.items) };
 
     /// The permission that the number of a message names.
     fn from_number(number: i32) -> Option<Self>

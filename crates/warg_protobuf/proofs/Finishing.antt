@@ -3,6 +3,7 @@ use Rattle.std.proofs.Common.{◌≡◌, ℕ, List, [], ◌∷◌, ◌++◌, Boo
 use Rattle.std.specs.List.{fold}
 use Rattle.std.proofs.lemmas.List.{append-nil}
 use Rattle.std.proofs.lemmas.Bool.{eqb-true}
+use Rattle.std.specs.Prelude.{IfErr, IsOk}
 use Rattle.warg_protobuf.specs.declared.error.WireError.{WireError}
 use Rattle.warg_protobuf.specs.declared.error.WireError.TheVariants.{Truncated, VarintTooLong, BadKey, Group, WrongWireType, NotUtf8, OutOfMemory}
 use Rattle.warg_protobuf.specs.Field.{Payload, Number, Eight, Bytes, Four, wire_type, Field}
@@ -43,6 +44,11 @@ module _ {K V : Type 0} (T : Table) (value : List Field → Result V WireError) 
 
   pub finished_as : (k : K) (v : V) → kept_of with_field empty (fields_of T bytes) ≡ Ok k → v ≡ made k → message_of T value bytes ≡ Ok v
   finished_as k v e is = finished ∙ ap (λ (r : Result K WireError). r >>= λ j. Ok (made j)) e ∙ ap (λ (w : V). Ok w) (sym is)
+
+  -- where all fields were kept, the bytes say a message, so memory may be refused for its parts
+  pub may_take : {W : Type 0} (r : Result W WireError) (k : K) → kept_of with_field empty (fields_of T bytes) ≡ Ok k → IfErr r (λ e. e ≡ OutOfMemory → IsOk (message_of T value bytes))
+  may_take (Ok w) k e = tt
+  may_take (Err f) k e = λ _. subst IsOk (sym (finished_as k (made k) e refl)) refl
 
 -- ---- texts and numbers
 

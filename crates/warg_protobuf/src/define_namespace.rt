@@ -1,6 +1,6 @@
 //! The entry that defines a namespace.
 
-ghost use Rattle.std.specs.Prelude.{◌≡◌, IfOk};
+ghost use Rattle.std.specs.Prelude.{◌≡◌, IfOk, IsOk};
 ghost use Rattle.warg_protobuf.specs.Drafts.{one_text_kept, define_namespace_made};
 ghost use Rattle.warg_protobuf.specs.DefineNamespace.{define_namespace_table, DefineNamespaceValue, define_namespace_view, define_namespace_from, IsDefineNamespaceOf, define_namespace_fields, IsSoundDefineNamespace};
 
@@ -42,6 +42,8 @@ impl Codec for OperatorDefineNamespace {
     ghost Says = { IsDefineNamespaceOf };
 
     ghost value = { define_namespace_from };
+
+    ghost TakesMemory = { λ said. IsOk said };
 
     fn read(alloc: Global, bytes: &[u8]) -> Result<OperatorDefineNamespace, WireError> {
         let draft = read_draft::<OneText<'_>>(alloc, bytes)?;

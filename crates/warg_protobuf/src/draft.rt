@@ -71,8 +71,9 @@ pub(crate) fn grown<'a, D: Draft<'a>>(mut draft: D, bytes: &'a [u8]) -> Result<D
 
 /// What is kept of the fields of a message, all of the bytes.
 pub(crate) fn read_draft<'a, D: Draft<'a>>(alloc: Global, bytes: &'a [u8]) -> Result<D, WireError>
-    ensures { ReturnsOrNoMemory D.kept result
+    ensures given { ReturnsOrNoMemory D.kept result
         (kept_of D.with_field D.empty (fields_of D.table bytes.now)) }
+    ensures memory { IfErr result (λ e. e ≡ OutOfMemory → D.TakesMemory) }
 {
     grown(D::new(alloc), bytes)
 }

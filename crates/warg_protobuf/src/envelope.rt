@@ -1,6 +1,6 @@
 //! The outer message.
 
-ghost use Rattle.std.specs.Prelude.{◌≡◌, ◌≢◌, Ok, Err, IfOk, IfErr};
+ghost use Rattle.std.specs.Prelude.{◌≡◌, ◌≢◌, Ok, Err, IfOk, IfErr, IsOk};
 ghost use Rattle.warg_protobuf.specs.declared.error.WireError.{WireError};
 ghost use Rattle.warg_protobuf.specs.declared.error.WireError.TheVariants.{OutOfMemory};
 ghost use Rattle.warg_protobuf.specs.Drafts.{no_parts, envelope_with};
@@ -117,6 +117,8 @@ impl Codec for Envelope {
     ghost Says = { IsEnvelopeOf };
 
     ghost value = { envelope_from };
+
+    ghost TakesMemory = { λ said. IsOk said };
 
     fn read(alloc: Global, bytes: &[u8]) -> Result<Envelope, WireError> {
         let view = Envelope::view(bytes)?;

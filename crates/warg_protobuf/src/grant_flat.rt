@@ -49,6 +49,8 @@ impl Codec for GrantFlat {
 
     ghost value = { grant_flat_from };
 
+    ghost TakesMemory = { λ _. Unit {0} };
+
     fn read(alloc: Global, bytes: &[u8]) -> Result<GrantFlat, WireError> {
         let draft = read_draft::<TextAndNumbers<'_>>(alloc, bytes)?;
         Ok(GrantFlat::finish(alloc, draft)?)

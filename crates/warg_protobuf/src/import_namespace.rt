@@ -1,6 +1,6 @@
 //! The entry that imports a namespace.
 
-ghost use Rattle.std.specs.Prelude.{◌≡◌, IfOk};
+ghost use Rattle.std.specs.Prelude.{◌≡◌, IfOk, IsOk};
 ghost use Rattle.warg_protobuf.specs.Drafts.{two_texts_kept, import_namespace_made};
 ghost use Rattle.warg_protobuf.specs.ImportNamespace.{import_namespace_table, ImportNamespaceValue, import_namespace_view, import_namespace_from, IsImportNamespaceOf, import_namespace_fields, IsSoundImportNamespace};
 
@@ -45,6 +45,8 @@ impl Codec for OperatorImportNamespace {
     ghost Says = { IsImportNamespaceOf };
 
     ghost value = { import_namespace_from };
+
+    ghost TakesMemory = { λ said. IsOk said };
 
     fn read(alloc: Global, bytes: &[u8]) -> Result<OperatorImportNamespace, WireError> {
         let draft = read_draft::<TwoTexts<'_>>(alloc, bytes)?;

@@ -1,6 +1,6 @@
 //! Entries that begin a log.
 
-ghost use Rattle.std.specs.Prelude.{◌≡◌, IfOk};
+ghost use Rattle.std.specs.Prelude.{◌≡◌, IfOk, IsOk};
 ghost use Rattle.warg_protobuf.specs.Drafts.{two_texts_kept, init_made};
 ghost use Rattle.warg_protobuf.specs.Init.{init_table, InitValue, init_view, init_from, IsInitOf, init_fields, IsSoundInit};
 
@@ -47,6 +47,8 @@ impl Codec for Init {
     ghost Says = { IsInitOf };
 
     ghost value = { init_from };
+
+    ghost TakesMemory = { λ said. IsOk said };
 
     fn read(alloc: Global, bytes: &[u8]) -> Result<Init, WireError> {
         let draft = read_draft::<TwoTexts<'_>>(alloc, bytes)?;

@@ -28,9 +28,14 @@ pub(crate) trait Codec: Drop {
     /// The same, computed.
     ghost value: { List Field → Result View WireError };
 
+    /// Whether reading takes memory, by what the bytes say.
+    ghost TakesMemory: { Result View WireError → Type 0 };
+
     /// Reads the message, all of the bytes, in one pass.
     fn read(alloc: Global, bytes: &[u8]) -> Result<Self, WireError>
-        ensures { ReturnsOrNoMemory view result (message_of table value bytes.now) };
+        ensures given { ReturnsOrNoMemory view result (message_of table value bytes.now) }
+        ensures memory { IfErr result (λ e. e ≡ OutOfMemory →
+            TakesMemory (message_of table value bytes.now)) };
 
     /// The fields that are written.
     ghost written: { View → List Field };
@@ -78,6 +83,10 @@ pub trait Message: Codec {
             ReturnsOrNoMemory Self.view result (Err e) }
         ensures computed { ReturnsOrNoMemory Self.view result
             (message_of Self.table Self.value bytes.now) }
+
+        // It runs out only where reading takes any.
+        ensures memory { IfErr result (λ e. e ≡ OutOfMemory →
+            Self.TakesMemory (message_of Self.table Self.value bytes.now)) }
     {
         Self::laws();
         Self::read(alloc, bytes)

@@ -81,6 +81,8 @@ impl Codec for OperatorEntry {
 
     ghost value = { operator_entry_from };
 
+    ghost TakesMemory = { λ _. Unit {0} };
+
     fn read(alloc: Global, bytes: &[u8]) -> Result<OperatorEntry, WireError> {
         let draft = read_draft::<Draft<'_>>(alloc, bytes)?;
         Ok(OperatorEntry::finish(alloc, draft)?)

@@ -77,6 +77,8 @@ impl Codec for PackageEntry {
 
     ghost value = { package_entry_from };
 
+    ghost TakesMemory = { λ _. Unit {0} };
+
     fn read(alloc: Global, bytes: &[u8]) -> Result<PackageEntry, WireError> {
         let draft = read_draft::<Draft<'_>>(alloc, bytes)?;
         Ok(PackageEntry::finish(alloc, draft)?)

@@ -238,6 +238,8 @@ impl<E: Codec> Codec for Record<Vec<E>> {
 
     ghost value = { record_from E.table E.value };
 
+    ghost TakesMemory = { λ _. Unit {0} };
+
     fn read(alloc: Global, bytes: &[u8]) -> Result<Record<Vec<E>>, WireError> {
         Record::<Vec<E>>::gather(alloc, bytes)
     }

@@ -1,6 +1,6 @@
 //! The entry that releases a version.
 
-ghost use Rattle.std.specs.Prelude.{◌≡◌, IfOk};
+ghost use Rattle.std.specs.Prelude.{◌≡◌, IfOk, IsOk};
 ghost use Rattle.warg_protobuf.specs.Drafts.{two_texts_kept, release_made};
 ghost use Rattle.warg_protobuf.specs.Release.{release_table, ReleaseValue, release_view, release_from, IsReleaseOf, release_fields, IsSoundRelease};
 
@@ -41,6 +41,8 @@ impl Codec for PackageRelease {
     ghost Says = { IsReleaseOf };
 
     ghost value = { release_from };
+
+    ghost TakesMemory = { λ said. IsOk said };
 
     fn read(alloc: Global, bytes: &[u8]) -> Result<PackageRelease, WireError> {
         let draft = read_draft::<TwoTexts<'_>>(alloc, bytes)?;

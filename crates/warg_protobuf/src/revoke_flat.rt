@@ -49,6 +49,8 @@ impl Codec for RevokeFlat {
 
     ghost value = { revoke_flat_from };
 
+    ghost TakesMemory = { λ _. Unit {0} };
+
     fn read(alloc: Global, bytes: &[u8]) -> Result<RevokeFlat, WireError> {
         let draft = read_draft::<TextAndNumbers<'_>>(alloc, bytes)?;
         Ok(RevokeFlat::finish(alloc, draft)?)

@@ -90,6 +90,8 @@ impl Codec for TimestampPair {
 
     ghost value = { timestamp_from };
 
+    ghost TakesMemory = { λ _. ⊥ };
+
     fn read(alloc: Global, bytes: &[u8]) -> Result<TimestampPair, WireError> {
         let draft = read_draft::<TimestampDraft>(alloc, bytes)?;
         Ok(draft.finish())

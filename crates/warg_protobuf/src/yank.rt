@@ -1,6 +1,6 @@
 //! The entry that yanks a version.
 
-ghost use Rattle.std.specs.Prelude.{◌≡◌, IfOk};
+ghost use Rattle.std.specs.Prelude.{◌≡◌, IfOk, IsOk};
 ghost use Rattle.warg_protobuf.specs.Drafts.{one_text_kept, yank_made};
 ghost use Rattle.warg_protobuf.specs.Yank.{yank_table, YankValue, yank_view, yank_from, IsYankOf, yank_fields, IsSoundYank};
 
@@ -38,6 +38,8 @@ impl Codec for PackageYank {
     ghost Says = { IsYankOf };
 
     ghost value = { yank_from };
+
+    ghost TakesMemory = { λ said. IsOk said };
 
     fn read(alloc: Global, bytes: &[u8]) -> Result<PackageYank, WireError> {
         let draft = read_draft::<OneText<'_>>(alloc, bytes)?;

@@ -1,6 +1,12 @@
 -- JSON: what `to_value` and `from_value` answer, and when what was written reads back.
 pub use Rattle.warg_crypto.specs.Json.{Returns, ReturnsOrNoMemory, ReadsBack, IsReadBack, Version, AreReadBack}
 pub use Rattle.warg_crypto.specs.declared.json.error.JsonError.{JsonError}
+-- that the texts of versions stand in what is written
+pub use Rattle.warg_crypto.specs.Within.{AreWithin}
+-- what JSON is read as, of the values that take no memory
+pub use Rattle.warg_crypto.specs.JsonTexts.{algorithm_in, hash_in, time_in}
+pub use Rattle.warg_permissions.specs.PermissionJson.{permission_from}
+pub use Rattle.warg_log.specs.HeadJson.{head_in}
 -- the members of objects: what is found, what is written, and what an optional one reads back as
 pub use Rattle.warg_crypto.specs.Json.{items_in, member_in, members_in, text_in, wrote}
 pub use Rattle.warg_crypto.specs.Members.{option_json, optional, optional_member, put_json, put_option}

@@ -8,7 +8,7 @@ pub use Rattle.warg_records.specs.PackageWriting.{package_record_message, packag
 -- what a state stands for: `(view_of s).state.authority.holds`, `.key`, `.has_entry`, `(view_of s).state.own_state`, `(view_of s).head`
 pub use Rattle.warg_package_log.specs.State.{View, view_of, plain_envelope, offence_of, record_offence, after_record}
 pub use Rattle.warg_permissions.specs.declared.package.Permission.{Permission}
-pub use Rattle.warg_permissions.specs.PackagePermissions.{same_permission, permission_text}
+pub use Rattle.warg_permissions.specs.PackagePermissions.{same_permission, permission_text, permission_in}
 -- the offences that package logs alone have, and the names of all offences
 pub use Rattle.warg_package_log.specs.Releases.{OwnOffence, record_id_of}
 pub use Rattle.warg_package_log.specs.OffenceNames.{offence_name, error_name}

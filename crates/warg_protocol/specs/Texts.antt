@@ -1,6 +1,6 @@
 -- Keys, signatures, times, and the prefix encoding that is signed and hashed.
 -- names, keys and signatures by their texts
-pub use Rattle.warg_crypto.specs.NamedBytes.{NamedBytes, IsName, IsKeyText, tag_text, fingerprint_of}
+pub use Rattle.warg_crypto.specs.NamedBytes.{NamedBytes, IsName, HasName, IsKeyText, tag_text, fingerprint_of}
 pub use Rattle.warg_crypto.specs.Keys.{public_key_of, signature_of}
 pub use Rattle.warg_crypto.specs.Signed.{signed_message}
 -- times and their texts

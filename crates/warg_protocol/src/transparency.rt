@@ -3,5 +3,6 @@
 
 pub use warg_transparency::{
     LogProof, LogTree, MapProof, MapTree, OfTrees, ProofTextError, verify_absence,
-    verify_consistency, verify_head, verify_inclusion, verify_presence,
+    verify_consistency, verify_head, verify_inclusion, verify_leaf, verify_no_head,
+    verify_presence,
 };

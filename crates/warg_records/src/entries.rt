@@ -1,6 +1,7 @@
 //! The entries of a record, each made of its message as soon as that is read.
 
-ghost use Rattle.std.specs.Prelude.{◌≡◌, List, [], map, fold, IfOk, OnOk, Result, Ok};
+ghost use Rattle.std.specs.Prelude.{◌≡◌, ◌≢◌, List, [], map, fold, IfOk, IfErr, OnOk, Result, Ok};
+ghost use Rattle.warg_crypto.specs.declared.coding.DecodeError.TheVariants.{OutOfMemory};
 ghost use Rattle.warg_protobuf.specs.declared.error.WireError.{WireError};
 ghost use Rattle.warg_protobuf.specs.Field.{Field};
 ghost use Rattle.warg_protobuf.specs.Meaning.{GivesValues};
@@ -13,6 +14,7 @@ ghost use Rattle.warg_envelope.specs.Faults.{RecordFault, fault_of, IsReading};
 ghost use Rattle.warg_records.specs.RecordData.{EntryData};
 ghost use Rattle.warg_records.specs.Steps.{message_of};
 
+use crate::kept_fault::KeptFault;
 use crate::reading::wire_error;
 use std::alloc::{AllocError, Global};
 use warg_crypto::DecodeError;
@@ -61,7 +63,7 @@ pub(crate) trait FromMessage: Drop {
 #[derive(Drop)]
 pub(crate) struct Entries<T> {
     entries: Vec<T>,
-    fault: Option<DecodeError>,
+    fault: Option<KeptFault>,
 }
 
 impl<T: FromMessage> EntrySink for Entries<T> {
@@ -108,17 +110,19 @@ impl<T: FromMessage> Entries<T> {
         match T::from_message(alloc, message) {
             Ok(entry) => self.entries.push(entry)?,
             Err(DecodeError::OutOfMemory) => return Err(AllocError),
-            Err(error) => self.fault = Some(error),
+            Err(error) => self.fault = Some(KeptFault { error }),
         }
         Ok(())
     }
 
     /// All entries, or the first fault.
     pub(crate) fn finish(self) -> Result<Vec<T>, DecodeError>
-        ensures { IsReading (λ v. map T.plain v.items) fault_of (entries_held T.plain self) result }
+        ensures given { IsReading (λ v. map T.plain v.items) fault_of
+            (entries_held T.plain self) result }
+        ensures no_memory { IfErr result (λ e. e ≢ OutOfMemory) }
     {
         match self.fault {
-            Some(error) => Err(error),
+            Some(fault) => Err(fault.error),
             None => Ok(self.entries),
         }
     }

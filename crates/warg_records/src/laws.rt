@@ -19,7 +19,8 @@ mod whole;
 
 pub use equality::{
     are_same_operator_entries, are_same_operator_records, are_same_package_entries,
-    are_same_package_records, are_same_record_ids, compare_record_ids, print_record_id,
+    are_same_package_records, are_same_record_ids, clone_record_id, compare_record_ids,
+    feed_record_id, print_record_id,
 };
 use warg_crypto::laws::hash_reads_back;
 use warg_protobuf::laws::{decoding_computes, exactly_one};

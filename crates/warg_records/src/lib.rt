@@ -2,6 +2,7 @@
 #![tactic(auto)]
 
 mod entries;
+mod kept_fault;
 pub mod laws;
 mod log_record;
 mod mention;

@@ -2,7 +2,7 @@
 
 ghost use Rattle.std.specs.Prelude.{◌≡◌, codes, IfOk, Ok, []};
 ghost use Rattle.warg_envelope.specs.Faults.{RecordFault, decoded, fault_of};
-ghost use Rattle.warg_envelope.specs.FaultLaws.{decoded_is_read, fault_of-memory};
+ghost use Rattle.warg_envelope.specs.FaultLaws.{decoded_is_read, decoded-memory, fault_of-memory, fault_of-one};
 ghost use Rattle.warg_records.specs.RecordData.{RecordData};
 ghost use Rattle.warg_protobuf.specs.OperatorRecord.{IsOperatorRecord};
 ghost use Rattle.warg_records.specs.OperatorWriting.{operator_content_of, operator_record_message};
@@ -88,6 +88,12 @@ impl Record for OperatorRecord {
     ghost memory_tells_none = { refl };
 
     ghost memory_alone = { fault_of-memory };
+
+    ghost one_fault = { fault_of-one };
+
+    ghost no_fault_of_memory = { λ b. decoded-memory (operator_record_of b) };
+
+    ghost means_plain = { λ a b. (λ same. same, λ same. same) };
 
     ghost mentions = { λ _. [] };
 

@@ -1,12 +1,13 @@
 //! What both kinds of record share in reading from their messages.
 
-ghost use Rattle.std.specs.Prelude.{◌≡◌, string_bytes};
+ghost use Rattle.std.specs.Prelude.{◌≡◌, ◌≢◌, string_bytes, IfErr};
+ghost use Rattle.warg_crypto.specs.declared.coding.DecodeError.TheVariants.{OutOfMemory};
 ghost use Rattle.warg_protobuf.specs.GrantFlat.{grant_flat_view};
 ghost use Rattle.warg_protobuf.specs.Init.{init_view};
 ghost use Rattle.warg_protobuf.specs.RevokeFlat.{revoke_flat_view};
 ghost use Rattle.warg_protobuf.specs.Timestamp.{timestamp_view};
 ghost use Rattle.warg_protobuf.specs.Views.{option_view};
-ghost use Rattle.warg_envelope.specs.Faults.{fault_of, IsReading};
+ghost use Rattle.warg_envelope.specs.Faults.{fault_of, IsExactReading, IsReading};
 ghost use Rattle.warg_records.specs.RecordData as entry;
 ghost use Rattle.warg_records.specs.Steps.{beginning_of, each, grant_of, key_of, permission_in, prev_of, revoke_of, time_of, wire_error_of};
 
@@ -21,7 +22,7 @@ use warg_protobuf::{GrantFlat, Init, RevokeFlat, TimestampPair, WireError};
 
 /// The permission of a number.
 fn read_permission<P: LogPermission>(number: i32) -> Result<P, DecodeError>
-    ensures { IsReading (λ p. p) fault_of (permission_in P.permission_of number) result }
+    ensures { IsExactReading (λ p. p) fault_of (permission_in P.permission_of number) result }
 {
     match P::from_number(number) {
         Some(permission) => Ok(permission),
@@ -62,8 +63,9 @@ pub(crate) fn wire_error(error: WireError) -> DecodeError
 
 /// The id of the record before.
 pub(crate) fn read_prev(prev: Option<String>) -> Result<Option<RecordId>, DecodeError>
-    ensures { IsReading (λ p. p) fault_of (prev_of (option_view (λ s. string_bytes s) prev))
+    ensures given { IsReading (λ p. p) fault_of (prev_of (option_view (λ s. string_bytes s) prev))
         result }
+    ensures no_memory { IfErr result (λ e. e ≢ OutOfMemory) }
 {
     let Some(text) = prev else {
         return Ok(None);
@@ -76,7 +78,8 @@ pub(crate) fn read_prev(prev: Option<String>) -> Result<Option<RecordId>, Decode
 
 /// The time, its nanoseconds carried.
 pub(crate) fn read_time(time: Option<TimestampPair>) -> Result<Timestamp, DecodeError>
-    ensures { IsReading (λ t. t) fault_of (time_of (option_view timestamp_view time)) result }
+    ensures given { IsReading (λ t. t) fault_of (time_of (option_view timestamp_view time)) result }
+    ensures no_memory { IfErr result (λ e. e ≢ OutOfMemory) }
 {
     let Some(time) = time else {
         return Err(DecodeError::MissingTime);

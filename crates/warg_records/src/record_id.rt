@@ -1,6 +1,6 @@
 //! The ids of records.
 
-ghost use Rattle.std.specs.Prelude.{◌≡◌, ◌++◌, Some, length};
+ghost use Rattle.std.specs.Prelude.{◌≡◌, ◌++◌, Some, length, ⊤};
 ghost use Rattle.hex.specs.Hex.{IsBytes};
 ghost use Rattle.warg_crypto.specs.HashText.{hash_text};
 ghost use Rattle.warg_crypto.specs.RecordIds.{operator_record_message, package_record_message};
@@ -10,6 +10,7 @@ mod json;
 
 use crate::operator::OperatorRecord;
 use crate::package::PackageRecord;
+use std::alloc::AllocError;
 use std::fmt;
 use std::str::FromStr;
 use warg_crypto::hash::{AnyHash, AnyHashError, Hash, HashAlgorithm, SupportedDigest};
@@ -18,9 +19,19 @@ use warg_envelope::ProtoEnvelope;
 /// The id of a record: the hash of a prefix that names the kind of log, and of the record's bytes
 /// as they came. Its text is its hash's, `sha256:` and 64 hex digits, and it is read from one. Ids are ordered as their
 /// hashes, by algorithm, then by bytes.
-#[derive(Clone, Copy, PartialEq, Eq, PartialOrd, Ord, Hash)]
+#[derive(Copy, PartialEq, Eq, PartialOrd, Ord, Hash)]
 pub struct RecordId {
     hash: AnyHash,
+}
+
+impl Clone for RecordId {
+    ghost is_clone = { λ a b. b ≡ a };
+
+    ghost is_infallible = { λ _. ⊤ };
+
+    fn clone(&self) -> Result<RecordId, AllocError> {
+        Ok(*self)
+    }
 }
 
 impl RecordId {

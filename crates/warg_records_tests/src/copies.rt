@@ -75,12 +75,13 @@ fn envelopes(rt: HostRuntime) -> Result<(), Fail> {
     Ok(())
 }
 
-// An envelope of a body has that body again.
+// An envelope of a body has that body again, and keeps it where a copy is taken of it.
 #[test]
 fn bodies(rt: HostRuntime) -> Result<(), Fail> {
     let body = ProtoEnvelopeBody::from(smallest(rt.alloc())?);
     assert!(rt; body.clone()? == body);
     let envelope = ProtoEnvelope::<OperatorRecord>::from_body(rt.alloc(), body.try_clone()?)?;
+    assert!(rt; envelope.to_body()? == body);
     assert!(rt; ProtoEnvelopeBody::from(envelope) == body);
     Ok(())
 }
@@ -92,7 +93,9 @@ fn published_envelopes(rt: HostRuntime) -> Result<(), Fail> {
         registry_index: 7,
     };
     assert!(rt; published.try_clone()? == published);
+    let copy = published.to_body()?;
     let body = PublishedProtoEnvelopeBody::from(published);
+    assert!(rt; copy == body);
     assert_eq!(rt; body.registry_index, 7);
     assert!(rt; body.try_clone()? == body);
     Ok(())

@@ -1,5 +1,5 @@
 //! Checkpoints: the roots of a registry's log and map, and their time.
-ghost use Rattle.std.specs.Prelude.{◌≡◌, ◌++◌, ℕ, List, OnOk, OnErr, IfOk, Result};
+ghost use Rattle.std.specs.Prelude.{◌≡◌, ◌++◌, ℕ, List, OnOk, OnErr, IfOk, Result, ⊤};
 
 use crate::RegistryLen;
 use crate::visits::visit_hash;
@@ -10,7 +10,7 @@ use warg_crypto::{ByteVisitor, Clock, Encode, Signable, TimeError, Timestamp, Vi
 
 /// What a registry's log and map stand at: the root of the log, its length in leaves, the root of
 /// the map.
-#[derive(Clone, Copy, Debug, PartialEq, Eq, Hash)]
+#[derive(Copy, Debug, PartialEq, Eq, Hash)]
 pub struct Checkpoint {
     /// The root of the log's tree.
     pub log_root: AnyHash,
@@ -20,13 +20,33 @@ pub struct Checkpoint {
     pub map_root: AnyHash,
 }
 
+impl Clone for Checkpoint {
+    ghost is_clone = { λ a b. b ≡ a };
+
+    ghost is_infallible = { λ _. ⊤ };
+
+    fn clone(&self) -> Result<Checkpoint, AllocError> {
+        Ok(*self)
+    }
+}
+
 /// A checkpoint at a time.
-#[derive(Clone, Copy, Debug, PartialEq, Eq, Hash)]
+#[derive(Copy, Debug, PartialEq, Eq, Hash)]
 pub struct TimestampedCheckpoint {
     /// The checkpoint.
     pub checkpoint: Checkpoint,
     /// Whole seconds since 1970-01-01 00:00 UTC.
     pub timestamp: u64,
+}
+
+impl Clone for TimestampedCheckpoint {
+    ghost is_clone = { λ a b. b ≡ a };
+
+    ghost is_infallible = { λ _. ⊤ };
+
+    fn clone(&self) -> Result<TimestampedCheckpoint, AllocError> {
+        Ok(*self)
+    }
 }
 
 impl VisitPrefixEncode for Checkpoint {

@@ -8,13 +8,17 @@ ghost use Rattle.warg_registry.specs.LogIds.{id_of_text};
 ghost use Rattle.warg_registry.specs.PrefixEncodings.{IsPrefixCode};
 ghost use Rattle.warg_registry.specs.declared.log_id.LogId.{LogId};
 
+mod copies;
 mod equality;
 mod texts;
 
+pub use copies::{
+    clone_checkpoint, clone_log_id, clone_log_leaf, clone_map_leaf, clone_timestamped_checkpoint,
+};
 pub use equality::{
     are_same_checkpoints, are_same_log_ids, are_same_log_leaves, are_same_map_leaves,
     are_same_package_name_errors, are_same_package_names, are_same_timestamped_checkpoints,
-    compare_log_ids, compare_package_names, feed_package_name,
+    compare_log_ids, compare_package_names, feed_log_id, feed_package_name,
 };
 pub use texts::{print_log_id, print_package_name};
 use warg_crypto::laws::hash_reads_back;

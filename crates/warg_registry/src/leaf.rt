@@ -1,5 +1,5 @@
 //! The leaves of a registry's map and log.
-ghost use Rattle.std.specs.Prelude.{◌≡◌, ◌++◌, ℕ, List, OnOk, OnErr};
+ghost use Rattle.std.specs.Prelude.{◌≡◌, ◌++◌, ℕ, List, OnOk, OnErr, ⊤};
 
 use crate::LogId;
 use crate::visits::visit_hash;
@@ -10,19 +10,39 @@ use warg_crypto::{ByteVisitor, VisitBytes};
 use warg_records::RecordId;
 
 /// A leaf of the map: the last record of a log.
-#[derive(Clone, Copy, Debug, PartialEq, Eq, Hash)]
+#[derive(Copy, Debug, PartialEq, Eq, Hash)]
 pub struct MapLeaf {
     /// The last record of the log.
     pub record_id: RecordId,
 }
 
+impl Clone for MapLeaf {
+    ghost is_clone = { λ a b. b ≡ a };
+
+    ghost is_infallible = { λ _. ⊤ };
+
+    fn clone(&self) -> Result<MapLeaf, AllocError> {
+        Ok(*self)
+    }
+}
+
 /// A leaf of the log: a record that was appended to a log.
-#[derive(Clone, Copy, Debug, PartialEq, Eq, Hash)]
+#[derive(Copy, Debug, PartialEq, Eq, Hash)]
 pub struct LogLeaf {
     /// The log.
     pub log_id: LogId,
     /// The record that was appended to it.
     pub record_id: RecordId,
+}
+
+impl Clone for LogLeaf {
+    ghost is_clone = { λ a b. b ≡ a };
+
+    ghost is_infallible = { λ _. ⊤ };
+
+    fn clone(&self) -> Result<LogLeaf, AllocError> {
+        Ok(*self)
+    }
 }
 
 impl VisitPrefixEncode for MapLeaf {

@@ -1,5 +1,5 @@
 //! The ids of logs.
-ghost use Rattle.std.specs.Prelude.{◌≡◌, Some, length};
+ghost use Rattle.std.specs.Prelude.{◌≡◌, Some, length, ⊤};
 ghost use Rattle.hex.specs.Hex.{IsBytes};
 ghost use Rattle.warg_crypto.specs.HashText.{hash_text};
 ghost use Rattle.warg_registry.specs.LogIds.{operator_log_message, package_log_message, id_of_text};
@@ -14,9 +14,19 @@ use warg_crypto::{ByteVisitor, VisitBytes};
 /// The id of a log: the hash of a prefix that names the kind of log and, for a package's log, of
 /// the name's prefix encoding. Its text is its hash's, `sha256:` and 64 hex digits, and it is read from one. Ids are ordered
 /// as their hashes, by algorithm, then by bytes.
-#[derive(Clone, Copy, PartialEq, Eq, PartialOrd, Ord, Hash)]
+#[derive(Copy, PartialEq, Eq, PartialOrd, Ord, Hash)]
 pub struct LogId {
     pub(super) hash: AnyHash,
+}
+
+impl Clone for LogId {
+    ghost is_clone = { λ a b. b ≡ a };
+
+    ghost is_infallible = { λ _. ⊤ };
+
+    fn clone(&self) -> Result<LogId, AllocError> {
+        Ok(*self)
+    }
 }
 
 impl LogId {

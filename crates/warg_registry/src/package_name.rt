@@ -168,6 +168,14 @@ impl PackageName {
         self.clone()
     }
 
+    /// Whether the text is a package name. This takes no memory, while the error of `new` holds a copy of the text.
+    pub fn is_valid(text: &str) -> bool
+        ensures grammar { IsTrue result ↔ IsPackageText text.now }
+        ensures computed { result ≡ is_package_name text.now }
+    {
+        is_package_name(text)
+    }
+
     /// Whether the text is words of a letter a to z and then letters a to z and digits, joined by single hyphens.
     pub fn is_valid_namespace(text: &str) -> bool
         ensures grammar { IsTrue result ↔ IsKebabName text.now }

@@ -6,7 +6,7 @@ use Rattle.std.proofs.lemmas.Bool.{leb-true}
 use Rattle.warg_crypto.specs.declared.hash.HashAlgorithm.{HashAlgorithm}
 use Rattle.warg_crypto.specs.declared.json.error.Incoherence.{Incoherence}
 use Rattle.warg_crypto.specs.declared.json.error.JsonError.{JsonError}
-use Rattle.warg_saved.specs.Fit.{RefusesCase, begun_case, case_if, empty_case, is_nil, version_case}
+use Rattle.warg_saved.specs.Fit.{RefusesCaseOrNoMemory, begun_case, case_if, empty_case, is_nil, version_case}
 
 pub no_case : (b : Bool) (i : Incoherence) → case_if b i ≡ None → b ≡ false
 no_case true i h = cc h
@@ -29,7 +29,7 @@ nil [] h = refl
 nil (x ∷ xs) h = cc h
 
 -- a check that passed is followed by the rest
-pub refuses_later : (A : Type 0) (c d : Option Incoherence) (r : Result A JsonError) → c ≡ None → RefusesCase d r → RefusesCase (option_or c d) r
+pub refuses_later : (A : Type 0) (c d : Option Incoherence) (r : Result A JsonError) → c ≡ None → RefusesCaseOrNoMemory d r → RefusesCaseOrNoMemory (option_or c d) r
 refuses_later A None d r h rest = rest
 refuses_later A (Some i) d r h rest = cc h
 

@@ -1,5 +1,5 @@
 -- The members of an object as texts, of which the object's text is joined.
-use Rattle.std.specs.Prelude.{ℕ, ◌≡◌, List, [], ◌∷◌, ◌++◌, map, String, string_bytes, Bool, true, ⊤, IfOk, Some, Result, Ok}
+use Rattle.std.specs.Prelude.{ℕ, ◌≡◌, ◌+◌, List, [], ◌∷◌, ◌++◌, length, map, String, string_bytes, Bool, true, ⊤, IfOk, Some, Result, Ok}
 use Rattle.std.specs.Borrow.{Bor}
 use Rattle.std.specs.declared.alloc.Global.{Global}
 use Rattle.serde_json.specs.Data.{Data, Members, no_members, member, string}
@@ -29,6 +29,12 @@ texts_in r = r >>= λ ms. wrote (texts_of ms)
 abbrev pub joined : Bool → List (List ℕ × List ℕ) → List ℕ
 joined later [] = 125 ∷ []
 joined later (e ∷ es) = comma_if later ++ (compact_text (string e.0) ++ 58 ∷ (e.1 ++ joined true es))
+
+-- how long the text of the members is at most, where no name has to be escaped: two for the braces, and of each member its
+-- name, its text, and four for the quotes, the colon and the comma
+abbrev pub room_of : List (List ℕ × List ℕ) → ℕ
+room_of [] = 2
+room_of (e ∷ es) = length e.0 + length e.1 + 4 + room_of es
 
 -- what a map from names to texts holds
 abbrev pub texts_view : List (String Global × String Global) → List (List ℕ × List ℕ)

@@ -4,7 +4,7 @@ ghost use Rattle.std.specs.List.{list_any};
 ghost use Rattle.std.specs.Map.{keys_of};
 ghost use Rattle.warg_crypto.specs.declared.json.error.JsonError.TheVariants as fault;
 ghost use Rattle.warg_crypto.specs.Pairs.{plain_pairs};
-ghost use Rattle.warg_saved.specs.Fit.{RefusesCase, begun_case, empty_case, is_misplaced, is_unknown, keys_case, rights_case, version_case};
+ghost use Rattle.warg_saved.specs.Fit.{RefusesCase, RefusesCaseOrNoMemory, begun_case, empty_case, is_misplaced, is_unknown, keys_case, rights_case, version_case};
 
 use crate::value::SavedValue;
 use indexmap::IndexMap;
@@ -49,7 +49,7 @@ fn has_misplaced(alloc: Global, keys: &IndexMap<KeyID, PublicKey>) -> Result<boo
 
 /// Refuses a key that stands under another id than its fingerprint.
 pub fn check_keys(alloc: Global, keys: &IndexMap<KeyID, PublicKey>) -> Result<(), JsonError>
-    ensures { RefusesCase (keys_case keys.now.entries) result }
+    ensures { RefusesCaseOrNoMemory (keys_case keys.now.entries) result }
 {
     if has_misplaced(alloc, keys)? {
         return Err(JsonError::Incoherent(Incoherence::KeyUnderOtherFingerprint));

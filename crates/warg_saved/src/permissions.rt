@@ -1,7 +1,7 @@
 //! Sets of permissions as lists of their names.
 ghost use Rattle.std.specs.Prelude.{List, []};
 ghost use Rattle.serde_json.specs.View.{items_view, view};
-ghost use Rattle.warg_crypto.specs.Json.{ReturnsOrNoMemory};
+ghost use Rattle.warg_crypto.specs.Json.{Returns, ReturnsOrNoMemory};
 ghost use Rattle.warg_saved.specs.CanonicalLaws.{texts_canonical};
 ghost use Rattle.warg_saved.specs.Permissions.{permission_in, permissions_from, permissions_in, permissions_json};
 ghost use Rattle.warg_saved.specs.Writes.{WritesText};
@@ -17,7 +17,7 @@ use warg_permissions::LogPermission;
 
 /// The permission of a value.
 fn permission_in<P: LogPermission>(value: &Value) -> Result<P, JsonError>
-    ensures { ReturnsOrNoMemory (λ p. p) result (permission_in P.eq P.named (view value.now)) }
+    ensures { Returns (λ p. p) result (permission_in P.eq P.named (view value.now)) }
 {
     let text = text_in(value)?;
     P::from_text(text).ok_or(JsonError::BadText)

@@ -1,5 +1,5 @@
 //! Objects written as text member by member, with no value of the whole.
-ghost use Rattle.std.specs.Prelude.{IfErr, IfOk, OnOk, ◌≡◌, [], List, Some, false, codes, string_bytes};
+ghost use Rattle.std.specs.Prelude.{IfErr, IfOk, OnErr, OnOk, ◌≡◌, ◌≤◌, [], List, Some, false, codes, string_bytes};
 ghost use Rattle.std.specs.Option.{option_map};
 ghost use Rattle.serde_json.specs.Data.{Data, Members, object, put, string};
 ghost use Rattle.serde_json.specs.View.{view};
@@ -13,7 +13,7 @@ ghost use Rattle.warg_saved.specs.Backs.{AreBack, AreVersionsBack};
 ghost use Rattle.warg_saved.specs.Maps.{put_pairs};
 ghost use Rattle.warg_saved.specs.Names.{text_name, text_named};
 ghost use Rattle.warg_saved.specs.Canonical.{HasNoFloat};
-ghost use Rattle.warg_saved.specs.Texts.{PutsText, texts_of};
+ghost use Rattle.warg_saved.specs.Texts.{PutsText, room_of, texts_of};
 
 use crate::map_text::map_text;
 use crate::name::SavedName;
@@ -63,29 +63,31 @@ impl MemberTexts {
         }
     }
 
-    /// Puts a member whose value has this text. The error is `OutOfMemory`.
+    /// Puts a member whose value has this text. The error is `OutOfMemory`, and then the texts are as they were.
     fn put(&mut self, name: String, value: String) -> Result<(), JsonError>
         ensures ok { OnOk result ((d : Data) (ms : Members) → string_bytes value ≡ compact_text d →
             self.old ≡ texts_of ms
             → self.new ≡ texts_of (put (string_bytes name) d ms)) }
         ensures err { IfErr result (λ e. e ≡ fault.OutOfMemory) }
+        ensures kept { OnErr result (self.new ≡ self.old) }
     {
         drop(self.texts.insert(name, value)?);
         Ok(())
     }
 
-    /// Puts a member with this value. The error is `OutOfMemory`.
+    /// Puts a member with this value. The error is `OutOfMemory`, and then the texts are as they were.
     fn put_value(&mut self, name: String, value: &Value) -> Result<(), JsonError>
         requires { has_float (view value.now) ≡ false }
         ensures ok { OnOk result ((ms : Members) → self.old ≡ texts_of ms
             → self.new ≡ texts_of (put (string_bytes name) (view value.now) ms)) }
         ensures err { IfErr result (λ e. e ≡ fault.OutOfMemory) }
+        ensures kept { OnErr result (self.new ≡ self.old) }
     {
         let text = value.to_string(self.alloc)?;
         self.put(name, text)
     }
 
-    /// Puts the JSON of a value as a member, and nothing where there is none. After an error the texts are of no use.
+    /// Puts the JSON of a value as a member, and nothing where there is none. Where that fails, the texts are as they were.
     pub fn put_optional<T: JsonValue>(
         &mut self,
         name: &str,
@@ -97,6 +99,7 @@ impl MemberTexts {
         ensures back { OnOk result ((x : T.Plain) → option_map T.plain value.now ≡ Some x →
             AreReadBack (T.versions x)
             → IsReadBack T.writes T.reads T.equivalent x) }
+        ensures kept { OnErr result (self.new ≡ self.old) }
     {
         let Some(value) = value else {
             return Ok(());
@@ -105,7 +108,7 @@ impl MemberTexts {
         self.put_value(String::from_str(self.alloc, name)?, &json)
     }
 
-    /// Puts the map as a member, unless it is empty. After an error the texts are of no use.
+    /// Puts the map as a member, unless it is empty. Where that fails, the texts are as they were.
     pub fn put_map<K: SavedName, V: SavedValue>(
         &mut self,
         name: &str,
@@ -117,6 +120,7 @@ impl MemberTexts {
             (plain_pairs K.plain V.plain map.now.entries)
             → AreBack K.name_of K.named V.writes V.reads
             (plain_pairs K.plain V.plain map.now.entries)) }
+        ensures kept { OnErr result (self.new ≡ self.old) }
     {
         if map.is_empty() {
             return Ok(());
@@ -125,19 +129,22 @@ impl MemberTexts {
         self.put(String::from_str(self.alloc, name)?, text)
     }
 
-    /// Puts the keys, unless there are none. After an error the texts are of no use.
+    /// Puts the keys, unless there are none. Where that fails, the texts are as they were.
     pub fn put_keys(&mut self, keys: &IndexMap<KeyID, PublicKey>) -> Result<(), JsonError>
         ensures written { PutsText (put_pairs text_name key_json (codes "keys") keys.now.entries)
             result self.old self.new }
         ensures back { OnOk result (AreBack text_name text_named key_json key_in keys.now.entries) }
+        ensures kept { OnErr result (self.new ≡ self.old) }
     {
         self.put_map("keys", keys)
     }
 
     /// How many bytes the text of the object has, or a few more, where no name has to be escaped.
-    fn room(&self) -> usize {
+    fn room(&self) -> usize
+        ensures { result ≤ room_of self.now }
+    {
         let mut room = 2_usize;
-        for (name, text) in self.texts.iter() {
+        'members: for (name, text) in self.texts.iter() {
             room = room.saturating_add(name.len()).saturating_add(text.len());
             room = room.saturating_add(4);
         }

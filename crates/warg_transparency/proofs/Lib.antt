@@ -1,3 +1,4 @@
 pub mod Encodings
 pub mod MapLeafLemmas
+pub mod SameProofs
 pub mod TextLemmas

@@ -1,6 +1,7 @@
 //! JSON of proofs.
 
 ghost use Rattle.std.specs.Prelude.{◌≡◌, List, [], ℕ};
+ghost use Rattle.warg_crypto.specs.EqualLaws.{same_equal};
 ghost use Rattle.warg_transparency.specs.ProofJson.{log_proof_in, log_proof_json, map_proof_in, map_proof_json};
 
 use crate::error::ProofTextError;
@@ -23,6 +24,12 @@ impl JsonValue for LogProof {
     ghost versions = { λ _. [] };
 
     ghost equivalent = { λ x y. x ≡ y };
+
+    ghost equivalent_equal = { same_equal };
+
+    ghost versions_written = { λ x d h. tt };
+
+    ghost versions_read = { λ x d h. tt };
 
     fn to_value(&self, alloc: Global) -> Result<Value, JsonError> {
         Ok(string_value(self.to_text(alloc)?))
@@ -49,6 +56,12 @@ impl JsonValue for MapProof {
     ghost versions = { λ _. [] };
 
     ghost equivalent = { λ x y. x ≡ y };
+
+    ghost equivalent_equal = { same_equal };
+
+    ghost versions_written = { λ x d h. tt };
+
+    ghost versions_read = { λ x d h. tt };
 
     fn to_value(&self, alloc: Global) -> Result<Value, JsonError> {
         Ok(string_value(self.to_text(alloc)?))

@@ -18,9 +18,9 @@ mod text;
 
 pub use checkpoint::OfTrees;
 pub use error::ProofTextError;
-pub use log::{verify_consistency, verify_inclusion};
+pub use log::{verify_consistency, verify_inclusion, verify_leaf};
 pub use log_proof::LogProof;
 pub use log_tree::LogTree;
-pub use map::{verify_absence, verify_head, verify_presence};
+pub use map::{verify_absence, verify_head, verify_no_head, verify_presence};
 pub use map_proof::MapProof;
 pub use map_tree::MapTree;

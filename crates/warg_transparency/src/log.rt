@@ -31,6 +31,20 @@ pub fn verify_inclusion(
     warg_merkle::verify_inclusion(&bytes, index, size, proof, &hash_bytes(root))
 }
 
+/// Whether the proof, the hashes from the leaf up, shows that the leaf stands at the index of the log under the checkpoint.
+/// One of more than 64 hashes does not.
+pub fn verify_leaf(checkpoint: &Checkpoint, leaf: &LogLeaf, index: u64, proof: &[[u8; 32]]) -> bool
+    ensures exact { IsTrue result ↔
+        Includes sha256 (log_leaf_encoding_of leaf.now) index checkpoint.now.log_length
+        proof.now checkpoint.now.log_root.bytes }
+    // Every list of entries of the checkpoint's length and root has the leaf at the index, or there is a collision.
+    ensures sound { IsTrue result → (entries : List (List ℕ)) → IsLogOf checkpoint.now entries →
+        IsOwn sha256 entries (log_leaf_encoding_of leaf.now) index proof.now }
+{
+    let size = checkpoint.log_length as u64;
+    verify_inclusion(leaf, index, size, proof, &checkpoint.log_root)
+}
+
 /// Whether the proof shows that the log of the new checkpoint begins with that of the old one. One of more than 64 hashes
 /// does not.
 pub fn verify_consistency(old: &Checkpoint, new: &Checkpoint, proof: &[[u8; 32]]) -> bool

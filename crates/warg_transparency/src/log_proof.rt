@@ -92,6 +92,26 @@ impl LogProof {
     }
 }
 
+impl PartialEq for LogProof {
+    ghost use Rattle.std.specs.Cmp.{partial_equiv_from_equiv};
+    ghost use Rattle.std.specs.Cmp.Lexicographic.{lists_equiv, nat_list_eq_equiv, pointwise};
+    ghost use Rattle.std.specs.Str.{bytes_eq};
+
+    ghost eq = { pointwise bytes_eq };
+
+    ghost laws = { partial_equiv_from_equiv (lists_equiv nat_list_eq_equiv) };
+
+    fn eq(&self, other: &LogProof) -> bool {
+        self.hashes() == other.hashes()
+    }
+}
+
+impl Eq for LogProof {
+    ghost use Rattle.std.specs.Cmp.Lexicographic.{lists_equiv, nat_list_eq_equiv};
+
+    ghost laws = { lists_equiv nat_list_eq_equiv };
+}
+
 impl fmt::Display for LogProof {
     ghost output = { λ p. Some (log_proof_text p) };
 

@@ -69,3 +69,15 @@ pub fn verify_head(
     };
     verify_presence(log_id, &leaf, proof, &checkpoint.map_root)
 }
+
+/// Whether the proof shows that the log has no head under the checkpoint: the map has nothing for it.
+pub fn verify_no_head(checkpoint: &Checkpoint, log_id: &LogId, proof: &MapProof) -> bool
+    ensures exact { IsTrue result ↔
+        Leads sha256 None log_id.now.hash.bytes proof.now checkpoint.now.map_root.bytes }
+    // Every map with the checkpoint's root has nothing for the log, or there is a collision.
+    ensures sound { IsTrue result → (m : List Side → Option (List ℕ)) →
+        map_root sha256 256 m ≡ checkpoint.now.map_root.bytes →
+        IsOwn sha256 m None log_id.now.hash.bytes proof.now }
+{
+    verify_absence(log_id, proof, &checkpoint.map_root)
+}

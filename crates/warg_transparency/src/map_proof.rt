@@ -2,6 +2,8 @@
 
 ghost use Rattle.std.specs.Prelude.{◌≡◌, ◌≢◌, ◌<◌, ◌↔◌, List, ℕ, Ok, Some, length, string_bytes, IfOk};
 ghost use Rattle.std.specs.List.{All};
+ghost use Rattle.std.specs.Cmp.Lexicographic.{pointwise};
+ghost use Rattle.std.specs.Str.{bytes_eq};
 ghost use Rattle.base64.specs.Engines.{standard};
 ghost use Rattle.base64.specs.GeneralPurpose.{decode_of};
 ghost use Rattle.sha2.specs.Sha256.{sha256};
@@ -45,6 +47,13 @@ fn fault_of(error: MapProofError) -> ProofTextError
         MapProofError::EmptySibling => ProofTextError::EmptySibling,
         MapProofError::OutOfMemory => ProofTextError::OutOfMemory,
     }
+}
+
+// Whether the short forms are of one path: a path has one short form.
+fn is_same(short: &warg_map_proof::MapProof, other: &warg_map_proof::MapProof) -> bool
+    ensures { result ≡ pointwise bytes_eq short.now other.now }
+{
+    short.as_bytes() == other.as_bytes()
 }
 
 impl MapProof {
@@ -96,6 +105,25 @@ impl MapProof {
     {
         STANDARD.encode(alloc, self.short.as_bytes())
     }
+}
+
+impl PartialEq for MapProof {
+    ghost use Rattle.std.specs.Cmp.{partial_equiv_from_equiv};
+    ghost use Rattle.std.specs.Cmp.Lexicographic.{lists_equiv, nat_list_eq_equiv};
+
+    ghost eq = { pointwise bytes_eq };
+
+    ghost laws = { partial_equiv_from_equiv (lists_equiv nat_list_eq_equiv) };
+
+    fn eq(&self, other: &MapProof) -> bool {
+        is_same(&self.short, &other.short)
+    }
+}
+
+impl Eq for MapProof {
+    ghost use Rattle.std.specs.Cmp.Lexicographic.{lists_equiv, nat_list_eq_equiv};
+
+    ghost laws = { lists_equiv nat_list_eq_equiv };
 }
 
 impl fmt::Display for MapProof {

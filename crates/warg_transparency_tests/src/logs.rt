@@ -2,7 +2,7 @@
 
 use crate::known::{CONSISTENCY, INCLUSION, checkpoint, hash, leaf, log_of};
 use std::test::Fail;
-use warg_transparency::{LogProof, LogTree, verify_consistency, verify_inclusion};
+use warg_transparency::{LogProof, LogTree, verify_consistency, verify_inclusion, verify_leaf};
 
 #[test]
 fn roots_are_the_known_ones(rt: HostRuntime) -> Result<(), Fail> {
@@ -68,10 +68,13 @@ fn inclusion(alloc: std::alloc::Global, log: &LogTree, index: u64) -> Result<Log
 fn each_leaf_is_shown_at_its_place_alone(rt: HostRuntime) -> Result<(), Fail> {
     let log = log_of(rt.alloc(), 7)?;
     let root = log.root();
+    let checkpoint = checkpoint(rt.alloc(), 7)?;
     for index in 0..8 {
         let proof = inclusion(rt.alloc(), &log, index)?;
         for place in 0..7 {
             let is_shown = verify_inclusion(&leaf(place), index, 7, proof.hashes(), &root);
+            assert_eq!(rt; is_shown, index == u64::from(place));
+            let is_shown = verify_leaf(&checkpoint, &leaf(place), index, proof.hashes());
             assert_eq!(rt; is_shown, index == u64::from(place));
         }
         assert!(rt; !verify_inclusion(&leaf(index as u8), index, index, proof.hashes(), &root));

@@ -2,7 +2,7 @@
 
 use crate::known::{ABSENCE, PRESENCE, checkpoint, hash, head, log_id, map_of, record_id};
 use std::test::Fail;
-use warg_transparency::{MapProof, verify_absence, verify_head, verify_presence};
+use warg_transparency::{MapProof, verify_absence, verify_head, verify_no_head, verify_presence};
 
 #[test]
 fn roots_are_the_known_ones(rt: HostRuntime) -> Result<(), Fail> {
@@ -53,9 +53,14 @@ fn heads_are_shown_where_they_stand_alone(rt: HostRuntime) -> Result<(), Fail> {
                 let is_shown = verify_head(&checkpoint, &log_id(other), &record_id(record), &proof);
                 assert_eq!(rt; is_shown, is_there && record == number + 6);
             }
+            let is_absent = number == 2 && other == 2;
             assert_eq!(rt;
                 verify_absence(&log_id(other), &proof, &checkpoint.map_root),
-                number == 2 && other == 2
+                is_absent
+            );
+            assert_eq!(rt;
+                verify_no_head(&checkpoint, &log_id(other), &proof),
+                is_absent
             );
         }
     }

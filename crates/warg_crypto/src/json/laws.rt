@@ -1,19 +1,33 @@
 //! Laws of what is written and read. None of these functions does anything.
 
-ghost use Rattle.std.specs.Prelude.{◌≡◌, List, ℕ, Ok, Err, Option, Some};
+ghost use Rattle.std.specs.Prelude.{◌≡◌, List, ℕ, true, Ok, Err, Option, Some};
 ghost use Rattle.serde_json.specs.Data.{Data, null};
 ghost use Rattle.warg_crypto.specs.declared.json.error.JsonError.{JsonError};
-ghost use Rattle.warg_crypto.specs.Json.{IsReadBack};
+ghost use Rattle.warg_crypto.specs.Json.{AreReadBack, IsReadBack, ReadsBack};
 ghost use Rattle.warg_crypto.specs.MemberLaws.{OptionReadsBack};
 ghost use Rattle.warg_crypto.specs.Members.{option_json};
 ghost use Rattle.warg_crypto.specs.Times.{Time};
 ghost use Rattle.warg_crypto.specs.TimeText.{IsTime, time_of, time_text};
+ghost use Rattle.warg_crypto.specs.Within.{AreWithin};
 
 use crate::json::JsonValue;
 
 /// The text of a time reads back as the time.
 pub fn time_texts_read_back()
     ensures { (t : Time) (text : List ℕ) → IsTime t → time_text t ≡ Ok text → time_of text ≡ Ok t }
+{}
+
+/// What is read of JSON that reads back as a value is `==` to it.
+pub fn what_reads_back_is_equal<T: JsonValue>()
+    ensures { (x y : T) (d : Data) → ReadsBack T.reads T.equivalent (T.plain x) d →
+        T.reads d ≡ Ok (T.plain y)
+        → T.eq x y ≡ true }
+{}
+
+/// The text of each of a value's versions stands in what is written of it, and reads back where the value was read.
+pub fn versions_are_of_texts<T: JsonValue>()
+    ensures written { (x : T.Plain) (d : Data) → T.writes x ≡ Ok d → AreWithin (T.versions x) d }
+    ensures read { (x : T.Plain) (d : Data) → T.reads d ≡ Ok x → AreReadBack (T.versions x) }
 {}
 
 /// What was written of a value that may be missing reads back as the same one, where null is none.

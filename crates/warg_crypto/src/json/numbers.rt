@@ -1,6 +1,7 @@
 //! JSON of whole numbers.
 
 ghost use Rattle.std.specs.Prelude.{◌≡◌, ◌^◌, ℕ, []};
+ghost use Rattle.std.specs.Cmp.{unsigned_Decides};
 ghost use Rattle.serde_json.specs.View.{view};
 ghost use Rattle.warg_crypto.specs.Json.{Returns};
 ghost use Rattle.warg_crypto.specs.Numbers.{number_below, number_in, number_json};
@@ -29,11 +30,20 @@ impl JsonValue for u64 {
 
     ghost equivalent = { λ x y. x ≡ y };
 
+    ghost equivalent_equal = { λ _ x y h. (unsigned_Decides x y).1 h };
+
+    ghost versions_written = { λ x d h. tt };
+
+    ghost versions_read = { λ x d h. tt };
+
     fn to_value(&self, _alloc: Global) -> Result<Value, JsonError> {
         Ok(Value::from(*self))
     }
 
-    fn from_value(_alloc: Global, value: &Value) -> Result<u64, JsonError> {
+    /// The value of JSON, or its first fault. It takes no memory.
+    fn from_value(_alloc: Global, value: &Value) -> Result<u64, JsonError>
+        ensures { Returns (λ n. n) result (number_in (view value.now)) }
+    {
         number_in(value)
     }
 }
@@ -51,11 +61,20 @@ impl JsonValue for u32 {
 
     ghost equivalent = { λ x y. x ≡ y };
 
+    ghost equivalent_equal = { λ _ x y h. (unsigned_Decides x y).1 h };
+
+    ghost versions_written = { λ x d h. tt };
+
+    ghost versions_read = { λ x d h. tt };
+
     fn to_value(&self, _alloc: Global) -> Result<Value, JsonError> {
         Ok(Value::from(*self))
     }
 
-    fn from_value(_alloc: Global, value: &Value) -> Result<u32, JsonError> {
+    /// The value of JSON, or its first fault. It takes no memory.
+    fn from_value(_alloc: Global, value: &Value) -> Result<u32, JsonError>
+        ensures { Returns (λ n. n) result (number_below (2 ^ 32) (view value.now)) }
+    {
         let number = number_in(value)?;
         if number > u32::MAX as u64 {
             return Err(JsonError::WrongType);
@@ -77,11 +96,20 @@ impl JsonValue for usize {
 
     ghost equivalent = { λ x y. x ≡ y };
 
+    ghost equivalent_equal = { λ _ x y h. (unsigned_Decides x y).1 h };
+
+    ghost versions_written = { λ x d h. tt };
+
+    ghost versions_read = { λ x d h. tt };
+
     fn to_value(&self, _alloc: Global) -> Result<Value, JsonError> {
         Ok(Value::from(*self))
     }
 
-    fn from_value(_alloc: Global, value: &Value) -> Result<usize, JsonError> {
+    /// The value of JSON, or its first fault. It takes no memory.
+    fn from_value(_alloc: Global, value: &Value) -> Result<usize, JsonError>
+        ensures { Returns (λ n. n) result (number_in (view value.now)) }
+    {
         Ok(number_in(value)? as usize)
     }
 }

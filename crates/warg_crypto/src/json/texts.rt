@@ -3,6 +3,9 @@
 ghost use Rattle.std.specs.Prelude.{◌≡◌, List, [], ℕ};
 ghost use Rattle.warg_crypto.specs.declared.hash.AnyHash.{AnyHash};
 ghost use Rattle.warg_crypto.specs.declared.hash.HashAlgorithm.{HashAlgorithm};
+ghost use Rattle.warg_crypto.specs.EqualLaws.{same_equal};
+ghost use Rattle.serde_json.specs.View.{view};
+ghost use Rattle.warg_crypto.specs.Json.{Returns};
 ghost use Rattle.warg_crypto.specs.JsonTexts.{algorithm_in, algorithm_json, hash_in, hash_json, key_id_in, key_id_json, key_in, key_json, signature_in, signature_json, time_in, time_json};
 ghost use Rattle.warg_crypto.specs.NamedBytes.{NamedBytes};
 ghost use Rattle.warg_crypto.specs.Times.{Time};
@@ -28,12 +31,21 @@ impl JsonValue for HashAlgorithm {
 
     ghost equivalent = { λ x y. x ≡ y };
 
+    ghost equivalent_equal = { same_equal };
+
+    ghost versions_written = { λ x d h. tt };
+
+    ghost versions_read = { λ x d h. tt };
+
     fn to_value(&self, alloc: Global) -> Result<Value, JsonError> {
         let name = self.as_str();
         text_value(alloc, name)
     }
 
-    fn from_value(_alloc: Global, value: &Value) -> Result<HashAlgorithm, JsonError> {
+    /// The value of JSON, or its first fault. It takes no memory.
+    fn from_value(_alloc: Global, value: &Value) -> Result<HashAlgorithm, JsonError>
+        ensures { Returns (λ x. x) result (algorithm_in (view value.now)) }
+    {
         let text = text_in(value)?;
         text.parse::<HashAlgorithm>()
             .map_err(|_| JsonError::BadText)
@@ -53,13 +65,22 @@ impl JsonValue for AnyHash {
 
     ghost equivalent = { λ x y. x ≡ y };
 
+    ghost equivalent_equal = { same_equal };
+
+    ghost versions_written = { λ x d h. tt };
+
+    ghost versions_read = { λ x d h. tt };
+
     fn to_value(&self, alloc: Global) -> Result<Value, JsonError> {
         let _bytes = self.bytes();
         let hash = self.to_text(alloc)?;
         Ok(string_value(hash))
     }
 
-    fn from_value(_alloc: Global, value: &Value) -> Result<AnyHash, JsonError> {
+    /// The value of JSON, or its first fault. It takes no memory.
+    fn from_value(_alloc: Global, value: &Value) -> Result<AnyHash, JsonError>
+        ensures { Returns (λ x. x) result (hash_in (view value.now)) }
+    {
         let text = text_in(value)?;
         text.parse::<AnyHash>().map_err(|_| JsonError::BadText)
     }
@@ -77,6 +98,12 @@ impl JsonValue for KeyID {
     ghost versions = { λ _. [] };
 
     ghost equivalent = { λ x y. x ≡ y };
+
+    ghost equivalent_equal = { same_equal };
+
+    ghost versions_written = { λ x d h. tt };
+
+    ghost versions_read = { λ x d h. tt };
 
     fn to_value(&self, alloc: Global) -> Result<Value, JsonError> {
         text_value(alloc, self.as_str())
@@ -99,6 +126,12 @@ impl JsonValue for PublicKey {
     ghost versions = { λ _. [] };
 
     ghost equivalent = { λ x y. x ≡ y };
+
+    ghost equivalent_equal = { same_equal };
+
+    ghost versions_written = { λ x d h. tt };
+
+    ghost versions_read = { λ x d h. tt };
 
     fn to_value(&self, alloc: Global) -> Result<Value, JsonError> {
         let _name = self.algorithm();
@@ -129,6 +162,12 @@ impl JsonValue for Signature {
 
     ghost equivalent = { λ x y. x ≡ y };
 
+    ghost equivalent_equal = { same_equal };
+
+    ghost versions_written = { λ x d h. tt };
+
+    ghost versions_read = { λ x d h. tt };
+
     fn to_value(&self, alloc: Global) -> Result<Value, JsonError> {
         let _name = self.algorithm();
         let _bytes = self.bytes();
@@ -158,11 +197,20 @@ impl JsonValue for Timestamp {
 
     ghost equivalent = { λ x y. x ≡ y };
 
+    ghost equivalent_equal = { same_equal };
+
+    ghost versions_written = { λ x d h. tt };
+
+    ghost versions_read = { λ x d h. tt };
+
     fn to_value(&self, alloc: Global) -> Result<Value, JsonError> {
         Ok(string_value(self.to_text(alloc)?))
     }
 
-    fn from_value(_alloc: Global, value: &Value) -> Result<Timestamp, JsonError> {
+    /// The value of JSON, or its first fault. It takes no memory.
+    fn from_value(_alloc: Global, value: &Value) -> Result<Timestamp, JsonError>
+        ensures { Returns (λ x. x) result (time_in (view value.now)) }
+    {
         Timestamp::parse_text(text_in(value)?)
     }
 }

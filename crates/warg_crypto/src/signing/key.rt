@@ -4,7 +4,7 @@ ghost use Rattle.std.specs.Prelude.{◌≡◌, ◌⊎◌, IfOk, IfErr, Some};
 ghost use Rattle.std.specs.String.{string_bytes};
 ghost use Rattle.base64.specs.GeneralPurpose.{IsBytes};
 ghost use Rattle.warg_crypto.specs.Keys.{public_key_of};
-ghost use Rattle.warg_crypto.specs.NamedBytes.{IsName, tag_text, fingerprint_of};
+ghost use Rattle.warg_crypto.specs.NamedBytes.{HasName, IsName, tag_text, fingerprint_of};
 ghost use Rattle.warg_crypto.specs.declared.signing.error.KeyParseError.TheVariants as fault;
 
 use crate::hash::HashAlgorithm;
@@ -224,11 +224,13 @@ impl PublicKey {
         self.tagged.bytes()
     }
 
-    /// The key that a text says: a name, a colon, and bytes in base64 (RFC 4648, with padding).
+    /// The key that a text says: a name, a colon, and bytes in base64 (RFC 4648, with padding). `MissingColon` and
+    /// `EmptyAlgorithm` are told before any memory is taken.
     pub fn parse(alloc: Global, text: &str) -> Result<PublicKey, KeyParseError>
         ensures ok { IfOk result (λ k. public_key_of text.now ≡ Ok k) }
         ensures err { IfErr result (λ e. (e ≡ fault.OutOfMemory) ⊎
             (public_key_of text.now ≡ Err e)) }
+        ensures memory { IfErr result (λ e. e ≡ fault.OutOfMemory → HasName text.now) }
     {
         let tagged = Tagged::parse(alloc, text)?;
         Ok(PublicKey { tagged })

@@ -4,7 +4,7 @@ ghost use Rattle.std.specs.Prelude.{◌≡◌, ◌⊎◌, IfOk, IfErr, Some};
 ghost use Rattle.std.specs.String.{string_bytes};
 ghost use Rattle.base64.specs.GeneralPurpose.{IsBytes};
 ghost use Rattle.warg_crypto.specs.Keys.{signature_of};
-ghost use Rattle.warg_crypto.specs.NamedBytes.{IsName, tag_text};
+ghost use Rattle.warg_crypto.specs.NamedBytes.{HasName, IsName, tag_text};
 ghost use Rattle.warg_crypto.specs.declared.signing.error.SignatureParseError.TheVariants as fault;
 
 use crate::signing::error::SignatureParseError;
@@ -57,11 +57,13 @@ impl Signature {
         self.tagged.bytes()
     }
 
-    /// The signature that a text says: a name, a colon, and bytes in base64 (RFC 4648, with padding).
+    /// The signature that a text says: a name, a colon, and bytes in base64 (RFC 4648, with padding). `MissingColon` and
+    /// `EmptyAlgorithm` are told before any memory is taken.
     pub fn parse(alloc: Global, text: &str) -> Result<Signature, SignatureParseError>
         ensures ok { IfOk result (λ k. signature_of text.now ≡ Ok k) }
         ensures err { IfErr result (λ e. (e ≡ fault.OutOfMemory) ⊎
             (signature_of text.now ≡ Err e)) }
+        ensures memory { IfErr result (λ e. e ≡ fault.OutOfMemory → HasName text.now) }
     {
         let tagged = Tagged::parse(alloc, text)?;
         Ok(Signature { tagged })

@@ -1,11 +1,11 @@
 //! Bytes under the name of an algorithm, and their text.
 
-ghost use Rattle.std.specs.Prelude.{◌≡◌, ◌⊎◌, IfOk, IfErr, IsTrue, ◌↔◌, Some};
+ghost use Rattle.std.specs.Prelude.{◌≡◌, ◌+◌, ◌*◌, ◌/◌, ◌≤◌, ◌⊎◌, length, IfOk, IfErr, IsTrue, ◌↔◌, Some};
 ghost use Rattle.std.specs.List.{list_any};
 ghost use Rattle.std.specs.String.{string_bytes};
 ghost use Rattle.base64.specs.GeneralPurpose.{IsBytes};
 ghost use Rattle.warg_crypto.specs.HashText.{is_colon};
-ghost use Rattle.warg_crypto.specs.NamedBytes.{NamedBytes, IsName, tag_of, tag_text};
+ghost use Rattle.warg_crypto.specs.NamedBytes.{NamedBytes, HasName, IsName, tag_of, tag_text};
 ghost use Rattle.warg_crypto.specs.declared.signing.tagged.TagError.TheVariants as fault;
 
 use crate::ranges::byte_range;
@@ -95,7 +95,9 @@ impl Tagged {
     }
 
     /// How many bytes the text has at most.
-    fn text_room(&self) -> usize {
+    fn text_room(&self) -> usize
+        ensures { result ≤ length self.now.name + 1 + (length self.now.bytes / 3 + 1) * 4 }
+    {
         let digits = (self.bytes.len() / 3).saturating_add(1).saturating_mul(4);
         self.name.len().saturating_add(1).saturating_add(digits)
     }
@@ -114,6 +116,7 @@ impl Tagged {
     pub fn parse(alloc: Global, text: &str) -> Result<Tagged, TagError>
         ensures ok { IfOk result (λ t. tag_of text.now ≡ Ok t) }
         ensures err { IfErr result (λ e. (e ≡ fault.OutOfMemory) ⊎ (tag_of text.now ≡ Err e)) }
+        ensures memory { IfErr result (λ e. e ≡ fault.OutOfMemory → HasName text.now) }
     {
         let Some((name, rest)) = text.split_once(':') else {
             return Err(TagError::MissingColon);

@@ -79,6 +79,22 @@ impl<C: Drop> From<ProtoEnvelope<C>> for ProtoEnvelopeBody {
     }
 }
 
+impl<C> ProtoEnvelope<C> {
+    /// The body of the envelope, which stays as it is.
+    pub fn to_body(&self) -> Result<ProtoEnvelopeBody, AllocError>
+        ensures { IfOk result (λ b. b ≡ self.now.envelope) }
+    {
+        let content_bytes = self.content_bytes.clone()?;
+        let key_id = self.key_id.clone()?;
+        let signature = self.signature.clone()?;
+        Ok(ProtoEnvelopeBody {
+            content_bytes,
+            key_id,
+            signature,
+        })
+    }
+}
+
 impl<C: Record> ProtoEnvelope<C> {
     /// The envelope of a body: its record is what the content bytes say.
     pub fn from_body(
@@ -145,6 +161,22 @@ impl<C: Drop> From<PublishedProtoEnvelope<C>> for PublishedProtoEnvelopeBody {
             envelope: ProtoEnvelopeBody::from(published.envelope),
             registry_index: published.registry_index,
         }
+    }
+}
+
+impl<C> PublishedProtoEnvelope<C> {
+    /// The body of the published envelope, which stays as it is.
+    pub fn to_body(&self) -> Result<PublishedProtoEnvelopeBody, AllocError>
+        ensures { IfOk result (λ b. b ≡ record {
+          envelope = self.now.envelope.envelope;
+          registry_index = self.now.registry_index;
+        }) }
+    {
+        let envelope = self.envelope.to_body()?;
+        Ok(PublishedProtoEnvelopeBody {
+            envelope,
+            registry_index: self.registry_index,
+        })
     }
 }
 

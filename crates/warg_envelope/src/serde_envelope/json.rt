@@ -1,6 +1,10 @@
 //! JSON of envelopes that keep no bytes of their contents.
 
+ghost use Rattle.std.specs.Prelude.{◌≡◌, ◌&&◌, true};
+ghost use Rattle.std.proofs.Common.{subst};
+ghost use Rattle.std.proofs.lemmas.Bool.{and_parts};
 ghost use Rattle.warg_envelope.specs.EnvelopeJson.{AreEquivalentSigned, SignedContents, signed_in, signed_json};
+ghost use Rattle.warg_envelope.specs.SignedVersionLaws.{signed_versions, signed_within};
 
 use crate::serde_envelope::SerdeEnvelope;
 use serde_json::{Map, Value};
@@ -21,6 +25,17 @@ impl<C: JsonValue + Drop> JsonValue for SerdeEnvelope<C> {
     ghost versions = { λ e. C.versions e.contents };
 
     ghost equivalent = { AreEquivalentSigned C.equivalent };
+
+    ghost equivalent_equal = { λ laws x y h i.
+        let own = and_parts _ _ (laws.refl x) in
+        let parts = and_parts _ _ own.1 in
+        C.equivalent_equal C.Eq.laws x.contents y.contents h.contents i
+        && (subst (λ id. ⟦<KeyID as PartialEq>⟧.eq x.key_id id ≡ true) h.key_id parts.0 i
+        && subst (λ s. ⟦<Signature as PartialEq>⟧.eq x.signature s ≡ true) h.signature parts.1 i) };
+
+    ghost versions_written = { λ x d h. signed_within C.writes C.versions C.versions_written x d h };
+
+    ghost versions_read = { λ x d h. signed_versions C.reads C.versions C.versions_read x d h };
 
     fn to_value(&self, alloc: Global) -> Result<Value, JsonError> {
         let mut map = Map::new(alloc);

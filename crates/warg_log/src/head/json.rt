@@ -3,7 +3,8 @@
 ghost use Rattle.std.specs.Prelude.{◌≡◌, [], codes, Ok, OnOk, OnErr, Option};
 ghost use Rattle.serde_json.specs.Data.{Data};
 ghost use Rattle.serde_json.specs.View.{members_view, view};
-ghost use Rattle.warg_crypto.specs.Json.{ReturnsOrNoMemory};
+ghost use Rattle.warg_crypto.specs.EqualLaws.{same_equal};
+ghost use Rattle.warg_crypto.specs.Json.{Returns, ReturnsOrNoMemory};
 ghost use Rattle.warg_crypto.specs.Members.{put_option, put_some};
 ghost use Rattle.warg_crypto.specs.Numbers.{number_json};
 ghost use Rattle.warg_log.specs.HeadJson.{head_in, head_json, unless_zero, version_in, version_or_zero};
@@ -33,7 +34,7 @@ fn put_version(map: &mut Map<String, Value>, alloc: Global, version: u32) -> Res
 
 /// The version of a head's JSON, 0 where it is missing.
 fn version_in(alloc: Global, value: &Value) -> Result<u32, JsonError>
-    ensures { ReturnsOrNoMemory (λ n. n) result (version_in (view value.now)) }
+    ensures { Returns (λ n. n) result (version_in (view value.now)) }
 {
     let _members = members_in(value)?;
     let Some(version) = value.get("version") else {
@@ -55,6 +56,12 @@ impl JsonValue for Head {
 
     ghost equivalent = { λ g h. g ≡ h };
 
+    ghost equivalent_equal = { same_equal };
+
+    ghost versions_written = { λ x d h. tt };
+
+    ghost versions_read = { λ x d h. tt };
+
     fn to_value(&self, alloc: Global) -> Result<Value, JsonError> {
         let mut map = Map::new(alloc);
         put_value(&mut map, alloc, "digest", &self.digest)?;
@@ -63,7 +70,10 @@ impl JsonValue for Head {
         Ok(object_value(map))
     }
 
-    fn from_value(alloc: Global, value: &Value) -> Result<Head, JsonError> {
+    /// The value of JSON, or its first fault. It takes no memory.
+    fn from_value(alloc: Global, value: &Value) -> Result<Head, JsonError>
+        ensures { Returns (λ h. h) result (head_in (view value.now)) }
+    {
         let digest = RecordId::from_value(alloc, member_in(value, "digest")?)?;
         let timestamp = Timestamp::from_value(alloc, member_in(value, "timestamp")?)?;
         let version = version_in(alloc, value)?;

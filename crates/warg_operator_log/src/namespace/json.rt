@@ -7,6 +7,7 @@ ghost use Rattle.warg_operator_log.specs.CanonicalNamespaces.{namespace_canonica
 ghost use Rattle.warg_operator_log.specs.NamespaceJson.{defined_in, imported_in, namespace_in, namespace_json, only_imported, saved_namespace_in, saved_namespace_json};
 ghost use Rattle.warg_operator_log.specs.NamespaceMap.{namespace_view};
 ghost use Rattle.warg_operator_log.specs.Namespaces.{Namespace};
+ghost use Rattle.warg_operator_log.specs.SameNamespaceLaws.{namespace_decides};
 ghost use Rattle.warg_saved.specs.Writes.{WritesText};
 
 use crate::namespace::NamespaceState;
@@ -42,7 +43,7 @@ fn namespace_value(alloc: Global, state: &NamespaceState) -> Result<Value, JsonE
 
 /// What the text of a namespace says.
 fn defined_in(text: &str) -> Result<NamespaceState, JsonError>
-    ensures { ReturnsOrNoMemory namespace_view result (defined_in text.now) }
+    ensures { Returns namespace_view result (defined_in text.now) }
 {
     if text == "defined" {
         return Ok(NamespaceState::Defined);
@@ -109,6 +110,12 @@ impl JsonValue for NamespaceState {
     ghost versions = { λ _. [] };
 
     ghost equivalent = { λ x y. x ≡ y };
+
+    ghost equivalent_equal = { λ _ x y h. (namespace_decides (namespace_view x) (namespace_view y)).1 h };
+
+    ghost versions_written = { λ x d h. tt };
+
+    ghost versions_read = { λ x d h. tt };
 
     fn to_value(&self, alloc: Global) -> Result<Value, JsonError> {
         namespace_value(alloc, self)

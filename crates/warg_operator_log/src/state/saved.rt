@@ -6,7 +6,7 @@ ghost use Rattle.serde_json.specs.View.{members_view, view};
 ghost use Rattle.warg_crypto.specs.Json.{ReturnsOrNoMemory};
 ghost use Rattle.warg_crypto.specs.Pairs.{plain_pairs};
 ghost use Rattle.warg_permissions.specs.declared.operator.Permission.{Permission as OfPermission};
-ghost use Rattle.warg_saved.specs.Fit.{RefusesCase, first_case, is_nil, keys_case, rights_case, unless_case, version_case};
+ghost use Rattle.warg_saved.specs.Fit.{RefusesCase, RefusesCaseOrNoMemory, first_case, is_nil, keys_case, rights_case, unless_case, version_case};
 ghost use Rattle.warg_saved.specs.JsonText.{ReturnsOfText, TextReadsBack, in_text};
 ghost use Rattle.warg_saved.specs.Texts.{IsReadAs, text_of};
 ghost use Rattle.warg_log.specs.AuthorityData.{AuthorityData};
@@ -120,7 +120,8 @@ fn are_empty(parts: &SavedParts) -> bool
 
 /// Refuses maps that do not fit together, then a head of a version that no log has.
 fn check_maps(alloc: Global, parts: &SavedParts) -> Result<(), JsonError>
-    ensures { RefusesCase (first_case (keys_case (parts_view parts.now).keys ∷ namespaces_case
+    ensures { RefusesCaseOrNoMemory
+        (first_case (keys_case (parts_view parts.now).keys ∷ namespaces_case
         (parts_view parts.now).namespaces
         ∷ rights_case (parts_view parts.now).rights (parts_view parts.now).keys ∷ version_case
         (head_version (parts_view parts.now).head) ∷ [])) result }
@@ -133,7 +134,7 @@ fn check_maps(alloc: Global, parts: &SavedParts) -> Result<(), JsonError>
 
 /// Refuses parts that do not fit together.
 fn check_parts(alloc: Global, parts: &SavedParts) -> Result<(), JsonError>
-    ensures { RefusesCase (incoherence (parts_view parts.now)) result }
+    ensures { RefusesCaseOrNoMemory (incoherence (parts_view parts.now)) result }
 {
     check_begun(&parts.algorithm, head_version(&parts.head))?;
     check_empty(&parts.algorithm, are_empty(parts))?;
@@ -238,6 +239,12 @@ impl JsonValue for LogState {
     ghost versions = { λ _. [] };
 
     ghost equivalent = { AreEqual };
+
+    ghost equivalent_equal = { λ _ s t h. h };
+
+    ghost versions_written = { λ x d h. tt };
+
+    ghost versions_read = { λ x d h. tt };
 
     fn to_value(&self, alloc: Global) -> Result<Value, JsonError> {
         Ok(object_value(members_of(alloc, &self.log)?))

@@ -3,8 +3,11 @@
 ghost use Rattle.std.specs.Prelude.{◌≡◌, [], ◌∷◌, codes, Ok, IfOk};
 ghost use Rattle.semver.specs.Identifiers.{parts_of};
 ghost use Rattle.serde_json.specs.View.{members_view, view};
+ghost use Rattle.warg_crypto.specs.EqualLaws.{same_equal};
 ghost use Rattle.warg_crypto.specs.Json.{AreReadBack, ReturnsOrNoMemory, wrote};
 ghost use Rattle.warg_package_log.specs.ReleaseMap.{release_view};
+ghost use Rattle.warg_package_log.specs.SameReleaseLaws.{release_decides};
+ghost use Rattle.warg_package_log.specs.ReleaseVersionLaws.{release_versions, release_within};
 ghost use Rattle.warg_package_log.specs.ReleaseJson.{release_in, release_json, release_state_in, release_state_json, released_in, state_of, status_member, version_in, version_json, yanked_in};
 ghost use Rattle.warg_package_log.specs.Releases.{ReleaseView};
 ghost use Rattle.warg_package_log.specs.declared.release.ReleaseState.{ReleaseState};
@@ -101,6 +104,12 @@ impl JsonValue for ReleaseState {
 
     ghost equivalent = { λ x y. x ≡ y };
 
+    ghost equivalent_equal = { same_equal };
+
+    ghost versions_written = { λ x d h. tt };
+
+    ghost versions_read = { λ x d h. tt };
+
     fn to_value(&self, alloc: Global) -> Result<Value, JsonError> {
         match self {
             ReleaseState::Released { content } => released_value(alloc, content),
@@ -129,6 +138,12 @@ impl JsonValue for Release {
     ghost versions = { λ r. r.version ∷ [] };
 
     ghost equivalent = { λ x y. x ≡ y };
+
+    ghost equivalent_equal = { λ _ x y h. (release_decides (release_view x) (release_view y)).1 h };
+
+    ghost versions_written = { release_within };
+
+    ghost versions_read = { release_versions };
 
     fn to_value(&self, alloc: Global) -> Result<Value, JsonError> {
         let mut map = Map::new(alloc);

@@ -7,7 +7,7 @@ ghost use Rattle.serde_json.specs.View.{members_view, view};
 ghost use Rattle.warg_crypto.specs.Json.{AreReadBack, ReturnsOrNoMemory};
 ghost use Rattle.warg_crypto.specs.Pairs.{plain_pairs};
 ghost use Rattle.warg_permissions.specs.declared.package.Permission.{Permission as OfPermission};
-ghost use Rattle.warg_saved.specs.Fit.{RefusesCase, first_case, is_nil, keys_case, rights_case, unless_case, version_case};
+ghost use Rattle.warg_saved.specs.Fit.{RefusesCase, RefusesCaseOrNoMemory, first_case, is_nil, keys_case, rights_case, unless_case, version_case};
 ghost use Rattle.warg_saved.specs.JsonText.{ReturnsOfText, TextReadsBack, in_text};
 ghost use Rattle.warg_saved.specs.Texts.{IsReadAs, text_of};
 ghost use Rattle.warg_log.specs.AuthorityData.{AuthorityData};
@@ -16,6 +16,7 @@ ghost use Rattle.warg_package_log.specs.ReleaseMap.{release_view};
 ghost use Rattle.warg_package_log.specs.Releases.{ReleaseView};
 ghost use Rattle.warg_package_log.specs.SavedBack.{AreEqual, IsSavable, saved_versions};
 ghost use Rattle.warg_package_log.specs.SavedParts.{parts_view};
+ghost use Rattle.warg_package_log.specs.SavedVersionLaws.{state_versions, state_within};
 ghost use Rattle.warg_package_log.specs.SavedState.{head_version, incoherence, is_misfiled, parts_in, releases_case, state_in, state_json, state_of};
 
 use crate::release::Release;
@@ -121,7 +122,8 @@ fn are_empty(parts: &SavedParts) -> bool
 
 /// Refuses maps that do not fit together, then a head of a version that no log has.
 fn check_maps(alloc: Global, parts: &SavedParts) -> Result<(), JsonError>
-    ensures { RefusesCase (first_case (releases_case (parts_view parts.now).releases ∷ keys_case
+    ensures { RefusesCaseOrNoMemory
+        (first_case (releases_case (parts_view parts.now).releases ∷ keys_case
         (parts_view parts.now).keys
         ∷ rights_case (parts_view parts.now).rights (parts_view parts.now).keys ∷ version_case
         (head_version (parts_view parts.now).head) ∷ [])) result }
@@ -134,7 +136,7 @@ fn check_maps(alloc: Global, parts: &SavedParts) -> Result<(), JsonError>
 
 /// Refuses parts that do not fit together.
 fn check_parts(alloc: Global, parts: &SavedParts) -> Result<(), JsonError>
-    ensures { RefusesCase (incoherence (parts_view parts.now)) result }
+    ensures { RefusesCaseOrNoMemory (incoherence (parts_view parts.now)) result }
 {
     check_begun(&parts.algorithm, head_version(&parts.head))?;
     check_empty(&parts.algorithm, are_empty(parts))?;
@@ -239,6 +241,12 @@ impl JsonValue for LogState {
     ghost versions = { saved_versions };
 
     ghost equivalent = { AreEqual };
+
+    ghost equivalent_equal = { λ _ s t h. h };
+
+    ghost versions_written = { state_within };
+
+    ghost versions_read = { state_versions };
 
     fn to_value(&self, alloc: Global) -> Result<Value, JsonError> {
         Ok(object_value(members_of(alloc, &self.log)?))

@@ -1,6 +1,9 @@
 //! JSON of permissions: their text.
 
 ghost use Rattle.std.specs.Prelude.{◌≡◌, []};
+ghost use Rattle.warg_crypto.specs.EqualLaws.{same_equal};
+ghost use Rattle.serde_json.specs.View.{view};
+ghost use Rattle.warg_crypto.specs.Json.{Returns};
 ghost use Rattle.warg_permissions.specs.PermissionJson.{permission_from, permission_json};
 ghost use Rattle.warg_permissions.specs.OperatorPermissions.{permission_in, permission_text};
 ghost use Rattle.warg_permissions.specs.declared.operator.Permission.{Permission};
@@ -25,11 +28,20 @@ impl JsonValue for Permission {
 
     ghost equivalent = { λ p q. p ≡ q };
 
+    ghost equivalent_equal = { same_equal };
+
+    ghost versions_written = { λ x d h. tt };
+
+    ghost versions_read = { λ x d h. tt };
+
     fn to_value(&self, alloc: Global) -> Result<Value, JsonError> {
         text_value(alloc, self.as_str())
     }
 
-    fn from_value(_alloc: Global, value: &Value) -> Result<Permission, JsonError> {
+    /// The value of JSON, or its first fault. It takes no memory.
+    fn from_value(_alloc: Global, value: &Value) -> Result<Permission, JsonError>
+        ensures { Returns (λ p. p) result (permission_from permission_in (view value.now)) }
+    {
         Permission::from_text(text_in(value)?).ok_or(JsonError::BadText)
     }
 }

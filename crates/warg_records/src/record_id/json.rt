@@ -1,6 +1,9 @@
 //! JSON of the ids of records.
 
 ghost use Rattle.std.specs.Prelude.{◌≡◌, []};
+ghost use Rattle.warg_crypto.specs.EqualLaws.{same_equal};
+ghost use Rattle.serde_json.specs.View.{view};
+ghost use Rattle.warg_crypto.specs.Json.{Returns};
 ghost use Rattle.warg_records.specs.RecordIdJson.{record_id_in, record_id_json};
 ghost use Rattle.warg_records.specs.declared.record_id.RecordId.{RecordId};
 
@@ -23,11 +26,20 @@ impl JsonValue for RecordId {
 
     ghost equivalent = { λ x y. x ≡ y };
 
+    ghost equivalent_equal = { same_equal };
+
+    ghost versions_written = { λ x d h. tt };
+
+    ghost versions_read = { λ x d h. tt };
+
     fn to_value(&self, alloc: Global) -> Result<Value, JsonError> {
         AnyHash::from(*self).to_value(alloc)
     }
 
-    fn from_value(alloc: Global, value: &Value) -> Result<RecordId, JsonError> {
+    /// The value of JSON, or its first fault. It takes no memory.
+    fn from_value(alloc: Global, value: &Value) -> Result<RecordId, JsonError>
+        ensures { Returns (λ x. x) result (record_id_in (view value.now)) }
+    {
         Ok(RecordId::from(AnyHash::from_value(alloc, value)?))
     }
 }

@@ -2,6 +2,7 @@
 
 ghost use Rattle.std.specs.Prelude.{◌≡◌, [], IfOk, Ok};
 ghost use Rattle.serde_json.specs.View.{members_view, view};
+ghost use Rattle.warg_crypto.specs.EqualLaws.{same_equal};
 ghost use Rattle.warg_crypto.specs.Json.{ReturnsOrNoMemory};
 ghost use Rattle.warg_envelope.specs.EnvelopeData.{EnvelopeData};
 ghost use Rattle.warg_envelope.specs.EnvelopeJson.{AreBodyMembers, body_in, body_json, body_members, bytes_in, bytes_json, published_in, published_json};
@@ -66,6 +67,12 @@ impl JsonValue for ProtoEnvelopeBody {
 
     ghost equivalent = { λ x y. x ≡ y };
 
+    ghost equivalent_equal = { same_equal };
+
+    ghost versions_written = { λ x d h. tt };
+
+    ghost versions_read = { λ x d h. tt };
+
     fn to_value(&self, alloc: Global) -> Result<Value, JsonError> {
         Ok(object_value(body_members(alloc, self)?))
     }
@@ -94,6 +101,12 @@ impl JsonValue for PublishedProtoEnvelopeBody {
     ghost versions = { λ _. [] };
 
     ghost equivalent = { λ x y. x ≡ y };
+
+    ghost equivalent_equal = { same_equal };
+
+    ghost versions_written = { λ x d h. tt };
+
+    ghost versions_read = { λ x d h. tt };
 
     fn to_value(&self, alloc: Global) -> Result<Value, JsonError> {
         let mut map = body_members(alloc, &self.envelope)?;

@@ -10,4 +10,4 @@ pub returns-in-Err-clause-err : goal.returns-in-Err-clause-err
 returns-in-Err-clause-err g c =
     id-fails g.L.Validator.kind (envelope_of g.L.Record.Record.read) (told (envelope_fault_of g.L.Record.Record.fault_of) g.L.Validator.offence_of) (cause_name g.L.Error.Named.name_of)
     c.args.envelope.now c.args.text.now c.refuse.new.used c.refuse.new.text (Parse c.in-Err.error) c.refuse.result c.refuse.ensures.failure c.refuse.ensures.text
-    (envelope_fault_of g.L.Record.Record.fault_of c.in-Err.error) refl c.in-Err.ensures
+    (envelope_fault_of g.L.Record.Record.fault_of c.in-Err.error) refl c.in-Err.ensures.opened

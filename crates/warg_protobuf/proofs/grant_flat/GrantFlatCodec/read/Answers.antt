@@ -3,5 +3,5 @@ use Rattle.warg_protobuf.specs.GrantFlat.{grant_flat_table, grant_flat_from, gra
 use Rattle.warg_protobuf.proofs.Finishing.{finished_as, grant_flat_finishes}
 use Rattle.warg_protobuf.proofs.grant_flat.GrantFlatCodec.read.Goals as goal
 
-pub returns : goal.returns
-returns c = finished_as grant_flat_table grant_flat_from text_and_numbers_with nothing_kept grant_flat_made grant_flat_finishes c.args.bytes.now (text_and_numbers_kept c.in_ok-draft.draft) (grant_flat_view c.in_ok-finish.field-0) c.in_ok-draft.ensures c.in_ok-finish.ensures
+pub returns-clause-given : goal.returns-clause-given
+returns-clause-given c = finished_as grant_flat_table grant_flat_from text_and_numbers_with nothing_kept grant_flat_made grant_flat_finishes c.args.bytes.now (text_and_numbers_kept c.in_ok-draft.draft) (grant_flat_view c.in_ok-finish.field-0) c.in_ok-draft.ensures.given c.in_ok-finish.ensures

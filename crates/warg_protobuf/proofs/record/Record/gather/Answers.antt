@@ -7,4 +7,4 @@ pub returns : goal.returns
 returns g c =
     let s = g.S.EntrySink in
     record_gathered s.with_entry s.nothing s.table s.entry_from _ c.laws.ensures c.args.bytes.now
-    (record_kept s.held c.in_ok-draft.draft) (record_view s.held c.in_ok-finish.field-0) c.in_ok-draft.ensures c.in_ok-finish.ensures
+    (record_kept s.held c.in_ok-draft.draft) (record_view s.held c.in_ok-finish.field-0) c.in_ok-draft.ensures.given c.in_ok-finish.ensures
