@@ -1,11 +1,12 @@
 """Proofs of a registry's log of 8 leaves and of its map of two logs, worked out elsewhere, and each forged."""
 
 import base64
-import hashlib
 import unittest
 from collections.abc import Callable
 
 from weoldrin import BadArgument, verify_absence, verify_consistency, verify_inclusion, verify_presence
+
+from .trees import Leaf, hash_text, id_of, log_root
 
 INCLUSION = (
     "bML0VncumO1gymhI9p9DawMcQnVTNa2WUrNw14Aq7DELD7yQO/3GX1TnDyNdlyNl+BI5/0o0nLbP5Kt1TH2/cg371IIl6nKYXW5cNRhz0vRw+5C8x4IjFkOBx8eooRUN"
@@ -19,31 +20,10 @@ ABSENCE = (
 )
 
 
-def _id(text: str) -> str:
-    return f"sha256:{hashlib.sha256(text.encode()).hexdigest()}"
-
-
-def _text(text: str) -> bytes:
-    """A text in the prefix encoding; it is shorter than 128 bytes."""
-    return bytes([len(text)]) + text.encode()
-
-
-def _leaf(place: int) -> bytes:
-    leaf = b"WARG-LOG-LEAF-V0" + _text(_id(f"log {place % 3}")) + _text(_id(f"record {place}"))
-    return hashlib.sha256(b"\0" + leaf).digest()
-
-
-def _root(hashes: list[bytes]) -> bytes:
-    """The root of a tree, by RFC 9162, section 2.1.1."""
-    if len(hashes) == 1:
-        return hashes[0]
-    half = 1 << (len(hashes) - 1).bit_length() - 1
-    return hashlib.sha256(b"\1" + _root(hashes[:half]) + _root(hashes[half:])).digest()
-
-
 def root_of(count: int) -> str:
     """The root's text of the log of the first leaves."""
-    return f"sha256:{_root([_leaf(place) for place in range(count)]).hex()}"
+    leaves = [Leaf(id_of(f"log {place % 3}"), id_of(f"record {place}")) for place in range(count)]
+    return hash_text(log_root([it.of_log() for it in leaves]))
 
 
 MAP_ROOT = "sha256:6b3b29793c461452ef689fdfac26511b3862f7b70a4f576163ca60308bad21e6"
@@ -59,13 +39,13 @@ class Proofs(unittest.TestCase):
     """Each call, on what holds, on what does not, and on texts that are of no form."""
 
     def test_inclusion(self) -> None:
-        log, record, root = _id("log 2"), _id("record 5"), root_of(8)
+        log, record, root = id_of("log 2"), id_of("record 5"), root_of(8)
         self.assertTrue(verify_inclusion(log, record, 5, 8, root, INCLUSION))
         self.assertFalse(verify_inclusion(log, record, 4, 8, root, INCLUSION))
         self.assertFalse(verify_inclusion(log, record, 8, 8, root, INCLUSION))
         self.assertFalse(verify_inclusion(log, record, 2**64 - 1, 2**64 - 1, root, INCLUSION))
-        self.assertFalse(verify_inclusion(log, _id("record 6"), 5, 8, root, INCLUSION))
-        self.assertFalse(verify_inclusion(_id("log 1"), record, 5, 8, root, INCLUSION))
+        self.assertFalse(verify_inclusion(log, id_of("record 6"), 5, 8, root, INCLUSION))
+        self.assertFalse(verify_inclusion(id_of("log 1"), record, 5, 8, root, INCLUSION))
         self.assertFalse(verify_inclusion(log, record, 5, 8, root_of(7), INCLUSION))
         self.assertFalse(verify_inclusion(log, record, 5, 8, root, _changed(INCLUSION)))
         self.assertFalse(verify_inclusion(log, record, 5, 8, root, ""))
@@ -77,7 +57,7 @@ class Proofs(unittest.TestCase):
     def test_a_length_is_taken_on_trust(self) -> None:
         """The proof has the same form in a log of 7: a root is worth nothing without the length that is signed with it."""
         for length, holds in ((6, False), (7, True), (8, True), (9, False)):
-            self.assertEqual(verify_inclusion(_id("log 2"), _id("record 5"), 5, length, root_of(8), INCLUSION), holds)
+            self.assertEqual(verify_inclusion(id_of("log 2"), id_of("record 5"), 5, length, root_of(8), INCLUSION), holds)
 
     def test_consistency(self) -> None:
         self.assertTrue(verify_consistency(6, root_of(6), 8, root_of(8), CONSISTENCY))
@@ -89,19 +69,19 @@ class Proofs(unittest.TestCase):
         self._refuses_texts(lambda it: verify_consistency(6, root_of(6), 8, root_of(8), it))
 
     def test_map(self) -> None:
-        self.assertTrue(verify_presence(_id("log 0"), _id("record 6"), MAP_ROOT, PRESENCE))
-        self.assertFalse(verify_presence(_id("log 0"), _id("record 3"), MAP_ROOT, PRESENCE))
-        self.assertFalse(verify_presence(_id("log 1"), _id("record 6"), MAP_ROOT, PRESENCE))
-        self.assertFalse(verify_presence(_id("log 0"), _id("record 6"), MAP_ROOT, _changed(PRESENCE)))
-        self.assertTrue(verify_absence(_id("log 2"), MAP_ROOT, ABSENCE))
-        self.assertFalse(verify_absence(_id("log 0"), MAP_ROOT, PRESENCE))
-        self.assertFalse(verify_absence(_id("log 2"), root_of(8), ABSENCE))
-        self.assertFalse(verify_absence(_id("log 2"), MAP_ROOT, _changed(ABSENCE)))
-        self._refuses_texts(lambda it: verify_presence(_id("log 0"), _id("record 6"), MAP_ROOT, it))
-        self._refuses_texts(lambda it: verify_absence(_id("log 2"), it, ABSENCE))
+        self.assertTrue(verify_presence(id_of("log 0"), id_of("record 6"), MAP_ROOT, PRESENCE))
+        self.assertFalse(verify_presence(id_of("log 0"), id_of("record 3"), MAP_ROOT, PRESENCE))
+        self.assertFalse(verify_presence(id_of("log 1"), id_of("record 6"), MAP_ROOT, PRESENCE))
+        self.assertFalse(verify_presence(id_of("log 0"), id_of("record 6"), MAP_ROOT, _changed(PRESENCE)))
+        self.assertTrue(verify_absence(id_of("log 2"), MAP_ROOT, ABSENCE))
+        self.assertFalse(verify_absence(id_of("log 0"), MAP_ROOT, PRESENCE))
+        self.assertFalse(verify_absence(id_of("log 2"), root_of(8), ABSENCE))
+        self.assertFalse(verify_absence(id_of("log 2"), MAP_ROOT, _changed(ABSENCE)))
+        self._refuses_texts(lambda it: verify_presence(id_of("log 0"), id_of("record 6"), MAP_ROOT, it))
+        self._refuses_texts(lambda it: verify_absence(id_of("log 2"), it, ABSENCE))
 
     def test_numbers_beyond_the_calls(self) -> None:
-        log_id, record_id, root = _id("log 2"), _id("record 5"), root_of(8)
+        log_id, record_id, root = id_of("log 2"), id_of("record 5"), root_of(8)
         self.assertTrue(verify_inclusion(log_id, record_id, 5, 8, root, INCLUSION))
         for place, length in ((5 + 2**64, 8), (5, 8 + 2**64), (5, 8 - 2**64), (5 - 2**64, 8)):
             self.assertRaises(BadArgument, verify_inclusion, log_id, record_id, place, length, root, INCLUSION)
