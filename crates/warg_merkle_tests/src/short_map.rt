@@ -1,4 +1,4 @@
-//! Short proofs and stored maps: roots and proofs that another program computed, and each change of a proof.
+//! Short proofs and stored maps: roots and proofs that another program computed, and lengths of short forms.
 
 use crate::known::hash;
 use sha2::{Digest, Sha256};
@@ -128,58 +128,6 @@ fn proofs_are_the_known_ones(rt: HostRuntime) -> Result<(), Fail> {
 }
 
 #[test]
-fn a_proof_is_of_one_key(rt: HostRuntime) -> Result<(), Fail> {
-    let alloc = rt.alloc();
-    let a = Sha256::digest(b"a");
-    let c = Sha256::digest(b"c");
-    let root = hash(TWO_ROOT)?;
-    let of_a = MapProof::decode(alloc, hex::decode(alloc, OF_A)?.as_slice())?;
-    assert!(rt; verify_presence(&a, b"1", &of_a, &root));
-    assert!(rt; !verify_presence(&c, b"1", &of_a, &root));
-    let of_c = MapProof::decode(alloc, hex::decode(alloc, OF_C)?.as_slice())?;
-    assert!(rt; verify_absence(&c, &of_c, &root));
-    assert!(rt; !verify_absence(&a, &of_c, &root));
-    Ok(())
-}
-
-// Whether a value that stands at the key is shown, and absence is not.
-fn is_present(map: &MapTree, key: &[u8; 32], value: &[u8]) -> Result<bool, AllocError> {
-    let proof = map.proof(key)?;
-    let root = map.root();
-    Ok(verify_presence(key, value, &proof, &root) && !verify_absence(key, &proof, &root))
-}
-
-#[test]
-fn each_key_is_present(rt: HostRuntime) -> Result<(), Fail> {
-    let map = pairs(rt.alloc(), 50)?;
-    assert_eq!(rt; map.len(), 100);
-    for byte in 0..50u8 {
-        assert!(rt; is_present(&map, &key(byte), [byte].as_slice())?);
-    }
-    Ok(())
-}
-
-#[test]
-fn each_neighbour_is_present(rt: HostRuntime) -> Result<(), Fail> {
-    let map = pairs(rt.alloc(), 50)?;
-    for byte in 0..50u8 {
-        assert!(rt; is_present(&map, &neighbour(&key(byte)), [byte, byte].as_slice())?);
-    }
-    Ok(())
-}
-
-#[test]
-fn other_keys_are_absent(rt: HostRuntime) -> Result<(), Fail> {
-    let alloc = rt.alloc();
-    let map = pairs(alloc, 50)?;
-    for byte in 100..110u8 {
-        assert!(rt; lacks(alloc, &map, &key(byte))?);
-        assert!(rt; lacks(alloc, &map, &neighbour(&key(byte)))?);
-    }
-    Ok(())
-}
-
-#[test]
 fn a_new_value_takes_the_place_of_the_old(rt: HostRuntime) -> Result<(), Fail> {
     let alloc = rt.alloc();
     let mut map = pairs(alloc, 3)?;
@@ -191,55 +139,6 @@ fn a_new_value_takes_the_place_of_the_old(rt: HostRuntime) -> Result<(), Fail> {
     assert!(rt; has(alloc, &map, &key(1), b"new")?);
     let _ = map.insert(&key(1), Vec::from_slice(alloc, [1].as_slice())?)?;
     assert_eq!(rt; map.root(), root);
-    Ok(())
-}
-
-// Whether the short form with one bit of that byte turned is refused, or shows nothing.
-fn is_noticed(alloc: Global, short: &[u8], index: usize) -> Result<bool, Fail> {
-    let mut bytes = Vec::from_slice(alloc, short)?;
-    if index >= bytes.len() {
-        return Ok(false);
-    }
-    bytes[index] ^= 1;
-    match MapProof::decode(alloc, bytes.as_slice()) {
-        Ok(proof) => Ok(!verify_presence(&Sha256::digest(b"a"), b"1", &proof, &hash(TWO_ROOT)?)),
-        Err(MapProofError::OutOfMemory) => Ok(false),
-        Err(_) => Ok(true),
-    }
-}
-
-#[test]
-fn each_byte_of_a_proof_counts(rt: HostRuntime) -> Result<(), Fail> {
-    let alloc = rt.alloc();
-    let of_a = hex::decode(alloc, OF_A)?;
-    for index in 0..64 {
-        assert!(rt; is_noticed(alloc, of_a.as_slice(), index)?);
-    }
-    Ok(())
-}
-
-// Whether the short form of two hashes, with these in place of its own, shows that nothing stands at "c".
-fn is_shown(alloc: Global, first: &[u8], second: &[u8]) -> Result<bool, Fail> {
-    let of_c = hex::decode(alloc, OF_C)?;
-    let (bits, _) = of_c.as_slice().split_first_chunk::<32>().ok_or("no bits")?;
-    let mut bytes = Vec::from_slice(alloc, bits.as_slice())?;
-    bytes.extend_from_slice(first)?;
-    bytes.extend_from_slice(second)?;
-    let proof = MapProof::decode(alloc, bytes.as_slice())?;
-    Ok(verify_absence(&Sha256::digest(b"c"), &proof, &hash(TWO_ROOT)?))
-}
-
-#[test]
-fn hashes_of_a_proof_stand_in_order(rt: HostRuntime) -> Result<(), Fail> {
-    let alloc = rt.alloc();
-    let of_c = hex::decode(alloc, OF_C)?;
-    let (_, hashes) = of_c.as_slice().split_first_chunk::<32>().ok_or("no bits")?;
-    let (first, second) = hashes.split_first_chunk::<32>().ok_or("no hash")?;
-    let first = first.as_slice();
-    assert!(rt; is_shown(alloc, first, second)?);
-    assert!(rt; !is_shown(alloc, second, first)?);
-    assert!(rt; !is_shown(alloc, first, first)?);
-    assert!(rt; !is_shown(alloc, second, second)?);
     Ok(())
 }
 
@@ -282,20 +181,6 @@ fn lengths_are_told_to_the_byte(rt: HostRuntime) -> Result<(), Fail> {
     assert_eq!(rt;
         MapProof::decode(alloc, [0xff; 33].as_slice()).err(),
         Some(MapProofError::TooLong)
-    );
-    Ok(())
-}
-
-#[test]
-fn a_root_of_an_empty_subtree_is_left_out(rt: HostRuntime) -> Result<(), Fail> {
-    let alloc = rt.alloc();
-    let mut bits = [0xff; 32];
-    bits[0] = 0x7f;
-    let mut bytes = Vec::from_slice(alloc, bits.as_slice())?;
-    bytes.extend_from_slice(Sha256::digest(b"").as_slice())?;
-    assert_eq!(rt;
-        MapProof::decode(alloc, bytes.as_slice()).err(),
-        Some(MapProofError::EmptySibling)
     );
     Ok(())
 }

@@ -1,16 +1,10 @@
-//! Known leaves, roots and texts of proofs.
+//! Known leaves and texts of proofs.
 
 use std::alloc::{AllocError, Global};
-use std::str::FromStr;
-use std::test::Fail;
-use warg_crypto::hash::{AnyHash, HashAlgorithm};
+use warg_crypto::hash::HashAlgorithm;
 use warg_records::RecordId;
 use warg_registry::{Checkpoint, LogId, LogLeaf, MapLeaf};
 use warg_transparency::{LogTree, MapTree, OfTrees};
-
-/// The proof of the leaf at 5 of a log of 8.
-pub const INCLUSION: &str =
-    "bML0VncumO1gymhI9p9DawMcQnVTNa2WUrNw14Aq7DELD7yQO/3GX1TnDyNdlyNl+BI5/0o0nLbP5Kt1TH2/cg371IIl6nKYXW5cNRhz0vRw+5C8x4IjFkOBx8eooRUN";
 
 /// The proof that a log of 8 leaves goes on from its first 6.
 pub const CONSISTENCY: &str =
@@ -19,10 +13,6 @@ pub const CONSISTENCY: &str =
 /// The proof of the leaf of the log 0 in the map of two logs.
 pub const PRESENCE: &str =
     "//////////////////////////////////////////3A8d/zksmUM6URQFUFx4j90WyBlQhgSMcs1XArvTUtmA==";
-
-/// The proof that the log 2 has no leaf there.
-pub const ABSENCE: &str =
-    "//////////////////////////////////////////kD9Qnw3FPJsRDX8sHizDLkLf83af8CgoV9sRxfkXpx08Dx3/OSyZQzpRFAVQXHiP3RbIGVCGBIxyzVcCu9NS2Y";
 
 /// The id of the log of that number.
 pub fn log_id(number: u8) -> LogId {
@@ -72,9 +62,4 @@ pub fn head(number: u8) -> MapLeaf {
 /// The checkpoint of the first leaves, and of the map of two logs.
 pub fn checkpoint(alloc: Global, count: u8) -> Result<Checkpoint, AllocError> {
     Ok(Checkpoint::of(&log_of(alloc, count)?, &map_of(alloc, 2)?))
-}
-
-/// The hash of the text.
-pub fn hash(text: &str) -> Result<AnyHash, Fail> {
-    Ok(AnyHash::from_str(text)?)
 }

@@ -1,5 +1,5 @@
-//! Tests of `warg_transparency`: roots and proofs that another program computed, all proofs of small logs, and texts that
-//! are no proofs.
+//! Tests of `warg_transparency` for what no row of the conformance suite says: checks under a checkpoint, what a map holds,
+//! JSON of proofs.
 #![tactic(auto)]
 
 #[cfg(test)]
@@ -10,5 +10,3 @@ mod known;
 mod logs;
 #[cfg(test)]
 mod maps;
-#[cfg(test)]
-mod texts;

@@ -1,60 +1,8 @@
-//! Logs of known leaves, and all proofs of small logs.
+//! All proofs of small logs, by themselves and under checkpoints.
 
-use crate::known::{CONSISTENCY, INCLUSION, checkpoint, hash, leaf, log_of};
+use crate::known::{checkpoint, leaf, log_of};
 use std::test::Fail;
 use warg_transparency::{LogProof, LogTree, verify_consistency, verify_inclusion, verify_leaf};
-
-#[test]
-fn roots_are_the_known_ones(rt: HostRuntime) -> Result<(), Fail> {
-    let rows = [
-        (
-            0,
-            "sha256:e3b0c44298fc1c149afbf4c8996fb92427ae41e4649b934ca495991b7852b855",
-        ),
-        (
-            1,
-            "sha256:837941badc1d1090743e551659b557dc5e4b6a8b87d3b9dbd169d2023a5cb0ef",
-        ),
-        (
-            2,
-            "sha256:cccc611023d681e97ae08d0c834e2d52166a5e5f00661c5c3e48ec412b412e82",
-        ),
-        (
-            3,
-            "sha256:777737da11351aa206e10455101832c6ae45cdf12892be59b82756b29c3b75c2",
-        ),
-        (
-            5,
-            "sha256:55dbd0f8d25f3b9a260a2cc1c48008983e972732b921e58962ed64c4cb859fca",
-        ),
-        (
-            8,
-            "sha256:0915e5e33416c991c2ac5d07c3499bbf68952d248c16afdc509217beede803e8",
-        ),
-    ];
-    for (count, root) in rows {
-        let log = log_of(rt.alloc(), count)?;
-        assert_eq!(rt; log.root(), hash(root)?);
-        assert_eq!(rt; log.len(), count as usize);
-        assert_eq!(rt; log.is_empty(), count == 0);
-    }
-    Ok(())
-}
-
-#[test]
-fn proofs_are_the_known_ones(rt: HostRuntime) -> Result<(), Fail> {
-    let log = log_of(rt.alloc(), 8)?;
-    let inclusion = log.inclusion(5)?.ok_or("past the end")?;
-    assert_eq!(rt; inclusion.to_text(rt.alloc())?.as_str(), INCLUSION);
-    let consistency = log.consistency(6)?.ok_or("past the end")?;
-    assert_eq!(rt;
-        format!(in rt.alloc(); "{consistency}")?.as_str(),
-        CONSISTENCY
-    );
-    assert!(rt; log.inclusion(8)?.is_none());
-    assert!(rt; log.consistency(9)?.is_none());
-    Ok(())
-}
 
 // The proof of the leaf at the index, or the one of no hashes past the end.
 fn inclusion(alloc: std::alloc::Global, log: &LogTree, index: u64) -> Result<LogProof, Fail> {
@@ -112,15 +60,8 @@ fn each_log_goes_on_from_its_fronts_alone(rt: HostRuntime) -> Result<(), Fail> {
 }
 
 #[test]
-fn the_length_of_a_proof_is_exact(rt: HostRuntime) -> Result<(), Fail> {
+fn long_proofs_are_refused(rt: HostRuntime) -> Result<(), Fail> {
     let (old, new) = (checkpoint(rt.alloc(), 6)?, checkpoint(rt.alloc(), 8)?);
-    let proof = LogProof::parse(rt.alloc(), CONSISTENCY)?;
-    let hashes = proof.hashes();
-    assert!(rt; verify_consistency(&old, &new, hashes));
-    let (_, later) = hashes.split_first().ok_or("no hashes")?;
-    assert!(rt; !verify_consistency(&old, &new, later));
-    let (_, earlier) = hashes.split_last().ok_or("no hashes")?;
-    assert!(rt; !verify_consistency(&old, &new, earlier));
     let long = [[0u8; 32]; 65];
     assert!(rt; !verify_consistency(&old, &new, long.as_slice()));
     assert!(rt; !verify_inclusion(&leaf(0), 0, u64::MAX, long.as_slice(), &new.log_root));
