@@ -29,8 +29,8 @@
  *   - at WARG_OK, how many bytes were written;
  *   - at WARG_TOO_SMALL, how many there have to be room for; the buffer stays as it was;
  *   - at WARG_NO_ENVELOPE and WARG_REFUSED, the length of the error's text, which stands in the buffer: the error's name, a colon,
- *     a space, and a sentence. At WARG_BAD_ARGUMENT of `warg_resume`, that of the error's name alone. 0 where the buffer or the
- *     memory had no room for it;
+ *     a space, and a sentence. At WARG_BAD_ARGUMENT of `warg_resume`, that of the error's name alone. 0 where the buffer had no room
+ *     for it, or there was no memory for a sentence;
  *   - at any other status 0.
  * What else a call gives (`asked`, `kept`, `release`, `is_imported`) is written at WARG_OK and at WARG_TOO_SMALL. */
 #ifndef WARG_H
@@ -160,7 +160,8 @@ uint32_t warg_ask(struct warg_log *log, const uint8_t *envelope, size_t envelope
 
 /* Appends the record of an envelope, by the caller's word for its signature. `question` and `asked` are what `warg_ask` gave for it, and
  * `belongs` says whether the signature belongs to the message under the key.
- *   WARG_OK: the record is the log's last one now. Where the caller's yeses were right, each record of the log is lawful.
+ *   WARG_OK: the record is the log's last one now. Where the caller's yeses were right, a log that was opened has at any time just the
+ *     records that were taken, in order, each lawful after those before it, and a resumed one goes on by just these.
  *   WARG_NO_ENVELOPE: as of `warg_ask`. The error's text is in `text`.
  *   WARG_REFUSED: the record is unlawful after those of the log; the error's text is in `text`. So is every record whose `belongs` is
  *     false, and one whose question is not the one that is passed (also where another record was appended in between, if that changes
@@ -262,8 +263,8 @@ uint32_t warg_save(struct warg_log *log, uint8_t *text, size_t text_len, size_t 
 /* Goes on from a saved state of one of `enum warg_kind`. A log that was open is closed first. Of a resumed log nothing is known of its
  * records, those that are appended to it included: `warg_length`, `warg_record`, `warg_chain` and `warg_compare` are not for it. All else is as if its
  * records were there. Whether the text is what was saved is the caller's to keep.
- *   WARG_BAD_ARGUMENT: no such kind (`used` is 0), or the text is no saved state of this kind: the error's
- *     name is in `text`. The log is as it was. */
+ *   WARG_BAD_ARGUMENT: no such kind (`used` is 0), or the text is no saved state of this kind: the error's name is in `text`, one of
+ *     NotJson, WrongType, Missing, BadText, TimeBeforeEpoch, TimeOutOfRange, Incoherent. The log is as it was. */
 uint32_t warg_resume(struct warg_log *log, uint32_t kind, const uint8_t *saved, size_t saved_len, uint8_t *text,
                      size_t text_len, size_t *used);
 

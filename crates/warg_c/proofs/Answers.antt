@@ -1,6 +1,6 @@
 -- The caller's word for a question.
-use Rattle.std.proofs.Common.{◌≡◌, ◌≤◌, ℕ, List, Bool, true, Option, Some, Result, Ok, Err, sym, ◌∙◌, subst}
-use Rattle.std.specs.Prelude.{OnOk, IfErr}
+use Rattle.std.proofs.Common.{◌≡◌, ◌≤◌, ℕ, List, Bool, Option, Some, Result, Ok, Err, sym, ◌∙◌, ap, subst}
+use Rattle.std.specs.Prelude.{OnOk, OnErr, IfErr}
 use Rattle.warg_validator.specs.Kinds.{SignatureRelation}
 use Rattle.warg_host.specs.Telling.{Holds}
 use Rattle.warg_host.specs.declared.told.Told.{Told}
@@ -11,8 +11,9 @@ use Rattle.warg_c.specs.declared.held.Held.TheVariants.{Package, Operator}
 use Rattle.warg_c.specs.declared.question.Asked.{Asked}
 use Rattle.warg_c.specs.Held.{append_does, append_fails, append_moves, append_refuses}
 use Rattle.warg_c.specs.Questions.{Says, HoldsOf}
+use Rattle.warg_c.specs.Runs.{Call, IsCall}
 use Rattle.warg_c.specs.Statuses.{status_of, Answers}
-use Rattle.warg_c.proofs.Codes.{answered}
+use Rattle.warg_c.proofs.Codes.{answered, no-zero}
 
 pub holds-told : (b : SignatureRelation) (belongs : Bool) (n : Asked) (question : List ℕ) (t : Told) → Says n question t.question → t.belongs ≡ belongs → HoldsOf b belongs n question → Holds b t
 holds-told b belongs n question t says same holds = λ yes. holds (sym same ∙ yes) t.question says
@@ -53,3 +54,15 @@ pub append-answers : (before after : Option Held) (old new : Held) → Some old 
 append-answers before after old new was is r status e small belongs n question envelope used out does fails =
     subst (λ o. Answers status o (λ held. (b : SignatureRelation) → HoldsOf b belongs n question → append_moves b envelope held after) (λ held. append_fails held belongs n question envelope used out)) was
     (answered ((b : SignatureRelation) → HoldsOf b belongs n question → append_moves b envelope old after) (λ f. append_fails old belongs n question envelope used out f) r status e small (does-moves belongs n question envelope old after new is r does) fails)
+
+-- the same as a call in a run
+pub append-call : (before after : Option Held) (old new : Held) → Some old ≡ before → after ≡ Some new → (r : Result Unit Failure) (c : Call) → c.status ≡ status_of r
+    → OnOk r ((b : SignatureRelation) → HoldsOf b c.belongs c.asked c.question → append_does b c.envelope old new) → OnErr r (new ≡ old) → IsCall c before after
+append-call before after old new was is (Ok u) c e does stays = record {
+  appended = λ h. (old, sym was, λ b holds. moves b c.envelope old after new is (does b holds));
+  unchanged = λ h. absurd (h e);
+}
+append-call before after old new was is (Err f) c e does stays = record {
+  appended = λ h. absurd (no-zero f (sym e ∙ h));
+  unchanged = λ h. is ∙ ap (λ o. Some o) stays ∙ was;
+}

@@ -1,5 +1,5 @@
 -- A status tells its outcome.
-use Rattle.std.proofs.Common.{◌≡◌, ◌≤◌, ℕ, ◌==◌, true, false, Result, Ok, Err, refl, sym, ap, ◌∙◌, subst}
+use Rattle.std.proofs.Common.{◌≡◌, ◌≤◌, ℕ, ◌==◌, false, Result, Ok, Err, refl, sym, ap, ◌∙◌, subst}
 use Rattle.std.specs.Prelude.{OnOk, IfErr, if◌then◌else◌}
 use Rattle.std.proofs.lemmas.Bool.{false≢true}
 use Rattle.warg_c.specs.declared.failure.Failure.{Failure}
@@ -29,7 +29,7 @@ is-no-zero Refused = refl
 is-no-zero Absent = refl
 is-no-zero BadArgument = refl
 
-no-zero : (f : Failure) → code_of f ≡ 0 → ⊥
+pub no-zero : (f : Failure) → code_of f ≡ 0 → ⊥
 no-zero f h = false≢true (sym (is-no-zero f) ∙ ap (λ n. n == 0) h)
 
 pub answered : (P : Type 0) (Q : Failure → Type 0) (r : Result Unit Failure) (n : ℕ) → n ≡ status_of r → n ≤ 7 → OnOk r P → IfErr r Q → Answered n P Q

@@ -7,7 +7,7 @@ use Rattle.std.proofs.Math.Seq.{take-append_seam, drop-append_seam, take-length}
 use Rattle.warg_crypto.specs.Keys.{public_key_of, signature_of}
 use Rattle.warg_crypto.specs.NamedBytes.{tag_text}
 use Rattle.warg_host.specs.declared.question.Question.{Question}
-use Rattle.warg_c.specs.Questions.{Says, Spells, lengths_of, question_text}
+use Rattle.warg_c.specs.Questions.{Says, Spells, lengths_of}
 use Rattle.warg_c.specs.declared.question.Asked.{Asked}
 
 module _ (k m s : List ℕ) where

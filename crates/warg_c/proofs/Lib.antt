@@ -7,4 +7,5 @@ pub mod Answers
 pub mod Cuts
 pub mod Places
 pub mod Appending
+pub mod RunLemmas
 pub mod ProofOutcomes

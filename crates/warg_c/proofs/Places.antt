@@ -1,5 +1,5 @@
 -- The item at a place of an iterator of a list.
-use Rattle.std.proofs.Common.{◌≡◌, ◌≤◌, ℕ, List, [], length, Option, Some, None, refl, sym, ◌∙◌, subst}
+use Rattle.std.proofs.Common.{◌≡◌, ◌≤◌, ℕ, List, Option, Some, None, refl, subst}
 use Rattle.std.specs.Iterator.{SkipsThenYields}
 use Rattle.std.specs.List.{slice_get}
 use Rattle.std.specs.Map.Iter.{TakesFirst}

@@ -1,5 +1,5 @@
 -- Why nothing is proved.
-use Rattle.std.proofs.Common.{◌≡◌, inl, inr, sym, subst}
+use Rattle.std.proofs.Common.{inl, inr, sym, subst}
 use Rattle.warg_c.specs.Proofs.{ProofFails}
 use Rattle.warg_c.specs.Texts.{FailsAs}
 use Rattle.warg_c.specs.declared.failure.Failure.{Failure}

@@ -1,5 +1,5 @@
 -- What a refusal tells.
-use Rattle.std.proofs.Common.{◌≡◌, ◌<◌, ℕ, List, length, take, Option, Some, None, Result, Ok, Err, Bool, true, refl, sym, ap, ◌∙◌, subst}
+use Rattle.std.proofs.Common.{◌≡◌, ◌<◌, ℕ, List, length, take, Option, Some, None, Result, Ok, Err, refl, sym, ap, ◌∙◌, subst}
 use Rattle.std.specs.Prelude.{OnOk, IfErr}
 use Rattle.std.specs.Option.{option_map}
 use Rattle.warg_envelope.specs.EnvelopeData.{EnvelopeData}
@@ -15,7 +15,7 @@ use Rattle.warg_c.specs.declared.failure.Failure.{Failure}
 use Rattle.warg_c.specs.declared.failure.Failure.TheVariants.{TooSmall}
 use Rattle.warg_c.specs.declared.question.Asked.{Asked}
 use Rattle.warg_c.specs.Ids.{IdFails}
-use Rattle.warg_c.specs.Logs.{IsAsked, IsWhy, IsWhyBy, IsTold, AskFails, Refuses}
+use Rattle.warg_c.specs.Logs.{IsAsked, IsWhy, IsWhyBy, AskFails, Refuses}
 use Rattle.warg_c.specs.Questions.{Spells}
 use Rattle.warg_c.specs.Texts.{IsErrorText, failure_by}
 

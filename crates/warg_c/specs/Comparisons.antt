@@ -10,7 +10,6 @@ use Rattle.warg_package_log.specs.State as packages
 use Rattle.warg_package_log.specs.StateLaws as package_laws
 use Rattle.warg_validator.specs.Kinds.{Kind}
 use Rattle.warg_c.specs.declared.exports.comparing.Comparison.{Comparison}
-use Rattle.warg_c.specs.declared.failure.Failure.{Failure}
 use Rattle.warg_c.specs.declared.held.Held.{Held}
 use Rattle.warg_c.specs.declared.held.Held.TheVariants.{Package, Operator}
 use Rattle.warg_c.specs.Logs.{whole_of}

@@ -18,8 +18,6 @@ use Rattle.warg_validator.specs.Strings.{Cause, Unread}
 use Rattle.warg_validator.specs.declared.replay.RunCause.{RunCause}
 use Rattle.warg_c.specs.declared.failure.Failure.{Failure}
 use Rattle.warg_c.specs.declared.failure.Failure.TheVariants.{NotOpen, OutOfMemory, TooSmall, NoEnvelope, Refused, Absent, BadArgument}
-use Rattle.warg_c.specs.declared.held.Kind.TheVariants as kinds
-use Rattle.warg_c.specs.Held.{IsNoKind, kind_numbered}
 use Rattle.warg_c.specs.Logs.{IsTold}
 use Rattle.warg_c.specs.Lookups.{IdText}
 use Rattle.warg_c.specs.Texts.{NeedsRoom}

@@ -4,6 +4,7 @@ pub mod Texts
 pub mod Questions
 pub mod Logs
 pub mod Held
+pub mod Runs
 pub mod Lookups
 pub mod Releases
 pub mod Namespaces

@@ -1,5 +1,5 @@
 -- Releases as bytes, and which of them are looked up.
-use Rattle.std.specs.Prelude.{◌≡◌, ℕ, List, ◌++◌, length, map, pos, Option, Some, None, Result, Ok}
+use Rattle.std.specs.Prelude.{◌≡◌, ℕ, List, ◌++◌, length, map, pos, Option, Some, None, Ok}
 use Rattle.std.specs.List.{slice_get}
 use Rattle.std.specs.Str.{IsUtf8}
 use Rattle.semver.specs.Identifiers.{comparator_view, parts_text}

@@ -1,21 +1,26 @@
 -- Saved states.
-use Rattle.std.specs.Prelude.{◌≡◌, ◌⊎◌, ℕ, List, Result, Ok, Err}
+use Rattle.std.specs.Prelude.{◌≡◌, ◌⊎◌, ℕ, List, Result, Ok, Err, codes}
 use Rattle.std.specs.Str.{IsUtf8}
+use Rattle.warg_crypto.specs.Json.{AreReadBack}
 use Rattle.warg_crypto.specs.declared.json.error.JsonError.{JsonError}
+use Rattle.warg_crypto.specs.declared.json.error.JsonError.TheVariants as value
+use Rattle.warg_operator_log.specs.SavedBack as operators_back
 use Rattle.warg_operator_log.specs.SavedState as operators
+use Rattle.warg_package_log.specs.SavedBack as packages_back
 use Rattle.warg_package_log.specs.SavedState as packages
-use Rattle.warg_saved.specs.JsonText.{in_text}
+use Rattle.warg_saved.specs.JsonText.{in_text, TextReadsBack}
 use Rattle.warg_saved.specs.Texts.{text_of}
 use Rattle.warg_saved.specs.declared.error.JsonTextError.{JsonTextError}
+use Rattle.warg_saved.specs.declared.error.JsonTextError.TheVariants as json
 use Rattle.warg_c.specs.declared.failure.Failure.{Failure}
 use Rattle.warg_c.specs.declared.held.Held.{Held}
 use Rattle.warg_c.specs.declared.held.Held.TheVariants.{Package, Operator}
 use Rattle.warg_c.specs.declared.held.Kind.{Kind}
 use Rattle.warg_c.specs.declared.held.Kind.TheVariants as kinds
 use Rattle.warg_c.specs.declared.kept_log.KeptLog.TheVariants.{Whole, Resumed}
-use Rattle.warg_c.specs.Held.{IsNoKind, IsOfKind, IsOfNumber, kind_numbered}
+use Rattle.warg_c.specs.Held.{IsNoKind, IsOfNumber, kind_numbered}
 use Rattle.warg_c.specs.Logs.{state_of}
-use Rattle.warg_c.specs.Texts.{FailsAs}
+use Rattle.warg_c.specs.Texts.{FailsAs, IsNameText}
 
 -- the state's JSON as a text, or why it has none
 abbrev pub saved_text : Held → Result (List ℕ) JsonError
@@ -33,6 +38,11 @@ abbrev pub IsWritten : {V : Type 0} → (V → List ℕ) → Result (List ℕ) J
 IsWritten items want (Ok v) = want ≡ Ok (items v)
 IsWritten items want (Err f) = FailsAs ((e : JsonError) × (want ≡ Err e)) ⊥ f
 
+-- the text is read as an equal state; of a package log where the texts of its versions read back, as those of every accepted log do
+abbrev pub reads_back : Held → List ℕ → Type 0
+reads_back (Package log) text = AreReadBack (packages_back.saved_versions (state_of log)) → TextReadsBack packages.state_in packages_back.AreEqual (state_of log) text
+reads_back (Operator log) text = TextReadsBack operators.state_in operators_back.AreEqual (state_of log) text
+
 -- the log goes on from the state that the text says
 abbrev pub resumes : List ℕ → Held → Type 0
 resumes text (Package (Whole log)) = ⊥
@@ -48,6 +58,27 @@ abbrev pub SaysNoState : Kind → List ℕ → JsonTextError → Type 0
 SaysNoState kinds.Package text e = in_text packages.state_in text ≡ Err e
 SaysNoState kinds.Operator text e = in_text operators.state_in text ≡ Err e
 
--- the number names no kind, or the text is no state of it
-abbrev pub is_no_saved : ℕ → List ℕ → Type 0
-is_no_saved n text = IsNoKind n ⊎ ((kind : Kind) × (kind_numbered n ≡ Ok kind) × (IsUtf8 text → (e : JsonTextError) × SaysNoState kind text e))
+-- the same of any bytes: those that are no UTF-8 are no JSON
+pub record IsSavedFault (kind : Kind) (bytes : List ℕ) (e : JsonTextError) : Type 0 where
+  pub of_text : IsUtf8 bytes → SaysNoState kind bytes e
+  pub of_others : (IsUtf8 bytes → ⊥) → e ≡ json.NotJson
+
+-- the name of why JSON says no state
+abbrev pub value_name : JsonError → List ℕ
+value_name value.WrongType = codes "WrongType"
+value_name value.Missing = codes "Missing"
+value_name value.BadText = codes "BadText"
+value_name value.TimeBeforeEpoch = codes "TimeBeforeEpoch"
+value_name value.TimeOutOfRange = codes "TimeOutOfRange"
+value_name (value.Incoherent why) = codes "Incoherent"
+value_name value.OutOfMemory = codes "OutOfMemory"
+
+-- the name of why a text says none
+abbrev pub fault_name : JsonTextError → List ℕ
+fault_name json.NotJson = codes "NotJson"
+fault_name (json.Value e) = value_name e
+fault_name json.OutOfMemory = codes "OutOfMemory"
+
+-- the number names no kind; or the bytes say no state of it, and the fault's name is told
+abbrev pub is_no_saved : ℕ → List ℕ → ℕ → List ℕ → Type 0
+is_no_saved n bytes used out = (IsNoKind n × (used ≡ 0)) ⊎ ((kind : Kind) × (e : JsonTextError) × (kind_numbered n ≡ Ok kind) × IsSavedFault kind bytes e × IsNameText (fault_name e) used out)

@@ -10,9 +10,18 @@ abbrev pub IsWithin : {T A : Type 0} → Result T Failure → ℕ → List A →
 IsWithin (Ok _) used out = used ≤ length out
 IsWithin (Err f) used out = f ≢ TooSmall → used ≤ length out
 
+-- nothing is used, unless an error's text is given
+abbrev pub IsQuiet : {T : Type 0} → Result T Failure → ℕ → Type 0
+IsQuiet (Ok _) used = used ≡ 0
+IsQuiet (Err f) used = f ≢ NoEnvelope → f ≢ Refused → used ≡ 0
+
 -- no text, or the name, a colon, a space and a sentence
 abbrev pub IsErrorText : List ℕ → ℕ → List ℕ → Type 0
 IsErrorText name used out = (used ≡ 0) ⊎ ((sentence : List ℕ) × (take used out ≡ name ++ 58 ∷ 32 ∷ sentence))
+
+-- no text, or the name alone
+abbrev pub IsNameText : List ℕ → ℕ → List ℕ → Type 0
+IsNameText name used out = (used ≡ 0) ⊎ (take used out ≡ name)
 
 -- what kind of failure a cause is; none is named where memory ran out
 abbrev pub failure_by : {F Offence : Type 0} → Option (Cause F Offence) → Failure

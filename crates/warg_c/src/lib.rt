@@ -9,6 +9,7 @@ mod given;
 mod handle;
 mod held;
 mod kept_log;
+pub mod laws;
 mod owned;
 mod parts;
 mod proof_text;

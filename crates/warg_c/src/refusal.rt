@@ -4,7 +4,7 @@ ghost use Rattle.warg_envelope.specs.Envelopes.{envelope_fault_of};
 ghost use Rattle.warg_validator.specs.Messages.{cause_name};
 ghost use Rattle.warg_validator.specs.Outcomes.{told};
 ghost use Rattle.warg_c.specs.Texts.{IsErrorText, failure_by};
-ghost use Rattle.warg_c.specs.declared.failure.Failure.TheVariants.{TooSmall};
+ghost use Rattle.warg_c.specs.declared.failure.Failure.TheVariants.{NoEnvelope, OutOfMemory, Refused, TooSmall};
 
 use crate::failure::Failure;
 use crate::given::give;
@@ -18,6 +18,7 @@ fn failure_of<L: Validator>(cause: &RunCause<L::Error>) -> Failure
     ensures failure { result ≡ failure_by (told (envelope_fault_of L.Record.fault_of)
         L.offence_of cause.now) }
     ensures other { result ≢ TooSmall }
+    ensures kinds { (result ≡ OutOfMemory) ⊎ ((result ≡ NoEnvelope) ⊎ (result ≡ Refused)) }
 {
     match cause {
         RunCause::Parse(ParseEnvelopeError::OutOfMemory) => Failure::OutOfMemory,
@@ -81,6 +82,7 @@ where
         L.offence_of cause.now) }
     ensures other { result ≢ TooSmall }
     ensures text { IsErrorText (cause_name L.Error.name_of cause.now) used.new text.new }
+    ensures quiet { result ≢ NoEnvelope → result ≢ Refused → used.new ≡ 0 }
     ensures length { length text.new ≡ length text.old }
     ensures within { used.new ≤ length text.new }
 {

@@ -4,9 +4,10 @@ ghost use Rattle.warg_host.specs.Telling.{Holds};
 ghost use Rattle.warg_validator.specs.Kinds.{SignatureRelation};
 ghost use Rattle.warg_c.specs.Held.{ask_tells, ask_fails, append_does, append_moves, append_fails, append_refuses};
 ghost use Rattle.warg_c.specs.Questions.{HoldsOf};
+ghost use Rattle.warg_c.specs.Runs.{IsCall};
 ghost use Rattle.warg_c.specs.Statuses.{Answers};
-ghost use Rattle.warg_c.specs.Texts.{IsWithin};
-ghost use Rattle.warg_c.specs.declared.failure.Failure.TheVariants.{TooSmall};
+ghost use Rattle.warg_c.specs.Texts.{IsQuiet, IsWithin};
+ghost use Rattle.warg_c.specs.declared.failure.Failure.TheVariants.{NoEnvelope, Refused, TooSmall};
 
 use crate::asking::{append_log, ask_log};
 use crate::failure::{Failure, status};
@@ -30,6 +31,8 @@ fn ask_held(
         bytes.old used.new bytes.new) }
     ensures buffer { IfErr result (λ f. f ≡ TooSmall → bytes.new ≡ bytes.old) }
     ensures within { used.old ≡ 0 → IsWithin result used.new bytes.new }
+    ensures quiet { used.old ≡ 0 → IfErr result (λ f. f ≢ TooSmall → f ≢ NoEnvelope →
+        f ≢ Refused → used.new ≡ 0) }
 {
     match held {
         Held::Package(log) => ask_log(alloc, log, envelope, bytes, used, asked),
@@ -52,6 +55,7 @@ pub extern "C" fn warg_ask(
         (λ held. ask_fails held envelope.now asked.new bytes.old used.new bytes.new) }
     ensures unchanged { log.new.owned.kept ≡ log.old.owned.kept }
     ensures buffer { result ≡ 3 → bytes.new ≡ bytes.old }
+    ensures used { result ≢ 0 → result ≢ 3 → result ≢ 4 → result ≢ 5 → used.new ≡ 0 }
     ensures within { result ≢ 3 → used.new ≤ length bytes.new }
 {
     *used = 0;
@@ -77,6 +81,7 @@ fn append_held(
         envelope.now used.new text.new) }
     ensures unchanged { OnErr result (held.new ≡ held.old) }
     ensures within { used.old ≡ 0 → used.new ≤ length text.new }
+    ensures quiet { used.old ≡ 0 → IsQuiet result used.new }
 {
     match held {
         Held::Package(log) => append_log(alloc, log, envelope, answer, text, used),
@@ -102,6 +107,7 @@ fn append_told(
         envelope.now used.new text.new) }
     ensures unchanged { OnErr result (held.new ≡ held.old) }
     ensures within { used.old ≡ 0 → used.new ≤ length text.new }
+    ensures quiet { used.old ≡ 0 → IsQuiet result used.new }
 {
     let answer = told(alloc, question, asked, belongs)?;
     append_held(alloc, held, envelope, &answer, text, used)
@@ -125,7 +131,17 @@ pub extern "C" fn warg_append(
         append_moves b envelope.now held log.new.owned.kept)
         (λ held. append_fails held belongs asked.now question.now envelope.now used.new text.new) }
     ensures unchanged { result ≢ 0 → log.new.owned.kept ≡ log.old.owned.kept }
+    ensures used { result ≢ 4 → result ≢ 5 → used.new ≡ 0 }
     ensures within { used.new ≤ length text.new }
+
+    // As `laws::runs` takes it, among other such calls.
+    ensures call { IsCall (record {
+      envelope = envelope.now;
+      question = question.now;
+      asked = asked.now;
+      belongs = belongs;
+      status = result;
+    }) log.old.owned.kept log.new.owned.kept }
 {
     *used = 0;
     let Some(mut held) = log.take(alloc) else {

@@ -6,7 +6,7 @@ ghost use Rattle.warg_validator.specs.Outcomes.{told};
 ghost use Rattle.warg_c.specs.Ids.{IsIdOf, IdFails, id_tells, id_fails};
 ghost use Rattle.warg_c.specs.Statuses.{Answered};
 ghost use Rattle.warg_c.specs.Texts.{IsWithin};
-ghost use Rattle.warg_c.specs.declared.failure.Failure.TheVariants.{TooSmall};
+ghost use Rattle.warg_c.specs.declared.failure.Failure.TheVariants.{NoEnvelope, Refused, TooSmall};
 
 use crate::exports::records::id_text;
 use crate::failure::{Failure, status};
@@ -36,6 +36,8 @@ where
         envelope.now text.old used.new text.new) }
     ensures buffer { IfErr result (λ f. f ≡ TooSmall → text.new ≡ text.old) }
     ensures within { used.old ≡ 0 → IsWithin result used.new text.new }
+    ensures quiet { used.old ≡ 0 → IfErr result (λ f. f ≢ TooSmall → f ≢ NoEnvelope →
+        f ≢ Refused → used.new ≡ 0) }
 {
     let envelope = match ProtoEnvelope::<L::Record>::from_protobuf(alloc, envelope) {
         Ok(envelope) => envelope,
@@ -59,6 +61,8 @@ fn id_of(
     ensures err { IfErr result (id_fails kind envelope.now text.old used.new text.new) }
     ensures buffer { IfErr result (λ f. f ≡ TooSmall → text.new ≡ text.old) }
     ensures within { used.old ≡ 0 → IsWithin result used.new text.new }
+    ensures quiet { used.old ≡ 0 → IfErr result (λ f. f ≢ TooSmall → f ≢ NoEnvelope →
+        f ≢ Refused → used.new ≡ 0) }
 {
     match Kind::numbered(kind)? {
         Kind::Package => id_in::<PackageState>(alloc, envelope, text, used),
@@ -78,6 +82,7 @@ pub extern "C" fn warg_id(
     ensures answer { Answered result (id_tells kind envelope.now (take used.new text.new))
         (id_fails kind envelope.now text.old used.new text.new) }
     ensures buffer { result ≡ 3 → text.new ≡ text.old }
+    ensures used { result ≢ 0 → result ≢ 3 → result ≢ 4 → result ≢ 5 → used.new ≡ 0 }
     ensures within { result ≢ 3 → used.new ≤ length text.new }
 {
     *used = 0;

@@ -1,14 +1,15 @@
 //! Saving a state, and going on from one.
-ghost use Rattle.std.specs.Prelude.{◌≡◌, ◌≢◌, ◌≤◌, ◌⊎◌, ℕ, List, Result, Ok, Err, IfOk, IfErr, IsSomeAnd, string_bytes, length, take};
+ghost use Rattle.std.specs.Prelude.{◌≡◌, ◌≢◌, ◌≤◌, ◌⊎◌, Err, IfOk, IfErr, IsSomeAnd, length, take};
 ghost use Rattle.std.specs.Str.{IsUtf8};
-ghost use Rattle.warg_crypto.specs.Json.{ReturnsOrNoMemory};
-ghost use Rattle.warg_crypto.specs.declared.json.error.JsonError.{JsonError};
+ghost use Rattle.warg_crypto.specs.Json.{AreReadBack};
+ghost use Rattle.warg_saved.specs.JsonText.{TextReadsBack};
+ghost use Rattle.warg_saved.specs.Texts.{text_of};
 ghost use Rattle.warg_saved.specs.declared.error.JsonTextError.TheVariants as json;
 ghost use Rattle.warg_c.specs.declared.failure.Failure.TheVariants.{OutOfMemory, BadArgument};
 ghost use Rattle.warg_c.specs.Held.{IsNoKind, IsOfKind};
-ghost use Rattle.warg_c.specs.Saved.{IsWritten, SaysNoState, save_tells, save_lacks, saved_text, resumes, resumes_number, is_no_saved};
+ghost use Rattle.warg_c.specs.Saved.{IsWritten, SaysNoState, fault_name, value_name, reads_back, save_tells, save_lacks, saved_text, resumes, resumes_number, is_no_saved};
 ghost use Rattle.warg_c.specs.Statuses.{Answered, Answers};
-ghost use Rattle.warg_c.specs.Texts.{CallFails, FailsAs, TextFails};
+ghost use Rattle.warg_c.specs.Texts.{CallFails, FailsAs, IsNameText, TextFails};
 
 use crate::failure::{Failure, status};
 use crate::given::finish;
@@ -18,29 +19,34 @@ use crate::kept_log::KeptLog;
 use crate::refusal::give_if_room;
 use std::alloc::Global;
 use warg_crypto::JsonError;
+use warg_log::PersistentState;
 use warg_operator_log::LogState as OperatorState;
 use warg_package_log::LogState as PackageState;
 use warg_saved::JsonTextError;
 
-// What became of writing a text.
-fn written(outcome: Result<String, JsonError>) -> Result<Vec<u8>, Failure>
-    ensures { (want : Result (List ℕ) JsonError) → ReturnsOrNoMemory string_bytes outcome want →
-        IsWritten (λ v. v.items) want result }
+// A state as a text of JSON.
+fn state_text<L: PersistentState>(alloc: Global, state: &L) -> Result<Vec<u8>, Failure>
+    ensures written { IsWritten (λ v. v.items)
+        (text_of (L.JsonValue.writes (L.JsonValue.plain state.now))) result }
+    ensures back { AreReadBack (L.JsonValue.versions (L.JsonValue.plain state.now)) →
+        IfOk result (λ v. TextReadsBack L.JsonValue.reads L.JsonValue.equivalent
+        (L.JsonValue.plain state.now) v.items) }
 {
-    match outcome {
+    match state.to_json(alloc) {
         Ok(text) => Ok(text.into_bytes()),
         Err(JsonError::OutOfMemory) => Err(Failure::OutOfMemory),
         Err(_) => Err(Failure::Absent),
     }
 }
 
-// The state as a text of JSON.
+// The state of a log as a text of JSON.
 fn saved_text(alloc: Global, held: &Held) -> Result<Vec<u8>, Failure>
-    ensures { IsWritten (λ v. v.items) (saved_text held.now) result }
+    ensures written { IsWritten (λ v. v.items) (saved_text held.now) result }
+    ensures back { IfOk result (λ v. reads_back held.now v.items) }
 {
     match held {
-        Held::Package(log) => written(log.state().to_json(alloc)),
-        Held::Operator(log) => written(log.state().to_json(alloc)),
+        Held::Package(log) => state_text(alloc, log.state()),
+        Held::Operator(log) => state_text(alloc, log.state()),
     }
 }
 
@@ -56,6 +62,8 @@ pub extern "C" fn warg_save(
         (λ held. save_tells held (take used.new text.new))
         (λ held. TextFails (save_tells held) (save_lacks held) ⊥ used.new text.old) }
     ensures unchanged { log.new.owned.kept ≡ log.old.owned.kept }
+    ensures back { result ≡ 0 →
+        IsSomeAnd log.old.owned.kept (λ held. reads_back held (take used.new text.new)) }
     ensures buffer { result ≢ 0 → text.new ≡ text.old }
     ensures used { result ≢ 0 → result ≢ 3 → used.new ≡ 0 }
     ensures within { result ≢ 3 → used.new ≤ length text.new }
@@ -69,18 +77,42 @@ pub extern "C" fn warg_save(
     finish(outcome, text, used)
 }
 
-// Says why a text is no saved state, where there is memory and room for it.
-fn refuse_saved(alloc: Global, error: JsonTextError, text: &mut [u8], used: &mut usize) -> Failure
-    ensures failure { (result ≡ OutOfMemory) ⊎
-        ((result ≡ BadArgument) × (error ≢ json.OutOfMemory)) }
+fn value_name(fault: JsonError) -> &'static str
+    ensures { result.now ≡ value_name fault }
+{
+    match fault {
+        JsonError::WrongType => "WrongType",
+        JsonError::Missing => "Missing",
+        JsonError::BadText => "BadText",
+        JsonError::TimeBeforeEpoch => "TimeBeforeEpoch",
+        JsonError::TimeOutOfRange => "TimeOutOfRange",
+        JsonError::Incoherent(_) => "Incoherent",
+        JsonError::OutOfMemory => "OutOfMemory",
+    }
+}
+
+// The name of what is wrong with a saved text.
+fn fault_name(fault: JsonTextError) -> &'static str
+    ensures { result.now ≡ fault_name fault }
+{
+    match fault {
+        JsonTextError::NotJson => "NotJson",
+        JsonTextError::Value(fault) => value_name(fault),
+        JsonTextError::OutOfMemory => "OutOfMemory",
+    }
+}
+
+// Says why a text is no saved state, where there is room for it.
+fn refuse_saved(error: JsonTextError, text: &mut [u8], used: &mut usize) -> Failure
+    ensures failure { (result ≡ OutOfMemory) ⊎ ((result ≡ BadArgument) ×
+        (error ≢ json.OutOfMemory) × IsNameText (fault_name error) used.new text.new) }
     ensures within { used.old ≡ 0 → used.new ≤ length text.new }
+    ensures quiet { used.old ≡ 0 → result ≢ BadArgument → used.new ≡ 0 }
 {
     if let JsonTextError::OutOfMemory | JsonTextError::Value(JsonError::OutOfMemory) = error {
         return Failure::OutOfMemory;
     }
-    if let Ok(told) = error.to_string(alloc) {
-        give_if_room(told.as_str(), text, used);
-    }
+    give_if_room(fault_name(error), text, used);
     Failure::BadArgument
 }
 
@@ -109,19 +141,21 @@ fn resumed(
     used: &mut usize,
 ) -> Result<Box<Held>, Failure>
     ensures ok { IfOk result (λ b. resumes_number kind saved.now b.value) }
-    ensures err { IfErr result (FailsAs ⊥ (is_no_saved kind saved.now)) }
-    ensures within { used.old ≡ 0 → used.new ≤ length text.new }
+    ensures err { IfErr result (FailsAs ⊥ (is_no_saved kind saved.now used.new text.new)) }
+    ensures within { used.new ≤ length text.new }
+    ensures quiet { (used.new ≡ 0) ⊎ (result ≡ Err BadArgument) }
 {
+    *used = 0;
     let kind = Kind::numbered(kind)?;
     let Ok(saved) = str::from_utf8(saved) else {
-        return Err(refuse_saved(alloc, JsonTextError::NotJson, text, used));
+        return Err(refuse_saved(JsonTextError::NotJson, text, used));
     };
     match read_saved(alloc, kind, saved) {
         Ok(held) => match held.boxed(alloc) {
             Ok(held) => Ok(held),
             Err(_) => Err(Failure::OutOfMemory),
         },
-        Err(error) => Err(refuse_saved(alloc, error, text, used)),
+        Err(error) => Err(refuse_saved(error, text, used)),
     }
 }
 
@@ -136,11 +170,11 @@ pub extern "C" fn warg_resume(
     used: &mut usize,
 ) -> u32
     ensures answer { Answered result (IsSomeAnd log.new.owned.kept (resumes_number kind saved.now))
-        (CallFails ⊥ (is_no_saved kind saved.now)) }
+        (CallFails ⊥ (is_no_saved kind saved.now used.new text.new)) }
     ensures unchanged { result ≢ 0 → log.new.owned.kept ≡ log.old.owned.kept }
+    ensures used { result ≢ 7 → used.new ≡ 0 }
     ensures within { used.new ≤ length text.new }
 {
-    *used = 0;
     match resumed(alloc, kind, saved, text, used) {
         Ok(held) => {
             log.put(held);

@@ -1,4 +1,4 @@
-use Rattle.std.proofs.Common.{◌≡◌, inl, inr}
+use Rattle.std.proofs.Common.{inl, inr}
 use Rattle.std.proofs.lemmas.Result.{err_from_is_err_and}
 use Rattle.warg_c.proofs.ProofOutcomes.{text_fails}
 use Rattle.warg_c.proofs.exports.proofs.consistency.Goals as goal

@@ -10,11 +10,10 @@ use denote.RawPtr.{block_ptr}
 use denote.Triple.Call.{calls_at_last}
 use denote.Triple.Clauses.{Ended}
 use denote.Triple.Spec.{triple_of}
-use Rattle.std.specs.Box.Ownership.{box_owns}
-use Rattle.std.proofs.alloc.Calls.{token, Goes-blank}
+use Rattle.std.proofs.alloc.Calls.{Goes-blank}
 use Rattle.std.proofs.VecSteps.Shapes.{after}
 use Rattle.std.proofs.BoxSteps.Form.{R, P, args, box_ty}
-use Rattle.warg_c.proofs.Steps.{◌≡◌, refl, sym, subst, ap, List, [], ◌∷◌, ◌++◌, Val, vptr, id⊢, ftrue, fsep, flft, WpFn, tables, fact, Item, ‵, raw, prop, ◌⊛◌, some, later, at_ret, ◌$◌, ◌∵◌, !, qed, done, move, drop, use1, split, split3, join, fsplit, fjoin, feq_i, pick, await, rewrite, regoal, suffices, group, enter, of_opd, stop, fld, no_more, and_then, first, blocks, exec, returns, whole, sub, alloc_all, pass_all, free_all, look_at, get, get_in, sets, lands_last, env, no, plain, heard, nothing, only, says, Stays, stay_dropped, walk_of, ends_at, proved_at, Bx, D, B, word, box_typed, box_out, box_in}
+use Rattle.warg_c.proofs.Steps.{◌≡◌, refl, sym, subst, ap, List, [], ◌∷◌, ◌++◌, Val, vptr, id⊢, ftrue, fsep, flft, WpFn, tables, fact, Item, ‵, raw, prop, ◌⊛◌, some, later, at_ret, ◌$◌, ◌∵◌, !, qed, done, move, drop, use1, split, split3, join, fsplit, fjoin, feq_i, pick, await, rewrite, regoal, suffices, group, enter, of_opd, stop, fld, no_more, and_then, first, blocks, exec, returns, whole, sub, alloc_all, pass_all, free_all, look_at, get, get_in, sets, lands_last, env, no, plain, heard, nothing, only, says, Stays, stay_dropped, walk_of, ends_at, proved_at, Bx, D, B, word, box_typed, box_out}
 use Rattle.warg_c.proofs.Words.{is_words}
 use Rattle.std.specs.contracts.boxed.Box.from_raw as g
 use Rattle.std.proofs.boxed.Box.from_raw.Met.{met}

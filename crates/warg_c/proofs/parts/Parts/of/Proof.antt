@@ -15,7 +15,7 @@ use denote.Triple.Table.{framed}
 use Rattle.std.specs.Box.Ownership.{box_owns}
 use Rattle.std.proofs.alloc.Calls.{token, handle_tells, Goes-blank}
 use Rattle.std.proofs.BoxSteps.Form.{τ, R, P}
-use Rattle.warg_c.proofs.Steps.{◌≡◌, refl, ap, ◌∙◌, List, [], ◌∷◌, ◌++◌, Val, vstruct, of_list, id⊢, ftrue, fsep, flft, WpFn, sem, tables, fact, Item, ‵, raw, prop, ◌⊛◌, some, later, ◌$◌, ◌∵◌, !, qed, done, move, drop, use1, split, split3, join, fsplit, fjoin, fpick, feq_l, pick, await, rewrite, regoal, suffices, enter, of_opd, stop, fld, no_more, and_then, returns, whole, sub, agg, alloc_all, pass_all, free_all, look_at, get, get_in, sets, lands_as, no, plain, heard, nothing, only, says, Stays, stay_dropped, walk_of, ends_at, proved_at, Bx, D, B, word, box_typed, box_in}
+use Rattle.warg_c.proofs.Steps.{◌≡◌, refl, ap, ◌∙◌, List, [], ◌∷◌, ◌++◌, Val, vstruct, of_list, id⊢, ftrue, fsep, flft, WpFn, sem, tables, fact, Item, ‵, raw, prop, ◌⊛◌, some, later, ◌$◌, ◌∵◌, !, qed, done, move, drop, use1, split, split3, join, fsplit, fjoin, fpick, feq_l, pick, await, rewrite, regoal, suffices, enter, of_opd, stop, fld, no_more, and_then, returns, whole, sub, agg, alloc_all, pass_all, free_all, look_at, get, get_in, sets, lands_as, no, plain, heard, nothing, only, says, Stays, stay_dropped, walk_of, ends_at, proved_at, Bx, B, word, box_typed, box_in}
 use Rattle.warg_c.proofs.Words.{is_words}
 use Rattle.std.specs.contracts.boxed.Box.into_raw_with_allocator as g
 use Rattle.std.proofs.boxed.Box.into_raw_with_allocator.Met.{met}
