@@ -1,4 +1,5 @@
 pub mod RecordLineLemmas
+pub mod PlainLemmas
 pub mod JudgedLemmas
 pub mod TextLemmas
 pub mod StateLemmas
@@ -8,4 +9,6 @@ pub mod JsonLemmas
 pub mod ClaimLemmas
 pub mod AnswerLemmas
 pub mod RequestLemmas
+pub mod TaskLemmas
+pub mod ManyAuditLemmas
 pub mod AdditionLemmas

@@ -1,8 +1,17 @@
 -- What is answered to requests, as text or in JSON.
-use Rattle.std.proofs.Common.{ℕ, Bool, List}
+use Rattle.std.proofs.Common.{◌≡◌, ℕ, Bool, true, false, List, sym}
+use Rattle.std.proofs.lemmas.Bool.{false≢true}
 use Rattle.warg_audit.specs.Printed.{Printed}
-use Rattle.warg_tool.specs.Requests.{IsGivenAs}
+use Rattle.warg_tool.specs.Requests.{IsGivenAs, IsGivenTo}
 
-pub given_as : (json : Bool) (command : List ℕ) (P Q : Printed → Type 0) → ((plain : Printed) → P plain → Q plain)
-    → (printed : Printed) → IsGivenAs json command P printed → IsGivenAs json command Q printed
-given_as json command P Q f printed h = (h.0, f h.0 h.1, h.2)
+-- verdicts on many logs are printed as they are
+pub given_many : (many json : Bool) (command : List ℕ) (P : Printed → Type 0) (printed : Printed) → many ≡ true → P printed
+    → IsGivenTo many json command P printed
+given_many true json command P printed e h = h
+given_many false json command P printed e h = absurd (false≢true e)
+
+-- and another answer as it is wanted
+pub given_one : (many json : Bool) (command : List ℕ) (P : Printed → Type 0) (printed : Printed) → many ≡ false
+    → IsGivenAs json command P printed → IsGivenTo many json command P printed
+given_one true json command P printed e h = absurd (false≢true (sym e))
+given_one false json command P printed e h = h

@@ -10,4 +10,7 @@ pub mod Additions
 pub mod ClaimTexts
 pub mod Proofs
 pub mod Unusable
+pub mod ReadFaults
+pub mod ManyAudits
+pub mod Tasks
 pub mod Requests

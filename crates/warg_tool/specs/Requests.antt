@@ -1,14 +1,18 @@
 -- What is answered to requests, by the words that they have and what the files that they name hold.
-use Rattle.std.specs.Prelude.{◌≡◌, ◌⊎◌, ℕ, Bool, true, false, List, [], ◌∷◌, Option, Some, None, Result}
+use Rattle.std.specs.Prelude.{◌≡◌, ◌⊎◌, ℕ, Bool, true, false, List, [], ◌∷◌, map, Option, Some, None, Result, Ok}
 use Rattle.std.specs.Borrow.{Bor}
 use Rattle.std.specs.Str.Lines.{lines}
+use Rattle.semver.specs.Identifiers.{comparator_view}
+use Rattle.semver.specs.Parse.{req_of}
+use Rattle.semver.specs.declared.Comparator.{Comparator}
 use Rattle.warg_permissions.specs.declared.operator.Permission.TheVariants as operator_permission
 use Rattle.warg_permissions.specs.declared.package.Permission.TheVariants as package_permission
 use Rattle.warg_protocol.specs.Json.{JsonError, JsonTextError, in_text, text_of}
-use Rattle.warg_protocol.specs.Logs.{Effects, EnvelopeData, Kind, SignatureRelation, envelope_of}
+use Rattle.warg_protocol.specs.Logs.{Effects, SignatureRelation}
 use Rattle.warg_protocol.specs.Operator as operators
 use Rattle.warg_protocol.specs.Package as packages
 use Rattle.warg_protocol.specs.Records.{toy_belongs}
+use Rattle.warg_audit.specs.Answers.{IsIdAnswer}
 use Rattle.warg_audit.specs.LogAnswers.{Shown}
 use Rattle.warg_audit.specs.LogTypes.{operator_log, package_log}
 use Rattle.warg_audit.specs.declared.command.LogType.{LogType}
@@ -17,20 +21,20 @@ use Rattle.warg_audit.specs.Printed.{Printed}
 use Rattle.warg_verified.specs.Claims.{ClaimData, is_claimed}
 use Rattle.warg_verified.specs.Texts.{IsReadFrom}
 use Rattle.warg_tool.specs.Additions.{Files, Reads}
-use Rattle.warg_tool.specs.ClaimTexts.{IsClaimsAnswer}
 use Rattle.warg_tool.specs.JsonLines.{IsInJson}
+use Rattle.warg_tool.specs.ManyAudits.{IsManyAnswer}
 use Rattle.warg_tool.specs.Proofs.{IsStatementVerdict}
-use Rattle.warg_tool.specs.Questions.{IsStateText, IsPermissionsText, IsChainText, IsCompared}
+use Rattle.warg_tool.specs.Questions.{IsStateText, IsPermissionsText, IsChainText, IsCompared, IsLatestOf}
+use Rattle.warg_tool.specs.RecordLines.{texts}
 use Rattle.warg_tool.specs.Resumption.{IsResumed}
+use Rattle.warg_tool.specs.Tasks.{DoneLeaves, IsDoneAnswer}
 use Rattle.warg_tool.specs.Unusable.{IfUsable, IsUnusable, IsOfFile, IsOfLines, IsOfWord}
-use Rattle.warg_tool.specs.Verdicts.{IsPrintedOf}
+use Rattle.warg_tool.specs.Verdicts.{HasAuditStatus, IsAuditOf, IsPrintedOf}
 use Rattle.warg_tool.specs.declared.request.Invocation.{Invocation}
 use Rattle.warg_tool.specs.declared.request.Question.{Question}
 use Rattle.warg_tool.specs.declared.request.Question.TheVariants as question
 use Rattle.warg_tool.specs.declared.request.Request.{Request}
 use Rattle.warg_tool.specs.declared.request.Request.TheVariants as request
-use Rattle.warg_tool.specs.declared.task.Task.{Task}
-use Rattle.warg_tool.specs.declared.task.Task.TheVariants as task
 
 -- a kind of log that questions are asked of: how it is shown, and what is said of its states and its keys
 pub record Askable (Meaning Fault View Offence S P : Type 0) : Type 0 where
@@ -45,9 +49,9 @@ pub record Askable (Meaning Fault View Offence S P : Type 0) : Type 0 where
   pub effects : Effects P
 
 module _ {Meaning Fault View Offence S P : Type 0} (kind : Askable Meaning Fault View Offence S P) (belongs : SignatureRelation) (files : Option Files) where
-  -- what is answered to a question, by what files hold; of a log in words nothing is said
+  -- what is answered to a question, by what files hold; of a log in words the status alone is said
   abbrev pub IsQuestionAnswer : Question → Printed → Type 0
-  IsQuestionAnswer (question.Show log) printed = Unit {0}
+  IsQuestionAnswer (question.Show log) printed = IsOfLines files log.now (HasAuditStatus kind.shown belongs) printed
   IsQuestionAnswer (question.State log) printed =
       IsOfLines files log.now (IsPrintedOf kind.shown belongs (IsStateText kind.shown kind.view kind.json)) printed
   IsQuestionAnswer (question.Resume state log) printed =
@@ -88,28 +92,33 @@ IsAskedAnswer log_type.Operator belongs files question printed =
       effects = operators.effects;
     }) belongs files question printed
 
-module _ {View Offence F : Type 0} (kind : Kind View Offence) (read : List ℕ → Result EnvelopeData F) (files : Option Files) where
-  -- what is answered when a task is done; of records that are made or added nothing is said
-  abbrev pub IsTaskAnswer : Task → Printed → Type 0
-  IsTaskAnswer (task.Claims log) printed = IsOfLines files log.now (IsClaimsAnswer kind read) printed
-  IsTaskAnswer (task.Make log name time entries) printed = Unit {0}
-  IsTaskAnswer (task.Append log lines) printed = Unit {0}
+-- the greatest release of the log in a file that meets the requirement that a word says
+abbrev pub IsLatestAnswer : SignatureRelation → Option Files → List ℕ → List ℕ → Printed → Type 0
+IsLatestAnswer belongs files requirement path printed =
+    IsOfWord (λ (wanted : List Comparator). req_of requirement ≡ Ok (map comparator_view wanted))
+    (λ wanted. IsOfLines files path (IsPrintedOf package_log belongs (IsLatestOf wanted))) printed
 
--- the same of a task on a log of a kind
-abbrev pub IsDoneAnswer : LogType → Option Files → Task → Printed → Type 0
-IsDoneAnswer log_type.Package files it printed = IsTaskAnswer package_log.kind (envelope_of package_log.read) files it printed
-IsDoneAnswer log_type.Operator files it printed = IsTaskAnswer operator_log.kind (envelope_of operator_log.read) files it printed
+-- what is answered to a request, by what files hold before and after; verdicts on many logs may be in JSON
+abbrev pub IsRequestAnswer : Bool → SignatureRelation → Option Files → Option Files → Request → Printed → Type 0
+IsRequestAnswer json belongs old new (request.Id kind path) printed = IsOfLines old path.now (IsIdAnswer kind) printed
+IsRequestAnswer json belongs old new (request.Audit kind path) printed = IsOfLines old path.now (IsAuditOf kind belongs) printed
+IsRequestAnswer json belongs old new (request.Audits kind paths) printed = IsManyAnswer json kind belongs old (texts paths.items) printed
+IsRequestAnswer json belongs old new (request.Latest requirement path) printed = IsLatestAnswer belongs old requirement.now path.now printed
+IsRequestAnswer json belongs old new (request.Prove wanted path) printed = Unit {0}
+IsRequestAnswer json belongs old new (request.Verify statement) printed = IfUsable (IsStatementVerdict old statement) printed
+IsRequestAnswer json belongs old new (request.Ask kind question) printed = IsAskedAnswer kind belongs old question printed
+IsRequestAnswer json belongs old new (request.Do kind task) printed = IsDoneAnswer kind belongs old new task printed
 
--- what is answered to a request
-abbrev pub IsRequestAnswer : SignatureRelation → Option Files → Request → Printed → Type 0
-IsRequestAnswer belongs files (request.Id kind path) printed = Unit {0}
-IsRequestAnswer belongs files (request.Audit kind path) printed = Unit {0}
-IsRequestAnswer belongs files (request.Audits kind paths) printed = Unit {0}
-IsRequestAnswer belongs files (request.Latest requirement path) printed = Unit {0}
-IsRequestAnswer belongs files (request.Prove wanted path) printed = Unit {0}
-IsRequestAnswer belongs files (request.Verify statement) printed = IfUsable (IsStatementVerdict files statement) printed
-IsRequestAnswer belongs files (request.Ask kind question) printed = IsAskedAnswer kind belongs files question printed
-IsRequestAnswer belongs files (request.Do kind task) printed = IsDoneAnswer kind files task printed
+-- what files hold after a request: what they held, unless records are added
+abbrev pub RequestLeaves : SignatureRelation → Option Files → Option Files → Request → Type 0
+RequestLeaves belongs old new (request.Id kind path) = new ≡ old
+RequestLeaves belongs old new (request.Audit kind path) = new ≡ old
+RequestLeaves belongs old new (request.Audits kind paths) = new ≡ old
+RequestLeaves belongs old new (request.Latest requirement path) = new ≡ old
+RequestLeaves belongs old new (request.Prove wanted path) = new ≡ old
+RequestLeaves belongs old new (request.Verify statement) = new ≡ old
+RequestLeaves belongs old new (request.Ask kind question) = new ≡ old
+RequestLeaves belongs old new (request.Do kind task) = DoneLeaves kind belongs old new task
 
 -- whether the verdicts on many logs are asked for
 abbrev pub is_many : Request → Bool
@@ -131,18 +140,32 @@ IsGiven true command plain printed = IsInJson command plain printed
 abbrev pub IsGivenAs : Bool → List ℕ → (Printed → Type 0) → Printed → Type 0
 IsGivenAs json command P printed = (plain : Printed) × P plain × IsGiven json command plain printed
 
+-- what is printed to a request of which P holds; verdicts on many logs have an object for each log already
+abbrev pub IsGivenTo : Bool → Bool → List ℕ → (Printed → Type 0) → Printed → Type 0
+IsGivenTo false json command P printed = IsGivenAs json command P printed
+IsGivenTo true json command P printed = P printed
+
+-- what is printed to a request
+abbrev pub IsResponse : Bool → List ℕ → SignatureRelation → Option Files → Option Files → Request → Printed → Type 0
+IsResponse json command belongs old new it printed = IsGivenTo (is_many it) json command (IsRequestAnswer json belongs old new it) printed
+
 -- the claims that the file of a path lists
 pub record AreClaimsIn (files : Option Files) (path : List ℕ) (claims : List ClaimData) : Type 0 where
   pub bytes : List ℕ
   pub held : Reads files path bytes
   pub said : IsReadFrom (lines bytes) claims
 
--- P of what tells which signatures belong: the toy scheme, or the claims that a file lists, if it can be used
-abbrev pub IsUnder : Option Files → Option (Bor (List ℕ)) → (SignatureRelation → Printed → Type 0) → Printed → Type 0
-IsUnder files None P printed = P toy_belongs printed
-IsUnder files (Some path) P printed = IsUnusable printed ⊎ ((claims : List ClaimData) × AreClaimsIn files path.now claims × P (is_claimed claims) printed)
+-- P of what tells which signatures belong: the toy scheme, or the claims that a file lists; Unread, if that can't be used
+abbrev pub IsUnder : Option Files → Option (Bor (List ℕ)) → Type 0 → (SignatureRelation → Type 0) → Type 0
+IsUnder files None Unread P = P toy_belongs
+IsUnder files (Some path) Unread P = Unread ⊎ ((claims : List ClaimData) × AreClaimsIn files path.now claims × P (is_claimed claims))
 
--- what is answered to an invocation, by what files hold
-abbrev pub IsInvocationAnswer : Option Files → Invocation → Printed → Type 0
-IsInvocationAnswer files it printed =
-    IsGivenAs it.json it.command.now (IsUnder files it.verified (λ belongs. IsRequestAnswer belongs files it.request)) printed
+-- what is answered to an invocation, by what files hold before and after
+abbrev pub IsInvocationAnswer : Option Files → Option Files → Invocation → Printed → Type 0
+IsInvocationAnswer old new it printed =
+    IsUnder old it.verified (IsGivenAs it.json it.command.now IsUnusable printed)
+    (λ belongs. IsResponse it.json it.command.now belongs old new it.request printed)
+
+-- what files hold after it
+abbrev pub InvocationLeaves : Option Files → Option Files → Invocation → Type 0
+InvocationLeaves old new it = IsUnder old it.verified (new ≡ old) (λ belongs. RequestLeaves belongs old new it.request)

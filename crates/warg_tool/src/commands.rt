@@ -1,34 +1,31 @@
 //! The commands: what each answers to the bytes of its files.
 
-ghost use Rattle.std.specs.Prelude.{◌≡◌, false, IfOk};
-ghost use Rattle.warg_tool.specs.Answers.{answer_view, Answers, IsSettled};
-ghost use Rattle.warg_tool.specs.Requests.{is_many, IsAskedAnswer, IsDoneAnswer, IsGiven, IsGivenAs, IsRequestAnswer};
+ghost use Rattle.std.specs.Prelude.{◌≡◌, IfOk};
+ghost use Rattle.warg_audit.specs.Answers.{IsIdAnswer};
+ghost use Rattle.warg_audit.specs.LogTypes.{package_log};
+ghost use Rattle.warg_tool.specs.Answers.{answer_view, Answers};
+ghost use Rattle.warg_tool.specs.Questions.{IsLatestOf};
+ghost use Rattle.warg_tool.specs.Requests.{is_many, IsAskedAnswer, IsGiven, IsLatestAnswer, IsRequestAnswer, IsResponse, RequestLeaves};
+ghost use Rattle.warg_tool.specs.Tasks.{DoneLeaves, IsDoneAnswer};
+ghost use Rattle.warg_tool.specs.Unusable.{IsOfLines};
+ghost use Rattle.warg_tool.specs.Verdicts.{IsAuditOf, IsPrintedOf};
 
 use crate::answer::Answer;
-use crate::audit::{audit_answer, audits_answer, id_answer};
+use crate::audit::{audit_answer, id_answer};
 use crate::input::{Store, read_input};
 use crate::json::json_answer;
 use crate::latest::{latest_answer, requirement_of};
+use crate::many_audits::audits_answer;
 use crate::prove::prove_answer;
 use crate::questions::question_answer;
 use crate::request::{Invocation, Question, Request};
-use crate::stop::Stop;
+use crate::stop::{Stop, settled};
 use crate::task::{Task, task_answer};
 use crate::verify::verify_answer;
 use std::alloc::{AllocError, Global};
 use warg_audit::LogType;
 use warg_protocol::signing::Verifier;
-use warg_protocol::{operator, package};
-
-// The answer, by the command's end or before it.
-fn settled(outcome: Result<Answer, Stop>) -> Result<Answer, AllocError>
-    ensures { IsSettled outcome result }
-{
-    match outcome {
-        Ok(answer) | Err(Stop::Answer(answer)) => Ok(answer),
-        Err(Stop::OutOfMemory) => Err(AllocError),
-    }
-}
+use warg_protocol::{VersionReq, operator, package};
 
 // The answer to what is asked of logs of a kind.
 fn asked_answer<V: Verifier, S: Store>(
@@ -38,8 +35,9 @@ fn asked_answer<V: Verifier, S: Store>(
     question: &Question<'_>,
     store: &mut S,
 ) -> Result<Answer, Stop>
-    ensures { Answers (IsAskedAnswer kind (V.belongs verifier.now) (S.files store.old) question.now)
-        result }
+    ensures answered { Answers (IsAskedAnswer kind (V.belongs verifier.now) (S.files store.old)
+        question.now) result }
+    ensures kept { S.files store.new ≡ S.files store.old }
 {
     match kind {
         LogType::Package => {
@@ -59,7 +57,10 @@ fn done_answer<V: Verifier, S: Store>(
     task: &Task<'_>,
     store: &mut S,
 ) -> Result<Answer, Stop>
-    ensures { Answers (IsDoneAnswer kind (S.files store.old) task.now) result }
+    ensures answered { Answers (IsDoneAnswer kind (V.belongs verifier.now) (S.files store.old)
+        (S.files store.new) task.now) result }
+    ensures files { DoneLeaves kind (V.belongs verifier.now) (S.files store.old)
+        (S.files store.new) task.now }
 {
     match kind {
         LogType::Package => task_answer::<package::LogState, V, S>(alloc, verifier, task, store),
@@ -68,15 +69,40 @@ fn done_answer<V: Verifier, S: Store>(
 }
 
 // The greatest release of the log in a file that meets a requirement.
+fn latest_in_file<V: Verifier, S: Store>(
+    alloc: Global,
+    verifier: &V,
+    wanted: &VersionReq,
+    log: &str,
+    store: &mut S,
+) -> Result<Answer, Stop>
+    ensures answered { Answers (IsOfLines (S.files store.old) log.now
+        (IsPrintedOf package_log (V.belongs verifier.now)
+        (IsLatestOf wanted.now.comparators.items))) result }
+    ensures kept { S.files store.new ≡ S.files store.old }
+{
+    match read_input(alloc, store, log) {
+        Ok(input) => latest_answer(alloc, verifier, wanted, input),
+        Err(stop) => Err(stop),
+    }
+}
+
+// The same by the requirement's word.
 fn latest_of_file<V: Verifier, S: Store>(
     alloc: Global,
     verifier: &V,
     requirement: &str,
     log: &str,
     store: &mut S,
-) -> Result<Answer, Stop> {
-    let wanted = requirement_of(alloc, requirement)?;
-    latest_answer(alloc, verifier, &wanted, read_input(alloc, store, log)?)
+) -> Result<Answer, Stop>
+    ensures answered { Answers (IsLatestAnswer (V.belongs verifier.now) (S.files store.old)
+        requirement.now log.now) result }
+    ensures kept { S.files store.new ≡ S.files store.old }
+{
+    match requirement_of(alloc, requirement) {
+        Ok(wanted) => latest_in_file(alloc, verifier, &wanted, log, store),
+        Err(stop) => Err(stop),
+    }
 }
 
 // The id of the record in a file.
@@ -85,8 +111,14 @@ fn id_of_file<S: Store>(
     kind: LogType,
     log: &str,
     store: &mut S,
-) -> Result<Answer, Stop> {
-    id_answer(alloc, kind, read_input(alloc, store, log)?)
+) -> Result<Answer, Stop>
+    ensures answered { Answers (IsOfLines (S.files store.old) log.now (IsIdAnswer kind)) result }
+    ensures kept { S.files store.new ≡ S.files store.old }
+{
+    match read_input(alloc, store, log) {
+        Ok(input) => id_answer(alloc, kind, input),
+        Err(stop) => Err(stop),
+    }
 }
 
 // The verdict on the log in a file.
@@ -96,25 +128,35 @@ fn audit_of_file<V: Verifier, S: Store>(
     kind: LogType,
     log: &str,
     store: &mut S,
-) -> Result<Answer, Stop> {
-    audit_answer(alloc, verifier, kind, read_input(alloc, store, log)?)
+) -> Result<Answer, Stop>
+    ensures answered { Answers (IsOfLines (S.files store.old) log.now
+        (IsAuditOf kind (V.belongs verifier.now))) result }
+    ensures kept { S.files store.new ≡ S.files store.old }
+{
+    match read_input(alloc, store, log) {
+        Ok(input) => audit_answer(alloc, verifier, kind, input),
+        Err(stop) => Err(stop),
+    }
 }
 
-// What a request is answered.
+// What a request is answered; verdicts on many logs in JSON, if that is wanted.
 fn request_answer<V: Verifier, S: Store>(
     alloc: Global,
     verifier: &V,
     request: &Request<'_>,
+    is_json: bool,
     store: &mut S,
 ) -> Result<Answer, Stop>
-    ensures { Answers (IsRequestAnswer (V.belongs verifier.now) (S.files store.old) request.now)
-        result }
+    ensures answered { Answers (IsRequestAnswer is_json (V.belongs verifier.now)
+        (S.files store.old) (S.files store.new) request.now) result }
+    ensures files { RequestLeaves (V.belongs verifier.now) (S.files store.old)
+        (S.files store.new) request.now }
 {
     match request {
         Request::Id { kind, log } => id_of_file(alloc, *kind, log, store),
         Request::Audit { kind, log } => audit_of_file(alloc, verifier, *kind, log, store),
         Request::Audits { kind, logs } => {
-            audits_answer(alloc, verifier, *kind, store, logs.as_slice(), false)
+            audits_answer(alloc, verifier, *kind, store, logs.as_slice(), is_json)
         }
         Request::Latest { requirement, log } => {
             latest_of_file(alloc, verifier, requirement, log, store)
@@ -143,6 +185,22 @@ pub(crate) fn given(
     }
 }
 
+// Whether verdicts on many logs are asked for: they have an object for each log already.
+fn is_many(request: &Request<'_>) -> bool
+    ensures { result ≡ is_many request.now }
+{
+    match request {
+        Request::Audits { .. } => true,
+        Request::Id { .. }
+        | Request::Audit { .. }
+        | Request::Latest { .. }
+        | Request::Prove { .. }
+        | Request::Verify { .. }
+        | Request::Ask { .. }
+        | Request::Do { .. } => false,
+    }
+}
+
 /// What the request is answered, from the bytes of the files that it names.
 pub fn respond<V: Verifier, S: Store>(
     alloc: Global,
@@ -150,21 +208,19 @@ pub fn respond<V: Verifier, S: Store>(
     invocation: &Invocation<'_>,
     store: &mut S,
 ) -> Result<Answer, AllocError>
-    // Verdicts on many logs have an object for each log.
-    ensures { is_many invocation.now.request ≡ false →
-        IfOk result (λ answer. IsGivenAs invocation.now.json
-        invocation.now.command.now (IsRequestAnswer (V.belongs verifier.now) (S.files store.old)
-        invocation.now.request)
-        (answer_view answer)) }
+    ensures answered { IfOk result (λ answer. IsResponse invocation.now.json
+        invocation.now.command.now (V.belongs verifier.now) (S.files store.old)
+        (S.files store.new) invocation.now.request (answer_view answer)) }
+
+    // What files hold is changed by records that are added alone, also where memory runs out.
+    ensures files { RequestLeaves (V.belongs verifier.now) (S.files store.old)
+        (S.files store.new) invocation.now.request }
 {
-    match &invocation.request {
-        Request::Audits { kind, logs } => {
-            let logs = logs.as_slice();
-            settled(audits_answer(alloc, verifier, *kind, store, logs, invocation.json))
-        }
-        request => {
-            let answer = settled(request_answer(alloc, verifier, request, store))?;
-            given(alloc, invocation, answer)
-        }
+    let request = &invocation.request;
+    let answer = settled(request_answer(alloc, verifier, request, invocation.json, store))?;
+    if is_many(request) {
+        Ok(answer)
+    } else {
+        given(alloc, invocation, answer)
     }
 }

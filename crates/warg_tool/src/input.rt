@@ -1,8 +1,10 @@
 //! Files, by their paths and bytes.
 
 ghost use Rattle.std.specs.Prelude.{◌≡◌, ◌≢◌, ◌⊎◌, [], Option, IfOk, IfErr, OnOk, OnErr};
-ghost use Rattle.warg_tool.specs.Additions.{Files, Puts, Reads};
+ghost use Rattle.warg_tool.specs.Additions.{Files, Lacks, Puts, Reads, ReadsLog};
 ghost use Rattle.warg_tool.specs.Answers.{IfStopped};
+ghost use Rattle.warg_tool.specs.ReadFaults.{unread_text};
+ghost use Rattle.warg_tool.specs.declared.input.ReadFault.TheVariants.{Missing};
 
 use crate::answer::Answer;
 use crate::stop::Stop;
@@ -28,7 +30,8 @@ pub enum ReadFault {
 impl ReadFault {
     /// The status of an answer for want of the file: 2 where the file is at fault, 3 for trouble.
     pub fn status(self) -> u8
-        ensures { result ≢ 0 }
+        ensures bad { result ≢ 0 }
+        ensures is { result ≡ (unread_text self).status }
     {
         match self {
             ReadFault::Missing | ReadFault::Folder | ReadFault::Closed | ReadFault::TooLong => 2,
@@ -37,7 +40,9 @@ impl ReadFault {
     }
 
     /// What is wrong, in words.
-    pub fn text(self) -> &'static str {
+    pub fn text(self) -> &'static str
+        ensures { result.now ≡ (unread_text self).text }
+    {
         match self {
             ReadFault::Missing => "there is no such file",
             ReadFault::Folder => "it is a folder",
@@ -57,6 +62,8 @@ pub trait Store {
     /// The bytes of the file of this path; `-` is standard input.
     fn read(&mut self, path: &str) -> Result<Vec<u8>, ReadFault>
         ensures bytes { IfOk result (λ bytes. Reads (files self.old) path.now bytes.items) }
+        ensures missing { IfErr result (λ fault. fault ≡ Missing →
+            Lacks (files self.old) path.now) }
         ensures kept { files self.new ≡ files self.old };
 
     /// Puts these bytes in the place of the file of this path, which may be missing. An error leaves it as it was.
@@ -135,8 +142,8 @@ pub(crate) fn read_log<'a, S: Store>(
     path: &'a str,
 ) -> Result<Input<'a>, Stop>
     ensures path { IfOk result (λ input. input.path.now ≡ path.now) }
-    ensures bytes { IfOk result (λ input. (input.bytes.items ≡ [])
-        ⊎ Reads (S.files store.old) path.now input.bytes.items) }
+    ensures bytes { IfOk result (λ input.
+        ReadsLog (S.files store.old) path.now input.bytes.items) }
     ensures stopped { IfErr result
         (IfStopped (λ printed. (printed.text ≡ []) × (printed.status ≢ 0))) }
     ensures kept { S.files store.new ≡ S.files store.old }

@@ -1,20 +1,22 @@
 //! `latest`: the greatest release that meets a requirement.
 
-ghost use Rattle.std.specs.Prelude.{◌≡◌, IfOk, Ok, map};
+ghost use Rattle.std.specs.Prelude.{◌≡◌, IfOk, IfErr, Ok, map};
 ghost use Rattle.std.specs.Option.{option_copied, option_map};
 ghost use Rattle.semver.specs.Identifiers.{comparator_view};
 ghost use Rattle.semver.specs.Parse.{req_of};
 ghost use Rattle.warg_protocol.specs.Package.{release_view, view_of};
 ghost use Rattle.warg_audit.specs.LogTypes.{package_log};
-ghost use Rattle.warg_tool.specs.Answers.{answer_view, Answers};
+ghost use Rattle.warg_tool.specs.Answers.{answer_view, Answers, IfStopped};
 ghost use Rattle.warg_tool.specs.Questions.{IsLatestOf, IsLatestText};
 ghost use Rattle.warg_tool.specs.RecordLines.{record_lines};
 ghost use Rattle.warg_tool.specs.Texts.{latest_text};
+ghost use Rattle.warg_tool.specs.Unusable.{IsUnusable};
 ghost use Rattle.warg_tool.specs.Verdicts.{IsPrintedOf};
 
-use crate::answer::{Answer, UNUSABLE};
+use crate::answer::Answer;
 use crate::input::Input;
 use crate::judged::judged;
+use crate::read_words::unusable;
 use crate::stop::Stop;
 use std::alloc::{AllocError, Global};
 use warg_protocol::VersionReq;
@@ -50,17 +52,16 @@ fn latest_of(alloc: Global, state: &LogState, wanted: &VersionReq) -> Result<Ans
 
 /// The requirement that the word says.
 pub(crate) fn requirement_of(alloc: Global, word: &str) -> Result<VersionReq, Stop>
-    ensures { IfOk result (λ wanted. req_of word.now ≡
+    ensures ok { IfOk result (λ wanted. req_of word.now ≡
         Ok (map comparator_view wanted.comparators.items)) }
+    ensures stopped { IfErr result (IfStopped IsUnusable) }
 {
     match VersionReq::parse(alloc, word) {
         Ok(wanted) => Ok(wanted),
-        Err(error) => {
-            let sentence = format!(in alloc;
-                "warg: {word:?} is no requirement of versions: {error}\n"
-            )?;
-            Err(Stop::Answer(Answer::fault(alloc, sentence, UNUSABLE)))
-        }
+        Err(error) => Err(unusable(
+            alloc,
+            format!(in alloc; "warg: {word:?} is no requirement of versions: {error}\n"),
+        )),
     }
 }
 

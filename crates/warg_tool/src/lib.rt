@@ -16,6 +16,7 @@ mod kind;
 mod latest;
 mod lines;
 mod making;
+mod many_audits;
 mod operator_log;
 mod package_log;
 mod permissions;

@@ -1,13 +1,47 @@
 //! `make`: the next record of a log, signed by the toy scheme.
 
-use crate::answer::{Answer, UNUSABLE};
+ghost use Rattle.hex.specs.Hex.{encode_lower};
+ghost use Rattle.std.specs.Prelude.{◌≡◌, IfOk};
+ghost use Rattle.warg_tool.specs.Answers.{answer_view, Answers};
+ghost use Rattle.warg_tool.specs.Tasks.{IsMadeLine, IsMadeOf};
+ghost use Rattle.warg_tool.specs.Texts.{line, yes};
+ghost use Rattle.warg_tool.specs.Verdicts.{ForShown};
+
+use crate::answer::Answer;
 use crate::input::Input;
 use crate::judged::judged;
 use crate::kind::ToolLog;
+use crate::read_words::unusable;
 use crate::stop::Stop;
-use std::alloc::Global;
+use std::alloc::{AllocError, Global};
 use warg_make::{MakeError, Worded, make};
 use warg_protocol::signing::Verifier;
+
+// The line of an envelope.
+fn made_line(alloc: Global, envelope: &[u8]) -> Result<Answer, AllocError>
+    ensures { IfOk result (λ answer. answer_view answer ≡ yes (line (encode_lower envelope.now))) }
+{
+    let mut text = hex::encode(alloc, envelope)?;
+    text.push('\n')?;
+    Ok(Answer::new(alloc, text, 0))
+}
+
+// The line of the record that comes next after the state.
+fn made<L: ToolLog + Worded>(
+    alloc: Global,
+    state: &L,
+    name: &str,
+    time: &str,
+    entries: &[&str],
+) -> Result<Answer, Stop>
+    ensures { Answers IsMadeLine result }
+{
+    match make::<L>(alloc, state, name, time, entries) {
+        Ok(envelope) => Ok(made_line(alloc, envelope.as_slice())?),
+        Err(MakeError::OutOfMemory) => Err(Stop::OutOfMemory),
+        Err(error) => Err(unusable(alloc, format!(in alloc; "warg: {error}\n"))),
+    }
+}
 
 /// The line of the record that comes next in the log in a file, signed by the toy key of the name.
 pub(crate) fn make_answer<L: ToolLog + Worded, V: Verifier>(
@@ -17,18 +51,14 @@ pub(crate) fn make_answer<L: ToolLog + Worded, V: Verifier>(
     name: &str,
     time: &str,
     entries: &[&str],
-) -> Result<Answer, Stop> {
-    let (state, _) = judged::<L, V>(alloc, verifier, input)?;
-    match make::<L>(alloc, &state, name, time, entries) {
-        Ok(envelope) => {
-            let mut text = hex::encode(alloc, envelope.as_slice())?;
-            text.push('\n')?;
-            Ok(Answer::new(alloc, text, 0))
-        }
-        Err(MakeError::OutOfMemory) => Err(Stop::OutOfMemory),
-        Err(error) => {
-            let sentence = format!(in alloc; "warg: {error}\n")?;
-            Ok(Answer::fault(alloc, sentence, UNUSABLE))
-        }
+) -> Result<Answer, Stop>
+    // Where the log is not lawful, the audit's line is the answer, and no record is made.
+    ensures { ForShown L.view L.kind L.Record.read L.Record.fault_of L.offence_of
+        L.name_of L.lines_of (λ log.
+        Answers (IsMadeOf log (V.belongs verifier.now) input.entry.bytes.items) result) }
+{
+    match judged::<L, V>(alloc, verifier, input) {
+        Ok((state, _)) => made(alloc, &state, name, time, entries),
+        Err(stop) => Err(stop),
     }
 }

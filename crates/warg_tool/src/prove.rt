@@ -114,7 +114,9 @@ pub(crate) fn prove_answer<S: Store>(
     wanted: &Wanted<'_>,
     leaves: &str,
     store: &mut S,
-) -> Result<Answer, Stop> {
+) -> Result<Answer, Stop>
+    ensures kept { S.files store.new ≡ S.files store.old }
+{
     match wanted {
         Wanted::Checkpoint => {
             let trees = trees_of(alloc, read_input(alloc, store, leaves)?)?;

@@ -6,7 +6,7 @@ ghost use Rattle.warg_tool.specs.RecordLines.{record_lines};
 ghost use Rattle.warg_tool.specs.Requests.{IsQuestionAnswer};
 ghost use Rattle.warg_tool.specs.Unusable.{IsOfFile, IsOfLines, IsOfWord};
 ghost use Rattle.warg_tool.specs.Resumption.{IsResumed};
-ghost use Rattle.warg_tool.specs.Verdicts.{ForShown, IsPrintedOf};
+ghost use Rattle.warg_tool.specs.Verdicts.{ForShown, HasAuditStatus, IsPrintedOf};
 ghost use Rattle.std.specs.Prelude.{◌≡◌};
 
 use crate::answer::Answer;
@@ -28,8 +28,17 @@ fn show_of_file<L: ToolLog, V: Verifier, S: Store>(
     verifier: &V,
     path: &str,
     store: &mut S,
-) -> Result<Answer, Stop> {
-    show_answer::<L, V>(alloc, verifier, read_input(alloc, store, path)?)
+) -> Result<Answer, Stop>
+    ensures answered { ForShown L.view L.kind L.Record.read L.Record.fault_of L.offence_of
+        L.name_of L.lines_of (λ log.
+        Answers (IsOfLines (S.files store.old) path.now
+        (HasAuditStatus log (V.belongs verifier.now))) result) }
+    ensures kept { S.files store.new ≡ S.files store.old }
+{
+    match read_input(alloc, store, path) {
+        Ok(input) => show_answer::<L, V>(alloc, verifier, input),
+        Err(stop) => Err(stop),
+    }
 }
 
 fn state_of_file<L: ToolLog, V: Verifier, S: Store>(
@@ -38,10 +47,11 @@ fn state_of_file<L: ToolLog, V: Verifier, S: Store>(
     path: &str,
     store: &mut S,
 ) -> Result<Answer, Stop>
-    ensures { ForShown L.view L.kind L.Record.read L.Record.fault_of L.offence_of
+    ensures answered { ForShown L.view L.kind L.Record.read L.Record.fault_of L.offence_of
         L.name_of L.lines_of (λ log.
         Answers (IsOfLines (S.files store.old) path.now
         (IsPrintedOf log (V.belongs verifier.now) (IsStateText log L.view L.json_of))) result) }
+    ensures kept { S.files store.new ≡ S.files store.old }
 {
     match read_input(alloc, store, path) {
         Ok(input) => state_answer::<L, V>(alloc, verifier, input),
@@ -56,10 +66,11 @@ fn permissions_of_file<L: ToolLog, V: Verifier, S: Store>(
     path: &str,
     store: &mut S,
 ) -> Result<Answer, Stop>
-    ensures { ForShown L.view L.kind L.Record.read L.Record.fault_of L.offence_of
+    ensures answered { ForShown L.view L.kind L.Record.read L.Record.fault_of L.offence_of
         L.name_of L.lines_of (λ log.
         Answers (IsOfLines (S.files store.old) path.now (IsPrintedOf log (V.belongs verifier.now)
         (IsPermissionsText log L.view L.knows L.held L.order L.text_of key_id.now))) result) }
+    ensures kept { S.files store.new ≡ S.files store.old }
 {
     match read_input(alloc, store, path) {
         Ok(input) => permissions_answer::<L, V>(alloc, verifier, key_id, input),
@@ -75,12 +86,13 @@ fn chain_of_file<L: ToolLog, V: Verifier, S: Store>(
     path: &str,
     store: &mut S,
 ) -> Result<Answer, Stop>
-    ensures { ForShown L.view L.kind L.Record.read L.Record.fault_of L.offence_of
+    ensures answered { ForShown L.view L.kind L.Record.read L.Record.fault_of L.offence_of
         L.name_of L.lines_of (λ log.
         Answers (IsOfLines (S.files store.old) path.now
         (IsPrintedOf log (V.belongs verifier.now)
         (IsChainText log L.effects key_id.now permission)))
         result) }
+    ensures kept { S.files store.new ≡ S.files store.old }
 {
     match read_input(alloc, store, path) {
         Ok(input) => chain_answer::<L, V>(alloc, verifier, key_id, permission, input),
@@ -97,12 +109,13 @@ fn chain_of_word<L: ToolLog, V: Verifier, S: Store>(
     path: &str,
     store: &mut S,
 ) -> Result<Answer, Stop>
-    ensures { ForShown L.view L.kind L.Record.read L.Record.fault_of L.offence_of
+    ensures answered { ForShown L.view L.kind L.Record.read L.Record.fault_of L.offence_of
         L.name_of L.lines_of (λ log.
         Answers (IsOfWord (λ permission. L.text_of permission ≡ word.now) (λ permission.
         IsOfLines (S.files store.old) path.now
         (IsPrintedOf log (V.belongs verifier.now)
         (IsChainText log L.effects key_id.now permission)))) result) }
+    ensures kept { S.files store.new ≡ S.files store.old }
 {
     match wanted_permission::<L>(alloc, word) {
         Ok(permission) => {
@@ -119,12 +132,13 @@ fn resumed_from_file<L: ToolLog, V: Verifier, S: Store>(
     path: &str,
     store: &mut S,
 ) -> Result<Answer, Stop>
-    ensures { ForShown L.view L.kind L.Record.read L.Record.fault_of L.offence_of
+    ensures answered { ForShown L.view L.kind L.Record.read L.Record.fault_of L.offence_of
         L.name_of L.lines_of (λ log.
         Answers (IsOfLines (S.files store.old) path.now
         (IsResumed log (V.belongs verifier.now) L.view L.json_of L.state_of
         saved.entry.bytes.items))
         result) }
+    ensures kept { S.files store.new ≡ S.files store.old }
 {
     match read_input(alloc, store, path) {
         Ok(input) => resume_answer::<L, V>(alloc, verifier, saved, input),
@@ -139,11 +153,12 @@ fn resumed_from_files<L: ToolLog, V: Verifier, S: Store>(
     path: &str,
     store: &mut S,
 ) -> Result<Answer, Stop>
-    ensures { ForShown L.view L.kind L.Record.read L.Record.fault_of L.offence_of
+    ensures answered { ForShown L.view L.kind L.Record.read L.Record.fault_of L.offence_of
         L.name_of L.lines_of (λ log.
         Answers (IsOfFile (S.files store.old) state.now (λ saved.
         IsOfLines (S.files store.old) path.now
         (IsResumed log (V.belongs verifier.now) L.view L.json_of L.state_of saved))) result) }
+    ensures kept { S.files store.new ≡ S.files store.old }
 {
     match read_input(alloc, store, state) {
         Ok(saved) => resumed_from_file::<L, V, S>(alloc, verifier, saved, path, store),
@@ -158,11 +173,12 @@ fn compared_with_file<L: ToolLog, V: Verifier, S: Store>(
     path: &str,
     store: &mut S,
 ) -> Result<Answer, Stop>
-    ensures { ForShown L.view L.kind L.Record.read L.Record.fault_of L.offence_of
+    ensures answered { ForShown L.view L.kind L.Record.read L.Record.fault_of L.offence_of
         L.name_of L.lines_of (λ log.
         Answers (IsOfLines (S.files store.old) path.now
         (IsCompared log (V.belongs verifier.now) (record_lines left.entry.bytes.items)))
         result) }
+    ensures kept { S.files store.new ≡ S.files store.old }
 {
     match read_input(alloc, store, path) {
         Ok(right) => compare_answer::<L, V>(alloc, verifier, left, right),
@@ -177,11 +193,12 @@ fn compared_files<L: ToolLog, V: Verifier, S: Store>(
     right: &str,
     store: &mut S,
 ) -> Result<Answer, Stop>
-    ensures { ForShown L.view L.kind L.Record.read L.Record.fault_of L.offence_of
+    ensures answered { ForShown L.view L.kind L.Record.read L.Record.fault_of L.offence_of
         L.name_of L.lines_of (λ log.
         Answers (IsOfLines (S.files store.old) left.now
         (λ here. IsOfLines (S.files store.old) right.now
         (IsCompared log (V.belongs verifier.now) here))) result) }
+    ensures kept { S.files store.new ≡ S.files store.old }
 {
     match read_input(alloc, store, left) {
         Ok(left) => compared_with_file::<L, V, S>(alloc, verifier, left, right, store),
@@ -196,7 +213,7 @@ pub(crate) fn question_answer<L: ToolLog, V: Verifier, S: Store>(
     question: &Question<'_>,
     store: &mut S,
 ) -> Result<Answer, Stop>
-    ensures { ForShown L.view L.kind L.Record.read L.Record.fault_of L.offence_of L.name_of
+    ensures answered { ForShown L.view L.kind L.Record.read L.Record.fault_of L.offence_of L.name_of
         L.lines_of (λ log. Answers
         (IsQuestionAnswer (record {
           shown = log;
@@ -211,6 +228,7 @@ pub(crate) fn question_answer<L: ToolLog, V: Verifier, S: Store>(
           effects =
               L.effects;
         }) (V.belongs verifier.now) (S.files store.old) question.now) result) }
+    ensures kept { S.files store.new ≡ S.files store.old }
 {
     match question {
         Question::Show { log } => show_of_file::<L, V, S>(alloc, verifier, log, store),

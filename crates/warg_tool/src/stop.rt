@@ -1,5 +1,7 @@
 //! Why a command ends before its own answer.
 
+ghost use Rattle.warg_tool.specs.Answers.{IsSettled};
+
 use crate::answer::Answer;
 use std::alloc::{AllocError, AllocFailed};
 
@@ -31,5 +33,15 @@ impl<T: Drop> From<AllocFailed<T>> for Stop {
 
     fn from(_error: AllocFailed<T>) -> Stop {
         Stop::OutOfMemory
+    }
+}
+
+/// The answer of a command, by its end or before it.
+pub(crate) fn settled(outcome: Result<Answer, Stop>) -> Result<Answer, AllocError>
+    ensures { IsSettled outcome result }
+{
+    match outcome {
+        Ok(answer) | Err(Stop::Answer(answer)) => Ok(answer),
+        Err(Stop::OutOfMemory) => Err(AllocError),
     }
 }

@@ -1,15 +1,17 @@
 //! The commands that list what is to be verified, make records, and add to logs.
 
+ghost use Rattle.std.specs.Prelude.{◌≡◌, OnErr};
 ghost use Rattle.warg_protocol.specs.Logs.{envelope_of};
 ghost use Rattle.warg_tool.specs.Answers.{Answers};
 ghost use Rattle.warg_tool.specs.ClaimTexts.{IsClaimsAnswer};
-ghost use Rattle.warg_tool.specs.Requests.{IsTaskAnswer};
+ghost use Rattle.warg_tool.specs.Tasks.{IsAddedTo, IsAppended, IsMade, IsTaskAnswer, Leaves};
 ghost use Rattle.warg_tool.specs.Unusable.{IsOfLines};
+ghost use Rattle.warg_tool.specs.Verdicts.{ForShown};
 
 use crate::answer::Answer;
 use crate::append::append_answer;
 use crate::claim_lines::claims_answer;
-use crate::input::{Store, read_input, read_log};
+use crate::input::{Input, Store, read_input, read_log};
 use crate::kind::ToolLog;
 use crate::making::make_answer;
 use crate::stop::Stop;
@@ -80,11 +82,73 @@ fn claims_of_file<L: ToolLog + Hosted, S: Store>(
     log: &str,
     store: &mut S,
 ) -> Result<Answer, Stop>
-    ensures { Answers (IsOfLines (S.files store.old) log.now
+    ensures answered { Answers (IsOfLines (S.files store.old) log.now
         (IsClaimsAnswer L.kind (envelope_of L.Record.read))) result }
+    ensures kept { S.files store.new ≡ S.files store.old }
 {
     match read_input(alloc, store, log) {
         Ok(input) => claims_answer::<L>(alloc, input),
+        Err(stop) => Err(stop),
+    }
+}
+
+// The record that comes next in the log in a file.
+fn made_for_file<L: ToolLog + Worded, V: Verifier, S: Store>(
+    alloc: Global,
+    verifier: &V,
+    log: &str,
+    name: &str,
+    time: &str,
+    entries: &[&str],
+    store: &mut S,
+) -> Result<Answer, Stop>
+    ensures answered { ForShown L.view L.kind L.Record.read L.Record.fault_of L.offence_of
+        L.name_of L.lines_of (λ shown. Answers
+        (IsMade shown (V.belongs verifier.now) (S.files store.old) log.now) result) }
+    ensures kept { S.files store.new ≡ S.files store.old }
+{
+    match read_log(alloc, store, log) {
+        Ok(input) => make_answer::<L, V>(alloc, verifier, input, name, time, entries),
+        Err(stop) => Err(stop),
+    }
+}
+
+// Adds the records of a file's lines to a log that is read.
+fn added_to_log<L: ToolLog, V: Verifier, S: Store>(
+    alloc: Global,
+    verifier: &V,
+    log: Input<'_>,
+    lines: &str,
+    store: &mut S,
+) -> Result<Answer, Stop>
+    ensures answered { ForShown L.view L.kind L.Record.read L.Record.fault_of L.offence_of
+        L.name_of L.lines_of (λ shown. Answers
+        (IsAddedTo shown (V.belongs verifier.now) (S.files store.old) (S.files store.new)
+        log.entry.path.now log.entry.bytes.items lines.now) result) }
+    ensures kept { OnErr result (S.files store.new ≡ S.files store.old) }
+{
+    match read_input(alloc, store, lines) {
+        Ok(lines) => append_answer::<L, V, S>(alloc, verifier, log, lines, store),
+        Err(stop) => Err(stop),
+    }
+}
+
+// Adds the records of a file's lines to the log in another.
+fn added_to_file<L: ToolLog, V: Verifier, S: Store>(
+    alloc: Global,
+    verifier: &V,
+    log: &str,
+    lines: &str,
+    store: &mut S,
+) -> Result<Answer, Stop>
+    ensures answered { ForShown L.view L.kind L.Record.read L.Record.fault_of L.offence_of
+        L.name_of L.lines_of (λ shown. Answers
+        (IsAppended shown (V.belongs verifier.now) (S.files store.old) (S.files store.new)
+        log.now lines.now) result) }
+    ensures kept { OnErr result (S.files store.new ≡ S.files store.old) }
+{
+    match read_log(alloc, store, log) {
+        Ok(log) => added_to_log::<L, V, S>(alloc, verifier, log, lines, store),
         Err(stop) => Err(stop),
     }
 }
@@ -96,8 +160,13 @@ pub(crate) fn task_answer<L: ToolLog + Hosted + Worded, V: Verifier, S: Store>(
     task: &Task<'_>,
     store: &mut S,
 ) -> Result<Answer, Stop>
-    ensures { Answers (IsTaskAnswer L.kind (envelope_of L.Record.read) (S.files store.old) task.now)
-        result }
+    ensures answered { ForShown L.view L.kind L.Record.read L.Record.fault_of L.offence_of
+        L.name_of L.lines_of (λ shown. Answers
+        (IsTaskAnswer shown (V.belongs verifier.now) (S.files store.old) (S.files store.new)
+        task.now) result) }
+    ensures files { ForShown L.view L.kind L.Record.read L.Record.fault_of L.offence_of
+        L.name_of L.lines_of (λ shown. Leaves shown (V.belongs verifier.now)
+        (S.files store.old) (S.files store.new) task.now) }
 {
     match task {
         Task::Claims { log } => claims_of_file::<L, S>(alloc, log, store),
@@ -107,13 +176,11 @@ pub(crate) fn task_answer<L: ToolLog + Hosted + Worded, V: Verifier, S: Store>(
             time,
             entries,
         } => {
-            let input = read_log(alloc, store, log)?;
-            make_answer::<L, V>(alloc, verifier, input, name, time, entries.as_slice())
+            let entries = entries.as_slice();
+            made_for_file::<L, V, S>(alloc, verifier, log, name, time, entries, store)
         }
         Task::Append { log, lines } => {
-            let input = read_log(alloc, store, log)?;
-            let lines = read_input(alloc, store, lines)?;
-            append_answer::<L, V, S>(alloc, verifier, input, lines, store)
+            added_to_file::<L, V, S>(alloc, verifier, log, lines, store)
         }
     }
 }

@@ -1,10 +1,10 @@
 //! The verifier of a request: the toy scheme, or what a file says was verified.
 
-ghost use Rattle.std.specs.Prelude.{◌≡◌, false, IfOk, IfErr};
+ghost use Rattle.std.specs.Prelude.{◌≡◌, IfOk, IfErr};
 ghost use Rattle.std.specs.Str.Lines.{lines};
 ghost use Rattle.warg_verified.specs.Texts.{IsReadFrom};
 ghost use Rattle.warg_tool.specs.Answers.{answer_view, IfStopped};
-ghost use Rattle.warg_tool.specs.Requests.{AreClaimsIn, is_many, IsGivenAs, IsInvocationAnswer};
+ghost use Rattle.warg_tool.specs.Requests.{AreClaimsIn, InvocationLeaves, IsGivenAs, IsInvocationAnswer};
 ghost use Rattle.warg_tool.specs.Unusable.{IsUnusable};
 
 use crate::answer::Answer;
@@ -89,10 +89,11 @@ pub fn invocation_answer<S: Store>(
     invocation: &Invocation<'_>,
     store: &mut S,
 ) -> Result<Answer, AllocError>
-    // Verdicts on many logs have an object for each log.
-    ensures { is_many invocation.now.request ≡ false →
-        IfOk result (λ answer. IsInvocationAnswer (S.files store.old) invocation.now
-        (answer_view answer)) }
+    ensures answered { IfOk result (λ answer. IsInvocationAnswer (S.files store.old)
+        (S.files store.new) invocation.now (answer_view answer)) }
+
+    // What files hold is changed by records that are added alone, also where memory runs out.
+    ensures files { InvocationLeaves (S.files store.old) (S.files store.new) invocation.now }
 {
     match invocation.verified {
         None => respond(alloc, &ToyVerifier, invocation, store),

@@ -121,9 +121,9 @@ fn inclusion_answer<S: Store>(
     proof: &str,
     store: &mut S,
 ) -> Result<Answer, Stop>
-    ensures { Answers (IfUsable (IsInclusionVerdict (S.files store.old) checkpoint.now place.now
-        log_id.now record_id.now
-        proof.now)) result }
+    ensures answered { Answers (IfUsable (IsInclusionVerdict (S.files store.old)
+        checkpoint.now place.now log_id.now record_id.now proof.now)) result }
+    ensures kept { S.files store.new ≡ S.files store.old }
 {
     let leaf = leaf_of(alloc, log_id, record_id)?;
     let place = place_of(alloc, place)?;
@@ -140,8 +140,9 @@ fn consistency_answer<S: Store>(
     proof: &str,
     store: &mut S,
 ) -> Result<Answer, Stop>
-    ensures { Answers (IfUsable (IsConsistencyVerdict (S.files store.old) old.now
+    ensures answered { Answers (IfUsable (IsConsistencyVerdict (S.files store.old) old.now
         new.now proof.now)) result }
+    ensures kept { S.files store.new ≡ S.files store.old }
 {
     let old = read_checkpoint(alloc, old, store)?;
     let new = read_checkpoint(alloc, new, store)?;
@@ -158,8 +159,9 @@ fn head_answer<S: Store>(
     proof: &str,
     store: &mut S,
 ) -> Result<Answer, Stop>
-    ensures { Answers (IfUsable (IsHeadVerdict (S.files store.old) checkpoint.now log_id.now
-        record_id.now proof.now)) result }
+    ensures answered { Answers (IfUsable (IsHeadVerdict (S.files store.old) checkpoint.now
+        log_id.now record_id.now proof.now)) result }
+    ensures kept { S.files store.new ≡ S.files store.old }
 {
     let leaf = leaf_of(alloc, log_id, record_id)?;
     let checkpoint = read_checkpoint(alloc, checkpoint, store)?;
@@ -175,8 +177,9 @@ fn absence_answer<S: Store>(
     proof: &str,
     store: &mut S,
 ) -> Result<Answer, Stop>
-    ensures { Answers (IfUsable (IsAbsenceVerdict (S.files store.old) checkpoint.now
+    ensures answered { Answers (IfUsable (IsAbsenceVerdict (S.files store.old) checkpoint.now
         log_id.now proof.now)) result }
+    ensures kept { S.files store.new ≡ S.files store.old }
 {
     let log_id = value_of::<LogId>(alloc, log_id, "id of a log")?;
     let checkpoint = read_checkpoint(alloc, checkpoint, store)?;
@@ -190,7 +193,9 @@ pub(crate) fn verify_answer<S: Store>(
     statement: &Statement<'_>,
     store: &mut S,
 ) -> Result<Answer, Stop>
-    ensures { Answers (IfUsable (IsStatementVerdict (S.files store.old) statement.now)) result }
+    ensures answered { Answers (IfUsable (IsStatementVerdict (S.files store.old)
+        statement.now)) result }
+    ensures kept { S.files store.new ≡ S.files store.old }
 {
     match statement {
         Statement::Inclusion {

@@ -1,26 +1,50 @@
 use Rattle.warg_tool.proofs.AnswerLemmas.{nothing_said}
 use Rattle.warg_tool.proofs.commands.request_answer.Goals as goal
 
-pub returns-in-Id : goal.returns-in-Id
-returns-in-Id g c = rw c.in-Id.is (nothing_said c.id_of_file.result)
+pub returns-in-Id-clause-answered : goal.returns-in-Id-clause-answered
+returns-in-Id-clause-answered g c = rw c.in-Id.is c.id_of_file.ensures.answered
 
-pub returns-in-Audit : goal.returns-in-Audit
-returns-in-Audit g c = rw c.in-Audit.is (nothing_said c.audit_of_file.result)
+pub returns-in-Id-clause-files : goal.returns-in-Id-clause-files
+returns-in-Id-clause-files g c = rw c.in-Id.is c.id_of_file.ensures.kept
 
-pub returns-in-Audits : goal.returns-in-Audits
-returns-in-Audits g c = rw c.in-Audits.is (nothing_said c.audits_answer.result)
+pub returns-in-Audit-clause-answered : goal.returns-in-Audit-clause-answered
+returns-in-Audit-clause-answered g c = rw c.in-Audit.is c.audit_of_file.ensures.answered
 
-pub returns-in-Latest : goal.returns-in-Latest
-returns-in-Latest g c = rw c.in-Latest.is (nothing_said c.latest_of_file.result)
+pub returns-in-Audit-clause-files : goal.returns-in-Audit-clause-files
+returns-in-Audit-clause-files g c = rw c.in-Audit.is c.audit_of_file.ensures.kept
 
-pub returns-in-Prove : goal.returns-in-Prove
-returns-in-Prove g c = rw c.in-Prove.is (nothing_said c.prove_answer.result)
+pub returns-in-Audits-clause-answered : goal.returns-in-Audits-clause-answered
+returns-in-Audits-clause-answered g c = rw c.in-Audits.is (rw c.as_slice.ensures.value at c.audits_answer.ensures.answered)
 
-pub returns-in-Verify : goal.returns-in-Verify
-returns-in-Verify g c = rw c.in-Verify.is c.verify_answer.ensures
+pub returns-in-Audits-clause-files : goal.returns-in-Audits-clause-files
+returns-in-Audits-clause-files g c = rw c.in-Audits.is c.audits_answer.ensures.kept
 
-pub returns-in-Ask : goal.returns-in-Ask
-returns-in-Ask g c = rw c.in-Ask.is c.asked_answer.ensures
+pub returns-in-Latest-clause-answered : goal.returns-in-Latest-clause-answered
+returns-in-Latest-clause-answered g c = rw c.in-Latest.is c.latest_of_file.ensures.answered
 
-pub returns-in-Do : goal.returns-in-Do
-returns-in-Do g c = rw c.in-Do.is c.done_answer.ensures
+pub returns-in-Latest-clause-files : goal.returns-in-Latest-clause-files
+returns-in-Latest-clause-files g c = rw c.in-Latest.is c.latest_of_file.ensures.kept
+
+pub returns-in-Prove-clause-answered : goal.returns-in-Prove-clause-answered
+returns-in-Prove-clause-answered g c = rw c.in-Prove.is (nothing_said c.prove_answer.result)
+
+pub returns-in-Prove-clause-files : goal.returns-in-Prove-clause-files
+returns-in-Prove-clause-files g c = rw c.in-Prove.is c.prove_answer.ensures.kept
+
+pub returns-in-Verify-clause-answered : goal.returns-in-Verify-clause-answered
+returns-in-Verify-clause-answered g c = rw c.in-Verify.is c.verify_answer.ensures.answered
+
+pub returns-in-Verify-clause-files : goal.returns-in-Verify-clause-files
+returns-in-Verify-clause-files g c = rw c.in-Verify.is c.verify_answer.ensures.kept
+
+pub returns-in-Ask-clause-answered : goal.returns-in-Ask-clause-answered
+returns-in-Ask-clause-answered g c = rw c.in-Ask.is c.asked_answer.ensures.answered
+
+pub returns-in-Ask-clause-files : goal.returns-in-Ask-clause-files
+returns-in-Ask-clause-files g c = rw c.in-Ask.is c.asked_answer.ensures.kept
+
+pub returns-in-Do-clause-answered : goal.returns-in-Do-clause-answered
+returns-in-Do-clause-answered g c = rw c.in-Do.is c.done_answer.ensures.answered
+
+pub returns-in-Do-clause-files : goal.returns-in-Do-clause-files
+returns-in-Do-clause-files g c = rw c.in-Do.is c.done_answer.ensures.files

@@ -1,21 +1,28 @@
-use Rattle.std.proofs.Common.{◌≡◌, true, false, sym}
-use Rattle.std.proofs.lemmas.Bool.{false≢true}
+use Rattle.std.proofs.Common.{◌∙◌, sym}
 use Rattle.std.proofs.lemmas.Result.{IfOk-weaker}
 use Rattle.warg_tool.specs.Answers.{answer_view}
 use Rattle.warg_tool.specs.Requests.{IsRequestAnswer}
 use Rattle.warg_tool.proofs.AnswerLemmas.{settled_is}
+use Rattle.warg_tool.proofs.RequestLemmas.{given_many, given_one}
 use Rattle.warg_tool.proofs.commands.respond.Goals as goal
 
-pub returns-in-Audits : goal.returns-in-Audits
-returns-in-Audits g c = λ one. let e : true ≡ false = rw c.in-Audits.is at one in absurd (false≢true (sym e))
+pub returns-then-is_many-clause-answered : goal.returns-then-is_many-clause-answered
+returns-then-is_many-clause-answered g c =
+    let it = c.args.invocation.now in
+    let belongs = g.V.Verifier.belongs c.args.verifier.now in
+    let P = IsRequestAnswer it.json belongs (g.S.Store.files c.args.store.now) (g.S.Store.files c.request_answer.new.store) it.request in
+    given_many _ it.json it.command.now P (answer_view c.in_ok-answer.answer) (sym c.if-is_many.ensures)
+    (settled_is P c.request_answer.result _ c.in_ok-answer.ensures c.request_answer.ensures.answered)
 
-pub returns-in_ok-answer-in_default : goal.returns-in_ok-answer-in_default
-returns-in_ok-answer-in_default g c = λ one.
-    let P = IsRequestAnswer (g.V.Verifier.belongs c.args.verifier.now) (g.S.Store.files c.args.store.now) c.args.invocation.now.request in
+pub returns-else-is_many-clause-answered : goal.returns-else-is_many-clause-answered
+returns-else-is_many-clause-answered g c =
+    let it = c.args.invocation.now in
+    let belongs = g.V.Verifier.belongs c.args.verifier.now in
+    let P = IsRequestAnswer it.json belongs (g.S.Store.files c.args.store.now) (g.S.Store.files c.request_answer.new.store) it.request in
     IfOk-weaker c.given.result _ _
-    (λ it is. (
-      answer_view c.in_ok-answer-in_default.answer,
-      settled_is P c.request_answer.result _ c.in_ok-answer-in_default.ensures c.request_answer.ensures,
+    (λ answer is. given_one _ it.json it.command.now P (answer_view answer) (sym c.if-is_many.ensures) (
+      answer_view c.in_ok-answer.answer,
+      settled_is P c.request_answer.result _ c.in_ok-answer.ensures c.request_answer.ensures.answered,
       is,
     ))
     c.given.ensures

@@ -1,8 +1,8 @@
 use Rattle.std.proofs.Common.{inr, sym}
 use Rattle.warg_tool.proofs.verify.absence_answer.Goals as goal
 
-pub returns : goal.returns
-returns g c = inr (record {
+pub returns-clause-answered : goal.returns-clause-answered
+returns-clause-answered g c = inr (record {
   log = c.in_ok-log_id.log_id;
   log_is = sym c.in_ok-log_id.ensures.ok;
   checkpoint = c.in_ok-checkpoint.checkpoint;

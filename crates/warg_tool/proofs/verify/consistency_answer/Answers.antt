@@ -1,8 +1,8 @@
 use Rattle.std.proofs.Common.{inr}
 use Rattle.warg_tool.proofs.verify.consistency_answer.Goals as goal
 
-pub returns : goal.returns
-returns g c = inr (record {
+pub returns-clause-answered : goal.returns-clause-answered
+returns-clause-answered g c = inr (record {
   old = c.in_ok-old.old;
   old_is = c.in_ok-old.ensures.ok;
   new = c.in_ok-new.new;

@@ -1,8 +1,8 @@
 use Rattle.std.proofs.Common.{inr}
 use Rattle.warg_tool.proofs.verify.head_answer.Goals as goal
 
-pub returns : goal.returns
-returns g c = inr (record {
+pub returns-clause-answered : goal.returns-clause-answered
+returns-clause-answered g c = inr (record {
   leaf = c.in_ok-leaf.leaf;
   leaf_is = c.in_ok-leaf.ensures.ok;
   checkpoint = c.in_ok-checkpoint.checkpoint;
