@@ -181,7 +181,9 @@ uint32_t warg_head(struct warg_log *log, uint8_t *text, size_t text_len, size_t 
  *   WARG_BAD_ARGUMENT: the log was resumed. */
 uint32_t warg_length(struct warg_log *log, size_t *length);
 
-/* The record at a place, counted from 0: its envelope, and the text of its id behind it.
+/* The record at a place, counted from 0: its envelope, and the text of its id behind it. The envelope is written anew, so it may differ from
+ * the bytes that were appended: it has the contents, the key id and the signature that came, and nothing else that stood there, such as fields
+ * that no envelope has. Its record has the same id.
  *   WARG_NONE: the log has no record at this place.
  *   WARG_BAD_ARGUMENT: the log was resumed. */
 uint32_t warg_record(struct warg_log *log, size_t place, uint8_t *bytes, size_t bytes_len, size_t *used,

@@ -57,6 +57,14 @@ class Packages(unittest.TestCase):
         with self.assertRaises(NoEnvelope):
             record_id(Kind.PACKAGE, b"\x0b")
 
+    def test_envelopes_are_written_anew(self) -> None:
+        envelope = published.release(self.log, self.bob, "1.9.0")
+        # A signature of no text, which a later one overrides, and a field of number 15, which no envelope has.
+        strange = b"\x1a\x00" + envelope + b"\x78\x01"
+        self.log.append(strange, p256.verify)
+        self.assertEqual(self.log.record(4), (envelope, record_id(Kind.PACKAGE, strange)))
+        self.assertEqual(self.log.head(), record_id(Kind.PACKAGE, envelope))
+
     def test_releases(self) -> None:
         self.assertEqual([it.version for it in self.log.releases()], ["1.1.0", "1.2.0", "1.3.0"])
         found = self.log.latest("<1.3")

@@ -29,7 +29,8 @@ unsafe impl<K: Kind> Send for Log<K> {}
 /// A record that a log keeps.
 #[derive(Clone, Debug, PartialEq, Eq)]
 pub struct Record {
-    /// The record's envelope.
+    /// The record's envelope, written anew: it has the contents, the key id and the signature that were appended, and nothing
+    /// else that stood in those bytes.
     pub envelope: Vec<u8>,
     /// The text of the record's id.
     pub id: String,

@@ -51,6 +51,17 @@ fn records_and_releases() -> Tested {
 }
 
 #[test]
+fn envelopes_are_written_anew() -> Tested {
+    let (alice, bob) = (key(), key());
+    let envelopes = envelopes(1, &alice, &bob);
+    // A signature of no text, which a later one overrides, and a field of number 15, which no envelope has.
+    let strange = [&b"\x1a\x00"[..], &envelopes[0], b"\x78\x01"].concat();
+    let record = log_of(&[strange]).record(0)?.ok_or("a record")?;
+    assert_eq!((&record.envelope, record.id), (&envelopes[0], record_id::<Package>(&envelopes[0])?));
+    Ok(())
+}
+
+#[test]
 fn keys_and_chains() -> Tested {
     let (alice, bob) = (key(), key());
     let log = log_of(&envelopes(2, &alice, &bob));

@@ -1,4 +1,4 @@
-/* Each wrong use that the library can see has its status, and leaves the log as it was. */
+/* Each wrong use that the library can see has its status, and leaves the log as it was; what came in an odd form is kept in the ordinary one. */
 #include "../p256.h"
 #include "check.h"
 #include "logs.h"
@@ -48,6 +48,24 @@ static void no_log(const struct bytes *envelope) {
     warg_close(&log);
     warg_close(&log);
     expect_all(&log, envelope, WARG_NOT_OPEN);
+}
+
+/* A kept envelope is written anew: it lacks a signature that a later one overrides, and a field that no envelope has. */
+static void written_anew(const struct bytes *envelope) {
+    static const uint8_t overridden[] = {0x1a, 0}, unknown[] = {0x78, 1};
+    struct warg_log log = {0};
+    struct warg_kept kept;
+    struct bytes strange = {0}, said = {0};
+    bytes_add(&strange, overridden, sizeof overridden);
+    bytes_add(&strange, envelope->at, envelope->len);
+    bytes_add(&strange, unknown, sizeof unknown);
+    CHECK(warg_open(&log, WARG_PACKAGE) == WARG_OK);
+    CHECK(append(&log, &strange, p256_verify, &said) == WARG_OK);
+    CHECK(warg_record(&log, 0, text, sizeof text, &used, &kept) == WARG_OK);
+    CHECK(kept.envelope_len == envelope->len && !memcmp(text, envelope->at, envelope->len));
+    warg_close(&log);
+    bytes_free(&strange);
+    bytes_free(&said);
 }
 
 /* Opening one that is open begins it anew; where that is refused, it stays. */
@@ -191,6 +209,7 @@ int main(void) {
     small_buffers(&log, &next);
     texts(&log, &alice);
     other_logs(&log, &alice);
+    written_anew(&first);
     CHECK(head_of(&log, &after) == WARG_OK);
     CHECK(before.len == after.len && !memcmp(before.at, after.at, after.len));
     opened_again(&log, &first);

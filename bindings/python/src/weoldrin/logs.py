@@ -31,6 +31,8 @@ class Record(NamedTuple):
     """A record that a log keeps."""
 
     envelope: bytes
+    """The record's envelope, written anew: it has the contents, the key id and the signature that were appended, and nothing
+    else that stood in those bytes."""
     id: str
 
 
