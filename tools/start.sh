@@ -19,11 +19,13 @@ crates= program=none
 done <"$manifest"
 released=$root/dist/$program
 
-# Whether code or a definition is newer than this file. It starts no other program, so that it takes a few milliseconds.
+# Whether code or a definition is newer than this file, or a folder of these, as one is where a file was removed. It starts no
+# other program, so that it takes a few milliseconds.
 is_older() {
     for crate in $crates; do
-        for file in "$root/crates/$crate"/src/*.rt "$root/crates/$crate"/src/*/*.rt \
-            "$root/crates/$crate"/src/*/*/*.rt "$root/crates/$crate"/specs/*.antt; do
+        for file in "$root/crates/$crate"/src "$root/crates/$crate"/src/*.rt "$root/crates/$crate"/src/*/ \
+            "$root/crates/$crate"/src/*/*.rt "$root/crates/$crate"/src/*/*/ "$root/crates/$crate"/src/*/*/*.rt \
+            "$root/crates/$crate"/specs "$root/crates/$crate"/specs/*.antt; do
             [ "$file" -nt "$1" ] && return 0
         done
     done
