@@ -148,7 +148,8 @@ void warg_close(struct warg_log *log);
 
 /* Appending */
 
-/* Says what has to be verified before the record of an envelope can be appended. Changes nothing.
+/* Says what has to be verified before the record of an envelope can be appended. Changes nothing, but a log that has its records keeps a
+ * copy of the envelope until the next append, which then need not read it again.
  *   WARG_OK: the record is lawful exactly if the signature that stands in the question belongs to the message under the key. The question
  *     is in `bytes`: the key's text, the message, the signature's text; `used` and `asked` say how much of it is what.
  *   WARG_TOO_SMALL: as WARG_OK, but there was no room for the question. `asked` is written too.

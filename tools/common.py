@@ -45,7 +45,7 @@ PRODUCTS = {
     it.name: it
     for it in [
         Product("warg_audit", ("warg_audit",), "warg_audit_main", "", "MANIFEST", "crates/warg_audit/src/information.rt"),
-        Product("warg", ("warg",), "warg_tool_main", "", "MANIFEST.warg", "crates/warg_tool/src/version.rt"),
+        Product("warg", ("warg",), "warg_tool_main", "", "MANIFEST.warg", "crates/warg_words/src/version.rt"),
         Product("libwarg", ("libwarg.a", "libwarg.so", "warg.pc"), "warg_c", "c", "MANIFEST.libwarg", "crates/warg_c/src/exports/version.rt"),
     ]
 }
@@ -62,7 +62,7 @@ def stands_on(name, found=None):
     """The crate and all crates of the repository that it stands on, by crates.txt."""
     found = set() if found is None else found
     lines = (line.partition(":") for line in (ROOT / "crates.txt").read_text(encoding="utf-8").splitlines())
-    below = {crate.split()[0]: words.split() for crate, _, words in lines if words and crate.split()}
+    below = {crate.split()[0]: words.split() for crate, colon, words in lines if colon}
     if name in below and name not in found:
         found.add(name)
         for word in below[name]:

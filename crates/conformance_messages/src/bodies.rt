@@ -4,9 +4,9 @@ use crate::envelopes::opened;
 use crate::errors::contents_fault;
 use conformance_rows::{Answer, Fail, Words};
 use std::alloc::Global;
-use warg_crypto::DecodeError;
 use warg_envelope::{
-    ProtoEnvelope, ProtoEnvelopeBody, PublishedProtoEnvelope, PublishedProtoEnvelopeBody, Record,
+    DecodeError, ProtoEnvelope, ProtoEnvelopeBody, PublishedProtoEnvelope,
+    PublishedProtoEnvelopeBody, Record,
 };
 use warg_records::operator::OperatorRecord;
 use warg_records::package::PackageRecord;

@@ -4,11 +4,11 @@ use crate::worded::{Worded, no_such_kind};
 use conformance_rows::{Answer, Fail, Words};
 use std::alloc::Global;
 use std::hash::{FoldHasher, Hash, Hasher};
-use warg_crypto::Timestamp;
 use warg_crypto::hash::AnyHash;
 use warg_crypto::signing::{KeyID, PublicKey, Signature};
 use warg_records::RecordId;
 use warg_registry::{LogId, PackageName};
+use warg_time::Timestamp;
 
 // The two values that the words say, none of which may be left.
 fn pair_of<T: Worded>(alloc: Global, mut words: Words<'_>) -> Result<(T, T), Fail> {

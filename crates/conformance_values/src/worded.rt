@@ -3,11 +3,11 @@
 use conformance_rows::{Answer, Fail, Words};
 use std::alloc::Global;
 use std::fmt::Debug;
-use warg_crypto::Timestamp;
 use warg_crypto::hash::{AnyHash, HashAlgorithm};
 use warg_crypto::signing::{KeyID, PublicKey, Signature};
 use warg_records::{RecordId, operator, package};
 use warg_registry::{Checkpoint, LogId, LogLeaf, MapLeaf, PackageName, TimestampedCheckpoint};
+use warg_time::Timestamp;
 
 /// A kind of value that stands in rows as words.
 pub(crate) trait Worded: Drop {

@@ -4,10 +4,10 @@ use Rattle.std.proofs.lemmas.Bool.{false≢true}
 use Rattle.hex.specs.declared.error.FromHexError.{FromHexError}
 use Rattle.warg_protocol.specs.Messages.{envelope_table, EnvelopeValue, IsEnvelope, envelope_of, Computes}
 use Rattle.warg_protocol.specs.Errors.{WireError}
-use Rattle.warg_audit.specs.declared.command.LogType.{LogType}
+use Rattle.warg_log_type.specs.declared.LogType.{LogType}
 use Rattle.warg_audit.specs.Lines.{string_of}
 use Rattle.warg_audit.specs.Answers.{IsEnvelopeAnswer, is_read, has_fault, IsIdAnswer, no_line, bad_digits, second_line, one_line, envelope_answer, string_answer, id_answer}
-use Rattle.warg_audit.specs.Printed.{Printed}
+use Rattle.warg_audit.specs.Printouts.{Printout}
 
 module _ (computes : (bytes : List ℕ) → Computes envelope_table envelope_of IsEnvelope bytes) where
   -- ---- the computed answer is one
@@ -27,15 +27,15 @@ module _ (computes : (bytes : List ℕ) → Computes envelope_table envelope_of 
 
   -- ---- and the only one
 
-  envelope_only : (log_type : LogType) (bytes : List ℕ) (printed : Printed) → IsEnvelopeAnswer log_type bytes printed → printed ≡ envelope_answer log_type (envelope_of bytes)
-  envelope_only log_type bytes printed (is_read envelope is e) = e ∙ ap (envelope_answer log_type) (sym ((computes bytes).value_again envelope is))
-  envelope_only log_type bytes printed (has_fault fault has e) = e ∙ ap (envelope_answer log_type) (sym ((computes bytes).fault_again fault has))
+  envelope_only : (log_type : LogType) (bytes : List ℕ) (printed : Printout) → IsEnvelopeAnswer log_type bytes printed → printed ≡ envelope_answer log_type (envelope_of bytes)
+  envelope_only log_type bytes printed (is_read envelope is e) = e ∙ ap (envelope_answer log_type) (sym ((computes bytes).value_converse envelope is))
+  envelope_only log_type bytes printed (has_fault fault has e) = e ∙ ap (envelope_answer log_type) (sym ((computes bytes).fault_converse fault has))
 
-  bad_only : (log_type : LogType) (spelled : Result (List ℕ) FromHexError) (more : List (List ℕ)) (printed : Printed) → IsErr spelled → printed ≡ string_answer log_type (Err FromHexError.OddLength) more → printed ≡ string_answer log_type spelled more
+  bad_only : (log_type : LogType) (spelled : Result (List ℕ) FromHexError) (more : List (List ℕ)) (printed : Printout) → IsErr spelled → printed ≡ string_answer log_type (Err FromHexError.OddLength) more → printed ≡ string_answer log_type spelled more
   bad_only log_type (Ok bytes) more printed bad e = absurd (false≢true bad)
   bad_only log_type (Err fault) more printed bad e = e
 
-  pub id_only : (log_type : LogType) (lines : List (List ℕ)) (printed : Printed) → IsIdAnswer log_type lines printed → printed ≡ id_answer log_type lines
+  pub id_only : (log_type : LogType) (lines : List (List ℕ)) (printed : Printout) → IsIdAnswer log_type lines printed → printed ≡ id_answer log_type lines
   id_only log_type lines printed (no_line is e) = e ∙ ap (id_answer log_type) (sym is)
   id_only log_type lines printed (bad_digits line more is bad e) = bad_only log_type (string_of line) more printed bad e ∙ ap (id_answer log_type) (sym is)
   id_only log_type lines printed (second_line line bytes next more is good e) =

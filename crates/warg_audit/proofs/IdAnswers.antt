@@ -1,13 +1,13 @@
 -- The answers to an input, by what was found of its lines.
 use Rattle.std.proofs.Common.{◌≡◌, ◌≢◌, ◌<◌, ◌≤◌, ℕ, Bool, true, false, cond, List, [], ◌∷◌, length, refl, ◌∙◌, ap, arith, zero, suc, Option, Some, None, IfSome, Ok, IsErr}
 use Rattle.std.specs.Io.KnownBytes.{Appends}
-use Rattle.warg_audit.specs.declared.command.LogType.{LogType}
+use Rattle.warg_log_type.specs.declared.LogType.{LogType}
 use Rattle.warg_audit.specs.declared.command.Command.{Command}
 use Rattle.warg_audit.specs.Commands.{command_of}
 use Rattle.warg_audit.specs.Lines.{lines_of, string_of, is_line_feed, onto}
 use Rattle.warg_audit.specs.Answers.{IsEnvelopeAnswer, IsIdAnswer, bad_digits, second_line, one_line, IsCommandAnswer, other_words, over_limit, of_lines}
-use Rattle.warg_audit.specs.Printed.{Printed, usage, too_long, bad_line}
-use Rattle.warg_audit.specs.Replies.{IsReply, answer, unread, starved, IsAnswered}
+use Rattle.warg_audit.specs.Printouts.{Printout, usage, too_long, bad_line}
+use Rattle.warg_audit.specs.Replies.{IsReply, answer, unread, memory_refused, IsAnswered}
 use Rattle.warg_audit.proofs.LineLemmas.{lines_of-are}
 
 -- ---- the lines behind the first one
@@ -30,7 +30,7 @@ more_lines (b ∷ rest) h = first_of_step (is_line_feed b) b (lines_of rest)
 
 -- ---- the answer to an input, by its first line and what stands behind it
 
-module _ (log_type : LogType) (text line more : List ℕ) (printed : Printed) where
+module _ (log_type : LogType) (text line more : List ℕ) (printed : Printout) where
   pub bad_first : lines_of text ≡ line ∷ lines_of more → IsErr (string_of line) → printed ≡ bad_line 0 → IsIdAnswer log_type (lines_of text) printed
   bad_first cut bad is = bad_digits line (lines_of more) cut bad is
 
@@ -50,7 +50,7 @@ long_list (suc n) = let more = long_list n in (0 ∷ more.0, omega (arith, more.
 
 -- ---- replies
 
-module _ (words : List (List ℕ)) (Failed : Type 0) (printed : Printed) where
+module _ (words : List (List ℕ)) (Failed : Type 0) (printed : Printout) where
   pub usage_reply : (known : Option (List ℕ)) → command_of words ≡ None → printed ≡ usage → IsReply words known Failed printed
   usage_reply (Some all) none e = answer all refl (other_words none e)
   usage_reply None none e = answer [] tt (other_words none e)
@@ -66,8 +66,8 @@ module _ (words : List (List ℕ)) (Failed : Type 0) (printed : Printed) where
 
 -- ---- what was written of a reply
 
-module _ (words : List (List ℕ)) (known before after : Option (List ℕ)) (Failed : Type 0) (printed : Printed) (status : ℕ) where
+module _ (words : List (List ℕ)) (known before after : Option (List ℕ)) (Failed : Type 0) (printed : Printout) (status : ℕ) where
   pub answered_by : IsReply words known Failed printed → status ≡ printed.status → Appends before after printed.text → status ≢ 3 → IsAnswered words known before after status
   answered_by (answer bytes are is) same wrote other = record { bytes = bytes; are_known = are; printed = printed; is_answer = is; is_printed = record { status_is = same; text_is = wrote } }
-  answered_by (unread failed is) same wrote other = absurd (other (same ∙ ap (λ (p : Printed). p.status) is))
-  answered_by (starved is) same wrote other = absurd (other (same ∙ ap (λ (p : Printed). p.status) is))
+  answered_by (unread failed is) same wrote other = absurd (other (same ∙ ap (λ (p : Printout). p.status) is))
+  answered_by (memory_refused is) same wrote other = absurd (other (same ∙ ap (λ (p : Printout). p.status) is))

@@ -3,7 +3,7 @@ use Rattle.std.proofs.Common.{◌≡◌, ◌<◌, ◌≤◌, ◌+◌, ℕ, false
 use Rattle.std.proofs.KnownBytes.{Consumes-trans}
 use Rattle.std.specs.Io.KnownBytes.{Consumes, Keeps, IsAtEnd}
 use Rattle.warg_audit.specs.declared.input.Input.{Input}
-use Rattle.warg_audit.specs.Meters.{left, ReadsToEnd}
+use Rattle.warg_audit.specs.Meters.{bytes_left, ReadsToEnd}
 
 -- the bytes before the end are all
 pub at_end : (a b n : Option (List ℕ)) (bs front : List ℕ) → Consumes a b bs → Consumes b n front → front ≡ [] → IsAtEnd n → IfSome a (λ xs. xs ≡ bs)
@@ -36,24 +36,24 @@ known_long (Some x) (Some y) bs n p long = rw p (omega (arith, length-append bs 
 pub record SoFar {R : Type 0} (remaining : R → Option (List ℕ)) (before now : Input R) (turn : ℕ) (bytes : List ℕ) : Type 0 where
   pub reads : now.reads ≤ before.reads + turn
   pub failures : now.failures ≡ before.failures
-  pub taken : now.taken ≤ before.taken + length bytes
-  pub late : before.ended ≡ false → (now.ended ≡ false) × (now.late ≡ before.late)
+  pub bytes_taken : now.bytes_taken ≤ before.bytes_taken + length bytes
+  pub late_reads : before.ended ≡ false → (now.ended ≡ false) × (now.late_reads ≡ before.late_reads)
   pub enough : turn ≤ length bytes
   pub short : length bytes ≤ 16_777_216
-  pub are_gone : Consumes (left remaining before) (left remaining now) bytes
+  pub are_gone : Consumes (bytes_left remaining before) (bytes_left remaining now) bytes
 
 module _ {R : Type 0} (remaining : R → Option (List ℕ)) (before now after : Input R) (turn : ℕ) (bytes front : List ℕ) where
   -- with the last read
-  pub last_read : SoFar remaining before now turn bytes → after.reads ≤ now.reads + 1 → after.failures ≤ now.failures + 1 → after.taken ≤ now.taken + length front
-      → (now.ended ≡ false → after.late ≡ now.late) → Consumes (left remaining now) (left remaining after) front → length front + length bytes ≤ 16_777_217
+  pub last_read : SoFar remaining before now turn bytes → after.reads ≤ now.reads + 1 → after.failures ≤ now.failures + 1 → after.bytes_taken ≤ now.bytes_taken + length front
+      → (now.ended ≡ false → after.late_reads ≡ now.late_reads) → Consumes (bytes_left remaining now) (bytes_left remaining after) front → length front + length bytes ≤ 16_777_217
       → ReadsToEnd remaining before after
   last_read far reads failures taken late front_gone few = record {
-    late = λ unended. let kept = far.late unended in late kept.0 ∙ kept.1;
+    late_reads = λ unended. let kept = far.late_reads unended in late kept.0 ∙ kept.1;
     failures = omega arith;
     reads = omega arith;
-    taken = omega arith;
-    known_reads = known_more (left remaining before) (left remaining now) bytes before.reads after.reads far.are_gone (omega arith);
-    gone = bytes ++ front;
-    are_gone = Consumes-trans (left remaining before) (left remaining now) (left remaining after) bytes front far.are_gone front_gone;
-    few_gone = omega (arith, length-append bytes front);
+    bytes_taken = omega arith;
+    known_reads = known_more (bytes_left remaining before) (bytes_left remaining now) bytes before.reads after.reads far.are_gone (omega arith);
+    bytes_gone = bytes ++ front;
+    are_gone = Consumes-trans (bytes_left remaining before) (bytes_left remaining now) (bytes_left remaining after) bytes front far.are_gone front_gone;
+    few_bytes_gone = omega (arith, length-append bytes front);
   }

@@ -5,7 +5,7 @@ use Rattle.std.proofs.lemmas.List.{take-append-le}
 use Rattle.std.proofs.lemmas.List.Elements.{filter_map-append}
 use Rattle.std.proofs.lemmas.Option.{slice_get_within}
 use Rattle.std.specs.List.{slice_get}
-use Rattle.warg_protocol.specs.Logs.{EnvelopeData, SignatureRelation, Kind, Cause, read_all, HasNoOffence, IsFirstOffence, IsRefusal, IsRun, IfTold, RunCause, RunError}
+use Rattle.warg_protocol.specs.Logs.{EnvelopeData, SignatureRelation, Kind, Cause, read_all, HasNoOffence, IsFirstOffence, IsRefusal, IsRun, IfNamed, RunCause, RunError}
 use Rattle.warg_audit.specs.Lines.{string_of}
 use Rattle.warg_audit.proofs.StringLemmas.{IsReadTo, none_read, one_read}
 
@@ -18,10 +18,10 @@ slice_get-front (x ∷ xs) ys (suc i) low = slice_get-front xs ys i (omega (arit
 nothing_at : {X : Type 0} (i : ℕ) (x : X) → slice_get [] i ≡ Some x → ⊥
 nothing_at i x at = cc
 
-IfTold-map : {C : Type 0} (told : Option C) (P Q : C → Type 0) → ((c : C) → P c → Q c) → IfTold told P
-    → IfTold told Q
-IfTold-map None P Q f h = tt
-IfTold-map (Some c) P Q f h = f c h
+IfNamed-map : {C : Type 0} (told : Option C) (P Q : C → Type 0) → ((c : C) → P c → Q c) → IfNamed told P
+    → IfNamed told Q
+IfNamed-map None P Q f h = tt
+IfNamed-map (Some c) P Q f h = f c h
 
 module _ {F View Offence : Type 0} (k : Kind View Offence) (b : SignatureRelation)
     (read : List ℕ → Result EnvelopeData F) where
@@ -40,12 +40,12 @@ module _ {F View Offence : Type 0} (k : Kind View Offence) (b : SignatureRelatio
               rw (take-append-le j ss ts (omega (arith, near))) (first.least j s below there);
         }
 
-    pub still_refused : {E : Type 0} (told_by : RunCause E → Option (Cause F Offence)) (error : RunError E)
-        → IsRefusal k b read seen told_by ss error → IsRefusal k b read seen told_by (ss ++ ts) error
-    still_refused told_by error refusal = record {
+    pub still_refused : {E : Type 0} (named_by : RunCause E → Option (Cause F Offence)) (error : RunError E)
+        → IsRefusal k b read seen named_by ss error → IsRefusal k b read seen named_by (ss ++ ts) error
+    still_refused named_by error refusal = record {
       in_range = omega (arith, length-append ss ts, refusal.in_range);
       before = rw (take-append-le error.index ss ts (omega (arith, refusal.in_range))) refusal.before;
-      first = IfTold-map (told_by error.cause) _ _ (still_first error.index) refusal.first;
+      first = IfNamed-map (named_by error.cause) _ _ (still_first error.index) refusal.first;
     }
 
   -- the envelopes that strings are, and then those of more strings
@@ -54,28 +54,28 @@ module _ {F View Offence : Type 0} (k : Kind View Offence) (b : SignatureRelatio
 
   -- one string after strings without offence, judged by what they are
   module _ (ss : List (List ℕ)) (s : List ℕ) (lawful : HasNoOffence k b read k.view_of ss)
-      {S E : Type 0} (view : S → View) (told_by : RunCause E → Option (Cause F Offence)) where
+      {S E : Type 0} (view : S → View) (named_by : RunCause E → Option (Cause F Offence)) where
     -- what envelopes behind the strings are seen as
     abbrev behind_them : List EnvelopeData → View
     behind_them fs = k.view_of (read_all read ss ++ fs)
 
     pub next_lawful : (HasNoOffence k b read k.view_of (ss ++ s ∷ [])
         ↔ (HasNoOffence k b read k.view_of ss × HasNoOffence k b read behind_them (s ∷ [])))
-        → (next : S) → IsRun k b read behind_them view told_by ◌≡◌ (s ∷ []) (Ok next)
-        → IsRun k b read k.view_of view told_by ◌≡◌ (ss ++ s ∷ []) (Ok next)
+        → (next : S) → IsRun k b read behind_them view named_by ◌≡◌ (s ∷ []) (Ok next)
+        → IsRun k b read k.view_of view named_by ◌≡◌ (ss ++ s ∷ []) (Ok next)
     next_lawful law next run = (law.1 (lawful, run.0), run.1 ∙ ap k.view_of (sym (read_more ss (s ∷ []))))
 
     pub next_refused : ((i : ℕ) (c : Cause F Offence) → IsFirstOffence k b read behind_them (s ∷ []) i c
         → IsFirstOffence k b read k.view_of (ss ++ s ∷ []) (length ss + i) c)
         → (place : ℕ) → length ss ≡ place → (error : RunError E)
-        → IsRefusal k b read behind_them told_by (s ∷ []) error
-        → IsRefusal k b read k.view_of told_by (ss ++ s ∷ []) (record { index = place; cause = error.cause })
+        → IsRefusal k b read behind_them named_by (s ∷ []) error
+        → IsRefusal k b read k.view_of named_by (ss ++ s ∷ []) (record { index = place; cause = error.cause })
     next_refused law place many error refusal =
         let whole = ss ++ s ∷ [] in
         let here : length ss + error.index ≡ place = omega (arith, refusal.in_range, many) in record {
           in_range = omega (arith, length-append ss (s ∷ []), many);
           before = rw (← many) (rw (take-append_seam ss (s ∷ [])) lawful);
-          first = IfTold-map (told_by error.cause) _ _
+          first = IfNamed-map (named_by error.cause) _ _
               (λ c first. subst (λ n. IsFirstOffence k b read k.view_of whole n c) here (law error.index c first))
               refusal.first;
         }
@@ -98,12 +98,12 @@ module _ {F View Offence : Type 0} (k : Kind View Offence) (b : SignatureRelatio
     stands = is ∙ sym start;
   }
 
-  pub one_judged : {S E : Type 0} (view : S → View) (told_by : RunCause E → Option (Cause F Offence))
+  pub one_judged : {S E : Type 0} (view : S → View) (named_by : RunCause E → Option (Cause F Offence))
       (lines : List (List ℕ)) (count : ℕ) (line : List ℕ) (rest : List (List ℕ)) (now : View)
       → (so_far : IsJudgedTo lines count (line ∷ rest) now) → (s : List ℕ) → string_of line ≡ Ok s
-      → (next : S) → IsRun k b read k.view_of view told_by ◌≡◌ (so_far.strings ++ s ∷ []) (Ok next)
+      → (next : S) → IsRun k b read k.view_of view named_by ◌≡◌ (so_far.strings ++ s ∷ []) (Ok next)
       → IsJudgedTo lines (count + 1) rest (view next)
-  one_judged view told_by lines count line rest now so_far s e next run = record {
+  one_judged view named_by lines count line rest now so_far s e next run = record {
     strings = so_far.strings ++ s ∷ [];
     many = omega (arith, length-append so_far.strings (s ∷ []), so_far.many);
     whole = one_read 0 lines count line rest so_far.strings so_far.whole s e;

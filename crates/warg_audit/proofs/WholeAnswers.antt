@@ -3,8 +3,8 @@ use Rattle.std.proofs.Common.{◌≡◌, ℕ, Bool, true, false, cond, nat_lt, L
 use Rattle.std.proofs.lemmas.Bool.{ltb-true, ltb-false, lt-ltb, le-ltb}
 use Rattle.warg_protocol.specs.Logs.{EnvelopeFault, envelope_of, SignatureRelation, IsFoundBy, first_offence_from, Cause}
 use Rattle.warg_protocol.specs.Records.{toy_belongs}
-use Rattle.warg_audit.specs.declared.command.LogType.{LogType}
-use Rattle.warg_audit.specs.declared.command.LogType.TheVariants.{Package, Operator}
+use Rattle.warg_log_type.specs.declared.LogType.{LogType}
+use Rattle.warg_log_type.specs.declared.LogType.TheVariants.{Package, Operator}
 use Rattle.warg_audit.specs.declared.command.Command.{Command}
 use Rattle.warg_audit.specs.declared.command.Command.TheVariants.{Id, Audit}
 use Rattle.warg_audit.specs.declared.lines.LineError.{LineError}
@@ -13,17 +13,17 @@ use Rattle.warg_audit.specs.Answers.{IsIdAnswer, id_answer, IsCommandAnswer, com
 use Rattle.warg_audit.specs.Commands.{command_of}
 use Rattle.warg_audit.specs.LogTypes.{package_log, operator_log, IsLogTypeAnswer, log_type_answer}
 use Rattle.warg_audit.specs.Lines.{lines_of, strings_of}
-use Rattle.warg_audit.specs.LogAnswers.{Shown, IsLogAnswer, all_lawful, first_refused, IsAuditAnswer, first_bad, all_spelled, found_answer, log_answer, spelled_answer, audit_answer}
-use Rattle.warg_audit.specs.Printed.{Printed, too_long}
+use Rattle.warg_audit.specs.LogAnswers.{LogDisplay, IsLogAnswer, all_lawful, first_refused, IsAuditAnswer, first_bad, all_spelled, found_answer, log_answer, spelled_answer, audit_answer}
+use Rattle.warg_audit.specs.Printouts.{Printout, too_long}
 use Rattle.warg_audit.proofs.LineLemmas.{lines_of-are, lines_of-only}
 use Rattle.warg_audit.proofs.StringLemmas as spelled
 
 -- the first offence of strings is what the search from the front finds
-abbrev pub IsSearched : {Meaning Fault View Offence : Type 0} → Shown Meaning Fault View Offence → Type 0
+abbrev pub IsSearched : {Meaning Fault View Offence : Type 0} → LogDisplay Meaning Fault View Offence → Type 0
 IsSearched {Meaning} {Fault} {View} {Offence} log = (belongs : SignatureRelation) (strings : List (List ℕ)) (found : Option (ℕ × Cause (EnvelopeFault Fault) Offence))
     → IsFoundBy log.kind belongs (envelope_of log.read) log.kind.view_of strings found ↔ (first_offence_from log.kind belongs (envelope_of log.read) log.kind.start strings ≡ found)
 
-module _ {Meaning Fault View Offence : Type 0} (log : Shown Meaning Fault View Offence) (searched : IsSearched log) (belongs : SignatureRelation) where
+module _ {Meaning Fault View Offence : Type 0} (log : LogDisplay Meaning Fault View Offence) (searched : IsSearched log) (belongs : SignatureRelation) where
   found_is : (strings : List (List ℕ)) (found : Option (ℕ × Cause (EnvelopeFault Fault) Offence))
       → IsFoundBy log.kind belongs (envelope_of log.read) log.kind.view_of strings found → IsLogAnswer log belongs strings (found_answer log belongs strings found)
   found_is strings None none = all_lawful none refl
@@ -34,7 +34,7 @@ module _ {Meaning Fault View Offence : Type 0} (log : Shown Meaning Fault View O
       let found = first_offence_from log.kind belongs (envelope_of log.read) log.kind.start strings in
       found_is strings found ((searched belongs strings found).1 refl)
 
-  log_only : (strings : List (List ℕ)) (printed : Printed) → IsLogAnswer log belongs strings printed → printed ≡ log_answer log belongs strings
+  log_only : (strings : List (List ℕ)) (printed : Printout) → IsLogAnswer log belongs strings printed → printed ≡ log_answer log belongs strings
   log_only strings printed (all_lawful none e) =
       e ∙ ap (found_answer log belongs strings) (sym ((searched belongs strings None).0 none))
   log_only strings printed (first_refused index cause first e) =
@@ -48,7 +48,7 @@ module _ {Meaning Fault View Offence : Type 0} (log : Shown Meaning Fault View O
   pub audit_is : (lines : List (List ℕ)) → IsAuditAnswer log belongs lines (audit_answer log belongs lines)
   audit_is lines = spelled_is lines (strings_of lines) refl
 
-  pub audit_only : (lines : List (List ℕ)) (printed : Printed) → IsAuditAnswer log belongs lines printed → printed ≡ audit_answer log belongs lines
+  pub audit_only : (lines : List (List ℕ)) (printed : Printout) → IsAuditAnswer log belongs lines printed → printed ≡ audit_answer log belongs lines
   audit_only lines printed (first_bad index bad e) = e ∙ ap (spelled_answer log belongs) (sym (spelled.from_first_bad lines index bad))
   audit_only lines printed (all_spelled strings spell is) =
       log_only strings printed is ∙ ap (spelled_answer log belongs) (sym (spelled.from_spell 0 lines strings spell))
@@ -58,7 +58,7 @@ module _ (of_package : IsSearched package_log) (of_operator : IsSearched operato
   log_type_is Package lines = audit_is package_log of_package toy_belongs lines
   log_type_is Operator lines = audit_is operator_log of_operator toy_belongs lines
 
-  pub log_type_only : (log_type : LogType) (lines : List (List ℕ)) (printed : Printed) → IsLogTypeAnswer log_type lines printed → printed ≡ log_type_answer log_type lines
+  pub log_type_only : (log_type : LogType) (lines : List (List ℕ)) (printed : Printout) → IsLogTypeAnswer log_type lines printed → printed ≡ log_type_answer log_type lines
   log_type_only Package lines printed is = audit_only package_log of_package toy_belongs lines printed is
   log_type_only Operator lines printed is = audit_only operator_log of_operator toy_belongs lines printed is
 
@@ -82,9 +82,9 @@ module _ (id_is : (log_type : LogType) (lines : List (List ℕ)) → IsIdAnswer 
   pub answer_is : IsAnswer words bytes (answer_of words bytes)
   answer_is = asked_is (command_of words) refl
 
-module _ (id_only : (log_type : LogType) (lines : List (List ℕ)) (printed : Printed) → IsIdAnswer log_type lines printed → printed ≡ id_answer log_type lines)
-    (log_only : (log_type : LogType) (lines : List (List ℕ)) (printed : Printed) → IsLogTypeAnswer log_type lines printed → printed ≡ log_type_answer log_type lines)
-    (words : List (List ℕ)) (bytes : List ℕ) (printed : Printed) where
+module _ (id_only : (log_type : LogType) (lines : List (List ℕ)) (printed : Printout) → IsIdAnswer log_type lines printed → printed ≡ id_answer log_type lines)
+    (log_only : (log_type : LogType) (lines : List (List ℕ)) (printed : Printout) → IsLogTypeAnswer log_type lines printed → printed ≡ log_type_answer log_type lines)
+    (words : List (List ℕ)) (bytes : List ℕ) (printed : Printout) where
   command_only : (command : Command) (lines : List (List ℕ)) → IsCommandAnswer command lines printed → printed ≡ command_answer command lines
   command_only (Id log_type) lines is = id_only log_type lines printed is
   command_only (Audit log_type) lines is = log_only log_type lines printed is

@@ -1,6 +1,6 @@
 pub mod Commands
 pub mod Lines
-pub mod Printed
+pub mod Printouts
 pub mod LogAnswers
 pub mod ReleaseLines
 pub mod LogTypes

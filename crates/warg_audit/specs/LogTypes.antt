@@ -3,15 +3,15 @@ use Rattle.std.specs.Prelude.{ℕ, List, []}
 use Rattle.warg_protocol.specs.Records.{toy_belongs, record_fault_name, RecordFault, RecordData}
 use Rattle.warg_protocol.specs.Operator.{OperatorOwnEntry, operator_record_of, Permission as OperatorPermission, OwnOffence as NamespaceOffence, offence_name as namespace_offence_name, View as OperatorView, kind as operator_kind}
 use Rattle.warg_protocol.specs.Package.{PackageOwnEntry, package_record_of, Permission as PackagePermission, offence_name as release_offence_name, OwnOffence as ReleaseOffence, View as PackageView, kind as package_kind}
-use Rattle.warg_protocol.specs.Logs.{Wrong}
-use Rattle.warg_audit.specs.declared.command.LogType.{LogType}
-use Rattle.warg_audit.specs.declared.command.LogType.TheVariants.{Package, Operator}
-use Rattle.warg_audit.specs.LogAnswers.{Shown, IsAuditAnswer, audit_answer}
-use Rattle.warg_audit.specs.Printed.{Printed}
+use Rattle.warg_protocol.specs.Logs.{LogOffence}
+use Rattle.warg_log_type.specs.declared.LogType.{LogType}
+use Rattle.warg_log_type.specs.declared.LogType.TheVariants.{Package, Operator}
+use Rattle.warg_audit.specs.LogAnswers.{LogDisplay, IsAuditAnswer, audit_answer}
+use Rattle.warg_audit.specs.Printouts.{Printout}
 use Rattle.warg_audit.specs.ReleaseLines.{release_lines}
 
 -- a package log shows its releases
-abbrev pub package_log : Shown (RecordData PackagePermission PackageOwnEntry) RecordFault PackageView (Wrong PackagePermission ReleaseOffence)
+abbrev pub package_log : LogDisplay (RecordData PackagePermission PackageOwnEntry) RecordFault PackageView (LogOffence PackagePermission ReleaseOffence)
 package_log = record {
   kind = package_kind;
   read = package_record_of;
@@ -21,7 +21,7 @@ package_log = record {
 }
 
 -- an operator log shows nothing more
-abbrev pub operator_log : Shown (RecordData OperatorPermission OperatorOwnEntry) RecordFault OperatorView (Wrong OperatorPermission NamespaceOffence)
+abbrev pub operator_log : LogDisplay (RecordData OperatorPermission OperatorOwnEntry) RecordFault OperatorView (LogOffence OperatorPermission NamespaceOffence)
 operator_log = record {
   kind = operator_kind;
   read = operator_record_of;
@@ -31,11 +31,11 @@ operator_log = record {
 }
 
 -- the answer to the lines of a log of this type, whose signatures are of the toy scheme
-abbrev pub IsLogTypeAnswer : LogType → List (List ℕ) → Printed → Type 0
+abbrev pub IsLogTypeAnswer : LogType → List (List ℕ) → Printout → Type 0
 IsLogTypeAnswer Package lines printed = IsAuditAnswer package_log toy_belongs lines printed
 IsLogTypeAnswer Operator lines printed = IsAuditAnswer operator_log toy_belongs lines printed
 
 -- the same, computed: the only answer (`laws`)
-abbrev pub log_type_answer : LogType → List (List ℕ) → Printed
+abbrev pub log_type_answer : LogType → List (List ℕ) → Printout
 log_type_answer Package lines = audit_answer package_log toy_belongs lines
 log_type_answer Operator lines = audit_answer operator_log toy_belongs lines

@@ -5,31 +5,31 @@ use Rattle.warg_audit.specs.declared.input.Input.{Input}
 use Rattle.warg_audit.specs.declared.output.Output.{Output}
 
 -- how many bytes a read gave, none where it failed
-abbrev pub given : {E : Type 0} → Result ℕ E → ℕ
-given (Ok count) = count
-given (Err e) = 0
+abbrev pub bytes_given : {E : Type 0} → Result ℕ E → ℕ
+bytes_given (Ok count) = count
+bytes_given (Err e) = 0
 
 -- the bytes that the reader has left, where they are known
-abbrev pub left : {R : Type 0} → (R → Option (List ℕ)) → Input R → Option (List ℕ)
-left remaining input = remaining input.reader
+abbrev pub bytes_left : {R : Type 0} → (R → Option (List ℕ)) → Input R → Option (List ℕ)
+bytes_left remaining input = remaining input.reader
 
 -- the bytes that the writer holds, where they are known
-abbrev pub held : {W : Type 0} → (W → Option (List ℕ)) → Output W → Option (List ℕ)
-held contents output = contents output.writer
+abbrev pub bytes_held : {W : Type 0} → (W → Option (List ℕ)) → Output W → Option (List ℕ)
+bytes_held contents output = contents output.writer
 
 -- Reading ends at the first read that fails or gives no bytes, or one byte past the limit.
 pub record ReadsToEnd {R : Type 0} (remaining : R → Option (List ℕ)) (before after : Input R) : Type 0 where
   -- no read follows one that failed or gave no bytes
-  pub late : before.ended ≡ false → after.late ≡ before.late
+  pub late_reads : before.ended ≡ false → after.late_reads ≡ before.late_reads
   pub failures : after.failures ≤ before.failures + 1
   -- no byte is read past the first one over the limit
   pub reads : after.reads ≤ before.reads + 16_777_217
-  pub taken : after.taken ≤ before.taken + 16_777_217
+  pub bytes_taken : after.bytes_taken ≤ before.bytes_taken + 16_777_217
   -- where its bytes are known: at most one read more than it has bytes, and the bytes that are gone
-  pub known_reads : IfSome (left remaining before) (λ bytes. after.reads ≤ before.reads + (length bytes + 1))
-  pub gone : List ℕ
-  pub are_gone : Consumes (left remaining before) (left remaining after) gone
-  pub few_gone : length gone ≤ 16_777_217
+  pub known_reads : IfSome (bytes_left remaining before) (λ bytes. after.reads ≤ before.reads + (length bytes + 1))
+  pub bytes_gone : List ℕ
+  pub are_gone : Consumes (bytes_left remaining before) (bytes_left remaining after) bytes_gone
+  pub few_bytes_gone : length bytes_gone ≤ 16_777_217
 
 -- a read failed meanwhile; nothing is known where the count of failed ones was full
 abbrev pub ReadFailed : {R : Type 0} → Input R → Input R → Type 0

@@ -3,14 +3,7 @@
 ghost use Rattle.std.specs.Prelude.{◌≡◌, map, string_bytes};
 ghost use Rattle.warg_audit.specs.Commands.{command_of, log_type_of};
 
-/// A type of log.
-#[derive(Clone, Copy, Debug, PartialEq, Eq)]
-pub enum LogType {
-    /// The log of a package, `package`.
-    Package,
-    /// The log of an operator, `operator`.
-    Operator,
-}
+use warg_log_type::LogType;
 
 /// What the program's words ask for.
 #[derive(Clone, Copy, Debug, PartialEq, Eq)]

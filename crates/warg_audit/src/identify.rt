@@ -4,14 +4,14 @@ ghost use Rattle.std.specs.Prelude.{◌≡◌, IfOk};
 ghost use Rattle.warg_protocol.specs.Records.{error_name};
 ghost use Rattle.warg_protocol.specs.ParseEnvelopeErrors.{ProtobufEnvelope};
 ghost use Rattle.warg_audit.specs.Answers.{record_id_of, IsEnvelopeAnswer, IsIdAnswer};
-ghost use Rattle.warg_audit.specs.Printed.{refused};
+ghost use Rattle.warg_audit.specs.Printouts.{refused_line};
 ghost use Rattle.warg_audit.specs.Lines.{lines_of};
 ghost use Rattle.warg_audit.specs.Replies.{printed_of};
 
-use crate::command::LogType;
 use crate::lines::{cut_line, decode_line};
 use crate::reply::{Reply, bad_line_reply, refused_reply};
 use std::alloc::{AllocError, Global};
+use warg_log_type::LogType;
 use warg_protocol::hash::Sha256;
 use warg_protocol::registry::RecordId;
 use warg_protocol::{Envelope, ParseEnvelopeError, WireError};
@@ -29,7 +29,7 @@ fn record_id(log_type: LogType, content: &[u8]) -> RecordId
 // The reply to an envelope's first fault.
 fn fault_reply(alloc: Global, fault: WireError) -> Result<Reply, AllocError>
     ensures { IfOk result (λ reply. printed_of reply ≡
-        refused 0 (error_name (ProtobufEnvelope fault))) }
+        refused_line 0 (error_name (ProtobufEnvelope fault))) }
 {
     refused_reply(alloc, 0, ParseEnvelopeError::ProtobufEnvelope(fault).name())
 }

@@ -3,7 +3,7 @@
 ghost use Rattle.std.specs.Prelude.{◌≡◌, ◌+◌, ◌-◌, ◌^◌, ◌==◌, ◌||◌, min, if◌then◌else◌, is_err, false};
 ghost use Rattle.std.specs.Io.KnownBytes.{ReadConsumes};
 ghost use Rattle.std.specs.Io.{ReadsAtMost};
-ghost use Rattle.warg_audit.specs.Meters.{given};
+ghost use Rattle.warg_audit.specs.Meters.{bytes_given};
 
 use std::io;
 use std::io::Read;
@@ -15,9 +15,9 @@ pub struct Input<R> {
     reader: R,
     reads: u64,
     failures: u64,
-    taken: u64,
+    bytes_taken: u64,
     ended: bool,
-    late: u64,
+    late_reads: u64,
 }
 
 impl<R: Read> Input<R> {
@@ -26,17 +26,17 @@ impl<R: Read> Input<R> {
         ensures reader { result.reader ≡ reader }
         ensures reads { result.reads ≡ 0 }
         ensures failures { result.failures ≡ 0 }
-        ensures taken { result.taken ≡ 0 }
+        ensures taken { result.bytes_taken ≡ 0 }
         ensures ended { result.ended ≡ false }
-        ensures late { result.late ≡ 0 }
+        ensures late { result.late_reads ≡ 0 }
     {
         Input {
             reader,
             reads: 0,
             failures: 0,
-            taken: 0,
+            bytes_taken: 0,
             ended: false,
-            late: 0,
+            late_reads: 0,
         }
     }
 
@@ -64,16 +64,16 @@ impl<R: Read> Input<R> {
 
     /// How many bytes the reads gave.
     pub fn taken(&self) -> u64
-        ensures { result ≡ self.now.taken }
+        ensures { result ≡ self.now.bytes_taken }
     {
-        self.taken
+        self.bytes_taken
     }
 
     /// How many reads were made after one that failed or gave no bytes.
     pub fn late_reads(&self) -> u64
-        ensures { result ≡ self.now.late }
+        ensures { result ≡ self.now.late_reads }
     {
-        self.late
+        self.late_reads
     }
 
     /// One read of the reader.
@@ -81,25 +81,26 @@ impl<R: Read> Input<R> {
         ensures reads { self.new.reads ≡ min (self.old.reads + 1) (2 ^ 64 - 1) }
         ensures failures { self.new.failures ≡ (if is_err result then min (self.old.failures + 1)
             (2 ^ 64 - 1) else self.old.failures) }
-        ensures taken { self.new.taken ≡ min (self.old.taken + given result) (2 ^ 64 - 1) }
-        ensures ended { self.new.ended ≡ (self.old.ended || given result == 0) }
-        ensures late { self.new.late ≡ (if self.old.ended then min (self.old.late + 1)
-            (2 ^ 64 - 1) else self.old.late) }
+        ensures taken { self.new.bytes_taken ≡ min (self.old.bytes_taken + bytes_given result)
+            (2 ^ 64 - 1) }
+        ensures ended { self.new.ended ≡ (self.old.ended || bytes_given result == 0) }
+        ensures late { self.new.late_reads ≡ (if self.old.ended then min (self.old.late_reads + 1)
+            (2 ^ 64 - 1) else self.old.late_reads) }
         ensures bound { ReadsAtMost result buf.new }
         ensures bytes { ReadConsumes (R.remaining self.old.reader)
             (R.remaining self.new.reader) result buf.new }
     {
-        let (failures, taken, ended) = (self.failures, self.taken, self.ended);
+        let (failures, taken, ended) = (self.failures, self.bytes_taken, self.ended);
         self.reads = self.reads.saturating_add(1);
         if ended {
-            self.late = self.late.saturating_add(1);
+            self.late_reads = self.late_reads.saturating_add(1);
         }
         // Trusted by reading: this line reads the reader once, and no other line of the crate reads it.
         // A reader that failed may go on, so no clause can tell one failed read from two.
         let outcome = self.reader.read(buf);
         match &outcome {
             Ok(count) => {
-                self.taken = taken.saturating_add(*count as u64);
+                self.bytes_taken = taken.saturating_add(*count as u64);
                 self.ended = ended || *count == 0;
             }
             Err(_) => {

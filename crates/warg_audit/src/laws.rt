@@ -3,8 +3,8 @@
 ghost use Rattle.std.specs.Prelude.{◌≡◌, ℕ, List};
 ghost use Rattle.warg_audit.specs.Answers.{IsIdAnswer, id_answer, IsAnswer, answer_of};
 ghost use Rattle.warg_audit.specs.LogTypes.{IsLogTypeAnswer, log_type_answer};
-ghost use Rattle.warg_audit.specs.declared.command.LogType.{LogType};
-ghost use Rattle.warg_audit.specs.Printed.{Printed};
+ghost use Rattle.warg_log_type.specs.declared.LogType.{LogType};
+ghost use Rattle.warg_audit.specs.Printouts.{Printout};
 ghost use Rattle.warg_audit.specs.Lines.{AreLines, lines_of};
 
 use warg_protocol::laws::messages::decoding_computes;
@@ -22,7 +22,7 @@ pub fn one_list_of_lines()
 pub fn one_id_answer()
     ensures some { (log_type : LogType) (lines : List (List ℕ)) → IsIdAnswer log_type lines
         (id_answer log_type lines) }
-    ensures only { (log_type : LogType) (lines : List (List ℕ)) (printed : Printed) →
+    ensures only { (log_type : LogType) (lines : List (List ℕ)) (printed : Printout) →
         IsIdAnswer log_type lines printed → printed ≡ id_answer log_type lines }
 {
     decoding_computes();
@@ -32,7 +32,7 @@ pub fn one_id_answer()
 pub fn one_log_answer()
     ensures some { (log_type : LogType) (lines : List (List ℕ)) →
         IsLogTypeAnswer log_type lines (log_type_answer log_type lines) }
-    ensures only { (log_type : LogType) (lines : List (List ℕ)) (printed : Printed) →
+    ensures only { (log_type : LogType) (lines : List (List ℕ)) (printed : Printout) →
         IsLogTypeAnswer log_type lines printed → printed ≡ log_type_answer log_type lines }
 {
     first_offence::<package::LogState>();
@@ -43,7 +43,7 @@ pub fn one_log_answer()
 pub fn one_answer()
     ensures some { (words : List (List ℕ)) (bytes : List ℕ) →
         IsAnswer words bytes (answer_of words bytes) }
-    ensures only { (words : List (List ℕ)) (bytes : List ℕ) (printed : Printed) →
+    ensures only { (words : List (List ℕ)) (bytes : List ℕ) (printed : Printout) →
         IsAnswer words bytes printed →
         printed ≡ answer_of words bytes }
 {

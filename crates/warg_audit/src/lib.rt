@@ -16,7 +16,7 @@ mod reading;
 mod reply;
 mod report;
 
-pub use command::{Command, LogType, parse_command};
+pub use command::{Command, parse_command};
 pub use identify::id_reply;
 pub use information::{Information, parse_information};
 pub use input::Input;
@@ -27,3 +27,4 @@ pub use program::{OUT_OF_MEMORY, USAGE, audit, make_reply};
 pub use reading::{InputError, MAX_INPUT, read_all};
 pub use reply::{Reply, bad_line_reply, refused_reply};
 pub use report::Report;
+pub use warg_log_type::LogType;

@@ -3,14 +3,14 @@
 ghost use Rattle.std.specs.Prelude.{◌≡◌, ◌≢◌, ◌⊎◌, map, string_bytes, IfOk, Some, None};
 ghost use Rattle.std.specs.Io.KnownBytes.{Appends};
 ghost use Rattle.warg_audit.specs.Answers.{IsCommandAnswer};
-ghost use Rattle.warg_audit.specs.Printed.{usage, read_fault};
+ghost use Rattle.warg_audit.specs.Printouts.{usage, read_fault};
 ghost use Rattle.warg_audit.specs.Commands.{command_of};
 ghost use Rattle.warg_audit.specs.LogTypes.{IsLogTypeAnswer};
 ghost use Rattle.warg_audit.specs.Lines.{lines_of};
-ghost use Rattle.warg_audit.specs.Meters.{left, held, ReadsToEnd, ReadFailed, WriteFailed};
-ghost use Rattle.warg_audit.specs.Replies.{printed_of, IsReply, IsPrintedOrFailed, IsAnswered, IsTrouble};
+ghost use Rattle.warg_audit.specs.Meters.{bytes_left, bytes_held, ReadsToEnd, ReadFailed, WriteFailed};
+ghost use Rattle.warg_audit.specs.Replies.{printed_of, IsReply, IsPrintedOrFailed, IsAnswered, IsFailure};
 
-use crate::command::{Command, LogType, parse_command};
+use crate::command::{Command, parse_command};
 use crate::identify::id_reply;
 use crate::input::Input;
 use crate::log::log_reply;
@@ -19,6 +19,7 @@ use crate::reading::{InputError, read_all};
 use crate::reply::Reply;
 use std::alloc::{AllocError, Global};
 use std::io::{Read, Write};
+use warg_log_type::LogType;
 use warg_protocol::toy::ToyVerifier;
 use warg_protocol::{operator, package};
 
@@ -57,7 +58,7 @@ fn command_reply(alloc: Global, command: Command, bytes: Vec<u8>) -> Result<Repl
 /// What the program prints to the words, whole before anything is written. For words that
 /// ask for nothing, nothing is read and no memory is taken.
 pub fn make_reply<R: Read>(alloc: Global, words: &[String], input: &mut Input<R>) -> Reply
-    ensures reply { IsReply (map string_bytes words.now) (left R.remaining input.old)
+    ensures reply { IsReply (map string_bytes words.now) (bytes_left R.remaining input.old)
         (ReadFailed input.old input.new)
         (printed_of result) }
     ensures other_words { command_of (map string_bytes words.now) ≡ None → (input.new ≡ input.old) ×
@@ -88,17 +89,17 @@ pub fn audit<R: Read, W: Write>(
 ) -> u8
     // Any other status than 3 is that of the answer, which was written whole and alone.
     ensures answered { result ≢ 3 →
-        IsAnswered (map string_bytes words.now) (left R.remaining input.old)
-        (held W.contents output.old) (held W.contents output.new) result }
+        IsAnswered (map string_bytes words.now) (bytes_left R.remaining input.old)
+        (bytes_held W.contents output.old) (bytes_held W.contents output.new) result }
 
     // Status 3: a failed read or refused memory, with its line, or a failed write.
     ensures trouble { result ≡ 3 →
-        IsTrouble (held W.contents output.old) (held W.contents output.new)
+        IsFailure (bytes_held W.contents output.old) (bytes_held W.contents output.new)
         (ReadFailed input.old input.new) (WriteFailed output.old output.new) }
 
     // Where a read failed, its line is written, unless the write fails too.
     ensures faults { (input.new.failures ≡ input.old.failures)
-        ⊎ IsPrintedOrFailed (held W.contents output.old) (held W.contents output.new)
+        ⊎ IsPrintedOrFailed (bytes_held W.contents output.old) (bytes_held W.contents output.new)
         (WriteFailed output.old output.new) result read_fault }
 
     // Where the write failed, the status is 3.
@@ -106,7 +107,7 @@ pub fn audit<R: Read, W: Write>(
 
     // Words that ask for nothing: no read, and the usage line unless it can't be written.
     ensures other_words { command_of (map string_bytes words.now) ≡ None → (input.new ≡ input.old)
-        × IsPrintedOrFailed (held W.contents output.old) (held W.contents output.new)
+        × IsPrintedOrFailed (bytes_held W.contents output.old) (bytes_held W.contents output.new)
         (WriteFailed output.old output.new) result usage }
     ensures reading { ReadsToEnd R.remaining input.old input.new }
 {

@@ -1,7 +1,7 @@
 //! Reading all there is, up to a limit.
 
 ghost use Rattle.std.specs.Prelude.{◌≡◌, ◌<◌, ◌≤◌, ◌⊎◌, length, IfOk, IfSome};
-ghost use Rattle.warg_audit.specs.Meters.{left, ReadsToEnd, ReadFailed};
+ghost use Rattle.warg_audit.specs.Meters.{bytes_left, ReadsToEnd, ReadFailed};
 ghost use Rattle.warg_audit.specs.declared.reading.InputError.TheVariants as fault;
 
 use crate::input::Input;
@@ -28,9 +28,10 @@ pub enum InputError {
 /// All bytes of the input, up to the limit.
 pub fn read_all<R: Read>(alloc: Global, input: &mut Input<R>) -> Result<Vec<u8>, InputError>
     ensures reading { ReadsToEnd R.remaining input.old input.new }
-    ensures ok { IfOk result (λ v. IfSome (left R.remaining input.old) (λ bytes. bytes ≡ v.items)) }
+    ensures ok { IfOk result (λ v. IfSome (bytes_left R.remaining input.old)
+        (λ bytes. bytes ≡ v.items)) }
     ensures short { IfOk result (λ v. length v.items ≤ 16_777_216) }
-    ensures long { result ≡ Err fault.TooLong → IfSome (left R.remaining input.old)
+    ensures long { result ≡ Err fault.TooLong → IfSome (bytes_left R.remaining input.old)
         (λ bytes. 16_777_216 < length bytes) }
     ensures failed { result ≡ Err fault.Fault → ReadFailed input.old input.new }
     ensures steady { (input.new.failures ≡ input.old.failures) ⊎ (result ≡ Err fault.Fault) }

@@ -61,7 +61,7 @@ impl Reply {
     }
 }
 
-ghost use Rattle.warg_audit.specs.Printed.{bad_line, refused};
+ghost use Rattle.warg_audit.specs.Printouts.{bad_line, refused_line};
 ghost use Rattle.warg_audit.specs.Replies.{printed_of};
 
 /// The reply to a line that spells no bytes, or to one too few or too many.
@@ -73,7 +73,7 @@ pub fn bad_line_reply(alloc: Global, index: usize) -> Result<Reply, AllocError>
 
 /// The reply to a refused string.
 pub fn refused_reply(alloc: Global, index: usize, name: &str) -> Result<Reply, AllocError>
-    ensures { IfOk result (λ reply. printed_of reply ≡ refused index name.now) }
+    ensures { IfOk result (λ reply. printed_of reply ≡ refused_line index name.now) }
 {
     let text = format!(in alloc; "refused {index} {name}\n")?;
     Ok(Reply::owned(text, 1))

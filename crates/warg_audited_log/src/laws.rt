@@ -1,5 +1,5 @@
 //! Laws over all logs of a kind, and when the public types of plain data are equal. They have no effect.
-ghost use Rattle.std.specs.Prelude.{◌≡◌, ◌↔◌, ◌⊎◌, ◌<◌, ◌+◌, ◌++◌, ℕ, List, [], length, take, Option, Some, slice_index_or, IsTrue, true, false};
+ghost use Rattle.std.specs.Prelude.{◌≡◌, ◌↔◌, ◌⊎◌, ◌<◌, ◌+◌, ◌++◌, ℕ, List, [], length, take, Option, Some, slice_index_or, true, false};
 ghost use Rattle.warg_envelope.specs.EnvelopeData.{EnvelopeData};
 ghost use Rattle.warg_records.specs.declared.record_id.RecordId.{RecordId};
 ghost use Rattle.warg_validator.specs.Effects.{holds};
@@ -10,6 +10,8 @@ ghost use Rattle.warg_audited_log.specs.Extinction.{StaysExtinct};
 ghost use Rattle.warg_audited_log.specs.Heads.{HaveCollision};
 ghost use Rattle.warg_audited_log.specs.Log.{contents};
 ghost use Rattle.warg_audited_log.specs.declared.comparison.Comparison.{Comparison};
+ghost use Rattle.warg_audited_log.specs.declared.heads.HeadComparison.{HeadComparison};
+ghost use Rattle.warg_audited_log.specs.declared.link.Link.{Link};
 
 use crate::comparison::Comparison;
 use crate::heads::HeadComparison;
@@ -71,23 +73,12 @@ pub fn last_entry_decides<L: Validator>()
         held_by false (entries_of L.effects es) k p ≡ holds L.effects es k p }
 {}
 
-/// `==` of two comparisons of logs is true exactly where they are identical.
-pub fn are_same_log_comparisons(a: Comparison, b: Comparison) -> bool
-    ensures { IsTrue result ↔ (a ≡ b) }
-{
-    a == b
-}
-
-/// `==` of two comparisons of heads is true exactly where they are identical.
-pub fn are_same_comparisons(a: HeadComparison, b: HeadComparison) -> bool
-    ensures { IsTrue result ↔ (a ≡ b) }
-{
-    a == b
-}
-
-/// `==` of two places of entries is true exactly where they are identical.
-pub fn are_same_links(a: Link, b: Link) -> bool
-    ensures { IsTrue result ↔ (a ≡ b) }
-{
-    a == b
-}
+/// `==` of two comparisons of logs, of two comparisons of heads, and of two places of entries, is true exactly where they
+/// are identical.
+pub fn equality()
+    ensures comparisons { (a b : Comparison) →
+        (⟦<Comparison as PartialEq>⟧.eq a b ≡ true) ↔ (a ≡ b) }
+    ensures head_comparisons { (a b : HeadComparison) →
+        (⟦<HeadComparison as PartialEq>⟧.eq a b ≡ true) ↔ (a ≡ b) }
+    ensures links { (a b : Link) → (⟦<Link as PartialEq>⟧.eq a b ≡ true) ↔ (a ≡ b) }
+{}

@@ -11,6 +11,7 @@ mod hosted_log;
 pub mod laws;
 mod ledger;
 mod link;
+mod reading;
 
 pub use audited_log::AuditedLog;
 pub use comparison::Comparison;

@@ -47,6 +47,10 @@ does-moves : {X : Type 0} (belongs : Bool) (n : Asked) (question envelope : List
 does-moves belongs n question envelope old kept new is (Ok x) does = λ b holds. moves b envelope old kept new is (does b holds)
 does-moves belongs n question envelope old kept new is (Err f) does = tt
 
+-- the status of what was asked of a handle's log
+pub ask-answers : (before : Option Held) (held : Held) → Some held ≡ before → (r : Result Unit Failure) (status : ℕ) → status ≡ status_of r → status ≤ 7 → (P : Held → Type 0) (Q : Held → Failure → Type 0) → OnOk r (P held) → IfErr r (Q held) → Answers status before P Q
+ask-answers before held was r status e small P Q tells fails = subst (λ o. Answers status o P Q) was (answered (P held) (Q held) r status e small tells fails)
+
 -- the status of what became of a handle's log
 pub append-answers : (before after : Option Held) (old new : Held) → Some old ≡ before → after ≡ Some new → (r : Result Unit Failure) (status : ℕ) → status ≡ status_of r → status ≤ 7 → (belongs : Bool) (n : Asked) (question envelope : List ℕ) (used : ℕ) (out : List ℕ)
     → OnOk r ((b : SignatureRelation) → HoldsOf b belongs n question → append_does b envelope old new) → IfErr r (append_fails old belongs n question envelope used out)

@@ -4,7 +4,7 @@ use Rattle.std.specs.Prelude.{OnOk, IfErr, if◌then◌else◌}
 use Rattle.std.proofs.lemmas.Bool.{false≢true}
 use Rattle.warg_c.specs.declared.failure.Failure.{Failure}
 use Rattle.warg_c.specs.declared.failure.Failure.TheVariants.{NotOpen, OutOfMemory, TooSmall, NoEnvelope, Refused, Absent, BadArgument}
-use Rattle.warg_c.specs.Statuses.{code_of, status_of, Answered}
+use Rattle.warg_c.specs.Statuses.{code_of, status_of, IsStatusOf}
 
 abbrev by_code : ℕ → Failure
 by_code n =
@@ -32,6 +32,6 @@ is-no-zero BadArgument = refl
 pub no-zero : (f : Failure) → code_of f ≡ 0 → ⊥
 no-zero f h = false≢true (sym (is-no-zero f) ∙ ap (λ n. n == 0) h)
 
-pub answered : (P : Type 0) (Q : Failure → Type 0) (r : Result Unit Failure) (n : ℕ) → n ≡ status_of r → n ≤ 7 → OnOk r P → IfErr r Q → Answered n P Q
+pub answered : (P : Type 0) (Q : Failure → Type 0) (r : Result Unit Failure) (n : ℕ) → n ≡ status_of r → n ≤ 7 → OnOk r P → IfErr r Q → IsStatusOf n P Q
 answered P Q (Ok u) n e small p q = (small, λ _. p, λ f h. absurd (no-zero f (sym h ∙ e)))
 answered P Q (Err g) n e small p q = (small, λ h. absurd (no-zero g (sym e ∙ h)), λ f h. subst Q (sym (decodes g) ∙ ap by_code (sym e ∙ h) ∙ decodes f) q)

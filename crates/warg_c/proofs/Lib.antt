@@ -2,6 +2,7 @@ pub mod AsBox
 pub mod Steps
 pub mod Words
 pub mod Refusals
+pub mod Sentences
 pub mod Codes
 pub mod Answers
 pub mod Cuts

@@ -1,6 +1,6 @@
 -- Why nothing is proved.
 use Rattle.std.proofs.Common.{inl, inr, sym, subst}
-use Rattle.warg_c.specs.Proofs.{ProofFails}
+use Rattle.warg_c.specs.ProofAnswers.{ProofFails}
 use Rattle.warg_c.specs.Texts.{FailsAs}
 use Rattle.warg_c.specs.declared.failure.Failure.{Failure}
 

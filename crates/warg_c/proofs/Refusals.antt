@@ -3,9 +3,9 @@ use Rattle.std.proofs.Common.{◌≡◌, ◌<◌, ℕ, List, length, take, Optio
 use Rattle.std.specs.Prelude.{OnOk, IfErr}
 use Rattle.std.specs.Option.{option_map}
 use Rattle.warg_envelope.specs.EnvelopeData.{EnvelopeData}
-use Rattle.warg_envelope.specs.Faults.{TellsFault}
+use Rattle.warg_envelope.specs.Faults.{NamesFault}
 use Rattle.warg_validator.specs.Kinds.{Kind}
-use Rattle.warg_validator.specs.Outcomes.{IfTold}
+use Rattle.warg_validator.specs.OutcomeRuns.{IfNamed}
 use Rattle.warg_validator.specs.Strings.{Cause, Unread, Unlawful}
 use Rattle.warg_validator.specs.declared.replay.RunCause.{RunCause}
 use Rattle.warg_host.specs.Telling.{Asks}
@@ -19,22 +19,22 @@ use Rattle.warg_c.specs.Logs.{IsAsked, IsWhy, IsWhyBy, AskFails, Refuses}
 use Rattle.warg_c.specs.Questions.{Spells}
 use Rattle.warg_c.specs.Texts.{IsErrorText, failure_by}
 
-module _ {View Offence F E : Type 0} (k : Kind View Offence) (read : List ℕ → Result EnvelopeData F) (told_by : RunCause E → Option (Cause F Offence)) (name_by : RunCause E → List ℕ) where
-  ask-told : (v : View) (envelope : List ℕ) (n : Asked) (old : List ℕ) (used : ℕ) (new : List ℕ) (c : RunCause E) → IsErrorText (name_by c) used new → (t : Option (Cause F Offence)) → told_by c ≡ t → IfTold t (IsWhy k read v envelope)
-      → AskFails k read told_by name_by v envelope n old used new (failure_by t)
+module _ {View Offence F E : Type 0} (k : Kind View Offence) (read : List ℕ → Result EnvelopeData F) (named_by : RunCause E → Option (Cause F Offence)) (SaysBy : RunCause E → List ℕ → Type 0) where
+  ask-told : (v : View) (envelope : List ℕ) (n : Asked) (old : List ℕ) (used : ℕ) (new : List ℕ) (c : RunCause E) → IsErrorText (SaysBy c) used new → (t : Option (Cause F Offence)) → named_by c ≡ t → IfNamed t (IsWhy k read v envelope)
+      → AskFails k read named_by SaysBy v envelope n old used new (failure_by t)
   ask-told v envelope n old used new c text None tells why = tt
   ask-told v envelope n old used new c text (Some (Unread fault)) tells why = (fault, why, record { cause = c; tells = tells; text = text })
   ask-told v envelope n old used new c text (Some (Unlawful offence)) tells why = (offence, why, record { cause = c; tells = tells; text = text })
 
   -- a cause that is told of an envelope is why nothing is asked
-  pub ask-refused : (v : View) (envelope : List ℕ) (n : Asked) (old : List ℕ) (used : ℕ) (new : List ℕ) (c : RunCause E) → IsErrorText (name_by c) used new → IfTold (told_by c) (IsWhy k read v envelope)
-      → AskFails k read told_by name_by v envelope n old used new (failure_by (told_by c))
-  ask-refused v envelope n old used new c text why = ask-told v envelope n old used new c text (told_by c) refl why
+  pub ask-refused : (v : View) (envelope : List ℕ) (n : Asked) (old : List ℕ) (used : ℕ) (new : List ℕ) (c : RunCause E) → IsErrorText (SaysBy c) used new → IfNamed (named_by c) (IsWhy k read v envelope)
+      → AskFails k read named_by SaysBy v envelope n old used new (failure_by (named_by c))
+  ask-refused v envelope n old used new c text why = ask-told v envelope n old used new c text (named_by c) refl why
 
   -- the same by the failure that was named
-  pub ask-fails : (v : View) (envelope : List ℕ) (n : Asked) (old : List ℕ) (used : ℕ) (new : List ℕ) (c : RunCause E) (f : Failure) → f ≡ failure_by (told_by c) → IsErrorText (name_by c) used new → IfTold (told_by c) (IsWhy k read v envelope)
-      → AskFails k read told_by name_by v envelope n old used new f
-  ask-fails v envelope n old used new c f is text why = subst (λ g. AskFails k read told_by name_by v envelope n old used new g) (sym is) (ask-refused v envelope n old used new c text why)
+  pub ask-fails : (v : View) (envelope : List ℕ) (n : Asked) (old : List ℕ) (used : ℕ) (new : List ℕ) (c : RunCause E) (f : Failure) → f ≡ failure_by (named_by c) → IsErrorText (SaysBy c) used new → IfNamed (named_by c) (IsWhy k read v envelope)
+      → AskFails k read named_by SaysBy v envelope n old used new f
+  ask-fails v envelope n old used new c f is text why = subst (λ g. AskFails k read named_by SaysBy v envelope n old used new g) (sym is) (ask-refused v envelope n old used new c text why)
 
   -- a question that was found is given, or there is no room for it
   pub ask-given : {X : Type 0} (v : View) (envelope : List ℕ) (q : Question) → Asks k (read envelope) v q → (text : List ℕ) (n : Asked) → Spells n text q → (r : Result X Failure) (used : ℕ) (old new : List ℕ) → used ≡ length text
@@ -43,32 +43,32 @@ module _ {View Offence F E : Type 0} (k : Kind View Offence) (read : List ℕ �
   ask-given v envelope q asks text n spells (Err f) used old new is given = tt
 
   pub ask-too-small : {X : Type 0} (v : View) (envelope : List ℕ) (q : Question) → Asks k (read envelope) v q → (text : List ℕ) (n : Asked) → Spells n text q → (r : Result X Failure) (used : ℕ) (old new : List ℕ) → used ≡ length text
-      → IfErr r (λ f. (f ≡ TooSmall) × (length old < length text)) → IfErr r (AskFails k read told_by name_by v envelope n old used new)
+      → IfErr r (λ f. (f ≡ TooSmall) × (length old < length text)) → IfErr r (AskFails k read named_by SaysBy v envelope n old used new)
   ask-too-small v envelope q asks text n spells (Ok x) used old new is small = tt
-  ask-too-small v envelope q asks text n spells (Err f) used old new is small = subst (λ g. AskFails k read told_by name_by v envelope n old used new g) (sym small.0) (text, (q, asks, spells), is, small.1)
+  ask-too-small v envelope q asks text n spells (Err f) used old new is small = subst (λ g. AskFails k read named_by SaysBy v envelope n old used new g) (sym small.0) (text, (q, asks, spells), is, small.1)
 
-  append-told : (answer : Told) (v : View) (envelope : List ℕ) (used : ℕ) (new : List ℕ) (c : RunCause E) → IsErrorText (name_by c) used new → (t : Option (Cause F Offence)) → told_by c ≡ t → IfTold t (IsWhyBy k read answer v envelope)
-      → Refuses k read told_by name_by answer v envelope used new (failure_by t)
+  append-told : (answer : Told) (v : View) (envelope : List ℕ) (used : ℕ) (new : List ℕ) (c : RunCause E) → IsErrorText (SaysBy c) used new → (t : Option (Cause F Offence)) → named_by c ≡ t → IfNamed t (IsWhyBy k read answer v envelope)
+      → Refuses k read named_by SaysBy answer v envelope used new (failure_by t)
   append-told answer v envelope used new c text None tells why = tt
   append-told answer v envelope used new c text (Some (Unread fault)) tells why = (fault, why, record { cause = c; tells = tells; text = text })
   append-told answer v envelope used new c text (Some (Unlawful offence)) tells why = (offence, why, record { cause = c; tells = tells; text = text })
 
   -- a cause that is told by an answer is why nothing is appended
-  pub append-refused : (answer : Told) (v : View) (envelope : List ℕ) (used : ℕ) (new : List ℕ) (c : RunCause E) → IsErrorText (name_by c) used new → IfTold (told_by c) (IsWhyBy k read answer v envelope)
-      → Refuses k read told_by name_by answer v envelope used new (failure_by (told_by c))
-  append-refused answer v envelope used new c text why = append-told answer v envelope used new c text (told_by c) refl why
+  pub append-refused : (answer : Told) (v : View) (envelope : List ℕ) (used : ℕ) (new : List ℕ) (c : RunCause E) → IsErrorText (SaysBy c) used new → IfNamed (named_by c) (IsWhyBy k read answer v envelope)
+      → Refuses k read named_by SaysBy answer v envelope used new (failure_by (named_by c))
+  append-refused answer v envelope used new c text why = append-told answer v envelope used new c text (named_by c) refl why
 
-  pub append-fails : (answer : Told) (v : View) (envelope : List ℕ) (used : ℕ) (new : List ℕ) (c : RunCause E) (f : Failure) → f ≡ failure_by (told_by c) → IsErrorText (name_by c) used new → IfTold (told_by c) (IsWhyBy k read answer v envelope)
-      → Refuses k read told_by name_by answer v envelope used new f
-  append-fails answer v envelope used new c f is text why = subst (λ g. Refuses k read told_by name_by answer v envelope used new g) (sym is) (append-refused answer v envelope used new c text why)
+  pub append-fails : (answer : Told) (v : View) (envelope : List ℕ) (used : ℕ) (new : List ℕ) (c : RunCause E) (f : Failure) → f ≡ failure_by (named_by c) → IsErrorText (SaysBy c) used new → IfNamed (named_by c) (IsWhyBy k read answer v envelope)
+      → Refuses k read named_by SaysBy answer v envelope used new f
+  append-fails answer v envelope used new c f is text why = subst (λ g. Refuses k read named_by SaysBy answer v envelope used new g) (sym is) (append-refused answer v envelope used new c text why)
 
-  id-told : (envelope old : List ℕ) (used : ℕ) (new : List ℕ) (c : RunCause E) → IsErrorText (name_by c) used new → (found : Option F) → told_by c ≡ option_map Unread found → TellsFault (read envelope) found
-      → IdFails k read told_by name_by envelope old used new (failure_by {Offence = Offence} (option_map Unread found))
+  id-told : (envelope old : List ℕ) (used : ℕ) (new : List ℕ) (c : RunCause E) → IsErrorText (SaysBy c) used new → (found : Option F) → named_by c ≡ option_map Unread found → NamesFault (read envelope) found
+      → IdFails k read named_by SaysBy envelope old used new (failure_by {Offence = Offence} (option_map Unread found))
   id-told envelope old used new c text None told tells = tt
   id-told envelope old used new c text (Some fault) told tells = (fault, tells, record { cause = c; tells = told; text = text })
 
   -- bytes that are no envelope have no id
-  pub id-fails : (envelope old : List ℕ) (used : ℕ) (new : List ℕ) (c : RunCause E) (f : Failure) → f ≡ failure_by (told_by c) → IsErrorText (name_by c) used new → (found : Option F) → told_by c ≡ option_map Unread found → TellsFault (read envelope) found
-      → IdFails k read told_by name_by envelope old used new f
+  pub id-fails : (envelope old : List ℕ) (used : ℕ) (new : List ℕ) (c : RunCause E) (f : Failure) → f ≡ failure_by (named_by c) → IsErrorText (SaysBy c) used new → (found : Option F) → named_by c ≡ option_map Unread found → NamesFault (read envelope) found
+      → IdFails k read named_by SaysBy envelope old used new f
   id-fails envelope old used new c f is text found told tells =
-      subst (λ g. IdFails k read told_by name_by envelope old used new g) (sym (is ∙ ap (λ t. failure_by t) told)) (id-told envelope old used new c text found told tells)
+      subst (λ g. IdFails k read named_by SaysBy envelope old used new g) (sym (is ∙ ap (λ t. failure_by t) told)) (id-told envelope old used new c text found told tells)

@@ -6,9 +6,11 @@ use Rattle.warg_log.specs.AuthorityData.{AuthorityData}
 use Rattle.warg_log.specs.States.{State}
 use Rattle.warg_host.specs.declared.told.Told.{Told}
 use Rattle.warg_operator_log.specs.Namespaces.{Namespace}
+use Rattle.warg_operator_log.specs.ErrorTexts as operator_texts
 use Rattle.warg_operator_log.specs.OffenceNames as operator_names
 use Rattle.warg_operator_log.specs.State as operators
 use Rattle.warg_operator_log.specs.StateLaws as operator_laws
+use Rattle.warg_package_log.specs.ErrorTexts as package_texts
 use Rattle.warg_package_log.specs.OffenceNames as package_names
 use Rattle.warg_package_log.specs.Releases.{ReleaseView}
 use Rattle.warg_package_log.specs.State as packages
@@ -20,8 +22,7 @@ use Rattle.warg_records.specs.OperatorReading.{operator_record_of}
 use Rattle.warg_records.specs.PackageEntries as package_records
 use Rattle.warg_records.specs.PackageReading.{package_record_of}
 use Rattle.warg_validator.specs.Kinds.{SignatureRelation}
-use Rattle.warg_validator.specs.Messages.{cause_name}
-use Rattle.warg_validator.specs.Outcomes.{told}
+use Rattle.warg_validator.specs.OutcomeRuns.{cause_named_by}
 use Rattle.warg_c.specs.declared.failure.Failure.{Failure}
 use Rattle.warg_c.specs.declared.failure.Failure.TheVariants.{NotOpen, OutOfMemory, TooSmall, NoEnvelope, Refused, Absent, BadArgument}
 use Rattle.warg_c.specs.declared.held.Kind.{Kind}
@@ -29,8 +30,9 @@ use Rattle.warg_c.specs.declared.held.Kind.TheVariants as kinds
 use Rattle.warg_c.specs.declared.held.Held.{Held}
 use Rattle.warg_c.specs.declared.held.Held.TheVariants.{Package, Operator}
 use Rattle.warg_c.specs.declared.question.Asked.{Asked}
-use Rattle.warg_c.specs.Logs.{seen, state_of, IsAsked, AskFails, IsFresh, Appends, Refuses}
+use Rattle.warg_c.specs.Logs.{log_view, state_of, IsAsked, AskFails, IsFresh, Appends, Refuses}
 use Rattle.warg_c.specs.Questions.{Says, SaysNone}
+use Rattle.warg_c.specs.Texts.{SaysCause}
 
 -- the kind that a number names
 abbrev pub kind_numbered : ℕ → Result Kind Failure
@@ -69,12 +71,12 @@ IsNew (Operator log) = IsFresh operator_laws.kind operator_record_of operator_re
 
 -- the text spells what the envelope asks
 abbrev pub ask_tells : Held → List ℕ → Asked → List ℕ → Type 0
-ask_tells (Package log) = IsAsked package_laws.kind (envelope_of package_record_of) (seen package_laws.kind packages.view_of log)
-ask_tells (Operator log) = IsAsked operator_laws.kind (envelope_of operator_record_of) (seen operator_laws.kind operators.view_of log)
+ask_tells (Package log) = IsAsked package_laws.kind (envelope_of package_record_of) (log_view package_laws.kind packages.view_of log)
+ask_tells (Operator log) = IsAsked operator_laws.kind (envelope_of operator_record_of) (log_view operator_laws.kind operators.view_of log)
 
 abbrev pub ask_fails : Held → List ℕ → Asked → List ℕ → ℕ → List ℕ → Failure → Type 0
-ask_fails (Package log) = AskFails package_laws.kind (envelope_of package_record_of) (told (envelope_fault_of fault_of) packages.offence_of) (cause_name package_names.error_name) (seen package_laws.kind packages.view_of log)
-ask_fails (Operator log) = AskFails operator_laws.kind (envelope_of operator_record_of) (told (envelope_fault_of fault_of) operators.offence_of) (cause_name operator_names.error_name) (seen operator_laws.kind operators.view_of log)
+ask_fails (Package log) = AskFails package_laws.kind (envelope_of package_record_of) (cause_named_by (envelope_fault_of fault_of) packages.offence_of) (SaysCause package_names.error_name (λ e. Some (package_texts.error_text e))) (log_view package_laws.kind packages.view_of log)
+ask_fails (Operator log) = AskFails operator_laws.kind (envelope_of operator_record_of) (cause_named_by (envelope_fault_of fault_of) operators.offence_of) (SaysCause operator_names.error_name (λ e. Some (operator_texts.error_text e))) (log_view operator_laws.kind operators.view_of log)
 
 -- the record of the envelope is appended, under the relation
 abbrev pub append_does : SignatureRelation → List ℕ → Held → Held → Type 0
@@ -90,8 +92,8 @@ append_moves b envelope old None = ⊥
 
 -- why nothing is appended by an answer
 abbrev pub append_refuses : Held → Told → List ℕ → ℕ → List ℕ → Failure → Type 0
-append_refuses (Package log) answer = Refuses package_laws.kind (envelope_of package_record_of) (told (envelope_fault_of fault_of) packages.offence_of) (cause_name package_names.error_name) answer (seen package_laws.kind packages.view_of log)
-append_refuses (Operator log) answer = Refuses operator_laws.kind (envelope_of operator_record_of) (told (envelope_fault_of fault_of) operators.offence_of) (cause_name operator_names.error_name) answer (seen operator_laws.kind operators.view_of log)
+append_refuses (Package log) answer = Refuses package_laws.kind (envelope_of package_record_of) (cause_named_by (envelope_fault_of fault_of) packages.offence_of) (SaysCause package_names.error_name (λ e. Some (package_texts.error_text e))) answer (log_view package_laws.kind packages.view_of log)
+append_refuses (Operator log) answer = Refuses operator_laws.kind (envelope_of operator_record_of) (cause_named_by (envelope_fault_of fault_of) operators.offence_of) (SaysCause operator_names.error_name (λ e. Some (operator_texts.error_text e))) answer (log_view operator_laws.kind operators.view_of log)
 
 -- the same by the caller's word for a question
 abbrev pub IsRefusedBy : Held → Bool → Asked → List ℕ → List ℕ → ℕ → List ℕ → Failure → Type 0

@@ -10,13 +10,13 @@ use Rattle.std.specs.contracts.impls.GlobalAllocator.TheImpl.{ghosts}
 use Rattle.warg_c.specs.contracts.held.Held.{the_row}
 
 -- what is held
-abbrev pub Kept : Type 0
-Kept = the_row.Denot
+abbrev pub HeldValue : Type 0
+HeldValue = the_row.Denot
 
 -- the block of the state, where there is one
-abbrev pub kept_owns : Global → Ptr → Option Kept → Fml
+abbrev pub kept_owns : Global → Ptr → Option HeldValue → Fml
 kept_owns alloc p None = ftrue
 kept_owns alloc p (Some x) = box_owns (ghosts.dealloc_token alloc) the_row p x
 
-abbrev pub kept_coded : Coded (Option Kept)
+abbrev pub kept_coded : Coded (Option HeldValue)
 kept_coded = coded_option the_row.coded

@@ -2,7 +2,7 @@
 use Rattle.std.specs.Prelude.{◌≡◌, ℕ, Bool, false, List, [], ◌∷◌, ◌++◌, codes, length, ◌==◌, if◌then◌else◌, Option, Some, None}
 use Rattle.std.specs.Option.{option_map}
 use Rattle.std.specs.Str.{IsUtf8}
-use Rattle.warg_crypto.specs.NamedBytes.{NamedBytes, tag_text}
+use Rattle.warg_crypto.specs.NamedBytes.{NamedBytes, named_bytes_text}
 use Rattle.warg_operator_log.specs.State as operators
 use Rattle.warg_package_log.specs.State as packages
 use Rattle.warg_permissions.specs.OperatorPermissions as operator_permission
@@ -31,14 +31,14 @@ holds_bad (Package log) = IsNoPermission package_permission.permission_in
 holds_bad (Operator log) = IsNoPermission operator_permission.permission_in
 
 -- the text with a name more, if it is held
-abbrev pub added : List ℕ → Bool → List ℕ → List ℕ
-added text is_held name = if is_held then (if length text == 0 then name else text ++ 32 ∷ name) else text
+abbrev pub with_name : List ℕ → Bool → List ℕ → List ℕ
+with_name text is_held name = if is_held then (if length text == 0 then name else text ++ 32 ∷ name) else text
 
 abbrev pub package_permissions : Bool → Bool → List ℕ
-package_permissions release yank = added (added [] release (codes "release")) yank (codes "yank")
+package_permissions release yank = with_name (with_name [] release (codes "release")) yank (codes "yank")
 
 abbrev pub operator_permissions : Bool → Bool → Bool → List ℕ
-operator_permissions commit define import_ = added (added (added [] commit (codes "commit")) define (codes "defineNamespace")) import_ (codes "importNamespace")
+operator_permissions commit define import_ = with_name (with_name (with_name [] commit (codes "commit")) define (codes "defineNamespace")) import_ (codes "importNamespace")
 
 -- the names of the permissions that a key id holds
 abbrev pub PackageText : packages.View → List ℕ → List ℕ → Type 0
@@ -62,4 +62,4 @@ key_of (Package log) = (packages.view_of (state_of log)).state.authority.key
 key_of (Operator log) = (operators.view_of (state_of log)).state.authority.key
 
 abbrev pub KeyText : Option NamedBytes → List ℕ → Type 0
-KeyText key text = Some text ≡ option_map tag_text key
+KeyText key text = Some text ≡ option_map named_bytes_text key

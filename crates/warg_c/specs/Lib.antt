@@ -6,11 +6,11 @@ pub mod Logs
 pub mod Held
 pub mod Runs
 pub mod Lookups
-pub mod Releases
-pub mod Namespaces
+pub mod ReleaseAnswers
+pub mod NamespaceAnswers
 pub mod Keys
-pub mod Chains
-pub mod Comparisons
+pub mod ChainAnswers
+pub mod ComparisonAnswers
 pub mod Saved
 pub mod Ids
-pub mod Proofs
+pub mod ProofAnswers

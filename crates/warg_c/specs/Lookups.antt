@@ -2,7 +2,7 @@
 use Rattle.std.specs.Prelude.{◌≡◌, ℕ, List, ◌++◌, length, Option, Some, None}
 use Rattle.std.specs.List.{slice_get}
 use Rattle.std.specs.Option.{option_map}
-use Rattle.warg_audited_log.specs.Log.{Kept}
+use Rattle.warg_audited_log.specs.Log.{StateAndRecords}
 use Rattle.warg_crypto.specs.HashText.{hash_text}
 use Rattle.warg_envelope.specs.EnvelopeData.{EnvelopeData, DecodedEnvelope}
 use Rattle.warg_envelope.specs.Envelopes.{envelope_message}
@@ -29,12 +29,12 @@ head_of (Operator log) = operator_laws.kind.head (operators.view_of (state_of lo
 
 module _ {S C : Type 0} where
   -- how many records are here
-  abbrev pub LengthIs : Option (Kept S C) → ℕ → Type 0
+  abbrev pub LengthIs : Option (StateAndRecords S C) → ℕ → Type 0
   LengthIs None n = ⊥
   LengthIs (Some log) n = n ≡ length log.records
 
   -- no record is at the place
-  abbrev pub IsBeyond : Option (Kept S C) → ℕ → Type 0
+  abbrev pub IsBeyond : Option (StateAndRecords S C) → ℕ → Type 0
   IsBeyond None place = ⊥
   IsBeyond (Some log) place = slice_get log.records place ≡ None
 
@@ -49,7 +49,7 @@ module _ {View Offence : Type 0} (k : Kind View Offence) where
 
   module _ {S C : Type 0} where
     -- those of the record at the place
-    abbrev pub IsRecordAt : Option (Kept S C) → ℕ → KeptLengths → List ℕ → Type 0
+    abbrev pub IsRecordAt : Option (StateAndRecords S C) → ℕ → KeptLengths → List ℕ → Type 0
     IsRecordAt None place n bytes = ⊥
     IsRecordAt (Some log) place n bytes = (e : DecodedEnvelope C) × (slice_get log.records place ≡ Some e) × IsRecord e.envelope n bytes
 

@@ -2,7 +2,7 @@
 use Rattle.std.specs.Prelude.{◌≡◌, ◌+◌, ◌≤◌, ℕ, List, ◌++◌, length, take, drop, Bool, true, Ok}
 use Rattle.std.specs.Str.{IsUtf8}
 use Rattle.warg_crypto.specs.Keys.{public_key_of, signature_of}
-use Rattle.warg_crypto.specs.NamedBytes.{tag_text}
+use Rattle.warg_crypto.specs.NamedBytes.{named_bytes_text}
 use Rattle.warg_host.specs.declared.question.Question.{Question}
 use Rattle.warg_validator.specs.Kinds.{SignatureRelation}
 use Rattle.warg_c.specs.declared.question.Asked.{Asked}
@@ -39,7 +39,7 @@ HoldsOf b belongs n bytes = belongs ≡ true → (q : Question) → Says n bytes
 
 -- a question as bytes
 abbrev pub question_text : Question → List ℕ
-question_text q = (tag_text q.key ++ q.message.items) ++ tag_text q.signature
+question_text q = (named_bytes_text q.key ++ q.message.items) ++ named_bytes_text q.signature
 
 -- the bytes are all of the question, and say it
 pub record Spells (n : Asked) (bytes : List ℕ) (q : Question) : Type 0 where

@@ -1,9 +1,9 @@
 -- Saved states.
 use Rattle.std.specs.Prelude.{◌≡◌, ◌⊎◌, ℕ, List, Result, Ok, Err, codes}
 use Rattle.std.specs.Str.{IsUtf8}
-use Rattle.warg_crypto.specs.Json.{AreReadBack}
-use Rattle.warg_crypto.specs.declared.json.error.JsonError.{JsonError}
-use Rattle.warg_crypto.specs.declared.json.error.JsonError.TheVariants as value
+use Rattle.warg_json.specs.Json.{AreReadBack}
+use Rattle.warg_json.specs.declared.error.JsonError.{JsonError}
+use Rattle.warg_json.specs.declared.error.JsonError.TheVariants as value
 use Rattle.warg_operator_log.specs.SavedBack as operators_back
 use Rattle.warg_operator_log.specs.SavedState as operators
 use Rattle.warg_package_log.specs.SavedBack as packages_back
@@ -44,14 +44,14 @@ reads_back (Package log) text = AreReadBack (packages_back.saved_versions (state
 reads_back (Operator log) text = TextReadsBack operators.state_in operators_back.AreEqual (state_of log) text
 
 -- the log goes on from the state that the text says
-abbrev pub resumes : List ℕ → Held → Type 0
-resumes text (Package (Whole log)) = ⊥
-resumes text (Package (Resumed s)) = in_text packages.state_in text ≡ Ok s
-resumes text (Operator (Whole log)) = ⊥
-resumes text (Operator (Resumed s)) = in_text operators.state_in text ≡ Ok s
+abbrev pub resume_gives : List ℕ → Held → Type 0
+resume_gives text (Package (Whole log)) = ⊥
+resume_gives text (Package (Resumed s)) = in_text packages.state_in text ≡ Ok s
+resume_gives text (Operator (Whole log)) = ⊥
+resume_gives text (Operator (Resumed s)) = in_text operators.state_in text ≡ Ok s
 
-abbrev pub resumes_number : ℕ → List ℕ → Held → Type 0
-resumes_number n text held = IsOfNumber n held × resumes text held
+abbrev pub resume_gives_number : ℕ → List ℕ → Held → Type 0
+resume_gives_number n text held = IsOfNumber n held × resume_gives text held
 
 -- the text says no state of the kind, by this fault
 abbrev pub SaysNoState : Kind → List ℕ → JsonTextError → Type 0

@@ -17,10 +17,10 @@ status_of (Ok _) = 0
 status_of (Err f) = code_of f
 
 -- a status: P at 0, and Q of the failure at each other
-abbrev pub Answered : ℕ → Type 0 → (Failure → Type 0) → Type 0
-Answered n P Q = (n ≤ 7) × (n ≡ 0 → P) × ((f : Failure) → n ≡ code_of f → Q f)
+abbrev pub IsStatusOf : ℕ → Type 0 → (Failure → Type 0) → Type 0
+IsStatusOf n P Q = (n ≤ 7) × (n ≡ 0 → P) × ((f : Failure) → n ≡ code_of f → Q f)
 
 -- the same of what a handle holds; the status is 1 where it holds nothing
 abbrev pub Answers : {H : Type 0} → ℕ → Option H → (H → Type 0) → (H → Failure → Type 0) → Type 0
 Answers n None P Q = n ≡ 1
-Answers n (Some h) P Q = Answered n (P h) (Q h)
+Answers n (Some h) P Q = IsStatusOf n (P h) (Q h)

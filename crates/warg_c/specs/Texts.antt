@@ -1,6 +1,9 @@
 -- Texts for the caller.
-use Rattle.std.specs.Prelude.{◌≡◌, ◌≢◌, ◌⊎◌, ◌<◌, ◌≤◌, ℕ, List, ◌∷◌, ◌++◌, length, take, Option, Some, None, Result, Ok, Err}
+use Rattle.std.specs.Prelude.{◌≡◌, ◌≢◌, ◌⊎◌, ◌<◌, ◌≤◌, ℕ, List, ◌∷◌, ◌++◌, length, take, Option, Some, None, IfSome, Result, Ok, Err}
+use Rattle.warg_envelope.specs.ErrorTexts.{error_text}
+use Rattle.warg_validator.specs.Messages.{cause_name, cause_text}
 use Rattle.warg_validator.specs.Strings.{Cause, Unread, Unlawful}
+use Rattle.warg_validator.specs.declared.replay.RunCause.{RunCause}
 use Rattle.warg_c.specs.Statuses.{code_of}
 use Rattle.warg_c.specs.declared.failure.Failure.{Failure}
 use Rattle.warg_c.specs.declared.failure.Failure.TheVariants.{NotOpen, OutOfMemory, TooSmall, NoEnvelope, Refused, Absent, BadArgument}
@@ -15,9 +18,19 @@ abbrev pub IsQuiet : {T : Type 0} → Result T Failure → ℕ → Type 0
 IsQuiet (Ok _) used = used ≡ 0
 IsQuiet (Err f) used = f ≢ NoEnvelope → f ≢ Refused → used ≡ 0
 
--- no text, or the name, a colon, a space and a sentence
-abbrev pub IsErrorText : List ℕ → ℕ → List ℕ → Type 0
-IsErrorText name used out = (used ≡ 0) ⊎ ((sentence : List ℕ) × (take used out ≡ name ++ 58 ∷ 32 ∷ sentence))
+-- the text is the name, a colon, a space and a sentence: this one, where it is known which is printed
+pub record IsErrorLine (name : List ℕ) (printed : Option (List ℕ)) (text : List ℕ) : Type 0 where
+  pub sentence : List ℕ
+  pub line : text ≡ name ++ 58 ∷ 32 ∷ sentence
+  pub known : IfSome printed (λ said. sentence ≡ said)
+
+-- the text of a cause: its name, and what is printed of it
+abbrev pub SaysCause : {E : Type 0} → (E → List ℕ) → (E → Option (List ℕ)) → RunCause E → List ℕ → Type 0
+SaysCause name_of output cause text = IsErrorLine (cause_name name_of cause) (cause_text (λ e. Some (error_text e)) output cause) text
+
+-- no text, or one that says this
+abbrev pub IsErrorText : (List ℕ → Type 0) → ℕ → List ℕ → Type 0
+IsErrorText Says used out = (used ≡ 0) ⊎ Says (take used out)
 
 -- no text, or the name alone
 abbrev pub IsNameText : List ℕ → ℕ → List ℕ → Type 0

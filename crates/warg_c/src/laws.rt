@@ -1,7 +1,7 @@
 //! What calls come to, one after another. It has no effect.
 ghost use Rattle.std.specs.Prelude.{List, Option, Some};
 ghost use Rattle.warg_c.specs.Held.{IsNew};
-ghost use Rattle.warg_c.specs.Runs.{Call, IsRun, HoldsOfAll, appends_all, is_log_of, taken};
+ghost use Rattle.warg_c.specs.Runs.{Call, IsRun, HoldsOfAll, appends_all, is_log_of, envelopes_taken};
 ghost use Rattle.warg_c.specs.declared.held.Held.{Held};
 ghost use Rattle.warg_validator.specs.Kinds.{SignatureRelation};
 
@@ -10,10 +10,10 @@ pub fn runs()
     // A log of no records has just the envelopes that were taken then, all lawful, and its state stands for them.
     ensures begun { (b : SignatureRelation) (calls : List Call) (old : Held) (new : Option Held) →
         HoldsOfAll b calls → IsRun calls (Some old) new → IsNew old →
-        is_log_of b (taken calls) new }
+        is_log_of b (envelopes_taken calls) new }
 
     // Any other log, and one that was resumed, goes on with just these: what was accepted still is, with them.
     ensures continued { (b : SignatureRelation) (calls : List Call) (old : Held)
         (new : Option Held) → HoldsOfAll b calls → IsRun calls (Some old) new →
-        appends_all b (taken calls) old new }
+        appends_all b (envelopes_taken calls) old new }
 {}

@@ -1,6 +1,6 @@
 //! The block of a log.
 ghost use Rattle.std.specs.Prelude.{◌≡◌, None, Some, is_some, true, Option};
-ghost use Rattle.warg_c.specs.Kept.{Kept, kept_coded, kept_owns};
+ghost use Rattle.warg_c.specs.Kept.{HeldValue, kept_coded, kept_owns};
 
 use crate::held::Held;
 use crate::parts::Parts;
@@ -13,7 +13,7 @@ use std::marker::Model;
 pub struct Owned {
     at: *mut u8,
     alloc: Global,
-    pub ghost kept: { Option Kept } by { kept_coded },
+    pub ghost kept: { Option HeldValue } by { kept_coded },
 }
 
 impl Model for Owned {

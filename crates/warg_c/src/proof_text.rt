@@ -2,7 +2,7 @@
 ghost use Rattle.std.specs.Prelude.{◌≡◌, ◌⊎◌, Ok, IfOk, IfErr};
 ghost use Rattle.warg_crypto.specs.HashText.{hash_of};
 ghost use Rattle.warg_transparency.specs.Texts.{log_proof_of, map_proof_of};
-ghost use Rattle.warg_c.specs.Proofs.{AreLeafTexts, IsNoText};
+ghost use Rattle.warg_c.specs.ProofAnswers.{AreLeafTexts, IsNoText};
 ghost use Rattle.warg_c.specs.Texts.{FailsAs};
 
 use crate::failure::Failure;

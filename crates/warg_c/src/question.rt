@@ -2,7 +2,7 @@
 ghost use Rattle.std.specs.Prelude.{◌≡◌, ◌⊎◌, ◌+◌, ◌<◌, ◌≤◌, ◌++◌, IfOk, IfErr, MatchOption, Ok, length, take, drop, string_bytes};
 ghost use Rattle.std.specs.Str.{IsUtf8};
 ghost use Rattle.warg_crypto.specs.Keys.{public_key_of, signature_of};
-ghost use Rattle.warg_crypto.specs.NamedBytes.{NamedBytes, tag_text};
+ghost use Rattle.warg_crypto.specs.NamedBytes.{NamedBytes, named_bytes_text};
 ghost use Rattle.warg_c.specs.declared.failure.Failure.TheVariants.{BadArgument, OutOfMemory};
 ghost use Rattle.warg_c.specs.Questions.{Says, SaysNone, Spells, key_part, lengths_of, message_part, signature_part};
 
@@ -98,7 +98,7 @@ pub(crate) fn told(
 
 // The text of a key, which reads back as that key.
 fn key_text(alloc: Global, key: &PublicKey) -> Result<String, AllocError>
-    ensures text { IfOk result (λ text. string_bytes text ≡ tag_text key.now) }
+    ensures text { IfOk result (λ text. string_bytes text ≡ named_bytes_text key.now) }
     ensures back { IfOk result (λ text. public_key_of (string_bytes text) ≡ Ok key.now) }
     ensures utf8 { IfOk result (λ text. IsUtf8 (string_bytes text)) }
 {
@@ -112,7 +112,7 @@ fn key_text(alloc: Global, key: &PublicKey) -> Result<String, AllocError>
 
 // The text of a signature, which reads back as that signature.
 fn signature_text(alloc: Global, signature: &Signature) -> Result<String, AllocError>
-    ensures text { IfOk result (λ text. string_bytes text ≡ tag_text signature.now) }
+    ensures text { IfOk result (λ text. string_bytes text ≡ named_bytes_text signature.now) }
     ensures back { IfOk result (λ text. signature_of (string_bytes text) ≡ Ok signature.now) }
     ensures utf8 { IfOk result (λ text. IsUtf8 (string_bytes text)) }
 {
@@ -134,7 +134,8 @@ fn join(
     ensures text { IfOk result (λ p. p.0.items ≡ (key.now ++ message.now) ++ signature.now) }
     ensures lengths { IfOk result (λ p. p.1 ≡ lengths_of key.now message.now signature.now) }
 {
-    let mut text = Vec::new(alloc);
+    let length = key.len().saturating_add(message.len());
+    let mut text = Vec::with_capacity(alloc, length.saturating_add(signature.len()))?;
     text.extend_from_slice(key)?;
     text.extend_from_slice(message)?;
     text.extend_from_slice(signature)?;

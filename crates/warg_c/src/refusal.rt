@@ -1,9 +1,8 @@
 //! The texts of refusals.
-ghost use Rattle.std.specs.Prelude.{◌≡◌, ◌≢◌, ◌⊎◌, ◌++◌, ◌∷◌, ◌≤◌, ℕ, List, IfOk, length, take, string_bytes};
+ghost use Rattle.std.specs.Prelude.{◌≡◌, ◌≢◌, ◌⊎◌, ◌++◌, ◌∷◌, ◌≤◌, IfOk, length, take, string_bytes};
 ghost use Rattle.warg_envelope.specs.Envelopes.{envelope_fault_of};
-ghost use Rattle.warg_validator.specs.Messages.{cause_name};
-ghost use Rattle.warg_validator.specs.Outcomes.{told};
-ghost use Rattle.warg_c.specs.Texts.{IsErrorText, failure_by};
+ghost use Rattle.warg_validator.specs.OutcomeRuns.{cause_named_by};
+ghost use Rattle.warg_c.specs.Texts.{IsErrorLine, IsErrorText, SaysCause, failure_by};
 ghost use Rattle.warg_c.specs.declared.failure.Failure.TheVariants.{NoEnvelope, OutOfMemory, Refused, TooSmall};
 
 use crate::failure::Failure;
@@ -15,7 +14,7 @@ use warg_validator::{Named, RunCause, Validator};
 
 // What kind of failure a cause is.
 fn failure_of<L: Validator>(cause: &RunCause<L::Error>) -> Failure
-    ensures failure { result ≡ failure_by (told (envelope_fault_of L.Record.fault_of)
+    ensures failure { result ≡ failure_by (cause_named_by (envelope_fault_of L.Record.fault_of)
         L.offence_of cause.now) }
     ensures other { result ≢ TooSmall }
     ensures kinds { (result ≡ OutOfMemory) ⊎ ((result ≡ NoEnvelope) ⊎ (result ≡ Refused)) }
@@ -39,16 +38,22 @@ pub(crate) fn give_if_room(told: &str, text: &mut [u8], used: &mut usize)
     }
 }
 
-// The name, a colon, a space, and the error's sentence.
-fn sentence_of<E: fmt::Display>(alloc: Global, name: &str, error: &E) -> Result<String, AllocError>
-    ensures { IfOk result (λ told. (sentence : List ℕ) ×
-        (string_bytes told ≡ name.now ++ 58 ∷ 32 ∷ sentence)) }
+// The name, a colon, a space, and the sentence.
+fn line_of(alloc: Global, name: &str, sentence: &str) -> Result<String, AllocError>
+    ensures { IfOk result (λ told. string_bytes told ≡ name.now ++ 58 ∷ 32 ∷ sentence.now) }
 {
-    let sentence = error.to_string(alloc)?;
     let mut told = String::from_str(alloc, name)?;
     told.push_str(": ")?;
-    told.push_str(sentence.as_str())?;
+    told.push_str(sentence)?;
     Ok(told)
+}
+
+// The name, a colon, a space, and the error's sentence: what is printed of the error.
+fn sentence_of<E: fmt::Display>(alloc: Global, name: &str, error: &E) -> Result<String, AllocError>
+    ensures { IfOk result (λ told. IsErrorLine name.now (E.output error.now) (string_bytes told)) }
+{
+    let sentence = error.to_string(alloc)?;
+    line_of(alloc, name, sentence.as_str())
 }
 
 // Writes the text of an error where there is memory and room for it.
@@ -59,14 +64,15 @@ fn tell_text<E: fmt::Display>(
     text: &mut [u8],
     used: &mut usize,
 )
-    ensures text { IsErrorText name.now used.new text.new }
+    ensures text { IsErrorText (IsErrorLine name.now (E.output error.now)) used.new text.new }
     ensures length { length text.new ≡ length text.old }
     ensures within { used.new ≤ length text.new }
 {
     *used = 0;
-    if let Ok(told) = sentence_of(alloc, name, error) {
-        give_if_room(told.as_str(), text, used);
-    }
+    let Ok(told) = sentence_of(alloc, name, error) else {
+        return;
+    };
+    give_if_room(told.as_str(), text, used);
 }
 
 /// Says why a record is refused, as a failure and, where there is memory and room for it, as a text.
@@ -78,10 +84,11 @@ pub(crate) fn refuse<L: Validator>(
 ) -> Failure
 where
     L::Error: Named + fmt::Display,
-    ensures failure { result ≡ failure_by (told (envelope_fault_of L.Record.fault_of)
+    ensures failure { result ≡ failure_by (cause_named_by (envelope_fault_of L.Record.fault_of)
         L.offence_of cause.now) }
     ensures other { result ≢ TooSmall }
-    ensures text { IsErrorText (cause_name L.Error.name_of cause.now) used.new text.new }
+    ensures text { IsErrorText (SaysCause L.Error.name_of L.Error.output cause.now)
+        used.new text.new }
     ensures quiet { result ≢ NoEnvelope → result ≢ Refused → used.new ≡ 0 }
     ensures length { length text.new ≡ length text.old }
     ensures within { used.new ≤ length text.new }
@@ -89,8 +96,8 @@ where
     let failure = failure_of::<L>(cause);
     if failure == Failure::OutOfMemory {
         *used = 0;
-    } else {
-        tell_text(alloc, cause.name(), cause, text, used);
+        return failure;
     }
+    tell_text(alloc, cause.name(), cause, text, used);
     failure
 }

@@ -1,7 +1,7 @@
 //! A release as bytes.
 ghost use Rattle.std.specs.Prelude.{◌≡◌, ◌++◌, IfOk, length, string_bytes};
 ghost use Rattle.warg_package_log.specs.ReleaseMap.{release_view};
-ghost use Rattle.warg_c.specs.Releases.{IsYank, Shows, state_text};
+ghost use Rattle.warg_c.specs.ReleaseAnswers.{IsYank, Shows, state_text};
 
 use std::alloc::{AllocError, Global};
 use warg_package_log::{Release, ReleaseState};

@@ -6,9 +6,9 @@ use Rattle.std.specs.Option.{option_map}
 use Rattle.std.proofs.lemmas.List.{length-take-le, length_push, take-append-le, take-take, take_all, take_at}
 use Rattle.std.proofs.lemmas.Option.{slice_get_cases, slice_get_past, slice_get_within}
 use Rattle.warg_envelope.specs.EnvelopeData.{EnvelopeData}
-use Rattle.warg_validator.specs.Kinds.{IsAccepted, IsWithin, Kind, KindLaws, SignatureRelation, StandsFor}
-use Rattle.warg_validator.specs.Outcomes.{HasNoOffence, IfTold, IsFirstOffence, cause_next}
-use Rattle.warg_validator.proofs.OutcomeLaws.{IfTold-map}
+use Rattle.warg_validator.specs.Kinds.{IsAccepted, AcceptsNoMore, Kind, KindLaws, SignatureRelation, StandsFor}
+use Rattle.warg_validator.specs.OutcomeRuns.{HasNoOffence, IfNamed, IsFirstOffence, cause_next}
+use Rattle.warg_validator.proofs.OutcomeLaws.{IfNamed-map}
 use Rattle.warg_validator.specs.Strings.{Cause, Unlawful, cause_of, ok, read_all}
 use Rattle.warg_claims.specs.Claimed.{AreClaims, AsksClaim, HoldsOf, IsRefusedAnyway, IsTaken, RefusesAnyway, any_signature, seen_before}
 use Rattle.warg_host.specs.Telling.{IsNext}
@@ -109,11 +109,11 @@ module _ {View Offence F : Type 0} (k : Kind View Offence) (read : List ℕ → 
       next-read (Err f) h = absurd h
 
   -- a wider relation finds no offence where a narrower one finds none
-  pub strings-within : KindLaws k → (b d : SignatureRelation) → IsWithin b d → (ss : List (List ℕ)) → HasNoOffence k b read k.view_of ss → HasNoOffence k d read k.view_of ss
+  pub strings-within : KindLaws k → (b d : SignatureRelation) → AcceptsNoMore b d → (ss : List (List ℕ)) → HasNoOffence k b read k.view_of ss → HasNoOffence k d read k.view_of ss
   strings-within laws b d within ss h = λ i s at. still (k.view_of (read_all read (take i ss))) (read s) (h i s at)
     where
       still : (v : View) (r : Result EnvelopeData F) → cause_of (k.offence b) v r ≡ None → cause_of (k.offence d) v r ≡ None
-      still v (Ok e) none = ap (option_map Unlawful) (laws.trusting b d within v e (none_inside Unlawful (k.offence b v e) none))
+      still v (Ok e) none = ap (option_map Unlawful) (laws.more_signatures b d within v e (none_inside Unlawful (k.offence b v e) none))
       still v (Err f) none = none
 
   -- claims of the front are of as many strings as there are claims
@@ -123,11 +123,11 @@ module _ {View Offence F : Type 0} (k : Kind View Offence) (read : List ℕ → 
       (count, rw count own)
 
   -- why a string is refused anyway, at its place
-  pub refused-at : {C : Type 0} (told_by : C → Option (Cause F Offence)) (v : View) (ss : List (List ℕ)) (i : ℕ) (s : List ℕ) (cause : C)
-      → slice_get ss i ≡ Some s → v ≡ k.view_of (read_all read (take i ss)) → RefusesAnyway k read told_by v s cause
-      → IfTold (told_by cause) (IsRefusedAnyway k read ss i)
-  refused-at told_by v ss i s cause at seen refuses =
-      IfTold-map (told_by cause) _ (IsRefusedAnyway k read ss i)
+  pub refused-at : {C : Type 0} (named_by : C → Option (Cause F Offence)) (v : View) (ss : List (List ℕ)) (i : ℕ) (s : List ℕ) (cause : C)
+      → slice_get ss i ≡ Some s → v ≡ k.view_of (read_all read (take i ss)) → RefusesAnyway k read named_by v s cause
+      → IfNamed (named_by cause) (IsRefusedAnyway k read ss i)
+  refused-at named_by v ss i s cause at seen refuses =
+      IfNamed-map (named_by cause) _ (IsRefusedAnyway k read ss i)
       (λ why wrong. record { string = s; at = at; wrong = λ b. let P : View → Type 0 = λ w. cause_next k b read w s ≡ Some why in subst P seen (wrong b) })
       refuses
 

@@ -3,7 +3,7 @@ use Rattle.std.proofs.Common.{◌≡◌, ℕ, true, List, Contains, Some}
 use Rattle.std.specs.List.{slice_get}
 use Rattle.std.proofs.lemmas.Map.Views.{Contains-from_any, list_any-from_Contains}
 use Rattle.std.proofs.lemmas.Option.{get_or_from_slice_get, slice_get_within}
-use Rattle.warg_validator.specs.Kinds.{IsWithin, SignatureRelation}
+use Rattle.warg_validator.specs.Kinds.{AcceptsNoMore, SignatureRelation}
 use Rattle.warg_claims.specs.Claimed.{HoldsOf}
 use Rattle.warg_verified.specs.Claims.{ClaimData, is_claimed}
 use Rattle.warg_verified.specs.SameClaims.{same_claim_equiv}
@@ -14,7 +14,7 @@ contains-at : {X : Type 0} (xs : List X) (i : ℕ) (x : X) → slice_get xs i �
 contains-at xs i x at = (i, slice_get_within xs i x at, get_or_from_slice_get xs i x x at)
 
 -- more claims take all that fewer take
-pub claimed-within : (few many : List ClaimData) → ((c : ClaimData) → Contains few c → Contains many c) → IsWithin (is_claimed few) (is_claimed many)
+pub claimed-within : (few many : List ClaimData) → ((c : ClaimData) → Contains few c → Contains many c) → AcceptsNoMore (is_claimed few) (is_claimed many)
 claimed-within few many more key message signature taken =
     let claim : ClaimData = record { key = key; message = message; signature = signature } in
     list_any-from_Contains same_claim_equiv claim many (more claim (Contains-from_any same_claim-one claim few taken))

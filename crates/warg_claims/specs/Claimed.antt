@@ -4,7 +4,7 @@ use Rattle.std.specs.List.{slice_get}
 use Rattle.warg_envelope.specs.EnvelopeData.{EnvelopeData}
 use Rattle.warg_host.specs.Telling.{AsksFor, IsNext}
 use Rattle.warg_validator.specs.Kinds.{IsAccepted, Kind, SignatureRelation, StandsFor}
-use Rattle.warg_validator.specs.Outcomes.{IfTold, cause_next}
+use Rattle.warg_validator.specs.OutcomeRuns.{IfNamed, cause_next}
 use Rattle.warg_validator.specs.Strings.{Cause, read_all}
 use Rattle.warg_verified.specs.Claims.{ClaimData}
 
@@ -41,7 +41,7 @@ module _ {View Offence : Type 0} (k : Kind View Offence) where
 
     -- whatever the relation, this is why the string can't come after the view; nothing is said where memory ran out
     abbrev pub RefusesAnyway : {C : Type 0} → (C → Option (Cause F Offence)) → View → List ℕ → C → Type 0
-    RefusesAnyway told_by v s c = IfTold (told_by c) (λ why. (b : SignatureRelation) → cause_next k b read v s ≡ Some why)
+    RefusesAnyway named_by v s c = IfNamed (named_by c) (λ why. (b : SignatureRelation) → cause_next k b read v s ≡ Some why)
 
     -- whatever the relation, this is why the string at the place can't come after those before it
     pub record IsRefusedAnyway (strings : List (List ℕ)) (place : ℕ) (cause : Cause F Offence) : Type 0 where
@@ -52,5 +52,5 @@ module _ {View Offence : Type 0} (k : Kind View Offence) where
     -- where the claims end: all strings have theirs, or the next is refused whatever its signature, for what is named of
     -- the cause
     abbrev pub EndsAt : {C : Type 0} → (C → Option (Cause F Offence)) → List (List ℕ) → ℕ → Option C → Type 0
-    EndsAt told_by strings place None = place ≡ length strings
-    EndsAt told_by strings place (Some cause) = IfTold (told_by cause) (IsRefusedAnyway strings place)
+    EndsAt named_by strings place None = place ≡ length strings
+    EndsAt named_by strings place (Some cause) = IfNamed (named_by cause) (IsRefusedAnyway strings place)

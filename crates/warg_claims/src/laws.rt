@@ -3,7 +3,7 @@ ghost use Rattle.std.specs.Prelude.{◌≡◌, ◌↔◌, ℕ, List, Contains, l
 ghost use Rattle.warg_envelope.specs.Envelopes.{EnvelopeFault, envelope_of};
 ghost use Rattle.warg_envelope.specs.EnvelopeData.{EnvelopeData};
 ghost use Rattle.warg_validator.specs.Kinds.{SignatureRelation, IsAccepted, StandsFor};
-ghost use Rattle.warg_validator.specs.Outcomes.{HasNoOffence, IsFirstOffence};
+ghost use Rattle.warg_validator.specs.OutcomeRuns.{HasNoOffence, IsFirstOffence};
 ghost use Rattle.warg_validator.specs.Strings.{Cause};
 ghost use Rattle.warg_claims.specs.Claimed.{AreClaims, HoldsOf, IsRefusedAnyway};
 ghost use Rattle.warg_verified.specs.Claims.{ClaimData, is_claimed};

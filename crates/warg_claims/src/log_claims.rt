@@ -2,7 +2,7 @@
 ghost use Rattle.std.specs.Prelude.{◌≡◌, IfOk, IfErr, OnOk, Some, length, map, take};
 ghost use Rattle.std.specs.Vec.{vec_items};
 ghost use Rattle.warg_envelope.specs.Envelopes.{envelope_of, envelope_fault_of};
-ghost use Rattle.warg_validator.specs.Outcomes.{told};
+ghost use Rattle.warg_validator.specs.OutcomeRuns.{cause_named_by};
 ghost use Rattle.warg_claims.specs.Claimed.{AreClaims, AsksClaim, EndsAt, IsTaken, RefusesAnyway};
 ghost use Rattle.warg_envelope.specs.declared.proto_envelope.error.ParseEnvelopeError.TheVariants.{OutOfMemory};
 ghost use Rattle.warg_validator.specs.declared.replay.RunCause.TheVariants.{Parse};
@@ -33,7 +33,8 @@ fn take_next<L: Hosted>(
     ensures taken { OnOk result (IsTaken L.kind L.view state.old
         (envelope_of L.Record.read bytes.now) state.new) }
     ensures refused { IfErr result (λ c. RefusesAnyway L.kind (envelope_of L.Record.read)
-        (told (envelope_fault_of L.Record.fault_of) L.offence_of) (L.view state.old) bytes.now c) }
+        (cause_named_by (envelope_fault_of L.Record.fault_of) L.offence_of) (L.view state.old)
+        bytes.now c) }
 {
     let question = ask(alloc, &*state, bytes)?;
     let answer = Told {
@@ -69,7 +70,7 @@ pub fn claims<L: Hosted>(alloc: Global, log: &[Vec<u8>]) -> LogClaims<L::Error>
     ensures claims { AreClaims L.kind (envelope_of L.Record.read)
         (take (length result.claims.items) (map vec_items log.now)) result.claims.items }
     ensures end { EndsAt L.kind (envelope_of L.Record.read)
-        (told (envelope_fault_of L.Record.fault_of) L.offence_of)
+        (cause_named_by (envelope_fault_of L.Record.fault_of) L.offence_of)
         (map vec_items log.now) (length result.claims.items) result.refusal }
 {
     let mut claims = Vec::new(alloc);

@@ -11,15 +11,15 @@ use Rattle.hex.specs.Hex.{decode_of as hex_decode_of}
 use Rattle.hex.specs.declared.error.FromHexError.{FromHexError}
 use Rattle.warg_crypto.specs.HashText.{hash_of, hash_of_bytes, hash_of_digits, is_colon, IsHashText}
 use Rattle.warg_crypto.specs.Keys.{key_fault, public_key_of, signature_fault, signature_of, with_fault}
-use Rattle.warg_crypto.specs.Names.{no_colon-before_first, some_bytes, tag_of-parts}
-use Rattle.warg_crypto.specs.NamedBytes.{IsKeyText, IsName, NamedBytes, tag_of, tag_or_bad}
+use Rattle.warg_crypto.specs.NamedBytesLaws.{no_colon-before_first, some_bytes, named_bytes_of-parts}
+use Rattle.warg_crypto.specs.NamedBytes.{IsKeyText, IsName, NamedBytes, named_bytes_of, named_bytes_or_bad}
 use Rattle.warg_crypto.specs.declared.hash.AnyHash.{AnyHash}
 use Rattle.warg_crypto.specs.declared.hash.AnyHashError.{AnyHashError}
 use Rattle.warg_crypto.specs.declared.hash.AnyHashError.TheVariants as fault
 use Rattle.warg_crypto.specs.declared.hash.HashAlgorithm.{HashAlgorithm}
 use Rattle.warg_crypto.specs.declared.hash.HashAlgorithm.TheVariants.{Sha256}
-use Rattle.warg_crypto.specs.declared.signing.tagged.TagError.{TagError}
-use Rattle.warg_crypto.specs.declared.signing.tagged.TagError.TheVariants as no_key
+use Rattle.warg_crypto.specs.declared.signing.algorithm_bytes.NamedBytesError.{NamedBytesError}
+use Rattle.warg_crypto.specs.declared.signing.algorithm_bytes.NamedBytesError.TheVariants as no_key
 
 colon_is : (b : ℕ) → is_colon b ≡ true → b ≡ 58
 colon_is b h = grind (arith)
@@ -87,14 +87,14 @@ hash_of-IsHashText text h = (
   λ g. ap hash_of g.whole ∙ hash_read g.digits h (digits_read h.algorithm g.digits h.bytes g.count g.spell),
 )
 
-abbrev says : NamedBytes → Result NamedBytes TagError
+abbrev says : NamedBytes → Result NamedBytes NamedBytesError
 says t = Ok t
 
-abbrev name_said : Result NamedBytes TagError → List ℕ
+abbrev name_said : Result NamedBytes NamedBytesError → List ℕ
 name_said (Ok x) = x.name
 name_said (Err e) = []
 
-abbrev bytes_said : Result NamedBytes TagError → List ℕ
+abbrev bytes_said : Result NamedBytes NamedBytesError → List ℕ
 bytes_said (Ok x) = x.bytes
 bytes_said (Err e) = []
 
@@ -105,7 +105,7 @@ tag_cut : (text : List ℕ) (t : NamedBytes) (missing empty : Bool) (decoded : R
     → (position_or_len is_colon text == length text) ≡ missing
     → (length (before_first is_colon text) == 0) ≡ empty
     → decode_of standard (after_first is_colon text) ≡ decoded
-    → (if missing then Err no_key.MissingColon else if empty then Err no_key.EmptyAlgorithm else tag_or_bad (before_first is_colon text) decoded) ≡ Ok t
+    → (if missing then Err no_key.MissingColon else if empty then Err no_key.EmptyAlgorithm else named_bytes_or_bad (before_first is_colon text) decoded) ≡ Ok t
     → IsKeyText text t
 tag_cut text t true empty decoded m n d is = cc
 tag_cut text t false true decoded m n d is = cc
@@ -120,22 +120,22 @@ tag_cut text t false false (Ok bytes) m n d is =
     }
 
 -- a text says a name and bytes exactly if the grammar says so
-tag_of-IsKeyText : (text : List ℕ) (t : NamedBytes) → (tag_of text ≡ Ok t) ↔ IsKeyText text t
-tag_of-IsKeyText text t = (
+named_bytes_of-IsKeyText : (text : List ℕ) (t : NamedBytes) → (named_bytes_of text ≡ Ok t) ↔ IsKeyText text t
+named_bytes_of-IsKeyText text t = (
   λ e. tag_cut text t (position_or_len is_colon text == length text) (length (before_first is_colon text) == 0) (decode_of standard (after_first is_colon text)) refl refl refl e,
-  λ g. ap tag_of g.whole ∙ tag_of-parts t g.behind g.named g.spell,
+  λ g. ap named_bytes_of g.whole ∙ named_bytes_of-parts t g.behind g.named g.spell,
 )
 
 abbrev tag_or : {E : Type 0} → NamedBytes → Result NamedBytes E → NamedBytes
 tag_or t (Ok x) = x
 tag_or t (Err e) = t
 
-plain_ok : {E : Type 0} (f : TagError → E) (r : Result NamedBytes TagError) (t : NamedBytes) → with_fault f r ≡ Ok t → r ≡ Ok t
+plain_ok : {E : Type 0} (f : NamedBytesError → E) (r : Result NamedBytes NamedBytesError) (t : NamedBytes) → with_fault f r ≡ Ok t → r ≡ Ok t
 plain_ok f (Ok x) t e = ap says (ap (tag_or t) e)
 plain_ok f (Err x) t e = cc
 
 pub public_key_of-IsKeyText : (text : List ℕ) (t : NamedBytes) → (public_key_of text ≡ Ok t) ↔ IsKeyText text t
-public_key_of-IsKeyText text t = (λ e. (tag_of-IsKeyText text t).0 (plain_ok key_fault (tag_of text) t e), λ g. ap (with_fault key_fault) ((tag_of-IsKeyText text t).1 g))
+public_key_of-IsKeyText text t = (λ e. (named_bytes_of-IsKeyText text t).0 (plain_ok key_fault (named_bytes_of text) t e), λ g. ap (with_fault key_fault) ((named_bytes_of-IsKeyText text t).1 g))
 
 pub signature_of-IsKeyText : (text : List ℕ) (t : NamedBytes) → (signature_of text ≡ Ok t) ↔ IsKeyText text t
-signature_of-IsKeyText text t = (λ e. (tag_of-IsKeyText text t).0 (plain_ok signature_fault (tag_of text) t e), λ g. ap (with_fault signature_fault) ((tag_of-IsKeyText text t).1 g))
+signature_of-IsKeyText text t = (λ e. (named_bytes_of-IsKeyText text t).0 (plain_ok signature_fault (named_bytes_of text) t e), λ g. ap (with_fault signature_fault) ((named_bytes_of-IsKeyText text t).1 g))

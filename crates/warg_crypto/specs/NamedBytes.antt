@@ -6,8 +6,8 @@ use Rattle.base64.specs.Engines.{standard}
 use Rattle.base64.specs.GeneralPurpose.{encode_of, decode_of}
 use Rattle.base64.specs.declared.decode.DecodeError.{DecodeError}
 use Rattle.warg_crypto.specs.HashText.{is_colon, hash_text, sha256_hash_of}
-use Rattle.warg_crypto.specs.declared.signing.tagged.TagError.{TagError}
-use Rattle.warg_crypto.specs.declared.signing.tagged.TagError.TheVariants as fault
+use Rattle.warg_crypto.specs.declared.signing.algorithm_bytes.NamedBytesError.{NamedBytesError}
+use Rattle.warg_crypto.specs.declared.signing.algorithm_bytes.NamedBytesError.TheVariants as fault
 
 -- what keys and signatures hold
 pub record NamedBytes : Type 0 where
@@ -20,37 +20,37 @@ pub record IsName (name : List ℕ) : Type 0 where
   pub no_colon : list_any is_colon name ≡ false
 
 -- whether two keys or two signatures are the same: in name and in bytes
-abbrev pub same_tag : NamedBytes → NamedBytes → Bool
-same_tag a b = bytes_eq a.name b.name && bytes_eq a.bytes b.bytes
+abbrev pub same_named_bytes : NamedBytes → NamedBytes → Bool
+same_named_bytes a b = bytes_eq a.name b.name && bytes_eq a.bytes b.bytes
 
 -- the text
-abbrev pub tag_text : NamedBytes → List ℕ
-tag_text t = t.name ++ 58 ∷ encode_of standard t.bytes
+abbrev pub named_bytes_text : NamedBytes → List ℕ
+named_bytes_text t = t.name ++ 58 ∷ encode_of standard t.bytes
 
 -- the name with what the base64 spells, or that it is bad
-abbrev pub tag_or_bad : List ℕ → Result (List ℕ) DecodeError → Result NamedBytes TagError
-tag_or_bad name (Ok bytes) = Ok (record { name = name; bytes = bytes })
-tag_or_bad name (Err e) = Err fault.BadBase64
+abbrev pub named_bytes_or_bad : List ℕ → Result (List ℕ) DecodeError → Result NamedBytes NamedBytesError
+named_bytes_or_bad name (Ok bytes) = Ok (record { name = name; bytes = bytes })
+named_bytes_or_bad name (Err e) = Err fault.BadBase64
 
 -- what a name and what stands behind the colon say
-abbrev pub tag_of_parts : Bool → List ℕ → Result (List ℕ) DecodeError → Result NamedBytes TagError
-tag_of_parts is_colon_missing name decoded =
+abbrev pub named_bytes_of_parts : Bool → List ℕ → Result (List ℕ) DecodeError → Result NamedBytes NamedBytesError
+named_bytes_of_parts is_colon_missing name decoded =
     if is_colon_missing then Err fault.MissingColon
     else if length name == 0 then Err fault.EmptyAlgorithm
-    else tag_or_bad name decoded
+    else named_bytes_or_bad name decoded
 
 -- what a text says, or its first fault: the text is cut at its first colon
-abbrev pub tag_of : List ℕ → Result NamedBytes TagError
-tag_of text =
-    tag_of_parts (position_or_len is_colon text == length text) (before_first is_colon text) (decode_of standard (after_first is_colon text))
+abbrev pub named_bytes_of : List ℕ → Result NamedBytes NamedBytesError
+named_bytes_of text =
+    named_bytes_of_parts (position_or_len is_colon text == length text) (before_first is_colon text) (decode_of standard (after_first is_colon text))
 
 -- a name and a colon behind it begin the text, so that its base64 is read, which takes memory
 abbrev pub HasName : List ℕ → Type 0
-HasName text = (tag_of text ≢ Err fault.MissingColon) × (tag_of text ≢ Err fault.EmptyAlgorithm)
+HasName text = (named_bytes_of text ≢ Err fault.MissingColon) × (named_bytes_of text ≢ Err fault.EmptyAlgorithm)
 
 -- the fingerprint of a key, which is its id: the text of the hash of the key's text
 unfoldable pub fingerprint_of : NamedBytes → List ℕ
-fingerprint_of key = hash_text (sha256_hash_of (tag_text key))
+fingerprint_of key = hash_text (sha256_hash_of (named_bytes_text key))
 
 -- the grammar of a key's or a signature's text: a name, a colon, and base64 that spells the bytes
 pub record IsKeyText (text : List ℕ) (t : NamedBytes) : Type 0 where

@@ -5,32 +5,32 @@ ghost use Rattle.hex.specs.Hex.{IsBytes};
 ghost use Rattle.warg_crypto.specs.HashText.{hash_of, hash_text, IsHashText};
 ghost use Rattle.warg_crypto.specs.Keys.{public_key_of, signature_of};
 ghost use Rattle.warg_crypto.specs.Prefix.{IsLeb128, str_of, unsigned_of};
-ghost use Rattle.warg_crypto.specs.NamedBytes.{IsKeyText, IsName, NamedBytes, tag_text};
-ghost use Rattle.warg_crypto.specs.Times.{Time, shown_time};
-ghost use Rattle.warg_crypto.specs.TimeText.{time_text};
+ghost use Rattle.warg_crypto.specs.NamedBytes.{IsKeyText, IsName, NamedBytes, named_bytes_text};
 ghost use Rattle.warg_crypto.specs.declared.hash.AnyHash.{AnyHash};
+ghost use Rattle.warg_crypto.specs.declared.hash.AnyHashError.{AnyHashError};
+ghost use Rattle.warg_crypto.specs.declared.hash.HashAlgorithm.{HashAlgorithm};
+ghost use Rattle.warg_crypto.specs.declared.hash.UnknownAlgorithm.{UnknownAlgorithm};
+ghost use Rattle.warg_crypto.specs.declared.hash.typed.Hash.{Hash};
+ghost use Rattle.warg_crypto.specs.declared.signing.error.KeyParseError.{KeyParseError};
+ghost use Rattle.warg_crypto.specs.declared.signing.error.SignatureError.{SignatureError};
+ghost use Rattle.warg_crypto.specs.declared.signing.error.SignatureParseError.{SignatureParseError};
 
-mod equality;
 mod hashing;
 mod order;
 mod texts;
 
-use crate::hash::{Hash, SupportedDigest};
+use crate::hash::{AnyHash, AnyHashError, Hash, HashAlgorithm, SupportedDigest, UnknownAlgorithm};
 pub use crate::ranges::byte_range;
+use crate::signing::{
+    KeyID, KeyParseError, PublicKey, Signature, SignatureError, SignatureParseError,
+};
 use crate::toy::{ToySigner, ToyVerifier};
 use crate::visit::VisitBytes;
-pub use equality::{
-    are_same_algorithms, are_same_decode_errors, are_same_hash_errors, are_same_hashes,
-    are_same_ids, are_same_incoherences, are_same_json_errors, are_same_key_errors, are_same_keys,
-    are_same_signature_errors, are_same_signature_parse_errors, are_same_signatures,
-    are_same_time_errors, are_same_times, are_same_typed_hashes, are_same_unknown_algorithms,
-    are_same_wire_faults,
-};
-pub use hashing::{feed_id, feed_key, feed_signature, feed_time};
-pub use order::{compare_algorithms, compare_hashes, compare_ids, compare_typed_hashes, is_before};
+pub use hashing::{feed_id, feed_key, feed_signature};
+pub use order::{compare_algorithms, compare_hashes, compare_ids, compare_typed_hashes};
 use std::alloc::{AllocError, Global};
 pub use texts::{
-    print_algorithm, print_hash, print_id, print_key, print_signature, print_time, print_typed_hash,
+    print_algorithm, print_hash, print_id, print_key, print_signature, print_typed_hash,
 };
 
 /// What is written of a hash reads back.
@@ -41,13 +41,13 @@ pub fn hash_reads_back()
 /// What is written of a key reads back.
 pub fn public_key_reads_back()
     ensures { (key : NamedBytes) → IsName key.name → IsBytes key.bytes →
-        public_key_of (tag_text key) ≡ Ok key }
+        public_key_of (named_bytes_text key) ≡ Ok key }
 {}
 
 /// What is written of a signature reads back.
 pub fn signature_reads_back()
     ensures { (signature : NamedBytes) → IsName signature.name → IsBytes signature.bytes →
-        signature_of (tag_text signature) ≡ Ok signature }
+        signature_of (named_bytes_text signature) ≡ Ok signature }
 {}
 
 /// A text spells a hash exactly if it is `sha256:` and 64 hex digits that spell the hash's bytes.
@@ -113,7 +113,28 @@ pub fn str_is_no_beginning()
     ensures { (t u r s : List ℕ) → str_of t ++ r ≡ str_of u ++ s → (t ≡ u) × (r ≡ s) }
 {}
 
-/// A time that has a text prints as that text.
-pub fn times_print_as_their_texts()
-    ensures { (time : Time) (text : List ℕ) → time_text time ≡ Ok text → shown_time time ≡ text }
+/// When `==` is true: exactly where both are identical. That is, of hashes, in algorithm and bytes; of ids of keys, in
+/// text; of keys and signatures, in name and bytes; of errors, in case and in what the case holds.
+pub fn equality()
+    ensures algorithms { (a b : HashAlgorithm) →
+        (⟦<HashAlgorithm as PartialEq>⟧.eq a b ≡ true) ↔ (a ≡ b) }
+    ensures hashes { (a b : AnyHash) → (⟦<AnyHash as PartialEq>⟧.eq a b ≡ true) ↔ (a ≡ b) }
+    ensures ids { (a b : List ℕ) → (⟦<KeyID as PartialEq>⟧.eq a b ≡ true) ↔ (a ≡ b) }
+    ensures keys { (a b : NamedBytes) → (⟦<PublicKey as PartialEq>⟧.eq a b ≡ true) ↔ (a ≡ b) }
+    ensures signatures { (a b : NamedBytes) → (⟦<Signature as PartialEq>⟧.eq a b ≡ true) ↔ (a ≡ b) }
+    ensures unknown_algorithms { (a b : UnknownAlgorithm) →
+        (⟦<UnknownAlgorithm as PartialEq>⟧.eq a b ≡ true) ↔ (a ≡ b) }
+    ensures hash_errors { (a b : AnyHashError) →
+        (⟦<AnyHashError as PartialEq>⟧.eq a b ≡ true) ↔ (a ≡ b) }
+    ensures key_errors { (a b : KeyParseError) →
+        (⟦<KeyParseError as PartialEq>⟧.eq a b ≡ true) ↔ (a ≡ b) }
+    ensures signature_parse_errors { (a b : SignatureParseError) →
+        (⟦<SignatureParseError as PartialEq>⟧.eq a b ≡ true) ↔ (a ≡ b) }
+    ensures signature_errors { (a b : SignatureError) →
+        (⟦<SignatureError as PartialEq>⟧.eq a b ≡ true) ↔ (a ≡ b) }
+{}
+
+/// `==` of hashes whose type names their digest is true exactly where their bytes are identical.
+pub fn typed_hash_equality<D: PartialEq>()
+    ensures { (a b : Hash D) → (⟦<Hash<D> as PartialEq>⟧.eq a b ≡ true) ↔ (a.bytes ≡ b.bytes) }
 {}

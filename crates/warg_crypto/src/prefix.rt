@@ -43,9 +43,9 @@ impl<'a, BV: ByteVisitor> PrefixEncodeVisitor<'a, BV> {
     /// Appends the bytes of the text alone.
     pub fn visit_str_raw(&mut self, text: &str) -> Result<(), AllocError>
         ensures same { self.new.visitor.ghost_name ≡ self.old.visitor.ghost_name }
-        ensures ok { (m : List ℕ) → BV.seen self.old.visitor.now m →
-            OnOk result (BV.seen self.new.visitor.now (m ++ text.now)) }
-        ensures err { OnErr result (Stops BV.seen BV.refuses self.old.visitor.now
+        ensures ok { (m : List ℕ) → BV.has_seen self.old.visitor.now m →
+            OnOk result (BV.has_seen self.new.visitor.now (m ++ text.now)) }
+        ensures err { OnErr result (Stops BV.has_seen BV.refuses self.old.visitor.now
             self.new.visitor.now text.now) }
     {
         self.visitor.visit_bytes(text.as_bytes())
@@ -54,9 +54,9 @@ impl<'a, BV: ByteVisitor> PrefixEncodeVisitor<'a, BV> {
     /// Appends the number as the shortest LEB128: seven bits a byte, least significant first.
     pub fn visit_unsigned(&mut self, number: u64) -> Result<(), AllocError>
         ensures same { self.new.visitor.ghost_name ≡ self.old.visitor.ghost_name }
-        ensures ok { (m : List ℕ) → BV.seen self.old.visitor.now m →
-            OnOk result (BV.seen self.new.visitor.now (m ++ unsigned_of number)) }
-        ensures err { OnErr result (Stops BV.seen BV.refuses
+        ensures ok { (m : List ℕ) → BV.has_seen self.old.visitor.now m →
+            OnOk result (BV.has_seen self.new.visitor.now (m ++ unsigned_of number)) }
+        ensures err { OnErr result (Stops BV.has_seen BV.refuses
             self.old.visitor.now self.new.visitor.now
             (unsigned_of number)) }
     {
@@ -68,9 +68,9 @@ impl<'a, BV: ByteVisitor> PrefixEncodeVisitor<'a, BV> {
     /// Appends the text's length in bytes, as `visit_unsigned` does, and then its bytes.
     pub fn visit_str(&mut self, text: &str) -> Result<(), AllocError>
         ensures same { self.new.visitor.ghost_name ≡ self.old.visitor.ghost_name }
-        ensures ok { (m : List ℕ) → BV.seen self.old.visitor.now m →
-            OnOk result (BV.seen self.new.visitor.now (m ++ str_of text.now)) }
-        ensures err { OnErr result (Stops BV.seen BV.refuses
+        ensures ok { (m : List ℕ) → BV.has_seen self.old.visitor.now m →
+            OnOk result (BV.has_seen self.new.visitor.now (m ++ str_of text.now)) }
+        ensures err { OnErr result (Stops BV.has_seen BV.refuses
             self.old.visitor.now self.new.visitor.now
             (str_of text.now)) }
     {
@@ -106,17 +106,17 @@ pub trait VisitPrefixEncode {
         visitor: &mut PrefixEncodeVisitor<'_, BV>,
     ) -> Result<(), AllocError>
         ensures same { visitor.new.visitor.ghost_name ≡ visitor.old.visitor.ghost_name }
-        ensures ok { (m : List ℕ) → BV.seen visitor.old.visitor.now m →
-            OnOk result (BV.seen visitor.new.visitor.now (m ++ prefix_encoding_of self.now)) }
-        ensures err { OnErr result (Stops BV.seen BV.refuses visitor.old.visitor.now
+        ensures ok { (m : List ℕ) → BV.has_seen visitor.old.visitor.now m →
+            OnOk result (BV.has_seen visitor.new.visitor.now (m ++ prefix_encoding_of self.now)) }
+        ensures err { OnErr result (Stops BV.has_seen BV.refuses visitor.old.visitor.now
             visitor.new.visitor.now
             (prefix_encoding_of self.now)) };
 
     /// The same for a plain visitor of bytes.
     fn visit_bv<BV: ByteVisitor>(&self, visitor: &mut BV) -> Result<(), AllocError>
-        ensures ok { (m : List ℕ) → BV.seen visitor.old m →
-            OnOk result (BV.seen visitor.new (m ++ prefix_encoding_of self.now)) }
-        ensures err { OnErr result (Stops BV.seen BV.refuses visitor.old visitor.new
+        ensures ok { (m : List ℕ) → BV.has_seen visitor.old m →
+            OnOk result (BV.has_seen visitor.new (m ++ prefix_encoding_of self.now)) }
+        ensures err { OnErr result (Stops BV.has_seen BV.refuses visitor.old visitor.new
             (prefix_encoding_of self.now)) }
     {
         let mut encoder = PrefixEncodeVisitor::new(visitor);

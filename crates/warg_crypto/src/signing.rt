@@ -5,18 +5,18 @@ ghost use Rattle.warg_crypto.specs.NamedBytes.{NamedBytes};
 ghost use Rattle.warg_crypto.specs.Signed.{signed_message};
 ghost use Rattle.warg_crypto.specs.declared.signing.error.SignatureError.TheVariants.{Refused};
 
+mod algorithm_bytes;
 mod error;
 mod key;
 mod shown;
 mod signed;
-mod tagged;
 
 use crate::coding::Encode;
+pub use algorithm_bytes::is_algorithm_name;
 pub use error::{KeyParseError, SignatureError, SignatureParseError};
 pub use key::{KeyID, PublicKey};
 pub use signed::Signature;
 use std::alloc::{AllocError, Global};
-pub use tagged::is_algorithm_name;
 
 /// Says whether a signature belongs to a message under a key.
 ///

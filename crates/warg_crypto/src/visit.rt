@@ -17,7 +17,7 @@ use std::alloc::AllocError;
 /// }
 ///
 /// impl ByteVisitor for Counter {
-///     ghost seen = { λ counter m. counter.count ≡ length m };
+///     ghost has_seen = { λ counter m. counter.count ≡ length m };
 ///
 ///     fn visit_bytes(&mut self, bytes: &[u8]) -> Result<(), AllocError> {
 ///         match self.count.checked_add(bytes.len()) {
@@ -32,22 +32,23 @@ use std::alloc::AllocError;
 /// ```
 ///
 /// A clause of a function with a parameter `visitor: &mut V`, where `V: ByteVisitor`, names what was
-/// seen as `V.seen`, and the bytes of a value of `T: VisitBytes` as `T.bytes_of`:
+/// seen as `V.has_seen`, and the bytes of a value of `T: VisitBytes` as `T.bytes_of`:
 ///
 /// ```
-/// ensures { (m : List ℕ) → V.seen visitor.old m → OnOk result (V.seen visitor.new (m ++ T.bytes_of value.now)) }
+/// ensures { (m : List ℕ) → V.has_seen visitor.old m → OnOk result (V.has_seen visitor.new (m ++ T.bytes_of value.now)) }
 /// ```
 pub trait ByteVisitor {
     // The visitor has seen these bytes. A hasher does not store them.
-    ghost seen: { Self → List ℕ → Type 0 };
+    ghost has_seen: { Self → List ℕ → Type 0 };
 
     // The visitor may refuse these bytes.
     ghost refuses: { Self → List ℕ → Type 0 } = { λ _ _. ⊤ };
 
     /// Takes the bytes in, or refuses them all.
     fn visit_bytes(&mut self, bytes: &[u8]) -> Result<(), AllocError>
-        ensures ok { (m : List ℕ) → seen self.old m → OnOk result (seen self.new (m ++ bytes.now)) }
-        ensures same { (m : List ℕ) → seen self.old m → OnErr result (seen self.new m) }
+        ensures ok { (m : List ℕ) → has_seen self.old m →
+            OnOk result (has_seen self.new (m ++ bytes.now)) }
+        ensures same { (m : List ℕ) → has_seen self.old m → OnErr result (has_seen self.new m) }
         ensures refused { OnErr result (refuses self.old bytes.now) };
 }
 
@@ -59,14 +60,14 @@ pub trait VisitBytes {
     /// Appends the bytes of the value to what the visitor saw. Where the visitor refuses a piece,
     /// it has seen a beginning of them.
     fn visit<V: ByteVisitor>(&self, visitor: &mut V) -> Result<(), AllocError>
-        ensures ok { (m : List ℕ) → V.seen visitor.old m →
-            OnOk result (V.seen visitor.new (m ++ bytes_of self.now)) }
-        ensures err { OnErr result (Stops V.seen V.refuses visitor.old visitor.new
+        ensures ok { (m : List ℕ) → V.has_seen visitor.old m →
+            OnOk result (V.has_seen visitor.new (m ++ bytes_of self.now)) }
+        ensures err { OnErr result (Stops V.has_seen V.refuses visitor.old visitor.new
             (bytes_of self.now)) };
 }
 
 impl ByteVisitor for Vec<u8> {
-    ghost seen = { λ v m. v.items ≡ m };
+    ghost has_seen = { λ v m. v.items ≡ m };
 
     fn visit_bytes(&mut self, bytes: &[u8]) -> Result<(), AllocError> {
         self.extend_from_slice(bytes)

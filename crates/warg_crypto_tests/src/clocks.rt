@@ -6,7 +6,7 @@ use crate::values::is;
 use std::cell::Cell;
 use std::time::Duration;
 use std::{io, rt};
-use warg_crypto::{Clock, SystemClock, Timestamp};
+use warg_time::{Clock, SystemClock, Timestamp};
 
 #[test]
 fn time_of_the_system(rt: HostRuntime) {

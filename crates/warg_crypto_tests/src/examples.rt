@@ -59,7 +59,7 @@ struct Counter {
 }
 
 impl ByteVisitor for Counter {
-    ghost seen = { λ counter m. counter.count ≡ length m };
+    ghost has_seen = { λ counter m. counter.count ≡ length m };
 
     fn visit_bytes(&mut self, bytes: &[u8]) -> Result<(), AllocError> {
         match self.count.checked_add(bytes.len()) {
@@ -95,8 +95,8 @@ fn sign_by<S: Signer>(
 }
 
 fn visit_by<V: ByteVisitor, T: VisitBytes>(visitor: &mut V, value: &T) -> Result<(), AllocError>
-    ensures { (m : List ℕ) → V.seen visitor.old m →
-        OnOk result (V.seen visitor.new (m ++ T.bytes_of value.now)) }
+    ensures { (m : List ℕ) → V.has_seen visitor.old m →
+        OnOk result (V.has_seen visitor.new (m ++ T.bytes_of value.now)) }
 {
     value.visit(visitor)
 }

@@ -1,5 +1,5 @@
-//! The tests of `warg_crypto` that are no rows of the conformance suite: copies, fakes that refuse or count, clocks, and
-//! the examples of the documentation.
+//! The tests of `warg_crypto`, `warg_json` and `warg_time` that are no rows of the conformance suite: copies, fakes that refuse or
+//! count, clocks, and the examples of the documentation.
 #![tactic(auto)]
 
 #[cfg(test)]

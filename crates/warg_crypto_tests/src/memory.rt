@@ -4,7 +4,8 @@ use crate::values::is;
 use std::alloc::AllocError;
 use std::process::Abort;
 use warg_crypto::signing::{KeyParseError, SignatureError, SignatureParseError};
-use warg_crypto::{DecodeError, JsonError, WireFault};
+use warg_envelope::{DecodeError, WireFault};
+use warg_json::JsonError;
 
 fn wire_becomes(rt: &impl Abort, fault: WireFault, want: DecodeError) {
     is(rt, DecodeError::from(fault), want);

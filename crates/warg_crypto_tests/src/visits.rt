@@ -15,7 +15,7 @@ struct Stopping {
 }
 
 impl ByteVisitor for Stopping {
-    ghost seen = { λ v m. v.bytes.items ≡ m };
+    ghost has_seen = { λ v m. v.bytes.items ≡ m };
 
     fn visit_bytes(&mut self, bytes: &[u8]) -> Result<(), AllocError> {
         if self.pieces == 0 {

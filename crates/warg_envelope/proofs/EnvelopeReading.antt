@@ -30,9 +30,9 @@ module _ {Y F : Type 0} where
 -- the same facts of a reading, one by one
 pub record Reads {M F : Type 0} (IsMeaning : List ℕ → M → Type 0) (HasContentsFault : List ℕ → F → Type 0) (read : List ℕ → Result M F) : Type 0 where
   pub value : (c : List ℕ) (m : M) → read c ≡ Ok m → IsMeaning c m
-  pub value_again : (c : List ℕ) (m : M) → IsMeaning c m → read c ≡ Ok m
+  pub value_converse : (c : List ℕ) (m : M) → IsMeaning c m → read c ≡ Ok m
   pub fault : (c : List ℕ) (f : F) → read c ≡ Err f → HasContentsFault c f
-  pub fault_again : (c : List ℕ) (f : F) → HasContentsFault c f → read c ≡ Err f
+  pub fault_converse : (c : List ℕ) (f : F) → HasContentsFault c f → read c ≡ Err f
 
 module _ {M F : Type 0} (IsMeaning : List ℕ → M → Type 0) (HasContentsFault : List ℕ → F → Type 0) (read : List ℕ → Result M F) (reads : Reads IsMeaning HasContentsFault read) (computes : (b : List ℕ) → Computes envelope_table message.envelope_of message.IsEnvelope b) (bytes : List ℕ) where
   module _ (v : EnvelopeValue) (is : message.IsEnvelope bytes v) where
@@ -63,24 +63,24 @@ module _ {M F : Type 0} (IsMeaning : List ℕ → M → Type 0) (HasContentsFaul
   opened_fault (Err w) eo f h = subst (HasEnvelopeFault IsMeaning HasContentsFault bytes) (err_same {Y = EnvelopeData} (ProtobufEnvelope w) f h) (of_outer ((computes bytes).fault w eo))
 
   opens : (v : EnvelopeValue) → message.IsEnvelope bytes v → envelope_of read bytes ≡ enclosed_data v (read v.contents)
-  opens v is = ap (opened_data read) ((computes bytes).value_again v is)
+  opens v is = ap (opened_data read) ((computes bytes).value_converse v is)
 
   envelope_again : (envelope : EnvelopeData) → IsEnvelope IsMeaning HasContentsFault bytes envelope → envelope_of read bytes ≡ Ok envelope
   envelope_again envelope e =
       opens e.outer e.is
-      ∙ ap (enclosed_data e.outer) (reads.value_again e.outer.contents e.meaning e.says)
+      ∙ ap (enclosed_data e.outer) (reads.value_converse e.outer.contents e.meaning e.says)
       ∙ ap (signed_data e.outer) e.signature
       ∙ (λ i. Ok (record { content = sym e.content i; key_id = sym e.key_id i; signature = envelope.signature }))
 
-  fault_again : (f : EnvelopeFault F) → HasEnvelopeFault IsMeaning HasContentsFault bytes f → envelope_of read bytes ≡ Err f
-  fault_again f (of_outer {w = w} h) = ap (opened_data read) ((computes bytes).fault_again w h)
-  fault_again f (of_contents {v = v} {f = e} is h) = opens v is ∙ ap (enclosed_data v) (reads.fault_again v.contents e h)
-  fault_again f (of_signature {v = v} {m = m} {s = s} is says h) = opens v is ∙ ap (enclosed_data v) (reads.value_again v.contents m says) ∙ ap (signed_data v) h
+  fault_converse : (f : EnvelopeFault F) → HasEnvelopeFault IsMeaning HasContentsFault bytes f → envelope_of read bytes ≡ Err f
+  fault_converse f (of_outer {w = w} h) = ap (opened_data read) ((computes bytes).fault_converse w h)
+  fault_converse f (of_contents {v = v} {f = e} is h) = opens v is ∙ ap (enclosed_data v) (reads.fault_converse v.contents e h)
+  fault_converse f (of_signature {v = v} {m = m} {s = s} is says h) = opens v is ∙ ap (enclosed_data v) (reads.value_converse v.contents m says) ∙ ap (signed_data v) h
 
   pub reads_envelope : ReadsEnvelope IsMeaning HasContentsFault (envelope_of read bytes) bytes
   reads_envelope = record {
     value = λ envelope h. opened_at (message.envelope_of bytes) refl envelope h;
-    value_again = envelope_again;
+    value_converse = envelope_again;
     fault = λ f h. opened_fault (message.envelope_of bytes) refl f h;
-    fault_again = fault_again;
+    fault_converse = fault_converse;
   }

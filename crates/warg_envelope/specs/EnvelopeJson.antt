@@ -3,12 +3,12 @@ use Rattle.std.specs.Prelude.{◌≡◌, ℕ, List, codes, Result, Ok}
 use Rattle.base64.specs.Engines.{standard}
 use Rattle.base64.specs.GeneralPurpose.{decode_of, encode_of}
 use Rattle.serde_json.specs.Data.{Data, Members, no_members, object, put, string}
-use Rattle.warg_crypto.specs.Json.{◌>>=◌, member_in, or_bad_text, text_in, wrote}
-use Rattle.warg_crypto.specs.JsonTexts.{key_id_in, key_id_json, signature_in, signature_json}
-use Rattle.warg_crypto.specs.Members.{put_json}
+use Rattle.warg_json.specs.Json.{◌>>=◌, member_in, or_bad_text, text_in, json_result}
+use Rattle.warg_json.specs.JsonTexts.{key_id_in, key_id_json, signature_in, signature_json}
+use Rattle.warg_json.specs.Members.{put_json}
 use Rattle.warg_crypto.specs.NamedBytes.{NamedBytes}
-use Rattle.warg_crypto.specs.Numbers.{number_in, number_json}
-use Rattle.warg_crypto.specs.declared.json.error.JsonError.{JsonError}
+use Rattle.warg_json.specs.Numbers.{number_in, number_json}
+use Rattle.warg_json.specs.declared.error.JsonError.{JsonError}
 use Rattle.warg_envelope.specs.EnvelopeData.{EnvelopeData}
 use Rattle.warg_envelope.specs.declared.proto_envelope.body.PublishedProtoEnvelopeBody.{PublishedProtoEnvelopeBody}
 
@@ -30,7 +30,7 @@ signed_json writes e = do
   contents ← put_json writes (codes "contents") e.contents no_members
   key_id ← put_json key_id_json (codes "keyId") e.key_id contents
   members ← put_json signature_json (codes "signature") e.signature key_id
-  wrote (object members)
+  json_result (object members)
 
 -- the envelope without bytes that the JSON says, or its first fault
 abbrev pub signed_in : {A : Type 0} → (Data → Result A JsonError) → Data → Result (SignedContents A) JsonError
@@ -41,11 +41,11 @@ signed_in reads d = do
   key_id ← key_id_in key
   tag ← member_in (codes "signature") d
   signature ← signature_in tag
-  wrote (record { contents = contents; key_id = key_id; signature = signature })
+  json_result (record { contents = contents; key_id = key_id; signature = signature })
 
 -- bytes: base64 of RFC 4648, with padding
 abbrev pub bytes_json : List ℕ → Result Data JsonError
-bytes_json bytes = wrote (string (encode_of standard bytes))
+bytes_json bytes = json_result (string (encode_of standard bytes))
 
 -- the bytes that a JSON text spells in such base64, or the fault
 abbrev pub bytes_in : Data → Result (List ℕ) JsonError
@@ -60,7 +60,7 @@ body_members e = do
 
 -- an envelope whose contents are bytes: an object of those members
 abbrev pub body_json : EnvelopeData → Result Data JsonError
-body_json e = body_members e >>= λ members. wrote (object members)
+body_json e = body_members e >>= λ members. json_result (object members)
 
 -- the envelope of those members that the JSON says, or its first fault
 abbrev pub body_in : Data → Result EnvelopeData JsonError
@@ -71,14 +71,14 @@ body_in d = do
   key_id ← key_id_in key
   tag ← member_in (codes "signature") d
   signature ← signature_in tag
-  wrote (record { content = content; key_id = key_id; signature = signature })
+  json_result (record { content = content; key_id = key_id; signature = signature })
 
 -- a published one: those three, and `registryIndex` as a number
 abbrev pub published_json : PublishedProtoEnvelopeBody → Result Data JsonError
 published_json p = do
   body ← body_members p.envelope
   members ← put_json number_json (codes "registryIndex") p.registry_index body
-  wrote (object members)
+  json_result (object members)
 
 -- the published envelope that the JSON says, or its first fault
 abbrev pub published_in : Data → Result PublishedProtoEnvelopeBody JsonError
@@ -86,7 +86,7 @@ published_in d = do
   envelope ← body_in d
   index ← member_in (codes "registryIndex") d
   registry_index ← number_in index
-  wrote (record { envelope = envelope; registry_index = registry_index })
+  json_result (record { envelope = envelope; registry_index = registry_index })
 
 -- members that read as the envelope, also where others stand beside them
 pub record AreBodyMembers (e : EnvelopeData) (ms : Members) : Type 0 where

@@ -32,6 +32,6 @@ module _ {M F : Type 0} (IsRecord : List ℕ → M → Type 0) (HasContentsFault
   -- what is computed of the bytes is the envelope that they are, or their first fault
   pub record ReadsEnvelope (read : Result EnvelopeData (EnvelopeFault F)) (bytes : List ℕ) : Type 0 where
     pub value : (envelope : EnvelopeData) → read ≡ Ok envelope → IsEnvelope bytes envelope
-    pub value_again : (envelope : EnvelopeData) → IsEnvelope bytes envelope → read ≡ Ok envelope
+    pub value_converse : (envelope : EnvelopeData) → IsEnvelope bytes envelope → read ≡ Ok envelope
     pub fault : (f : EnvelopeFault F) → read ≡ Err f → HasEnvelopeFault bytes f
-    pub fault_again : (f : EnvelopeFault F) → HasEnvelopeFault bytes f → read ≡ Err f
+    pub fault_converse : (f : EnvelopeFault F) → HasEnvelopeFault bytes f → read ≡ Err f

@@ -1,14 +1,14 @@
 -- What bytes say as an envelope, over what content bytes say as a record.
 use Rattle.std.specs.Prelude.{◌≡◌, ℕ, List, Option, Some, None, Result, Ok, Err}
 use Rattle.warg_crypto.specs.Keys.{signature_of}
-use Rattle.warg_crypto.specs.NamedBytes.{NamedBytes, tag_text}
-use Rattle.warg_crypto.specs.declared.coding.DecodeError.{DecodeError}
+use Rattle.warg_crypto.specs.NamedBytes.{NamedBytes, named_bytes_text}
+use Rattle.warg_envelope.specs.declared.coding.DecodeError.{DecodeError}
 use Rattle.warg_crypto.specs.declared.hash.AnyHashError.{AnyHashError}
 use Rattle.warg_crypto.specs.declared.signing.error.SignatureParseError.{SignatureParseError}
 use Rattle.warg_protobuf.specs.Envelope.{EnvelopeValue}
 use Rattle.warg_protobuf.specs.Envelope as outer
 use Rattle.warg_protobuf.specs.declared.error.WireError.{WireError}
-use Rattle.warg_envelope.specs.Faults.{TellsFault}
+use Rattle.warg_envelope.specs.Faults.{NamesFault}
 use Rattle.warg_envelope.specs.EnvelopeData.{EnvelopeData, DecodedEnvelope}
 use Rattle.warg_envelope.specs.declared.proto_envelope.error.ParseEnvelopeError.{ParseEnvelopeError}
 use Rattle.warg_envelope.specs.declared.proto_envelope.error.ParseEnvelopeError.TheVariants as error
@@ -58,7 +58,7 @@ envelope_of read bytes = opened_data read (outer.envelope_of bytes)
 
 -- the outer message of an envelope
 abbrev pub envelope_message : EnvelopeData → EnvelopeValue
-envelope_message envelope = record { contents = envelope.content; key_id = envelope.key_id; signature = tag_text envelope.signature }
+envelope_message envelope = record { contents = envelope.content; key_id = envelope.key_id; signature = named_bytes_text envelope.signature }
 
 -- the record that is held is the one that the content bytes say
 abbrev pub IsHonest : {C M F : Type 0} → (List ℕ → Result M F) → (C → M) → DecodedEnvelope C → Type 0
@@ -68,4 +68,4 @@ IsHonest read meaning e = read e.envelope.content ≡ Ok (meaning e.contents)
 abbrev pub IsOpening : {C M F : Type 0} → (List ℕ → Result M F) → (C → M) → (DecodeError → Option F) → List ℕ
     → Result (DecodedEnvelope C) ParseEnvelopeError → Type 0
 IsOpening read meaning fault_of bytes (Ok e) = (envelope_of read bytes ≡ Ok e.envelope) × IsHonest read meaning e
-IsOpening read meaning fault_of bytes (Err e) = TellsFault (envelope_of read bytes) (envelope_fault_of fault_of e)
+IsOpening read meaning fault_of bytes (Err e) = NamesFault (envelope_of read bytes) (envelope_fault_of fault_of e)

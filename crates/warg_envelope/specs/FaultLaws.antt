@@ -1,10 +1,10 @@
 -- Laws of the errors that name faults.
 use Rattle.std.specs.Prelude.{◌≡◌, Option, Some, None, Result, Ok, Err}
 use Rattle.std.proofs.Common.{◌∙◌, ap, inl, inr, refl, subst, sym}
-use Rattle.warg_crypto.specs.Coding.{IsDecoded}
-use Rattle.warg_crypto.specs.declared.coding.DecodeError.{DecodeError}
-use Rattle.warg_crypto.specs.declared.coding.DecodeError.TheVariants as error
-use Rattle.warg_envelope.specs.Faults.{RecordFault, IsReading, TellsFault, decoded, error_of, fault_of}
+use Rattle.warg_envelope.specs.Coding.{IsDecoded}
+use Rattle.warg_envelope.specs.declared.coding.DecodeError.{DecodeError}
+use Rattle.warg_envelope.specs.declared.coding.DecodeError.TheVariants as error
+use Rattle.warg_envelope.specs.Faults.{RecordFault, IsReading, NamesFault, decode_result, error_of, fault_of}
 
 -- the error that names what an error names
 abbrev named_error : Option RecordFault → DecodeError
@@ -47,15 +47,15 @@ error_of-memory RecordFault.Version h = cc
 error_of-memory (RecordFault.ContentHash x) h = cc
 
 -- what is said never ends with out of memory
-pub decoded-memory : {Y : Type 0} (said : Result Y RecordFault) → decoded said ≡ Err error.OutOfMemory → ⊥
-decoded-memory (Ok y) h = cc
-decoded-memory {Y} (Err f) h = error_of-memory f (same h)
+pub decode_result-memory : {Y : Type 0} (said : Result Y RecordFault) → decode_result said ≡ Err error.OutOfMemory → ⊥
+decode_result-memory (Ok y) h = cc
+decode_result-memory {Y} (Err f) h = error_of-memory f (same h)
   where
-    same : decoded {X = Y} (Err f) ≡ Err error.OutOfMemory → error_of f ≡ error.OutOfMemory
+    same : decode_result {X = Y} (Err f) ≡ Err error.OutOfMemory → error_of f ≡ error.OutOfMemory
     same h = cc
 
 -- the error that names a fault names it
-error_tells : (X : Type 0) (f : RecordFault) → TellsFault {X = X} (Err f) (fault_of (error_of f))
+error_tells : (X : Type 0) (f : RecordFault) → NamesFault {X = X} (Err f) (fault_of (error_of f))
 error_tells X (RecordFault.Wire w) = refl
 error_tells X (RecordFault.Prev h) = refl
 error_tells X RecordFault.MissingTime = refl
@@ -70,31 +70,31 @@ error_tells X (RecordFault.ContentHash h) = refl
 module _ {X Y : Type 0} (view : X → Y) where
   -- what names the fault that is said is the error of what is said
   pub reading_decodes : (said : Result Y RecordFault) (r : Result X DecodeError) → IsReading view fault_of said r
-      → IsDecoded view (decoded said) r
-  reading_decodes said (Ok x) h = ap decoded h
-  reading_decodes said (Err (error.Wire w)) h = inr (ap decoded h)
-  reading_decodes said (Err (error.Prev w)) h = inr (ap decoded h)
-  reading_decodes said (Err error.MissingTime) h = inr (ap decoded h)
-  reading_decodes said (Err error.TimeOutOfRange) h = inr (ap decoded h)
-  reading_decodes said (Err error.EmptyEntry) h = inr (ap decoded h)
-  reading_decodes said (Err error.Algorithm) h = inr (ap decoded h)
-  reading_decodes said (Err (error.Key k)) h = inr (ap decoded h)
-  reading_decodes said (Err (error.Permission v)) h = inr (ap decoded h)
-  reading_decodes said (Err error.Version) h = inr (ap decoded h)
-  reading_decodes said (Err (error.ContentHash x)) h = inr (ap decoded h)
+      → IsDecoded view (decode_result said) r
+  reading_decodes said (Ok x) h = ap decode_result h
+  reading_decodes said (Err (error.Wire w)) h = inr (ap decode_result h)
+  reading_decodes said (Err (error.Prev w)) h = inr (ap decode_result h)
+  reading_decodes said (Err error.MissingTime) h = inr (ap decode_result h)
+  reading_decodes said (Err error.TimeOutOfRange) h = inr (ap decode_result h)
+  reading_decodes said (Err error.EmptyEntry) h = inr (ap decode_result h)
+  reading_decodes said (Err error.Algorithm) h = inr (ap decode_result h)
+  reading_decodes said (Err (error.Key k)) h = inr (ap decode_result h)
+  reading_decodes said (Err (error.Permission v)) h = inr (ap decode_result h)
+  reading_decodes said (Err error.Version) h = inr (ap decode_result h)
+  reading_decodes said (Err (error.ContentHash x)) h = inr (ap decode_result h)
   reading_decodes said (Err error.OutOfMemory) h = inl refl
 
   -- and the other way round
-  pub decoded_is_read : (said : Result Y RecordFault) (r : Result X DecodeError) → IsDecoded view (decoded said) r
+  pub decoded_is_read : (said : Result Y RecordFault) (r : Result X DecodeError) → IsDecoded view (decode_result said) r
       → IsReading view fault_of said r
   decoded_is_read (Ok y) (Ok x) h = ap Ok (value h)
     where
-      value : decoded (Ok y) ≡ Ok (view x) → y ≡ view x
+      value : decode_result (Ok y) ≡ Ok (view x) → y ≡ view x
       value h = cc
   decoded_is_read (Err f) (Ok x) h = absurd cc
-  decoded_is_read said (Err e) (inl none) = subst (λ x. TellsFault said (fault_of x)) (sym none) tt
+  decoded_is_read said (Err e) (inl none) = subst (λ x. NamesFault said (fault_of x)) (sym none) tt
   decoded_is_read (Ok y) (Err e) (inr h) = absurd cc
-  decoded_is_read (Err f) (Err e) (inr h) = subst (λ x. TellsFault {X = Y} (Err f) (fault_of x)) (same h) (error_tells Y f)
+  decoded_is_read (Err f) (Err e) (inr h) = subst (λ x. NamesFault {X = Y} (Err f) (fault_of x)) (same h) (error_tells Y f)
     where
-      same : decoded {X = Y} (Err f) ≡ Err e → error_of f ≡ e
+      same : decode_result {X = Y} (Err f) ≡ Err e → error_of f ≡ e
       same h = cc

@@ -1,8 +1,8 @@
 -- Why bytes are no record or no envelope. Out of memory is none of these.
 use Rattle.std.specs.Prelude.{◌≡◌, ℤ, Option, Some, None, IsSomeAnd, Result, Ok, Err, MatchResult}
-use Rattle.warg_crypto.specs.declared.coding.WireFault.{WireFault}
-use Rattle.warg_crypto.specs.declared.coding.DecodeError.{DecodeError}
-use Rattle.warg_crypto.specs.declared.coding.DecodeError.TheVariants as error
+use Rattle.warg_envelope.specs.declared.coding.WireFault.{WireFault}
+use Rattle.warg_envelope.specs.declared.coding.DecodeError.{DecodeError}
+use Rattle.warg_envelope.specs.declared.coding.DecodeError.TheVariants as error
 use Rattle.warg_crypto.specs.declared.hash.AnyHashError.{AnyHashError}
 use Rattle.warg_crypto.specs.declared.signing.error.KeyParseError.{KeyParseError}
 
@@ -47,20 +47,20 @@ error_of Version = error.Version
 error_of (ContentHash h) = error.ContentHash h
 
 -- what is said, its fault as the error that names it
-abbrev pub decoded : {X : Type 0} → Result X RecordFault → Result X DecodeError
-decoded (Ok x) = Ok x
-decoded (Err f) = Err (error_of f)
+abbrev pub decode_result : {X : Type 0} → Result X RecordFault → Result X DecodeError
+decode_result (Ok x) = Ok x
+decode_result (Err f) = Err (error_of f)
 
 -- what is said ends with this fault; an error that names none says nothing
-abbrev pub TellsFault : {X F : Type 0} → Result X F → Option F → Type 0
-TellsFault said None = Unit {0}
-TellsFault said (Some f) = said ≡ Err f
+abbrev pub NamesFault : {X F : Type 0} → Result X F → Option F → Type 0
+NamesFault said None = Unit {0}
+NamesFault said (Some f) = said ≡ Err f
 
 -- what was answered, seen by view, is what is said, out of memory aside
 abbrev pub IsReading : {X Y E F : Type 0} → (X → Y) → (E → Option F) → Result Y F → Result X E → Type 0
-IsReading view told said (Ok x) = said ≡ Ok (view x)
-IsReading view told said (Err e) = TellsFault said (told e)
+IsReading view named_by said (Ok x) = said ≡ Ok (view x)
+IsReading view named_by said (Err e) = NamesFault said (named_by e)
 
 -- what was answered, seen by view, is what is said, where no memory is taken
 abbrev pub IsExactReading : {X Y E F : Type 0} → (X → Y) → (E → Option F) → Result Y F → Result X E → Type 0
-IsExactReading view told said r = MatchResult r (λ x. said ≡ Ok (view x)) (λ e. IsSomeAnd (told e) (λ f. said ≡ Err f))
+IsExactReading view named_by said r = MatchResult r (λ x. said ≡ Ok (view x)) (λ e. IsSomeAnd (named_by e) (λ f. said ≡ Err f))

@@ -1,10 +1,12 @@
+pub mod Coding
 pub mod Faults
 pub mod FaultLaws
 pub mod EnvelopeData
 pub mod ParseErrors
 pub mod Envelopes
 pub mod FaultNames
-pub mod Same
+pub mod ErrorTexts
+pub mod SameEnvelopes
 pub mod Mentions
 pub mod EnvelopeRelations
 pub mod EnvelopeJson

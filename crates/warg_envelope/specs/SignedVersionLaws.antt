@@ -3,14 +3,14 @@ use Rattle.std.specs.Prelude.{◌≡◌, List, codes, Some, Result, Ok, refl}
 use Rattle.std.proofs.Common.{◌∙◌, ap, subst}
 use Rattle.serde_json.specs.Data.{Data, Members, no_members, object, put, string}
 use Rattle.serde_json.specs.Find.{get_member}
-use Rattle.warg_crypto.specs.Json.{AreReadBack, Version, member_in, wrote}
-use Rattle.warg_crypto.specs.JsonTexts.{key_id_in, signature_in}
-use Rattle.warg_crypto.specs.Members.{put_json}
-use Rattle.warg_crypto.specs.NamedBytes.{tag_text}
-use Rattle.warg_crypto.specs.Steps.{bind_ok, ok_same}
-use Rattle.warg_crypto.specs.Within.{AreWithin}
-use Rattle.warg_crypto.specs.WithinLaws.{member_within}
-use Rattle.warg_crypto.specs.declared.json.error.JsonError.{JsonError}
+use Rattle.warg_json.specs.Json.{AreReadBack, Version, member_in, json_result}
+use Rattle.warg_json.specs.JsonTexts.{key_id_in, signature_in}
+use Rattle.warg_json.specs.Members.{put_json}
+use Rattle.warg_crypto.specs.NamedBytes.{named_bytes_text}
+use Rattle.warg_json.specs.JsonLaws.{bind_ok, ok_same}
+use Rattle.warg_json.specs.Within.{AreWithin}
+use Rattle.warg_json.specs.WithinLaws.{member_within}
+use Rattle.warg_json.specs.declared.error.JsonError.{JsonError}
 use Rattle.warg_envelope.specs.EnvelopeJson.{SignedContents, signed_in, signed_json}
 
 module _ {A : Type 0} (writes : A → Result Data JsonError) (versions : A → List Version)
@@ -18,10 +18,10 @@ module _ {A : Type 0} (writes : A → Result Data JsonError) (versions : A → L
   pub signed_within : (e : SignedContents A) (d : Data) → signed_json writes e ≡ Ok d → AreWithin (versions e.contents) d
   signed_within e d is =
       let id = string e.key_id in
-      let tag = string (tag_text e.signature) in
+      let tag = string (named_bytes_text e.signature) in
       let w = bind_ok (put_json writes (codes "contents") e.contents no_members)
-      (λ ms. wrote (object (put (codes "signature") tag (put (codes "keyId") id ms)))) d is in
-      let inner = bind_ok (writes e.contents) (λ x. wrote (put (codes "contents") x no_members)) w.0 w.1 in
+      (λ ms. json_result (object (put (codes "signature") tag (put (codes "keyId") id ms)))) d is in
+      let inner = bind_ok (writes e.contents) (λ x. json_result (put (codes "contents") x no_members)) w.0 w.1 in
       let own : put (codes "contents") inner.0 no_members ≡ w.0 = ok_same (put (codes "contents") inner.0 no_members) w.0 inner.2 in
       let all : Members = put (codes "signature") tag (put (codes "keyId") id (put (codes "contents") inner.0 no_members)) in
       let whole : object all ≡ d = ap (λ ms. object (put (codes "signature") tag (put (codes "keyId") id ms))) own

@@ -1,25 +1,28 @@
 //! Laws of the definitions, and of the types that rest on them.
 
-ghost use Rattle.std.specs.Prelude.{◌≡◌, List, ℕ, Ok};
+ghost use Rattle.std.specs.Prelude.{◌≡◌, ◌↔◌, List, ℕ, Ok, true};
 ghost use Rattle.warg_crypto.specs.Keys.{signature_of};
-ghost use Rattle.warg_crypto.specs.NamedBytes.{tag_text};
-ghost use Rattle.warg_envelope.specs.EnvelopeData.{DecodedEnvelope};
+ghost use Rattle.warg_crypto.specs.NamedBytes.{named_bytes_text};
+ghost use Rattle.warg_envelope.specs.EnvelopeData.{DecodedEnvelope, EnvelopeData};
 ghost use Rattle.warg_envelope.specs.Envelopes.{IsHonest, envelope_message, envelope_of};
+ghost use Rattle.warg_envelope.specs.declared.coding.DecodeError.{DecodeError};
+ghost use Rattle.warg_envelope.specs.declared.coding.WireFault.{WireFault};
+ghost use Rattle.warg_envelope.specs.declared.proto_envelope.body.PublishedProtoEnvelope.{PublishedProtoEnvelope};
+ghost use Rattle.warg_envelope.specs.declared.proto_envelope.body.PublishedProtoEnvelopeBody.{PublishedProtoEnvelopeBody};
+ghost use Rattle.warg_envelope.specs.declared.proto_envelope.error.ParseEnvelopeError.{ParseEnvelopeError};
+ghost use Rattle.warg_envelope.specs.declared.serde_envelope.SerdeEnvelope.{SerdeEnvelope};
 ghost use Rattle.warg_protobuf.specs.Envelope.{IsEnvelope};
 
-mod equality;
-
-use crate::{ProtoEnvelope, Record};
-pub use equality::{
-    are_same_bodies, are_same_envelopes, are_same_parse_errors, are_same_published_bodies,
-    are_same_published_envelopes, are_same_serde_envelopes,
+use crate::{
+    DecodeError, ParseEnvelopeError, ProtoEnvelope, ProtoEnvelopeBody, PublishedProtoEnvelope,
+    PublishedProtoEnvelopeBody, Record, SerdeEnvelope, WireFault,
 };
 use warg_crypto::laws::byte_range;
 use warg_protobuf::laws::decoding_computes;
 
 /// The text of an envelope's signature reads back as the signature.
 pub fn signature_reads_back<C>(envelope: &ProtoEnvelope<C>)
-    ensures { signature_of (tag_text envelope.now.envelope.signature) ≡
+    ensures { signature_of (named_bytes_text envelope.now.envelope.signature) ≡
         Ok envelope.now.envelope.signature }
 {
     let signature = envelope.signature();
@@ -32,8 +35,36 @@ pub fn signature_reads_back<C>(envelope: &ProtoEnvelope<C>)
 pub fn envelopes_read_back<C: Record>()
     ensures { (e : DecodedEnvelope C) (bytes : List ℕ) → IsHonest C.read C.meaning e →
         IsEnvelope bytes (envelope_message e.envelope) →
-        signature_of (tag_text e.envelope.signature) ≡ Ok e.envelope.signature →
+        signature_of (named_bytes_text e.envelope.signature) ≡ Ok e.envelope.signature →
         envelope_of C.read bytes ≡ Ok e.envelope }
 {
     decoding_computes();
 }
+
+/// When `==` is true. Of envelopes: exactly where it is of their records, and the content bytes, the key ids and the
+/// signatures are identical; of those that keep no bytes, exactly where it is of their contents, and the key ids and the
+/// signatures are identical. Of published envelopes: exactly where it is of the envelopes, and the places are one. Of those
+/// whose content bytes are not read yet, and of why bytes are no message, no record or no envelope: exactly where both are
+/// identical.
+pub fn equality<C: Eq>()
+    ensures envelopes { (a b : DecodedEnvelope C) →
+        (⟦<ProtoEnvelope<C> as PartialEq>⟧.eq a b ≡ true) ↔
+        ((C.eq a.contents b.contents ≡ true) × (a.envelope ≡ b.envelope)) }
+    ensures bodies { (a b : EnvelopeData) →
+        (⟦<ProtoEnvelopeBody as PartialEq>⟧.eq a b ≡ true) ↔ (a ≡ b) }
+    ensures published_envelopes { (a b : PublishedProtoEnvelope C) →
+        (⟦<PublishedProtoEnvelope<C> as PartialEq>⟧.eq a b ≡ true) ↔
+        ((C.eq a.envelope.contents b.envelope.contents ≡ true) ×
+        (a.envelope.envelope ≡ b.envelope.envelope) × (a.registry_index ≡ b.registry_index)) }
+    ensures published_bodies { (a b : PublishedProtoEnvelopeBody) →
+        (⟦<PublishedProtoEnvelopeBody as PartialEq>⟧.eq a b ≡ true) ↔ (a ≡ b) }
+    ensures serde_envelopes { (a b : SerdeEnvelope C) →
+        (⟦<SerdeEnvelope<C> as PartialEq>⟧.eq a b ≡ true) ↔
+        ((C.eq a.contents b.contents ≡ true) × (a.key_id ≡ b.key_id) ×
+        (a.signature ≡ b.signature)) }
+    ensures wire_faults { (a b : WireFault) → (⟦<WireFault as PartialEq>⟧.eq a b ≡ true) ↔ (a ≡ b) }
+    ensures decode_errors { (a b : DecodeError) →
+        (⟦<DecodeError as PartialEq>⟧.eq a b ≡ true) ↔ (a ≡ b) }
+    ensures parse_errors { (a b : ParseEnvelopeError) →
+        (⟦<ParseEnvelopeError as PartialEq>⟧.eq a b ≡ true) ↔ (a ≡ b) }
+{}

@@ -9,20 +9,20 @@ ghost use Rattle.warg_envelope.specs.declared.proto_envelope.error.ParseEnvelope
 ghost use Rattle.warg_protobuf.specs.Envelope.{IsEnvelope, envelope_bytes};
 ghost use Rattle.warg_protobuf.specs.Envelope as outer;
 ghost use Rattle.warg_envelope.specs.Faults.{IsReading};
-ghost use Rattle.warg_envelope.specs.Same.{same_held, same_held_equiv, same_held_per};
+ghost use Rattle.warg_envelope.specs.SameEnvelopes.{same_decoded_envelope, same_decoded_envelope_equiv, same_decoded_envelope_per};
 
 mod body;
 mod error;
 mod name;
 
-use crate::Record;
+use crate::{DecodeError, Record};
 pub use body::{ProtoEnvelopeBody, PublishedProtoEnvelope, PublishedProtoEnvelopeBody};
 pub use error::ParseEnvelopeError;
 use std::alloc::{AllocError, Global};
 use std::fmt;
 use std::marker::Model;
+use warg_crypto::Signable;
 use warg_crypto::signing::{KeyID, Signature, SignatureError, Signer};
-use warg_crypto::{DecodeError, Signable};
 use warg_protobuf::{Envelope, Message};
 
 /// A record with its bytes as they came, who signed them, and the signature. The bytes are kept since other bytes
@@ -150,9 +150,9 @@ impl<C: Record> Clone for ProtoEnvelope<C> {
 }
 
 impl<C: PartialEq> PartialEq for ProtoEnvelope<C> {
-    ghost eq = { same_held C.eq };
+    ghost eq = { same_decoded_envelope C.eq };
 
-    ghost laws = { same_held_per C.laws };
+    ghost laws = { same_decoded_envelope_per C.laws };
 
     fn eq(&self, other: &ProtoEnvelope<C>) -> bool {
         self.contents == other.contents
@@ -163,7 +163,7 @@ impl<C: PartialEq> PartialEq for ProtoEnvelope<C> {
 }
 
 impl<C: Eq> Eq for ProtoEnvelope<C> {
-    ghost laws = { same_held_equiv C.Eq.laws };
+    ghost laws = { same_decoded_envelope_equiv C.Eq.laws };
 }
 
 impl<C: Signable + Drop> ProtoEnvelope<C> {

@@ -1,7 +1,7 @@
 //! What answers say of a log, for every kind of log: clauses to call, with no code.
 ghost use Rattle.std.specs.Prelude.{◌≡◌, ◌↔◌, List, None};
 ghost use Rattle.warg_envelope.specs.EnvelopeData.{EnvelopeData};
-ghost use Rattle.warg_validator.specs.Kinds.{SignatureRelation, IsWithin, IsAccepted};
+ghost use Rattle.warg_validator.specs.Kinds.{SignatureRelation, AcceptsNoMore, IsAccepted};
 ghost use Rattle.warg_host.specs.Telling.{told_belongs, Holds, Answers, HoldsOfAsked};
 ghost use Rattle.warg_host.specs.declared.told.Told.{Told};
 
@@ -22,5 +22,5 @@ pub fn answers_what_is_asked<L: Hosted>()
 
 /// A relation holds of an answer exactly if it holds of all that the answer takes.
 pub fn holds_within()
-    ensures { (b : SignatureRelation) (t : Told) → Holds b t ↔ IsWithin (told_belongs t) b }
+    ensures { (b : SignatureRelation) (t : Told) → Holds b t ↔ AcceptsNoMore (told_belongs t) b }
 {}

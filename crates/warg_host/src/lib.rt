@@ -8,7 +8,7 @@ pub mod laws;
 mod question;
 mod told;
 
-pub use host::{append, ask};
+pub use host::{append, ask, read_and_ask};
 pub use hosted::Hosted;
 pub use question::Question;
 pub use told::Told;

@@ -5,7 +5,7 @@ use Rattle.std.specs.Option.{option_map_or, option_or}
 use Rattle.std.specs.Str.{bytes_eq}
 use Rattle.indexmap.specs.IndexMap.{IndexMap, get}
 use Rattle.warg_crypto.specs.NamedBytes.{NamedBytes}
-use Rattle.warg_log.specs.Rights.{holds_in, layered, held_over}
+use Rattle.warg_log.specs.Rights.{holds_in, value_over, held_over}
 use Rattle.warg_log.specs.AuthorityData.{AuthorityData, access_view, access_view_over, authority_data}
 use Rattle.warg_log.proofs.SignedEntryLaws.{same_access_view}
 use Rattle.warg_crypto.specs.declared.hash.HashAlgorithm.{HashAlgorithm}
@@ -27,8 +27,8 @@ module _ {P Z X : Type 0} (same : P → P → Bool) (algorithm algorithm' : Opti
 -- what the maps say with the changes, once they are made
 module _ {P Z X : Type 0} (same : P → P → Bool) (algorithm algorithm' named : Option HashAlgorithm) (permissions permissions' new : IndexMap (List ℕ) (List P) Z) (keys keys' new_keys : IndexMap (List ℕ) NamedBytes X) (c d e : AuthorityData P)
     (is : authority_data algorithm permissions keys ≡ c) (is' : authority_data algorithm' permissions' keys' ≡ d) (new_is : authority_data named new new_keys ≡ e) where
-  pub made-over : named ≡ option_or algorithm' algorithm → ((k : List ℕ) → get bytes_eq new k ≡ layered permissions.entries permissions'.entries k)
-      → ((k : List ℕ) → get bytes_eq new_keys k ≡ layered keys.entries keys'.entries k) → access_view same e ≡ access_view_over same c d
+  pub made-over : named ≡ option_or algorithm' algorithm → ((k : List ℕ) → get bytes_eq new k ≡ value_over permissions.entries permissions'.entries k)
+      → ((k : List ℕ) → get bytes_eq new_keys k ≡ value_over keys.entries keys'.entries k) → access_view same e ≡ access_view_over same c d
   made-over is_named made registered = ap (access_view same) (sym new_is)
       ∙ same_access_view same (access_view same (authority_data named new new_keys)) (access_view_over same (authority_data algorithm permissions keys) (authority_data algorithm' permissions' keys'))
       is_named (λ k p. ap (λ o. option_map_or (λ ps. list_any (same p) ps) o false) (made k)) (λ k. ap is_some (made k)) registered

@@ -3,11 +3,11 @@ use Rattle.std.specs.Prelude.{◌≡◌, ◌<◌, ◌^◌, ◌==◌, ℕ, Bool, 
 use Rattle.std.proofs.Common.{subst}
 use Rattle.serde_json.specs.Data.{Members, no_members, object, put, string}
 use Rattle.warg_crypto.specs.HashText.{hash_text}
-use Rattle.warg_crypto.specs.Json.{◌>>=◌, wrote}
-use Rattle.warg_crypto.specs.JsonTexts.{time_json}
-use Rattle.warg_crypto.specs.Members.{put_json, put_option}
-use Rattle.warg_crypto.specs.Numbers.{number_json}
-use Rattle.warg_crypto.specs.TimeText.{time_text}
+use Rattle.warg_json.specs.Json.{◌>>=◌, json_result}
+use Rattle.warg_time.specs.TimeJson.{time_json}
+use Rattle.warg_json.specs.Members.{put_json, put_option}
+use Rattle.warg_json.specs.Numbers.{number_json}
+use Rattle.warg_time.specs.TimeText.{time_text}
 use Rattle.warg_saved.specs.Canonical.{IsCanonical, WritesCanonical}
 use Rattle.warg_saved.specs.CanonicalLaws.{member_canonical, none_canonical, option_canonical, put_canonical, text_canonical, then_canonical}
 use Rattle.warg_log.specs.HeadJson.{head_json, unless_zero}
@@ -29,7 +29,7 @@ head_canonical h small =
     let digest : Members = put (codes "digest") (string text) no_members in
     let first : IsCanonical 126 (object digest) = put_canonical 125 (codes "digest") (string text) no_members tt (none_canonical 125) in
     then_canonical 126 (put_json time_json (codes "timestamp") h.timestamp digest)
-    (λ timed. put_option number_json (codes "version") (unless_zero h.version) timed >>= λ ms. wrote (object ms))
+    (λ timed. put_option number_json (codes "version") (unless_zero h.version) timed >>= λ ms. json_result (object ms))
     (member_canonical 125 time_json (codes "timestamp") h.timestamp digest (text_canonical 125 (time_text h.timestamp)) first)
-    (λ timed is. then_canonical 126 (put_option number_json (codes "version") (unless_zero h.version) timed) (λ ms. wrote (object ms))
+    (λ timed is. then_canonical 126 (put_option number_json (codes "version") (unless_zero h.version) timed) (λ ms. json_result (object ms))
     (option_canonical 125 number_json (codes "version") (unless_zero h.version) timed (λ n at. written_below h.version n small at) is) (λ ms m. m))

@@ -10,20 +10,21 @@ use Rattle.std.proofs.lemmas.List.Elements.{filter-append, filter_map-append, Al
 use Rattle.std.proofs.lemmas.List.Kept.{AllPairs-cons}
 use Rattle.std.proofs.lemmas.List.MinMax.{ranks_by}
 use Rattle.warg_crypto.specs.Signed.{signed_message}
-use Rattle.warg_crypto.specs.Times.{Time, time_cmp_total}
+use Rattle.warg_time.specs.Times.{Time}
+use Rattle.warg_time.specs.TimesLaws.{time_cmp_total}
 use Rattle.warg_envelope.specs.EnvelopeData.{EnvelopeData}
 use Rattle.warg_records.specs.RecordData.{Init, GrantFlat, RevokeFlat, EntryData, RecordData}
 use Rattle.warg_records.specs.declared.record_id.RecordId.{RecordId}
 use Rattle.warg_validator.specs.Kinds.{SignatureRelation, KindLaws, AllLawful, IsAccepted, view_after}
 use Rattle.warg_validator.specs.Walks as walk
 use Rattle.warg_validator.proofs.KindWalks.{accepted-lawful}
-use Rattle.warg_log.specs.SignedEntries.{AccessView, nothing, after}
+use Rattle.warg_log.specs.SignedEntries.{AccessView, empty_access, after}
 use Rattle.warg_log.specs.Forms.{TimesNeverFall, FirstAloneHasNoPrev, is_init, inits, OneInitFirst, EntriesHaveKeys, HasForm}
-use Rattle.warg_log.specs.History.{Placed, placed_in, record_history, history_of}
-use Rattle.warg_log.specs.Rules.{SignedRecord, Event, Rules, StateView, View, Wrong, signed_entry_of, record_events, head_of, state_view_after, start, entry_offence, entry_fault, events_offence, unsigned_offence, record_offence, after_record, IsCoherent}
-use Rattle.warg_log.specs.LogKind.{opened, offence_in, kind_of}
-use Rattle.warg_log.specs.Offences.{Offence, lacks_required, FirstEntryIsNotInit, InitialEntryAfterBeginning, InitialRecordDoesNotInit, TimestampLowerThanPrevious}
-use Rattle.warg_log.specs.Records.{is_before, link_offence, version_offence, time_offence, signer_offence}
+use Rattle.warg_log.specs.History.{PlacedEvent, placed_in, record_history, history_of}
+use Rattle.warg_log.specs.Rules.{SignedRecord, Event, Rules, StateView, View, LogOffence, signed_entry_of, record_events, head_of, state_view_after, start, entry_offence, entry_fault, events_offence, unsigned_offence, record_offence, after_record, IsCoherent}
+use Rattle.warg_log.specs.KindOfRules.{signed_record_of, offence_in, kind_of}
+use Rattle.warg_log.specs.Offences.{Offence, required_offence, FirstEntryIsNotInit, InitialEntryAfterBeginning, InitialRecordDoesNotInit, TimestampLowerThanPrevious}
+use Rattle.warg_log.specs.RecordOffences.{is_before, link_offence, version_offence, time_offence, signer_offence}
 use Rattle.warg_log.specs.declared.head.Head.{Head}
 use Rattle.warg_log.proofs.SignedEntryLaws.{after-append}
 use Rattle.warg_log.proofs.Coherence.{coherent-new, record-coherent}
@@ -66,7 +67,7 @@ none_and_some : {A : Type 0} (o : Option A) → is_none o ≡ true → is_some o
 none_and_some None h g = cc
 none_and_some (Some a) h g = cc
 
-inits-none : {P O : Type 0} (h : List (Placed (EntryData P O))) → AllByRecursion (λ e. is_init e.entry ≡ false) (map (λ e. e.event) h) → inits h ≡ []
+inits-none : {P O : Type 0} (h : List (PlacedEvent (EntryData P O))) → AllByRecursion (λ e. is_init e.entry ≡ false) (map (λ e. e.event) h) → inits h ≡ []
 inits-none [] each = refl
 inits-none (e ∷ h) each = ap (λ b. if b then e ∷ inits h else inits h) each.0 ∙ inits-none h each.1
 
@@ -83,45 +84,45 @@ module _ {P O V F : Type 0} (rules : Rules P O V F) (same : P → P → Bool) wh
   pub lawful : (b : SignatureRelation) (v : View P V) (r : SignedRecord P O) → record_offence rules same b v r ≡ None → IsLawful b v r
   lawful b v r h =
       let w = state_view_after rules same v.state (record_events rules.id_of r) in
-      let link = option_map Wrong.Shared (link_offence v.head r.contents.prev) in
-      let version = option_map Wrong.Shared (version_offence v.head r.contents.version) in
-      let time = option_map Wrong.Shared (time_offence v.head r.contents.time) in
+      let link = option_map LogOffence.Shared (link_offence v.head r.contents.prev) in
+      let version = option_map LogOffence.Shared (version_offence v.head r.contents.version) in
+      let time = option_map LogOffence.Shared (time_offence v.head r.contents.time) in
       let events = events_offence rules same r.contents.version v.state [] (record_events rules.id_of r) in
       let unsigned = or_first (unsigned_offence rules same v r) _ h in
       let unlinked = or_second link _ unsigned in
       let timed = or_second version _ unlinked in
       let rest = or_second time _ timed in
       record {
-        link = unmapped Wrong.Shared (link_offence v.head r.contents.prev) (or_first link _ unsigned);
-        time = unmapped Wrong.Shared (time_offence v.head r.contents.time) (or_first time _ timed);
+        link = unmapped LogOffence.Shared (link_offence v.head r.contents.prev) (or_first link _ unsigned);
+        time = unmapped LogOffence.Shared (time_offence v.head r.contents.time) (or_first time _ timed);
         events = or_first events _ rest;
-        begun = unless_holds _ InitialRecordDoesNotInit (unmapped Wrong.Shared _ (or_second events _ rest));
+        begun = unless_holds _ InitialRecordDoesNotInit (unmapped LogOffence.Shared _ (or_second events _ rest));
         unsigned = unsigned;
-        signed = unmapped Wrong.Shared (signer_offence b w.authority r.envelope.key_id (signed_message rules.signing_prefix r.envelope.content) r.envelope.signature) (or_second (unsigned_offence rules same v r) _ h);
+        signed = unmapped LogOffence.Shared (signer_offence b w.authority r.envelope.key_id (signed_message rules.signing_prefix r.envelope.content) r.envelope.signature) (or_second (unsigned_offence rules same v r) _ h);
       }
 
   -- after an Init no entry is one
   no_init : (version : ℕ) (w : StateView P V) (signer : List ℕ) (r : EntryData P O) → is_some w.authority.algorithm ≡ true → entry_offence rules same version w signer r ≡ None → is_init r ≡ false
-  no_init version w signer r begun h = by r (or_second (option_map Wrong.Shared (lacks_required w.authority signer (rules.required r))) _ h)
+  no_init version w signer r begun h = by r (or_second (option_map LogOffence.Shared (required_offence w.authority signer (rules.required r))) _ h)
     where
       by : (r : EntryData P O) → entry_fault rules same version w signer r ≡ None → is_init r ≡ false
-      by (EntryData.Shared (Init algorithm key)) g = absurd (none_and_some w.authority.algorithm (unless_holds _ InitialEntryAfterBeginning (or_first _ _ (unmapped Wrong.Shared _ g))) begun)
+      by (EntryData.Shared (Init algorithm key)) g = absurd (none_and_some w.authority.algorithm (unless_holds _ InitialEntryAfterBeginning (or_first _ _ (unmapped LogOffence.Shared _ g))) begun)
       by (EntryData.Shared (GrantFlat key ps)) g = refl
       by (EntryData.Shared (RevokeFlat id ps)) g = refl
       by (EntryData.Own o) g = refl
 
   -- before it each entry has to be one
   some_init : (version : ℕ) (w : StateView P V) (signer : List ℕ) (r : EntryData P O) → is_some w.authority.algorithm ≡ false → entry_offence rules same version w signer r ≡ None → is_init r ≡ true
-  some_init version w signer r bare h = by r (or_second (option_map Wrong.Shared (lacks_required w.authority signer (rules.required r))) _ h)
+  some_init version w signer r bare h = by r (or_second (option_map LogOffence.Shared (required_offence w.authority signer (rules.required r))) _ h)
     where
       never : is_some w.authority.algorithm ≡ true → ⊥
       never begun = true≢false (sym begun ∙ bare)
 
       by : (r : EntryData P O) → entry_fault rules same version w signer r ≡ None → is_init r ≡ true
       by (EntryData.Shared (Init algorithm key)) g = refl
-      by (EntryData.Shared (GrantFlat key ps)) g = absurd (never (unless_holds _ FirstEntryIsNotInit (or_first _ _ (unmapped Wrong.Shared _ g))))
-      by (EntryData.Shared (RevokeFlat id ps)) g = absurd (never (unless_holds _ FirstEntryIsNotInit (or_first _ _ (unmapped Wrong.Shared _ g))))
-      by (EntryData.Own o) g = absurd (never (unless_holds _ FirstEntryIsNotInit (unmapped Wrong.Shared _ (or_first _ _ g))))
+      by (EntryData.Shared (GrantFlat key ps)) g = absurd (never (unless_holds _ FirstEntryIsNotInit (or_first _ _ (unmapped LogOffence.Shared _ g))))
+      by (EntryData.Shared (RevokeFlat id ps)) g = absurd (never (unless_holds _ FirstEntryIsNotInit (or_first _ _ (unmapped LogOffence.Shared _ g))))
+      by (EntryData.Own o) g = absurd (never (unless_holds _ FirstEntryIsNotInit (unmapped LogOffence.Shared _ (or_first _ _ g))))
 
   -- after a lawful entry an Init stands, whatever contents are read as
   begun_after : (version : ℕ) (w : StateView P V) (x : Event (EntryData P O)) → entry_offence rules same version w x.signer x.entry ≡ None → is_some (after same w.authority (filter_map signed_entry_of (x ∷ []))).algorithm ≡ true
@@ -171,7 +172,7 @@ module _ {P O V F : Type 0} (rules : Rules P O V F) (same : P → P → Bool) wh
     inits-cons : (n : ℕ) (r : SignedRecord P O) (rs : List (SignedRecord P O)) → inits (flat_map (record_history rules.id_of) (enumerate_from n (r ∷ rs))) ≡ inits (record_history rules.id_of (n, r)) ++ inits (flat_map (record_history rules.id_of) (enumerate_from (n + 1) rs))
     inits-cons n r rs =
         ap inits (flat_map-cons (record_history rules.id_of) (n, r) (enumerate_from (n + 1) rs))
-        ∙ filter-append (λ (e : Placed (EntryData P O)). is_init e.event.entry) (record_history rules.id_of (n, r)) (flat_map (record_history rules.id_of) (enumerate_from (n + 1) rs))
+        ∙ filter-append (λ (e : PlacedEvent (EntryData P O)). is_init e.event.entry) (record_history rules.id_of (n, r)) (flat_map (record_history rules.id_of) (enumerate_from (n + 1) rs))
 
     later_inits : (n : ℕ) (v : View P V) (rs : List (SignedRecord P O)) → is_some v.state.authority.algorithm ≡ true → AllLawfulRecords b v rs → inits (flat_map (record_history rules.id_of) (enumerate_from n rs)) ≡ []
     later_inits n v [] begun h = refl
@@ -207,7 +208,7 @@ module _ {P O V F : Type 0} (rules : Rules P O V F) (same : P → P → Bool) wh
 
 module _ {P O V F D : Type 0} (rules : Rules P O V F) (same : P → P → Bool) (read : List ℕ → Result (RecordData P O) D) (own_state : List (Event O) → V) (b : SignatureRelation) where
   abbrev record_of : EnvelopeData → SignedRecord P O
-  record_of e = opened rules same read e
+  record_of e = signed_record_of rules same read e
 
   pub lawful_records : (v : View P V) (es : List EnvelopeData) → AllLawful (kind_of rules same read own_state) b v es → AllLawfulRecords rules same b v (map record_of es)
   lawful_records v [] h = tt
@@ -237,7 +238,7 @@ module _ {P O V F D : Type 0} (rules : Rules P O V F) (same : P → P → Bool) 
     keyed : (es : List EnvelopeData) → IsAccepted (kind_of rules same read own_state) b es → EntriesHaveKeys (history_of rules.id_of (map record_of es))
     keyed es h =
         let good = accepted-lawful (kind_of rules same read own_state) laws b es h in
-        let c = subst (IsCoherent rules same) (sym (laws.by_list b es good)) (coherent (start rules same) es (coherent-new rules same nothing rules.start refl refl) good) in
+        let c = subst (IsCoherent rules same) (sym (laws.by_history b es good)) (coherent (start rules same) es (coherent-new rules same empty_access rules.start refl refl) good) in
         c.keyed.known
 
     -- accepted envelopes have the form of a log

@@ -2,20 +2,20 @@
 use Rattle.std.specs.Prelude.{◌≡◌, ◌^◌, ℕ, codes, OnOk, Option, Some, None, Result, Ok, Err, refl}
 use Rattle.std.proofs.Common.{ap, subst}
 use Rattle.serde_json.specs.Data.{Data, Members, no_members, object, put}
-use Rattle.warg_crypto.specs.Json.{ReadsBack, wrote}
-use Rattle.warg_crypto.specs.JsonTexts.{time_in}
-use Rattle.warg_crypto.specs.MemberLaws.{read_again}
-use Rattle.warg_crypto.specs.Members.{put_some}
-use Rattle.warg_crypto.specs.Numbers.{number_below}
-use Rattle.warg_crypto.specs.Steps.{ok_same}
-use Rattle.warg_crypto.specs.declared.json.error.JsonError.{JsonError}
+use Rattle.warg_json.specs.Json.{ReadsBack, json_result}
+use Rattle.warg_time.specs.TimeJson.{time_in}
+use Rattle.warg_json.specs.MemberLaws.{read_again}
+use Rattle.warg_json.specs.Members.{put_some}
+use Rattle.warg_json.specs.Numbers.{number_below}
+use Rattle.warg_json.specs.JsonLaws.{ok_same}
+use Rattle.warg_json.specs.declared.error.JsonError.{JsonError}
 use Rattle.warg_records.specs.RecordIdJson.{record_id_in}
 use Rattle.warg_log.specs.HeadJson.{head_in, version_or_zero}
 use Rattle.warg_log.specs.declared.head.Head.{Head}
 
 head_read : (h : Head) (a b : Data) (v : Option Data) → record_id_in a ≡ Ok h.digest → time_in b ≡ Ok h.timestamp → version_or_zero v ≡ Ok h.version
     → head_in (object (put_some (codes "version") v (put (codes "timestamp") b (put (codes "digest") a no_members)))) ≡ Ok h
-head_read h a b None f g k = rw (f, g) (ap (λ (v : ℕ). wrote (record { digest = h.digest; timestamp = h.timestamp; version = v })) (ok_same 0 h.version k))
+head_read h a b None f g k = rw (f, g) (ap (λ (v : ℕ). json_result (record { digest = h.digest; timestamp = h.timestamp; version = v })) (ok_same 0 h.version k))
 head_read h a b (Some d) f g k = rw (f, g, k) refl
 
 -- of the members as they were put

@@ -7,16 +7,16 @@ use Rattle.std.proofs.lemmas.List.Elements.{filter_map-append}
 use Rattle.std.proofs.lemmas.List.Concat.{flat_map-append, flat_map-cons}
 use Rattle.warg_validator.specs.Walks.{view_after, AllLawful, IsStepwise}
 use Rattle.warg_crypto.specs.NamedBytes.{NamedBytes}
-use Rattle.warg_log.specs.SignedEntries.{SignedEntry, after, nothing, signed_entry_on, enters, signed_entry_key, signed_entry_algorithm}
+use Rattle.warg_log.specs.SignedEntries.{SignedEntry, after, empty_access, signed_entry_on, enters, signed_entry_key, signed_entry_algorithm}
 use Rattle.warg_records.specs.RecordData.{EntryData}
-use Rattle.warg_log.specs.Rules.{SignedRecord, Event, View, StateView, Wrong, Rules, signed_entry_in, signed_entry_of, own_of, events_of, record_events, head_of, state_view_after, start, entry_offence, entry_fault, events_offence, unsigned_offence, record_offence, after_record}
-use Rattle.warg_log.specs.Offences.{lacks_required, not_begun}
-use Rattle.warg_log.specs.Records.{link_offence, version_offence, time_offence}
-use Rattle.warg_log.specs.History.{Placed, placed_in, record_history, history_of, entry_on, entry_enters, entry_key, entry_algorithm, access_view_of, owns, view_of, own_after, own_offence}
+use Rattle.warg_log.specs.Rules.{SignedRecord, Event, View, StateView, LogOffence, Rules, signed_entry_in, signed_entry_of, own_of, events_of, record_events, head_of, state_view_after, start, entry_offence, entry_fault, events_offence, unsigned_offence, record_offence, after_record}
+use Rattle.warg_log.specs.Offences.{required_offence, not_begun}
+use Rattle.warg_log.specs.RecordOffences.{link_offence, version_offence, time_offence}
+use Rattle.warg_log.specs.History.{PlacedEvent, placed_in, record_history, history_of, entry_on, entry_enters, entry_key, entry_algorithm, access_view_of, own_events, view_of, own_after, own_offence}
 use Rattle.warg_log.proofs.Firsts.{or_first, or_second, unmapped}
 use Rattle.warg_log.proofs.SignedEntryLaws.{same_access_view, after-append, map-join}
 use Rattle.warg_records.specs.declared.record_id.RecordId.{RecordId}
-use Rattle.warg_crypto.specs.Times.{Time}
+use Rattle.warg_time.specs.Times.{Time}
 
 -- a filter of what a map gives
 filter_map-of : {A B C : Type 0} (m : A → B) (g : B → Option C) (xs : List A) → filter_map (λ x. g (m x)) xs ≡ filter_map g (map m xs)
@@ -92,14 +92,14 @@ module _ {P O : Type 0} (id_of : List ℕ → RecordId) where
   algorithm_is signer (EntryData.Shared entry) = refl
   algorithm_is signer (EntryData.Own o) = refl
 
-  abbrev pub signed_entries_in : List (Placed (EntryData P O)) → List (SignedEntry P)
+  abbrev pub signed_entries_in : List (PlacedEvent (EntryData P O)) → List (SignedEntry P)
   signed_entries_in h = filter_map signed_entry_of (map (λ e. e.event) h)
 
   said_is : {A : Type 0} (f : Event (EntryData P O) → Option A) (g : SignedEntry P → Option A) (d : A) → ((e : Event (EntryData P O)) → f e ≡ option_and_then g (signed_entry_of e))
-      → (h : List (Placed (EntryData P O))) → unwrap_or (last_or None (filter_map (λ e. f e.event) h)) d ≡ unwrap_or (last_or None (filter_map g (signed_entries_in h))) d
+      → (h : List (PlacedEvent (EntryData P O))) → unwrap_or (last_or None (filter_map (λ e. f e.event) h)) d ≡ unwrap_or (last_or None (filter_map g (signed_entries_in h))) d
   said_is f g d same h = ap (λ l. unwrap_or (last_or None l) d) (filter_map-of (λ e. e.event) f h ∙ filter_map-then signed_entry_of g f same (map (λ e. e.event) h))
 
-  pub access-view-listed : (same : P → P → Bool) (h : List (Placed (EntryData P O))) → access_view_of same h ≡ after same nothing (signed_entries_in h)
+  pub access-view-listed : (same : P → P → Bool) (h : List (PlacedEvent (EntryData P O))) → access_view_of same h ≡ after same empty_access (signed_entries_in h)
   access-view-listed same h = same_access_view same _ _
       (said_is (λ e. entry_algorithm e.entry) signed_entry_algorithm None (λ e. algorithm_is e.signer e.entry) h)
       (λ k p. said_is (λ e. entry_on same k p e.signer e.entry) (signed_entry_on same k p) false (λ e. on_is same k p e.signer e.entry) h)
@@ -113,7 +113,7 @@ module _ {P O : Type 0} (id_of : List ℕ → RecordId) where
       nil_end [] = refl
       nil_end (x ∷ xs) = ap (λ l. x ∷ l) (nil_end xs)
 
-  pub owns_is : (rs : List (SignedRecord P O)) → owns (history_of id_of rs) ≡ filter_map own_of (flat_map (record_events id_of) rs)
+  pub owns_is : (rs : List (SignedRecord P O)) → own_events (history_of id_of rs) ≡ filter_map own_of (flat_map (record_events id_of) rs)
   owns_is rs = filter_map-of (λ e. e.event) own_of (history_of id_of rs) ∙ ap (filter_map own_of) (history-events rs)
 
 module _ {P O V F : Type 0} (rules : Rules P O V F) (same : P → P → Bool) (none : (v : V) → v ≡ rules.after v []) (append : (v : V) (xs ys : List (Event O)) → rules.after v (xs ++ ys) ≡ rules.after (rules.after v xs) ys) where
@@ -134,8 +134,8 @@ module _ {P O V F : Type 0} (rules : Rules P O V F) (same : P → P → Bool) (n
       → Lawful (rules.after w.own_state (cons_option (own_of (event_in rules.id_of signer time id r)) [])) fs → Lawful w.own_state (cons_option (own_of (event_in rules.id_of signer time id r)) fs)
   lawful-entry version w signer time id (EntryData.Shared entry) fs h g = subst (λ u. Lawful u fs) (sym (none w.own_state)) g
   lawful-entry version w signer time id (EntryData.Own o) fs h g =
-      let own = or_second (option_map Wrong.Shared (lacks_required w.authority signer (rules.required (EntryData.Own o)))) (entry_fault rules same version w signer (EntryData.Own o)) h in
-      (unmapped Wrong.Own (rules.offence w.own_state o) (or_second (option_map Wrong.Shared (not_begun w.authority)) (option_map Wrong.Own (rules.offence w.own_state o)) own), g)
+      let own = or_second (option_map LogOffence.Shared (required_offence w.authority signer (rules.required (EntryData.Own o)))) (entry_fault rules same version w signer (EntryData.Own o)) h in
+      (unmapped LogOffence.Own (rules.offence w.own_state o) (or_second (option_map LogOffence.Shared (not_begun w.authority)) (option_map LogOffence.Own (rules.offence w.own_state o)) own), g)
 
   own_state_push : (v : V) (before : List (Event (EntryData P O))) (e : Event (EntryData P O)) → rules.after v (filter_map own_of (before ++ e ∷ [])) ≡ rules.after (rules.after v (filter_map own_of before)) (cons_option (own_of e) [])
   own_state_push v before e = ap (rules.after v) (filter_map-append own_of before (e ∷ [])) ∙ append v (filter_map own_of before) (cons_option (own_of e) [])
@@ -154,9 +154,9 @@ module _ {P O V F : Type 0} (rules : Rules P O V F) (same : P → P → Bool) (n
   events-none : (v : View P V) (r : SignedRecord P O) (belongs : NamedBytes → List ℕ → NamedBytes → Bool) → record_offence rules same belongs v r ≡ None → events_offence rules same r.contents.version v.state [] (record_events rules.id_of r) ≡ None
   events-none v r belongs h =
       let w = state_view_after rules same v.state (record_events rules.id_of r) in
-      let link = option_map Wrong.Shared (link_offence v.head r.contents.prev) in
-      let version = option_map Wrong.Shared (version_offence v.head r.contents.version) in
-      let time = option_map Wrong.Shared (time_offence v.head r.contents.time) in
+      let link = option_map LogOffence.Shared (link_offence v.head r.contents.prev) in
+      let version = option_map LogOffence.Shared (version_offence v.head r.contents.version) in
+      let time = option_map LogOffence.Shared (time_offence v.head r.contents.time) in
       let events = events_offence rules same r.contents.version v.state [] (record_events rules.id_of r) in
       let all = or_first (unsigned_offence rules same v r) _ h in
       let checks = or_second link _ all in
@@ -164,41 +164,41 @@ module _ {P O V F : Type 0} (rules : Rules P O V F) (same : P → P → Bool) (n
 
   module _ (belongs : NamedBytes → List ℕ → NamedBytes → Bool) (own_state : List (Event O) → V) (by_list : (es : List (Event O)) → AllLawful (own_after rules) (own_offence rules) rules.start es → own_state es ≡ rules.after rules.start es) where
     abbrev pub Good : List (SignedRecord P O) → Type 0
-    Good rs = Lawful rules.start (owns (history_of rules.id_of rs))
+    Good rs = Lawful rules.start (own_events (history_of rules.id_of rs))
 
     lawful-record : (rs : List (SignedRecord P O)) (r : SignedRecord P O) → Good rs → record_offence rules same belongs (view_of rules same own_state rs) r ≡ None → Lawful rules.start (filter_map own_of (flat_map (record_events rules.id_of) rs) ++ filter_map own_of (record_events rules.id_of r))
     lawful-record rs r good h =
         let v = view_of rules same own_state rs in
         let here = lawful-events r.contents.version v.state [] (record_events rules.id_of r) (events-none v r belongs h) in
-        let at : rules.after v.state.own_state [] ≡ rules.after rules.start (filter_map own_of (flat_map (record_events rules.id_of) rs)) = sym (none v.state.own_state) ∙ by_list (owns (history_of rules.id_of rs)) good ∙ ap (rules.after rules.start) (owns_is rules.id_of rs) in
+        let at : rules.after v.state.own_state [] ≡ rules.after rules.start (filter_map own_of (flat_map (record_events rules.id_of) rs)) = sym (none v.state.own_state) ∙ by_list (own_events (history_of rules.id_of rs)) good ∙ ap (rules.after rules.start) (owns_is rules.id_of rs) in
         lawful-join rules.start (filter_map own_of (flat_map (record_events rules.id_of) rs)) (filter_map own_of (record_events rules.id_of r))
         (subst (Lawful rules.start) (owns_is rules.id_of rs) good)
         (subst (λ u. Lawful u (filter_map own_of (record_events rules.id_of r))) at here)
 
-    owns_push : (rs : List (SignedRecord P O)) (r : SignedRecord P O) → owns (history_of rules.id_of (rs ++ r ∷ [])) ≡ filter_map own_of (flat_map (record_events rules.id_of) rs) ++ filter_map own_of (record_events rules.id_of r)
+    owns_push : (rs : List (SignedRecord P O)) (r : SignedRecord P O) → own_events (history_of rules.id_of (rs ++ r ∷ [])) ≡ filter_map own_of (flat_map (record_events rules.id_of) rs) ++ filter_map own_of (record_events rules.id_of r)
     owns_push rs r = owns_is rules.id_of (rs ++ r ∷ []) ∙ ap (filter_map own_of) (events_push rules.id_of rs r) ∙ filter_map-append own_of (flat_map (record_events rules.id_of) rs) (record_events rules.id_of r)
 
     authority_push : (rs : List (SignedRecord P O)) (r : SignedRecord P O) → access_view_of same (history_of rules.id_of (rs ++ r ∷ [])) ≡ after same (access_view_of same (history_of rules.id_of rs)) (filter_map signed_entry_of (record_events rules.id_of r))
     authority_push rs r =
         access-view-listed rules.id_of same (history_of rules.id_of (rs ++ r ∷ []))
-        ∙ ap (λ l. after same nothing (filter_map signed_entry_of l)) (history-events rules.id_of (rs ++ r ∷ []) ∙ events_push rules.id_of rs r)
-        ∙ ap (after same nothing) (filter_map-append signed_entry_of (flat_map (record_events rules.id_of) rs) (record_events rules.id_of r))
-        ∙ after-append same nothing (filter_map signed_entry_of (flat_map (record_events rules.id_of) rs)) (filter_map signed_entry_of (record_events rules.id_of r))
-        ∙ ap (λ s. after same s (filter_map signed_entry_of (record_events rules.id_of r))) (ap (λ l. after same nothing (filter_map signed_entry_of l)) (sym (history-events rules.id_of rs)) ∙ sym (access-view-listed rules.id_of same (history_of rules.id_of rs)))
+        ∙ ap (λ l. after same empty_access (filter_map signed_entry_of l)) (history-events rules.id_of (rs ++ r ∷ []) ∙ events_push rules.id_of rs r)
+        ∙ ap (after same empty_access) (filter_map-append signed_entry_of (flat_map (record_events rules.id_of) rs) (record_events rules.id_of r))
+        ∙ after-append same empty_access (filter_map signed_entry_of (flat_map (record_events rules.id_of) rs)) (filter_map signed_entry_of (record_events rules.id_of r))
+        ∙ ap (λ s. after same s (filter_map signed_entry_of (record_events rules.id_of r))) (ap (λ l. after same empty_access (filter_map signed_entry_of l)) (sym (history-events rules.id_of rs)) ∙ sym (access-view-listed rules.id_of same (history_of rules.id_of rs)))
 
     -- one more record: its view by lists is the one that it makes of the view before
     pub records-stepwise : IsStepwise (after_record rules same) (record_offence rules same belongs) (start rules same) (view_of rules same own_state) Good
     records-stepwise = record {
-      none = λ i. record { state = record { authority = nothing; own_state = (by_list [] tt ∙ sym (none rules.start)) i }; head = None };
+      none = λ i. record { state = record { authority = empty_access; own_state = (by_list [] tt ∙ sym (none rules.start)) i }; head = None };
       good = tt;
       more = λ rs r good h.
           let all = lawful-record rs r good h in
-          let good_all : Lawful rules.start (owns (history_of rules.id_of (rs ++ r ∷ []))) = subst (Lawful rules.start) (sym (owns_push rs r)) all in
-          let own_states : own_state (owns (history_of rules.id_of (rs ++ r ∷ []))) ≡ rules.after (own_state (owns (history_of rules.id_of rs))) (filter_map own_of (record_events rules.id_of r)) =
-          by_list (owns (history_of rules.id_of (rs ++ r ∷ []))) good_all
+          let good_all : Lawful rules.start (own_events (history_of rules.id_of (rs ++ r ∷ []))) = subst (Lawful rules.start) (sym (owns_push rs r)) all in
+          let own_states : own_state (own_events (history_of rules.id_of (rs ++ r ∷ []))) ≡ rules.after (own_state (own_events (history_of rules.id_of rs))) (filter_map own_of (record_events rules.id_of r)) =
+          by_list (own_events (history_of rules.id_of (rs ++ r ∷ []))) good_all
           ∙ ap (rules.after rules.start) (owns_push rs r)
           ∙ append rules.start (filter_map own_of (flat_map (record_events rules.id_of) rs)) (filter_map own_of (record_events rules.id_of r))
-          ∙ ap (λ v. rules.after v (filter_map own_of (record_events rules.id_of r))) (ap (rules.after rules.start) (sym (owns_is rules.id_of rs)) ∙ sym (by_list (owns (history_of rules.id_of rs)) good)) in (
+          ∙ ap (λ v. rules.after v (filter_map own_of (record_events rules.id_of r))) (ap (rules.after rules.start) (sym (owns_is rules.id_of rs)) ∙ sym (by_list (own_events (history_of rules.id_of rs)) good)) in (
             good_all,
             λ i. record {
               state = record { authority = authority_push rs r i; own_state = own_states i };

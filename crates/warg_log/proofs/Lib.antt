@@ -14,7 +14,7 @@ pub mod PossibleLaws
 pub mod HistoryViews
 pub mod ListingLaws
 pub mod KindLaws
-pub mod AcceptedOwns
+pub mod AcceptedOwnEvents
 pub mod NextLaws
 pub mod EquivalentLaws
 pub mod FormLaws

@@ -4,43 +4,43 @@ use Rattle.std.specs.Prelude.{IfSome, ◌==◌, is_some, is_none, not, ◌||◌}
 use Rattle.std.specs.Option.{option_map, option_or, option_map_or}
 use Rattle.std.specs.Str.{bytes_eq}
 use Rattle.warg_crypto.specs.NamedBytes.{NamedBytes, fingerprint_of}
-use Rattle.warg_crypto.specs.Times.{Time}
+use Rattle.warg_time.specs.Times.{Time}
 use Rattle.warg_crypto.specs.Signed.{signed_message}
 use Rattle.warg_crypto.specs.declared.signing.error.SignatureError.TheVariants.{Refused}
 use Rattle.warg_records.specs.RecordData.{EntryData, SharedEntry, Init, GrantFlat, RevokeFlat}
 use Rattle.warg_records.specs.declared.record_id.RecordId.{RecordId}
 use Rattle.warg_log.specs.SignedEntries.{AccessView}
-use Rattle.warg_log.specs.Rules.{Rules, Wrong, StateView, View, SignedRecord, Event, state_view_after, record_events, entry_fault, entry_offence, events_offence, unsigned_offence, record_offence}
-use Rattle.warg_log.specs.Offences.{Offence, unless, not_begun, empty_grant, lacks_required, unauthorized, shared_entry_offence, InitialRecordDoesNotInit, KeyIDNotRecognized, UnauthorizedAction, PermissionNotFoundToRevoke, WrongSignature}
-use Rattle.warg_log.specs.Records.{link_offence, version_offence, time_offence, same_id}
+use Rattle.warg_log.specs.Rules.{Rules, LogOffence, StateView, View, SignedRecord, Event, state_view_after, record_events, entry_fault, entry_offence, events_offence, unsigned_offence, record_offence}
+use Rattle.warg_log.specs.Offences.{Offence, unless, not_begun, empty_grant, required_offence, first_unauthorized, shared_entry_offence, InitialRecordDoesNotInit, KeyIDNotRecognized, UnauthorizedAction, PermissionNotFoundToRevoke, WrongSignature}
+use Rattle.warg_log.specs.RecordOffences.{link_offence, version_offence, time_offence, same_id}
 use Rattle.warg_log.specs.Rights.{first_missing}
-use Rattle.warg_log.specs.Possible.{may_be_told, IsPossible}
+use Rattle.warg_log.specs.PossibleOffences.{is_possible_offence, IsPossible}
 use Rattle.warg_log.specs.declared.head.Head.{Head}
 
 module _ {P : Type 0} where
   abbrev MayBe : Option (Offence P) → Type 0
-  MayBe o = IfSome o (λ x. may_be_told x ≡ true)
+  MayBe o = IfSome o (λ x. is_possible_offence x ≡ true)
 
   either : (a b : Option (Offence P)) → MayBe a → MayBe b → MayBe (option_or a b)
   either None b h g = g
   either (Some x) b h g = h
 
-  tested : (b : Bool) (x : Offence P) → may_be_told x ≡ true → MayBe (unless b x)
+  tested : (b : Bool) (x : Offence P) → is_possible_offence x ≡ true → MayBe (unless b x)
   tested true x h = tt
   tested false x h = h
 
-  mapped : {A : Type 0} (f : A → Offence P) → ((a : A) → may_be_told (f a) ≡ true) → (o : Option A) → MayBe (option_map f o)
+  mapped : {A : Type 0} (f : A → Offence P) → ((a : A) → is_possible_offence (f a) ≡ true) → (o : Option A) → MayBe (option_map f o)
   mapped f h None = tt
   mapped f h (Some a) = h a
 
-  required : (s : AccessView P) (k : List ℕ) (p : Option P) → MayBe (lacks_required s k p)
+  required : (s : AccessView P) (k : List ℕ) (p : Option P) → MayBe (required_offence s k p)
   required s k None = tt
   required s k (Some p) = tested (s.holds k p) _ refl
 
   begun : (s : AccessView P) → MayBe (not_begun s)
   begun s = tested (is_some s.algorithm) _ refl
 
-  listed : (s : AccessView P) (k : List ℕ) (ps : List P) → MayBe (unauthorized s k ps)
+  listed : (s : AccessView P) (k : List ℕ) (ps : List P) → MayBe (first_unauthorized s k ps)
   listed s k ps = mapped (UnauthorizedAction k) (λ p. refl) _
 
   empty : (version : ℕ) (k : List ℕ) (ps : List P) → MayBe (empty_grant version k ps)
@@ -75,18 +75,18 @@ module _ (P : Type 0) where
   signed belongs message signature signer (Some key) = tested (belongs key message signature) _ refl
 
 module _ {P O V F : Type 0} (rules : Rules P O V F) (same : P → P → Bool) where
-  abbrev Possible : Option (Wrong P F) → Type 0
+  abbrev Possible : Option (LogOffence P F) → Type 0
   Possible o = IfSome o IsPossible
 
-  first : (a b : Option (Wrong P F)) → Possible a → Possible b → Possible (option_or a b)
+  first : (a b : Option (LogOffence P F)) → Possible a → Possible b → Possible (option_or a b)
   first None b h g = g
   first (Some x) b h g = h
 
-  shared : (o : Option (Offence P)) → MayBe o → Possible (option_map Wrong.Shared o)
+  shared : (o : Option (Offence P)) → MayBe o → Possible (option_map LogOffence.Shared o)
   shared None h = tt
   shared (Some x) h = h
 
-  own : (o : Option F) → Possible (option_map Wrong.Own o)
+  own : (o : Option F) → Possible (option_map LogOffence.Own o)
   own None = tt
   own (Some x) = tt
 

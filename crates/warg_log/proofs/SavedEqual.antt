@@ -5,8 +5,8 @@ use Rattle.std.specs.Cmp.{IsEquivalence}
 use Rattle.std.specs.Map.{lookup}
 use Rattle.std.specs.Option.{option_eq}
 use Rattle.std.specs.Str.{bytes_eq}
-use Rattle.warg_crypto.specs.NamedBytes.{same_tag}
-use Rattle.warg_crypto.specs.Same.{same_tag_equiv}
+use Rattle.warg_crypto.specs.NamedBytes.{same_named_bytes}
+use Rattle.warg_crypto.specs.SameLaws.{same_named_bytes_equiv}
 use Rattle.warg_log.specs.AuthorityData.{AuthorityData}
 use Rattle.warg_log.specs.Equal.{same_algorithm, same_head, same_maps, same_sets, same_states}
 use Rattle.warg_log.specs.EqualLaws.{head_equiv, maps_from_get, sets_equiv}
@@ -38,5 +38,5 @@ equal_states {same = same} equiv own_states s t algorithm head rights keys own_s
     both _ _
     (both _ _ (option_self same_algorithm (λ x. refl) s.authority.algorithm t.authority.algorithm algorithm)
     (both _ _ (equal_maps (same_sets same) (sets_equiv equiv).refl s.authority.rights t.authority.rights rights)
-    (equal_maps same_tag same_tag_equiv.refl s.authority.keys t.authority.keys keys)))
+    (equal_maps same_named_bytes same_named_bytes_equiv.refl s.authority.keys t.authority.keys keys)))
     (both _ _ own_state (option_self same_head head_equiv.refl s.head t.head head))

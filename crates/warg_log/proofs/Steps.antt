@@ -5,7 +5,7 @@ use Rattle.std.specs.Option.{option_map, option_or}
 use Rattle.indexmap.specs.IndexMap.{IndexMap}
 use Rattle.warg_crypto.specs.NamedBytes.{NamedBytes, fingerprint_of}
 use Rattle.warg_permissions.specs.Permissions.{lists}
-use Rattle.warg_log.specs.Rights.{layered, held_over, has_entry_over, first_missing}
+use Rattle.warg_log.specs.Rights.{value_over, held_over, has_entry_over, first_missing}
 use Rattle.warg_records.specs.RecordData.{SharedEntry, Init, GrantFlat, RevokeFlat}
 use Rattle.warg_log.specs.SignedEntries.{after}
 use Rattle.warg_log.specs.AuthorityData.{AuthorityData, access_view_over, authority_data}
@@ -34,7 +34,7 @@ module _ {P Z X : Type 0} (same : P → P → Bool) (algorithm algorithm' : Opti
       ∙ ap (λ s. after same s (record { signer = signer; entry = entry } ∷ [])) (stands-over same algorithm algorithm' base old base_keys old_keys c d base_is old_is)
 
   pub grant-step : authority_data algorithm' new new_keys ≡ e → (key key' : NamedBytes) (id id' : List ℕ) (permissions : List P) → id ≡ fingerprint_of key → id' ≡ id → key' ≡ key
-      → ((k : List ℕ) → layered base_keys.entries new_keys.entries k ≡ (if bytes_eq id' k then Some key' else layered base_keys.entries old_keys.entries k))
+      → ((k : List ℕ) → value_over base_keys.entries new_keys.entries k ≡ (if bytes_eq id' k then Some key' else value_over base_keys.entries old_keys.entries k))
       → ((k : List ℕ) (p : P) → held_over same base new k p ≡ (if bytes_eq id k && lists same permissions p then true else held_over same base old k p))
       → ((k : List ℕ) → has_entry_over base new k ≡ (has_entry_over base old k || bytes_eq id k))
       → access_view_over same c e ≡ after same (access_view_over same c d) (record { signer = signer; entry = GrantFlat key permissions } ∷ [])
@@ -42,10 +42,10 @@ module _ {P Z X : Type 0} (same : P → P → Bool) (algorithm algorithm' : Opti
       from_maps algorithm' new_is (GrantFlat key permissions) (same_access_view same _ _ refl
       (λ k p. rw (gave k p, printed) (sym (latest-one (bytes_eq (fingerprint_of key) k && lists same permissions p) true (held_over same base old k p))))
       (λ k. rw (entered k, printed) (or-false (has_entry_over base old k) (bytes_eq (fingerprint_of key) k)))
-      (λ k. rw (keyed k, copied, printed, alike) (sym (latest-one (bytes_eq (fingerprint_of key) k) (Some key) (layered base_keys.entries old_keys.entries k)))))
+      (λ k. rw (keyed k, copied, printed, alike) (sym (latest-one (bytes_eq (fingerprint_of key) k) (Some key) (value_over base_keys.entries old_keys.entries k)))))
 
   pub init-step : (named : HashAlgorithm) → authority_data (Some named) new new_keys ≡ e → (all : List P) → ((p : P) → lists same all p ≡ true) → (key key' : NamedBytes) (id id' signer' : List ℕ) → id ≡ fingerprint_of key → id' ≡ id → key' ≡ key → signer' ≡ signer
-      → ((k : List ℕ) → layered base_keys.entries new_keys.entries k ≡ (if bytes_eq id' k then Some key' else layered base_keys.entries old_keys.entries k))
+      → ((k : List ℕ) → value_over base_keys.entries new_keys.entries k ≡ (if bytes_eq id' k then Some key' else value_over base_keys.entries old_keys.entries k))
       → ((k : List ℕ) (p : P) → held_over same base new k p ≡ (if bytes_eq signer' k && lists same all p then true else held_over same base old k p))
       → ((k : List ℕ) → has_entry_over base new k ≡ (has_entry_over base old k || bytes_eq signer' k))
       → access_view_over same c e ≡ after same (access_view_over same c d) (record { signer = signer; entry = Init named key } ∷ [])
@@ -53,7 +53,7 @@ module _ {P Z X : Type 0} (same : P → P → Bool) (algorithm algorithm' : Opti
       from_maps (Some named) new_is (Init named key) (same_access_view same _ _ refl
       (λ k p. rw (gave k p, is, whole p, and-true (bytes_eq signer k)) (sym (latest-one (bytes_eq signer k) true (held_over same base old k p))))
       (λ k. rw (entered k, is) (or-false (has_entry_over base old k) (bytes_eq signer k)))
-      (λ k. rw (keyed k, copied, printed, alike) (sym (latest-one (bytes_eq (fingerprint_of key) k) (Some key) (layered base_keys.entries old_keys.entries k)))))
+      (λ k. rw (keyed k, copied, printed, alike) (sym (latest-one (bytes_eq (fingerprint_of key) k) (Some key) (value_over base_keys.entries old_keys.entries k)))))
 
   pub revoke-step : authority_data algorithm' new new_keys ≡ e → (id : List ℕ) (permissions : List P) → old_keys ≡ new_keys
       → ((k : List ℕ) (p : P) → held_over same base new k p ≡ (if bytes_eq id k && lists same permissions p then false else held_over same base old k p))
@@ -63,7 +63,7 @@ module _ {P Z X : Type 0} (same : P → P → Bool) (algorithm algorithm' : Opti
       from_maps algorithm' new_is (RevokeFlat id permissions) (same_access_view same _ _ refl
       (λ k p. rw (took k p) (sym (latest-one (bytes_eq id k && lists same permissions p) false (held_over same base old k p))))
       (λ k. rw (stayed k) (or-none (has_entry_over base old k)))
-      (λ k. ap (λ (m : IndexMap (List ℕ) NamedBytes X). layered base_keys.entries m.entries k) (sym kept)))
+      (λ k. ap (λ (m : IndexMap (List ℕ) NamedBytes X). value_over base_keys.entries m.entries k) (sym kept)))
 
 -- what is wrong with a revoke by a signer that holds all that it lists
 pub revoke-offence : {P : Type 0} (same : P → P → Bool) (b u : Option (Offence P)) (f g : P → Bool) (id : List ℕ) (ps : List P) (m : Option P) → b ≡ None → u ≡ None → ((p : P) → g p ≡ f p)

@@ -2,11 +2,11 @@
 use Rattle.std.specs.Prelude.{◌^◌, ℕ, ◌==◌, codes, if◌then◌else◌, Option, Some, None, Result, Ok}
 use Rattle.serde_json.specs.Data.{Data, no_members, object}
 use Rattle.serde_json.specs.Find.{get_member}
-use Rattle.warg_crypto.specs.Json.{◌>>=◌, member_in, members_in, wrote}
-use Rattle.warg_crypto.specs.JsonTexts.{time_in, time_json}
-use Rattle.warg_crypto.specs.Members.{put_json, put_option}
-use Rattle.warg_crypto.specs.Numbers.{number_below, number_json}
-use Rattle.warg_crypto.specs.declared.json.error.JsonError.{JsonError}
+use Rattle.warg_json.specs.Json.{◌>>=◌, member_in, members_in, json_result}
+use Rattle.warg_time.specs.TimeJson.{time_in, time_json}
+use Rattle.warg_json.specs.Members.{put_json, put_option}
+use Rattle.warg_json.specs.Numbers.{number_below, number_json}
+use Rattle.warg_json.specs.declared.error.JsonError.{JsonError}
 use Rattle.warg_records.specs.RecordIdJson.{record_id_in, record_id_json}
 use Rattle.warg_log.specs.declared.head.Head.{Head}
 
@@ -20,7 +20,7 @@ head_json h = do
   digest ← put_json record_id_json (codes "digest") h.digest no_members
   timestamp ← put_json time_json (codes "timestamp") h.timestamp digest
   members ← put_option number_json (codes "version") (unless_zero h.version) timestamp
-  wrote (object members)
+  json_result (object members)
 
 -- a version that is missing is 0
 abbrev pub version_or_zero : Option Data → Result ℕ JsonError
@@ -39,4 +39,4 @@ head_in d = do
   time ← member_in (codes "timestamp") d
   timestamp ← time_in time
   version ← version_in d
-  wrote (record { digest = digest; timestamp = timestamp; version = version })
+  json_result (record { digest = digest; timestamp = timestamp; version = version })

@@ -1,6 +1,6 @@
 -- The names of offences: the names of their cases, without fields.
 use Rattle.std.specs.Prelude.{ℕ, List, [], codes}
-use Rattle.warg_log.specs.Rules.{Wrong}
+use Rattle.warg_log.specs.Rules.{LogOffence}
 use Rattle.warg_log.specs.Offences.{Offence}
 use Rattle.warg_log.specs.Offences as shared
 
@@ -22,7 +22,7 @@ shared_name shared.TimestampLowerThanPrevious = codes "TimestampLowerThanPreviou
 shared_name (shared.EmptyGrant key_id) = codes "EmptyGrant"
 
 -- with the names of those that one kind alone has; no error names a record that can't be read
-abbrev pub wrong_name : {P F : Type 0} → (F → List ℕ) → Wrong P F → List ℕ
-wrong_name own_name (Wrong.Shared offence) = shared_name offence
-wrong_name own_name (Wrong.Own offence) = own_name offence
-wrong_name own_name Wrong.Unreadable = []
+abbrev pub log_offence_name : {P F : Type 0} → (F → List ℕ) → LogOffence P F → List ℕ
+log_offence_name own_name (LogOffence.Shared offence) = shared_name offence
+log_offence_name own_name (LogOffence.Own offence) = own_name offence
+log_offence_name own_name LogOffence.Unreadable = []

@@ -7,9 +7,9 @@ use Rattle.indexmap.specs.IndexMap.{IndexMap, get}
 use Rattle.std.specs.List.{list_any}
 use Rattle.warg_permissions.specs.Permissions.{lists}
 
--- what stands at k where changes lie over a map: as they say, else as it stood
-abbrev pub layered : {X : Type 0} → List (List ℕ × X) → List (List ℕ × X) → List ℕ → Option X
-layered base changes k = option_or (lookup (bytes_eq k) changes) (lookup (bytes_eq k) base)
+-- the value at k where changes lie over a map: that of the changes if they have one, else the map's
+abbrev pub value_over : {X : Type 0} → List (List ℕ × X) → List (List ℕ × X) → List ℕ → Option X
+value_over base changes k = option_or (lookup (bytes_eq k) changes) (lookup (bytes_eq k) base)
 
 -- whether p is among the permissions listed, if any are
 abbrev pub is_listed : {P : Type 0} → (P → P → Bool) → Option (List P) → P → Bool
@@ -23,11 +23,11 @@ module _ {P Z : Type 0} where
   -- whether k holds p where the changes lie over the map
   abbrev pub held_over : (P → P → Bool) → IndexMap (List ℕ) (List P) Z → IndexMap (List ℕ) (List P) Z
       → List ℕ → P → Bool
-  held_over same m changes k p = is_listed same (layered m.entries changes.entries k) p
+  held_over same m changes k p = is_listed same (value_over m.entries changes.entries k) p
 
   -- whether k has an entry of permissions where the changes lie over the map
   abbrev pub has_entry_over : IndexMap (List ℕ) (List P) Z → IndexMap (List ℕ) (List P) Z → List ℕ → Bool
-  has_entry_over m changes k = is_some (layered m.entries changes.entries k)
+  has_entry_over m changes k = is_some (value_over m.entries changes.entries k)
 
 -- the first of the permissions that is not held, or that is listed earlier
 abbrev pub first_missing : {P : Type 0} → (P → P → Bool) → (P → Bool) → List P → List P → Option P

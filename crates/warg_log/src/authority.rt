@@ -3,8 +3,8 @@ ghost use Rattle.std.specs.Prelude.{◌≡◌, OnOk, OnErr, IfOk, IfSome, is_som
 ghost use Rattle.std.specs.Cmp.{partial_equiv_from_equiv};
 ghost use Rattle.std.specs.Option.{option_copied, option_eq};
 ghost use Rattle.indexmap.specs.IndexSet.{contains};
-ghost use Rattle.warg_crypto.specs.NamedBytes.{same_tag};
-ghost use Rattle.warg_log.specs.SignedEntries.{nothing};
+ghost use Rattle.warg_crypto.specs.NamedBytes.{same_named_bytes};
+ghost use Rattle.warg_log.specs.SignedEntries.{empty_access};
 ghost use Rattle.warg_log.specs.AuthorityData.{AuthorityData, rights_at, access_view, access_view_over};
 ghost use Rattle.warg_log.specs.Equal.{same_authority_data, same_maps, same_sets, same_algorithm};
 ghost use Rattle.warg_log.specs.EqualLaws.{authority_data_equiv};
@@ -13,8 +13,8 @@ ghost use Rattle.warg_log.specs.Keys.{AreKeysOf, authority_keys};
 mod saved;
 
 use crate::keys::Keys;
-use crate::log_kind::LogKind;
-use crate::maps::{lay_over, make_room};
+use crate::map_changes::{lay_over, make_room};
+use crate::own_state::OwnState;
 use crate::permission_set::PermissionSet;
 use crate::rights;
 use indexmap::{IndexMap, IndexSet};
@@ -45,9 +45,9 @@ impl<P: LogPermission> Model for Authority<P> {
 }
 
 impl<P: LogPermission> Authority<P> {
-    /// Before any entry; over another, no change.
+    /// What stands before any entry. Laid over another authority it changes nothing.
     pub fn new(alloc: Global) -> Authority<P>
-        ensures start { access_view P.eq result ≡ nothing }
+        ensures start { access_view P.eq result ≡ empty_access }
         ensures no_change { (c : AuthorityData P) →
             access_view_over P.eq c result ≡ access_view P.eq c }
     {
@@ -119,7 +119,7 @@ impl<P: LogPermission> Authority<P> {
     }
 
     /// Makes the changes here, and the kind's beside, or none.
-    pub fn commit<M: LogKind>(
+    pub fn commit<M: OwnState>(
         &mut self,
         changes: Authority<P>,
         own_state: &mut M,
@@ -127,7 +127,8 @@ impl<P: LogPermission> Authority<P> {
     ) -> Result<(), AllocError>
         ensures made { OnOk result (access_view P.eq self.new ≡
             access_view_over P.eq self.old changes) }
-        ensures own_state { OnOk result (M.view own_state.new ≡ M.changed own_state.old change) }
+        ensures own_state { OnOk result (M.view own_state.new ≡ M.view_with_change own_state.old
+            change) }
         ensures unchanged { OnErr result (self.new ≡ self.old) }
         ensures own_state_unchanged { OnErr result (own_state.new ≡ own_state.old) }
     {
@@ -207,7 +208,7 @@ fn same_rights<P: LogPermission>(
 
 /// Whether the two have the same keys.
 fn same_registered(a: &IndexMap<KeyID, PublicKey>, b: &IndexMap<KeyID, PublicKey>) -> bool
-    ensures { result ≡ same_maps same_tag a.now.entries b.now.entries }
+    ensures { result ≡ same_maps same_named_bytes a.now.entries b.now.entries }
 {
     *a == *b
 }

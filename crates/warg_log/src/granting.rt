@@ -1,21 +1,21 @@
 //! What a record's entries ask of an authority. They are judged by it with the changes that the entries before them
 //! make laid over it; what they change is noted among these changes. `before` is what the signer held before them, so
 //! that it is looked up once a record.
-ghost use Rattle.std.specs.Prelude.{◌≡◌, [], ◌∷◌, true, OnOk, is_some};
+ghost use Rattle.std.specs.Prelude.{◌≡◌, [], ◌∷◌, OnOk, is_some};
 ghost use Rattle.std.specs.Option.{option_copied};
 ghost use Rattle.warg_crypto.specs.NamedBytes.{fingerprint_of};
-ghost use Rattle.warg_permissions.specs.Permissions.{lists};
 ghost use Rattle.warg_records.specs.RecordData.{Init, GrantFlat, RevokeFlat};
 ghost use Rattle.warg_log.specs.SignedEntries.{after};
 ghost use Rattle.warg_log.specs.AuthorityData.{rights_at, access_view_over};
-ghost use Rattle.warg_log.specs.Judging.{ReturnsOffence};
+ghost use Rattle.warg_validator.specs.OutcomeOffences.{ReturnsOffence};
 ghost use Rattle.warg_log.specs.Rights.{is_listed};
-ghost use Rattle.warg_log.specs.Offences.{offence_of, unauthorized, lacks, lacks_required, not_begun, empty_grant, init_offence, grant_offence, revoke_offence};
+ghost use Rattle.warg_log.specs.Offences.{offence_of, first_unauthorized, permission_offence, required_offence, not_begun, empty_grant, init_offence, grant_offence, revoke_offence};
 
 use crate::authority::Authority;
+use crate::own_state::Origin;
 use crate::permission_set::PermissionSet;
 use crate::refusal::Refusal;
-use crate::rights;
+use crate::rights::{self, Standing};
 use warg_crypto::hash::HashAlgorithm;
 use warg_crypto::signing::{KeyID, PublicKey};
 use warg_permissions::LogPermission;
@@ -79,7 +79,8 @@ impl<P: LogPermission> Authority<P> {
     ) -> Result<(), Refusal<P>>
         requires { option_copied before ≡ rights_at self.now key_id.now }
         ensures { ReturnsOffence offence_of
-            (lacks (access_view_over P.eq self.now changes.now) key_id.now permission) result }
+            (permission_offence (access_view_over P.eq self.now changes.now) key_id.now permission)
+            result }
     {
         if !self.holds_with(changes, key_id, before, permission) {
             return Err(Refusal::UnauthorizedAction {
@@ -99,7 +100,7 @@ impl<P: LogPermission> Authority<P> {
         required: Option<P>,
     ) -> Result<(), Refusal<P>>
         requires { option_copied before ≡ rights_at self.now key_id.now }
-        ensures { ReturnsOffence offence_of (lacks_required
+        ensures { ReturnsOffence offence_of (required_offence
             (access_view_over P.eq self.now changes.now) key_id.now required) result }
     {
         match required {
@@ -108,7 +109,7 @@ impl<P: LogPermission> Authority<P> {
         }
     }
 
-    /// Refuses where no Init stands.
+    /// Checks that the log has an Init.
     pub fn check_begun(&self, changes: &Authority<P>) -> Result<(), Refusal<P>>
         ensures { ReturnsOffence offence_of (not_begun (access_view_over P.eq self.now changes.now))
             result }
@@ -129,7 +130,7 @@ impl<P: LogPermission> Authority<P> {
         permissions: &[P],
     ) -> Result<(), Refusal<P>>
         requires { option_copied before ≡ rights_at self.now key_id.now }
-        ensures { ReturnsOffence offence_of (unauthorized
+        ensures { ReturnsOffence offence_of (first_unauthorized
             (access_view_over P.eq self.now changes.now) key_id.now permissions.now) result }
     {
         if permissions.is_empty() {
@@ -147,17 +148,15 @@ impl<P: LogPermission> Authority<P> {
         Ok(())
     }
 
-    /// Checks an Init and notes what it changes. `all` are all permissions of the kind.
+    /// Checks an Init and notes what it changes. Its signer gets all permissions of the kind.
     pub fn init(
         &self,
         changes: &mut Authority<P>,
         by_own_key: bool,
-        all: &[P],
         signer: &KeyID,
         hash_algorithm: HashAlgorithm,
         key: &PublicKey,
     ) -> Result<(), Refusal<P>>
-        requires { (p : P) → lists P.eq all.now p ≡ true }
         ensures judges { ReturnsOffence offence_of (init_offence by_own_key
             (access_view_over P.eq self.now changes.old) signer.now key.now) result }
         ensures after { OnOk result (access_view_over P.eq self.now changes.new ≡ after P.eq
@@ -173,18 +172,16 @@ impl<P: LogPermission> Authority<P> {
                 key_id: signer.clone()?,
             });
         }
+        let all = P::all(self.alloc)?;
         changes.algorithm = Some(hash_algorithm);
+        let stood = Standing {
+            alloc: self.alloc,
+            sets: self.sets.as_slice(),
+            rights: &self.permissions,
+        };
         let added = &mut changes.sets;
         let given = &mut changes.permissions;
-        rights::give(
-            self.alloc,
-            self.sets.as_slice(),
-            added,
-            &self.permissions,
-            given,
-            signer.clone()?,
-            all,
-        )?;
+        rights::give(&stood, added, given, signer.clone()?, &all)?;
         rights::put(&mut changes.keys, key_id, key.clone()?)?;
         Ok(())
     }
@@ -207,40 +204,39 @@ impl<P: LogPermission> Authority<P> {
         Ok(())
     }
 
-    /// Checks a GrantFlat of a record of this version and notes what it changes.
+    /// Checks a GrantFlat and notes what it changes.
     pub fn grant(
         &self,
         changes: &mut Authority<P>,
-        version: u32,
-        signer: &KeyID,
+        origin: &Origin<'_>,
         before: Option<&PermissionSet<P>>,
         key: &PublicKey,
         permissions: &[P],
     ) -> Result<(), Refusal<P>>
-        requires { option_copied before ≡ rights_at self.now signer.now }
-        ensures judges { ReturnsOffence offence_of (grant_offence version
-            (access_view_over P.eq self.now changes.old) signer.now key.now permissions.now)
-            result }
+        requires { option_copied before ≡ rights_at self.now origin.now.signer.now }
+        ensures judges { ReturnsOffence offence_of (grant_offence origin.now.version
+            (access_view_over P.eq self.now changes.old) origin.now.signer.now key.now
+            permissions.now) result }
         ensures after { OnOk result (access_view_over P.eq self.now changes.new ≡ after P.eq
             (access_view_over P.eq self.now changes.old)
-            (record { signer = signer.now; entry = GrantFlat key.now permissions.now } ∷ [])) }
+            (record {
+              signer = origin.now.signer.now;
+              entry = GrantFlat key.now permissions.now;
+            } ∷ [])) }
     {
         self.check_begun(changes)?;
-        self.check_grant(version, key, permissions)?;
-        self.check_permissions(changes, signer, before, permissions)?;
+        self.check_grant(origin.version, key, permissions)?;
+        self.check_permissions(changes, origin.signer, before, permissions)?;
         let key_id = key.fingerprint(self.alloc)?.share()?;
         rights::put(&mut changes.keys, key_id.clone()?, key.clone()?)?;
+        let stood = Standing {
+            alloc: self.alloc,
+            sets: self.sets.as_slice(),
+            rights: &self.permissions,
+        };
         let added = &mut changes.sets;
         let given = &mut changes.permissions;
-        rights::give(
-            self.alloc,
-            self.sets.as_slice(),
-            added,
-            &self.permissions,
-            given,
-            key_id,
-            permissions,
-        )?;
+        rights::give(&stood, added, given, key_id, permissions)?;
         Ok(())
     }
 
@@ -263,11 +259,14 @@ impl<P: LogPermission> Authority<P> {
     {
         self.check_begun(changes)?;
         self.check_permissions(changes, signer, before, permissions)?;
+        let stood = Standing {
+            alloc: self.alloc,
+            sets: self.sets.as_slice(),
+            rights: &self.permissions,
+        };
         let missing = rights::take_all(
-            self.alloc,
-            self.sets.as_slice(),
+            &stood,
             &mut changes.sets,
-            &self.permissions,
             &mut changes.permissions,
             key_id,
             permissions,

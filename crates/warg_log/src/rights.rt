@@ -6,13 +6,21 @@ ghost use Rattle.std.specs.Option.{option_copied, option_or};
 ghost use Rattle.std.specs.Str.{bytes_eq};
 ghost use Rattle.indexmap.specs.IndexSet.{contains};
 ghost use Rattle.warg_permissions.specs.Permissions.{lists};
-ghost use Rattle.warg_log.specs.Rights.{is_listed, holds_in, layered, held_over, has_entry_over, first_missing};
+ghost use Rattle.warg_log.specs.Rights.{is_listed, holds_in, value_over, held_over, has_entry_over, first_missing};
 
 use crate::permission_set::{PermissionSet, find_shared, share};
 use indexmap::{IndexMap, IndexSet};
 use std::alloc::{AllocError, Global};
 use warg_crypto::signing::KeyID;
 use warg_permissions::LogPermission;
+
+/// The permissions that stand before a record, by key id, and the sets that keys share.
+#[derive(Clone, Copy)]
+pub(crate) struct Standing<'a, P: LogPermission> {
+    pub(crate) alloc: Global,
+    pub(crate) sets: &'a [PermissionSet<P>],
+    pub(crate) rights: &'a IndexMap<KeyID, PermissionSet<P>>,
+}
 
 /// Whether the permission is among those held.
 pub(crate) fn is_among<P: LogPermission>(held: Option<&PermissionSet<P>>, permission: P) -> bool
@@ -35,7 +43,7 @@ pub(crate) fn holds<P: LogPermission>(
     is_among(rights.get(key_id), permission)
 }
 
-/// What is at the key id: as the changes say, else as it stood before them.
+/// The value of the key id: that of the changes if they have one, else the one from before them.
 pub(crate) fn look<'a, X>(
     stood: Option<&'a X>,
     changes: &'a IndexMap<KeyID, X>,
@@ -60,8 +68,8 @@ pub(crate) fn put<X: Drop>(
     value: X,
 ) -> Result<(), AllocError>
     ensures { OnOk result ((base : List (List ℕ × X)) (k : List ℕ) →
-        layered base changes.new.entries k
-        ≡ (if bytes_eq key_id k then Some value else layered base changes.old.entries k)) }
+        value_over base changes.new.entries k
+        ≡ (if bytes_eq key_id k then Some value else value_over base changes.old.entries k)) }
 {
     changes.insert(key_id, value)?;
     Ok(())
@@ -102,8 +110,7 @@ fn add_all<P: LogPermission>(set: &mut IndexSet<P>, permissions: &[P]) -> Result
 /// What is held, if anything is, and the permissions beside. Where nothing is held, no set is made if one that is known
 /// lists just these.
 fn with_permissions<P: LogPermission>(
-    alloc: Global,
-    known: &[PermissionSet<P>],
+    stood: &Standing<'_, P>,
     added: &mut Vec<PermissionSet<P>>,
     held: Option<&PermissionSet<P>>,
     permissions: &[P],
@@ -112,41 +119,41 @@ fn with_permissions<P: LogPermission>(
         ≡ (is_listed P.eq (option_copied held.entry) p || lists P.eq permissions.now p)) }
 {
     if held.is_none() {
-        if let Some(set) = find_shared(known, added.as_slice(), permissions) {
+        if let Some(set) = find_shared(stood.sets, added.as_slice(), permissions) {
             return set.try_clone();
         }
     }
-    let mut set = copy_held(alloc, held)?;
+    let mut set = copy_held(stood.alloc, held)?;
     add_all(&mut set, permissions)?;
-    share(alloc, known, added, set)
+    share(stood.alloc, stood.sets, added, set)
 }
 
 /// Gives the key the permissions, among the changes, and an entry even where there are none.
 pub(crate) fn give<P: LogPermission>(
-    alloc: Global,
-    known: &[PermissionSet<P>],
+    stood: &Standing<'_, P>,
     added: &mut Vec<PermissionSet<P>>,
-    base: &IndexMap<KeyID, PermissionSet<P>>,
     changes: &mut IndexMap<KeyID, PermissionSet<P>>,
     key_id: KeyID,
     permissions: &[P],
 ) -> Result<(), AllocError>
-    ensures holds { OnOk result ((k : List ℕ) (p : P) → held_over P.eq base.now changes.new k p
+    ensures holds { OnOk result ((k : List ℕ) (p : P) →
+        held_over P.eq stood.now.rights.now changes.new k p
         ≡ (if bytes_eq key_id k && lists P.eq permissions.now p then true else held_over P.eq
-        base.now changes.old k p)) }
-    ensures entries { OnOk result ((k : List ℕ) → has_entry_over base.now changes.new k ≡
-        (has_entry_over base.now changes.old k || bytes_eq key_id k)) }
+        stood.now.rights.now changes.old k p)) }
+    ensures entries { OnOk result ((k : List ℕ) →
+        has_entry_over stood.now.rights.now changes.new k ≡
+        (has_entry_over stood.now.rights.now changes.old k || bytes_eq key_id k)) }
 {
     if let Some(held) = changes.get_mut(&key_id) {
-        *held = with_permissions(alloc, known, added, Some(&*held), permissions)?;
+        *held = with_permissions(stood, added, Some(&*held), permissions)?;
         return Ok(());
     }
-    let set = with_permissions(alloc, known, added, base.get(&key_id), permissions)?;
+    let set = with_permissions(stood, added, stood.rights.get(&key_id), permissions)?;
     put(changes, key_id, set)?;
     Ok(())
 }
 
-/// Takes the permissions from the set, in order, up to the first that is not in it any more, which it answers.
+/// Takes the permissions from the set, in order. Where one is not in the set, or no longer, it stops and answers that one.
 fn remove_all<P: LogPermission>(set: &mut IndexSet<P>, permissions: &[P]) -> Option<P>
     ensures missing { result ≡ first_missing P.eq (contains P.eq set.old) [] permissions.now }
     ensures taken { IfNone result ((p : P) → contains P.eq set.new p
@@ -162,8 +169,7 @@ fn remove_all<P: LogPermission>(set: &mut IndexSet<P>, permissions: &[P]) -> Opt
 
 /// Takes the permissions from what is held, or answers the first that is not held any more.
 fn take_from<P: LogPermission>(
-    alloc: Global,
-    known: &[PermissionSet<P>],
+    stood: &Standing<'_, P>,
     added: &mut Vec<PermissionSet<P>>,
     held: &mut PermissionSet<P>,
     permissions: &[P],
@@ -176,42 +182,40 @@ fn take_from<P: LogPermission>(
     let mut set = copy_set(held)?;
     let missing = remove_all(&mut set, permissions);
     if missing.is_none() {
-        *held = share(alloc, known, added, set)?;
+        *held = share(stood.alloc, stood.sets, added, set)?;
     }
     Ok(missing)
 }
 
 /// Takes the permissions from the key, among the changes, or answers the first that it does not hold any more.
 pub(crate) fn take_all<P: LogPermission>(
-    alloc: Global,
-    known: &[PermissionSet<P>],
+    stood: &Standing<'_, P>,
     added: &mut Vec<PermissionSet<P>>,
-    base: &IndexMap<KeyID, PermissionSet<P>>,
     changes: &mut IndexMap<KeyID, PermissionSet<P>>,
     key_id: &KeyID,
     permissions: &[P],
 ) -> Result<Option<P>, AllocError>
     ensures missing { IfOk result (λ missing. missing ≡ first_missing P.eq
-        (held_over P.eq base.now changes.old key_id.now) [] permissions.now) }
+        (held_over P.eq stood.now.rights.now changes.old key_id.now) [] permissions.now) }
     ensures holds { IfOk result (λ missing. IfNone missing
-        ((k : List ℕ) (p : P) → held_over P.eq base.now changes.new k p
+        ((k : List ℕ) (p : P) → held_over P.eq stood.now.rights.now changes.new k p
         ≡ (if bytes_eq key_id.now k && lists P.eq permissions.now p then false else held_over P.eq
-        base.now changes.old k p))) }
+        stood.now.rights.now changes.old k p))) }
     ensures entries { IfOk result (λ missing. IfNone missing
-        ((k : List ℕ) → has_entry_over base.now changes.new k ≡
-        has_entry_over base.now changes.old k)) }
+        ((k : List ℕ) → has_entry_over stood.now.rights.now changes.new k ≡
+        has_entry_over stood.now.rights.now changes.old k)) }
 {
     if permissions.is_empty() {
         return Ok(None);
     }
     if let Some(held) = changes.get_mut(key_id) {
-        return take_from(alloc, known, added, held, permissions);
+        return take_from(stood, added, held, permissions);
     }
-    let Some(held) = base.get(key_id) else {
+    let Some(held) = stood.rights.get(key_id) else {
         return Ok(permissions.first().copied());
     };
     let mut set = held.try_clone()?;
-    if let Some(missing) = take_from(alloc, known, added, &mut set, permissions)? {
+    if let Some(missing) = take_from(stood, added, &mut set, permissions)? {
         return Ok(Some(missing));
     }
     put(changes, key_id.clone()?, set)?;

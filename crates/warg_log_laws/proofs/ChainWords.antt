@@ -11,9 +11,9 @@ use Rattle.warg_validator.specs.Kinds.{SignatureRelation, KindLaws, IsAccepted}
 use Rattle.warg_audited_log.specs.declared.link.Link.{Link}
 use Rattle.warg_audited_log.specs.Chains.{Entry, first_place, IsLastGift, IsChainBack, IsChainAnswer}
 use Rattle.warg_log.specs.Forms.{is_init, OneInitFirst}
-use Rattle.warg_log.specs.History.{Placed, history_of}
+use Rattle.warg_log.specs.History.{PlacedEvent, history_of}
 use Rattle.warg_log.specs.Listings.{IsGift}
-use Rattle.warg_log.specs.LogKind.{effects_of, kind_of, opened}
+use Rattle.warg_log.specs.KindOfRules.{effects_of, kind_of, signed_record_of}
 use Rattle.warg_log.specs.Rules.{Rules, Event}
 use Rattle.warg_log.proofs.FormLaws.{accepted-form}
 use Rattle.warg_log.proofs.ListingLaws.{gift}
@@ -37,29 +37,29 @@ module _ {P O : Type 0} (same : P → P → Bool) (p : P) where
   grant_gift k signer (EntryData.Own o) is g = absurd g
 
   -- one grant more
-  passed-more : (giver : List ℕ) (es : List (Placed (EntryData P O))) (mid : List ℕ) (x : Placed (EntryData P O)) (k : List ℕ) → PassOn same p giver es mid → x.event.signer ≡ mid → IsGrantTo same p k x.event.entry → PassOn same p giver (es ++ x ∷ []) k
+  passed-more : (giver : List ℕ) (es : List (PlacedEvent (EntryData P O))) (mid : List ℕ) (x : PlacedEvent (EntryData P O)) (k : List ℕ) → PassOn same p giver es mid → x.event.signer ≡ mid → IsGrantTo same p k x.event.entry → PassOn same p giver (es ++ x ∷ []) k
   passed-more giver [] mid x k passed signed grant = (signed ∙ sym passed, (k, grant, refl))
   passed-more giver (e ∷ es) mid x k passed signed grant = (passed.0, (passed.1.0, passed.1.1, passed-more passed.1.0 es mid x k passed.1.2 signed grant))
 
-rising-pairs : {A : Type 0} (es : List (Placed A)) → Rises es → AllPairs IsBefore (map place_of es)
+rising-pairs : {A : Type 0} (es : List (PlacedEvent A)) → Rises es → AllPairs IsBefore (map place_of es)
 rising-pairs [] r = λ i j d lt within. absurd (omega (arith, within))
 rising-pairs (e ∷ es) r =
     AllPairs-cons IsBefore (place_of e) (map place_of es)
     (All-from_recursion (IsBefore (place_of e)) (map place_of es) (each-map place_of (IsBefore (place_of e)) es r.0))
     (rising-pairs es r.1)
 
-module _ {P O : Type 0} (same : P → P → Bool) (p : P) (h : List (Placed (EntryData P O))) (rises : Rises h) (begins : OneInitFirst h) where
+module _ {P O : Type 0} (same : P → P → Bool) (p : P) (h : List (PlacedEvent (EntryData P O))) (rises : Rises h) (begins : OneInitFirst h) where
   abbrev entries : List (Entry P)
   entries = map (entry_of same) h
 
   -- x is one of the first n
-  abbrev IsAmong : ℕ → Placed (EntryData P O) → Type 0
+  abbrev IsAmong : ℕ → PlacedEvent (EntryData P O) → Type 0
   IsAmong n x = (i : ℕ) × ((i < n) × (slice_get h i ≡ Some x))
 
   -- what a chain back from k's permission over the first n entries is
   record Found (n : ℕ) (k : List ℕ) (links : List Link) : Type 0 where
-    init : Placed (EntryData P O)
-    grants : List (Placed (EntryData P O))
+    init : PlacedEvent (EntryData P O)
+    grants : List (PlacedEvent (EntryData P O))
     places : map place_of (init ∷ grants) ≡ links
     among : AllByRecursion (IsAmong n) (init ∷ grants)
     rising : Rises (init ∷ grants)
@@ -70,7 +70,7 @@ module _ {P O : Type 0} (same : P → P → Bool) (p : P) (h : List (Placed (Ent
   init_place = λ i. record { record_index = begins.first_record i; entry_index = begins.first_entry i }
 
   init_at : (n : ℕ) × ((slice_get h n ≡ Some begins.init) × (is_init begins.init.event.entry ≡ true))
-  init_at = filter_first (λ (e : Placed (EntryData P O)). is_init e.event.entry) h begins.init [] begins.only
+  init_at = filter_first (λ (e : PlacedEvent (EntryData P O)). is_init e.event.entry) h begins.init [] begins.only
 
   below : (a b c : ℕ) → a < b → b < c → a < c
   below a b c lt le = omega (arith, lt, le)
@@ -82,7 +82,7 @@ module _ {P O : Type 0} (same : P → P → Bool) (p : P) (h : List (Placed (Ent
       at : (j < n) × (slice_get entries j ≡ Some e)
       at = take_at entries n j e last.at
 
-      x : (y : Placed (EntryData P O)) × ((slice_get h j ≡ Some y) × (entry_of same y ≡ e))
+      x : (y : PlacedEvent (EntryData P O)) × ((slice_get h j ≡ Some y) × (entry_of same y ≡ e))
       x = mapped_at (entry_of same) h j e at.1
 
       gives : IsGift same k p x.0.event.signer x.0.event.entry
@@ -91,7 +91,7 @@ module _ {P O : Type 0} (same : P → P → Bool) (p : P) (h : List (Placed (Ent
       -- the log's Init stands before all grants
       no_init : is_init x.0.event.entry ≡ true → ⊥
       no_init is =
-          let one : x.0 ≡ begins.init = filter_only (λ (e : Placed (EntryData P O)). is_init e.event.entry) h begins.init begins.only j x.0 x.1.0 is in
+          let one : x.0 ≡ begins.init = filter_only (λ (e : PlacedEvent (EntryData P O)). is_init e.event.entry) h begins.init begins.only j x.0 x.1.0 is in
           let first = rest.among.0 in
           none_before_first (place_of rest.init) (place_of x.0) (ap place_of one ∙ init_place) (rises-at h rises first.0 j rest.init x.0 first.1.0 first.1.1 x.1.0)
 
@@ -131,7 +131,7 @@ module _ {P O : Type 0} (same : P → P → Bool) (p : P) (h : List (Placed (Ent
         among = ((c.0, (at.0, x.1.0)), tt);
         rising = (tt, tt);
         first = is;
-        passed = init_gift same p k x.0.event.signer x.0.event.entry (ap (λ (y : Placed (EntryData P O)). is_init y.event.entry) is ∙ init_at.1.1) gives;
+        passed = init_gift same p k x.0.event.signer x.0.event.entry (ap (λ (y : PlacedEvent (EntryData P O)). is_init y.event.entry) is ∙ init_at.1.1) gives;
       }
   found n k (l ∷ m ∷ ms) c =
       found-more n k l m ms c.0 c.1 c.2 c.3
@@ -149,16 +149,16 @@ module _ {P O : Type 0} (same : P → P → Bool) (p : P) (h : List (Placed (Ent
         places = places;
         within = All-from_recursion (Contains h) (f.init ∷ f.grants) (each-weaker (IsAmong (length entries)) (Contains h) (λ y a. contains_at h a.0 y a.1.1) (f.init ∷ f.grants) f.among);
         rising = subst (AllPairs IsBefore) places (rising-pairs (f.init ∷ f.grants) f.rising);
-        first = ap (λ (l : List (Placed (EntryData P O))). slice_get l 0) begins.only ∙ ap (λ (e : Placed (EntryData P O)). Some e) (sym f.first);
+        first = ap (λ (l : List (PlacedEvent (EntryData P O))). slice_get l 0) begins.only ∙ ap (λ (e : PlacedEvent (EntryData P O)). Some e) (sym f.first);
         passed = f.passed;
       }
 
 module _ {P O V F D : Type 0} (rules : Rules P O V F) (same : P → P → Bool) (read : List ℕ → Result (RecordData P O) D) (own_state : List (Event O) → V) (b : SignatureRelation) (laws : KindLaws (kind_of rules same read own_state)) where
   -- the chain of an accepted log, in the words of its history
   pub accepted-chain : (es : List EnvelopeData) → IsAccepted (kind_of rules same read own_state) b es → (k : List ℕ) (p : P) (links : List Link)
-      → IsChainAnswer (effects_of rules same read) es k p (Some links) → IsChainOfGrants same p (history_of rules.id_of (map (opened rules same read) es)) k links
+      → IsChainAnswer (effects_of rules same read) es k p (Some links) → IsChainOfGrants same p (history_of rules.id_of (map (signed_record_of rules same read) es)) k links
   accepted-chain [] h k p links answer = absurd (true≢false (sym answer.0))
   accepted-chain (e ∷ es) h k p links answer =
       let form = accepted-form rules same read own_state b laws (e ∷ es) (omega arith) h in
-      chain-words same p (history_of rules.id_of (map (opened rules same read) (e ∷ es))) (history-rises rules.id_of (map (opened rules same read) (e ∷ es))) form.begins k links
+      chain-words same p (history_of rules.id_of (map (signed_record_of rules same read) (e ∷ es))) (history-rises rules.id_of (map (signed_record_of rules same read) (e ∷ es))) form.begins k links
       (subst (λ (l : List (Entry P)). IsChainBack l k p (reverse links)) (entries-history rules same read (e ∷ es)) answer.1)

@@ -6,7 +6,7 @@ use Rattle.std.specs.Option.{option_map, option_or}
 use Rattle.std.proofs.lemmas.List.Elements.{filter_map-append}
 use Rattle.std.proofs.lemmas.List.{take-append-drop}
 use Rattle.warg_crypto.specs.NamedBytes.{fingerprint_of}
-use Rattle.warg_crypto.specs.Times.{Time}
+use Rattle.warg_time.specs.Times.{Time}
 use Rattle.warg_permissions.specs.Permissions.{lists}
 use Rattle.warg_envelope.specs.EnvelopeData.{EnvelopeData}
 use Rattle.warg_records.specs.RecordData.{EntryData, Init, GrantFlat, RevokeFlat, RecordData}
@@ -14,13 +14,13 @@ use Rattle.warg_records.specs.declared.record_id.RecordId.{RecordId}
 use Rattle.warg_validator.specs.Kinds.{SignatureRelation, Kind, IsAccepted}
 use Rattle.warg_validator.specs.Walks as walk
 use Rattle.warg_validator.proofs.WalkLaws as walks
-use Rattle.warg_log.specs.History.{Placed, record_history, history_of, access_view_of, owns, own_after, own_offence}
-use Rattle.warg_log.specs.LogKind.{kind_of, opened}
-use Rattle.warg_log.specs.Offences.{lacks_required, not_begun, empty_grant, UnauthorizedAction}
-use Rattle.warg_log.specs.Rules.{SignedRecord, Event, Rules, StateView, View, Wrong, signed_entry_of, own_of, record_events, state_view_after, entry_fault, events_offence}
+use Rattle.warg_log.specs.History.{PlacedEvent, record_history, history_of, access_view_of, own_events, own_after, own_offence}
+use Rattle.warg_log.specs.KindOfRules.{kind_of, signed_record_of}
+use Rattle.warg_log.specs.Offences.{required_offence, not_begun, empty_grant, UnauthorizedAction}
+use Rattle.warg_log.specs.Rules.{SignedRecord, Event, Rules, StateView, View, LogOffence, signed_entry_of, own_of, record_events, state_view_after, entry_fault, events_offence}
 use Rattle.warg_log.specs.Rules as rule
-use Rattle.warg_log.specs.SignedEntries.{after, nothing}
-use Rattle.warg_log.proofs.AcceptedOwns.{accepted-owns, owns-listed}
+use Rattle.warg_log.specs.SignedEntries.{after, empty_access}
+use Rattle.warg_log.proofs.AcceptedOwnEvents.{accepted-own_events, own_events-listed}
 use Rattle.warg_log.proofs.Firsts.{or_first, or_second, unmapped}
 use Rattle.warg_log.proofs.FormLaws.{lawful}
 use Rattle.warg_log.proofs.HistoryLaws.{state-none, state-append}
@@ -42,12 +42,12 @@ later-second None (Some p) = refl
 
 module _ {P O V F : Type 0} (rules : Rules P O V F) (same : P → P → Bool) (none : (v : V) → v ≡ rules.after v []) (append : (v : V) (xs ys : List (Event O)) → rules.after v (xs ++ ys) ≡ rules.after (rules.after v xs) ys) where
   -- what stands after one more entry
-  abbrev next : StateView P V → Placed (EntryData P O) → StateView P V
+  abbrev next : StateView P V → PlacedEvent (EntryData P O) → StateView P V
   next w e = state_view_after rules same w (e.event ∷ [])
 
   module _ (version : ℕ) where
     -- what is wrong with the events of entries is what is wrong with the first that has an offence
-    events-first : (w : StateView P V) (before : List (Event (EntryData P O))) (xs : List (Placed (EntryData P O)))
+    events-first : (w : StateView P V) (before : List (Event (EntryData P O))) (xs : List (PlacedEvent (EntryData P O)))
         → events_offence rules same version w before (map (λ e. e.event) xs) ≡ second (walk.first_from next (entry_offence rules same version) (state_view_after rules same w before) xs)
     events-first w before [] = refl
     events-first w before (x ∷ xs) =
@@ -58,7 +58,7 @@ module _ {P O V F : Type 0} (rules : Rules P O V F) (same : P → P → Bool) (n
         ∙ later-second (entry_offence rules same version v x) (walk.first_from next (entry_offence rules same version) (next v x) xs)
 
     -- where nothing is wrong with the events, each entry is lawful
-    events-lawful : (w : StateView P V) (before : List (Event (EntryData P O))) (xs : List (Placed (EntryData P O))) → events_offence rules same version w before (map (λ e. e.event) xs) ≡ None
+    events-lawful : (w : StateView P V) (before : List (Event (EntryData P O))) (xs : List (PlacedEvent (EntryData P O))) → events_offence rules same version w before (map (λ e. e.event) xs) ≡ None
         → walk.AllLawful next (entry_offence rules same version) (state_view_after rules same w before) xs
     events-lawful w before [] h = tt
     events-lawful w before (x ∷ xs) h =
@@ -69,7 +69,7 @@ module _ {P O V F : Type 0} (rules : Rules P O V F) (same : P → P → Bool) (n
         )
 
     -- the view after entries, one by one, is that after their events
-    view-events : (w : StateView P V) (before : List (Event (EntryData P O))) (xs : List (Placed (EntryData P O)))
+    view-events : (w : StateView P V) (before : List (Event (EntryData P O))) (xs : List (PlacedEvent (EntryData P O)))
         → walk.view_after next (state_view_after rules same w before) xs ≡ state_view_after rules same w (before ++ map (λ e. e.event) xs)
     view-events w before [] = ap (state_view_after rules same w) (sym (append-nil before))
     view-events w before (x ∷ xs) =
@@ -83,26 +83,26 @@ module _ {P O V F : Type 0} (rules : Rules P O V F) (same : P → P → Bool) (n
         → Lawful rules same none append w.own_state (cons_option (own_of (record { entry = r; signer = signer; time = time; record_id = id })) [])
     own-lawful version w signer time id (EntryData.Shared entry) h = tt
     own-lawful version w signer time id (EntryData.Own o) h =
-        let own = or_second (option_map Wrong.Shared (lacks_required w.authority signer (rules.required (EntryData.Own o)))) (entry_fault rules same version w signer (EntryData.Own o)) h in
-        (unmapped Wrong.Own (rules.offence w.own_state o) (or_second (option_map Wrong.Shared (not_begun w.authority)) (option_map Wrong.Own (rules.offence w.own_state o)) own), tt)
+        let own = or_second (option_map LogOffence.Shared (required_offence w.authority signer (rules.required (EntryData.Own o)))) (entry_fault rules same version w signer (EntryData.Own o)) h in
+        (unmapped LogOffence.Own (rules.offence w.own_state o) (or_second (option_map LogOffence.Shared (not_begun w.authority)) (option_map LogOffence.Own (rules.offence w.own_state o)) own), tt)
 
     -- the entries whose own events are lawful
-    abbrev Good : List (Placed (EntryData P O)) → Type 0
-    Good h = Lawful rules same none append rules.start (owns h)
+    abbrev Good : List (PlacedEvent (EntryData P O)) → Type 0
+    Good h = Lawful rules same none append rules.start (own_events h)
 
-    module _ (h : List (Placed (EntryData P O))) (x : Placed (EntryData P O)) where
+    module _ (h : List (PlacedEvent (EntryData P O))) (x : PlacedEvent (EntryData P O)) where
       abbrev own_more : List (Event O)
       own_more = cons_option (own_of x.event) []
 
-      owns-push : owns (h ++ x ∷ []) ≡ owns h ++ own_more
-      owns-push = filter_map-append (λ (e : Placed (EntryData P O)). own_of e.event) h (x ∷ [])
+      own_events-push : own_events (h ++ x ∷ []) ≡ own_events h ++ own_more
+      own_events-push = filter_map-append (λ (e : PlacedEvent (EntryData P O)). own_of e.event) h (x ∷ [])
 
       authority-push : access_view_of same (h ++ x ∷ []) ≡ after same (access_view_of same h) (filter_map signed_entry_of (x.event ∷ []))
       authority-push =
           access-view-listed rules.id_of same (h ++ x ∷ [])
-          ∙ ap (λ l. after same nothing (filter_map signed_entry_of l)) (map-join (λ (e : Placed (EntryData P O)). e.event) h (x ∷ []))
-          ∙ ap (after same nothing) (filter_map-append signed_entry_of (map (λ (e : Placed (EntryData P O)). e.event) h) (x.event ∷ []))
-          ∙ after-append same nothing (signed_entries_in rules.id_of h) (filter_map signed_entry_of (x.event ∷ []))
+          ∙ ap (λ l. after same empty_access (filter_map signed_entry_of l)) (map-join (λ (e : PlacedEvent (EntryData P O)). e.event) h (x ∷ []))
+          ∙ ap (after same empty_access) (filter_map-append signed_entry_of (map (λ (e : PlacedEvent (EntryData P O)). e.event) h) (x.event ∷ []))
+          ∙ after-append same empty_access (signed_entries_in rules.id_of h) (filter_map signed_entry_of (x.event ∷ []))
           ∙ ap (λ s. after same s (filter_map signed_entry_of (x.event ∷ []))) (sym (access-view-listed rules.id_of same h))
 
       -- a lawful entry more
@@ -110,19 +110,19 @@ module _ {P O V F : Type 0} (rules : Rules P O V F) (same : P → P → Bool) (n
           → Good (h ++ x ∷ []) × (state_view_of same own_state (h ++ x ∷ []) ≡ next (state_view_of same own_state h) x)
       entry-more version good none_wrong =
           let own = own-lawful version (state_view_of same own_state h) x.event.signer x.event.time x.event.record_id x.event.entry none_wrong in
-          let listed = owns-listed rules same read_nothing own_state none append by_list (owns h) good in
-          let joined : Lawful rules same none append rules.start (owns h ++ own_more) =
-          walks.lawful-append (own_after rules) (own_offence rules) rules.start (owns h) own_more good
+          let listed = own_events-listed rules same read_nothing own_state none append by_list (own_events h) good in
+          let joined : Lawful rules same none append rules.start (own_events h ++ own_more) =
+          walks.lawful-append (own_after rules) (own_offence rules) rules.start (own_events h) own_more good
           (subst (λ (v : V). Lawful rules same none append v own_more) listed own) in
-          let own_states : own_state (owns (h ++ x ∷ [])) ≡ rules.after (own_state (owns h)) own_more =
-          ap own_state owns-push ∙ by_list (owns h ++ own_more) joined ∙ append rules.start (owns h) own_more ∙ ap (λ (v : V). rules.after v own_more) (sym (by_list (owns h) good)) in
-          (subst (Lawful rules same none append rules.start) (sym owns-push) joined, λ i. record { authority = authority-push i; own_state = own_states i })
+          let own_states : own_state (own_events (h ++ x ∷ [])) ≡ rules.after (own_state (own_events h)) own_more =
+          ap own_state own_events-push ∙ by_list (own_events h ++ own_more) joined ∙ append rules.start (own_events h) own_more ∙ ap (λ (v : V). rules.after v own_more) (sym (by_list (own_events h) good)) in
+          (subst (Lawful rules same none append rules.start) (sym own_events-push) joined, λ i. record { authority = authority-push i; own_state = own_states i })
         where
           read_nothing : List ℕ → Result (RecordData P O) ℕ
           read_nothing content = Err 0
 
     -- entries after a history are asked one by one
-    entries-stepwise : (version : ℕ) (h : List (Placed (EntryData P O))) → Good h
+    entries-stepwise : (version : ℕ) (h : List (PlacedEvent (EntryData P O))) → Good h
         → walk.IsStepwise next (entry_offence rules same version) (state_view_of same own_state h) (λ before. state_view_of same own_state (h ++ before)) (λ before. Good (h ++ before))
     entries-stepwise version h good = record {
       none = ap (state_view_of same own_state) (append-nil h);
@@ -134,15 +134,15 @@ module _ {P O V F : Type 0} (rules : Rules P O V F) (same : P → P → Bool) (n
     }
 
     module _ {D : Type 0} (read : List ℕ → Result (RecordData P O) D) (b : SignatureRelation) where
-      abbrev k : Kind (View P V) (Wrong P F)
+      abbrev k : Kind (View P V) (LogOffence P F)
       k = kind_of rules same read own_state
 
-      abbrev history : List EnvelopeData → List (Placed (EntryData P O))
-      history es = history_of rules.id_of (map (opened rules same read) es)
+      abbrev history : List EnvelopeData → List (PlacedEvent (EntryData P O))
+      history es = history_of rules.id_of (map (signed_record_of rules same read) es)
 
       module _ (es : List EnvelopeData) (accepted : IsAccepted k b es) (version : ℕ) where
         good : Good (history es)
-        good = accepted-owns rules same read own_state none append by_list b es accepted
+        good = accepted-own_events rules same read own_state none append by_list b es accepted
 
         steps : walk.IsStepwise next (entry_offence rules same version) (k.view_of es).state (λ before. state_view_of same own_state (history es ++ before)) (λ before. Good (history es ++ before))
         steps = entries-stepwise version (history es) good
@@ -151,7 +151,7 @@ module _ {P O V F : Type 0} (rules : Rules P O V F) (same : P → P → Bool) (n
         start_is = sym (state-none rules same none append (k.view_of es).state)
 
         -- after lawful entries the view that is asked is that of the one list
-        pub view-within : (before : List (Placed (EntryData P O))) → events_offence rules same version (k.view_of es).state [] (map (λ e. e.event) before) ≡ None
+        pub view-within : (before : List (PlacedEvent (EntryData P O))) → events_offence rules same version (k.view_of es).state [] (map (λ e. e.event) before) ≡ None
             → state_view_after rules same (k.view_of es).state (map (λ e. e.event) before) ≡ state_view_of same own_state (history es ++ before)
         view-within before h =
             let one_by_one = subst (λ (w : StateView P V). walk.AllLawful next (entry_offence rules same version) w before) start_is (events-lawful version (k.view_of es).state [] before h) in
@@ -160,7 +160,7 @@ module _ {P O V F : Type 0} (rules : Rules P O V F) (same : P → P → Bool) (n
             ∙ view-events version (k.view_of es).state [] before)
 
         -- what is wrong with entries that come next is what is wrong with the first that has an offence after the one list before it
-        pub first-within : (xs : List (Placed (EntryData P O))) → (found : Option (ℕ × Wrong P F)) × (walk.IsFound (entry_offence rules same version) (λ before. state_view_of same own_state (history es ++ before)) xs found
+        pub first-within : (xs : List (PlacedEvent (EntryData P O))) → (found : Option (ℕ × LogOffence P F)) × (walk.IsFound (entry_offence rules same version) (λ before. state_view_of same own_state (history es ++ before)) xs found
             × (events_offence rules same version (k.view_of es).state [] (map (λ e. e.event) xs) ≡ option_map (λ f. f.1) found))
         first-within xs = (
           walk.first_from next (entry_offence rules same version) (k.view_of es).state xs,
@@ -171,7 +171,7 @@ module _ {P O V F : Type 0} (rules : Rules P O V F) (same : P → P → Bool) (n
         )
 
         -- where nothing is wrong with the entries, none has an offence after the one list before it
-        pub lawful-within : (xs : List (Placed (EntryData P O))) → events_offence rules same version (k.view_of es).state [] (map (λ e. e.event) xs) ≡ None
+        pub lawful-within : (xs : List (PlacedEvent (EntryData P O))) → events_offence rules same version (k.view_of es).state [] (map (λ e. e.event) xs) ≡ None
             → walk.IsAccepted (entry_offence rules same version) (λ before. state_view_of same own_state (history es ++ before)) xs
         lawful-within xs h =
             walks.lawful-accepted (entry_offence rules same version) next (k.view_of es).state (λ before. state_view_of same own_state (history es ++ before)) (λ before. Good (history es ++ before)) steps xs
@@ -182,11 +182,11 @@ module _ {P O V F : Type 0} (rules : Rules P O V F) (same : P → P → Bool) (n
       placed-events n r = record_flat rules.id_of n 0 r r.contents.entries
 
       -- in an accepted log no entry has an offence after the one list of all entries before it
-      pub accepted-entries : (es : List EnvelopeData) → IsAccepted k b es → (i : ℕ) (r : SignedRecord P O) → slice_get (map (opened rules same read) es) i ≡ Some r
+      pub accepted-entries : (es : List EnvelopeData) → IsAccepted k b es → (i : ℕ) (r : SignedRecord P O) → slice_get (map (signed_record_of rules same read) es) i ≡ Some r
           → walk.IsAccepted (entry_offence rules same r.contents.version) (λ before. state_view_of same own_state (history (take i es) ++ before)) (record_history rules.id_of (i, r))
       accepted-entries es accepted i r at =
-          let e = mapped_at (opened rules same read) es i r at in
-          let here = lawful rules same b (k.view_of (take i es)) (opened rules same read e.0) (read_lawful rules same read own_state b (k.view_of (take i es)) e.0 (read e.0.content) (accepted i e.0 e.1.0)) in
+          let e = mapped_at (signed_record_of rules same read) es i r at in
+          let here = lawful rules same b (k.view_of (take i es)) (signed_record_of rules same read e.0) (read_lawful rules same read own_state b (k.view_of (take i es)) e.0 (read e.0.content) (accepted i e.0 e.1.0)) in
           let events : events_offence rules same r.contents.version (k.view_of (take i es)).state [] (record_events rules.id_of r) ≡ None =
           subst (λ (x : SignedRecord P O). events_offence rules same x.contents.version (k.view_of (take i es)).state [] (record_events rules.id_of x) ≡ None) e.1.1 here.events in
           lawful-within (take i es) (front i) r.contents.version (record_history rules.id_of (i, r))
@@ -205,13 +205,13 @@ module _ {P O V F : Type 0} (rules : Rules P O V F) (same : P → P → Bool) (s
       by true is later = ap h (sym (same_is q p is)) ∙ not_false (h q) (find_none (λ q. not (h q)) q qs none).0
       by false is later = later (sym (ap (λ b. b || lists same qs p) is) ∙ any)
 
-  pub grant-held : (version : ℕ) (w : StateView P V) (x : Placed (EntryData P O)) (k : List ℕ) (p : P) → entry_offence rules same version w x ≡ None → IsGrantTo same p k x.event.entry → w.authority.holds x.event.signer p ≡ true
-  grant-held version w x k p h grant = by x.event.entry (or_second (option_map Wrong.Shared (lacks_required w.authority x.event.signer (rules.required x.event.entry))) _ h) grant
+  pub grant-held : (version : ℕ) (w : StateView P V) (x : PlacedEvent (EntryData P O)) (k : List ℕ) (p : P) → entry_offence rules same version w x ≡ None → IsGrantTo same p k x.event.entry → w.authority.holds x.event.signer p ≡ true
+  grant-held version w x k p h grant = by x.event.entry (or_second (option_map LogOffence.Shared (required_offence w.authority x.event.signer (rules.required x.event.entry))) _ h) grant
     where
       by : (r : EntryData P O) → entry_fault rules same version w x.event.signer r ≡ None → IsGrantTo same p k r → w.authority.holds x.event.signer p ≡ true
       by (EntryData.Shared (Init algorithm key)) g grant = absurd grant
       by (EntryData.Shared (GrantFlat key ps)) g grant =
-          let rest = or_second (not_begun w.authority) _ (unmapped Wrong.Shared _ g) in
+          let rest = or_second (not_begun w.authority) _ (unmapped LogOffence.Shared _ g) in
           listed-held (w.authority.holds x.event.signer) p ps (unmapped (UnauthorizedAction x.event.signer) _ (or_second (empty_grant version (fingerprint_of key) ps) _ rest)) grant.1
       by (EntryData.Shared (RevokeFlat id ps)) g grant = absurd grant
       by (EntryData.Own o) g grant = absurd grant

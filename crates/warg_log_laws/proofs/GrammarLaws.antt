@@ -5,7 +5,7 @@ use Rattle.std.specs.List.{AllZip, cons_option}
 use Rattle.std.specs.Option.{option_map}
 use Rattle.warg_envelope.specs.EnvelopeData.{EnvelopeData}
 use Rattle.warg_validator.specs.Kinds.{SignatureRelation, Kind, KindLaws}
-use Rattle.warg_validator.specs.Outcomes.{IfTold, cause_next, HasNoOffence, IsFirstOffence, IsRun, IfStarted}
+use Rattle.warg_validator.specs.OutcomeRuns.{IfNamed, cause_next, HasNoOffence, IsFirstOffence, IsRun, IfStarted}
 use Rattle.warg_validator.specs.Strings.{Cause, Unread, Unlawful, ok, read_all, cause_of}
 use Rattle.warg_validator.specs.declared.replay.RunCause.{RunCause}
 use Rattle.warg_validator.specs.declared.replay.RunError.{RunError}
@@ -13,7 +13,7 @@ use Rattle.warg_validator.proofs.LogLaws.{strings-accepted}
 use Rattle.warg_log_laws.specs.Grammars.{IsCause, IsLog, IsReading}
 use Rattle.warg_log_laws.proofs.ListLemmas.{same_item, no_item, take-take}
 
-told-each : {C : Type 0} (o : Option C) (P Q : C → Type 0) → ((c : C) → P c → Q c) → IfTold o P → IfTold o Q
+told-each : {C : Type 0} (o : Option C) (P Q : C → Type 0) → ((c : C) → P c → Q c) → IfNamed o P → IfNamed o Q
 told-each None P Q each h = tt
 told-each (Some c) P Q each h = each c h
 
@@ -90,18 +90,18 @@ module _ {View Offence F : Type 0} (k : Kind View Offence) (laws : KindLaws k) (
   cause-is v s (Unread f) h = ap (cause_of (k.offence b) v) ((fault s f).1 h)
   cause-is v s (Unlawful o) h = ap (cause_of (k.offence b) v) ((value s h.0).1 h.1.0) ∙ ap (option_map Unlawful) h.1.1
 
-  module _ {S E : Type 0} (view : S → View) (told_by : RunCause E → Option (Cause F Offence)) (ss : List (List ℕ)) where
-    run-reading : (answer : Result S (RunError E)) → IsRun k b read k.view_of view told_by ◌≡◌ ss answer → IsReading k b IsEnvelope HasFault view told_by ss answer
+  module _ {S E : Type 0} (view : S → View) (named_by : RunCause E → Option (Cause F Offence)) (ss : List (List ℕ)) where
+    run-reading : (answer : Result S (RunError E)) → IsRun k b read k.view_of view named_by ◌≡◌ ss answer → IsReading k b IsEnvelope HasFault view named_by ss answer
     run-reading (Ok s) run = (read_all read ss, (log-of ss run.0, run.1))
     run-reading (Err error) run = record {
       within = run.in_range;
       before = read_all read (take error.index ss);
       log = log-of (take error.index ss) run.before;
-      first = told-each (told_by error.cause) (IsFirstOffence k b read k.view_of ss error.index) _
+      first = told-each (named_by error.cause) (IsFirstOffence k b read k.view_of ss error.index) _
           (λ c a. (a.item, (a.at, caused (k.view_of (read_all read (take error.index ss))) a.item c a.wrong))) run.first;
     }
 
-    reading-run : (answer : Result S (RunError E)) → IsReading k b IsEnvelope HasFault view told_by ss answer → IsRun k b read k.view_of view told_by ◌≡◌ ss answer
+    reading-run : (answer : Result S (RunError E)) → IsReading k b IsEnvelope HasFault view named_by ss answer → IsRun k b read k.view_of view named_by ◌≡◌ ss answer
     reading-run (Ok s) reading =
         let log = reading.1.0 in
         (no-offence ss reading.0 log, reading.1.1 ∙ ap k.view_of (sym (read-zipped ss reading.0 log.envelopes)))
@@ -111,7 +111,7 @@ module _ {View Offence F : Type 0} (k : Kind View Offence) (laws : KindLaws k) (
         record {
           in_range = reading.within;
           before = none;
-          first = told-each (told_by error.cause) _ (IsFirstOffence k b read k.view_of ss error.index)
+          first = told-each (named_by error.cause) _ (IsFirstOffence k b read k.view_of ss error.index)
               (λ c a. record {
                 item = a.0;
                 at = a.1.0;
@@ -127,10 +127,10 @@ module _ {View Offence F : Type 0} (k : Kind View Offence) (laws : KindLaws k) (
     started answer A B each (inr none) = inr none
 
     -- `run` by the grammar
-    pub run-by-grammar : (answer : Result S (RunError E)) → IfStarted (IsRun k b read k.view_of view told_by ◌≡◌ ss) answer ↔ IfStarted (IsReading k b IsEnvelope HasFault view told_by ss) answer
+    pub run-by-grammar : (answer : Result S (RunError E)) → IfStarted (IsRun k b read k.view_of view named_by ◌≡◌ ss) answer ↔ IfStarted (IsReading k b IsEnvelope HasFault view named_by ss) answer
     run-by-grammar answer = (
-      λ h. started answer (IsRun k b read k.view_of view told_by ◌≡◌ ss) (IsReading k b IsEnvelope HasFault view told_by ss) (run-reading answer) h,
-      λ h. started answer (IsReading k b IsEnvelope HasFault view told_by ss) (IsRun k b read k.view_of view told_by ◌≡◌ ss) (reading-run answer) h,
+      λ h. started answer (IsRun k b read k.view_of view named_by ◌≡◌ ss) (IsReading k b IsEnvelope HasFault view named_by ss) (run-reading answer) h,
+      λ h. started answer (IsReading k b IsEnvelope HasFault view named_by ss) (IsRun k b read k.view_of view named_by ◌≡◌ ss) (reading-run answer) h,
     )
 
   -- why a string can't come, by the grammar

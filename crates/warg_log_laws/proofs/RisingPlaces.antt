@@ -6,7 +6,7 @@ use Rattle.std.proofs.lemmas.List.Concat.{flat_map-cons}
 use Rattle.warg_records.specs.RecordData.{EntryData}
 use Rattle.warg_records.specs.declared.record_id.RecordId.{RecordId}
 use Rattle.warg_audited_log.specs.declared.link.Link.{Link}
-use Rattle.warg_log.specs.History.{Placed, placed_in, record_history, history_of}
+use Rattle.warg_log.specs.History.{PlacedEvent, placed_in, record_history, history_of}
 use Rattle.warg_log.specs.Rules.{SignedRecord}
 use Rattle.warg_log_laws.specs.GrantChains.{place_of, IsBefore}
 use Rattle.warg_log_laws.proofs.ListLemmas.{same_item, no_item, each-weaker, each-append, each-at}
@@ -34,25 +34,25 @@ compared (suc i) (suc j) = elim (compared i j) [
 
 module _ {A : Type 0} where
   -- each entry comes before all later ones
-  abbrev pub Rises : List (Placed A) → Type 0
+  abbrev pub Rises : List (PlacedEvent A) → Type 0
   Rises [] = Unit {0}
   Rises (e ∷ es) = AllByRecursion (λ x. IsBefore (place_of e) (place_of x)) es × Rises es
 
-  pub rises-append : (xs ys : List (Placed A)) → Rises xs → Rises ys → AllByRecursion (λ x. AllByRecursion (λ y. IsBefore (place_of x) (place_of y)) ys) xs → Rises (xs ++ ys)
+  pub rises-append : (xs ys : List (PlacedEvent A)) → Rises xs → Rises ys → AllByRecursion (λ x. AllByRecursion (λ y. IsBefore (place_of x) (place_of y)) ys) xs → Rises (xs ++ ys)
   rises-append [] ys h g between = g
   rises-append (x ∷ xs) ys h g between = (each-append (λ y. IsBefore (place_of x) (place_of y)) xs ys h.0 between.0, rises-append xs ys h.1 g between.1)
 
   -- of two places in the list the earlier one has the entry that comes before
-  pub rises-at : (h : List (Placed A)) → Rises h → (i j : ℕ) (x y : Placed A) → i < j → slice_get h i ≡ Some x → slice_get h j ≡ Some y → IsBefore (place_of x) (place_of y)
+  pub rises-at : (h : List (PlacedEvent A)) → Rises h → (i j : ℕ) (x y : PlacedEvent A) → i < j → slice_get h i ≡ Some x → slice_get h j ≡ Some y → IsBefore (place_of x) (place_of y)
   rises-at [] r i j x y lt at_x at_y = no_item x at_x
   rises-at (e ∷ es) r zero zero x y lt at_x at_y = absurd (omega (arith, lt))
   rises-at (e ∷ es) r zero (suc j) x y lt at_x at_y =
-      subst (λ (z : Placed A). IsBefore (place_of z) (place_of y)) (same_item e x at_x) (each-at (λ y. IsBefore (place_of e) (place_of y)) es r.0 j y at_y)
+      subst (λ (z : PlacedEvent A). IsBefore (place_of z) (place_of y)) (same_item e x at_x) (each-at (λ y. IsBefore (place_of e) (place_of y)) es r.0 j y at_y)
   rises-at (e ∷ es) r (suc i) zero x y lt at_x at_y = absurd (omega (arith, lt))
   rises-at (e ∷ es) r (suc i) (suc j) x y lt at_x at_y = rises-at es r.1 i j x y (omega (arith, lt)) at_x at_y
 
   -- two entries at one place are one
-  pub rises-one : (h : List (Placed A)) → Rises h → (i j : ℕ) (x y : Placed A) → slice_get h i ≡ Some x → slice_get h j ≡ Some y → place_of x ≡ place_of y → x ≡ y
+  pub rises-one : (h : List (PlacedEvent A)) → Rises h → (i j : ℕ) (x y : PlacedEvent A) → slice_get h i ≡ Some x → slice_get h j ≡ Some y → place_of x ≡ place_of y → x ≡ y
   rises-one h r i j x y at_x at_y is = elim (compared i j) [
     | inl lt ↦ absurd (never_before_itself (place_of x) (place_of y) is (rises-at h r i j x y lt at_x at_y))
     | inr rest ↦ elim rest [
@@ -62,7 +62,7 @@ module _ {A : Type 0} where
   ]
 
 module _ {P O : Type 0} (id_of : List ℕ → RecordId) where
-  abbrev IsIn : ℕ → ℕ → Placed (EntryData P O) → Type 0
+  abbrev IsIn : ℕ → ℕ → PlacedEvent (EntryData P O) → Type 0
   IsIn n m x = (x.record_place ≡ n) × (m ≤ x.entry_place)
 
   -- the entries of a record stand in it, from the first place on
@@ -84,7 +84,7 @@ module _ {P O : Type 0} (id_of : List ℕ → RecordId) where
   log-places : (k n : ℕ) (rs : List (SignedRecord P O)) → k ≤ n → AllByRecursion (λ x. k ≤ x.record_place) (flat_map (record_history id_of) (enumerate_from n rs))
   log-places k n [] le = tt
   log-places k n (r ∷ rs) le =
-      subst (AllByRecursion (λ (x : Placed (EntryData P O)). k ≤ x.record_place)) (sym (flat_map-cons (record_history id_of) (n, r) (enumerate_from (n + 1) rs)))
+      subst (AllByRecursion (λ (x : PlacedEvent (EntryData P O)). k ≤ x.record_place)) (sym (flat_map-cons (record_history id_of) (n, r) (enumerate_from (n + 1) rs)))
       (each-append (λ x. k ≤ x.record_place) (record_history id_of (n, r)) (flat_map (record_history id_of) (enumerate_from (n + 1) rs))
       (each-weaker (IsIn n 0) (λ x. k ≤ x.record_place) (λ x h. at_least k n x.record_place le h.0) (record_history id_of (n, r)) (record-places n 0 0 r r.contents.entries (omega arith)))
       (log-places k (n + 1) rs (omega (arith, le))))

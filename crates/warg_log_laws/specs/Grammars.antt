@@ -4,7 +4,7 @@ use Rattle.std.specs.Prelude.{◌≡◌, ℕ, ◌<◌, List, length, take, Optio
 use Rattle.std.specs.List.{AllZip}
 use Rattle.warg_envelope.specs.EnvelopeData.{EnvelopeData}
 use Rattle.warg_validator.specs.Kinds.{SignatureRelation, Kind, IsAccepted, StandsFor}
-use Rattle.warg_validator.specs.Outcomes.{IfTold}
+use Rattle.warg_validator.specs.OutcomeRuns.{IfNamed}
 use Rattle.warg_validator.specs.Strings.{Cause, Unread, Unlawful}
 use Rattle.warg_validator.specs.declared.replay.RunCause.{RunCause}
 use Rattle.warg_validator.specs.declared.replay.RunError.{RunError}
@@ -26,12 +26,12 @@ module _ {View Offence F : Type 0} (k : Kind View Offence) (b : SignatureRelatio
     pub within : place < length ss
     pub before : List EnvelopeData
     pub log : IsLog (take place ss) before
-    pub first : IfTold cause (λ c. (s : List ℕ) × ((slice_get ss place ≡ Some s)
+    pub first : IfNamed cause (λ c. (s : List ℕ) × ((slice_get ss place ≡ Some s)
         × IsCause (k.view_of before) s c))
 
   -- a state that stands for the log that the strings are, or a refusal
   abbrev pub IsReading : {S E : Type 0} → (S → View) → (RunCause E → Option (Cause F Offence))
       → List (List ℕ) → Result S (RunError E) → Type 0
-  IsReading view told_by ss (Ok s) =
+  IsReading view named_by ss (Ok s) =
       (es : List EnvelopeData) × (IsLog ss es × StandsFor k view s es)
-  IsReading view told_by ss (Err error) = IsRefusedAt ss error.index (told_by error.cause)
+  IsReading view named_by ss (Err error) = IsRefusedAt ss error.index (named_by error.cause)

@@ -5,10 +5,10 @@ use Rattle.warg_permissions.specs.Permissions.{lists}
 use Rattle.warg_records.specs.RecordData.{EntryData, Init, GrantFlat, RevokeFlat}
 use Rattle.warg_audited_log.specs.declared.link.Link.{Link}
 use Rattle.warg_log.specs.Forms.{inits}
-use Rattle.warg_log.specs.History.{Placed}
+use Rattle.warg_log.specs.History.{PlacedEvent}
 
 -- where an entry stands
-abbrev pub place_of : {A : Type 0} → Placed A → Link
+abbrev pub place_of : {A : Type 0} → PlacedEvent A → Link
 place_of e = record { record_index = e.record_place; entry_index = e.entry_place }
 
 -- the one place comes before the other
@@ -27,16 +27,16 @@ module _ {P O : Type 0} (same : P → P → Bool) (p : P) where
 
   -- by the grants p went from giver to k: each is signed by the key that the one before it is to, the first
   -- by giver
-  abbrev pub PassOn : List ℕ → List (Placed (EntryData P O)) → List ℕ → Type 0
+  abbrev pub PassOn : List ℕ → List (PlacedEvent (EntryData P O)) → List ℕ → Type 0
   PassOn giver [] k = giver ≡ k
   PassOn giver (e ∷ es) k = (e.event.signer ≡ giver)
       × ((taker : List ℕ) × IsGrantTo taker e.event.entry × PassOn taker es k)
 
   -- at the links stand entries of the history, one before the other: its first Init, and then grants by
   -- which p went from that Init's signer to k
-  pub record IsChainOfGrants (h : List (Placed (EntryData P O))) (k : List ℕ) (links : List Link) : Type 0 where
-    pub init : Placed (EntryData P O)
-    pub grants : List (Placed (EntryData P O))
+  pub record IsChainOfGrants (h : List (PlacedEvent (EntryData P O))) (k : List ℕ) (links : List Link) : Type 0 where
+    pub init : PlacedEvent (EntryData P O)
+    pub grants : List (PlacedEvent (EntryData P O))
     pub places : map place_of (init ∷ grants) ≡ links
     pub within : All (Contains h) (init ∷ grants)
     pub rising : AllPairs IsBefore links

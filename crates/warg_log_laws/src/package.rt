@@ -9,10 +9,10 @@ ghost use Rattle.warg_audited_log.specs.declared.link.Link.{Link};
 ghost use Rattle.warg_envelope.specs.EnvelopeData.{EnvelopeData};
 ghost use Rattle.warg_envelope.specs.Envelopes.{EnvelopeFault, envelope_of, envelope_fault_of};
 ghost use Rattle.warg_envelope.specs.Faults.{RecordFault, fault_of};
-ghost use Rattle.warg_log.specs.History.{Placed, Holds, entry_on, record_history};
+ghost use Rattle.warg_log.specs.History.{PlacedEvent, Holds, entry_on, record_history};
 ghost use Rattle.warg_log.specs.Listings.{IsGift};
-ghost use Rattle.warg_log.specs.LogKind.{effect_of};
-ghost use Rattle.warg_log.specs.Rules.{SignedRecord, Wrong, events_offence, record_events, state_view_after};
+ghost use Rattle.warg_log.specs.KindOfRules.{effect_of};
+ghost use Rattle.warg_log.specs.Rules.{SignedRecord, LogOffence, events_offence, record_events, state_view_after};
 ghost use Rattle.warg_log_laws.specs.GrantChains.{IsGrantTo};
 ghost use Rattle.warg_log_laws.specs.Grammars.{IsCause, IsReading};
 ghost use Rattle.warg_log_laws.specs.Package.{Records, StateData, is_held, is_held_by, IsChainOfGrants, IsHeldByNoKey, state_view_of, entry_offence, IsEnvelope, HasEnvelopeFault};
@@ -28,7 +28,7 @@ ghost use Rattle.warg_records.specs.PackageReading.{package_record_of};
 ghost use Rattle.warg_records.specs.RecordData.{EntryData};
 ghost use Rattle.warg_validator.specs.Effects.{holds, GivesWhatIsHeld, HoldsByEffects};
 ghost use Rattle.warg_validator.specs.Kinds.{SignatureRelation, KindLaws, IsAccepted, StandsFor};
-ghost use Rattle.warg_validator.specs.Outcomes.{IsRun, IfStarted, cause_next, told};
+ghost use Rattle.warg_validator.specs.OutcomeRuns.{IsRun, IfStarted, cause_next, cause_named_by};
 ghost use Rattle.warg_validator.specs.Strings.{Cause};
 ghost use Rattle.warg_validator.specs.Walks.{IsFound, IsAccepted as AllLawful};
 ghost use Rattle.warg_validator.specs.declared.effect.Effect.TheVariants.{Gives};
@@ -113,7 +113,7 @@ pub fn gives_what_is_held()
         (place : ℕ) (r : SignedRecord Permission PackageOwnEntry) →
         slice_get (records_of es) place ≡ Some r →
         let entries = record_history record_id_of (place, r) in
-        (n : ℕ) (e : Placed (EntryData Permission PackageOwnEntry)) →
+        (n : ℕ) (e : PlacedEvent (EntryData Permission PackageOwnEntry)) →
         slice_get entries n ≡ Some e →
         (k : List ℕ) (p : Permission) → IsGrantTo same_permission p k e.event.entry →
         is_held_by (history (take place es) ++ take n entries) e.event.signer p ≡ true }
@@ -123,7 +123,7 @@ pub fn gives_what_is_held()
 pub fn entries_in_turn()
     // After lawful entries of a record, the view that is asked of the next is that of the one list.
     ensures view { (b : SignatureRelation) (es : List EnvelopeData) → IsAccepted kind b es →
-        (version : ℕ) (before : List (Placed (EntryData Permission PackageOwnEntry))) →
+        (version : ℕ) (before : List (PlacedEvent (EntryData Permission PackageOwnEntry))) →
         let events = map (λ e. e.event) before in
         events_offence rules same_permission version (kind.view_of es).state [] events ≡ None →
         state_view_after rules same_permission (kind.view_of es).state events
@@ -133,7 +133,7 @@ pub fn entries_in_turn()
     // after that list.
     ensures first { (b : SignatureRelation) (es : List EnvelopeData) → IsAccepted kind b es →
         (r : SignedRecord Permission PackageOwnEntry) →
-        (found : Option (ℕ × Wrong Permission OwnOffence)) ×
+        (found : Option (ℕ × LogOffence Permission OwnOffence)) ×
         IsFound (entry_offence r.contents.version) (λ before. state_view_of (history es ++ before))
         (record_history record_id_of (length es, r)) found ×
         (events_offence rules same_permission r.contents.version (kind.view_of es).state []
@@ -153,19 +153,19 @@ pub fn entries_in_turn()
 /// one can't come is read so too.
 pub fn run_by_grammar()
     ensures reading { let read = envelope_of package_record_of in
-        let told_by = told (envelope_fault_of fault_of) offence_of in
+        let named_by = cause_named_by (envelope_fault_of fault_of) offence_of in
         (b : SignatureRelation) (strings : List (List ℕ))
         (answer : Result StateData (RunError ValidationError)) →
-        IfStarted (IsRun kind b read kind.view_of view_of told_by ◌≡◌ strings) answer →
-        IfStarted (IsReading kind b IsEnvelope HasEnvelopeFault view_of told_by strings) answer }
+        IfStarted (IsRun kind b read kind.view_of view_of named_by ◌≡◌ strings) answer →
+        IfStarted (IsReading kind b IsEnvelope HasEnvelopeFault view_of named_by strings) answer }
     ensures run { let read = envelope_of package_record_of in
-        let told_by = told (envelope_fault_of fault_of) offence_of in
+        let named_by = cause_named_by (envelope_fault_of fault_of) offence_of in
         (b : SignatureRelation) (strings : List (List ℕ))
         (answer : Result StateData (RunError ValidationError)) →
-        IfStarted (IsReading kind b IsEnvelope HasEnvelopeFault view_of told_by strings) answer →
-        IfStarted (IsRun kind b read kind.view_of view_of told_by ◌≡◌ strings) answer }
+        IfStarted (IsReading kind b IsEnvelope HasEnvelopeFault view_of named_by strings) answer →
+        IfStarted (IsRun kind b read kind.view_of view_of named_by ◌≡◌ strings) answer }
     ensures cause { (b : SignatureRelation) (v : View) (s : List ℕ)
-        (c : Cause (EnvelopeFault RecordFault) (Wrong Permission OwnOffence)) →
+        (c : Cause (EnvelopeFault RecordFault) (LogOffence Permission OwnOffence)) →
         (cause_next kind b (envelope_of package_record_of) v s ≡ Some c) ↔
         IsCause kind b IsEnvelope HasEnvelopeFault v s c }
 {

@@ -3,14 +3,14 @@ ghost use Rattle.std.specs.Prelude.{◌≡◌, ◌↔◌, ◌⊎◌, ◌++◌, �
 ghost use Rattle.warg_log_laws.specs.Grammars.{IsCause, IsReading};
 ghost use Rattle.warg_log_laws.specs.GrantChains.{IsGrantTo};
 ghost use Rattle.warg_log_laws.specs.Operator.{StateData, is_held, is_held_by, IsChainOfGrants, IsHeldByNoKey, state_view_of, entry_offence, IsEnvelope, HasEnvelopeFault};
-ghost use Rattle.warg_log.specs.History.{Placed, Holds, entry_on, record_history};
+ghost use Rattle.warg_log.specs.History.{PlacedEvent, Holds, entry_on, record_history};
 ghost use Rattle.warg_log.specs.Listings.{IsGift};
-ghost use Rattle.warg_log.specs.LogKind.{effect_of};
+ghost use Rattle.warg_log.specs.KindOfRules.{effect_of};
 ghost use Rattle.warg_log.specs.Rules.{SignedRecord};
 ghost use Rattle.warg_operator_log.specs.Namespaces.{record_id_of};
 ghost use Rattle.warg_operator_log.specs.StateHistory.{OneEntryEach};
-ghost use Rattle.warg_protocol.specs.Logs.{EnvelopeData, Cause, EnvelopeFault, HasForm, HaveCollision, IfStarted, IsAccepted, IsChainAnswer, IsExtinct, IsRun, KindLaws, NoKeyBringsItselfIn, SignatureRelation, StandsFor, StaysExtinct, Wrong, cause_next, contents, envelope_fault_of, envelope_of, envelopes, told};
-ghost use Rattle.warg_protocol.specs.Operator.{Namespace, OwnOffence, Permission as OfPermission, OperatorOwnEntry, View, effects, history, kind, offence_of, operator_record_of, plain_envelope, records_of, same_permission, view_of};
+ghost use Rattle.warg_protocol.specs.Logs.{EnvelopeData, Cause, EnvelopeFault, HasForm, HaveCollision, IfStarted, IsAccepted, IsChainAnswer, IsExtinct, IsRun, KindLaws, NoKeyBringsItselfIn, SignatureRelation, StandsFor, StaysExtinct, LogOffence, cause_next, contents, envelope_fault_of, envelope_of, envelopes, cause_named_by};
+ghost use Rattle.warg_protocol.specs.Operator.{Namespace, OwnOffence, Permission as OfPermission, OperatorOwnEntry, View, effects, history, kind, offence_of, operator_record_of, envelope_as_data, records_of, same_permission, view_of};
 ghost use Rattle.warg_protocol.specs.Records.{EntryData, RecordFault, fault_of};
 ghost use Rattle.warg_audited_log.specs.declared.link.Link.{Link as OfLink};
 ghost use Rattle.warg_operator_log.specs.declared.error.ValidationError.{ValidationError as OfError};
@@ -75,7 +75,7 @@ pub fn append_keeping_namespaces<V: Verifier + Drop>(
 pub fn formed_records<V: Verifier + Drop>(
     log: &AuditedLog<LogState, V>,
 ) -> &[ProtoEnvelope<OperatorRecord>]
-    ensures { 0 < length result.now → HasForm record_id_of (map plain_envelope result.now) }
+    ensures { 0 < length result.now → HasForm record_id_of (map envelope_as_data result.now) }
 {
     audited::records(log)
 }
@@ -123,7 +123,7 @@ pub fn entries_give()
     ensures grants { (b : SignatureRelation) (es : List EnvelopeData) → IsAccepted kind b es →
         (place : ℕ) (r : SignedRecord OfPermission OperatorOwnEntry) →
         slice_get (records_of es) place ≡ Some r →
-        (n : ℕ) (e : Placed (EntryData OfPermission OperatorOwnEntry)) →
+        (n : ℕ) (e : PlacedEvent (EntryData OfPermission OperatorOwnEntry)) →
         slice_get (record_history record_id_of (place, r)) n ≡ Some e →
         (k : List ℕ) (p : OfPermission) → IsGrantTo same_permission p k e.event.entry →
         is_held_by (history (take place es) ++ take n (record_history record_id_of (place, r)))
@@ -151,13 +151,13 @@ pub fn entries_in_turn()
 /// What `run` answers, by the grammar.
 pub fn run_by_grammar()
     ensures reading { let read = envelope_of operator_record_of in
-        let told_by = told (envelope_fault_of fault_of) offence_of in
+        let named_by = cause_named_by (envelope_fault_of fault_of) offence_of in
         (b : SignatureRelation) (strings : List (List ℕ))
         (answer : Result StateData (RunError OfError)) →
-        IfStarted (IsRun kind b read kind.view_of view_of told_by ◌≡◌ strings) answer →
-        IfStarted (IsReading kind b IsEnvelope HasEnvelopeFault view_of told_by strings) answer }
+        IfStarted (IsRun kind b read kind.view_of view_of named_by ◌≡◌ strings) answer →
+        IfStarted (IsReading kind b IsEnvelope HasEnvelopeFault view_of named_by strings) answer }
     ensures cause { (b : SignatureRelation) (v : View) (s : List ℕ)
-        (c : Cause (EnvelopeFault RecordFault) (Wrong OfPermission OwnOffence)) →
+        (c : Cause (EnvelopeFault RecordFault) (LogOffence OfPermission OwnOffence)) →
         (cause_next kind b (envelope_of operator_record_of) v s ≡ Some c) ↔
         IsCause kind b IsEnvelope HasEnvelopeFault v s c }
 {

@@ -4,7 +4,7 @@ use Rattle.warg_crypto.specs.NamedBytes.{fingerprint_of}
 use Rattle.warg_crypto.specs.Signed.{signed_message, toy_signature}
 use Rattle.warg_envelope.specs.EnvelopeData.{EnvelopeData}
 use Rattle.warg_envelope.specs.Envelopes.{envelope_message}
-use Rattle.warg_make.specs.Names.{toy_key}
+use Rattle.warg_make.specs.KeyWords.{toy_key}
 use Rattle.warg_protobuf.specs.Envelope.{IsEnvelope}
 
 -- the bytes are an envelope of the content, under the id and the signature of the toy key of the name

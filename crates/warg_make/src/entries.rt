@@ -1,7 +1,7 @@
 //! The words that entries of both kinds have.
 
 ghost use Rattle.std.specs.Prelude.{◌≡◌, IfOk};
-ghost use Rattle.warg_make.specs.Names.{IsIdOf, IsKeyOf, toy_key};
+ghost use Rattle.warg_make.specs.KeyWords.{IsIdOf, IsKeyOf, toy_key};
 
 use crate::error::EntryFault;
 use std::alloc::{AllocError, Global};

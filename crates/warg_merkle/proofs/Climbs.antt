@@ -6,7 +6,7 @@ use Rattle.std.proofs.lemmas.Bool.{cases_Bool}
 use Rattle.std.proofs.lemmas.Bool.Decides.{not_from_Decides}
 use Rattle.std.proofs.lemmas.Slice.Eq.{bytes_eq-Decides}
 use Rattle.std.proofs.lemmas.List.{take_at, drop_at}
-use Rattle.warg_merkle.specs.Trees.{Side, Left, Right, step_input, leaf_input, climb, climbed, HaveCollision}
+use Rattle.warg_merkle.specs.Trees.{Side, Left, Right, step_input, leaf_input, climb, climb_inputs, HaveCollision}
 
 pub same_or_not : (xs ys : List ℕ) → (xs ≡ ys) ⊎ (xs ≢ ys)
 same_or_not xs ys = elim (cases_Bool (bytes_eq xs ys)) [
@@ -35,8 +35,8 @@ module _ (hash : List ℕ → List ℕ) (long : (m : List ℕ) → length (hash 
   at_once x y xs ys differ same = (0, record { in_left = omega arith; in_right = omega arith; differ = differ; same_hash = same })
 
   -- two ways up to one root
-  pub one_way : (ss : List Side) (ps qs : List (List ℕ)) (a b r : List ℕ) → All (λ p. length p ≡ 32) ps → All (λ p. length p ≡ 32) qs → length a ≡ 32 → length b ≡ 32 → climb hash ss ps a ≡ Some r → climb hash ss qs b ≡ Some r → ((a ≡ b) × (ps ≡ qs)) ⊎ HaveCollision hash (climbed hash ss ps a) (climbed hash ss qs b)
-  unfolding climb climbed
+  pub one_way : (ss : List Side) (ps qs : List (List ℕ)) (a b r : List ℕ) → All (λ p. length p ≡ 32) ps → All (λ p. length p ≡ 32) qs → length a ≡ 32 → length b ≡ 32 → climb hash ss ps a ≡ Some r → climb hash ss qs b ≡ Some r → ((a ≡ b) × (ps ≡ qs)) ⊎ HaveCollision hash (climb_inputs hash ss ps a) (climb_inputs hash ss qs b)
+  unfolding climb climb_inputs
   one_way [] [] [] a b r hp hq la lb ea eb = inl (cc, refl)
   one_way [] [] (q ∷ qs) a b r hp hq la lb ea eb = cc
   one_way [] (p ∷ ps) qs a b r hp hq la lb ea eb = cc
@@ -52,7 +52,7 @@ module _ (hash : List ℕ → List ℕ) (long : (m : List ℕ) → length (hash 
       ]
 
   -- two leaves on ways up to one root
-  pub one_leaf : (ss : List Side) (ps qs : List (List ℕ)) (d e r : List ℕ) → All (λ p. length p ≡ 32) ps → All (λ p. length p ≡ 32) qs → climb hash ss ps (hash (leaf_input d)) ≡ Some r → climb hash ss qs (hash (leaf_input e)) ≡ Some r → ((d ≡ e) × (ps ≡ qs)) ⊎ HaveCollision hash (leaf_input d ∷ climbed hash ss ps (hash (leaf_input d))) (leaf_input e ∷ climbed hash ss qs (hash (leaf_input e)))
+  pub one_leaf : (ss : List Side) (ps qs : List (List ℕ)) (d e r : List ℕ) → All (λ p. length p ≡ 32) ps → All (λ p. length p ≡ 32) qs → climb hash ss ps (hash (leaf_input d)) ≡ Some r → climb hash ss qs (hash (leaf_input e)) ≡ Some r → ((d ≡ e) × (ps ≡ qs)) ⊎ HaveCollision hash (leaf_input d ∷ climb_inputs hash ss ps (hash (leaf_input d))) (leaf_input e ∷ climb_inputs hash ss qs (hash (leaf_input e)))
   one_leaf ss ps qs d e r hp hq ed ee =
       elim (one_way ss ps qs (hash (leaf_input d)) (hash (leaf_input e)) r hp hq (long _) (long _) ed ee) [
         | inr found ↦ inr (later (leaf_input d) (leaf_input e) _ _ found)

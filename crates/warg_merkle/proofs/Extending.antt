@@ -7,7 +7,7 @@ use Rattle.std.proofs.lemmas.Nat.{pow_pos}
 use Rattle.std.proofs.lemmas.Bool.Decides.{nat_tests}
 use Rattle.std.proofs.lemmas.List.{length-take-le, length-drop, take-take, drop-take, take_all}
 use Rattle.warg_merkle.specs.Trees.{Side, Left, Right, node_input, left_size, tree_hash, climb, HaveCollision}
-use Rattle.warg_merkle.specs.Extensions.{start_index, sides_from_start, extension_sides, climb_both, climb_from, climbed_from, with_start, Extends, extension_within, extension}
+use Rattle.warg_merkle.specs.Extensions.{start_index, sides_from_start, extension_sides, climb_both, climb_from, climb_inputs_from, with_start, Extends, extension_within, extension}
 use Rattle.warg_merkle.proofs.Sizes.{left_part, left_pos, power_order, one_left}
 use Rattle.warg_merkle.proofs.Paths.{root_node}
 use Rattle.warg_merkle.proofs.JoinLevels.{start_at_top, start_in_left, start_in_right}
@@ -166,7 +166,7 @@ module _ (hash : List ℕ → List ℕ) (long : (m : List ℕ) → length (hash 
   ]
 
   -- two ways up to one new root
-  one_extension : (ss : List Side) (ps qs : List (List ℕ)) (x y z : List ℕ) → All (λ p. length p ≡ 32) ps → All (λ p. length p ≡ 32) qs → climb_from hash ss ps ≡ Some (x, z) → climb_from hash ss qs ≡ Some (y, z) → ((x ≡ y) × (ps ≡ qs)) ⊎ HaveCollision hash (climbed_from hash ss ps) (climbed_from hash ss qs)
+  one_extension : (ss : List Side) (ps qs : List (List ℕ)) (x y z : List ℕ) → All (λ p. length p ≡ 32) ps → All (λ p. length p ≡ 32) qs → climb_from hash ss ps ≡ Some (x, z) → climb_from hash ss qs ≡ Some (y, z) → ((x ≡ y) × (ps ≡ qs)) ⊎ HaveCollision hash (climb_inputs_from hash ss ps) (climb_inputs_from hash ss qs)
   one_extension ss [] qs x y z hp hq ep eq = cc
   one_extension ss (p ∷ ps) [] x y z hp hq ep eq = cc
   one_extension ss (p ∷ ps) (q ∷ qs) x y z hp hq ep eq =
@@ -179,7 +179,7 @@ module _ (hash : List ℕ → List ℕ) (long : (m : List ℕ) → length (hash 
       ]
 
   -- the old root is that of the first leaves and the path the tree's own, or what was hashed collides
-  pub own_extension_or_collision : (first size : ℕ) (path : List (List ℕ)) (old new : List ℕ) → All (λ p. length p ≡ 32) (with_start hash first old path) → size ≤ 2 ^ 64 → Extends hash first size path old new → (ds : List (List ℕ)) → length ds ≡ size → tree_hash hash ds ≡ new → ((tree_hash hash (take first ds) ≡ old) × (extension hash first ds ≡ with_start hash first old path)) ⊎ HaveCollision hash (climbed_from hash (extension_sides first (length ds)) (extension hash first ds)) (climbed_from hash (extension_sides first (length ds)) (with_start hash first old path))
+  pub own_extension_or_collision : (first size : ℕ) (path : List (List ℕ)) (old new : List ℕ) → All (λ p. length p ≡ 32) (with_start hash first old path) → size ≤ 2 ^ 64 → Extends hash first size path old new → (ds : List (List ℕ)) → length ds ≡ size → tree_hash hash ds ≡ new → ((tree_hash hash (take first ds) ≡ old) × (extension hash first ds ≡ with_start hash first old path)) ⊎ HaveCollision hash (climb_inputs_from hash (extension_sides first (length ds)) (extension hash first ds)) (climb_inputs_from hash (extension_sides first (length ds)) (with_start hash first old path))
   unfolding extension
   own_extension_or_collision first size path old new hp most extends ds same of_new =
       let some = extends.some in

@@ -1,6 +1,6 @@
 -- Proofs that a tree's leaves begin with those of an older tree.
 use Rattle.std.specs.Prelude.{◌≡◌, ◌⊎◌, ℕ, zero, suc, ◌-◌, ◌/◌, ◌%◌, ◌^◌, ◌<◌, ◌≤◌, ◌==◌, nat_lt, Bool, true, false, if◌then◌else◌, List, [], ◌∷◌, ◌++◌, length, take, drop, Option, Some, None}
-use Rattle.warg_merkle.specs.Trees.{IsLeftSize, Side, Left, Right, sides_within, node_input, left_size, tree_hash, climbed, HaveCollision}
+use Rattle.warg_merkle.specs.Trees.{IsLeftSize, Side, Left, Right, sides_within, node_input, left_size, tree_hash, climb_inputs, HaveCollision}
 
 -- the place, on its level, of the largest whole subtree that ends at the leaf i
 unfoldable pub start_index : ℕ → ℕ → ℕ
@@ -38,9 +38,9 @@ module _ (hash : List ℕ → List ℕ) where
   climb_from ss [] = None
   climb_from ss (start ∷ ps) = climb_both ss ps start start
 
-  abbrev pub climbed_from : List Side → List (List ℕ) → List (List ℕ)
-  climbed_from ss [] = []
-  climbed_from ss (start ∷ ps) = climbed hash ss ps start
+  abbrev pub climb_inputs_from : List Side → List (List ℕ) → List (List ℕ)
+  climb_inputs_from ss [] = []
+  climb_inputs_from ss (start ∷ ps) = climb_inputs hash ss ps start
 
   -- where the first leaves are a whole subtree, their root is its hash, and the path does not have it
   abbrev pub with_start : ℕ → List ℕ → List (List ℕ) → List (List ℕ)
@@ -98,7 +98,7 @@ module _ (hash : List ℕ → List ℕ) where
   -- the old root is that of the tree's first leaves, and the path the tree's own, or what is hashed for the path and for
   -- the tree's own collides
   abbrev pub IsBeginning : List (List ℕ) → ℕ → List (List ℕ) → List ℕ → Type 0
-  IsBeginning ds first path old = ((tree_hash hash (take first ds) ≡ old) × (consistency_proof first ds ≡ path)) ⊎ HaveCollision hash (climbed_from (extension_sides first (length ds)) (extension first ds)) (climbed_from (extension_sides first (length ds)) (with_start first old path))
+  IsBeginning ds first path old = ((tree_hash hash (take first ds) ≡ old) × (consistency_proof first ds ≡ path)) ⊎ HaveCollision hash (climb_inputs_from (extension_sides first (length ds)) (extension first ds)) (climb_inputs_from (extension_sides first (length ds)) (with_start first old path))
 
   -- the own proof of each tree shows the root of its first leaves
   abbrev pub OwnPathsExtend : Type 0

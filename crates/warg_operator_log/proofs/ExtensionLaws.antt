@@ -10,7 +10,7 @@ use Rattle.warg_validator.specs.Walks.{view_after, AllLawful}
 use Rattle.warg_log.specs.Rules.{Event}
 use Rattle.warg_log.specs.Offences.{unless}
 use Rattle.warg_log.proofs.SignedEntryLaws.{latest-one}
-use Rattle.warg_operator_log.specs.Namespaces.{OwnOffence, InvalidNamespace, NamespaceAlreadyDefined, Namespace, Defined, Imported, Names, name_offence, own_offence, names_after, own_after, own_wrong}
+use Rattle.warg_operator_log.specs.Namespaces.{OwnOffence, InvalidNamespace, NamespaceAlreadyDefined, Namespace, Defined, Imported, Names, name_offence, own_offence, names_after, own_after, event_offence}
 
 new_name : (b : Bool) (o : Option Namespace) (x y : OwnOffence) → option_or (unless b x) (unless (is_none o) y) ≡ None → o ≡ None
 new_name true None x y h = refl
@@ -35,6 +35,6 @@ step-kept v e h k s there = by e.entry h
     by (ImportNamespace n registry) g = latest-one (bytes_eq n k) (Some (Imported registry)) (v k) ∙ name-kept v k s there n (Imported registry) g
 
 -- lawful events keep what stands before them
-pub lawful-kept : (v : Names) (es : List (Event OperatorOwnEntry)) → AllLawful own_after own_wrong v es → (k : List ℕ) (s : Namespace) → v k ≡ Some s → view_after own_after v es k ≡ Some s
+pub lawful-kept : (v : Names) (es : List (Event OperatorOwnEntry)) → AllLawful own_after event_offence v es → (k : List ℕ) (s : Namespace) → v k ≡ Some s → view_after own_after v es k ≡ Some s
 lawful-kept v [] h k s there = there
 lawful-kept v (e ∷ es) h k s there = lawful-kept (own_after v e) es h.1 k s (step-kept v e h.0 k s there)

@@ -8,7 +8,7 @@ use Rattle.warg_records.specs.OperatorEntries.{OperatorOwnEntry, DefineNamespace
 use Rattle.warg_validator.specs.Walks.{AllLawful}
 use Rattle.warg_log.specs.Rules.{Event}
 use Rattle.warg_log.proofs.Firsts.{or_second, unless_holds}
-use Rattle.warg_operator_log.specs.Namespaces.{NamespaceAlreadyDefined, Namespace, Defined, Imported, Names, name_offence, own_offence, own_defines, defines, names_after, own_after, own_wrong}
+use Rattle.warg_operator_log.specs.Namespaces.{NamespaceAlreadyDefined, Namespace, Defined, Imported, Names, name_offence, own_offence, namespace_made_by_entry, namespace_made_by_event, names_after, own_after, event_offence}
 use Rattle.warg_operator_log.proofs.ExtensionLaws.{lawful-kept}
 
 taken : (o : Option Namespace) (s : Namespace) → o ≡ Some s → is_none o ≡ true → ⊥
@@ -21,15 +21,15 @@ module _ (v : Names) (k : List ℕ) (s : Namespace) (there : v k ≡ Some s) whe
   silent_name n t h false e = refl
 
   -- a lawful entry is of no name that is taken
-  silent : (o : OperatorOwnEntry) → own_offence v o ≡ None → own_defines k o ≡ None
+  silent : (o : OperatorOwnEntry) → own_offence v o ≡ None → namespace_made_by_entry k o ≡ None
   silent (DefineNamespace n) h = silent_name n Defined h (bytes_eq n k) refl
   silent (ImportNamespace n registry) h = silent_name n (Imported registry) h (bytes_eq n k) refl
 
 -- no entry of a name follows where it is taken
-none_more : (v : Names) (es : List (Event OperatorOwnEntry)) (k : List ℕ) (s : Namespace) → v k ≡ Some s → AllLawful own_after own_wrong v es → filter_map (defines k) es ≡ []
+none_more : (v : Names) (es : List (Event OperatorOwnEntry)) (k : List ℕ) (s : Namespace) → v k ≡ Some s → AllLawful own_after event_offence v es → filter_map (namespace_made_by_event k) es ≡ []
 none_more v [] k s there h = refl
 none_more v (e ∷ es) k s there h =
-    ap (λ o. cons_option o (filter_map (defines k) es)) (silent v k s there e.entry h.0)
+    ap (λ o. cons_option o (filter_map (namespace_made_by_event k) es)) (silent v k s there e.entry h.0)
     ∙ none_more (own_after v e) es k s (lawful-kept v (e ∷ []) (h.0, tt) k s there) h.1
 
 -- what an entry says of a name is what the name is
@@ -40,16 +40,16 @@ said_name t x false h = absurd (never h)
     never : None ≡ Some x → ⊥
     never g = cc
 
-said : (k : List ℕ) (o : OperatorOwnEntry) (x : Option Namespace) → own_defines k o ≡ Some x → (s : Namespace) × (x ≡ Some s)
+said : (k : List ℕ) (o : OperatorOwnEntry) (x : Option Namespace) → namespace_made_by_entry k o ≡ Some x → (s : Namespace) × (x ≡ Some s)
 said k (DefineNamespace n) x h = said_name Defined x (bytes_eq n k) h
 said k (ImportNamespace n registry) x h = said_name (Imported registry) x (bytes_eq n k) h
 
 -- a name has one entry at most
-pub one-entry : (v : Names) (es : List (Event OperatorOwnEntry)) (k : List ℕ) → AllLawful own_after own_wrong v es → length (filter_map (defines k) es) ≤ 1
+pub one-entry : (v : Names) (es : List (Event OperatorOwnEntry)) (k : List ℕ) → AllLawful own_after event_offence v es → length (filter_map (namespace_made_by_event k) es) ≤ 1
 one-entry v [] k h = omega arith
-one-entry v (e ∷ es) k h = by (one-entry (own_after v e) es k h.1) (defines k e) refl
+one-entry v (e ∷ es) k h = by (one-entry (own_after v e) es k h.1) (namespace_made_by_event k e) refl
   where
-    by : length (filter_map (defines k) es) ≤ 1 → (o : Option (Option Namespace)) → defines k e ≡ o → length (cons_option (defines k e) (filter_map (defines k) es)) ≤ 1
+    by : length (filter_map (namespace_made_by_event k) es) ≤ 1 → (o : Option (Option Namespace)) → namespace_made_by_event k e ≡ o → length (cons_option (namespace_made_by_event k e) (filter_map (namespace_made_by_event k) es)) ≤ 1
     by later None says = rw says later
     by later (Some x) says =
         let named = said k e.entry x says in

@@ -1,18 +1,17 @@
 -- What was written of a namespace reads back.
-use Rattle.std.specs.Prelude.{◌≡◌, List, [], ◌∷◌, length, Result, Ok, Err, IfOk, refl, suc}
+use Rattle.std.specs.Prelude.{◌≡◌, List, [], ◌∷◌, length, Result, Ok, Err, IfOk, refl, suc, String}
 use Rattle.std.proofs.Common.{subst, ap}
 use Rattle.std.specs.declared.alloc.Global.{Global}
 use Rattle.serde_json.specs.Data.{Data}
 use Rattle.serde_json.specs.View.{members_view}
 use Rattle.serde_json.specs.declared.value.Value.{Value}
-use Rattle.std.specs.Prelude.{String}
-use Rattle.warg_crypto.specs.Json.{AreReadBack, ReturnsOrNoMemory, ReadsBack, wrote}
-use Rattle.warg_crypto.specs.Pairs.{names_of}
-use Rattle.warg_crypto.specs.declared.json.error.JsonError.{JsonError}
+use Rattle.warg_json.specs.Json.{AreReadBack, ReturnsOrNoMemory, ReadsBack, json_result}
+use Rattle.warg_json.specs.Pairs.{names_of}
+use Rattle.warg_json.specs.declared.error.JsonError.{JsonError}
 use Rattle.warg_operator_log.specs.NamespaceJson.{namespace_in, namespace_json, saved_namespace_in, saved_namespace_json}
 use Rattle.warg_operator_log.specs.Namespaces.{Namespace, Defined, Imported}
 
-written : {A : Type 0} (x y : A) → wrote x ≡ Ok y → x ≡ y
+written : {A : Type 0} (x y : A) → json_result x ≡ Ok y → x ≡ y
 written x y e = cc
 
 namespace_again : (n : Namespace) (d : Data) → namespace_json n ≡ Ok d → namespace_in d ≡ Ok n

@@ -13,7 +13,7 @@ use Rattle.std.specs.Cmp.Lexicographic.{nat_list_eq_equiv}
 use Rattle.std.proofs.lemmas.Slice.Eq.{bytes_eq-Decides}
 use Rattle.warg_registry.specs.KebabNames.{is_kebab_name}
 use Rattle.warg_operator_log.specs.Namespaces.{Namespace, Names, names, names_over}
-use Rattle.warg_operator_log.specs.NamespaceMap.{namespace_view, named, HasKebabNames}
+use Rattle.warg_operator_log.specs.NamespaceMap.{namespace_view, namespace_entries, HasKebabNames}
 use Rattle.warg_operator_log.specs.SameNamespaces.{same_namespace, same_namespaces}
 use Rattle.warg_operator_log.specs.declared.namespace.NamespaceState.{NamespaceState}
 
@@ -23,16 +23,16 @@ cond_map f false x o = refl
 
 module _ {Z : Type 0} where
   -- a look-up by text finds what the list has at the bytes
-  pub names-lookup : (k : List ℕ) (es : List (String Z × NamespaceState)) → names (named es) k ≡ option_map namespace_view (lookup (λ n. bytes_eq k (string_bytes n)) es)
+  pub names-lookup : (k : List ℕ) (es : List (String Z × NamespaceState)) → names (namespace_entries es) k ≡ option_map namespace_view (lookup (λ n. bytes_eq k (string_bytes n)) es)
   names-lookup k [] = refl
   names-lookup k (e ∷ es) = ap (cond (bytes_eq k (string_bytes e.0)) (Some (namespace_view e.1))) (names-lookup k es) ∙ cond_map namespace_view (bytes_eq k (string_bytes e.0)) e.1 (lookup (λ n. bytes_eq k (string_bytes n)) es)
 
-  pub named-push : (n : String Z) (s : NamespaceState) (es : List (String Z × NamespaceState)) → named (es ++ (n, s) ∷ []) ≡ named es ++ (string_bytes n, namespace_view s) ∷ []
+  pub named-push : (n : String Z) (s : NamespaceState) (es : List (String Z × NamespaceState)) → namespace_entries (es ++ (n, s) ∷ []) ≡ namespace_entries es ++ (string_bytes n, namespace_view s) ∷ []
   named-push n s [] = refl
   named-push n s (e ∷ es) = ap (λ l. (string_bytes e.0, namespace_view e.1) ∷ l) (named-push n s es)
 
   -- clones of namespaces under clones of their names
-  pub named-cloned : (C : String Z → String Z → Type 0) → ((x y : String Z) → C x y → string_bytes y ≡ string_bytes x) → (es fs : List (String Z × NamespaceState)) → AllZip (λ p q. C p.0 q.0 × (namespace_view q.1 ≡ namespace_view p.1)) es fs → named fs ≡ named es
+  pub named-cloned : (C : String Z → String Z → Type 0) → ((x y : String Z) → C x y → string_bytes y ≡ string_bytes x) → (es fs : List (String Z × NamespaceState)) → AllZip (λ p q. C p.0 q.0 × (namespace_view q.1 ≡ namespace_view p.1)) es fs → namespace_entries fs ≡ namespace_entries es
   named-cloned C clones [] [] h = refl
   named-cloned C clones [] (f ∷ fs) h = absurd h
   named-cloned C clones (e ∷ es) [] h = absurd h
@@ -48,7 +48,7 @@ module _ {Z : Type 0} where
   found true e o = refl
   found false e o = refl
 
-  entry-named : (k : String Z) (es : List (String Z × NamespaceState)) → lookup_entry (bytes_eq (string_bytes k)) (named es) ≡ option_map bytes_of (lookup_entry (string_eq k) es)
+  entry-named : (k : String Z) (es : List (String Z × NamespaceState)) → lookup_entry (bytes_eq (string_bytes k)) (namespace_entries es) ≡ option_map bytes_of (lookup_entry (string_eq k) es)
   entry-named k [] = refl
   entry-named k (e ∷ es) = ap (cond (bytes_eq (string_bytes k) (string_bytes e.0)) (Some (bytes_of e))) (entry-named k es) ∙ found (string_eq k e.0) e (lookup_entry (string_eq k) es)
 
@@ -58,16 +58,16 @@ module _ {Z : Type 0} where
   eq-shown (Some x) None = refl
   eq-shown (Some x) (Some y) = refl
 
-  all-named : (t : List ℕ → Bool) (es : List (String Z × NamespaceState)) → list_all (λ k. t (string_bytes k)) (keys_of es) ≡ list_all t (keys_of (named es))
+  all-named : (t : List ℕ → Bool) (es : List (String Z × NamespaceState)) → list_all (λ k. t (string_bytes k)) (keys_of es) ≡ list_all t (keys_of (namespace_entries es))
   all-named t [] = refl
   all-named t (e ∷ es) = ap (λ b. t (string_bytes e.0) && b) (all-named t es)
 
   -- `==` of maps is that of the lists that they show
-  pub entries-same : (es fs : List (String Z × NamespaceState)) → entries_eq string_eq shown es fs ≡ same_namespaces (named es) (named fs)
+  pub entries-same : (es fs : List (String Z × NamespaceState)) → entries_eq string_eq shown es fs ≡ same_namespaces (namespace_entries es) (namespace_entries fs)
   unfolding entries_eq
   entries-same es fs =
       let shows : List ℕ × Namespace → List ℕ × Namespace → Bool = λ p q. same_namespace p.1 q.1 in
-      let test : List ℕ → Bool = λ k. option_eq shows (lookup_entry (bytes_eq k) (named es)) (lookup_entry (bytes_eq k) (named fs)) in
+      let test : List ℕ → Bool = λ k. option_eq shows (lookup_entry (bytes_eq k) (namespace_entries es)) (lookup_entry (bytes_eq k) (namespace_entries fs)) in
       let at : (k : String Z) → option_eq shown (lookup_entry (string_eq k) es) (lookup_entry (string_eq k) fs) ≡ test (string_bytes k)
       = λ k. sym (eq-shown (lookup_entry (string_eq k) es) (lookup_entry (string_eq k) fs)) ∙ (λ i. option_eq shows (sym (entry-named k es) i) (sym (entry-named k fs) i)) in
       (λ i. list_all (λ k. at k i) (keys_of es) && list_all (λ k. at k i) (keys_of fs)) ∙ (λ i. all-named test es i && all-named test fs i)
@@ -142,7 +142,7 @@ known-as f g None x h = ap is_none (sym h)
 known-as f g (Some y) x h = ap is_none (sym h)
 
 -- whether an insertion is of a new name
-pub new-name : {Z : Type 0} (n : String Z) (rs : List (List ℕ × Namespace)) (es : List (String Z × NamespaceState)) (b : Bool) → named es ≡ rs → is_some (lookup (string_eq n) es) ≡ not b → b ≡ is_none (names rs (string_bytes n))
+pub new-name : {Z : Type 0} (n : String Z) (rs : List (List ℕ × Namespace)) (es : List (String Z × NamespaceState)) (b : Bool) → namespace_entries es ≡ rs → is_some (lookup (string_eq n) es) ≡ not b → b ≡ is_none (names rs (string_bytes n))
 new-name n rs es b is h = by (lookup (λ k. bytes_eq (string_bytes n) (string_bytes k)) es) b h ∙ ap is_none (sym (names-lookup (string_bytes n) es)) ∙ ap (λ rs. is_none (names rs (string_bytes n))) is
   where
     by : (o : Option NamespaceState) (b : Bool) → is_some o ≡ not b → b ≡ is_none (option_map namespace_view o)
@@ -158,36 +158,36 @@ nothing (Some x) false h t = absurd (true≢false (sym t))
 
 -- an insertion into the map, as it is known by name
 module _ {Z : Type 0} where
-  names-insert : (n : String Z) (s : NamespaceState) (es : List (String Z × NamespaceState)) (k : List ℕ) → names (named (insert_entry string_eq es n s)) k ≡ update bytes_eq (names (named es)) (string_bytes n) (Some (namespace_view s)) k
+  names-insert : (n : String Z) (s : NamespaceState) (es : List (String Z × NamespaceState)) (k : List ℕ) → names (namespace_entries (insert_entry string_eq es n s)) k ≡ update bytes_eq (names (namespace_entries es)) (string_bytes n) (Some (namespace_view s)) k
   names-insert n s [] k = ap (λ b. cond b (Some (namespace_view s)) None) (nat_list_eq_equiv.symm k (string_bytes n))
   names-insert n s (e ∷ es) k = by (string_eq n e.0) refl (names-insert n s es k)
     where
-      by : (b : Bool) → string_eq n e.0 ≡ b → names (named (insert_entry string_eq es n s)) k ≡ cond (bytes_eq (string_bytes n) k) (Some (namespace_view s)) (names (named es) k)
-          → names (named (cond b ((e.0, s) ∷ es) (e ∷ insert_entry string_eq es n s))) k ≡ cond (bytes_eq (string_bytes n) k) (Some (namespace_view s)) (cond (bytes_eq k (string_bytes e.0)) (Some (namespace_view e.1)) (names (named es) k))
+      by : (b : Bool) → string_eq n e.0 ≡ b → names (namespace_entries (insert_entry string_eq es n s)) k ≡ cond (bytes_eq (string_bytes n) k) (Some (namespace_view s)) (names (namespace_entries es) k)
+          → names (namespace_entries (cond b ((e.0, s) ∷ es) (e ∷ insert_entry string_eq es n s))) k ≡ cond (bytes_eq (string_bytes n) k) (Some (namespace_view s)) (cond (bytes_eq k (string_bytes e.0)) (Some (namespace_view e.1)) (names (namespace_entries es) k))
       by true is rest = here (bytes_eq k (string_bytes e.0)) (nat_list_eq_equiv.congr (string_bytes n) (string_bytes e.0) k is ∙ nat_list_eq_equiv.symm (string_bytes e.0) k)
         where
-          here : (b : Bool) → bytes_eq (string_bytes n) k ≡ b → cond b (Some (namespace_view s)) (names (named es) k) ≡ cond (bytes_eq (string_bytes n) k) (Some (namespace_view s)) (cond b (Some (namespace_view e.1)) (names (named es) k))
+          here : (b : Bool) → bytes_eq (string_bytes n) k ≡ b → cond b (Some (namespace_view s)) (names (namespace_entries es) k) ≡ cond (bytes_eq (string_bytes n) k) (Some (namespace_view s)) (cond b (Some (namespace_view e.1)) (names (namespace_entries es) k))
           here true g = ap (λ b. cond b (Some (namespace_view s)) (Some (namespace_view e.1))) (sym g)
-          here false g = ap (λ b. cond b (Some (namespace_view s)) (names (named es) k)) (sym g)
+          here false g = ap (λ b. cond b (Some (namespace_view s)) (names (namespace_entries es) k)) (sym g)
       by false is rest = past (bytes_eq k (string_bytes e.0)) refl
         where
-          past : (b : Bool) → bytes_eq k (string_bytes e.0) ≡ b → cond b (Some (namespace_view e.1)) (names (named (insert_entry string_eq es n s)) k) ≡ cond (bytes_eq (string_bytes n) k) (Some (namespace_view s)) (cond b (Some (namespace_view e.1)) (names (named es) k))
+          past : (b : Bool) → bytes_eq k (string_bytes e.0) ≡ b → cond b (Some (namespace_view e.1)) (names (namespace_entries (insert_entry string_eq es n s)) k) ≡ cond (bytes_eq (string_bytes n) k) (Some (namespace_view s)) (cond b (Some (namespace_view e.1)) (names (namespace_entries es) k))
           past false g = rest
           past true g = ap (λ b. cond b (Some (namespace_view s)) (Some (namespace_view e.1))) (sym (ap (bytes_eq (string_bytes n)) ((bytes_eq-Decides k (string_bytes e.0)).0 g) ∙ is))
 
-  pub kebabs-insert : (n : String Z) (s : NamespaceState) (es : List (String Z × NamespaceState)) → HasKebabNames (named es) → is_kebab_name (string_bytes n) ≡ true → HasKebabNames (named (insert_entry string_eq es n s))
+  pub kebabs-insert : (n : String Z) (s : NamespaceState) (es : List (String Z × NamespaceState)) → HasKebabNames (namespace_entries es) → is_kebab_name (string_bytes n) ≡ true → HasKebabNames (namespace_entries (insert_entry string_eq es n s))
   kebabs-insert n s [] all is = (is, tt)
   kebabs-insert n s (e ∷ es) all is = by (string_eq n e.0) (kebabs-insert n s es all.1 is)
     where
-      by : (b : Bool) → HasKebabNames (named (insert_entry string_eq es n s)) → HasKebabNames (named (cond b ((e.0, s) ∷ es) (e ∷ insert_entry string_eq es n s)))
+      by : (b : Bool) → HasKebabNames (namespace_entries (insert_entry string_eq es n s)) → HasKebabNames (namespace_entries (cond b ((e.0, s) ∷ es) (e ∷ insert_entry string_eq es n s)))
       by true rest = (all.0, all.1)
       by false rest = (all.0, rest)
 
   -- and the insertions of all that another map has
-  pub names-insert_all : (xs es : List (String Z × NamespaceState)) (k : List ℕ) → names (named (insert_all string_eq es xs)) k ≡ names_over (named es) (named xs) k
+  pub names-insert_all : (xs es : List (String Z × NamespaceState)) (k : List ℕ) → names (namespace_entries (insert_all string_eq es xs)) k ≡ names_over (namespace_entries es) (namespace_entries xs) k
   names-insert_all [] es k = refl
-  names-insert_all (x ∷ xs) es k = names-insert_all xs (insert_entry string_eq es x.0 x.1) k ∙ (λ i. update_all bytes_eq (λ q. names-insert x.0 x.1 es q i) (named xs) k)
+  names-insert_all (x ∷ xs) es k = names-insert_all xs (insert_entry string_eq es x.0 x.1) k ∙ (λ i. update_all bytes_eq (λ q. names-insert x.0 x.1 es q i) (namespace_entries xs) k)
 
-  pub kebabs-insert_all : (xs es : List (String Z × NamespaceState)) → HasKebabNames (named xs) → HasKebabNames (named es) → HasKebabNames (named (insert_all string_eq es xs))
+  pub kebabs-insert_all : (xs es : List (String Z × NamespaceState)) → HasKebabNames (namespace_entries xs) → HasKebabNames (namespace_entries es) → HasKebabNames (namespace_entries (insert_all string_eq es xs))
   kebabs-insert_all [] es own all = all
   kebabs-insert_all (x ∷ xs) es own all = kebabs-insert_all xs (insert_entry string_eq es x.0 x.1) own.1 (kebabs-insert x.0 x.1 es all own.0)

@@ -1,8 +1,8 @@
 -- The JSON of a namespace is canonical.
 use Rattle.std.specs.Prelude.{codes}
 use Rattle.serde_json.specs.Data.{Members, no_members, object, put, string}
-use Rattle.warg_crypto.specs.Json.{wrote}
-use Rattle.warg_crypto.specs.Members.{put_json}
+use Rattle.warg_json.specs.Json.{json_result}
+use Rattle.warg_json.specs.Members.{put_json}
 use Rattle.warg_saved.specs.Canonical.{WritesCanonical, value_depth}
 use Rattle.warg_saved.specs.CanonicalLaws.{member_canonical, none_canonical, put_canonical, then_canonical}
 use Rattle.warg_operator_log.specs.NamespaceJson.{namespace_json, saved_namespace_json}
@@ -17,5 +17,5 @@ state_canonical (Imported registry) =
 
 pub namespace_canonical : (n : Namespace) → WritesCanonical value_depth (saved_namespace_json n)
 namespace_canonical n =
-    then_canonical 125 (put_json namespace_json (codes "state") n no_members) (λ ms. wrote (object ms))
+    then_canonical 125 (put_json namespace_json (codes "state") n no_members) (λ ms. json_result (object ms))
     (member_canonical 124 namespace_json (codes "state") n no_members (state_canonical n) (none_canonical 124)) (λ ms m. m)

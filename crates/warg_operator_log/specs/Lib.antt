@@ -2,6 +2,7 @@ pub mod ErrorLaws
 pub mod NamespaceMap
 pub mod Namespaces
 pub mod OffenceNames
+pub mod ErrorTexts
 pub mod SameNamespaceLaws
 pub mod SameNamespaces
 pub mod State

@@ -3,17 +3,17 @@ use Rattle.std.specs.Prelude.{ℕ, ◌==◌, List, length, codes, if◌then◌el
 use Rattle.std.specs.Str.{bytes_eq}
 use Rattle.serde_json.specs.Data.{Data, Members, no_members, object, put, string}
 use Rattle.serde_json.specs.Find.{as_object, as_str}
-use Rattle.warg_crypto.specs.Json.{◌>>=◌, member_in, or_bad_text, text_in, wrote}
-use Rattle.warg_crypto.specs.Members.{put_json}
-use Rattle.warg_crypto.specs.Pairs.{names_of}
-use Rattle.warg_crypto.specs.declared.json.error.JsonError.{JsonError}
-use Rattle.warg_crypto.specs.declared.json.error.JsonError.TheVariants as fault
+use Rattle.warg_json.specs.Json.{◌>>=◌, member_in, or_bad_text, text_in, json_result}
+use Rattle.warg_json.specs.Members.{put_json}
+use Rattle.warg_json.specs.Pairs.{names_of}
+use Rattle.warg_json.specs.declared.error.JsonError.{JsonError}
+use Rattle.warg_json.specs.declared.error.JsonError.TheVariants as fault
 use Rattle.warg_operator_log.specs.Namespaces.{Namespace, Defined, Imported}
 
 -- `"defined"`, or `{"imported":{"registry":..}}`
 abbrev pub namespace_json : Namespace → Result Data JsonError
-namespace_json Defined = wrote (string (codes "defined"))
-namespace_json (Imported registry) = wrote (object (put (codes "imported") (object (put (codes "registry") (string registry) no_members)) no_members))
+namespace_json Defined = json_result (string (codes "defined"))
+namespace_json (Imported registry) = json_result (object (put (codes "imported") (object (put (codes "registry") (string registry) no_members)) no_members))
 
 -- any other text is outside the grammar
 abbrev pub defined_in : List ℕ → Result Namespace JsonError
@@ -25,7 +25,7 @@ only_imported d members = if length (names_of members) == 1 then or_bad_text (me
 
 -- an imported namespace as it was saved, with the name of its registry
 abbrev pub imported_in : Data → Members → Result Namespace JsonError
-imported_in d members = only_imported d members >>= λ imported. member_in (codes "registry") imported >>= λ name. text_in name >>= λ registry. wrote (Imported registry)
+imported_in d members = only_imported d members >>= λ imported. member_in (codes "registry") imported >>= λ name. text_in name >>= λ registry. json_result (Imported registry)
 
 -- of a value that is a text or an object
 abbrev pub namespace_of : Data → Option (List ℕ) → Option Members → Result Namespace JsonError
@@ -39,7 +39,7 @@ namespace_in d = namespace_of d (as_str d) (as_object d)
 
 -- a namespace of a state: `{"state":..}`
 abbrev pub saved_namespace_json : Namespace → Result Data JsonError
-saved_namespace_json n = put_json namespace_json (codes "state") n no_members >>= λ members. wrote (object members)
+saved_namespace_json n = put_json namespace_json (codes "state") n no_members >>= λ members. json_result (object members)
 
 -- a namespace that was saved, or the first fault in it
 abbrev pub saved_namespace_in : Data → Result Namespace JsonError

@@ -13,8 +13,8 @@ namespace_view state.Defined = Defined
 namespace_view (state.Imported registry) = Imported (string_bytes registry)
 
 -- the entries of a map, in order
-abbrev pub named : {Z : Type 0} → List (String Z × NamespaceState) → List (List ℕ × Namespace)
-named es = map (λ e. (string_bytes e.0, namespace_view e.1)) es
+abbrev pub namespace_entries : {Z : Type 0} → List (String Z × NamespaceState) → List (List ℕ × Namespace)
+namespace_entries es = map (λ e. (string_bytes e.0, namespace_view e.1)) es
 
 -- each name is a kebab name
 abbrev pub HasKebabNames : List (List ℕ × Namespace) → Type 0

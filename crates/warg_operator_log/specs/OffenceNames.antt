@@ -2,8 +2,8 @@
 use Rattle.std.specs.Prelude.{ℕ, List, codes, unwrap_or}
 use Rattle.std.specs.Option.{option_map}
 use Rattle.warg_permissions.specs.declared.operator.Permission.{Permission}
-use Rattle.warg_log.specs.Rules.{Wrong}
-use Rattle.warg_log.specs.OffenceNames.{wrong_name}
+use Rattle.warg_log.specs.Rules.{LogOffence}
+use Rattle.warg_log.specs.OffenceNames.{log_offence_name}
 use Rattle.warg_operator_log.specs.Namespaces.{OwnOffence}
 use Rattle.warg_operator_log.specs.Namespaces as own
 use Rattle.warg_operator_log.specs.State.{offence_of}
@@ -15,8 +15,8 @@ namespace_offence_name (own.InvalidNamespace name) = codes "InvalidNamespace"
 namespace_offence_name (own.NamespaceAlreadyDefined name) = codes "NamespaceAlreadyDefined"
 
 -- the name of any offence that an operator log may have
-abbrev pub offence_name : Wrong Permission OwnOffence → List ℕ
-offence_name offence = wrong_name namespace_offence_name offence
+abbrev pub offence_name : LogOffence Permission OwnOffence → List ℕ
+offence_name offence = log_offence_name namespace_offence_name offence
 
 -- the name of an error: of the offence that it says, if it says one
 abbrev pub error_name : ValidationError → List ℕ

@@ -9,29 +9,29 @@ use Rattle.warg_records.specs.OperatorReading.{operator_record_of}
 use Rattle.warg_records.specs.RecordData.{EntryData}
 use Rattle.warg_permissions.specs.declared.operator.Permission.{Permission}
 use Rattle.warg_log.specs.AuthorityData.{AuthorityData}
-use Rattle.warg_log.specs.History.{Placed, history_of, holds, has_entry, key_of, algorithm_of, owns}
+use Rattle.warg_log.specs.History.{PlacedEvent, history_of, holds, has_entry, key_of, algorithm_of, own_events}
 use Rattle.warg_log.specs.Rules.{SignedRecord, head_of}
-use Rattle.warg_log.specs.LogKind.{opened}
+use Rattle.warg_log.specs.KindOfRules.{signed_record_of}
 use Rattle.warg_log.specs.States.{State}
-use Rattle.warg_operator_log.specs.Namespaces.{Namespace, Names, defines, rules, record_id_of}
+use Rattle.warg_operator_log.specs.Namespaces.{Namespace, Names, namespace_made_by_event, rules, record_id_of}
 use Rattle.warg_operator_log.specs.State.{view_of}
 use Rattle.warg_operator_log.specs.StateLaws.{listed_namespaces}
 
 -- the envelopes as records
 abbrev pub records_of : List EnvelopeData → List (SignedRecord Permission OperatorOwnEntry)
-records_of es = map (opened rules same_permission operator_record_of) es
+records_of es = map (signed_record_of rules same_permission operator_record_of) es
 
 -- all entries in one list, each with its signer, its record's time and id, and its places
-abbrev pub history : List EnvelopeData → List (Placed (EntryData Permission OperatorOwnEntry))
+abbrev pub history : List EnvelopeData → List (PlacedEvent (EntryData Permission OperatorOwnEntry))
 history es = history_of record_id_of (records_of es)
 
 -- each name has one entry at most
-abbrev pub OneEntryEach : List (Placed (EntryData Permission OperatorOwnEntry)) → Type 0
-OneEntryEach h = (name : List ℕ) → length (filter_map (defines name) (owns h)) ≤ 1
+abbrev pub OneEntryEach : List (PlacedEvent (EntryData Permission OperatorOwnEntry)) → Type 0
+OneEntryEach h = (name : List ℕ) → length (filter_map (namespace_made_by_event name) (own_events h)) ≤ 1
 
 -- the namespaces of a history by name: what the entry of that name makes of it
-abbrev pub namespaces_of : List (Placed (EntryData Permission OperatorOwnEntry)) → Names
-namespaces_of h = listed_namespaces (owns h)
+abbrev pub namespaces_of : List (PlacedEvent (EntryData Permission OperatorOwnEntry)) → Names
+namespaces_of h = listed_namespaces (own_events h)
 
 -- all that the state says is what the history says; above each line the look-up of `LogState` that answers it
 pub record TellsHistory (s : State (AuthorityData Permission) (List (List ℕ × Namespace))) (es : List EnvelopeData) : Type 0 where

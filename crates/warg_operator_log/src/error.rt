@@ -1,34 +1,31 @@
 //! Why a record is refused.
 ghost use Rattle.std.specs.Prelude.{◌≡◌};
+ghost use Rattle.warg_operator_log.specs.ErrorTexts.{signature_text};
 
 use std::alloc::AllocError;
-use thiserror::Error;
+use std::error::Error;
+use std::fmt;
 use warg_crypto::hash::HashAlgorithm;
 use warg_crypto::signing::{KeyID, SignatureError};
 use warg_log::Refusal;
 use warg_records::operator::Permission;
 
 /// Why a record of an operator log is refused.
-#[derive(Debug, Drop, PartialEq, Eq, Error)]
+#[derive(Debug, Drop, PartialEq, Eq)]
 pub enum ValidationError {
     /// An entry stands before the log's init. Never answered: each other entry first asks its signer a
     /// permission, which nobody holds before an init.
-    #[error("the first entry of the log is not \"init\"")]
     FirstEntryIsNotInit,
     /// After the first record there is still no init.
-    #[error("the initial record is empty and does not \"init\"")]
     InitialRecordDoesNotInit,
     /// No key of this id is known to the log, or the signer of an init of version 1 does not own its key.
-    #[error("the Key ID used to sign this envelope is not known to this operator log")]
     KeyIDNotRecognized {
         /// The id of the signer's key.
         key_id: KeyID,
     },
     /// A second init.
-    #[error("a second \"init\" entry was found")]
     InitialEntryAfterBeginning,
     /// The signer lacks a permission that the entry requires, grants or revokes.
-    #[error("the key with ID {key_id} did not have required permission {needed_permission}")]
     UnauthorizedAction {
         /// The id of the signer's key.
         key_id: KeyID,
@@ -36,7 +33,6 @@ pub enum ValidationError {
         needed_permission: Permission,
     },
     /// The key lacks a permission that is to be taken from it.
-    #[error("attempted to remove permission {permission} from key {key_id} which did not have it")]
     PermissionNotFoundToRevoke {
         /// The permission.
         permission: Permission,
@@ -44,10 +40,8 @@ pub enum ValidationError {
         key_id: KeyID,
     },
     /// The signature is not the signer's. The case of being out of memory is never held here.
-    #[error("unable to verify signature: {0}")]
     SignatureError(SignatureError),
     /// The record before is named by another algorithm. Never returned: there is only one algorithm.
-    #[error("record hash uses {found} algorithm but {expected} was expected")]
     IncorrectHashAlgorithm {
         /// The record's algorithm.
         found: HashAlgorithm,
@@ -55,46 +49,115 @@ pub enum ValidationError {
         expected: HashAlgorithm,
     },
     /// The record names another record before it than the log's last.
-    #[error("previous record hash does not match")]
     RecordHashDoesNotMatch,
     /// The first record names a record before it.
-    #[error("the first record contained a previous hash value")]
     PreviousHashOnFirstRecord,
     /// A later record names no record before it.
-    #[error("non-initial record contained no previous hash")]
     NoPreviousHashAfterInit,
     /// The version of the protocol is not one of this log.
-    #[error("protocol version {version} not allowed")]
     ProtocolVersionNotAllowed {
         /// The record's version.
         version: u32,
     },
     /// The record is older than the log's last.
-    #[error("record has lower timestamp than previous")]
     TimestampLowerThanPrevious,
     /// The entry grants the key no permission, in a record of version 1.
-    #[error("an entry granted no permission to key {key_id}")]
     EmptyGrant {
         /// The id of the key that it names.
         key_id: KeyID,
     },
     /// The name is not one or more words of lower-case letters and digits, each beginning with a
     /// letter, joined by single hyphens.
-    #[error("the namespace `{namespace}` is invalid; namespace must be a lowercased kebab case string")]
     InvalidNamespace {
         /// The name.
         namespace: String,
     },
     /// The name has its namespace already.
-    #[error("the namespace `{namespace}` is already defined and cannot be redefined")]
     NamespaceAlreadyDefined {
         /// The name.
         namespace: String,
     },
     /// There was no memory left. This says nothing of the record.
-    #[error("OutOfMemory")]
     OutOfMemory,
 }
+
+// What is printed of why a signature was not accepted.
+fn signature_text(error: SignatureError) -> &'static str
+    ensures { result.now ≡ signature_text error }
+{
+    match error {
+        SignatureError::Refused => "Refused",
+        SignatureError::OutOfMemory => "OutOfMemory",
+    }
+}
+
+impl fmt::Display for ValidationError {
+    ghost use Rattle.std.specs.Prelude.{Some};
+    ghost use Rattle.warg_operator_log.specs.ErrorTexts.{error_text};
+
+    ghost output = { λ e. Some (error_text e) };
+
+    fn fmt<W: fmt::Write>(&self, f: &mut fmt::Formatter<W>) -> fmt::Result {
+        match self {
+            Self::FirstEntryIsNotInit => f.write_str("the first entry of the log is not \"init\""),
+            Self::InitialRecordDoesNotInit => f.write_str(
+                "the initial record is empty and does not \"init\"",
+            ),
+            Self::KeyIDNotRecognized { .. } => f.write_str(
+                "the Key ID used to sign this envelope is not known to this operator log",
+            ),
+            Self::InitialEntryAfterBeginning => f.write_str("a second \"init\" entry was found"),
+            Self::UnauthorizedAction {
+                key_id,
+                needed_permission,
+            } => write!(
+                f,
+                "the key with ID {key_id} did not have required permission {needed_permission}"
+            ),
+            Self::PermissionNotFoundToRevoke { permission, key_id } => write!(
+                f,
+                "attempted to remove permission {permission} from key {key_id} which did not have it"
+            ),
+            Self::SignatureError(error) => {
+                let text = signature_text(*error);
+                write!(f, "unable to verify signature: {text}")
+            }
+            Self::IncorrectHashAlgorithm { found, expected } => write!(
+                f,
+                "record hash uses {found} algorithm but {expected} was expected"
+            ),
+            Self::RecordHashDoesNotMatch => f.write_str("previous record hash does not match"),
+            Self::PreviousHashOnFirstRecord => f.write_str(
+                "the first record contained a previous hash value",
+            ),
+            Self::NoPreviousHashAfterInit => f.write_str(
+                "non-initial record contained no previous hash",
+            ),
+            Self::ProtocolVersionNotAllowed { version } => write!(
+                f,
+                "protocol version {version} not allowed"
+            ),
+            Self::TimestampLowerThanPrevious => f.write_str(
+                "record has lower timestamp than previous",
+            ),
+            Self::EmptyGrant { key_id } => write!(
+                f,
+                "an entry granted no permission to key {key_id}"
+            ),
+            Self::InvalidNamespace { namespace } => write!(
+                f,
+                "the namespace `{namespace}` is invalid; namespace must be a lowercased kebab case string"
+            ),
+            Self::NamespaceAlreadyDefined { namespace } => write!(
+                f,
+                "the namespace `{namespace}` is already defined and cannot be redefined"
+            ),
+            Self::OutOfMemory => f.write_str("OutOfMemory"),
+        }
+    }
+}
+
+impl Error for ValidationError {}
 
 impl From<AllocError> for ValidationError {
     ghost use Rattle.warg_operator_log.specs.declared.error.ValidationError.TheVariants.{OutOfMemory};
@@ -122,10 +185,10 @@ impl From<SignatureError> for ValidationError {
 impl From<Refusal<Permission>> for ValidationError {
     ghost use Rattle.std.specs.Option.{option_map};
     ghost use Rattle.warg_log.specs.Offences as shared;
-    ghost use Rattle.warg_log.specs.Rules.{Wrong};
+    ghost use Rattle.warg_log.specs.Rules.{LogOffence};
     ghost use Rattle.warg_operator_log.specs.State.{offence_of};
 
-    ghost from_gives = { λ r e. offence_of e ≡ option_map Wrong.Shared (shared.offence_of r) };
+    ghost from_gives = { λ r e. offence_of e ≡ option_map LogOffence.Shared (shared.offence_of r) };
 
     fn from(refusal: Refusal<Permission>) -> ValidationError {
         match refusal {

@@ -3,7 +3,7 @@ ghost use Rattle.std.specs.Prelude.{◌≡◌, ◌↔◌, ◌≤◌, ℕ, List, 
 ghost use Rattle.warg_envelope.specs.EnvelopeData.{EnvelopeData};
 ghost use Rattle.warg_validator.specs.Kinds.{SignatureRelation, IsAccepted, StandsFor};
 ghost use Rattle.std.specs.Prelude.{Option};
-ghost use Rattle.warg_log.specs.Records.{version_offence};
+ghost use Rattle.warg_log.specs.RecordOffences.{version_offence};
 ghost use Rattle.warg_log.specs.declared.head.Head.{Head};
 ghost use Rattle.warg_operator_log.specs.NamespaceMap.{namespace_view};
 ghost use Rattle.warg_operator_log.specs.Namespaces.{Namespace, record_id_of};
@@ -11,7 +11,7 @@ ghost use Rattle.warg_operator_log.specs.State.{offence_of, view_of, View, recor
 ghost use Rattle.warg_records.specs.OperatorEntries.{OperatorOwnEntry};
 ghost use Rattle.warg_permissions.specs.declared.operator.Permission.{Permission};
 ghost use Rattle.warg_log.specs.Rules.{SignedRecord};
-ghost use Rattle.warg_log.specs.Possible.{IsPossible};
+ghost use Rattle.warg_log.specs.PossibleOffences.{IsPossible};
 ghost use Rattle.warg_operator_log.specs.StateLaws.{kind, AreEquivalent};
 ghost use Rattle.warg_operator_log.specs.declared.namespace.NamespaceState.{NamespaceState};
 ghost use Rattle.warg_operator_log.specs.declared.error.ValidationError.{ValidationError};
@@ -19,7 +19,7 @@ ghost use Rattle.warg_operator_log.specs.declared.error.ValidationError.TheVaria
 ghost use Rattle.warg_envelope.specs.Envelopes.{envelope_of, envelope_fault_of};
 ghost use Rattle.warg_envelope.specs.Faults.{fault_of};
 ghost use Rattle.warg_records.specs.OperatorReading.{operator_record_of};
-ghost use Rattle.warg_validator.specs.Outcomes.{IsRun, IfStarted, told};
+ghost use Rattle.warg_validator.specs.OutcomeRuns.{IsRun, IfStarted, cause_named_by};
 ghost use Rattle.warg_validator.specs.Strings.{read_all};
 ghost use Rattle.warg_validator.specs.declared.replay.RunError.{RunError};
 ghost use Rattle.warg_log.specs.Admissions.{NoKeyBringsItselfIn};
@@ -72,11 +72,11 @@ pub fn states_tell_history()
         (es : List EnvelopeData) →
         StandsFor kind view_of s es → TellsHistory s es }
     ensures run { let read = envelope_of operator_record_of in
-        let told_by = told (envelope_fault_of fault_of) offence_of in
+        let named_by = cause_named_by (envelope_fault_of fault_of) offence_of in
         (b : SignatureRelation) (strings : List (List ℕ))
         (answer : Result (State (AuthorityData Permission) (List (List ℕ × Namespace)))
         (RunError ValidationError)) →
-        IfStarted (IsRun kind b read kind.view_of view_of told_by ◌≡◌ strings) answer →
+        IfStarted (IsRun kind b read kind.view_of view_of named_by ◌≡◌ strings) answer →
         IfOk answer (λ s. IsAccepted kind b (read_all read strings) ×
         TellsHistory s (read_all read strings)) }
 {}

@@ -8,9 +8,9 @@ ghost use Rattle.std.specs.Cmp.{partial_equiv_from_equiv};
 ghost use Rattle.indexmap.specs.IndexMap.{get_by_text};
 ghost use Rattle.warg_registry.specs.KebabNames.{IsKebabName, is_kebab_name};
 ghost use Rattle.warg_records.specs.OperatorEntries.{OperatorOwnEntry, entry_data, record_data};
-ghost use Rattle.warg_log.specs.Judging.{ReturnsOffence};
+ghost use Rattle.warg_validator.specs.OutcomeOffences.{ReturnsOffence};
 ghost use Rattle.warg_log.specs.Offences as shared;
-ghost use Rattle.warg_log.specs.Rules.{Wrong};
+ghost use Rattle.warg_log.specs.Rules.{LogOffence};
 ghost use Rattle.warg_operator_log.specs.Namespaces.{OwnOffence, Names, Namespace, names, names_over, name_offence, rules, names-none, names-append, equivalent_names_offence, equivalent_names_after};
 ghost use Rattle.warg_operator_log.specs.NamespaceMap.{namespace_view, HasKebabNames};
 ghost use Rattle.warg_operator_log.specs.SameNamespaces.{same_namespaces};
@@ -25,14 +25,13 @@ use crate::namespaces::Namespaces;
 use indexmap::IndexMap;
 use std::alloc::{AllocError, Global};
 use std::marker::Model;
-use warg_crypto::Timestamp;
 use warg_crypto::hash::Sha256;
-use warg_crypto::signing::KeyID;
 use warg_envelope::ProtoEnvelope;
-use warg_log::{EntryRef, LogKind, RecordRef, Refusal, put_all};
+use warg_log::{EntryRef, Origin, OwnState, RecordRef, Refusal, put_all};
 use warg_records::RecordId;
 use warg_records::operator::{OperatorEntry, OperatorRecord, Permission};
 use warg_registry::PackageName;
+use warg_time::Timestamp;
 
 /// The namespaces of a log, by name.
 #[derive(Debug, Drop)]
@@ -43,13 +42,13 @@ pub struct NamespaceMap {
 impl Model for NamespaceMap {
     ghost use Rattle.std.specs.Prelude.{List, ℕ};
     ghost use Rattle.warg_operator_log.specs.Namespaces.{Namespace};
-    ghost use Rattle.warg_operator_log.specs.NamespaceMap.{named, HasKebabNames};
+    ghost use Rattle.warg_operator_log.specs.NamespaceMap.{namespace_entries, HasKebabNames};
 
     ghost Value = { List (List ℕ × Namespace) };
 
-    ghost view = { λ a. named a.map.entries };
+    ghost view = { λ a. namespace_entries a.map.entries };
 
-    ghost invariant = { λ a. HasKebabNames (named a.map.entries) };
+    ghost invariant = { λ a. HasKebabNames (namespace_entries a.map.entries) };
 }
 
 /// Whether the entry defines or imports a namespace.
@@ -125,7 +124,7 @@ impl NamespaceMap {
         name: &String,
         state: NamespaceState,
     ) -> Result<(), ValidationError>
-        ensures judges { ReturnsOffence offence_of (option_map Wrong.Own
+        ensures judges { ReturnsOffence offence_of (option_map LogOffence.Own
             (name_offence (names_over self.now changes.old) (string_bytes name.now))) result }
         ensures after { OnOk result ((k : List ℕ) → names_over self.now changes.new k
             ≡ (if bytes_eq (string_bytes name.now) k then Some
@@ -146,7 +145,7 @@ impl NamespaceMap {
     }
 }
 
-impl LogKind for NamespaceMap {
+impl OwnState for NamespaceMap {
     ghost use Rattle.std.proofs.Common as common;
     ghost use Rattle.warg_operator_log.specs.ErrorLaws as errors;
 
@@ -170,7 +169,7 @@ impl LogKind for NamespaceMap {
 
     ghost view = { names };
 
-    ghost changed = { names_over };
+    ghost view_with_change = { names_over };
 
     ghost equivalent = { λ v w. v ≡ w };
 
@@ -178,7 +177,7 @@ impl LogKind for NamespaceMap {
 
     ghost entry_data = { entry_data };
 
-    ghost told = { offence_of };
+    ghost offence_named_by = { offence_of };
 
     ghost signs_under = { refl };
 
@@ -253,7 +252,7 @@ impl LogKind for NamespaceMap {
     }
 
     fn refused(refusal: Refusal<Permission>) -> ValidationError
-        ensures { offence_of result ≡ option_map Wrong.Shared (shared.offence_of refusal) }
+        ensures { offence_of result ≡ option_map LogOffence.Shared (shared.offence_of refusal) }
     {
         ValidationError::from(refusal)
     }
@@ -271,9 +270,7 @@ impl LogKind for NamespaceMap {
         &self,
         change: &mut NamespaceMap,
         entry: &OperatorEntry,
-        _signer: &KeyID,
-        _timestamp: Timestamp,
-        _record_id: RecordId,
+        _origin: &Origin<'_>,
     ) -> Result<(), ValidationError> {
         match entry {
             OperatorEntry::DefineNamespace { namespace } => {

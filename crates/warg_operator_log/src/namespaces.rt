@@ -21,11 +21,11 @@ pub struct Namespaces<'a> {
 impl<'a> Model for Namespaces<'a> {
     ghost use Rattle.std.specs.Prelude.{ℕ, List};
     ghost use Rattle.warg_operator_log.specs.Namespaces.{Namespace};
-    ghost use Rattle.warg_operator_log.specs.NamespaceMap.{named};
+    ghost use Rattle.warg_operator_log.specs.NamespaceMap.{namespace_entries};
 
     ghost Value = { List (List ℕ × Namespace) };
 
-    ghost view = { λ a. named a.inner };
+    ghost view = { λ a. namespace_entries a.inner };
 }
 
 impl<'a> Iterator for Namespaces<'a> {

@@ -2,16 +2,16 @@
 use Rattle.std.specs.Prelude.{◌≡◌, ◌≤◌, List, codes, Some}
 use Rattle.std.proofs.Common.{arith}
 use Rattle.serde_json.specs.Data.{no_members, object}
-use Rattle.warg_crypto.specs.Json.{wrote}
-use Rattle.warg_crypto.specs.JsonTexts.{algorithm_json, key_json}
-use Rattle.warg_crypto.specs.Members.{put_option}
+use Rattle.warg_json.specs.Json.{json_result}
+use Rattle.warg_json.specs.JsonTexts.{algorithm_json, key_json}
+use Rattle.warg_json.specs.Members.{put_option}
 use Rattle.warg_permissions.specs.PackagePermissions.{permission_text}
 use Rattle.warg_permissions.specs.declared.package.Permission.{Permission}
 use Rattle.warg_saved.specs.Canonical.{WritesCanonical}
 use Rattle.warg_saved.specs.CanonicalLaws.{none_canonical, option_canonical, pairs_canonical, texts_canonical, then_canonical}
 use Rattle.warg_saved.specs.Maps.{put_pairs}
-use Rattle.warg_saved.specs.Names.{text_name, version_name}
-use Rattle.warg_saved.specs.Permissions.{permissions_json}
+use Rattle.warg_saved.specs.MapNames.{text_name, version_name}
+use Rattle.warg_saved.specs.SavedPermissions.{permissions_json}
 use Rattle.warg_log.specs.AuthorityData.{AuthorityData}
 use Rattle.warg_log.specs.HeadJson.{head_json}
 use Rattle.warg_log.specs.States.{State}
@@ -34,5 +34,5 @@ state_canonical s versioned =
     (pairs_canonical 125 text_name rights (λ ps. texts_canonical 124 permission_text ps) (codes "permissions") s.authority.rights b b_is) (λ c c_is.
     then_canonical 127 (put_pairs version_name release_json (codes "releases") (named_releases s.own_state) c) _
     (pairs_canonical 125 version_name release_json release_canonical (codes "releases") (named_releases s.own_state) c c_is) (λ d d_is.
-    then_canonical 127 (put_pairs text_name key_json (codes "keys") s.authority.keys d) (λ ms. wrote (object ms))
+    then_canonical 127 (put_pairs text_name key_json (codes "keys") s.authority.keys d) (λ ms. json_result (object ms))
     (pairs_canonical 125 text_name key_json (λ key. tt) (codes "keys") s.authority.keys d d_is) (λ ms m. m)))))

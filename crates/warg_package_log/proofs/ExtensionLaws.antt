@@ -2,7 +2,7 @@
 use Rattle.std.proofs.Common.{◌≡◌, inl, inr, ℕ, List, [], ◌∷◌, ◌++◌, map, Bool, true, false, cond, Some, None, refl, sym, ap, ◌∙◌, subst, true≢false, if◌then◌else◌}
 use Rattle.std.specs.List.{AllByRecursion}
 use Rattle.std.specs.Option.{option_map}
-use Rattle.warg_crypto.specs.Times.{Time}
+use Rattle.warg_time.specs.Times.{Time}
 use Rattle.warg_records.specs.PackageEntries.{VersionParts, PackageOwnEntry, Release, Yank}
 use Rattle.warg_records.specs.declared.record_id.RecordId.{RecordId}
 use Rattle.warg_validator.specs.Walks.{view_after, AllLawful}
@@ -10,10 +10,10 @@ use Rattle.warg_log.specs.SignedEntries.{latest}
 use Rattle.warg_log.specs.Rules.{Event}
 use Rattle.warg_log.proofs.SignedEntryLaws.{latest-one}
 use Rattle.warg_package_log.specs.Versions.{same_parts}
-use Rattle.warg_package_log.specs.Releases.{ReleaseView, yanks, turned, released, releases_after, find_parts, own_offence, unyankable, is_yanked, versions}
+use Rattle.warg_package_log.specs.Releases.{ReleaseView, state_if_yanked, with_later_yanks, releases_made, releases_after, find_parts, own_offence, unyankable, is_yanked, versions}
 use Rattle.warg_package_log.specs.ReleaseMap.{AreDistinct}
 use Rattle.warg_package_log.specs.Extensions.{IsKeptState, IsKept, IsExtension}
-use Rattle.warg_package_log.specs.ListedReleases.{own_after, own_wrong}
+use Rattle.warg_package_log.specs.ListedReleases.{own_after, event_offence}
 use Rattle.warg_package_log.specs.ListedReleaseLaws.{unless_none}
 use Rattle.warg_package_log.specs.SameReleaseLaws.{exact_parts}
 use Rattle.warg_package_log.proofs.ReleaseMapLemmas.{distinct-release}
@@ -57,10 +57,10 @@ module _ (signer : List ℕ) (time : Time) (id : RecordId) where
   event o = record { entry = o; signer = signer; time = time; record_id = id }
 
   -- a Yank keeps a release that it does not name, and one that stands
-  kept-yank : (v : VersionParts) (r : ReleaseView) → (same_parts v r.version ≡ true → is_yanked r.state ≡ false) → IsKept r (turned (event (Yank v) ∷ []) r)
+  kept-yank : (v : VersionParts) (r : ReleaseView) → (same_parts v r.version ≡ true → is_yanked r.state ≡ false) → IsKept r (with_later_yanks (event (Yank v) ∷ []) r)
   kept-yank v r stands = record { record_id = refl; version = refl; by = refl; timestamp = refl; state = by (same_parts v r.version) refl }
     where
-      by : (b : Bool) → same_parts v r.version ≡ b → IsKeptState r.state (latest (yanks r.version) r.state (event (Yank v) ∷ []))
+      by : (b : Bool) → same_parts v r.version ≡ b → IsKeptState r.state (latest (state_if_yanked r.version) r.state (event (Yank v) ∷ []))
       by true e = inr (stands e, ap is_yanked (latest-one (same_parts v r.version) (Yanked signer time) r.state ∙ ap (λ b. if b then Yanked signer time else r.state) e))
       by false e = inl (sym (latest-one (same_parts v r.version) (Yanked signer time) r.state ∙ ap (λ b. if b then Yanked signer time else r.state) e))
 
@@ -69,32 +69,32 @@ module _ (signer : List ℕ) (time : Time) (id : RecordId) where
   elsewhere v r q here apart there = absurd (true≢false (sym there ∙ ap (λ w. same_parts w q.version) (exact_parts v r.version here) ∙ apart))
 
   others-kept : (v : VersionParts) (r : ReleaseView) (rs more : List ReleaseView) → same_parts v r.version ≡ true → AllByRecursion (λ w. same_parts r.version w ≡ false) (versions rs)
-      → IsExtension rs (map (turned (event (Yank v) ∷ [])) rs ++ more)
+      → IsExtension rs (map (with_later_yanks (event (Yank v) ∷ [])) rs ++ more)
   others-kept v r [] more here apart = tt
   others-kept v r (q ∷ rs) more here apart = (kept-yank v q (elsewhere v r q here apart.0), others-kept v r rs more here apart.1)
 
   yank-kept : (v : VersionParts) (rs more : List ReleaseView) → AreDistinct (versions rs) → unyankable v (option_map (λ r. r.state) (find_parts rs v)) ≡ None
-      → IsExtension rs (map (turned (event (Yank v) ∷ [])) rs ++ more)
+      → IsExtension rs (map (with_later_yanks (event (Yank v) ∷ [])) rs ++ more)
   yank-kept v [] more d h = tt
   yank-kept v (r ∷ rs) more d h = by (same_parts v r.version) refl h (yank-kept v rs more d.1)
     where
       by : (b : Bool) → same_parts v r.version ≡ b → unyankable v (option_map (λ r. r.state) (cond b (Some r) (find_parts rs v))) ≡ None
-          → (unyankable v (option_map (λ r. r.state) (find_parts rs v)) ≡ None → IsExtension rs (map (turned (event (Yank v) ∷ [])) rs ++ more))
-          → IsExtension (r ∷ rs) (map (turned (event (Yank v) ∷ [])) (r ∷ rs) ++ more)
+          → (unyankable v (option_map (λ r. r.state) (find_parts rs v)) ≡ None → IsExtension rs (map (with_later_yanks (event (Yank v) ∷ [])) rs ++ more))
+          → IsExtension (r ∷ rs) (map (with_later_yanks (event (Yank v) ∷ [])) (r ∷ rs) ++ more)
       by true e h rest = (kept-yank v r (λ _. unyanked v r.state h), others-kept v r rs more e d.0)
       by false e h rest = (kept-yank v r (λ t. absurd (true≢false (sym t ∙ e))), rest h)
 
-  release-kept : (v : VersionParts) (rs more : List ReleaseView) (o : PackageOwnEntry) → ((r : ReleaseView) → IsKept r (turned (event o ∷ []) r)) → IsExtension rs (map (turned (event o ∷ [])) rs ++ more)
+  release-kept : (v : VersionParts) (rs more : List ReleaseView) (o : PackageOwnEntry) → ((r : ReleaseView) → IsKept r (with_later_yanks (event o ∷ []) r)) → IsExtension rs (map (with_later_yanks (event o ∷ [])) rs ++ more)
   release-kept v [] more o each = tt
   release-kept v (r ∷ rs) more o each = (each r, release-kept v rs more o each)
 
   step-kept : (o : PackageOwnEntry) (rs : List ReleaseView) → AreDistinct (versions rs) → own_offence rs o ≡ None → IsExtension rs (releases_after rs (event o ∷ []))
-  step-kept (Release v content) rs d h = release-kept v rs (released (event (Release v content) ∷ [])) (Release v content) (λ r. kept-self r)
-  step-kept (Yank v) rs d h = yank-kept v rs (released (event (Yank v) ∷ [])) d h
+  step-kept (Release v content) rs d h = release-kept v rs (releases_made (event (Release v content) ∷ [])) (Release v content) (λ r. kept-self r)
+  step-kept (Yank v) rs d h = yank-kept v rs (releases_made (event (Yank v) ∷ [])) d h
 
-  versions-turned : (es : List (Event PackageOwnEntry)) (rs : List ReleaseView) → versions (map (turned es) rs) ≡ versions rs
-  versions-turned es [] = refl
-  versions-turned es (r ∷ rs) = ap (λ l. r.version ∷ l) (versions-turned es rs)
+  versions-with_later_yanks : (es : List (Event PackageOwnEntry)) (rs : List ReleaseView) → versions (map (with_later_yanks es) rs) ≡ versions rs
+  versions-with_later_yanks es [] = refl
+  versions-with_later_yanks es (r ∷ rs) = ap (λ l. r.version ∷ l) (versions-with_later_yanks es rs)
 
   find-versions : (v : VersionParts) (rs qs : List ReleaseView) → versions rs ≡ versions qs → find_parts rs v ≡ None → find_parts qs v ≡ None
   find-versions v rs [] same h = refl
@@ -120,13 +120,13 @@ module _ (signer : List ℕ) (time : Time) (id : RecordId) where
   step-distinct (Release v content) rs d h =
       let es = event (Release v content) ∷ [] in
       let made : ReleaseView = record { record_id = id; version = v; by = signer; timestamp = time; state = Released content } in
-      distinct-release (map (turned es) rs) made (find-versions v rs (map (turned es) rs) (sym (versions-turned es rs)) (unless_none (find_parts rs v) _ h)) (subst AreDistinct (sym (versions-turned es rs)) d)
+      distinct-release (map (with_later_yanks es) rs) made (find-versions v rs (map (with_later_yanks es) rs) (sym (versions-with_later_yanks es rs)) (unless_none (find_parts rs v) _ h)) (subst AreDistinct (sym (versions-with_later_yanks es rs)) d)
   step-distinct (Yank v) rs d h =
       let es = event (Yank v) ∷ [] in
-      subst (λ qs. AreDistinct (versions qs)) (sym (nil_end (map (turned es) rs))) (subst AreDistinct (sym (versions-turned es rs)) d)
+      subst (λ qs. AreDistinct (versions qs)) (sym (nil_end (map (with_later_yanks es) rs))) (subst AreDistinct (sym (versions-with_later_yanks es rs)) d)
 
 -- lawful events keep what stands before them
-pub lawful-kept : (rs : List ReleaseView) (es : List (Event PackageOwnEntry)) → AreDistinct (versions rs) → AllLawful own_after own_wrong rs es
+pub lawful-kept : (rs : List ReleaseView) (es : List (Event PackageOwnEntry)) → AreDistinct (versions rs) → AllLawful own_after event_offence rs es
     → IsExtension rs (view_after own_after rs es) × AreDistinct (versions (view_after own_after rs es))
 lawful-kept rs [] d h = (extension-self rs, d)
 lawful-kept rs (e ∷ es) d h =

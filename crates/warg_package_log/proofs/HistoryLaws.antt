@@ -8,7 +8,7 @@ use Rattle.warg_records.specs.PackageReading.{package_record_of}
 use Rattle.warg_permissions.specs.declared.package.Permission.{Permission}
 use Rattle.warg_validator.specs.declared.replay.RunError.{RunError}
 use Rattle.warg_validator.specs.Kinds.{SignatureRelation, IsAccepted, StandsFor}
-use Rattle.warg_validator.specs.Outcomes.{IsRun, IfStarted, told}
+use Rattle.warg_validator.specs.OutcomeRuns.{IsRun, IfStarted, cause_named_by}
 use Rattle.warg_validator.specs.Strings.{read_all}
 use Rattle.warg_validator.proofs.RunLaws.{run-then}
 use Rattle.warg_log.specs.AuthorityData.{AuthorityData}
@@ -30,7 +30,7 @@ stands-tells s es h = record {
 }
 
 pub run-tells : (b : SignatureRelation) (strings : List (List ℕ)) (answer : Result (State (AuthorityData Permission) (List ReleaseView)) (RunError ValidationError)) → let read = envelope_of package_record_of in
-    IfStarted (IsRun kind b read kind.view_of view_of (told (envelope_fault_of fault_of) offence_of) ◌≡◌ strings) answer → IfOk answer (λ s. IsAccepted kind b (read_all read strings) × TellsHistory s (read_all read strings))
+    IfStarted (IsRun kind b read kind.view_of view_of (cause_named_by (envelope_fault_of fault_of) offence_of) ◌≡◌ strings) answer → IfOk answer (λ s. IsAccepted kind b (read_all read strings) × TellsHistory s (read_all read strings))
 run-tells b strings =
     let envelopes = read_all (envelope_of package_record_of) strings in
-    run-then kind state_laws b (envelope_of package_record_of) view_of (told (envelope_fault_of fault_of) offence_of) strings (λ s. IsAccepted kind b envelopes × TellsHistory s envelopes) (λ s accepted stands. (accepted, stands-tells s envelopes stands))
+    run-then kind state_laws b (envelope_of package_record_of) view_of (cause_named_by (envelope_fault_of fault_of) offence_of) strings (λ s. IsAccepted kind b envelopes × TellsHistory s envelopes) (λ s accepted stands. (accepted, stands-tells s envelopes stands))

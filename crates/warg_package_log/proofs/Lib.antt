@@ -4,7 +4,7 @@ pub mod PutLaws
 pub mod ExtensionLaws
 pub mod Greatest
 pub mod HistoryLaws
-pub mod Judging
+pub mod ReleaseLookups
 pub mod SameLemmas
 pub mod YankLaws
 pub mod ReleaseJsonLaws

@@ -4,15 +4,15 @@ use Rattle.std.specs.Prelude.{find}
 use Rattle.std.specs.List.{filter_map, cons_option}
 use Rattle.std.specs.Option.{option_map, option_map_or, option_or}
 use Rattle.std.proofs.lemmas.List.Folds.{find-append}
-use Rattle.warg_crypto.specs.Times.{Time}
+use Rattle.warg_time.specs.Times.{Time}
 use Rattle.warg_records.specs.PackageEntries.{VersionParts, PackageOwnEntry, Release, Yank}
 use Rattle.warg_records.specs.declared.record_id.RecordId.{RecordId}
 use Rattle.warg_validator.specs.Walks.{AllLawful}
 use Rattle.warg_log.specs.Rules.{Event}
 use Rattle.warg_log.proofs.SignedEntryLaws.{latest-one}
-use Rattle.warg_package_log.specs.EquivalentReleaseLaws.{find-turned}
-use Rattle.warg_package_log.specs.ListedReleases.{own_after, own_wrong}
-use Rattle.warg_package_log.specs.Releases.{ReleaseView, yanks, turned, released, releases_after, find_parts, own_offence, unyankable, is_yanked}
+use Rattle.warg_package_log.specs.EquivalentReleaseLaws.{find-with_later_yanks}
+use Rattle.warg_package_log.specs.ListedReleases.{own_after, event_offence}
+use Rattle.warg_package_log.specs.Releases.{ReleaseView, state_if_yanked, with_later_yanks, releases_made, releases_after, find_parts, own_offence, unyankable, is_yanked}
 use Rattle.warg_package_log.specs.SameReleaseLaws.{exact_parts}
 use Rattle.warg_package_log.specs.Versions.{same_parts}
 use Rattle.warg_package_log.specs.declared.release.ReleaseState.{ReleaseState}
@@ -48,10 +48,10 @@ found_passes t (x ∷ rs) r h = by (t x) refl h (found_passes t rs r)
     by false e g rest = rest g
 
 -- what is found stays, turned by the event
-found_after : (rs : List ReleaseView) (e : Event PackageOwnEntry) (v : VersionParts) (r : ReleaseView) → find_parts rs v ≡ Some r → find_parts (releases_after rs (e ∷ [])) v ≡ Some (turned (e ∷ []) r)
+found_after : (rs : List ReleaseView) (e : Event PackageOwnEntry) (v : VersionParts) (r : ReleaseView) → find_parts rs v ≡ Some r → find_parts (releases_after rs (e ∷ [])) v ≡ Some (with_later_yanks (e ∷ []) r)
 found_after rs e v r h =
-    find-append (λ q. same_parts v q.version) (map (turned (e ∷ [])) rs) (released (e ∷ []))
-    ∙ ap (λ o. option_or o (find_parts (released (e ∷ [])) v)) (find-turned (e ∷ []) v rs ∙ ap (option_map (turned (e ∷ []))) h)
+    find-append (λ q. same_parts v q.version) (map (with_later_yanks (e ∷ [])) rs) (releases_made (e ∷ []))
+    ∙ ap (λ o. option_or o (find_parts (releases_made (e ∷ [])) v)) (find-with_later_yanks (e ∷ []) v rs ∙ ap (option_map (with_later_yanks (e ∷ []))) h)
 
 module _ (signer : List ℕ) (time : Time) (id : RecordId) where
   abbrev event : PackageOwnEntry → Event PackageOwnEntry
@@ -62,7 +62,7 @@ module _ (signer : List ℕ) (time : Time) (id : RecordId) where
   turned_down false s down = down
 
   -- a yanked release stays so
-  stays_down : (o : PackageOwnEntry) (r : ReleaseView) → is_yanked r.state ≡ true → is_yanked (turned (event o ∷ []) r).state ≡ true
+  stays_down : (o : PackageOwnEntry) (r : ReleaseView) → is_yanked r.state ≡ true → is_yanked (with_later_yanks (event o ∷ []) r).state ≡ true
   stays_down (Release w content) r down = down
   stays_down (Yank w) r down = ap is_yanked (latest-one (same_parts w r.version) (Yanked signer time) r.state) ∙ turned_down (same_parts w r.version) r.state down
 
@@ -79,7 +79,7 @@ module _ (signer : List ℕ) (time : Time) (id : RecordId) where
       ∙ ap is_yanked (latest-one (same_parts v r.version) (Yanked signer time) r.state ∙ ap (λ b. if b then Yanked signer time else r.state) (found_passes (λ q. same_parts v q.version) rs r found.1))
 
   -- an event is no Yank of a version whose release is yanked
-  silent : (rs : List ReleaseView) (o : PackageOwnEntry) (v : VersionParts) → is_down rs v ≡ true → own_offence rs o ≡ None → yanks v (event o) ≡ None
+  silent : (rs : List ReleaseView) (o : PackageOwnEntry) (v : VersionParts) → is_down rs v ≡ true → own_offence rs o ≡ None → state_if_yanked v (event o) ≡ None
   silent rs (Release w content) v down h = refl
   silent rs (Yank w) v down h = by (same_parts w v) refl
     where
@@ -88,7 +88,7 @@ module _ (signer : List ℕ) (time : Time) (id : RecordId) where
       by false e = ap (λ b. if b then Some (Yanked signer time) else None) e
 
   -- an event that yanks a version leaves its release yanked
-  spoken : (rs : List ReleaseView) (o : PackageOwnEntry) (v : VersionParts) (s : ReleaseState) → own_offence rs o ≡ None → yanks v (event o) ≡ Some s → is_down (releases_after rs (event o ∷ [])) v ≡ true
+  spoken : (rs : List ReleaseView) (o : PackageOwnEntry) (v : VersionParts) (s : ReleaseState) → own_offence rs o ≡ None → state_if_yanked v (event o) ≡ Some s → is_down (releases_after rs (event o ∷ [])) v ≡ true
   spoken rs (Release w content) v s h says = cc
   spoken rs (Yank w) v s h says = by (same_parts w v) refl
     where
@@ -100,17 +100,17 @@ module _ (signer : List ℕ) (time : Time) (id : RecordId) where
           never g = cc
 
 -- no Yank follows on a yanked release
-none_more : (rs : List ReleaseView) (es : List (Event PackageOwnEntry)) (v : VersionParts) → is_down rs v ≡ true → AllLawful own_after own_wrong rs es → filter_map (yanks v) es ≡ []
+none_more : (rs : List ReleaseView) (es : List (Event PackageOwnEntry)) (v : VersionParts) → is_down rs v ≡ true → AllLawful own_after event_offence rs es → filter_map (state_if_yanked v) es ≡ []
 none_more rs [] v down h = refl
 none_more rs (e ∷ es) v down h =
-    ap (λ o. cons_option o (filter_map (yanks v) es)) (silent e.signer e.time e.record_id rs e.entry v down h.0)
+    ap (λ o. cons_option o (filter_map (state_if_yanked v) es)) (silent e.signer e.time e.record_id rs e.entry v down h.0)
     ∙ none_more (releases_after rs (e ∷ [])) es v (still_down e.signer e.time e.record_id rs e.entry v (find_parts rs v) refl down) h.1
 
 -- a version has one Yank at most
-pub one-yank : (rs : List ReleaseView) (es : List (Event PackageOwnEntry)) (v : VersionParts) → AllLawful own_after own_wrong rs es → length (filter_map (yanks v) es) ≤ 1
+pub one-yank : (rs : List ReleaseView) (es : List (Event PackageOwnEntry)) (v : VersionParts) → AllLawful own_after event_offence rs es → length (filter_map (state_if_yanked v) es) ≤ 1
 one-yank rs [] v h = omega arith
-one-yank rs (e ∷ es) v h = by (one-yank (releases_after rs (e ∷ [])) es v h.1) (yanks v e) refl
+one-yank rs (e ∷ es) v h = by (one-yank (releases_after rs (e ∷ [])) es v h.1) (state_if_yanked v e) refl
   where
-    by : length (filter_map (yanks v) es) ≤ 1 → (o : Option ReleaseState) → yanks v e ≡ o → length (cons_option (yanks v e) (filter_map (yanks v) es)) ≤ 1
+    by : length (filter_map (state_if_yanked v) es) ≤ 1 → (o : Option ReleaseState) → state_if_yanked v e ≡ o → length (cons_option (state_if_yanked v e) (filter_map (state_if_yanked v) es)) ≤ 1
     by later None says = rw says later
     by later (Some s) says = rw (says, none_more (releases_after rs (e ∷ [])) es v (spoken e.signer e.time e.record_id rs e.entry v s h.0 says) h.1) (omega arith)

@@ -6,6 +6,7 @@ pub mod Latest
 pub mod ListedReleaseLaws
 pub mod ListedReleases
 pub mod OffenceNames
+pub mod ErrorTexts
 pub mod ReadVersionLaws
 pub mod ReleaseLaws
 pub mod Releases

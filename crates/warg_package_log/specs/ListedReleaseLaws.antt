@@ -6,7 +6,7 @@ use Rattle.std.specs.Option.{option_map, option_or}
 use Rattle.std.proofs.lemmas.Bool.{cases_Bool}
 use Rattle.std.proofs.lemmas.List.Folds.{find-append}
 use Rattle.std.proofs.lemmas.List.Elements.{filter_map-append}
-use Rattle.warg_crypto.specs.Times.{Time}
+use Rattle.warg_time.specs.Times.{Time}
 use Rattle.warg_records.specs.PackageEntries.{VersionParts, PackageOwnEntry, Release, Yank}
 use Rattle.warg_records.specs.declared.record_id.RecordId.{RecordId}
 use Rattle.warg_validator.specs.Walks.{view_after, AllLawful, IsStepwise}
@@ -16,10 +16,10 @@ use Rattle.warg_log.specs.Offences.{unless}
 use Rattle.warg_log.specs.Rules.{Event}
 use Rattle.warg_log.proofs.SignedEntryLaws.{latest-append, latest-one}
 use Rattle.warg_package_log.specs.Versions.{same_parts}
-use Rattle.warg_package_log.specs.Releases.{OwnOffence, ReleaseView, yanks, made_by, turned, released, releases_after, find_parts, own_offence, unyankable}
-use Rattle.warg_package_log.specs.ReleaseLaws.{turned-append, releases-none, releases-append}
-use Rattle.warg_package_log.specs.EquivalentReleaseLaws.{find-turned}
-use Rattle.warg_package_log.specs.ListedReleases.{with_yank, listed_releases, own_after, own_wrong}
+use Rattle.warg_package_log.specs.Releases.{OwnOffence, ReleaseView, state_if_yanked, release_made_by_event, with_later_yanks, releases_made, releases_after, find_parts, own_offence, unyankable}
+use Rattle.warg_package_log.specs.ReleaseLaws.{with_later_yanks-append, releases-none, releases-append}
+use Rattle.warg_package_log.specs.EquivalentReleaseLaws.{find-with_later_yanks}
+use Rattle.warg_package_log.specs.ListedReleases.{with_yank, listed_releases, own_after, event_offence}
 use Rattle.warg_package_log.specs.SameReleaseLaws.{exact_parts}
 use Rattle.warg_package_log.specs.declared.release.ReleaseState.{ReleaseState}
 use Rattle.warg_package_log.specs.declared.release.ReleaseState.TheVariants.{Released, Yanked}
@@ -29,16 +29,16 @@ some≢none h = true≢false (ap is_some h)
 
 -- no Yank is of a version that is not released
 abbrev pub NoStray : List (Event PackageOwnEntry) → Type 0
-NoStray es = (v : VersionParts) → find_parts (listed_releases es) v ≡ None → (s : ReleaseState) → latest (yanks v) s es ≡ s
+NoStray es = (v : VersionParts) → find_parts (listed_releases es) v ≡ None → (s : ReleaseState) → latest (state_if_yanked v) s es ≡ s
 
-turned_cons : (ys : List (Event PackageOwnEntry)) (m : Option ReleaseView) (xs : List (Event PackageOwnEntry)) (rs : List ReleaseView) → cons_option (option_map (with_yank (xs ++ ys)) m) (map (turned ys) rs) ≡ map (turned ys) (cons_option (option_map (with_yank xs) m) rs)
+turned_cons : (ys : List (Event PackageOwnEntry)) (m : Option ReleaseView) (xs : List (Event PackageOwnEntry)) (rs : List ReleaseView) → cons_option (option_map (with_yank (xs ++ ys)) m) (map (with_later_yanks ys) rs) ≡ map (with_later_yanks ys) (cons_option (option_map (with_yank xs) m) rs)
 turned_cons ys None xs rs = refl
-turned_cons ys (Some r) xs rs = ap (λ x. x ∷ map (turned ys) rs) (turned-append xs ys r)
+turned_cons ys (Some r) xs rs = ap (λ x. x ∷ map (with_later_yanks ys) rs) (with_later_yanks-append xs ys r)
 
 turned_front : (xs ys zs : List (Event PackageOwnEntry))
-    → filter_map (λ e. option_map (with_yank (xs ++ ys)) (made_by e)) zs ≡ map (turned ys) (filter_map (λ e. option_map (with_yank xs) (made_by e)) zs)
+    → filter_map (λ e. option_map (with_yank (xs ++ ys)) (release_made_by_event e)) zs ≡ map (with_later_yanks ys) (filter_map (λ e. option_map (with_yank xs) (release_made_by_event e)) zs)
 turned_front xs ys [] = refl
-turned_front xs ys (z ∷ zs) = ap (cons_option (option_map (with_yank (xs ++ ys)) (made_by z))) (turned_front xs ys zs) ∙ turned_cons ys (made_by z) xs (filter_map (λ e. option_map (with_yank xs) (made_by e)) zs)
+turned_front xs ys (z ∷ zs) = ap (cons_option (option_map (with_yank (xs ++ ys)) (release_made_by_event z))) (turned_front xs ys zs) ∙ turned_cons ys (release_made_by_event z) xs (filter_map (λ e. option_map (with_yank xs) (release_made_by_event e)) zs)
 
 none_first : {A : Type 0} (a b : Option A) → option_or a b ≡ None → a ≡ None
 none_first None b h = refl
@@ -64,13 +64,13 @@ module _ (es : List (Event PackageOwnEntry)) (stray : NoStray es) where
       → listed_releases (es ++ e ∷ []) ≡ releases_after (listed_releases es) (e ∷ []) → (w : VersionParts)
       → find_parts (listed_releases (es ++ e ∷ [])) w ≡ None → find_parts (listed_releases es) w ≡ None
   found_before e is w h =
-      let whole = sym (find-append (λ r. same_parts w r.version) (map (turned (e ∷ [])) (listed_releases es)) (released (e ∷ []))) ∙ ap (λ l. find_parts l w) (sym is) ∙ h in
-      none_inside (turned (e ∷ [])) (find_parts (listed_releases es) w) (sym (find-turned (e ∷ []) w (listed_releases es)) ∙ none_first _ (find_parts (released (e ∷ [])) w) whole)
+      let whole = sym (find-append (λ r. same_parts w r.version) (map (with_later_yanks (e ∷ [])) (listed_releases es)) (releases_made (e ∷ []))) ∙ ap (λ l. find_parts l w) (sym is) ∙ h in
+      none_inside (with_later_yanks (e ∷ [])) (find_parts (listed_releases es) w) (sym (find-with_later_yanks (e ∷ []) w (listed_releases es)) ∙ none_first _ (find_parts (releases_made (e ∷ [])) w) whole)
 
   push : (e : Event PackageOwnEntry)
-      → cons_option (option_map (with_yank (es ++ e ∷ [])) (made_by e)) [] ≡ released (e ∷ [])
+      → cons_option (option_map (with_yank (es ++ e ∷ [])) (release_made_by_event e)) [] ≡ releases_made (e ∷ [])
       → listed_releases (es ++ e ∷ []) ≡ releases_after (listed_releases es) (e ∷ [])
-  push e last = filter_map-append (λ x. option_map (with_yank (es ++ e ∷ [])) (made_by x)) es (e ∷ []) ∙ (λ i. turned_front es (e ∷ []) es i ++ last i)
+  push e last = filter_map-append (λ x. option_map (with_yank (es ++ e ∷ [])) (release_made_by_event x)) es (e ∷ []) ∙ (λ i. turned_front es (e ∷ []) es i ++ last i)
 
   module _ (signer : List ℕ) (time : Time) (id : RecordId) where
     -- an own entry as an event of this signer, time and record
@@ -79,8 +79,8 @@ module _ (es : List (Event PackageOwnEntry)) (stray : NoStray es) where
 
     last_said : (o : PackageOwnEntry) (w : VersionParts) → find_parts (listed_releases es) w ≡ None
         → (s : ReleaseState)
-        → latest (yanks w) s (es ++ event o ∷ []) ≡ latest (yanks w) s (event o ∷ [])
-    last_said o w none s = latest-append (yanks w) s es (event o ∷ []) ∙ ap (λ t. latest (yanks w) t (event o ∷ [])) (stray w none s)
+        → latest (state_if_yanked w) s (es ++ event o ∷ []) ≡ latest (state_if_yanked w) s (event o ∷ [])
+    last_said o w none s = latest-append (state_if_yanked w) s es (event o ∷ []) ∙ ap (λ t. latest (state_if_yanked w) t (event o ∷ [])) (stray w none s)
 
     other : (v w : VersionParts) → own_offence (listed_releases es) (Yank v) ≡ None
         → find_parts (listed_releases es) w ≡ None
@@ -111,10 +111,10 @@ view-after rs [] = releases-none rs
 view-after rs (e ∷ es) = view-after (releases_after rs (e ∷ [])) es ∙ sym (releases-append rs (e ∷ []) es)
 
 -- one more event, as long as none has an offence
-pub releases-stepwise : IsStepwise own_after own_wrong [] listed_releases NoStray
+pub releases-stepwise : IsStepwise own_after event_offence [] listed_releases NoStray
 releases-stepwise = record { none = refl; good = λ v none s. refl; more = λ es e stray h. one_more es stray e.signer e.time e.record_id e.entry h }
 
 -- of events without offence, the releases by filters are those made event by event
-pub releases-listed : (es : List (Event PackageOwnEntry)) → AllLawful own_after own_wrong [] es
+pub releases-listed : (es : List (Event PackageOwnEntry)) → AllLawful own_after event_offence [] es
     → listed_releases es ≡ releases_after [] es
-releases-listed es h = (lawful-view own_wrong own_after [] listed_releases NoStray releases-stepwise es h).1 ∙ view-after [] es
+releases-listed es h = (lawful-view event_offence own_after [] listed_releases NoStray releases-stepwise es h).1 ∙ view-after [] es

@@ -4,20 +4,20 @@ use Rattle.std.specs.List.{filter_map, last_or}
 use Rattle.std.specs.Option.{option_map}
 use Rattle.warg_records.specs.PackageEntries.{PackageOwnEntry}
 use Rattle.warg_log.specs.Rules.{Event}
-use Rattle.warg_package_log.specs.Releases.{ReleaseView, OwnOffence, made_by, yanks, releases_after, own_offence}
+use Rattle.warg_package_log.specs.Releases.{ReleaseView, OwnOffence, release_made_by_event, state_if_yanked, releases_after, own_offence}
 
 -- the release, Yanked if a Yank of its version stands anywhere in the events
 abbrev pub with_yank : List (Event PackageOwnEntry) → ReleaseView → ReleaseView
-with_yank events r = record r { state = unwrap_or (last_or None (filter_map (yanks r.version) events)) r.state }
+with_yank events r = record r { state = unwrap_or (last_or None (filter_map (state_if_yanked r.version) events)) r.state }
 
 -- the releases of the events, in order
 abbrev pub listed_releases : List (Event PackageOwnEntry) → List ReleaseView
-listed_releases events = filter_map (λ e. option_map (with_yank events) (made_by e)) events
+listed_releases events = filter_map (λ e. option_map (with_yank events) (release_made_by_event e)) events
 
 -- the releases after one more event
 abbrev pub own_after : List ReleaseView → Event PackageOwnEntry → List ReleaseView
 own_after rs e = releases_after rs (e ∷ [])
 
 -- what is wrong with one more event
-abbrev pub own_wrong : List ReleaseView → Event PackageOwnEntry → Option OwnOffence
-own_wrong rs e = own_offence rs e.entry
+abbrev pub event_offence : List ReleaseView → Event PackageOwnEntry → Option OwnOffence
+event_offence rs e = own_offence rs e.entry

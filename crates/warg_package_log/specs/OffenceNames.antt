@@ -2,8 +2,8 @@
 use Rattle.std.specs.Prelude.{ℕ, List, codes, unwrap_or}
 use Rattle.std.specs.Option.{option_map}
 use Rattle.warg_permissions.specs.declared.package.Permission.{Permission}
-use Rattle.warg_log.specs.Rules.{Wrong}
-use Rattle.warg_log.specs.OffenceNames.{wrong_name}
+use Rattle.warg_log.specs.Rules.{LogOffence}
+use Rattle.warg_log.specs.OffenceNames.{log_offence_name}
 use Rattle.warg_package_log.specs.Releases.{OwnOffence}
 use Rattle.warg_package_log.specs.Releases as own
 use Rattle.warg_package_log.specs.State.{offence_of}
@@ -16,8 +16,8 @@ release_offence_name (own.YankOfUnreleased version) = codes "YankOfUnreleased"
 release_offence_name (own.YankOfYanked version) = codes "YankOfYanked"
 
 -- the name of any offence that a package log may have
-abbrev pub offence_name : Wrong Permission OwnOffence → List ℕ
-offence_name offence = wrong_name release_offence_name offence
+abbrev pub offence_name : LogOffence Permission OwnOffence → List ℕ
+offence_name offence = log_offence_name release_offence_name offence
 
 -- the name of an error: of the offence that it says, if it says one
 abbrev pub error_name : ValidationError → List ℕ

@@ -4,11 +4,12 @@ use Rattle.std.specs.Str.{bytes_eq}
 use Rattle.semver.specs.Identifiers.{parts_text}
 use Rattle.semver.specs.Parse.{version_parts}
 use Rattle.serde_json.specs.Data.{Data, Members, no_members, object, put, string}
-use Rattle.warg_crypto.specs.Json.{◌>>=◌, member_in, or_bad_text, text_in, wrote}
-use Rattle.warg_crypto.specs.JsonTexts.{hash_in, hash_json, key_id_in, key_id_json, time_in, time_json}
-use Rattle.warg_crypto.specs.Members.{put_json}
-use Rattle.warg_crypto.specs.declared.json.error.JsonError.{JsonError}
-use Rattle.warg_crypto.specs.declared.json.error.JsonError.TheVariants as fault
+use Rattle.warg_json.specs.Json.{◌>>=◌, member_in, or_bad_text, text_in, json_result}
+use Rattle.warg_json.specs.JsonTexts.{hash_in, hash_json, key_id_in, key_id_json}
+use Rattle.warg_time.specs.TimeJson.{time_in, time_json}
+use Rattle.warg_json.specs.Members.{put_json}
+use Rattle.warg_json.specs.declared.error.JsonError.{JsonError}
+use Rattle.warg_json.specs.declared.error.JsonError.TheVariants as fault
 use Rattle.warg_records.specs.PackageEntries.{VersionParts}
 use Rattle.warg_records.specs.RecordIdJson.{record_id_in, record_id_json}
 use Rattle.warg_package_log.specs.Releases.{ReleaseView}
@@ -17,7 +18,7 @@ use Rattle.warg_package_log.specs.declared.release.ReleaseState.TheVariants.{Rel
 
 -- a version: its text
 abbrev pub version_json : VersionParts → Result Data JsonError
-version_json version = wrote (string (parts_text version))
+version_json version = json_result (string (parts_text version))
 
 -- the version that a JSON text spells, or why it spells none
 abbrev pub version_in : Data → Result VersionParts JsonError
@@ -31,18 +32,18 @@ status_member status = put (codes "status") (string status) no_members
 abbrev pub release_state_json : ReleaseState → Result Data JsonError
 release_state_json (Released content) = do
   members ← put_json hash_json (codes "content") content (status_member (codes "released"))
-  wrote (object members)
+  json_result (object members)
 release_state_json (Yanked by timestamp) = do
   id ← put_json key_id_json (codes "by") by (status_member (codes "yanked"))
   members ← put_json time_json (codes "timestamp") timestamp id
-  wrote (object members)
+  json_result (object members)
 
 -- a release that stands, with the hash of its content
 abbrev pub released_in : Data → Result ReleaseState JsonError
 released_in d = do
   hash ← member_in (codes "content") d
   content ← hash_in hash
-  wrote (Released content)
+  json_result (Released content)
 
 -- a yanked release, with who yanked it and when
 abbrev pub yanked_in : Data → Result ReleaseState JsonError
@@ -51,7 +52,7 @@ yanked_in d = do
   by ← key_id_in id
   time ← member_in (codes "timestamp") d
   timestamp ← time_in time
-  wrote (Yanked by timestamp)
+  json_result (Yanked by timestamp)
 
 -- any other status is outside the grammar
 abbrev pub state_of : List ℕ → Data → Result ReleaseState JsonError
@@ -75,7 +76,7 @@ release_json r = do
   by ← put_json key_id_json (codes "by") r.by version
   timestamp ← put_json time_json (codes "timestamp") r.timestamp by
   members ← put_json release_state_json (codes "state") r.state timestamp
-  wrote (object members)
+  json_result (object members)
 
 -- the release that was saved, or the first fault in it
 abbrev pub release_in : Data → Result ReleaseView JsonError
@@ -90,4 +91,4 @@ release_in d = do
   timestamp ← time_in time
   inner ← member_in (codes "state") d
   state ← release_state_in inner
-  wrote (record { record_id = record_id; version = version; by = by; timestamp = timestamp; state = state })
+  json_result (record { record_id = record_id; version = version; by = by; timestamp = timestamp; state = state })

@@ -7,13 +7,14 @@ use Rattle.semver.specs.Parse.{version_parts}
 use Rattle.semver.specs.declared.error.Error.{Error}
 use Rattle.serde_json.specs.Data.{Data, Members, no_members, object, put, string}
 use Rattle.serde_json.specs.Find.{get_member}
-use Rattle.warg_crypto.specs.Json.{◌>>=◌, AreReadBack, Version, member_in, or_bad_text, text_in, wrote}
+use Rattle.warg_json.specs.Json.{◌>>=◌, AreReadBack, Version, member_in, or_bad_text, text_in, json_result}
 use Rattle.warg_crypto.specs.HashText.{hash_text}
-use Rattle.warg_crypto.specs.JsonTexts.{key_id_in, time_in, time_json}
-use Rattle.warg_crypto.specs.Members.{put_json}
-use Rattle.warg_crypto.specs.Steps.{bind_ok, ok_same}
-use Rattle.warg_crypto.specs.Within.{AreWithin}
-use Rattle.warg_crypto.specs.WithinLaws.{member_within}
+use Rattle.warg_json.specs.JsonTexts.{key_id_in}
+use Rattle.warg_time.specs.TimeJson.{time_in, time_json}
+use Rattle.warg_json.specs.Members.{put_json}
+use Rattle.warg_json.specs.JsonLaws.{bind_ok, ok_same}
+use Rattle.warg_json.specs.Within.{AreWithin}
+use Rattle.warg_json.specs.WithinLaws.{member_within}
 use Rattle.warg_records.specs.RecordIdJson.{record_id_in}
 use Rattle.warg_package_log.specs.ReleaseJson.{release_in, release_json, release_state_in, release_state_json, version_in}
 use Rattle.warg_package_log.specs.Releases.{ReleaseView}
@@ -25,10 +26,10 @@ release_within r d is =
     let version = string (parts_text r.version) in
     let before : Members = put (codes "by") (string r.by) (put (codes "version") version (put (codes "recordId") hash no_members)) in
     let w = bind_ok (put_json time_json (codes "timestamp") r.timestamp before)
-    (λ timed. put_json release_state_json (codes "state") r.state timed >>= λ ms. wrote (object ms)) d is in
-    let t = bind_ok (time_json r.timestamp) (λ e. wrote (put (codes "timestamp") e before)) w.0 w.1 in
-    let v = bind_ok (put_json release_state_json (codes "state") r.state w.0) (λ ms. wrote (object ms)) d w.2 in
-    let s = bind_ok (release_state_json r.state) (λ e. wrote (put (codes "state") e w.0)) v.0 v.1 in
+    (λ timed. put_json release_state_json (codes "state") r.state timed >>= λ ms. json_result (object ms)) d is in
+    let t = bind_ok (time_json r.timestamp) (λ e. json_result (put (codes "timestamp") e before)) w.0 w.1 in
+    let v = bind_ok (put_json release_state_json (codes "state") r.state w.0) (λ ms. json_result (object ms)) d w.2 in
+    let s = bind_ok (release_state_json r.state) (λ e. json_result (put (codes "state") e w.0)) v.0 v.1 in
     let with_time : put (codes "timestamp") t.0 before ≡ w.0 = ok_same (put (codes "timestamp") t.0 before) w.0 t.2 in
     let all : Members = put (codes "state") s.0 (put (codes "timestamp") t.0 before) in
     let whole : object all ≡ d =

@@ -8,21 +8,21 @@ use Rattle.semver.specs.Identifiers.{parts_text}
 use Rattle.serde_json.specs.Data.{Data, Members, no_members, object, put}
 use Rattle.serde_json.specs.Find.{get_member}
 use Rattle.serde_json.proofs.Views.{get_member-put, get_member-put_other}
-use Rattle.warg_crypto.specs.Json.{AreReadBack, Version, wrote}
-use Rattle.warg_crypto.specs.JsonTexts.{algorithm_in, algorithm_json, key_in, key_json}
-use Rattle.warg_crypto.specs.Members.{optional_member, put_option, put_some}
-use Rattle.warg_crypto.specs.Pairs.{pairs_json, pairs_member, some_pairs_json}
-use Rattle.warg_crypto.specs.PairsReadLaws.{values_read}
-use Rattle.warg_crypto.specs.Steps.{bind_ok, ok_same}
-use Rattle.warg_crypto.specs.Within.{AreWithin, IsWithin}
-use Rattle.warg_crypto.specs.WithinLaws.{member_within, names_within}
-use Rattle.warg_crypto.specs.declared.json.error.Incoherence.{Incoherence}
+use Rattle.warg_json.specs.Json.{AreReadBack, Version, json_result}
+use Rattle.warg_json.specs.JsonTexts.{algorithm_in, algorithm_json, key_in, key_json}
+use Rattle.warg_json.specs.Members.{optional_member, put_option, put_some}
+use Rattle.warg_json.specs.Pairs.{pairs_json, pairs_member, some_pairs_json}
+use Rattle.warg_json.specs.PairsReadLaws.{values_read}
+use Rattle.warg_json.specs.JsonLaws.{bind_ok, ok_same}
+use Rattle.warg_json.specs.Within.{AreWithin, IsWithin}
+use Rattle.warg_json.specs.WithinLaws.{member_within, names_within}
+use Rattle.warg_json.specs.declared.error.Incoherence.{Incoherence}
 use Rattle.warg_permissions.specs.PackagePermissions.{permission_in, permission_text, same_permission}
 use Rattle.warg_permissions.specs.declared.package.Permission.{Permission}
 use Rattle.warg_saved.specs.Fit.{unless_case}
 use Rattle.warg_saved.specs.Maps.{put_pairs}
-use Rattle.warg_saved.specs.Names.{text_name, text_named, version_name, version_named}
-use Rattle.warg_saved.specs.Permissions.{permissions_in, permissions_json}
+use Rattle.warg_saved.specs.MapNames.{text_name, text_named, version_name, version_named}
+use Rattle.warg_saved.specs.SavedPermissions.{permissions_in, permissions_json}
 use Rattle.warg_log.specs.AuthorityData.{AuthorityData}
 use Rattle.warg_log.specs.HeadJson.{head_in, head_json}
 use Rattle.warg_log.specs.States.{State}
@@ -32,8 +32,8 @@ use Rattle.warg_package_log.specs.ReleaseVersionLaws.{release_versions}
 use Rattle.warg_package_log.specs.SavedBack.{saved_versions}
 use Rattle.warg_package_log.specs.SavedState.{SavedParts, incoherence, named_releases, parts_in, state_in, state_json, state_of}
 
-abbrev Saved : Type 0
-Saved = State (AuthorityData Permission) (List ReleaseView)
+abbrev PackageState : Type 0
+PackageState = State (AuthorityData Permission) (List ReleaseView)
 
 -- the names of the releases are the texts of their versions
 named_within : (rs : List ReleaseView) (d : Data) → AllByRecursion (λ e. IsWithin (version_name e.0) d) (named_releases rs)
@@ -47,7 +47,7 @@ releases_within : (rs : List ReleaseView) (o k : Option Data) (ms : Members)
     → AreWithin (versions rs) (object (put_some (codes "keys") k (put_some (codes "releases") o ms)))
 releases_within [] o k ms is = tt
 releases_within (r ∷ rs) o k ms is =
-    let w = bind_ok (pairs_json version_name release_json (named_releases (r ∷ rs))) (λ d. wrote (Some d)) o is in
+    let w = bind_ok (pairs_json version_name release_json (named_releases (r ∷ rs))) (λ d. json_result (Some d)) o is in
     let all = named_within (r ∷ rs) w.0 (names_within version_name release_json (named_releases (r ∷ rs)) w.0 w.1) in
     let here : get_member (codes "releases") (put_some (codes "releases") o ms) ≡ Some w.0 =
     subst (λ (x : Option Data). get_member (codes "releases") (put_some (codes "releases") x ms) ≡ Some w.0)
@@ -63,22 +63,22 @@ releases_within (r ∷ rs) o k ms is =
     beside (Some d) ms = get_member-put_other (codes "releases") (codes "keys") d ms apart
 
 -- the versions stand in the state
-pub state_within : (s : Saved) (d : Data) → state_json s ≡ Ok d → AreWithin (saved_versions s) d
+pub state_within : (s : PackageState) (d : Data) → state_json s ≡ Ok d → AreWithin (saved_versions s) d
 state_within s d is =
     let w1 = bind_ok (put_option algorithm_json (codes "algorithm") s.authority.algorithm no_members) _ d is in
     let w2 = bind_ok (put_option head_json (codes "head") s.head w1.0) _ d w1.2 in
     let w3 = bind_ok (put_pairs text_name (permissions_json permission_text) (codes "permissions") s.authority.rights w2.0) _ d w2.2 in
     let w4 = bind_ok (put_pairs version_name release_json (codes "releases") (named_releases s.own_state) w3.0) _ d w3.2 in
     let w5 = bind_ok (put_pairs text_name key_json (codes "keys") s.authority.keys w4.0) _ d w4.2 in
-    let o = bind_ok (some_pairs_json version_name release_json (named_releases s.own_state)) (λ x. wrote (put_some (codes "releases") x w3.0)) w4.0 w4.1 in
-    let k = bind_ok (some_pairs_json text_name key_json s.authority.keys) (λ x. wrote (put_some (codes "keys") x w4.0)) w5.0 w5.1 in
+    let o = bind_ok (some_pairs_json version_name release_json (named_releases s.own_state)) (λ x. json_result (put_some (codes "releases") x w3.0)) w4.0 w4.1 in
+    let k = bind_ok (some_pairs_json text_name key_json s.authority.keys) (λ x. json_result (put_some (codes "keys") x w4.0)) w5.0 w5.1 in
     let put_o : put_some (codes "releases") o.0 w3.0 ≡ w4.0 = ok_same (put_some (codes "releases") o.0 w3.0) w4.0 o.2 in
     let put_k : put_some (codes "keys") k.0 w4.0 ≡ w5.0 = ok_same (put_some (codes "keys") k.0 w4.0) w5.0 k.2 in
     let whole : object (put_some (codes "keys") k.0 (put_some (codes "releases") o.0 w3.0)) ≡ d =
     (λ i. object (put_some (codes "keys") k.0 (put_o i))) ∙ (λ i. object (put_k i)) ∙ ok_same (object w5.0) d w5.2 in
     subst (λ (x : Data). AreWithin (saved_versions s) x) whole (releases_within s.own_state o.0 k.0 w3.0 o.1)
 
-fits : (c : Option Incoherence) (s t : Saved) → unless_case c s ≡ Ok t → s ≡ t
+fits : (c : Option Incoherence) (s t : PackageState) → unless_case c s ≡ Ok t → s ≡ t
 fits None s t h = ok_same s t h
 fits (Some i) s t h = cc h
 
@@ -88,7 +88,7 @@ all_back [] h = tt
 all_back (e ∷ es) h = (h.0.0, all_back es h.1)
 
 -- the versions of a state that was read read back
-pub state_versions : (s : Saved) (d : Data) → state_in d ≡ Ok s → AreReadBack (saved_versions s)
+pub state_versions : (s : PackageState) (d : Data) → state_in d ≡ Ok s → AreReadBack (saved_versions s)
 state_versions s d is =
     let w = bind_ok (parts_in d) _ s is in
     let w1 = bind_ok (optional_member algorithm_in (codes "algorithm") d) _ w.0 w.1 in
@@ -101,4 +101,4 @@ state_versions s d is =
     (codes "releases") d w4.0 w4.1 in
     let back : AreReadBack (versions (map (λ e. e.1) w.0.releases)) =
     subst (λ (es : List (Version × ReleaseView)). AreReadBack (versions (map (λ (e : Version × ReleaseView). e.1) es))) same (all_back w4.0 all) in
-    subst (λ (t : Saved). AreReadBack (saved_versions t)) (fits (incoherence w.0) (state_of w.0) s w.2) back
+    subst (λ (t : PackageState). AreReadBack (saved_versions t)) (fits (incoherence w.0) (state_of w.0) s w.2) back

@@ -9,29 +9,29 @@ use Rattle.warg_records.specs.PackageReading.{package_record_of}
 use Rattle.warg_records.specs.RecordData.{EntryData}
 use Rattle.warg_permissions.specs.declared.package.Permission.{Permission}
 use Rattle.warg_log.specs.AuthorityData.{AuthorityData}
-use Rattle.warg_log.specs.History.{Placed, history_of, holds, has_entry, key_of, algorithm_of, owns}
+use Rattle.warg_log.specs.History.{PlacedEvent, history_of, holds, has_entry, key_of, algorithm_of, own_events}
 use Rattle.warg_log.specs.Rules.{SignedRecord, head_of}
-use Rattle.warg_log.specs.LogKind.{opened}
+use Rattle.warg_log.specs.KindOfRules.{signed_record_of}
 use Rattle.warg_log.specs.States.{State}
 use Rattle.warg_package_log.specs.ListedReleases.{listed_releases}
-use Rattle.warg_package_log.specs.Releases.{ReleaseView, yanks, rules, record_id_of}
+use Rattle.warg_package_log.specs.Releases.{ReleaseView, state_if_yanked, rules, record_id_of}
 use Rattle.warg_package_log.specs.State.{view_of}
 
 -- the envelopes as records
 abbrev pub records_of : List EnvelopeData → List (SignedRecord Permission PackageOwnEntry)
-records_of es = map (opened rules same_permission package_record_of) es
+records_of es = map (signed_record_of rules same_permission package_record_of) es
 
 -- all entries in one list, each with its signer, its record's time and id, and its places
-abbrev pub history : List EnvelopeData → List (Placed (EntryData Permission PackageOwnEntry))
+abbrev pub history : List EnvelopeData → List (PlacedEvent (EntryData Permission PackageOwnEntry))
 history es = history_of record_id_of (records_of es)
 
 -- each version has one Yank at most
-abbrev pub OneYankEach : List (Placed (EntryData Permission PackageOwnEntry)) → Type 0
-OneYankEach h = (v : VersionParts) → length (filter_map (yanks v) (owns h)) ≤ 1
+abbrev pub OneYankEach : List (PlacedEvent (EntryData Permission PackageOwnEntry)) → Type 0
+OneYankEach h = (v : VersionParts) → length (filter_map (state_if_yanked v) (own_events h)) ≤ 1
 
 -- the Release entries of a history, in order, each Yanked if a Yank of its version stands in the history
-abbrev pub releases_of : List (Placed (EntryData Permission PackageOwnEntry)) → List ReleaseView
-releases_of h = listed_releases (owns h)
+abbrev pub releases_of : List (PlacedEvent (EntryData Permission PackageOwnEntry)) → List ReleaseView
+releases_of h = listed_releases (own_events h)
 
 -- all that the state says is what the history says; above each line the look-ups of `LogState` that answer it
 pub record TellsHistory (s : State (AuthorityData Permission) (List ReleaseView)) (es : List EnvelopeData) : Type 0 where

@@ -6,7 +6,7 @@ ghost use Rattle.warg_envelope.specs.EnvelopeData.{EnvelopeData};
 ghost use Rattle.warg_records.specs.PackageReading.{package_record_of};
 ghost use Rattle.warg_permissions.specs.declared.package.Permission.{Permission};
 ghost use Rattle.warg_validator.specs.Kinds.{SignatureRelation, IsAccepted, StandsFor};
-ghost use Rattle.warg_validator.specs.Outcomes.{IsRun, IfStarted, told};
+ghost use Rattle.warg_validator.specs.OutcomeRuns.{IsRun, IfStarted, cause_named_by};
 ghost use Rattle.warg_validator.specs.Strings.{read_all};
 ghost use Rattle.warg_validator.specs.declared.replay.RunError.{RunError};
 ghost use Rattle.warg_log.specs.Admissions.{NoKeyBringsItselfIn};
@@ -14,7 +14,7 @@ ghost use Rattle.warg_log.specs.AuthorityData.{AuthorityData};
 ghost use Rattle.warg_log.specs.Forms.{HasForm};
 ghost use Rattle.warg_log.specs.States.{State};
 ghost use Rattle.std.specs.Prelude.{Option};
-ghost use Rattle.warg_log.specs.Records.{version_offence};
+ghost use Rattle.warg_log.specs.RecordOffences.{version_offence};
 ghost use Rattle.warg_log.specs.declared.head.Head.{Head};
 ghost use Rattle.warg_package_log.specs.ReleaseMap.{AreDistinct, release_view};
 ghost use Rattle.warg_package_log.specs.Extensions.{IsExtension};
@@ -22,7 +22,7 @@ ghost use Rattle.warg_package_log.specs.Releases.{versions, ReleaseView, record_
 ghost use Rattle.warg_package_log.specs.State.{offence_of, view_of, View, record_offence};
 ghost use Rattle.warg_records.specs.PackageEntries.{PackageOwnEntry};
 ghost use Rattle.warg_log.specs.Rules.{SignedRecord};
-ghost use Rattle.warg_log.specs.Possible.{IsPossible};
+ghost use Rattle.warg_log.specs.PossibleOffences.{IsPossible};
 ghost use Rattle.warg_package_log.specs.StateLaws.{kind, AreEquivalent};
 ghost use Rattle.warg_package_log.specs.declared.release.Release.{Release};
 ghost use Rattle.warg_package_log.specs.declared.release.ReleaseState.{ReleaseState};
@@ -79,11 +79,11 @@ pub fn states_tell_history()
         (es : List EnvelopeData) →
         StandsFor kind view_of s es → TellsHistory s es }
     ensures run { let read = envelope_of package_record_of in
-        let told_by = told (envelope_fault_of fault_of) offence_of in
+        let named_by = cause_named_by (envelope_fault_of fault_of) offence_of in
         (b : SignatureRelation) (strings : List (List ℕ))
         (answer : Result (State (AuthorityData Permission) (List ReleaseView))
         (RunError ValidationError)) →
-        IfStarted (IsRun kind b read kind.view_of view_of told_by ◌≡◌ strings) answer →
+        IfStarted (IsRun kind b read kind.view_of view_of named_by ◌≡◌ strings) answer →
         IfOk answer (λ s. IsAccepted kind b (read_all read strings) ×
         TellsHistory s (read_all read strings)) }
 {}

@@ -3,12 +3,12 @@ use Rattle.std.proofs.Common.{◌≡◌, ℕ, List, Option, Some, Result, Ok, Er
 use Rattle.serde_json.specs.Data.{string}
 use Rattle.serde_json.specs.View.{view}
 use Rattle.serde_json.specs.declared.value.Value.{Value}
-use Rattle.warg_crypto.specs.Json.{ReturnsOrNoMemory, ReadsBack, wrote}
-use Rattle.warg_crypto.specs.Steps.{ok_same}
-use Rattle.warg_crypto.specs.declared.json.error.JsonError.{JsonError}
+use Rattle.warg_json.specs.Json.{ReturnsOrNoMemory, ReadsBack, json_result}
+use Rattle.warg_json.specs.JsonLaws.{ok_same}
+use Rattle.warg_json.specs.declared.error.JsonError.{JsonError}
 use Rattle.warg_permissions.specs.PermissionJson.{permission_from}
 
 pub permission_back : {P : Type 0} (text_of : P → List ℕ) (named : List ℕ → Option P) (p : P) (r : Result Value JsonError) → named (text_of p) ≡ Some p
-    → ReturnsOrNoMemory view r (wrote (string (text_of p))) → IfOk r (λ v. ReadsBack (permission_from named) (λ a b. a ≡ b) p (view v))
+    → ReturnsOrNoMemory view r (json_result (string (text_of p))) → IfOk r (λ v. ReadsBack (permission_from named) (λ a b. a ≡ b) p (view v))
 permission_back text_of named p (Ok v) own given = record { again = p; is = rw (← ok_same _ _ given) (rw own refl); equal = refl }
 permission_back text_of named p (Err e) own given = tt

@@ -47,17 +47,17 @@ pub same_permission_equiv : IsEquivalence same_permission
 same_permission_equiv = on_equiv number_of nat_eq_equiv
 
 -- the permission of a number
-abbrev numbered : ℕ → Permission
-numbered n = if n == 1 then Commit else if n == 2 then DefineNamespace else ImportNamespace
+abbrev permission_by_number : ℕ → Permission
+permission_by_number n = if n == 1 then Commit else if n == 2 then DefineNamespace else ImportNamespace
 
-numbered-number_of : (p : Permission) → numbered (number_of p) ≡ p
-numbered-number_of Commit = refl
-numbered-number_of DefineNamespace = refl
-numbered-number_of ImportNamespace = refl
+permission_by_number-number_of : (p : Permission) → permission_by_number (number_of p) ≡ p
+permission_by_number-number_of Commit = refl
+permission_by_number-number_of DefineNamespace = refl
+permission_by_number-number_of ImportNamespace = refl
 
 -- permissions that `==` calls equal are the same
 pub same_permission-is : (p q : Permission) → same_permission p q ≡ true → p ≡ q
-same_permission-is p q h = sym (numbered-number_of p) ∙ ap numbered (eqb-true (number_of p) (number_of q) h) ∙ numbered-number_of q
+same_permission-is p q h = sym (permission_by_number-number_of p) ∙ ap permission_by_number (eqb-true (number_of p) (number_of q) h) ∙ permission_by_number-number_of q
 
 -- of permissions that are the same, a hasher is fed the same
 pub hash-same_permission : (p q : Permission) → same_permission p q ≡ true

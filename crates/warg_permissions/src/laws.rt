@@ -1,41 +1,30 @@
 //! Laws of the permissions of both kinds: when they are equal, and how they print, whatever options they are printed
 //! under.
 
-ghost use Rattle.std.specs.Prelude.{◌≡◌, ◌↔◌, IsTrue};
+ghost use Rattle.std.specs.Prelude.{◌≡◌, ◌↔◌, true};
 ghost use Rattle.std.specs.Fmt.{WritesOnOk, WritesStyledOnOk};
 ghost use Rattle.warg_permissions.specs.OperatorPermissions as in_operator;
 ghost use Rattle.warg_permissions.specs.PackagePermissions as in_package;
+ghost use Rattle.warg_permissions.specs.declared.operator.Permission.{Permission as OperatorPermission};
+ghost use Rattle.warg_permissions.specs.declared.package.Permission.{Permission as PackagePermission};
+ghost use Rattle.warg_permissions.specs.declared.permission.InvalidPermission.{InvalidPermission};
+ghost use Rattle.warg_permissions.specs.declared.permission.PermissionParseError.{PermissionParseError};
 
 use crate::{InvalidPermission, PermissionParseError, operator, package};
 use std::fmt::{Display, Formatter, Result, Write};
 
-/// Permissions of a package log.
-pub fn are_same_package_permissions(a: package::Permission, b: package::Permission) -> bool
-    ensures { IsTrue result ↔ (a ≡ b) }
-{
-    a == b
-}
-
-/// Permissions of an operator log.
-pub fn are_same_operator_permissions(a: operator::Permission, b: operator::Permission) -> bool
-    ensures { IsTrue result ↔ (a ≡ b) }
-{
-    a == b
-}
-
-/// Why a number names no permission.
-pub fn are_same_permission_errors(a: PermissionParseError, b: PermissionParseError) -> bool
-    ensures { IsTrue result ↔ (a ≡ b) }
-{
-    a == b
-}
-
-/// Why a text names no permission: there is one reason.
-pub fn are_same_invalid_permissions(a: InvalidPermission, b: InvalidPermission) -> bool
-    ensures { IsTrue result ↔ (a ≡ b) }
-{
-    a == b
-}
+/// When `==` is true: exactly where both are identical, of the permissions of each kind of log, and of why a number or a
+/// text names none.
+pub fn equality()
+    ensures package_permissions { (a b : PackagePermission) →
+        (⟦<package::Permission as PartialEq>⟧.eq a b ≡ true) ↔ (a ≡ b) }
+    ensures operator_permissions { (a b : OperatorPermission) →
+        (⟦<operator::Permission as PartialEq>⟧.eq a b ≡ true) ↔ (a ≡ b) }
+    ensures permission_errors { (a b : PermissionParseError) →
+        (⟦<PermissionParseError as PartialEq>⟧.eq a b ≡ true) ↔ (a ≡ b) }
+    ensures invalid_permissions { (a b : InvalidPermission) →
+        (⟦<InvalidPermission as PartialEq>⟧.eq a b ≡ true) ↔ (a ≡ b) }
+{}
 
 /// A permission of a package log prints as its name.
 pub fn print_package_permission<W: Write>(

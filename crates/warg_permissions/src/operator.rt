@@ -115,7 +115,7 @@ impl LogPermission for Permission {
 
     ghost number_of = { λ p. pos (number_of p) };
 
-    ghost named = { permission_in };
+    ghost permission_named = { permission_in };
 
     ghost text_of = { permission_text };
 

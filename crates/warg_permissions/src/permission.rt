@@ -30,7 +30,7 @@ pub trait LogPermission: Copy + Eq + Hash {
     ghost number_of: { Self → ℤ };
 
     // The permission that a text names.
-    ghost named: { List ℕ → Option Self };
+    ghost permission_named: { List ℕ → Option Self };
 
     // The text that names a permission.
     ghost text_of: { Self → List ℕ };
@@ -50,7 +50,7 @@ pub trait LogPermission: Copy + Eq + Hash {
 
     /// The permission that the text names.
     fn from_text(text: &str) -> Option<Self>
-        ensures { result ≡ named text.now };
+        ensures { result ≡ permission_named text.now };
 
     /// The text that names the permission.
     fn as_text(self) -> &'static str
@@ -60,7 +60,7 @@ pub trait LogPermission: Copy + Eq + Hash {
     ghost number_reads_back: { (p : Self) → permission_of (number_of p) ≡ Some p };
 
     // A permission is read back from its text.
-    ghost text_reads_back: { (p : Self) → named (text_of p) ≡ Some p };
+    ghost text_reads_back: { (p : Self) → permission_named (text_of p) ≡ Some p };
 
     // A clone is the same.
     ghost clones: { (x y : Self) → Self.is_clone x y → y ≡ x };

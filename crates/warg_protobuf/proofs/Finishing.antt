@@ -9,7 +9,7 @@ use Rattle.warg_protobuf.specs.declared.error.WireError.TheVariants.{Truncated, 
 use Rattle.warg_protobuf.specs.Field.{Payload, Number, Eight, Bytes, Four, wire_type, Field}
 use Rattle.warg_protobuf.specs.Table.{Table, takes, Fits}
 use Rattle.warg_protobuf.specs.Reading.{◌>>=◌, fields_of, fault_in, payload_fault, unless}
-use Rattle.warg_protobuf.specs.Values.{kept_of, message_of, bytes_in, held, of_bytes, piece_at, pieces_at, present, joined_of, merged_of}
+use Rattle.warg_protobuf.specs.Values.{kept_of, message_of, bytes_in, field_contents, of_bytes, piece_at, pieces_at, present, joined_of, merged_of}
 use Rattle.warg_protobuf.specs.Envelope.{envelope_table, EnvelopeValue, IsEnvelope, IsEnvelopeOf, envelope_from, envelope_of}
 use Rattle.warg_protobuf.specs.Init.{init_table, init_from}
 use Rattle.warg_protobuf.specs.GrantFlat.{grant_flat_table, grant_flat_from}
@@ -109,13 +109,13 @@ module _ (bytes : List ℕ) where
 -- ---- records
 
 -- the pieces of a time, as they come
-time_more : (k : TimestampKept) (fs ps : List Field) → pieces_at timestamp_table 3 fs ≡ Ok ps → fold time_with (Some k) (held 3 fs) ≡ Some (fold timestamp_with k ps)
+time_more : (k : TimestampKept) (fs ps : List Field) → pieces_at timestamp_table 3 fs ≡ Ok ps → fold time_with (Some k) (field_contents 3 fs) ≡ Some (fold timestamp_with k ps)
 time_more k [] ps e = rw (← ok_same [] ps e) refl
 time_more k (f ∷ fs) ps e =
     let s = splits (piece_at timestamp_table 3 f) (pieces_at timestamp_table 3 fs) ps e in
     let one = by (eqb f.number 3) f.payload s.0 s.2 in
-    sym (fold-joined time_with (Some k) (cond (eqb f.number 3) (bytes_in f.payload) []) (held 3 fs))
-    ∙ ap (λ (o : Option TimestampKept). fold time_with o (held 3 fs)) one
+    sym (fold-joined time_with (Some k) (cond (eqb f.number 3) (bytes_in f.payload) []) (field_contents 3 fs))
+    ∙ ap (λ (o : Option TimestampKept). fold time_with o (field_contents 3 fs)) one
     ∙ time_more (fold timestamp_with k s.0) fs s.1 s.3
     ∙ ap (λ (j : TimestampKept). Some j) (fold-joined timestamp_with k s.0 s.1 ∙ ap (fold timestamp_with k) (sym s.4))
   where
@@ -127,18 +127,18 @@ time_more k (f ∷ fs) ps e =
     by false p us h = rw (← ok_same [] us h) refl
 
 time_from_none : (entry : Table) (fs ps : List Field) → Fits (record_table entry) fs → pieces_at timestamp_table 3 fs ≡ Ok ps
-    → fold time_with None (held 3 fs) ≡ cond (present 3 fs) (Some (fold timestamp_with no_time ps)) None
+    → fold time_with None (field_contents 3 fs) ≡ cond (present 3 fs) (Some (fold timestamp_with no_time ps)) None
 time_from_none entry [] ps fit e = refl
 time_from_none entry (f ∷ fs) ps fit e =
     let s = splits (piece_at timestamp_table 3 f) (pieces_at timestamp_table 3 fs) ps e in
-    sym (fold-joined time_with None (cond (eqb f.number 3) (bytes_in f.payload) []) (held 3 fs))
+    sym (fold-joined time_with None (cond (eqb f.number 3) (bytes_in f.payload) []) (field_contents 3 fs))
     ∙ by s.0 s.1 s.3 s.4 (time_from_none entry fs s.1 fit.1 s.3) (eqb f.number 3) f.payload s.2 (λ t. subst (λ (n : ℕ). takes (record_table entry) n (wire_type f.payload) ≡ true) (eqb-true f.number 3 t) fit.0.type_fits)
   where
-    by : (us ws : List Field) → pieces_at timestamp_table 3 fs ≡ Ok ws → ps ≡ us ++ ws → fold time_with None (held 3 fs) ≡ cond (present 3 fs) (Some (fold timestamp_with no_time ws)) None
+    by : (us ws : List Field) → pieces_at timestamp_table 3 fs ≡ Ok ws → ps ≡ us ++ ws → fold time_with None (field_contents 3 fs) ≡ cond (present 3 fs) (Some (fold timestamp_with no_time ws)) None
         → (b : Bool) (p : Payload) → cond b (of_bytes (fields_of timestamp_table) p) (Ok []) ≡ Ok us → (b ≡ true → eqb (wire_type p) 2 ≡ true)
-        → fold time_with (fold time_with None (cond b (bytes_in p) [])) (held 3 fs) ≡ cond (cond b true (present 3 fs)) (Some (fold timestamp_with no_time ps)) None
+        → fold time_with (fold time_with None (cond b (bytes_in p) [])) (field_contents 3 fs) ≡ cond (cond b true (present 3 fs)) (Some (fold timestamp_with no_time ps)) None
     by us ws more is others true (Bytes c) h t =
-        ap (λ (r : Result (List Field) WireError). fold time_with (Some (kept_after timestamp_with no_time r)) (held 3 fs)) h
+        ap (λ (r : Result (List Field) WireError). fold time_with (Some (kept_after timestamp_with no_time r)) (field_contents 3 fs)) h
         ∙ time_more (fold timestamp_with no_time us) fs ws more
         ∙ ap (λ (j : TimestampKept). Some j) (fold-joined timestamp_with no_time us ws ∙ ap (fold timestamp_with no_time) (sym is))
     by us ws more is others true (Number v) h t = let x : false ≡ true = t refl in absurd cc
@@ -148,7 +148,7 @@ time_from_none entry (f ∷ fs) ps fit e =
         others
         ∙ ap (λ (qs : List Field). cond (present 3 fs) (Some (fold timestamp_with no_time qs)) None) (sym (is ∙ ap (λ (u : List Field). u ++ ws) (sym (ok_same [] us h))))
 
-time_finishes : (entry : Table) (fs : List Field) → Fits (record_table entry) fs → merged_of timestamp_table timestamp_from 3 fs ≡ Ok (option_view time_made (fold time_with None (held 3 fs)))
+time_finishes : (entry : Table) (fs : List Field) → Fits (record_table entry) fs → merged_of timestamp_table timestamp_from 3 fs ≡ Ok (option_view time_made (fold time_with None (field_contents 3 fs)))
 time_finishes entry fs fit =
     let p = pieces_have timestamp_table (record_table entry) 3 (λ q h. h) fs fit in
     by p.value p.gives (timestamp_finishes p.value (pieces_fit timestamp_table 3 fs p.value p.is)) (present 3 fs)

@@ -5,11 +5,11 @@ use Rattle.std.proofs.lemmas.Bool.{cases_Bool, eqb-true}
 use Rattle.std.proofs.lemmas.List.{append-nil}
 use Rattle.warg_protobuf.specs.declared.error.WireError.{WireError}
 use Rattle.warg_protobuf.specs.Field.{Payload, Number, Eight, Bytes, Four, wire_type, Field}
-use Rattle.warg_protobuf.specs.Table.{Table, takes, knows, Asks, Fits, FitsBy, IsMessageBy}
+use Rattle.warg_protobuf.specs.Table.{Table, takes, knows, PayloadFits, Fits, FitsBy, IsMessageBy}
 use Rattle.warg_protobuf.specs.Reading.{◌>>=◌, fields_of}
 use Rattle.warg_protobuf.specs.Shapes.{two_texts, text_and_numbers}
 use Rattle.warg_protobuf.specs.Values.{after, gather, of_bytes, piece_at, pieces_at, last_member_from, run_from, run_of, member_of}
-use Rattle.warg_protobuf.specs.Drafts.{kept_after, no_texts, two_texts_with, nothing_kept, text_and_numbers_with, MemberKept, Absent, Init, GrantFlat, RevokeFlat, Fourth, Fifth, init_so_far, grant_flat_so_far, revoke_flat_so_far, fourth_so_far, fifth_so_far, entry_table, member_with, member_payload, member_bytes}
+use Rattle.warg_protobuf.specs.Drafts.{kept_after, no_texts, two_texts_with, nothing_kept, text_and_numbers_with, MemberKept, Absent, Init, GrantFlat, RevokeFlat, FirstOwn, SecondOwn, init_so_far, grant_flat_so_far, revoke_flat_so_far, first_own_so_far, second_own_so_far, entry_table, member_with, member_payload, member_bytes}
 use Rattle.warg_protobuf.proofs.Kept.{splits, fold-joined}
 use Rattle.warg_protobuf.proofs.Meanings.{ok_same, pieces_fit, pieces_have, run_fits}
 use Rattle.warg_protobuf.proofs.Finishing.{Finishes}
@@ -25,12 +25,12 @@ gather_more part (g ∷ gs) f xs us e h =
 
 -- member n, in an entry of table E whose fields step goes through
 module _ {K M : Type 0} (E : Table) (step : K → Field → K) (n : ℕ) (I : Table) (with_field : M → Field → M) (start : M) (so_far : K → M)
-    (asks : (p : Payload) → Asks E n p → IsMessageBy (takes I) (Asks I) p)
+    (asks : (p : Payload) → PayloadFits E n p → IsMessageBy (takes I) (PayloadFits I) p)
     (known : knows E n ≡ true)
-    (same : (k : K) (f : Field) (us : List Field) → FitsBy (takes E) (Asks E) f → eqb f.number n ≡ true → piece_at I n f ≡ Ok us → so_far (step k f) ≡ fold with_field (so_far k) us)
-    (other : (k : K) (f : Field) → FitsBy (takes E) (Asks E) f → knows E f.number ≡ true → eqb f.number n ≡ false → so_far (step k f) ≡ start)
+    (same : (k : K) (f : Field) (us : List Field) → FitsBy (takes E) (PayloadFits E) f → eqb f.number n ≡ true → piece_at I n f ≡ Ok us → so_far (step k f) ≡ fold with_field (so_far k) us)
+    (other : (k : K) (f : Field) → FitsBy (takes E) (PayloadFits E) f → knows E f.number ≡ true → eqb f.number n ≡ false → so_far (step k f) ≡ start)
     (none : (k : K) (f : Field) → knows E f.number ≡ false → step k f ≡ k) where
-  piece_of : (f : Field) → FitsBy (takes E) (Asks E) f → (us : List Field) × (piece_at I n f ≡ Ok us)
+  piece_of : (f : Field) → FitsBy (takes E) (PayloadFits E) f → (us : List Field) × (piece_at I n f ≡ Ok us)
   piece_of f fit =
       let p = pieces_have I E n asks (f ∷ []) (fit, tt) in
       let s = splits (piece_at I n f) (Ok []) p.value p.gives in
@@ -111,18 +111,18 @@ number_of Absent = None
 number_of (Init k) = Some 1
 number_of (GrantFlat k) = Some 2
 number_of (RevokeFlat k) = Some 3
-number_of (Fourth k) = Some 4
-number_of (Fifth k) = Some 5
+number_of (FirstOwn k) = Some 4
+number_of (SecondOwn k) = Some 5
 
-module _ {F G : Type 0} (fourth : Table) (fourth_with : F → Field → F) (no_fourth : F) (fifth : Table) (fifth_with : G → Field → G) (no_fifth : G) where
+module _ {F G : Type 0} (first_own : Table) (first_own_with : F → Field → F) (no_first_own : F) (second_own : Table) (second_own_with : G → Field → G) (no_second_own : G) where
   abbrev E : Table
-  E = entry_table fourth fifth
+  E = entry_table first_own second_own
 
   abbrev step : MemberKept F G → Field → MemberKept F G
-  step = member_with fourth fourth_with no_fourth fifth fifth_with no_fifth
+  step = member_with first_own first_own_with no_first_own second_own second_own_with no_second_own
 
   abbrev at_bytes : MemberKept F G → ℕ → List ℕ → MemberKept F G
-  at_bytes = member_bytes fourth fourth_with no_fourth fifth fifth_with no_fifth
+  at_bytes = member_bytes first_own first_own_with no_first_own second_own second_own_with no_second_own
 
   typed : (m : ℕ) (p : Payload) → takes E m (wire_type p) ≡ true → knows E m ≡ true → eqb (wire_type p) 2 ≡ true
   typed m p t known =
@@ -130,13 +130,13 @@ module _ {F G : Type 0} (fourth : Table) (fourth_with : F → Field → F) (no_f
       (eqb (wire_type p) 2) (eqb (wire_type p) 2) (eqb (wire_type p) 2) (eqb (wire_type p) 2) (eqb (wire_type p) 2) true known
       (λ _ h. h) (λ _ h. h) (λ _ h. h) (λ _ h. h) (λ _ h. h) t
 
-  on_bytes : (Q : MemberKept F G → Type 0) (k : MemberKept F G) (m : ℕ) (p : Payload) → takes E m (wire_type p) ≡ true → knows E m ≡ true → ((c : List ℕ) → Q (at_bytes k m c)) → Q (member_payload fourth fourth_with no_fourth fifth fifth_with no_fifth k m p)
+  on_bytes : (Q : MemberKept F G → Type 0) (k : MemberKept F G) (m : ℕ) (p : Payload) → takes E m (wire_type p) ≡ true → knows E m ≡ true → ((c : List ℕ) → Q (at_bytes k m c)) → Q (member_payload first_own first_own_with no_first_own second_own second_own_with no_second_own k m p)
   on_bytes Q k m (Bytes c) t known h = h c
   on_bytes Q k m (Number v) t known h = let x : false ≡ true = typed m (Number v) t known in absurd cc
   on_bytes Q k m (Eight c) t known h = let x : false ≡ true = typed m (Eight c) t known in absurd cc
   on_bytes Q k m (Four c) t known h = let x : false ≡ true = typed m (Four c) t known in absurd cc
 
-  none_at : (k : MemberKept F G) (m : ℕ) (p : Payload) → knows E m ≡ false → member_payload fourth fourth_with no_fourth fifth fifth_with no_fifth k m p ≡ k
+  none_at : (k : MemberKept F G) (m : ℕ) (p : Payload) → knows E m ≡ false → member_payload first_own first_own_with no_first_own second_own second_own_with no_second_own k m p ≡ k
   none_at k m (Bytes c) e = not_chosen (eqb m 1) (eqb m 2) (eqb m 3) (eqb m 4) (eqb m 5) _ _ _ _ _ k e
   none_at k m (Number v) e = refl
   none_at k m (Eight c) e = refl
@@ -146,7 +146,7 @@ module _ {F G : Type 0} (fourth : Table) (fourth_with : F → Field → F) (no_f
   none k f e = none_at k f.number f.payload e
 
   -- the number of the last one
-  number_at : (k : MemberKept F G) (f : Field) → FitsBy (takes E) (Asks E) f → number_of (step k f) ≡ cond (knows E f.number) (Some f.number) (number_of k)
+  number_at : (k : MemberKept F G) (f : Field) → FitsBy (takes E) (PayloadFits E) f → number_of (step k f) ≡ cond (knows E f.number) (Some f.number) (number_of k)
   number_at k f fit =
       elim (cases_Bool (knows E f.number)) [
         | inl m ↦
@@ -166,20 +166,20 @@ module _ {F G : Type 0} (fourth : Table) (fourth_with : F → Field → F) (no_f
 
   -- member 1
   init_at : (k : MemberKept F G) (p : Payload) (us : List Field) → takes E 1 (wire_type p) ≡ true → of_bytes (fields_of two_texts) p ≡ Ok us
-      → init_so_far (member_payload fourth fourth_with no_fourth fifth fifth_with no_fifth k 1 p) ≡ fold two_texts_with (init_so_far k) us
+      → init_so_far (member_payload first_own first_own_with no_first_own second_own second_own_with no_second_own k 1 p) ≡ fold two_texts_with (init_so_far k) us
   init_at k (Bytes c) us t e = ap (kept_after two_texts_with (init_so_far k)) e
   init_at k (Number v) us t e = absurd cc
   init_at k (Eight c) us t e = absurd cc
   init_at k (Four c) us t e = absurd cc
 
-  same_init : (k : MemberKept F G) (f : Field) (us : List Field) → FitsBy (takes E) (Asks E) f → eqb f.number 1 ≡ true → piece_at two_texts 1 f ≡ Ok us → init_so_far (step k f) ≡ fold two_texts_with (init_so_far k) us
+  same_init : (k : MemberKept F G) (f : Field) (us : List Field) → FitsBy (takes E) (PayloadFits E) f → eqb f.number 1 ≡ true → piece_at two_texts 1 f ≡ Ok us → init_so_far (step k f) ≡ fold two_texts_with (init_so_far k) us
   same_init k f us fit h piece =
       let is = eqb-true f.number 1 h in
       let e = sym (ap (λ (b : Bool). cond b (of_bytes (fields_of two_texts) f.payload) (Ok [])) h) ∙ piece in
-      subst (λ (m : ℕ). init_so_far (member_payload fourth fourth_with no_fourth fifth fifth_with no_fifth k m f.payload) ≡ fold two_texts_with (init_so_far k) us) (sym is)
+      subst (λ (m : ℕ). init_so_far (member_payload first_own first_own_with no_first_own second_own second_own_with no_second_own k m f.payload) ≡ fold two_texts_with (init_so_far k) us) (sym is)
       (init_at k f.payload us (subst (λ (m : ℕ). takes E m (wire_type f.payload) ≡ true) is fit.type_fits) e)
 
-  other_init : (k : MemberKept F G) (f : Field) → FitsBy (takes E) (Asks E) f → knows E f.number ≡ true → eqb f.number 1 ≡ false → init_so_far (step k f) ≡ no_texts
+  other_init : (k : MemberKept F G) (f : Field) → FitsBy (takes E) (PayloadFits E) f → knows E f.number ≡ true → eqb f.number 1 ≡ false → init_so_far (step k f) ≡ no_texts
   other_init k f fit m ne =
       on_bytes (λ (j : MemberKept F G). init_so_far j ≡ no_texts) k f.number f.payload fit.type_fits m
       (λ c. chosen (λ (j : MemberKept F G). init_so_far j ≡ no_texts) (eqb f.number 1) (eqb f.number 2) (eqb f.number 3) (eqb f.number 4) (eqb f.number 5) _ _ _ _ _ k m
@@ -191,20 +191,20 @@ module _ {F G : Type 0} (fourth : Table) (fourth_with : F → Field → F) (no_f
 
   -- member 2
   grant_flat_at : (k : MemberKept F G) (p : Payload) (us : List Field) → takes E 2 (wire_type p) ≡ true → of_bytes (fields_of text_and_numbers) p ≡ Ok us
-      → grant_flat_so_far (member_payload fourth fourth_with no_fourth fifth fifth_with no_fifth k 2 p) ≡ fold text_and_numbers_with (grant_flat_so_far k) us
+      → grant_flat_so_far (member_payload first_own first_own_with no_first_own second_own second_own_with no_second_own k 2 p) ≡ fold text_and_numbers_with (grant_flat_so_far k) us
   grant_flat_at k (Bytes c) us t e = ap (kept_after text_and_numbers_with (grant_flat_so_far k)) e
   grant_flat_at k (Number v) us t e = absurd cc
   grant_flat_at k (Eight c) us t e = absurd cc
   grant_flat_at k (Four c) us t e = absurd cc
 
-  same_grant_flat : (k : MemberKept F G) (f : Field) (us : List Field) → FitsBy (takes E) (Asks E) f → eqb f.number 2 ≡ true → piece_at text_and_numbers 2 f ≡ Ok us → grant_flat_so_far (step k f) ≡ fold text_and_numbers_with (grant_flat_so_far k) us
+  same_grant_flat : (k : MemberKept F G) (f : Field) (us : List Field) → FitsBy (takes E) (PayloadFits E) f → eqb f.number 2 ≡ true → piece_at text_and_numbers 2 f ≡ Ok us → grant_flat_so_far (step k f) ≡ fold text_and_numbers_with (grant_flat_so_far k) us
   same_grant_flat k f us fit h piece =
       let is = eqb-true f.number 2 h in
       let e = sym (ap (λ (b : Bool). cond b (of_bytes (fields_of text_and_numbers) f.payload) (Ok [])) h) ∙ piece in
-      subst (λ (m : ℕ). grant_flat_so_far (member_payload fourth fourth_with no_fourth fifth fifth_with no_fifth k m f.payload) ≡ fold text_and_numbers_with (grant_flat_so_far k) us) (sym is)
+      subst (λ (m : ℕ). grant_flat_so_far (member_payload first_own first_own_with no_first_own second_own second_own_with no_second_own k m f.payload) ≡ fold text_and_numbers_with (grant_flat_so_far k) us) (sym is)
       (grant_flat_at k f.payload us (subst (λ (m : ℕ). takes E m (wire_type f.payload) ≡ true) is fit.type_fits) e)
 
-  other_grant_flat : (k : MemberKept F G) (f : Field) → FitsBy (takes E) (Asks E) f → knows E f.number ≡ true → eqb f.number 2 ≡ false → grant_flat_so_far (step k f) ≡ nothing_kept
+  other_grant_flat : (k : MemberKept F G) (f : Field) → FitsBy (takes E) (PayloadFits E) f → knows E f.number ≡ true → eqb f.number 2 ≡ false → grant_flat_so_far (step k f) ≡ nothing_kept
   other_grant_flat k f fit m ne =
       on_bytes (λ (j : MemberKept F G). grant_flat_so_far j ≡ nothing_kept) k f.number f.payload fit.type_fits m
       (λ c. chosen (λ (j : MemberKept F G). grant_flat_so_far j ≡ nothing_kept) (eqb f.number 1) (eqb f.number 2) (eqb f.number 3) (eqb f.number 4) (eqb f.number 5) _ _ _ _ _ k m
@@ -216,20 +216,20 @@ module _ {F G : Type 0} (fourth : Table) (fourth_with : F → Field → F) (no_f
 
   -- member 3
   revoke_flat_at : (k : MemberKept F G) (p : Payload) (us : List Field) → takes E 3 (wire_type p) ≡ true → of_bytes (fields_of text_and_numbers) p ≡ Ok us
-      → revoke_flat_so_far (member_payload fourth fourth_with no_fourth fifth fifth_with no_fifth k 3 p) ≡ fold text_and_numbers_with (revoke_flat_so_far k) us
+      → revoke_flat_so_far (member_payload first_own first_own_with no_first_own second_own second_own_with no_second_own k 3 p) ≡ fold text_and_numbers_with (revoke_flat_so_far k) us
   revoke_flat_at k (Bytes c) us t e = ap (kept_after text_and_numbers_with (revoke_flat_so_far k)) e
   revoke_flat_at k (Number v) us t e = absurd cc
   revoke_flat_at k (Eight c) us t e = absurd cc
   revoke_flat_at k (Four c) us t e = absurd cc
 
-  same_revoke_flat : (k : MemberKept F G) (f : Field) (us : List Field) → FitsBy (takes E) (Asks E) f → eqb f.number 3 ≡ true → piece_at text_and_numbers 3 f ≡ Ok us → revoke_flat_so_far (step k f) ≡ fold text_and_numbers_with (revoke_flat_so_far k) us
+  same_revoke_flat : (k : MemberKept F G) (f : Field) (us : List Field) → FitsBy (takes E) (PayloadFits E) f → eqb f.number 3 ≡ true → piece_at text_and_numbers 3 f ≡ Ok us → revoke_flat_so_far (step k f) ≡ fold text_and_numbers_with (revoke_flat_so_far k) us
   same_revoke_flat k f us fit h piece =
       let is = eqb-true f.number 3 h in
       let e = sym (ap (λ (b : Bool). cond b (of_bytes (fields_of text_and_numbers) f.payload) (Ok [])) h) ∙ piece in
-      subst (λ (m : ℕ). revoke_flat_so_far (member_payload fourth fourth_with no_fourth fifth fifth_with no_fifth k m f.payload) ≡ fold text_and_numbers_with (revoke_flat_so_far k) us) (sym is)
+      subst (λ (m : ℕ). revoke_flat_so_far (member_payload first_own first_own_with no_first_own second_own second_own_with no_second_own k m f.payload) ≡ fold text_and_numbers_with (revoke_flat_so_far k) us) (sym is)
       (revoke_flat_at k f.payload us (subst (λ (m : ℕ). takes E m (wire_type f.payload) ≡ true) is fit.type_fits) e)
 
-  other_revoke_flat : (k : MemberKept F G) (f : Field) → FitsBy (takes E) (Asks E) f → knows E f.number ≡ true → eqb f.number 3 ≡ false → revoke_flat_so_far (step k f) ≡ nothing_kept
+  other_revoke_flat : (k : MemberKept F G) (f : Field) → FitsBy (takes E) (PayloadFits E) f → knows E f.number ≡ true → eqb f.number 3 ≡ false → revoke_flat_so_far (step k f) ≡ nothing_kept
   other_revoke_flat k f fit m ne =
       on_bytes (λ (j : MemberKept F G). revoke_flat_so_far j ≡ nothing_kept) k f.number f.payload fit.type_fits m
       (λ c. chosen (λ (j : MemberKept F G). revoke_flat_so_far j ≡ nothing_kept) (eqb f.number 1) (eqb f.number 2) (eqb f.number 3) (eqb f.number 4) (eqb f.number 5) _ _ _ _ _ k m
@@ -240,51 +240,51 @@ module _ {F G : Type 0} (fourth : Table) (fourth_with : F → Field → F) (no_f
   member_revoke_flat_finishes value made member finishes fs fit = member_finishes E step 3 text_and_numbers text_and_numbers_with nothing_kept revoke_flat_so_far (λ p h. h) refl same_revoke_flat other_revoke_flat none value made member finishes Absent refl fs fit
 
   -- member 4
-  fourth_at : (k : MemberKept F G) (p : Payload) (us : List Field) → takes E 4 (wire_type p) ≡ true → of_bytes (fields_of fourth) p ≡ Ok us
-      → fourth_so_far no_fourth (member_payload fourth fourth_with no_fourth fifth fifth_with no_fifth k 4 p) ≡ fold fourth_with (fourth_so_far no_fourth k) us
-  fourth_at k (Bytes c) us t e = ap (kept_after fourth_with (fourth_so_far no_fourth k)) e
-  fourth_at k (Number v) us t e = absurd cc
-  fourth_at k (Eight c) us t e = absurd cc
-  fourth_at k (Four c) us t e = absurd cc
+  first_own_at : (k : MemberKept F G) (p : Payload) (us : List Field) → takes E 4 (wire_type p) ≡ true → of_bytes (fields_of first_own) p ≡ Ok us
+      → first_own_so_far no_first_own (member_payload first_own first_own_with no_first_own second_own second_own_with no_second_own k 4 p) ≡ fold first_own_with (first_own_so_far no_first_own k) us
+  first_own_at k (Bytes c) us t e = ap (kept_after first_own_with (first_own_so_far no_first_own k)) e
+  first_own_at k (Number v) us t e = absurd cc
+  first_own_at k (Eight c) us t e = absurd cc
+  first_own_at k (Four c) us t e = absurd cc
 
-  same_fourth : (k : MemberKept F G) (f : Field) (us : List Field) → FitsBy (takes E) (Asks E) f → eqb f.number 4 ≡ true → piece_at fourth 4 f ≡ Ok us → fourth_so_far no_fourth (step k f) ≡ fold fourth_with (fourth_so_far no_fourth k) us
-  same_fourth k f us fit h piece =
+  same_first_own : (k : MemberKept F G) (f : Field) (us : List Field) → FitsBy (takes E) (PayloadFits E) f → eqb f.number 4 ≡ true → piece_at first_own 4 f ≡ Ok us → first_own_so_far no_first_own (step k f) ≡ fold first_own_with (first_own_so_far no_first_own k) us
+  same_first_own k f us fit h piece =
       let is = eqb-true f.number 4 h in
-      let e = sym (ap (λ (b : Bool). cond b (of_bytes (fields_of fourth) f.payload) (Ok [])) h) ∙ piece in
-      subst (λ (m : ℕ). fourth_so_far no_fourth (member_payload fourth fourth_with no_fourth fifth fifth_with no_fifth k m f.payload) ≡ fold fourth_with (fourth_so_far no_fourth k) us) (sym is)
-      (fourth_at k f.payload us (subst (λ (m : ℕ). takes E m (wire_type f.payload) ≡ true) is fit.type_fits) e)
+      let e = sym (ap (λ (b : Bool). cond b (of_bytes (fields_of first_own) f.payload) (Ok [])) h) ∙ piece in
+      subst (λ (m : ℕ). first_own_so_far no_first_own (member_payload first_own first_own_with no_first_own second_own second_own_with no_second_own k m f.payload) ≡ fold first_own_with (first_own_so_far no_first_own k) us) (sym is)
+      (first_own_at k f.payload us (subst (λ (m : ℕ). takes E m (wire_type f.payload) ≡ true) is fit.type_fits) e)
 
-  other_fourth : (k : MemberKept F G) (f : Field) → FitsBy (takes E) (Asks E) f → knows E f.number ≡ true → eqb f.number 4 ≡ false → fourth_so_far no_fourth (step k f) ≡ no_fourth
-  other_fourth k f fit m ne =
-      on_bytes (λ (j : MemberKept F G). fourth_so_far no_fourth j ≡ no_fourth) k f.number f.payload fit.type_fits m
-      (λ c. chosen (λ (j : MemberKept F G). fourth_so_far no_fourth j ≡ no_fourth) (eqb f.number 1) (eqb f.number 2) (eqb f.number 3) (eqb f.number 4) (eqb f.number 5) _ _ _ _ _ k m
+  other_first_own : (k : MemberKept F G) (f : Field) → FitsBy (takes E) (PayloadFits E) f → knows E f.number ≡ true → eqb f.number 4 ≡ false → first_own_so_far no_first_own (step k f) ≡ no_first_own
+  other_first_own k f fit m ne =
+      on_bytes (λ (j : MemberKept F G). first_own_so_far no_first_own j ≡ no_first_own) k f.number f.payload fit.type_fits m
+      (λ c. chosen (λ (j : MemberKept F G). first_own_so_far no_first_own j ≡ no_first_own) (eqb f.number 1) (eqb f.number 2) (eqb f.number 3) (eqb f.number 4) (eqb f.number 5) _ _ _ _ _ k m
       (λ t. refl) (λ t. refl) (λ t. refl) (λ t. two_sides (eqb f.number 4) t ne) (λ t. refl))
 
-  pub fourth_finishes : {V O : Type 0} (value : List Field → Result V WireError) (made : _ → V) (member : V → O) → Finishes fourth value fourth_with no_fourth made
-      → (fs : List Field) → Fits E fs → member_of (knows E) 4 fourth value member fs ≡ Ok (Some (member (made (fourth_so_far no_fourth (fold step Absent fs)))))
-  fourth_finishes value made member finishes fs fit = member_finishes E step 4 fourth fourth_with no_fourth (fourth_so_far no_fourth) (λ p h. h) refl same_fourth other_fourth none value made member finishes Absent refl fs fit
+  pub first_own_finishes : {V O : Type 0} (value : List Field → Result V WireError) (made : _ → V) (member : V → O) → Finishes first_own value first_own_with no_first_own made
+      → (fs : List Field) → Fits E fs → member_of (knows E) 4 first_own value member fs ≡ Ok (Some (member (made (first_own_so_far no_first_own (fold step Absent fs)))))
+  first_own_finishes value made member finishes fs fit = member_finishes E step 4 first_own first_own_with no_first_own (first_own_so_far no_first_own) (λ p h. h) refl same_first_own other_first_own none value made member finishes Absent refl fs fit
 
   -- member 5
-  fifth_at : (k : MemberKept F G) (p : Payload) (us : List Field) → takes E 5 (wire_type p) ≡ true → of_bytes (fields_of fifth) p ≡ Ok us
-      → fifth_so_far no_fifth (member_payload fourth fourth_with no_fourth fifth fifth_with no_fifth k 5 p) ≡ fold fifth_with (fifth_so_far no_fifth k) us
-  fifth_at k (Bytes c) us t e = ap (kept_after fifth_with (fifth_so_far no_fifth k)) e
-  fifth_at k (Number v) us t e = absurd cc
-  fifth_at k (Eight c) us t e = absurd cc
-  fifth_at k (Four c) us t e = absurd cc
+  second_own_at : (k : MemberKept F G) (p : Payload) (us : List Field) → takes E 5 (wire_type p) ≡ true → of_bytes (fields_of second_own) p ≡ Ok us
+      → second_own_so_far no_second_own (member_payload first_own first_own_with no_first_own second_own second_own_with no_second_own k 5 p) ≡ fold second_own_with (second_own_so_far no_second_own k) us
+  second_own_at k (Bytes c) us t e = ap (kept_after second_own_with (second_own_so_far no_second_own k)) e
+  second_own_at k (Number v) us t e = absurd cc
+  second_own_at k (Eight c) us t e = absurd cc
+  second_own_at k (Four c) us t e = absurd cc
 
-  same_fifth : (k : MemberKept F G) (f : Field) (us : List Field) → FitsBy (takes E) (Asks E) f → eqb f.number 5 ≡ true → piece_at fifth 5 f ≡ Ok us → fifth_so_far no_fifth (step k f) ≡ fold fifth_with (fifth_so_far no_fifth k) us
-  same_fifth k f us fit h piece =
+  same_second_own : (k : MemberKept F G) (f : Field) (us : List Field) → FitsBy (takes E) (PayloadFits E) f → eqb f.number 5 ≡ true → piece_at second_own 5 f ≡ Ok us → second_own_so_far no_second_own (step k f) ≡ fold second_own_with (second_own_so_far no_second_own k) us
+  same_second_own k f us fit h piece =
       let is = eqb-true f.number 5 h in
-      let e = sym (ap (λ (b : Bool). cond b (of_bytes (fields_of fifth) f.payload) (Ok [])) h) ∙ piece in
-      subst (λ (m : ℕ). fifth_so_far no_fifth (member_payload fourth fourth_with no_fourth fifth fifth_with no_fifth k m f.payload) ≡ fold fifth_with (fifth_so_far no_fifth k) us) (sym is)
-      (fifth_at k f.payload us (subst (λ (m : ℕ). takes E m (wire_type f.payload) ≡ true) is fit.type_fits) e)
+      let e = sym (ap (λ (b : Bool). cond b (of_bytes (fields_of second_own) f.payload) (Ok [])) h) ∙ piece in
+      subst (λ (m : ℕ). second_own_so_far no_second_own (member_payload first_own first_own_with no_first_own second_own second_own_with no_second_own k m f.payload) ≡ fold second_own_with (second_own_so_far no_second_own k) us) (sym is)
+      (second_own_at k f.payload us (subst (λ (m : ℕ). takes E m (wire_type f.payload) ≡ true) is fit.type_fits) e)
 
-  other_fifth : (k : MemberKept F G) (f : Field) → FitsBy (takes E) (Asks E) f → knows E f.number ≡ true → eqb f.number 5 ≡ false → fifth_so_far no_fifth (step k f) ≡ no_fifth
-  other_fifth k f fit m ne =
-      on_bytes (λ (j : MemberKept F G). fifth_so_far no_fifth j ≡ no_fifth) k f.number f.payload fit.type_fits m
-      (λ c. chosen (λ (j : MemberKept F G). fifth_so_far no_fifth j ≡ no_fifth) (eqb f.number 1) (eqb f.number 2) (eqb f.number 3) (eqb f.number 4) (eqb f.number 5) _ _ _ _ _ k m
+  other_second_own : (k : MemberKept F G) (f : Field) → FitsBy (takes E) (PayloadFits E) f → knows E f.number ≡ true → eqb f.number 5 ≡ false → second_own_so_far no_second_own (step k f) ≡ no_second_own
+  other_second_own k f fit m ne =
+      on_bytes (λ (j : MemberKept F G). second_own_so_far no_second_own j ≡ no_second_own) k f.number f.payload fit.type_fits m
+      (λ c. chosen (λ (j : MemberKept F G). second_own_so_far no_second_own j ≡ no_second_own) (eqb f.number 1) (eqb f.number 2) (eqb f.number 3) (eqb f.number 4) (eqb f.number 5) _ _ _ _ _ k m
       (λ t. refl) (λ t. refl) (λ t. refl) (λ t. refl) (λ t. two_sides (eqb f.number 5) t ne))
 
-  pub fifth_finishes : {V O : Type 0} (value : List Field → Result V WireError) (made : _ → V) (member : V → O) → Finishes fifth value fifth_with no_fifth made
-      → (fs : List Field) → Fits E fs → member_of (knows E) 5 fifth value member fs ≡ Ok (Some (member (made (fifth_so_far no_fifth (fold step Absent fs)))))
-  fifth_finishes value made member finishes fs fit = member_finishes E step 5 fifth fifth_with no_fifth (fifth_so_far no_fifth) (λ p h. h) refl same_fifth other_fifth none value made member finishes Absent refl fs fit
+  pub second_own_finishes : {V O : Type 0} (value : List Field → Result V WireError) (made : _ → V) (member : V → O) → Finishes second_own value second_own_with no_second_own made
+      → (fs : List Field) → Fits E fs → member_of (knows E) 5 second_own value member fs ≡ Ok (Some (member (made (second_own_so_far no_second_own (fold step Absent fs)))))
+  second_own_finishes value made member finishes fs fit = member_finishes E step 5 second_own second_own_with no_second_own (second_own_so_far no_second_own) (λ p h. h) refl same_second_own other_second_own none value made member finishes Absent refl fs fit

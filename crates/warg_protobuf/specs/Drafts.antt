@@ -28,7 +28,7 @@ use Rattle.warg_protobuf.specs.Envelope.{EnvelopeValue}
 use Rattle.warg_protobuf.specs.Record.{RecordValue}
 use Rattle.warg_protobuf.specs.Views.{option_view}
 use Rattle.warg_protobuf.specs.Timestamp.{timestamp_table, TimestampValue}
-use Rattle.warg_protobuf.specs.Values.{low_signed, held, numbers, last_from, last_option_from, at_number, signed_in, item_at, kept_of}
+use Rattle.warg_protobuf.specs.Values.{low_signed, field_contents, numbers, last_from, last_option_from, at_number, signed_in, item_at, kept_of}
 
 -- a payload that is not judged yet
 abbrev pub no_fault : ℕ → Payload → Option WireError
@@ -46,8 +46,8 @@ module _ {K : Type 0} (with_field : K → Field → K) where
   kept_after k (Err e) = k
 
   -- and what the fields of one more payload make of it
-  abbrev pub grown : Table → K → List ℕ → K
-  grown T k b = kept_after k (fields_of T b)
+  abbrev pub kept_after_payload : Table → K → List ℕ → K
+  kept_after_payload T k b = kept_after k (fields_of T b)
 
 -- ---- texts and numbers
 
@@ -65,7 +65,7 @@ no_text = record { text = [] }
 
 -- after one more field: the last text counts
 abbrev pub one_text_with : OneTextKept → Field → OneTextKept
-one_text_with k f = record { text = last_from k.text (held 1 (f ∷ [])) }
+one_text_with k f = record { text = last_from k.text (field_contents 1 (f ∷ [])) }
 
 -- what is kept of a message with two texts
 pub record TwoTextsKept : Type 0 where
@@ -82,7 +82,7 @@ no_texts = record { first = []; second = [] }
 
 -- after one more field: of either text the last counts
 abbrev pub two_texts_with : TwoTextsKept → Field → TwoTextsKept
-two_texts_with k f = record { first = last_from k.first (held 1 (f ∷ [])); second = last_from k.second (held 2 (f ∷ [])) }
+two_texts_with k f = record { first = last_from k.first (field_contents 1 (f ∷ [])); second = last_from k.second (field_contents 2 (f ∷ [])) }
 
 -- what is kept of a message with a text and a list of numbers
 pub record TextAndNumbersKept : Type 0 where
@@ -100,7 +100,7 @@ nothing_kept = record { text = []; numbers = [] }
 -- after one more field: the last text counts, and all numbers do
 abbrev pub text_and_numbers_with : TextAndNumbersKept → Field → TextAndNumbersKept
 text_and_numbers_with k f = record {
-  text = last_from k.text (held 1 (f ∷ []));
+  text = last_from k.text (field_contents 1 (f ∷ []));
   numbers = k.numbers ++ items_of (at_number 2 signed_in f);
 }
 
@@ -132,23 +132,23 @@ time_made k = record { seconds = cast_signed w64 k.seconds; nanos = low_signed k
 
 -- ---- entries: the run of the last member
 
--- what is kept of an entry's last member; the fourth and the fifth are those that its kind of log alone has
+-- what is kept of an entry's last member; two, the first own and the second own, are those that its kind of log alone has
 pub data MemberKept (F G : Type 0) : Type 0 where
   Absent : MemberKept F G
   Init : TwoTextsKept → MemberKept F G
   GrantFlat : TextAndNumbersKept → MemberKept F G
   RevokeFlat : TextAndNumbersKept → MemberKept F G
-  Fourth : F → MemberKept F G
-  Fifth : G → MemberKept F G
+  FirstOwn : F → MemberKept F G
+  SecondOwn : G → MemberKept F G
 
--- what the draft of an entry has kept, by what those of the fourth and the fifth member have
+-- what the draft of an entry has kept, by what those of its kind's own members have
 abbrev pub member_kept : {D E F G : Type 0} → (D → F) → (E → G) → MemberDraft D E → MemberKept F G
-member_kept fourth fifth member.Absent = Absent
-member_kept fourth fifth (member.Init d) = Init (two_texts_kept d)
-member_kept fourth fifth (member.GrantFlat d) = GrantFlat (text_and_numbers_kept d)
-member_kept fourth fifth (member.RevokeFlat d) = RevokeFlat (text_and_numbers_kept d)
-member_kept fourth fifth (member.Fourth d) = Fourth (fourth d)
-member_kept fourth fifth (member.Fifth d) = Fifth (fifth d)
+member_kept first_own second_own member.Absent = Absent
+member_kept first_own second_own (member.Init d) = Init (two_texts_kept d)
+member_kept first_own second_own (member.GrantFlat d) = GrantFlat (text_and_numbers_kept d)
+member_kept first_own second_own (member.RevokeFlat d) = RevokeFlat (text_and_numbers_kept d)
+member_kept first_own second_own (member.FirstOwn d) = FirstOwn (first_own d)
+member_kept first_own second_own (member.SecondOwn d) = SecondOwn (second_own d)
 
 -- before any field: no member
 abbrev pub no_member : {F G : Type 0} → MemberKept F G
@@ -169,29 +169,29 @@ abbrev pub revoke_flat_so_far : {F G : Type 0} → MemberKept F G → TextAndNum
 revoke_flat_so_far (RevokeFlat t) = t
 revoke_flat_so_far _ = nothing_kept
 
--- what is kept of the run of the fourth member: what there is before any field where another came last
-abbrev pub fourth_so_far : {F G : Type 0} → F → MemberKept F G → F
-fourth_so_far empty (Fourth t) = t
-fourth_so_far empty _ = empty
+-- what is kept of the run of the first of the kind's own members: what there is before any field where another came last
+abbrev pub first_own_so_far : {F G : Type 0} → F → MemberKept F G → F
+first_own_so_far empty (FirstOwn t) = t
+first_own_so_far empty _ = empty
 
--- what is kept of the run of the fifth member: what there is before any field where another came last
-abbrev pub fifth_so_far : {F G : Type 0} → G → MemberKept F G → G
-fifth_so_far empty (Fifth t) = t
-fifth_so_far empty _ = empty
+-- what is kept of the run of the second of the kind's own members: what there is before any field where another came last
+abbrev pub second_own_so_far : {F G : Type 0} → G → MemberKept F G → G
+second_own_so_far empty (SecondOwn t) = t
+second_own_so_far empty _ = empty
 
 -- the fields that an entry knows: the five members of its oneof
 abbrev pub entry_table : Table → Table → Table
-entry_table fourth fifth = MessageAt 1 two_texts (MessageAt 2 text_and_numbers (MessageAt 3 text_and_numbers (MessageAt 4 fourth (MessageAt 5 fifth End))))
+entry_table first_own second_own = MessageAt 1 two_texts (MessageAt 2 text_and_numbers (MessageAt 3 text_and_numbers (MessageAt 4 first_own (MessageAt 5 second_own End))))
 
-module _ {F G : Type 0} (fourth : Table) (fourth_with : F → Field → F) (no_fourth : F) (fifth : Table) (fifth_with : G → Field → G) (no_fifth : G) where
+module _ {F G : Type 0} (first_own : Table) (first_own_with : F → Field → F) (no_first_own : F) (second_own : Table) (second_own_with : G → Field → G) (no_second_own : G) where
   -- what the bytes of one more field make of the member: its run goes on, another's begins, or nothing changes
   abbrev pub member_bytes : MemberKept F G → ℕ → List ℕ → MemberKept F G
   member_bytes k n b =
-      if n == 1 then Init (grown two_texts_with two_texts (init_so_far k) b)
-      else (if n == 2 then GrantFlat (grown text_and_numbers_with text_and_numbers (grant_flat_so_far k) b)
-      else (if n == 3 then RevokeFlat (grown text_and_numbers_with text_and_numbers (revoke_flat_so_far k) b)
-      else (if n == 4 then Fourth (grown fourth_with fourth (fourth_so_far no_fourth k) b)
-      else (if n == 5 then Fifth (grown fifth_with fifth (fifth_so_far no_fifth k) b)
+      if n == 1 then Init (kept_after_payload two_texts_with two_texts (init_so_far k) b)
+      else (if n == 2 then GrantFlat (kept_after_payload text_and_numbers_with text_and_numbers (grant_flat_so_far k) b)
+      else (if n == 3 then RevokeFlat (kept_after_payload text_and_numbers_with text_and_numbers (revoke_flat_so_far k) b)
+      else (if n == 4 then FirstOwn (kept_after_payload first_own_with first_own (first_own_so_far no_first_own k) b)
+      else (if n == 5 then SecondOwn (kept_after_payload second_own_with second_own (second_own_so_far no_second_own k) b)
       else k))))
 
   -- the same by the field's payload, which counts for nothing unless it is bytes
@@ -218,9 +218,9 @@ no_parts = record { contents = []; key_id = []; signature = [] }
 -- after one more field: of each part the last counts
 abbrev pub envelope_with : EnvelopeValue → Field → EnvelopeValue
 envelope_with k f = record {
-  contents = last_from k.contents (held 1 (f ∷ []));
-  key_id = last_from k.key_id (held 2 (f ∷ []));
-  signature = last_from k.signature (held 3 (f ∷ []));
+  contents = last_from k.contents (field_contents 1 (f ∷ []));
+  key_id = last_from k.key_id (field_contents 2 (f ∷ []));
+  signature = last_from k.signature (field_contents 3 (f ∷ []));
 }
 
 -- what is kept of a record, its entries as a sink holds them
@@ -232,16 +232,16 @@ pub record RecordKept (H : Type 0) : Type 0 where
 
 -- what the draft of a record has kept, by what its sink holds
 abbrev pub record_kept : {S H : Type 0} → (S → H) → RecordDraft S → RecordKept H
-record_kept held d = record {
+record_kept sink_data d = record {
   prev = option_view (λ t. t.now) d.prev;
   version = d.version;
   time = option_view timestamp_kept d.time;
-  entries = held d.entries;
+  entries = sink_data d.entries;
 }
 
 -- before any field: no prev, version 0, no time, and a sink that holds nothing yet
 abbrev pub no_record : {H : Type 0} → H → RecordKept H
-no_record nothing = record { prev = None; version = 0; time = None; entries = nothing }
+no_record no_entries = record { prev = None; version = 0; time = None; entries = no_entries }
 
 -- what is kept of the time so far: both numbers are 0 before its first piece
 abbrev pub time_so_far : Option TimestampKept → TimestampKept
@@ -254,15 +254,15 @@ time_grown o b = kept_of timestamp_with (time_so_far o) (fields_of timestamp_tab
 
 -- what one more piece of the time makes of it
 abbrev pub time_with : Option TimestampKept → List ℕ → Option TimestampKept
-time_with o b = Some (grown timestamp_with timestamp_table (time_so_far o) b)
+time_with o b = Some (kept_after_payload timestamp_with timestamp_table (time_so_far o) b)
 
 -- after one more field: the last prev and version count, the time grows, an entry goes into the sink
 abbrev pub record_with : {E H : Type 0} → (H → E → H) → Table → (List Field → Result E WireError) → RecordKept H
     → Field → RecordKept H
 record_with with_entry entry entry_from k f = record {
-  prev = last_option_from k.prev (held 1 (f ∷ []));
+  prev = last_option_from k.prev (field_contents 1 (f ∷ []));
   version = last_from k.version (numbers 2 (f ∷ []));
-  time = fold time_with k.time (held 3 (f ∷ []));
+  time = fold time_with k.time (field_contents 3 (f ∷ []));
   entries = fold with_entry k.entries (items_of (item_at entry entry_from 4 f));
 }
 
@@ -302,8 +302,8 @@ package_entry_made Absent = None
 package_entry_made (Init k) = Some (in_package.Init (init_made k))
 package_entry_made (GrantFlat k) = Some (in_package.GrantFlat (grant_flat_made k))
 package_entry_made (RevokeFlat k) = Some (in_package.RevokeFlat (revoke_flat_made k))
-package_entry_made (Fourth k) = Some (in_package.Release (release_made k))
-package_entry_made (Fifth k) = Some (in_package.Yank (yank_made k))
+package_entry_made (FirstOwn k) = Some (in_package.Release (release_made k))
+package_entry_made (SecondOwn k) = Some (in_package.Yank (yank_made k))
 
 -- the entry of an operator log, of what is kept
 abbrev pub operator_entry_made : MemberKept OneTextKept TwoTextsKept → Option OperatorMember
@@ -311,8 +311,8 @@ operator_entry_made Absent = None
 operator_entry_made (Init k) = Some (in_operator.Init (init_made k))
 operator_entry_made (GrantFlat k) = Some (in_operator.GrantFlat (grant_flat_made k))
 operator_entry_made (RevokeFlat k) = Some (in_operator.RevokeFlat (revoke_flat_made k))
-operator_entry_made (Fourth k) = Some (in_operator.DefineNamespace (define_namespace_made k))
-operator_entry_made (Fifth k) = Some (in_operator.ImportNamespace (import_namespace_made k))
+operator_entry_made (FirstOwn k) = Some (in_operator.DefineNamespace (define_namespace_made k))
+operator_entry_made (SecondOwn k) = Some (in_operator.ImportNamespace (import_namespace_made k))
 
 -- the record of what is kept; the version keeps its low 32 bits
 abbrev pub record_made : {H : Type 0} → RecordKept H → RecordValue H

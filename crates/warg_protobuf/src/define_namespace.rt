@@ -50,7 +50,7 @@ impl Codec for OperatorDefineNamespace {
         Ok(OperatorDefineNamespace::finish(alloc, draft)?)
     }
 
-    ghost written = { define_namespace_fields };
+    ghost written_fields = { define_namespace_fields };
 
     ghost is_sound = { IsSoundDefineNamespace };
 

@@ -17,20 +17,20 @@ pub(crate) trait Draft<'a>: Drop {
     ghost table: { Table };
 
     /// What is kept, as plain data.
-    ghost Kept: { Type 0 };
+    ghost KeptData: { Type 0 };
 
-    ghost kept: { Self → Kept };
+    ghost kept_data: { Self → KeptData };
 
     /// What is kept of no fields.
-    ghost empty: { Kept };
+    ghost empty: { KeptData };
 
-    ghost with_field: { Kept → Field → Kept };
+    ghost with_field: { KeptData → Field → KeptData };
 
     /// Whether it takes memory.
     ghost TakesMemory: { Type 0 };
 
     fn new(alloc: Global) -> Self
-        ensures { kept result ≡ empty };
+        ensures { kept_data result ≡ empty };
 
     /// Whether a field of this number may have this wire type.
     fn takes(number: u32, wire_type: u32) -> bool
@@ -39,15 +39,16 @@ pub(crate) trait Draft<'a>: Drop {
     /// Keeps what counts of the next field, or finds the fault of its payload.
     fn grow(&mut self, field: RawField<'a>) -> Result<(), WireError>
         ensures given { let f = field_view field.entry in
-            ReturnsOrNoMemory (λ _. kept self.new) result
-            (unless (payload_fault table f.number f.payload) (Ok (with_field (kept self.old) f))) }
+            ReturnsOrNoMemory (λ _. kept_data self.new) result
+            (unless (payload_fault table f.number f.payload)
+            (Ok (with_field (kept_data self.old) f))) }
         ensures memory { IfErr result (λ e. e ≡ OutOfMemory → TakesMemory) };
 }
 
 /// Reads the fields of a message, all of the bytes, each once.
 pub(crate) fn read_into<'a, D: Draft<'a>>(draft: &mut D, bytes: &'a [u8]) -> Result<(), WireError>
-    ensures given { ReturnsOrNoMemory (λ _. D.kept draft.new) result
-        (kept_of D.with_field (D.kept draft.old) (fields_of D.table bytes.now)) }
+    ensures given { ReturnsOrNoMemory (λ _. D.kept_data draft.new) result
+        (kept_of D.with_field (D.kept_data draft.old) (fields_of D.table bytes.now)) }
     ensures memory { IfErr result (λ e. e ≡ OutOfMemory → D.TakesMemory) }
 {
     let mut rest = bytes;
@@ -61,8 +62,8 @@ pub(crate) fn read_into<'a, D: Draft<'a>>(draft: &mut D, bytes: &'a [u8]) -> Res
 
 /// The draft, after it has read the fields of these bytes too.
 pub(crate) fn grown<'a, D: Draft<'a>>(mut draft: D, bytes: &'a [u8]) -> Result<D, WireError>
-    ensures given { ReturnsOrNoMemory D.kept result
-        (kept_of D.with_field (D.kept draft) (fields_of D.table bytes.now)) }
+    ensures given { ReturnsOrNoMemory D.kept_data result
+        (kept_of D.with_field (D.kept_data draft) (fields_of D.table bytes.now)) }
     ensures memory { IfErr result (λ e. e ≡ OutOfMemory → D.TakesMemory) }
 {
     read_into(&mut draft, bytes)?;
@@ -71,7 +72,7 @@ pub(crate) fn grown<'a, D: Draft<'a>>(mut draft: D, bytes: &'a [u8]) -> Result<D
 
 /// What is kept of the fields of a message, all of the bytes.
 pub(crate) fn read_draft<'a, D: Draft<'a>>(alloc: Global, bytes: &'a [u8]) -> Result<D, WireError>
-    ensures given { ReturnsOrNoMemory D.kept result
+    ensures given { ReturnsOrNoMemory D.kept_data result
         (kept_of D.with_field D.empty (fields_of D.table bytes.now)) }
     ensures memory { IfErr result (λ e. e ≡ OutOfMemory → D.TakesMemory) }
 {

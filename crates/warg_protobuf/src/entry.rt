@@ -1,7 +1,7 @@
 //! The oneof of an entry while it is read: the run of the member that came last.
 
 ghost use Rattle.std.specs.Prelude.{◌≡◌};
-ghost use Rattle.warg_protobuf.specs.Drafts.{TwoTextsKept, two_texts_kept, TextAndNumbersKept, text_and_numbers_kept, MemberKept, member_kept, no_member, member_with, entry_table, init_so_far, grant_flat_so_far, revoke_flat_so_far, fourth_so_far, fifth_so_far};
+ghost use Rattle.warg_protobuf.specs.Drafts.{TwoTextsKept, two_texts_kept, TextAndNumbersKept, text_and_numbers_kept, MemberKept, member_kept, no_member, member_with, entry_table, init_so_far, grant_flat_so_far, revoke_flat_so_far, first_own_so_far, second_own_so_far};
 ghost use Rattle.warg_protobuf.specs.Table.{takes};
 
 use crate::draft::{Draft, grown};
@@ -18,8 +18,8 @@ pub(crate) enum MemberDraft<'a, F, G> {
     Init(TwoTexts<'a>),
     GrantFlat(TextAndNumbers<'a>),
     RevokeFlat(TextAndNumbers<'a>),
-    Fourth(F),
-    Fifth(G),
+    FirstOwn(F),
+    SecondOwn(G),
 }
 
 /// An entry that is read. Where another member begins, the run before it is dropped; its faults have counted.
@@ -31,7 +31,8 @@ pub(crate) struct EntryDraft<'a, F, G> {
 
 impl<'a, F: Draft<'a>, G: Draft<'a>> EntryDraft<'a, F, G> {
     fn take_init(&mut self) -> TwoTexts<'a>
-        ensures { two_texts_kept result ≡ init_so_far (member_kept F.kept G.kept self.old.member) }
+        ensures { two_texts_kept result ≡
+            init_so_far (member_kept F.kept_data G.kept_data self.old.member) }
     {
         match mem::replace(&mut self.member, MemberDraft::Absent) {
             MemberDraft::Init(draft) => draft,
@@ -41,7 +42,7 @@ impl<'a, F: Draft<'a>, G: Draft<'a>> EntryDraft<'a, F, G> {
 
     fn take_grant_flat(&mut self) -> TextAndNumbers<'a>
         ensures { text_and_numbers_kept result ≡
-            grant_flat_so_far (member_kept F.kept G.kept self.old.member) }
+            grant_flat_so_far (member_kept F.kept_data G.kept_data self.old.member) }
     {
         match mem::replace(&mut self.member, MemberDraft::Absent) {
             MemberDraft::GrantFlat(draft) => draft,
@@ -51,7 +52,7 @@ impl<'a, F: Draft<'a>, G: Draft<'a>> EntryDraft<'a, F, G> {
 
     fn take_revoke_flat(&mut self) -> TextAndNumbers<'a>
         ensures { text_and_numbers_kept result ≡
-            revoke_flat_so_far (member_kept F.kept G.kept self.old.member) }
+            revoke_flat_so_far (member_kept F.kept_data G.kept_data self.old.member) }
     {
         match mem::replace(&mut self.member, MemberDraft::Absent) {
             MemberDraft::RevokeFlat(draft) => draft,
@@ -59,21 +60,22 @@ impl<'a, F: Draft<'a>, G: Draft<'a>> EntryDraft<'a, F, G> {
         }
     }
 
-    fn take_fourth(&mut self) -> F
-        ensures { F.kept result ≡ fourth_so_far F.empty
-            (member_kept F.kept G.kept self.old.member) }
+    fn take_first_own(&mut self) -> F
+        ensures { F.kept_data result ≡ first_own_so_far F.empty
+            (member_kept F.kept_data G.kept_data self.old.member) }
     {
         match mem::replace(&mut self.member, MemberDraft::Absent) {
-            MemberDraft::Fourth(draft) => draft,
+            MemberDraft::FirstOwn(draft) => draft,
             _ => F::new(self.alloc),
         }
     }
 
-    fn take_fifth(&mut self) -> G
-        ensures { G.kept result ≡ fifth_so_far G.empty (member_kept F.kept G.kept self.old.member) }
+    fn take_second_own(&mut self) -> G
+        ensures { G.kept_data result ≡ second_own_so_far G.empty
+            (member_kept F.kept_data G.kept_data self.old.member) }
     {
         match mem::replace(&mut self.member, MemberDraft::Absent) {
-            MemberDraft::Fifth(draft) => draft,
+            MemberDraft::SecondOwn(draft) => draft,
             _ => G::new(self.alloc),
         }
     }
@@ -82,9 +84,9 @@ impl<'a, F: Draft<'a>, G: Draft<'a>> EntryDraft<'a, F, G> {
 impl<'a, F: Draft<'a>, G: Draft<'a>> Draft<'a> for EntryDraft<'a, F, G> {
     ghost table = { entry_table F.table G.table };
 
-    ghost Kept = { MemberKept F.Kept G.Kept };
+    ghost KeptData = { MemberKept F.KeptData G.KeptData };
 
-    ghost kept = { λ d. member_kept F.kept G.kept d.member };
+    ghost kept_data = { λ d. member_kept F.kept_data G.kept_data d.member };
 
     ghost empty = { no_member };
 
@@ -117,8 +119,8 @@ impl<'a, F: Draft<'a>, G: Draft<'a>> Draft<'a> for EntryDraft<'a, F, G> {
             1 => self.member = MemberDraft::Init(grown(self.take_init(), bytes)?),
             2 => self.member = MemberDraft::GrantFlat(grown(self.take_grant_flat(), bytes)?),
             3 => self.member = MemberDraft::RevokeFlat(grown(self.take_revoke_flat(), bytes)?),
-            4 => self.member = MemberDraft::Fourth(grown(self.take_fourth(), bytes)?),
-            5 => self.member = MemberDraft::Fifth(grown(self.take_fifth(), bytes)?),
+            4 => self.member = MemberDraft::FirstOwn(grown(self.take_first_own(), bytes)?),
+            5 => self.member = MemberDraft::SecondOwn(grown(self.take_second_own(), bytes)?),
             _ => {}
         }
         Ok(())

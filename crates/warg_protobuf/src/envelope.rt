@@ -66,9 +66,9 @@ impl Envelope {
 impl<'a> Draft<'a> for EnvelopeView<'a> {
     ghost table = { envelope_table };
 
-    ghost Kept = { EnvelopeValue };
+    ghost KeptData = { EnvelopeValue };
 
-    ghost kept = { borrowed_envelope };
+    ghost kept_data = { borrowed_envelope };
 
     ghost empty = { no_parts };
 
@@ -129,7 +129,7 @@ impl Codec for Envelope {
         })
     }
 
-    ghost written = { envelope_fields };
+    ghost written_fields = { envelope_fields };
 
     ghost is_sound = { IsSoundEnvelope };
 

@@ -56,7 +56,7 @@ impl Codec for GrantFlat {
         Ok(GrantFlat::finish(alloc, draft)?)
     }
 
-    ghost written = { grant_flat_fields };
+    ghost written_fields = { grant_flat_fields };
 
     ghost is_sound = { IsSoundGrantFlat };
 

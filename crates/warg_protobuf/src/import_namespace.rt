@@ -53,7 +53,7 @@ impl Codec for OperatorImportNamespace {
         Ok(OperatorImportNamespace::finish(alloc, draft)?)
     }
 
-    ghost written = { import_namespace_fields };
+    ghost written_fields = { import_namespace_fields };
 
     ghost is_sound = { IsSoundImportNamespace };
 

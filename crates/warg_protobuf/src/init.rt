@@ -55,7 +55,7 @@ impl Codec for Init {
         Ok(Init::finish(alloc, draft)?)
     }
 
-    ghost written = { init_fields };
+    ghost written_fields = { init_fields };
 
     ghost is_sound = { IsSoundInit };
 

@@ -38,7 +38,7 @@ pub(crate) trait Codec: Drop {
             TakesMemory (message_of table value bytes.now)) };
 
     /// The fields that are written.
-    ghost written: { View → List Field };
+    ghost written_fields: { View → List Field };
 
     /// That each part can be one of a message's.
     ghost is_sound: { View → Type 0 };
@@ -46,19 +46,19 @@ pub(crate) trait Codec: Drop {
     /// Appends the fields that are written.
     fn write(&self, alloc: Global, out: &mut Vec<u8>) -> Result<(), AllocError>
         ensures spelled { OnOk result (out.new.items ≡ out.old.items ++
-            bytes_of (written (view self.now))) }
+            bytes_of (written_fields (view self.now))) }
         ensures sound { OnOk result (is_sound (view self.now)) };
 
     /// What is computed of fields is the only value that they say, and what is written is read again. This has no effect.
     fn laws()
         ensures agrees { Agrees table value Says }
-        ensures written { (v : View) → is_sound v → length (bytes_of (written v)) < 2 ^ 64 →
-            IsMessage table Says (bytes_of (written v)) v };
+        ensures written { (v : View) → is_sound v → length (bytes_of (written_fields v)) < 2 ^ 64 →
+            IsMessage table Says (bytes_of (written_fields v)) v };
 }
 
 /// The bytes of a message.
 pub(crate) fn write_message<V: Codec>(alloc: Global, value: &V) -> Result<Vec<u8>, AllocError>
-    ensures spelled { IfOk result (λ v. v.items ≡ bytes_of (V.written (V.view value.now))) }
+    ensures spelled { IfOk result (λ v. v.items ≡ bytes_of (V.written_fields (V.view value.now))) }
     ensures sound { OnOk result (V.is_sound (V.view value.now)) }
 {
     let mut out = Vec::new(alloc);
@@ -97,7 +97,7 @@ pub trait Message: Codec {
     where
         Self: Sized,
         ensures spelled { IfOk result (λ v. v.items ≡
-            bytes_of (Self.written (Self.view self.now))) }
+            bytes_of (Self.written_fields (Self.view self.now))) }
         ensures read_again { IfOk result
             (λ v. IsMessage Self.table Self.Says v.items (Self.view self.now)) }
     {

@@ -57,12 +57,12 @@ impl OperatorEntry {
             MemberDraft::RevokeFlat(draft) => Contents::RevokeFlat(OperatorRevokeFlat::finish(
                 alloc, draft,
             )?),
-            MemberDraft::Fourth(draft) => Contents::DefineNamespace(OperatorDefineNamespace::finish(
-                alloc, draft,
-            )?),
-            MemberDraft::Fifth(draft) => Contents::ImportNamespace(OperatorImportNamespace::finish(
-                alloc, draft,
-            )?),
+            MemberDraft::FirstOwn(draft) => Contents::DefineNamespace(
+                OperatorDefineNamespace::finish(alloc, draft)?,
+            ),
+            MemberDraft::SecondOwn(draft) => Contents::ImportNamespace(
+                OperatorImportNamespace::finish(alloc, draft)?,
+            ),
         };
         Ok(OperatorEntry {
             contents: Some(contents),
@@ -88,7 +88,7 @@ impl Codec for OperatorEntry {
         Ok(OperatorEntry::finish(alloc, draft)?)
     }
 
-    ghost written = { operator_entry_fields };
+    ghost written_fields = { operator_entry_fields };
 
     ghost is_sound = { IsSoundOperatorEntry };
 

@@ -57,8 +57,10 @@ impl PackageEntry {
             MemberDraft::RevokeFlat(draft) => Contents::RevokeFlat(PackageRevokeFlat::finish(
                 alloc, draft,
             )?),
-            MemberDraft::Fourth(draft) => Contents::Release(PackageRelease::finish(alloc, draft)?),
-            MemberDraft::Fifth(draft) => Contents::Yank(PackageYank::finish(alloc, draft)?),
+            MemberDraft::FirstOwn(draft) => Contents::Release(PackageRelease::finish(
+                alloc, draft,
+            )?),
+            MemberDraft::SecondOwn(draft) => Contents::Yank(PackageYank::finish(alloc, draft)?),
         };
         Ok(PackageEntry {
             contents: Some(contents),
@@ -84,7 +86,7 @@ impl Codec for PackageEntry {
         Ok(PackageEntry::finish(alloc, draft)?)
     }
 
-    ghost written = { package_entry_fields };
+    ghost written_fields = { package_entry_fields };
 
     ghost is_sound = { IsSoundPackageEntry };
 

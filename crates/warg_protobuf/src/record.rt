@@ -56,24 +56,24 @@ pub trait EntrySink: Drop {
     ghost entry_from: { List Field → Result Entry WireError };
 
     /// What the sink holds, as plain data.
-    ghost Held: { Type 0 };
+    ghost SinkData: { Type 0 };
 
-    ghost held: { Self → Held };
+    ghost sink_data: { Self → SinkData };
 
     /// What it holds of no entries.
-    ghost nothing: { Held };
+    ghost no_entries: { SinkData };
 
     /// What it holds once this entry came, by what it held before.
-    ghost with_entry: { Held → Entry → Held };
+    ghost with_entry: { SinkData → Entry → SinkData };
 
     /// A sink that holds nothing.
     fn new(alloc: Global) -> Self
-        ensures { held result ≡ nothing };
+        ensures { sink_data result ≡ no_entries };
 
     /// Takes the next entry, all of the bytes.
     fn take(&mut self, alloc: Global, bytes: &[u8]) -> Result<(), WireError>
-        ensures { ReturnsOrNoMemory (λ _. held self.new) result
-            (taken_of with_entry (held self.old) (message_of table entry_from bytes.now)) };
+        ensures { ReturnsOrNoMemory (λ _. sink_data self.new) result
+            (taken_of with_entry (sink_data self.old) (message_of table entry_from bytes.now)) };
 
     /// Fields that fit say an entry. This has no effect.
     fn laws()
@@ -87,11 +87,11 @@ impl<E: Codec> EntrySink for Vec<E> {
 
     ghost entry_from = { E.value };
 
-    ghost Held = { List E.View };
+    ghost SinkData = { List E.View };
 
-    ghost held = { λ v. map E.view v.items };
+    ghost sink_data = { λ v. map E.view v.items };
 
-    ghost nothing = { [] };
+    ghost no_entries = { [] };
 
     ghost with_entry = { with_last };
 
@@ -140,11 +140,11 @@ impl<'a, S: EntrySink> RecordDraft<'a, S> {
 impl<'a, S: EntrySink> Draft<'a> for RecordDraft<'a, S> {
     ghost table = { record_table S.table };
 
-    ghost Kept = { RecordKept S.Held };
+    ghost KeptData = { RecordKept S.SinkData };
 
-    ghost kept = { record_kept S.held };
+    ghost kept_data = { record_kept S.sink_data };
 
-    ghost empty = { no_record S.nothing };
+    ghost empty = { no_record S.no_entries };
 
     ghost with_field = { record_with S.with_entry S.table S.entry_from };
 
@@ -187,7 +187,8 @@ impl<'a, S: EntrySink> Draft<'a> for RecordDraft<'a, S> {
 impl<S: EntrySink> Record<S> {
     /// Reads a record, all of the bytes, in one pass; each entry goes into the sink as it is read.
     pub fn gather(alloc: Global, bytes: &[u8]) -> Result<Record<S>, WireError>
-        ensures { ReturnsOrNoMemory (record_view S.held) result (gathered_of S.with_entry S.nothing
+        ensures { ReturnsOrNoMemory (record_view S.sink_data) result
+            (gathered_of S.with_entry S.no_entries
             (message_of (record_table S.table) (record_from S.table S.entry_from) bytes.now)) }
     {
         S::laws();
@@ -197,8 +198,8 @@ impl<S: EntrySink> Record<S> {
 
     /// The message of what is kept.
     fn finish(alloc: Global, draft: RecordDraft<'_, S>) -> Result<Record<S>, AllocError>
-        ensures { IfOk result (λ v. record_view S.held v ≡
-            record_made (record_kept S.held draft.entry)) }
+        ensures { IfOk result (λ v. record_view S.sink_data v ≡
+            record_made (record_kept S.sink_data draft.entry)) }
     {
         Ok(Record {
             prev: own_text(alloc, draft.prev)?,
@@ -244,7 +245,7 @@ impl<E: Codec> Codec for Record<Vec<E>> {
         Record::<Vec<E>>::gather(alloc, bytes)
     }
 
-    ghost written = { record_fields (λ v. bytes_of (E.written v)) };
+    ghost written_fields = { record_fields (λ v. bytes_of (E.written_fields v)) };
 
     ghost is_sound = { IsSoundRecord E.is_sound };
 
@@ -275,7 +276,7 @@ pub(crate) fn push_record<E: Codec>(
     ensures spelled { let value = record_value (option_view (λ s. string_bytes s) prev.now) version
         (option_view timestamp_view time.now) (map E.view entries.now) in
         OnOk result (out.new.items ≡ out.old.items ++
-        bytes_of (record_fields (λ v. bytes_of (E.written v)) value)) }
+        bytes_of (record_fields (λ v. bytes_of (E.written_fields v)) value)) }
     ensures sound { let value = record_value (option_view (λ s. string_bytes s) prev.now) version
         (option_view timestamp_view time.now) (map E.view entries.now) in
         OnOk result (IsSoundRecord E.is_sound value) }

@@ -49,7 +49,7 @@ impl Codec for PackageRelease {
         Ok(PackageRelease::finish(alloc, draft)?)
     }
 
-    ghost written = { release_fields };
+    ghost written_fields = { release_fields };
 
     ghost is_sound = { IsSoundRelease };
 

@@ -56,7 +56,7 @@ impl Codec for RevokeFlat {
         Ok(RevokeFlat::finish(alloc, draft)?)
     }
 
-    ghost written = { revoke_flat_fields };
+    ghost written_fields = { revoke_flat_fields };
 
     ghost is_sound = { IsSoundRevokeFlat };
 

@@ -42,9 +42,9 @@ impl TimestampDraft {
 impl<'a> Draft<'a> for TimestampDraft {
     ghost table = { timestamp_table };
 
-    ghost Kept = { TimestampKept };
+    ghost KeptData = { TimestampKept };
 
-    ghost kept = { timestamp_kept };
+    ghost kept_data = { timestamp_kept };
 
     ghost empty = { no_time };
 
@@ -97,7 +97,7 @@ impl Codec for TimestampPair {
         Ok(draft.finish())
     }
 
-    ghost written = { timestamp_fields };
+    ghost written_fields = { timestamp_fields };
 
     ghost is_sound = { IsSoundTimestamp };
 

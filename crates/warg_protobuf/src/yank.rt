@@ -46,7 +46,7 @@ impl Codec for PackageYank {
         Ok(PackageYank::finish(alloc, draft)?)
     }
 
-    ghost written = { yank_fields };
+    ghost written_fields = { yank_fields };
 
     ghost is_sound = { IsSoundYank };
 

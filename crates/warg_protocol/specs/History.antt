@@ -2,9 +2,9 @@
 -- events, the view that a state stands for, and the first thing that is wrong with a record
 pub use Rattle.warg_log.specs.Rules.{Event, SignedRecord, View, start, record_offence}
 pub use Rattle.warg_log.specs.Offences.{offence_of}
-pub use Rattle.warg_log.specs.Possible.{IsPossible}
+pub use Rattle.warg_log.specs.PossibleOffences.{IsPossible}
 -- who holds what by the history, and which entry gave it
-pub use Rattle.warg_log.specs.History.{Holds, Placed, holds, entry_on}
+pub use Rattle.warg_log.specs.History.{Holds, PlacedEvent, holds, entry_on}
 pub use Rattle.warg_log.specs.Listings.{IsGift}
 -- what a state keeps, and the view of it
 pub use Rattle.warg_log.specs.AuthorityData.{AuthorityData}
@@ -12,6 +12,6 @@ pub use Rattle.warg_log.specs.States.{State, view_of_state}
 pub use Rattle.warg_log.specs.Equal.{same_states}
 -- what a call answers where something is wrong
 pub use Rattle.warg_log.specs.declared.refusal.Refusal.{Refusal}
-pub use Rattle.warg_log.specs.Judging.{ReturnsOffence, NamesOffence}
+pub use Rattle.warg_validator.specs.OutcomeOffences.{ReturnsOffence, NamesOffence}
 -- a kind of log by what its own part says
-pub use Rattle.warg_log.specs.LogKind.{kind_of, effects_of, effect_of, effect_at, opened}
+pub use Rattle.warg_log.specs.KindOfRules.{kind_of, effects_of, effect_of, effect_at, signed_record_of}

@@ -21,3 +21,17 @@ pub use Rattle.warg_protobuf.specs.PackageEntry.{IsPackageEntry, package_entry_o
 pub use Rattle.warg_protobuf.specs.OperatorEntry.{IsOperatorEntry, operator_entry_of, operator_entry_table, operator_entry_view, operator_member_view}
 pub use Rattle.warg_protobuf.specs.PackageRecord.{IsPackageRecord, package_record_of, package_record_table, package_record_view}
 pub use Rattle.warg_protobuf.specs.OperatorRecord.{IsOperatorRecord, operator_record_of, operator_record_table, operator_record_view}
+-- the messages of entries and records, of whose equality a law speaks
+pub use Rattle.warg_protobuf.specs.declared.init.Init.{Init}
+pub use Rattle.warg_protobuf.specs.declared.grant_flat.GrantFlat.{GrantFlat}
+pub use Rattle.warg_protobuf.specs.declared.revoke_flat.RevokeFlat.{RevokeFlat}
+pub use Rattle.warg_protobuf.specs.declared.release.PackageRelease.{PackageRelease}
+pub use Rattle.warg_protobuf.specs.declared.yank.PackageYank.{PackageYank}
+pub use Rattle.warg_protobuf.specs.declared.define_namespace.OperatorDefineNamespace.{OperatorDefineNamespace}
+pub use Rattle.warg_protobuf.specs.declared.import_namespace.OperatorImportNamespace.{OperatorImportNamespace}
+pub use Rattle.warg_protobuf.specs.declared.timestamp.TimestampPair.{TimestampPair}
+pub use Rattle.warg_protobuf.specs.declared.package_entry.Contents.{Contents as PackageContents}
+pub use Rattle.warg_protobuf.specs.declared.package_entry.PackageEntry.{PackageEntry}
+pub use Rattle.warg_protobuf.specs.declared.operator_entry.Contents.{Contents as OperatorContents}
+pub use Rattle.warg_protobuf.specs.declared.operator_entry.OperatorEntry.{OperatorEntry}
+pub use Rattle.warg_protobuf.specs.declared.record.Record.{Record}

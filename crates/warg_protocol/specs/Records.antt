@@ -11,14 +11,14 @@ pub use Rattle.warg_records.specs.RecordIds.{package_record_id_of, operator_reco
 -- the relation of the toy scheme: which signature belongs to a key and a message
 pub use Rattle.warg_crypto.specs.Signed.{toy_belongs}
 -- what `decode` answers, the faults of a record's bytes, and their names
-pub use Rattle.warg_crypto.specs.Coding.{IsDecoded}
-pub use Rattle.warg_envelope.specs.Faults.{RecordFault, IsReading, decoded, fault_of}
+pub use Rattle.warg_envelope.specs.Coding.{IsDecoded}
+pub use Rattle.warg_envelope.specs.Faults.{RecordFault, IsReading, decode_result, fault_of}
 pub use Rattle.warg_envelope.specs.FaultNames.{record_fault_name, envelope_fault_name, error_name}
 -- which content bytes are a record, or have a fault, and which records are written so that they read back
 pub use Rattle.warg_records.specs.Relations.{ReadsRecord, IsRecord, HasRecordFault}
 pub use Rattle.warg_records.specs.OfBytes.{IsOfContent, IsOfEnvelope}
-pub use Rattle.warg_records.specs.Steps.{record_of}
-pub use Rattle.warg_records.specs.Whole.{IsReadable, IsWhole, IsWholePackageOwnEntry, IsWholeOperatorOwnEntry}
+pub use Rattle.warg_records.specs.RecordReading.{record_of}
+pub use Rattle.warg_records.specs.WellFormed.{IsReadable, IsWellFormed, IsWellFormedPackageOwnEntry, IsWellFormedOperatorOwnEntry}
 -- permission sets and other lists of distinct items
 pub use Rattle.warg_envelope.specs.Mentions.{distinct}
 -- the content that an entry of a package log releases

@@ -3,7 +3,7 @@
 pub use Rattle.warg_registry.specs.KebabNames.{IsPackageName, IsPackageText, is_package_name, is_kebab_name, namespace_of, name_of}
 pub use Rattle.warg_registry.specs.PackageNames.{Refuses, refused_name}
 -- what the ids of records and logs are hashes of
-pub use Rattle.warg_crypto.specs.RecordIds.{package_record_message, operator_record_message}
+pub use Rattle.warg_records.specs.RecordHashes.{package_record_message, operator_record_message}
 pub use Rattle.warg_registry.specs.LogIds.{package_log_message, operator_log_message, id_of_text}
 -- what JSON of ids, checkpoints and leaves is read as
 pub use Rattle.warg_records.specs.RecordIdJson.{record_id_in}

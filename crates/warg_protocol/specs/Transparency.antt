@@ -8,7 +8,7 @@ pub use Rattle.warg_registry.specs.PrefixEncodings.{log_leaf_encoding_of}
 pub use Rattle.warg_transparency.specs.Standings.{IsOfTrees}
 pub use Rattle.warg_transparency.specs.Views.{GoesOn, IsLogOf}
 -- heads that are shown under a checkpoint
-pub use Rattle.warg_transparency.specs.Heads.{ShowsHead, ShowsLeaf, head_leaf, tried_for}
+pub use Rattle.warg_transparency.specs.Heads.{ShowsHead, ShowsLeaf, head_leaf, path_inputs_for}
 -- the texts of proofs, and what texts are read as
-pub use Rattle.warg_crypto.specs.Results.{ReturnsOr}
+pub use Rattle.warg_crypto.specs.OutcomeResults.{ReturnsOr}
 pub use Rattle.warg_transparency.specs.Texts.{log_proof_of, log_proof_text, map_proof_of, map_proof_text}

@@ -7,6 +7,7 @@
 #![tactic(auto)]
 
 pub mod host;
+pub mod json;
 pub mod laws;
 pub mod operator;
 pub mod package;
@@ -17,17 +18,17 @@ pub use indexmap::IndexSet;
 pub use semver::Error as VersionParseError;
 pub use warg_audited_log::{AuditedLog, Comparison, HeadComparison, HostedLog, Link};
 pub use warg_crypto::{
-    ByteVisitor, Clock, Decode, DecodeError, Encode, Incoherence, JsonError, JsonValue, Signable,
-    SystemClock, TimeError, Timestamp, VisitBytes, WireFault, digits, hash, json, prefix, signing,
-    toy,
+    ByteVisitor, Encode, Signable, VisitBytes, digits, hash, prefix, signing, toy,
 };
 pub use warg_envelope::{
-    ParseEnvelopeError, ProtoEnvelope, ProtoEnvelopeBody, PublishedProtoEnvelope,
-    PublishedProtoEnvelopeBody, Record, SerdeEnvelope,
+    Decode, DecodeError, ParseEnvelopeError, ProtoEnvelope, ProtoEnvelopeBody,
+    PublishedProtoEnvelope, PublishedProtoEnvelopeBody, Record, SerdeEnvelope, WireFault,
 };
+pub use warg_json::{Incoherence, JsonError, JsonValue};
 pub use warg_log::PersistentState;
 pub use warg_permissions::{InvalidPermission, PermissionParseError};
 pub use warg_protobuf::{Envelope, EnvelopeView, Message, WireError};
 pub use warg_records::{LogRecord, Version, VersionReq};
 pub use warg_saved::JsonTextError;
+pub use warg_time::{Clock, SystemClock, TimeError, Timestamp};
 pub use warg_validator::{Effect, Named, RunCause, RunError, Validator, run, run_from};

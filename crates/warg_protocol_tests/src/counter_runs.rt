@@ -2,9 +2,8 @@
 use crate::counter::{CountError, Counter};
 use std::alloc::{AllocError, Global};
 use std::test::Fail;
-use warg_crypto::DecodeError;
 use warg_crypto::toy::ToyVerifier;
-use warg_envelope::{ParseEnvelopeError, ProtoEnvelope};
+use warg_envelope::{DecodeError, ParseEnvelopeError, ProtoEnvelope};
 use warg_validator::{RunCause, RunError, Validator, run, run_from};
 
 /// A string whose record says the number; at 255 one whose content is no record.

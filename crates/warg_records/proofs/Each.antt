@@ -1,10 +1,10 @@
 -- Steps one after another, as a loop takes them.
 use Rattle.std.proofs.Common.{◌≡◌, List, [], ◌∷◌, ◌++◌, Option, Some, None, Result, Ok, Err, refl, ap, ◌∙◌}
-use Rattle.warg_envelope.specs.Faults.{TellsFault}
-use Rattle.warg_records.specs.Steps.{◌>>=◌, each}
+use Rattle.warg_envelope.specs.Faults.{NamesFault}
+use Rattle.warg_records.specs.RecordReading.{◌>>=◌, each}
 
 -- a fault ends what follows
-pub tells_bind : {X Y F : Type 0} (read : Result X F) (next : X → Result Y F) (told : Option F) → TellsFault read told → TellsFault (read >>= next) told
+pub tells_bind : {X Y F : Type 0} (read : Result X F) (next : X → Result Y F) (told : Option F) → NamesFault read told → NamesFault (read >>= next) told
 tells_bind read next None h = tt
 tells_bind read next (Some f) h = ap (λ (r : Result _ _). r >>= next) h
 
@@ -30,6 +30,6 @@ module _ {A B F : Type 0} where
     each-grows xs us x u h k = each-append xs (x ∷ []) ∙ (λ i. h i >>= λ vs. (k i >>= λ y. Ok (y ∷ [])) >>= λ ws. Ok (vs ++ ws))
 
     -- the first fault
-    pub each-stops : (xs : List A) (us : List B) (x : A) (ys : List A) (told : Option F) → each f xs ≡ Ok us → TellsFault (f x) told → TellsFault (each f (xs ++ x ∷ ys)) told
+    pub each-stops : (xs : List A) (us : List B) (x : A) (ys : List A) (told : Option F) → each f xs ≡ Ok us → NamesFault (f x) told → NamesFault (each f (xs ++ x ∷ ys)) told
     each-stops xs us x ys None h k = tt
     each-stops xs us x ys (Some e) h k = each-append xs (x ∷ ys) ∙ (λ i. h i >>= λ vs. (k i >>= λ y. each f ys >>= λ zs. Ok (y ∷ zs)) >>= λ ws. Ok (vs ++ ws))

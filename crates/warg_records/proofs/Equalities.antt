@@ -9,8 +9,8 @@ use Rattle.std.proofs.lemmas.Slice.Eq.{bytes_eq-Decides, slice_eq-Decides}
 use Rattle.std.proofs.lemmas.Cmp.{nat_eq_equiv}
 use Rattle.semver.specs.Identifiers.{parts_of, pre_text, build_text}
 use Rattle.semver.specs.declared.Version.{Version}
-use Rattle.warg_crypto.specs.NamedBytes.{NamedBytes, same_tag}
-use Rattle.warg_crypto.specs.Times.{Time, same_time}
+use Rattle.warg_crypto.specs.NamedBytes.{NamedBytes, same_named_bytes}
+use Rattle.warg_time.specs.Times.{Time, same_time}
 use Rattle.warg_crypto.specs.declared.hash.AnyHash.{AnyHash}
 use Rattle.warg_crypto.specs.declared.hash.HashAlgorithm.{HashAlgorithm}
 use Rattle.warg_crypto.specs.declared.hash.HashAlgorithm.TheVariants.{Sha256}
@@ -35,7 +35,7 @@ options_decided test each None (Some y) = (λ (h : false ≡ true). cc, λ (h : 
 options_decided test each (Some x) None = (λ (h : false ≡ true). cc, λ (h : Some x ≡ None). cc)
 options_decided test each (Some x) (Some y) = Decides-like _ (λ h. ap (λ z. Some z) h) (λ (h : Some x ≡ Some y). cc) (each x y)
 
-pub tag_decided : (a b : NamedBytes) → Decides (same_tag a b) (a ≡ b)
+pub tag_decided : (a b : NamedBytes) → Decides (same_named_bytes a b) (a ≡ b)
 tag_decided a b =
     Decides-like _ (λ h i. record { name = h.0 i; bytes = h.1 i }) (λ h. (λ i. (h i).name, λ i. (h i).bytes))
     (Decides-and _ _ (bytes_eq-Decides a.name b.name) (bytes_eq-Decides a.bytes b.bytes))
@@ -85,10 +85,10 @@ module _ {P O : Type 0} (test : P → P → Bool) (each : (p q : P) → Decides 
   abbrev revoked : List ℕ → List P → EntryData P O
   revoked k ps = Shared (RevokeFlat k ps)
 
-  pub init_decided : (k l : NamedBytes) → Decides (same_tag k l) (begun k ≡ begun l)
+  pub init_decided : (k l : NamedBytes) → Decides (same_named_bytes k l) (begun k ≡ begun l)
   init_decided k l = Decides-like _ (λ h i. begun (h i)) (λ (h : begun k ≡ begun l). cc) (tag_decided k l)
 
-  pub grant_decided : (k l : NamedBytes) (ps qs : List P) → Decides (same_tag k l && pointwise test ps qs) (granted k ps ≡ granted l qs)
+  pub grant_decided : (k l : NamedBytes) (ps qs : List P) → Decides (same_named_bytes k l && pointwise test ps qs) (granted k ps ≡ granted l qs)
   grant_decided k l ps qs =
       Decides-like _ (λ h i. granted (h.0 i) (h.1 i)) (λ (h : granted k ps ≡ granted l qs). (cc, cc))
       (Decides-and _ _ (tag_decided k l) (slice_eq-Decides each ps qs _ refl))

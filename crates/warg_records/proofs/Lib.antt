@@ -3,7 +3,7 @@ pub mod Each
 pub mod EntriesLaws
 pub mod Distinct
 pub mod Relations
-pub mod WriteBack
+pub mod WrittenRecords
 pub mod Wholes
 pub mod OfBytes
 pub mod Equalities

@@ -7,10 +7,10 @@ use Rattle.base64.specs.Engines.{standard}
 use Rattle.base64.specs.GeneralPurpose.{decode_of}
 use Rattle.warg_crypto.specs.HashText.{is_colon, hash_of, algorithm_of}
 use Rattle.warg_crypto.specs.Keys.{with_fault, key_fault, signature_fault}
-use Rattle.warg_crypto.specs.NamedBytes.{NamedBytes, tag_of, tag_or_bad}
-use Rattle.warg_crypto.specs.declared.signing.tagged.TagError.{TagError}
-use Rattle.warg_crypto.specs.declared.signing.tagged.TagError.TheVariants as tag
-use Rattle.warg_crypto.specs.Times.{time_from}
+use Rattle.warg_crypto.specs.NamedBytes.{NamedBytes, named_bytes_of, named_bytes_or_bad}
+use Rattle.warg_crypto.specs.declared.signing.algorithm_bytes.NamedBytesError.{NamedBytesError}
+use Rattle.warg_crypto.specs.declared.signing.algorithm_bytes.NamedBytesError.TheVariants as tag
+use Rattle.warg_time.specs.Times.{time_from}
 use Rattle.warg_protobuf.specs.Envelope.{EnvelopeValue, envelope_table}
 use Rattle.warg_protobuf.specs.Envelope as message
 use Rattle.warg_protobuf.specs.Meaning.{Computes}
@@ -37,7 +37,7 @@ use Rattle.warg_records.specs.OfBytes.{IsOfContent, IsOfEnvelope}
 use Rattle.warg_records.specs.OperatorReading.{operator_entry_of}
 use Rattle.warg_records.specs.PackageReading.{package_entry_of, release_of, version_of, yank_of}
 use Rattle.warg_records.specs.RecordData.{EntryData}
-use Rattle.warg_records.specs.Steps.{◌>>=◌, named, each, prev_of, time_of, hash_algorithm_of, key_of, beginning_of, init_of, known_permission, permission_in, grant_of, revoke_of, message_of, record_of}
+use Rattle.warg_records.specs.RecordReading.{◌>>=◌, map_fault, each, prev_of, time_of, hash_algorithm_of, key_of, beginning_of, init_of, known_permission, permission_in, grant_of, revoke_of, message_of, record_of}
 use Rattle.warg_permissions.specs.OperatorPermissions as operator_permission
 use Rattle.warg_permissions.specs.PackagePermissions as package_permission
 
@@ -46,7 +46,7 @@ module _ {F : Type 0} (P : F → Type 0) where
   then_within (Ok x) k h g = g x
   then_within (Err e) k h g = h
 
-  named_within : {A E : Type 0} (name : E → F) → ((e : E) → P (name e)) → (r : Result A E) → IfErr (named name r) P
+  named_within : {A E : Type 0} (name : E → F) → ((e : E) → P (name e)) → (r : Result A E) → IfErr (map_fault name r) P
   named_within name h (Ok x) = tt
   named_within name h (Err e) = h e
 
@@ -55,23 +55,23 @@ module _ {F : Type 0} (P : F → Type 0) where
   each_within f h (x ∷ xs) = then_within (f x) _ (h x) (λ y. then_within (each f xs) _ (each_within f h xs) (λ ys. tt))
 
 -- a text's fault
-abbrev IsOfText : TagError → Type 0
+abbrev IsOfText : NamedBytesError → Type 0
 IsOfText tag.OutOfMemory = ⊥
 IsOfText e = Unit {0}
 
-or_bad_within : (name : List ℕ) (d : Result (List ℕ) DecodeError) → IfErr (tag_or_bad name d) IsOfText
+or_bad_within : (name : List ℕ) (d : Result (List ℕ) DecodeError) → IfErr (named_bytes_or_bad name d) IsOfText
 or_bad_within name (Ok bytes) = tt
 or_bad_within name (Err e) = tt
 
-parts_within : (a b : Bool) (r : Result NamedBytes TagError) → IfErr r IsOfText → IfErr (cond a (Err tag.MissingColon) (cond b (Err tag.EmptyAlgorithm) r)) IsOfText
+parts_within : (a b : Bool) (r : Result NamedBytes NamedBytesError) → IfErr r IsOfText → IfErr (cond a (Err tag.MissingColon) (cond b (Err tag.EmptyAlgorithm) r)) IsOfText
 parts_within true b r h = tt
 parts_within false true r h = tt
 parts_within false false r h = h
 
-tag_within : (text : List ℕ) → IfErr (tag_of text) IsOfText
-tag_within text = parts_within (position_or_len is_colon text == length text) (length (before_first is_colon text) == 0) (tag_or_bad (before_first is_colon text) (decode_of standard (after_first is_colon text))) (or_bad_within (before_first is_colon text) (decode_of standard (after_first is_colon text)))
+tag_within : (text : List ℕ) → IfErr (named_bytes_of text) IsOfText
+tag_within text = parts_within (position_or_len is_colon text == length text) (length (before_first is_colon text) == 0) (named_bytes_or_bad (before_first is_colon text) (decode_of standard (after_first is_colon text))) (or_bad_within (before_first is_colon text) (decode_of standard (after_first is_colon text)))
 
-key_from_within : (r : Result NamedBytes TagError) → IfErr r IsOfText → IfErr (named Key (with_fault key_fault r)) IsOfContent
+key_from_within : (r : Result NamedBytes NamedBytesError) → IfErr r IsOfText → IfErr (map_fault Key (with_fault key_fault r)) IsOfContent
 key_from_within (Ok t) h = tt
 key_from_within (Err tag.MissingColon) h = tt
 key_from_within (Err tag.EmptyAlgorithm) h = tt
@@ -79,11 +79,11 @@ key_from_within (Err tag.BadBase64) h = tt
 key_from_within (Err tag.OutOfMemory) h = h
 
 key_within : (text : List ℕ) → IfErr (key_of text) IsOfContent
-key_within text = key_from_within (tag_of text) (tag_within text)
+key_within text = key_from_within (named_bytes_of text) (tag_within text)
 
 prev_within : (o : Option (List ℕ)) → IfErr (prev_of o) IsOfContent
 prev_within None = tt
-prev_within (Some text) = then_within IsOfContent (named Prev (hash_of text)) _ (named_within IsOfContent Prev (λ e. tt) (hash_of text)) (λ h. tt)
+prev_within (Some text) = then_within IsOfContent (map_fault Prev (hash_of text)) _ (named_within IsOfContent Prev (λ e. tt) (hash_of text)) (λ h. tt)
 
 time_within : (o : Option TimestampValue) → IfErr (time_of o) IsOfContent
 time_within None = tt
@@ -118,7 +118,7 @@ package_entry_within (Some (package_member.GrantFlat m)) = then_within IsOfConte
 package_entry_within (Some (package_member.RevokeFlat m)) = then_within IsOfContent (revoke_of package_permission.permission_of m) _ (revoke_within package_permission.permission_of m) (λ a. tt)
 package_entry_within (Some (package_member.Release m)) =
     then_within IsOfContent (release_of m) _
-    (then_within IsOfContent (version_of m.version) _ (version_within m.version) (λ v. then_within IsOfContent (named ContentHash (hash_of m.content_hash)) _ (named_within IsOfContent ContentHash (λ e. tt) (hash_of m.content_hash)) (λ h. tt)))
+    (then_within IsOfContent (version_of m.version) _ (version_within m.version) (λ v. then_within IsOfContent (map_fault ContentHash (hash_of m.content_hash)) _ (named_within IsOfContent ContentHash (λ e. tt) (hash_of m.content_hash)) (λ h. tt)))
     (λ a. tt)
 package_entry_within (Some (package_member.Yank m)) = then_within IsOfContent (yank_of m) _ (then_within IsOfContent (version_of m.version) _ (version_within m.version) (λ v. tt)) (λ a. tt)
 
@@ -157,7 +157,7 @@ package_within content computes no_memory = content_within package_entry_of pack
 pub operator_within : (content : List ℕ) → Computes operator_record_table operator_message.operator_record_of IsOperatorRecord content → (HasFault operator_record_table content error.OutOfMemory → ⊥) → IfErr (message_of (operator_message.operator_record_of content) >>= record_of operator_entry_of) IsOfContent
 operator_within content computes no_memory = content_within operator_entry_of operator_entry_within operator_record_table IsOperatorRecord operator_message.operator_record_of content computes no_memory
 
-signed_within : (v : EnvelopeValue) (r : Result NamedBytes TagError) → IfErr r IsOfText → IfErr (signed_data v (with_fault signature_fault r)) IsOfEnvelope
+signed_within : (v : EnvelopeValue) (r : Result NamedBytes NamedBytesError) → IfErr r IsOfText → IfErr (signed_data v (with_fault signature_fault r)) IsOfEnvelope
 signed_within v (Ok t) h = tt
 signed_within v (Err tag.MissingColon) h = tt
 signed_within v (Err tag.EmptyAlgorithm) h = tt
@@ -166,7 +166,7 @@ signed_within v (Err tag.OutOfMemory) h = h
 
 module _ {M : Type 0} (read : List ℕ → Result M RecordFault) (within : (content : List ℕ) → IfErr (read content) IsOfContent) (bytes : List ℕ) (computes : Computes envelope_table message.envelope_of message.IsEnvelope bytes) (no_memory : HasFault envelope_table bytes error.OutOfMemory → ⊥) where
   enclosed_within : (v : EnvelopeValue) (m : Result M RecordFault) → IfErr m IsOfContent → IfErr (enclosed_data v m) IsOfEnvelope
-  enclosed_within v (Ok m) h = signed_within v (tag_of v.signature) (tag_within v.signature)
+  enclosed_within v (Ok m) h = signed_within v (named_bytes_of v.signature) (tag_within v.signature)
   enclosed_within v (Err f) h = h
 
   opened_within : (o : Result EnvelopeValue WireError) → message.envelope_of bytes ≡ o → IfErr (opened_data read o) IsOfEnvelope

@@ -8,7 +8,7 @@ use Rattle.warg_envelope.specs.Faults.{RecordFault, Wire}
 use Rattle.warg_envelope.proofs.EnvelopeReading.{ok_err, err_same}
 use Rattle.warg_records.specs.RecordData.{EntryData, RecordData}
 use Rattle.warg_records.specs.Relations.{IsRecord, HasRecordFault, of_message, of_record, ReadsRecord}
-use Rattle.warg_records.specs.Steps.{◌>>=◌, message_of, record_of, wire_fault_of}
+use Rattle.warg_records.specs.RecordReading.{◌>>=◌, message_of, record_of, wire_fault_of}
 
 module _ {E P O : Type 0} (table : Table) (IsMessage : List ℕ → RecordValue (List E) → Type 0) (entry_of : E → Result (EntryData P O) RecordFault) (messages : List ℕ → Result (RecordValue (List E)) WireError) (computes : (b : List ℕ) → Computes table messages IsMessage b) (content : List ℕ) where
   record_at : Result (RecordValue (List E)) WireError → Result (RecordData P O) RecordFault
@@ -23,13 +23,13 @@ module _ {E P O : Type 0} (table : Table) (IsMessage : List ℕ → RecordValue 
   fault_at (Err w) e f h = subst (HasRecordFault table IsMessage entry_of content) (err_same {Y = RecordData P O} (Wire (wire_fault_of w)) f h) (of_message ((computes content).fault w e))
 
   again_at : (f : RecordFault) → HasRecordFault table IsMessage entry_of content f → (message_of (messages content) >>= record_of entry_of) ≡ Err f
-  again_at f (of_message {e = w} h) = ap (λ (m : Result (RecordValue (List E)) WireError). message_of m >>= record_of entry_of) ((computes content).fault_again w h)
-  again_at f (of_record {m = v} is says) = ap (λ (m : Result (RecordValue (List E)) WireError). message_of m >>= record_of entry_of) ((computes content).value_again v is) ∙ says
+  again_at f (of_message {e = w} h) = ap (λ (m : Result (RecordValue (List E)) WireError). message_of m >>= record_of entry_of) ((computes content).fault_converse w h)
+  again_at f (of_record {m = v} is says) = ap (λ (m : Result (RecordValue (List E)) WireError). message_of m >>= record_of entry_of) ((computes content).value_converse v is) ∙ says
 
   pub reads_record : ReadsRecord table IsMessage entry_of (message_of (messages content) >>= record_of entry_of) content
   reads_record = record {
     value = λ s h. value_at (messages content) refl s h;
-    value_again = λ s r. ap (λ (m : Result (RecordValue (List E)) WireError). message_of m >>= record_of entry_of) ((computes content).value_again r.message r.is) ∙ r.says;
+    value_converse = λ s r. ap (λ (m : Result (RecordValue (List E)) WireError). message_of m >>= record_of entry_of) ((computes content).value_converse r.message r.is) ∙ r.says;
     fault = λ f h. fault_at (messages content) refl f h;
-    fault_again = again_at;
+    fault_converse = again_at;
   }

@@ -1,10 +1,10 @@
 -- Entries that are made of their messages one by one. No public clause names any of this.
 use Rattle.std.specs.Prelude.{List, [], ◌∷◌, ◌++◌, map, Option, Some, None, Result, Ok, Err}
-use Rattle.warg_crypto.specs.declared.coding.WireFault.TheVariants as wire
+use Rattle.warg_envelope.specs.declared.coding.WireFault.TheVariants as wire
 use Rattle.warg_protobuf.specs.Record.{RecordValue}
 use Rattle.warg_envelope.specs.Faults.{RecordFault, Wire, fault_of}
 use Rattle.warg_records.specs.RecordData.{EntryData, RecordData}
-use Rattle.warg_records.specs.Steps.{◌>>=◌, prev_of, time_of}
+use Rattle.warg_records.specs.RecordReading.{◌>>=◌, prev_of, time_of}
 use Rattle.warg_records.specs.declared.entries.Entries.{Entries}
 use Rattle.warg_records.specs.declared.kept_fault.KeptFault.{KeptFault}
 

@@ -1,5 +1,5 @@
 -- Which faults are faults of bytes: all but those that say that memory ran out, or that no bytes have.
-use Rattle.warg_crypto.specs.declared.coding.WireFault.TheVariants as wire
+use Rattle.warg_envelope.specs.declared.coding.WireFault.TheVariants as wire
 use Rattle.warg_crypto.specs.declared.signing.error.KeyParseError.TheVariants as key
 use Rattle.warg_crypto.specs.declared.signing.error.SignatureParseError.TheVariants as signature
 use Rattle.warg_protobuf.specs.declared.error.WireError.TheVariants as outer

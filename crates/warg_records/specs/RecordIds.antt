@@ -1,7 +1,7 @@
 -- The ids of records, by their content bytes as they came, and as texts.
 use Rattle.std.specs.Prelude.{ℕ, List, Result, Ok, Err}
 use Rattle.warg_crypto.specs.HashText.{hash_of}
-use Rattle.warg_crypto.specs.RecordIds as hash
+use Rattle.warg_records.specs.RecordHashes as hash
 use Rattle.warg_crypto.specs.declared.hash.AnyHash.{AnyHash}
 use Rattle.warg_crypto.specs.declared.hash.AnyHashError.{AnyHashError}
 use Rattle.warg_crypto.specs.declared.hash.HashAlgorithm.{HashAlgorithm}

@@ -5,7 +5,7 @@ use Rattle.warg_protobuf.specs.Table.{Table, HasFault}
 use Rattle.warg_protobuf.specs.declared.error.WireError.{WireError}
 use Rattle.warg_envelope.specs.Faults.{RecordFault, Wire}
 use Rattle.warg_records.specs.RecordData.{EntryData, RecordData}
-use Rattle.warg_records.specs.Steps.{record_of, wire_fault_of}
+use Rattle.warg_records.specs.RecordReading.{record_of, wire_fault_of}
 
 module _ {E P O : Type 0} (table : Table) (IsMessage : List ℕ → RecordValue (List E) → Type 0) (entry_of : E → Result (EntryData P O) RecordFault) where
   -- the bytes are a message that says this record
@@ -23,6 +23,6 @@ module _ {E P O : Type 0} (table : Table) (IsMessage : List ℕ → RecordValue 
   -- what is computed of the bytes is the record that they are, or their first fault
   pub record ReadsRecord (read : Result (RecordData P O) RecordFault) (content : List ℕ) : Type 0 where
     pub value : (s : RecordData P O) → read ≡ Ok s → IsRecord content s
-    pub value_again : (s : RecordData P O) → IsRecord content s → read ≡ Ok s
+    pub value_converse : (s : RecordData P O) → IsRecord content s → read ≡ Ok s
     pub fault : (f : RecordFault) → read ≡ Err f → HasRecordFault content f
-    pub fault_again : (f : RecordFault) → HasRecordFault content f → read ≡ Err f
+    pub fault_converse : (f : RecordFault) → HasRecordFault content f → read ≡ Err f

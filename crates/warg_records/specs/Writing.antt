@@ -2,8 +2,8 @@
 use Rattle.std.specs.Prelude.{ℕ, ℤ, pos, List, map, Some, codes}
 use Rattle.std.specs.Option.{option_map}
 use Rattle.warg_crypto.specs.HashText.{hash_text}
-use Rattle.warg_crypto.specs.NamedBytes.{NamedBytes, tag_text}
-use Rattle.warg_crypto.specs.Times.{Time}
+use Rattle.warg_crypto.specs.NamedBytes.{NamedBytes, named_bytes_text}
+use Rattle.warg_time.specs.Times.{Time}
 use Rattle.warg_crypto.specs.declared.hash.HashAlgorithm.{HashAlgorithm}
 use Rattle.warg_crypto.specs.declared.hash.HashAlgorithm.TheVariants.{Sha256}
 use Rattle.warg_protobuf.specs.GrantFlat.{GrantFlatValue}
@@ -24,12 +24,12 @@ algorithm_text Sha256 = codes "sha256"
 
 -- the message of an init
 abbrev pub init_message : HashAlgorithm → NamedBytes → InitValue
-init_message algorithm key = record { key = tag_text key; hash_algorithm = algorithm_text algorithm }
+init_message algorithm key = record { key = named_bytes_text key; hash_algorithm = algorithm_text algorithm }
 
 module _ {P : Type 0} (number_of : P → ℤ) where
   -- the message of a grant to a key
   abbrev pub grant_message : NamedBytes → List P → GrantFlatValue
-  grant_message key permissions = record { key = tag_text key; permissions = map number_of permissions }
+  grant_message key permissions = record { key = named_bytes_text key; permissions = map number_of permissions }
 
   -- the message of a revocation from a key id
   abbrev pub revoke_message : List ℕ → List P → RevokeFlatValue

@@ -1,7 +1,7 @@
 //! The entries of a record, each made of its message as soon as that is read.
 
 ghost use Rattle.std.specs.Prelude.{◌≡◌, ◌≢◌, List, [], map, fold, IfOk, IfErr, OnOk, Result, Ok};
-ghost use Rattle.warg_crypto.specs.declared.coding.DecodeError.TheVariants.{OutOfMemory};
+ghost use Rattle.warg_envelope.specs.declared.coding.DecodeError.TheVariants.{OutOfMemory};
 ghost use Rattle.warg_protobuf.specs.declared.error.WireError.{WireError};
 ghost use Rattle.warg_protobuf.specs.Field.{Field};
 ghost use Rattle.warg_protobuf.specs.Meaning.{GivesValues};
@@ -12,12 +12,12 @@ ghost use Rattle.warg_protobuf.specs.Views.{ReturnsOrNoMemory};
 ghost use Rattle.warg_records.specs.Entries.{entries_held, next_entry};
 ghost use Rattle.warg_envelope.specs.Faults.{RecordFault, fault_of, IsReading};
 ghost use Rattle.warg_records.specs.RecordData.{EntryData};
-ghost use Rattle.warg_records.specs.Steps.{message_of};
+ghost use Rattle.warg_records.specs.RecordReading.{message_of};
 
 use crate::kept_fault::KeptFault;
 use crate::reading::wire_error;
 use std::alloc::{AllocError, Global};
-use warg_crypto::DecodeError;
+use warg_envelope::DecodeError;
 use warg_protobuf::{EntrySink, Record, WireError};
 
 /// An entry that is read from its message.
@@ -73,11 +73,11 @@ impl<T: FromMessage> EntrySink for Entries<T> {
 
     ghost entry_from = { T.message_view_from };
 
-    ghost Held = { Result (List (EntryData T.Permission T.Own)) RecordFault };
+    ghost SinkData = { Result (List (EntryData T.Permission T.Own)) RecordFault };
 
-    ghost held = { entries_held T.plain };
+    ghost sink_data = { entries_held T.plain };
 
-    ghost nothing = { Ok [] };
+    ghost no_entries = { Ok [] };
 
     ghost with_entry = { next_entry T.read };
 

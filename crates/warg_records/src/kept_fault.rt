@@ -1,9 +1,9 @@
 //! The first fault of an entry, which is kept while the rest of the record is read.
 
 ghost use Rattle.std.specs.Prelude.{◌≢◌};
-ghost use Rattle.warg_crypto.specs.declared.coding.DecodeError.TheVariants.{OutOfMemory};
+ghost use Rattle.warg_envelope.specs.declared.coding.DecodeError.TheVariants.{OutOfMemory};
 
-use warg_crypto::DecodeError;
+use warg_envelope::DecodeError;
 
 /// A fault of an entry. Refused memory is none: it ends the reading at once.
 #[derive(Drop)]

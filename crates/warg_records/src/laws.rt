@@ -1,6 +1,6 @@
 //! Laws of the definitions, and of the types that rest on them.
 
-ghost use Rattle.std.specs.Prelude.{◌≡◌, List, ℕ, IfErr, length};
+ghost use Rattle.std.specs.Prelude.{◌≡◌, ◌↔◌, List, ℕ, IfErr, length, true};
 ghost use Rattle.hex.specs.Hex.{IsBytes};
 ghost use Rattle.warg_crypto.specs.HashText.{hash_text};
 ghost use Rattle.warg_envelope.specs.EnvelopeRelations.{ReadsEnvelope};
@@ -8,20 +8,25 @@ ghost use Rattle.warg_envelope.specs.Envelopes.{envelope_of};
 ghost use Rattle.warg_protobuf.specs.OperatorRecord.{IsOperatorRecord, operator_record_table};
 ghost use Rattle.warg_protobuf.specs.PackageRecord.{IsPackageRecord, package_record_table};
 ghost use Rattle.warg_records.specs.OfBytes.{IsOfContent, IsOfEnvelope};
+ghost use Rattle.warg_records.specs.OperatorEntries as in_operator;
 ghost use Rattle.warg_records.specs.OperatorReading.{operator_entry_of, operator_record_of};
+ghost use Rattle.warg_records.specs.PackageEntries as in_package;
 ghost use Rattle.warg_records.specs.PackageReading.{package_entry_of, package_record_of};
 ghost use Rattle.warg_records.specs.RecordIds.{id_of_text};
-ghost use Rattle.warg_records.specs.declared.record_id.RecordId.{RecordId};
 ghost use Rattle.warg_records.specs.Relations.{HasRecordFault, IsRecord, ReadsRecord};
+ghost use Rattle.warg_records.specs.declared.log_record.LogRecord.{LogRecord};
+ghost use Rattle.warg_records.specs.declared.operator.model.OperatorEntry.{OperatorEntry};
+ghost use Rattle.warg_records.specs.declared.package.model.PackageEntry.{PackageEntry};
+ghost use Rattle.warg_records.specs.declared.record_id.RecordId.{RecordId};
 
-mod equality;
+mod record_ids;
 mod whole;
 
-pub use equality::{
-    are_same_operator_entries, are_same_operator_records, are_same_package_entries,
-    are_same_package_records, are_same_record_ids, clone_record_id, compare_record_ids,
-    feed_record_id, print_record_id,
-};
+use crate::log_record::LogRecord;
+use crate::operator::OperatorEntry;
+use crate::package::PackageEntry;
+use crate::record_id::RecordId;
+pub use record_ids::{clone_record_id, compare_record_ids, feed_record_id, print_record_id};
 use warg_crypto::laws::hash_reads_back;
 use warg_protobuf::laws::{decoding_computes, exactly_one};
 pub use whole::{operator_records_are_whole, package_records_are_whole};
@@ -73,3 +78,20 @@ pub fn no_fault_of_memory()
     decoding_computes();
     exactly_one();
 }
+
+/// When `==` is true: of entries and of records exactly where their plain data are identical, of ids of records exactly
+/// where both are.
+pub fn equality()
+    ensures package_entries { (a b : PackageEntry) → (⟦<PackageEntry as PartialEq>⟧.eq a b ≡ true) ↔
+        (in_package.entry_data a ≡ in_package.entry_data b) }
+    ensures operator_entries { (a b : OperatorEntry) →
+        (⟦<OperatorEntry as PartialEq>⟧.eq a b ≡ true) ↔
+        (in_operator.entry_data a ≡ in_operator.entry_data b) }
+    ensures package_records { (a b : LogRecord PackageEntry) →
+        (⟦<LogRecord<PackageEntry> as PartialEq>⟧.eq a b ≡ true) ↔
+        (in_package.record_data a ≡ in_package.record_data b) }
+    ensures operator_records { (a b : LogRecord OperatorEntry) →
+        (⟦<LogRecord<OperatorEntry> as PartialEq>⟧.eq a b ≡ true) ↔
+        (in_operator.record_data a ≡ in_operator.record_data b) }
+    ensures record_ids { (a b : RecordId) → (⟦<RecordId as PartialEq>⟧.eq a b ≡ true) ↔ (a ≡ b) }
+{}

@@ -14,16 +14,16 @@ pub(crate) trait Mention {
     type Item: Copy + Eq + Hash;
 
     // What the entry mentions.
-    ghost mentioned: { Self → Option Self.Item };
+    ghost mention_of: { Self → Option Self.Item };
 
     fn mention(&self) -> Option<Self::Item>
-        ensures { result ≡ mentioned self.now };
+        ensures { result ≡ mention_of self.now };
 }
 
 // Inserts what the entry mentions.
 fn insert_mention<E: Mention>(items: &mut IndexSet<E::Item>, entry: &E) -> Result<(), AllocError>
     ensures { OnOk result (items.new.keys ≡ insert_all E.Item.eq items.old.keys
-        (filter_map E.mentioned (entry.now ∷ []))) }
+        (filter_map E.mention_of (entry.now ∷ []))) }
 {
     if let Some(item) = entry.mention() {
         items.insert(item)?;
@@ -36,7 +36,7 @@ pub(crate) fn mentions<E: Mention>(
     alloc: Global,
     entries: &[E],
 ) -> Result<IndexSet<E::Item>, AllocError>
-    ensures { IfOk result (λ s. s.keys ≡ distinct E.Item.eq (filter_map E.mentioned entries.now)) }
+    ensures { IfOk result (λ s. s.keys ≡ distinct E.Item.eq (filter_map E.mention_of entries.now)) }
 {
     let mut items = IndexSet::new(alloc);
     for entry in entries {

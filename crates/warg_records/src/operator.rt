@@ -1,8 +1,8 @@
 //! Records of operator logs.
 
 ghost use Rattle.std.specs.Prelude.{◌≡◌, codes, IfOk, Ok, []};
-ghost use Rattle.warg_envelope.specs.Faults.{RecordFault, decoded, fault_of};
-ghost use Rattle.warg_envelope.specs.FaultLaws.{decoded_is_read, decoded-memory, fault_of-memory, fault_of-one};
+ghost use Rattle.warg_envelope.specs.Faults.{RecordFault, decode_result, fault_of};
+ghost use Rattle.warg_envelope.specs.FaultLaws.{decoded_is_read, decode_result-memory, fault_of-memory, fault_of-one};
 ghost use Rattle.warg_records.specs.RecordData.{RecordData};
 ghost use Rattle.warg_protobuf.specs.OperatorRecord.{IsOperatorRecord};
 ghost use Rattle.warg_records.specs.OperatorWriting.{operator_content_of, operator_record_message};
@@ -22,8 +22,8 @@ use indexmap::IndexSet;
 pub use model::{OperatorEntry, OperatorRecord};
 use std::alloc::{AllocError, Global};
 use warg_crypto::hash::AnyHash;
-use warg_crypto::{Decode, DecodeError, Encode, Signable};
-use warg_envelope::Record;
+use warg_crypto::{Encode, Signable};
+use warg_envelope::{Decode, DecodeError, Record};
 pub use warg_permissions::operator::Permission;
 use warg_protobuf::Message;
 
@@ -35,7 +35,7 @@ impl Decode for OperatorRecord {
 
     ghost plain = { record_data };
 
-    ghost decodes = { λ content. decoded (operator_record_of content) };
+    ghost decodes = { λ content. decode_result (operator_record_of content) };
 
     #[tactic(auto, using(warg_envelope::specs::FaultLaws::reading_decodes), unfolding(crate::specs::OperatorReading::operator_record_of))]
     fn decode(alloc: Global, content: &[u8]) -> Result<OperatorRecord, DecodeError> {
@@ -91,7 +91,7 @@ impl Record for OperatorRecord {
 
     ghost one_fault = { fault_of-one };
 
-    ghost no_fault_of_memory = { λ b. decoded-memory (operator_record_of b) };
+    ghost no_fault_of_memory = { λ b. decode_result-memory (operator_record_of b) };
 
     ghost means_plain = { λ a b. (λ same. same, λ same. same) };
 

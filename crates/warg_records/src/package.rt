@@ -1,12 +1,12 @@
 //! Records of package logs.
 
 ghost use Rattle.std.specs.Prelude.{◌≡◌, codes, IfOk, Ok};
-ghost use Rattle.warg_envelope.specs.Faults.{RecordFault, decoded, fault_of};
-ghost use Rattle.warg_envelope.specs.FaultLaws.{decoded_is_read, decoded-memory, fault_of-memory, fault_of-one};
+ghost use Rattle.warg_envelope.specs.Faults.{RecordFault, decode_result, fault_of};
+ghost use Rattle.warg_envelope.specs.FaultLaws.{decoded_is_read, decode_result-memory, fault_of-memory, fault_of-one};
 ghost use Rattle.warg_records.specs.RecordData.{RecordData};
 ghost use Rattle.warg_protobuf.specs.PackageRecord.{IsPackageRecord};
 ghost use Rattle.warg_records.specs.PackageWriting.{package_content_of, package_record_message};
-ghost use Rattle.warg_records.specs.Whole.{IsReadable};
+ghost use Rattle.warg_records.specs.WellFormed.{IsReadable};
 ghost use Rattle.std.specs.List.{AllByRecursion};
 ghost use Rattle.warg_records.specs.PackageEntries.{PackageOwnEntry, content_of, mentions, entry_data, record_data};
 ghost use Rattle.warg_records.specs.PackageReading.{package_record_of};
@@ -25,8 +25,8 @@ use indexmap::IndexSet;
 pub use model::{PackageEntry, PackageRecord};
 use std::alloc::{AllocError, Global};
 use warg_crypto::hash::AnyHash;
-use warg_crypto::{Decode, DecodeError, Encode, Signable};
-use warg_envelope::Record;
+use warg_crypto::{Encode, Signable};
+use warg_envelope::{Decode, DecodeError, Record};
 pub use warg_permissions::package::Permission;
 use warg_protobuf::Message;
 
@@ -38,7 +38,7 @@ impl Decode for PackageRecord {
 
     ghost plain = { record_data };
 
-    ghost decodes = { λ content. decoded (package_record_of content) };
+    ghost decodes = { λ content. decode_result (package_record_of content) };
 
     #[tactic(auto, using(warg_envelope::specs::FaultLaws::reading_decodes), unfolding(crate::specs::PackageReading::package_record_of))]
     fn decode(alloc: Global, content: &[u8]) -> Result<PackageRecord, DecodeError> {
@@ -95,7 +95,7 @@ impl Record for PackageRecord {
 
     ghost one_fault = { fault_of-one };
 
-    ghost no_fault_of_memory = { λ b. decoded-memory (package_record_of b) };
+    ghost no_fault_of_memory = { λ b. decode_result-memory (package_record_of b) };
 
     ghost means_plain = { λ a b. (λ same. same, λ same. same) };
 
@@ -126,7 +126,7 @@ impl Clone for PackageRecord {
 impl Mention for PackageEntry {
     type Item = AnyHash;
 
-    ghost mentioned = { λ e. content_of (entry_data e) };
+    ghost mention_of = { λ e. content_of (entry_data e) };
 
     fn mention(&self) -> Option<AnyHash> {
         self.content().copied()

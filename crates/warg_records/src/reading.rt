@@ -1,7 +1,7 @@
 //! What both kinds of record share in reading from their messages.
 
 ghost use Rattle.std.specs.Prelude.{◌≡◌, ◌≢◌, string_bytes, IfErr};
-ghost use Rattle.warg_crypto.specs.declared.coding.DecodeError.TheVariants.{OutOfMemory};
+ghost use Rattle.warg_envelope.specs.declared.coding.DecodeError.TheVariants.{OutOfMemory};
 ghost use Rattle.warg_protobuf.specs.GrantFlat.{grant_flat_view};
 ghost use Rattle.warg_protobuf.specs.Init.{init_view};
 ghost use Rattle.warg_protobuf.specs.RevokeFlat.{revoke_flat_view};
@@ -9,16 +9,17 @@ ghost use Rattle.warg_protobuf.specs.Timestamp.{timestamp_view};
 ghost use Rattle.warg_protobuf.specs.Views.{option_view};
 ghost use Rattle.warg_envelope.specs.Faults.{fault_of, IsExactReading, IsReading};
 ghost use Rattle.warg_records.specs.RecordData as entry;
-ghost use Rattle.warg_records.specs.Steps.{beginning_of, each, grant_of, key_of, permission_in, prev_of, revoke_of, time_of, wire_error_of};
+ghost use Rattle.warg_records.specs.RecordReading.{beginning_of, each, grant_of, key_of, permission_in, prev_of, revoke_of, time_of, wire_error_of};
 
 use crate::record_id::RecordId;
 use std::alloc::Global;
 use std::str::FromStr;
 use warg_crypto::hash::{AnyHash, HashAlgorithm};
 use warg_crypto::signing::{KeyID, PublicKey};
-use warg_crypto::{DecodeError, Timestamp, WireFault};
+use warg_envelope::{DecodeError, WireFault};
 use warg_permissions::LogPermission;
 use warg_protobuf::{GrantFlat, Init, RevokeFlat, TimestampPair, WireError};
+use warg_time::Timestamp;
 
 /// The permission of a number.
 fn read_permission<P: LogPermission>(number: i32) -> Result<P, DecodeError>

@@ -3,7 +3,7 @@
 ghost use Rattle.std.specs.Prelude.{◌≡◌, ◌++◌, Some, length, ⊤};
 ghost use Rattle.hex.specs.Hex.{IsBytes};
 ghost use Rattle.warg_crypto.specs.HashText.{hash_text};
-ghost use Rattle.warg_crypto.specs.RecordIds.{operator_record_message, package_record_message};
+ghost use Rattle.warg_records.specs.RecordHashes.{operator_record_message, package_record_message};
 ghost use Rattle.warg_records.specs.RecordIds.{id_by, id_of_text};
 
 mod json;

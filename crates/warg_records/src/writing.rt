@@ -12,11 +12,11 @@ ghost use Rattle.warg_records.specs.Writing.{grant_message, id_text, init_messag
 use crate::record_id::RecordId;
 use std::alloc::{AllocError, Global};
 use std::fmt;
-use warg_crypto::Timestamp;
 use warg_crypto::hash::HashAlgorithm;
 use warg_crypto::signing::{KeyID, PublicKey};
 use warg_permissions::LogPermission;
 use warg_protobuf::{GrantFlat, Init, RevokeFlat, TimestampPair};
+use warg_time::Timestamp;
 
 /// A part of a record that is written as its message.
 pub(crate) trait ToMessage {
@@ -28,10 +28,10 @@ pub(crate) trait ToMessage {
     ghost message_view: { Self.Message → MessageView };
 
     // The message of a part.
-    ghost written: { Self → MessageView };
+    ghost written_message: { Self → MessageView };
 
     fn to_message(&self, alloc: Global) -> Result<Self::Message, AllocError>
-        ensures { IfOk result (λ m. message_view m ≡ written self.now) };
+        ensures { IfOk result (λ m. message_view m ≡ written_message self.now) };
 }
 
 /// Writes all parts, in order.
@@ -39,7 +39,7 @@ pub(crate) fn write_each<T: ToMessage>(
     alloc: Global,
     parts: &[T],
 ) -> Result<Vec<T::Message>, AllocError>
-    ensures { IfOk result (λ v. map T.message_view v.items ≡ map T.written parts.now) }
+    ensures { IfOk result (λ v. map T.message_view v.items ≡ map T.written_message parts.now) }
 {
     let mut messages = Vec::with_capacity(alloc, parts.len())?;
     for part in parts {

@@ -48,7 +48,8 @@ pub fn read_any<M: Message>(alloc: Global, bytes: &[u8]) -> Result<M, WireError>
 
 /// Writes any message.
 pub fn write_any<M: Message>(alloc: Global, message: &M) -> Result<Vec<u8>, AllocError>
-    ensures spelled { IfOk result (λ v. v.items ≡ bytes_of (M.written (M.view message.now))) }
+    ensures spelled { IfOk result (λ v. v.items ≡
+        bytes_of (M.written_fields (M.view message.now))) }
     ensures read_again { IfOk result (λ v. IsMessage M.table M.Says v.items (M.view message.now)) }
 {
     message.encode(alloc)

@@ -3,10 +3,9 @@
 use crate::samples::alice;
 use std::alloc::Global;
 use std::test::Fail;
-use warg_crypto::{Decode, DecodeError};
 use warg_envelope::{
-    ProtoEnvelope, ProtoEnvelopeBody, PublishedProtoEnvelope, PublishedProtoEnvelopeBody, Record,
-    SerdeEnvelope,
+    Decode, DecodeError, ProtoEnvelope, ProtoEnvelopeBody, PublishedProtoEnvelope,
+    PublishedProtoEnvelopeBody, Record, SerdeEnvelope,
 };
 use warg_records::operator::OperatorRecord;
 use warg_records::package::PackageRecord;

@@ -5,9 +5,10 @@ ghost use Rattle.std.specs.Prelude.{◌≡◌};
 use crate::samples::empty_hash;
 use std::alloc::{AllocError, Global};
 use std::process::Abort;
-use warg_crypto::{ByteVisitor, Clock, TimeError, Timestamp, VisitBytes};
+use warg_crypto::{ByteVisitor, VisitBytes};
 use warg_records::RecordId;
 use warg_registry::{Checkpoint, LogId, LogLeaf, MapLeaf, PackageName, TimestampedCheckpoint};
+use warg_time::{Clock, TimeError, Timestamp};
 
 fn checkpoint() -> Checkpoint {
     Checkpoint {
@@ -72,7 +73,7 @@ struct Stopping {
 }
 
 impl ByteVisitor for Stopping {
-    ghost seen = { λ v m. v.bytes.items ≡ m };
+    ghost has_seen = { λ v m. v.bytes.items ≡ m };
 
     fn visit_bytes(&mut self, bytes: &[u8]) -> Result<(), AllocError> {
         if self.pieces == 0 {

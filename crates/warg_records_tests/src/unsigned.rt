@@ -4,9 +4,10 @@ use crate::samples::{alice, empty_hash};
 use std::alloc::Global;
 use std::test::Fail;
 use warg_crypto::signing::{KeyID, Signature};
-use warg_crypto::{JsonError, JsonValue, Timestamp};
 use warg_envelope::SerdeEnvelope;
+use warg_json::{JsonError, JsonValue};
 use warg_registry::{Checkpoint, TimestampedCheckpoint};
+use warg_time::Timestamp;
 
 fn timestamped() -> TimestampedCheckpoint {
     TimestampedCheckpoint {

@@ -4,14 +4,14 @@ use Rattle.std.specs.Prelude.{codes, slice_get}
 use Rattle.std.proofs.lemmas.List.{append_cancel_left}
 use Rattle.warg_crypto.specs.HashText.{hash_text, hash_of}
 use Rattle.warg_crypto.specs.Prefix.{unsigned_of, str_of}
-use Rattle.warg_crypto.specs.HashLemmas.{hash_of-hash_text}
+use Rattle.warg_crypto.specs.HashTextLaws.{hash_of-hash_text}
 use Rattle.warg_crypto.proofs.PrefixLemmas.{unsigned_of-same, str_of-same}
 use Rattle.warg_crypto.specs.declared.hash.AnyHash.{AnyHash}
 use Rattle.warg_registry.specs.declared.checkpoint.Checkpoint.{Checkpoint}
 use Rattle.warg_registry.specs.declared.checkpoint.TimestampedCheckpoint.{TimestampedCheckpoint}
 use Rattle.warg_registry.specs.declared.leaf.MapLeaf.{MapLeaf}
 use Rattle.warg_registry.specs.declared.leaf.LogLeaf.{LogLeaf}
-use Rattle.warg_registry.specs.PrefixEncodings.{hash_encoding_of, checkpoint_encoding_of, timestamped_checkpoint_encoding_of, map_leaf_encoding_of, log_leaf_encoding_of, package_name_encoding_of, Encoded, CheckpointValue, TimestampedCheckpointValue, MapLeafValue, LogLeafValue, PackageNameValue, prefix_encoding_of, IsHash, IsPrefixCode}
+use Rattle.warg_registry.specs.PrefixEncodings.{hash_encoding_of, checkpoint_encoding_of, timestamped_checkpoint_encoding_of, map_leaf_encoding_of, log_leaf_encoding_of, package_name_encoding_of, EncodedValue, CheckpointValue, TimestampedCheckpointValue, MapLeafValue, LogLeafValue, PackageNameValue, prefix_encoding_of, IsHash, IsPrefixCode}
 
 -- equal texts are texts of one hash
 one_hash : (g h : AnyHash) → IsHash g → IsHash h → hash_text g ≡ hash_text h → g ≡ h
@@ -26,14 +26,14 @@ nothing_left : (rest : List ℕ) → rest ≡ [] ++ rest
 nothing_left rest = refl
 
 -- the byte by which the kinds differ
-kind_byte : Encoded → ℕ
+kind_byte : EncodedValue → ℕ
 kind_byte (CheckpointValue c) = 67
 kind_byte (TimestampedCheckpointValue t) = 84
 kind_byte (MapLeafValue l) = 77
 kind_byte (LogLeafValue l) = 76
 kind_byte (PackageNameValue name) = 80
 
-at_5 : (x : Encoded) (rest : List ℕ) → slice_get (prefix_encoding_of x ++ rest) 5 ≡ Some (kind_byte x)
+at_5 : (x : EncodedValue) (rest : List ℕ) → slice_get (prefix_encoding_of x ++ rest) 5 ≡ Some (kind_byte x)
 unfolding kind_byte
 at_5 (CheckpointValue c) rest = refl
 at_5 (TimestampedCheckpointValue t) rest = refl
@@ -41,7 +41,7 @@ at_5 (MapLeafValue l) rest = refl
 at_5 (LogLeafValue l) rest = refl
 at_5 (PackageNameValue name) rest = refl
 
-one_kind : (x y : Encoded) (rest : List ℕ) → prefix_encoding_of x ++ rest ≡ prefix_encoding_of y → kind_byte x ≡ kind_byte y
+one_kind : (x y : EncodedValue) (rest : List ℕ) → prefix_encoding_of x ++ rest ≡ prefix_encoding_of y → kind_byte x ≡ kind_byte y
 one_kind x y rest e =
     let p : slice_get (prefix_encoding_of x ++ rest) 5 ≡ Some (kind_byte x) = at_5 x rest in
     let q : slice_get (prefix_encoding_of y ++ []) 5 ≡ Some (kind_byte y) = at_5 y [] in
@@ -112,10 +112,10 @@ name_cut m n rest e =
     let cut = str_of-same m n rest [] (body ∙ sym (append-nil (str_of n))) in
     (cut.1, cut.0)
 
-other_kind : (x y : Encoded) (rest : List ℕ) → prefix_encoding_of x ++ rest ≡ prefix_encoding_of y → (kind_byte x ≡ kind_byte y → ⊥) → (rest ≡ []) × (x ≡ y)
+other_kind : (x y : EncodedValue) (rest : List ℕ) → prefix_encoding_of x ++ rest ≡ prefix_encoding_of y → (kind_byte x ≡ kind_byte y → ⊥) → (rest ≡ []) × (x ≡ y)
 other_kind x y rest e differ = absurd (differ (one_kind x y rest e))
 
-with_value : {A : Type 0} {x y : A} {rest : List ℕ} (make : A → Encoded) → (rest ≡ []) × (x ≡ y) → (rest ≡ []) × (make x ≡ make y)
+with_value : {A : Type 0} {x y : A} {rest : List ℕ} (make : A → EncodedValue) → (rest ≡ []) × (x ≡ y) → (rest ≡ []) × (make x ≡ make y)
 with_value make h = (h.0, ap make h.1)
 
 pub prefix_code : IsPrefixCode

@@ -35,15 +35,15 @@ abbrev pub package_name_encoding_of : List ℕ → List ℕ
 package_name_encoding_of name = codes "WARG-PACKAGE-ID-V0" ++ str_of name
 
 -- a value of one of the five kinds
-pub data Encoded : Type 0 where
-  CheckpointValue : Checkpoint → Encoded
-  TimestampedCheckpointValue : TimestampedCheckpoint → Encoded
-  MapLeafValue : MapLeaf → Encoded
-  LogLeafValue : LogLeaf → Encoded
-  PackageNameValue : List ℕ → Encoded
+pub data EncodedValue : Type 0 where
+  CheckpointValue : Checkpoint → EncodedValue
+  TimestampedCheckpointValue : TimestampedCheckpoint → EncodedValue
+  MapLeafValue : MapLeaf → EncodedValue
+  LogLeafValue : LogLeaf → EncodedValue
+  PackageNameValue : List ℕ → EncodedValue
 
 -- of a value of any of these kinds
-abbrev pub prefix_encoding_of : Encoded → List ℕ
+abbrev pub prefix_encoding_of : EncodedValue → List ℕ
 prefix_encoding_of (CheckpointValue c) = checkpoint_encoding_of c
 prefix_encoding_of (TimestampedCheckpointValue t) = timestamped_checkpoint_encoding_of t
 prefix_encoding_of (MapLeafValue l) = map_leaf_encoding_of l
@@ -56,7 +56,7 @@ pub record IsHash (h : AnyHash) : Type 0 where
   pub fits : IsBytes h.bytes
 
 -- the hashes of the value are of 32 bytes
-abbrev pub HoldsHashes : Encoded → Type 0
+abbrev pub HoldsHashes : EncodedValue → Type 0
 HoldsHashes (CheckpointValue c) = IsHash c.log_root × IsHash c.map_root
 HoldsHashes (TimestampedCheckpointValue t) = IsHash t.checkpoint.log_root × IsHash t.checkpoint.map_root
 HoldsHashes (MapLeafValue l) = IsHash l.record_id.hash
@@ -65,4 +65,4 @@ HoldsHashes (PackageNameValue name) = Unit {0}
 
 -- no encoding is a proper beginning of another, and equal ones come from equal values of one kind
 abbrev pub IsPrefixCode : Type 0
-IsPrefixCode = (x y : Encoded) (rest : List ℕ) → HoldsHashes x → HoldsHashes y → prefix_encoding_of x ++ rest ≡ prefix_encoding_of y → (rest ≡ []) × (x ≡ y)
+IsPrefixCode = (x y : EncodedValue) (rest : List ℕ) → HoldsHashes x → HoldsHashes y → prefix_encoding_of x ++ rest ≡ prefix_encoding_of y → (rest ≡ []) × (x ≡ y)

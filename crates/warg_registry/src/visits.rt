@@ -14,9 +14,9 @@ pub fn visit_hash<BV: ByteVisitor>(
     hash: &AnyHash,
 ) -> Result<(), AllocError>
     ensures same { visitor.new.visitor.ghost_name ≡ visitor.old.visitor.ghost_name }
-    ensures ok { (m : List ℕ) → BV.seen visitor.old.visitor.now m →
-        OnOk result (BV.seen visitor.new.visitor.now (m ++ hash_encoding_of hash.now)) }
-    ensures err { OnErr result (Stops BV.seen BV.refuses visitor.old.visitor.now
+    ensures ok { (m : List ℕ) → BV.has_seen visitor.old.visitor.now m →
+        OnOk result (BV.has_seen visitor.new.visitor.now (m ++ hash_encoding_of hash.now)) }
+    ensures err { OnErr result (Stops BV.has_seen BV.refuses visitor.old.visitor.now
         visitor.new.visitor.now
         (hash_encoding_of hash.now)) }
 {

@@ -18,10 +18,10 @@ use Rattle.serde_json.specs.Read.{max_depth, of_items, of_json, of_members, read
 use Rattle.serde_json.specs.Written.{compact_text, items_outline, members_outline, outline}
 use Rattle.serde_json.proofs.Numbers.{number_of-decimal}
 use Rattle.serde_json.proofs.Texts.{print-outline}
-use Rattle.warg_crypto.specs.Json.{ReturnsOrNoMemory, ReadsBack}
-use Rattle.warg_crypto.specs.Pairs.{AreAscending, names_of}
-use Rattle.warg_crypto.specs.Steps.{ok_same}
-use Rattle.warg_crypto.specs.declared.json.error.JsonError.{JsonError}
+use Rattle.warg_json.specs.Json.{ReturnsOrNoMemory, ReadsBack}
+use Rattle.warg_json.specs.Pairs.{AreAscending, names_of}
+use Rattle.warg_json.specs.JsonLaws.{ok_same}
+use Rattle.warg_json.specs.declared.error.JsonError.{JsonError}
 use Rattle.warg_saved.specs.Canonical.{AreCanonical, AreCanonicalIn, IsCanonical, WritesCanonical}
 use Rattle.warg_saved.specs.JsonText.{TextReadsBack}
 use Rattle.warg_saved.specs.JsonTextLaws.{of_json_text}

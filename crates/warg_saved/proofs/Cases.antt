@@ -4,8 +4,8 @@ use Rattle.std.specs.Prelude.{nat_le, Result}
 use Rattle.std.specs.Option.{option_map, option_or}
 use Rattle.std.proofs.lemmas.Bool.{leb-true}
 use Rattle.warg_crypto.specs.declared.hash.HashAlgorithm.{HashAlgorithm}
-use Rattle.warg_crypto.specs.declared.json.error.Incoherence.{Incoherence}
-use Rattle.warg_crypto.specs.declared.json.error.JsonError.{JsonError}
+use Rattle.warg_json.specs.declared.error.Incoherence.{Incoherence}
+use Rattle.warg_json.specs.declared.error.JsonError.{JsonError}
 use Rattle.warg_saved.specs.Fit.{RefusesCaseOrNoMemory, begun_case, case_if, empty_case, is_nil, version_case}
 
 pub no_case : (b : Bool) (i : Incoherence) → case_if b i ≡ None → b ≡ false

@@ -8,11 +8,11 @@ use Rattle.std.proofs.Common.{sym, ap, ◌∙◌, true≢false}
 use Rattle.std.proofs.lemmas.Bool.{le-leb}
 use Rattle.std.proofs.lemmas.Slice.Eq.{bytes_eq-Decides}
 use Rattle.warg_crypto.specs.NamedBytes.{NamedBytes, fingerprint_of}
-use Rattle.warg_crypto.specs.PairsLaws.{IsUniquePairs}
+use Rattle.warg_json.specs.Pairs.{IsUniquePairs}
 use Rattle.warg_crypto.specs.declared.hash.HashAlgorithm.{HashAlgorithm}
-use Rattle.warg_crypto.specs.declared.json.error.Incoherence.{Incoherence}
+use Rattle.warg_json.specs.declared.error.Incoherence.{Incoherence}
 use Rattle.warg_saved.specs.Fit.{begun_case, case_if, empty_case, first_case, is_misplaced, is_nil, is_unknown, version_case}
-use Rattle.warg_saved.specs.Names.{text_name}
+use Rattle.warg_saved.specs.MapNames.{text_name}
 
 self : (k : List ℕ) → bytes_eq k k ≡ true
 self k = (bytes_eq-Decides k k).1 refl

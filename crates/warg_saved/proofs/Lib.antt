@@ -3,7 +3,7 @@ pub mod PermissionLists
 pub mod Optional
 pub mod Cases
 pub mod MapsBack
-pub mod ReadAgain
+pub mod MapsReadBack
 pub mod FitBack
 pub mod PutMembers
 pub mod TextLaws

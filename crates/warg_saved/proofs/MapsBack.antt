@@ -6,11 +6,10 @@ use Rattle.std.specs.Str.{bytes_eq}
 use Rattle.std.proofs.Common.{sym, ap, ◌∙◌, true≢false}
 use Rattle.std.proofs.lemmas.Slice.Eq.{bytes_eq-Decides}
 use Rattle.serde_json.specs.Data.{Data}
-use Rattle.warg_crypto.specs.declared.json.error.JsonError.{JsonError}
-use Rattle.warg_crypto.specs.Json.{AreReadBack, IsReadBack, Version}
-use Rattle.warg_crypto.specs.Pairs.{plain_pairs}
-use Rattle.warg_crypto.specs.PairsLaws.{value_at}
-use Rattle.warg_crypto.specs.Steps.{ok_same}
+use Rattle.warg_json.specs.declared.error.JsonError.{JsonError}
+use Rattle.warg_json.specs.Json.{AreReadBack, IsReadBack, Version}
+use Rattle.warg_json.specs.Pairs.{plain_pairs, value_at}
+use Rattle.warg_json.specs.JsonLaws.{ok_same}
 use Rattle.warg_saved.specs.Backs.{AreBack, AreVersionsBack, IsBack}
 
 pub on_ok_then : {A : Type 0} {P Q : Type 0} (r : Result A JsonError) → (P → Q) → OnOk r P → OnOk r Q

@@ -7,7 +7,7 @@ use Rattle.json.specs.Tree.{members_tokens}
 use Rattle.serde_json.specs.Data.{Data, Members, no_members, member, object}
 use Rattle.serde_json.specs.Written.{compact_text, members_outline}
 use Rattle.serde_json.proofs.Texts.{print-outline}
-use Rattle.warg_crypto.specs.declared.json.error.JsonError.{JsonError}
+use Rattle.warg_json.specs.declared.error.JsonError.{JsonError}
 use Rattle.warg_saved.specs.Texts.{AreMembers}
 use Rattle.warg_saved.specs.Writes.{tokens_of}
 

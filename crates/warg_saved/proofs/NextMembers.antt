@@ -13,10 +13,10 @@ use Rattle.json.specs.Token.{Token}
 use Rattle.json.specs.Json.{Json, Parse, members, read_key}
 use Rattle.serde_json.specs.Data.{Data, Members, no_members, member, put}
 use Rattle.serde_json.specs.Read.{converted, of_json, of_members}
-use Rattle.warg_crypto.specs.declared.json.error.JsonError.{JsonError}
-use Rattle.warg_crypto.specs.Json.{wrote}
-use Rattle.warg_crypto.specs.Pairs.{names_of, pairs_of, plain_pairs}
-use Rattle.warg_crypto.specs.Steps.{bind_ok, ok_same}
+use Rattle.warg_json.specs.declared.error.JsonError.{JsonError}
+use Rattle.warg_json.specs.Json.{json_result}
+use Rattle.warg_json.specs.Pairs.{names_of, pairs_of, plain_pairs}
+use Rattle.warg_json.specs.JsonLaws.{bind_ok, ok_same}
 use Rattle.warg_saved.specs.Apart.{ascends}
 use Rattle.warg_saved.proofs.Reading.{keys_differ, map-last, new_last}
 use Rattle.warg_saved.proofs.TextReading.{member_read}
@@ -71,7 +71,7 @@ module _ {A B : Type 0} (named : List ℕ → Result A JsonError) (reads : Data 
   pub pairs_put : (ms : Members) (k : List ℕ) (d : Data) (key : A) (x : B) (ps : List (A × B)) → AreBelow (names_of ms) k → named k ≡ Ok key → reads d ≡ Ok x
       → pairs_of named reads ms ≡ Ok ps → pairs_of named reads (put k d ms) ≡ Ok (ps ++ (key, x) ∷ [])
   pairs_put no_members k d key x ps h name value is =
-      one_first k d no_members key x [] name value refl ∙ ap (λ (qs : List (A × B)). wrote (qs ++ (key, x) ∷ [])) (ok_same [] ps is)
+      one_first k d no_members key x [] name value refl ∙ ap (λ (qs : List (A × B)). json_result (qs ++ (key, x) ∷ [])) (ok_same [] ps is)
   pairs_put (member l e ms) k d key x ps h name value is =
       let n = bind_ok (named l) _ ps is in
       let v = bind_ok (reads e) _ ps n.2 in
@@ -79,7 +79,7 @@ module _ {A B : Type 0} (named : List ℕ → Result A JsonError) (reads : Data 
       let more = pairs_put ms k d key x rest.0 h.1 name value rest.1 in
       ap (pairs_of named reads) (put_above k l d e ms h.0)
       ∙ one_first l e (put k d ms) n.0 v.0 (rest.0 ++ (key, x) ∷ []) n.1 v.1 more
-      ∙ ap (λ (qs : List (A × B)). wrote (qs ++ (key, x) ∷ [])) (ok_same ((n.0, v.0) ∷ rest.0) ps rest.2)
+      ∙ ap (λ (qs : List (A × B)). json_result (qs ++ (key, x) ∷ [])) (ok_same ((n.0, v.0) ∷ rest.0) ps rest.2)
 
 -- what was read of a text so far: the members, and the entries of them
 pub record IsReadSoFar {K V A B : Type 0} (plain : K → A) (value : V → B) (name_of : A → List ℕ) (named : List ℕ → Result A JsonError) (reads : Data → Result B JsonError)
@@ -116,7 +116,7 @@ module _ {K V A B : Type 0} (plain : K → A) (value : V → B) (name_of : A →
         ms = put name d is.ms;
         text = is.text ∙ member_read p is.ms is.turns name now s r d (omega (arith, is.enough, less)) key read;
         pairs = pairs_put named reads is.ms name d (plain k) (value v) (plain_pairs plain value es) below named_so value_so is.pairs
-            ∙ ap wrote (sym (ap (plain_pairs plain value) ended ∙ map-last (λ e. (plain e.0, value e.1)) es (k, v)));
+            ∙ ap json_result (sym (ap (plain_pairs plain value) ended ∙ map-last (λ e. (plain e.0, value e.1)) es (k, v)));
         names = ap (map (λ e. name_of (plain e.0))) ended ∙ map-last (λ e. name_of (plain e.0)) es (k, v) ∙ ap (λ ns. ns ++ name_of (plain k) ∷ []) is.names
             ∙ ap (λ n. names_of is.ms ++ n ∷ []) own ∙ sym (names_put is.ms name d below);
         rise = subst (λ ns. RiseTo ns (Some name)) (sym (names_put is.ms name d below)) (rise_to_next (names_of is.ms) last name up is.rise);

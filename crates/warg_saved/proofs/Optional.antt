@@ -2,9 +2,9 @@
 use Rattle.std.specs.Prelude.{◌≡◌, ◌↔◌, Bool, true, false, IsTrue, List, [], ◌∷◌, length, Option, Some, None, Result, Ok, Err, refl}
 use Rattle.std.specs.Option.{option_map}
 use Rattle.std.proofs.Common.{ap, sym, ◌∙◌, suc, arith, true≢false}
-use Rattle.warg_crypto.specs.declared.json.error.JsonError.{JsonError}
-use Rattle.warg_crypto.specs.Json.{ReturnsOrNoMemory}
-use Rattle.warg_crypto.specs.Pairs.{plain_pairs}
+use Rattle.warg_json.specs.declared.error.JsonError.{JsonError}
+use Rattle.warg_json.specs.Json.{ReturnsOrNoMemory}
+use Rattle.warg_json.specs.Pairs.{plain_pairs}
 use Rattle.warg_saved.specs.Fit.{is_nil}
 
 pub same_option : {A : Type 0} (o : Option A) → option_map (λ x. x) o ≡ o

@@ -9,8 +9,8 @@ use Rattle.serde_json.specs.Data.{Data, Members, no_members, object, put}
 use Rattle.serde_json.specs.Find.{get_member}
 use Rattle.serde_json.specs.Read.{converted, of_json, of_members}
 use Rattle.serde_json.proofs.Views.{get_member-put, get_member-put_other}
-use Rattle.warg_crypto.specs.declared.json.error.JsonError.{JsonError}
-use Rattle.warg_crypto.specs.Pairs.{pairs_of, pairs_or_none}
+use Rattle.warg_json.specs.declared.error.JsonError.{JsonError}
+use Rattle.warg_json.specs.Pairs.{pairs_of, pairs_or_none}
 use Rattle.warg_saved.proofs.TextReading.{member_read}
 
 module _ {K A : Type 0} (named : List ℕ → Result K JsonError) (reads : Data → Result A JsonError) (apart : List ℕ) (p : Parse Json) (start : List Token) where

@@ -6,11 +6,11 @@ use Rattle.std.proofs.Common.{sym, ap, ◌∙◌, subst, append_assoc, append-ni
 use Rattle.indexmap.specs.IndexSet.{insert_key}
 use Rattle.serde_json.specs.Data.{Data, string}
 use Rattle.serde_json.specs.View.{items_of}
-use Rattle.warg_crypto.specs.declared.json.error.JsonError.{JsonError}
-use Rattle.warg_crypto.specs.Json.{AreReadBack, ReturnsOrNoMemory, ReadsBack, wrote}
-use Rattle.warg_saved.specs.Permissions.{permissions_from, permissions_in, permissions_json}
+use Rattle.warg_json.specs.declared.error.JsonError.{JsonError}
+use Rattle.warg_json.specs.Json.{AreReadBack, ReturnsOrNoMemory, ReadsBack, json_result}
+use Rattle.warg_saved.specs.SavedPermissions.{permissions_from, permissions_in, permissions_json}
 
-written_same : {A : Type 0} (x y : A) → wrote x ≡ Ok y → x ≡ y
+written_same : {A : Type 0} (x y : A) → json_result x ≡ Ok y → x ≡ y
 written_same x y e = cc
 
 module _ {P : Type 0} (same : P → P → Bool) where
@@ -43,10 +43,10 @@ module _ {P : Type 0} (same : P → P → Bool) where
 
   module _ (text_of : P → List ℕ) (named : List ℕ → Option P) (back : (p : P) → named (text_of p) ≡ Some p) where
     from_names : (done ps : List P) → AllNew done ps → permissions_from same named done (items_of (map (λ p. string (text_of p)) ps)) ≡ Ok (done ++ ps)
-    from_names done [] h = ap wrote (sym (append-nil done))
+    from_names done [] h = ap json_result (sym (append-nil done))
     from_names done (p ∷ ps) h =
         let next : insert_key same done p ≡ done ++ p ∷ [] = ap (λ b. if b then done else done ++ p ∷ []) h.0 in
-        rw (back p, next) (from_names (done ++ p ∷ []) ps h.1 ∙ ap wrote (append_assoc done (p ∷ []) ps))
+        rw (back p, next) (from_names (done ++ p ∷ []) ps h.1 ∙ ap json_result (append_assoc done (p ∷ []) ps))
 
 pub permissions_read_back : {P : Type 0} (same : P → P → Bool) (laws : IsEquivalence same) (text_of : P → List ℕ) (named : List ℕ → Option P) (back : (p : P) → named (text_of p) ≡ Some p)
     → (ps : List P) → IsDistinct same ps → {V : Type 0} (view : V → Data) (r : Result V JsonError) → ReturnsOrNoMemory view r (permissions_json text_of ps)

@@ -7,7 +7,7 @@ use Rattle.std.proofs.lemmas.Slice.Eq.{bytes_eq-Decides}
 use Rattle.serde_json.specs.Data.{Data, Members, no_members}
 use Rattle.serde_json.specs.Find.{get_member}
 use Rattle.serde_json.proofs.Views.{get_member-put, get_member-put_other}
-use Rattle.warg_crypto.specs.Members.{put_some}
+use Rattle.warg_json.specs.Members.{put_some}
 
 -- the member that was put last is found
 found : (name : List ℕ) (o : Option Data) (ms : Members) → get_member name ms ≡ None

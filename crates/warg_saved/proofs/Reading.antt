@@ -12,9 +12,9 @@ use Rattle.std.proofs.lemmas.Map.Text.{is_eq-slice_cmp}
 use Rattle.std.proofs.lemmas.Slice.Eq.{bytes_eq-Decides}
 use Rattle.indexmap.specs.IndexMap.{insert_entry}
 use Rattle.serde_json.specs.Data.{Data, Members, member}
-use Rattle.warg_crypto.specs.declared.json.error.JsonError.{JsonError}
-use Rattle.warg_crypto.specs.Pairs.{AreAscending, names_of, pairs_of, plain_pairs}
-use Rattle.warg_crypto.specs.Json.{◌>>=◌, wrote}
+use Rattle.warg_json.specs.declared.error.JsonError.{JsonError}
+use Rattle.warg_json.specs.Pairs.{AreAscending, names_of, pairs_of, plain_pairs}
+use Rattle.warg_json.specs.Json.{◌>>=◌, json_result}
 
 -- what was read already, before what is left
 abbrev pub before : {A : Type 0} → List A → Result (List A) JsonError → Result (List A) JsonError
@@ -23,8 +23,8 @@ before done (Err e) = Err e
 
 -- one more that was read
 before_one : {A : Type 0} (done : List A) (x : A) (r : Result (List A) JsonError)
-    → before done (r >>= λ rest. wrote (x ∷ rest)) ≡ before (done ++ x ∷ []) r
-before_one done x (Ok more) = ap wrote (sym (append_assoc done (x ∷ []) more))
+    → before done (r >>= λ rest. json_result (x ∷ rest)) ≡ before (done ++ x ∷ []) r
+before_one done x (Ok more) = ap json_result (sym (append_assoc done (x ∷ []) more))
 before_one done x (Err e) = refl
 
 at_seam : {X : Type 0} (P : X → Type 0) (xs : List X) (y : X) (ys : List X) → AllByRecursion P (xs ++ y ∷ ys) → P y

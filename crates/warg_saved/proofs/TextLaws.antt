@@ -6,8 +6,8 @@ use Rattle.std.specs.BTreeMap.{insert_entry}
 use Rattle.std.specs.Ordering.{match_ordering}
 use Rattle.serde_json.specs.Data.{Data, Members, no_members, member, put, string}
 use Rattle.serde_json.specs.Written.{comma_if, compact_text, members_text}
-use Rattle.warg_crypto.specs.declared.json.error.JsonError.{JsonError}
-use Rattle.warg_saved.specs.Texts.{AreMembers, joined, texts_of, texts_view}
+use Rattle.warg_json.specs.declared.error.JsonError.{JsonError}
+use Rattle.warg_saved.specs.Texts.{AreMembers, object_rest, texts_of, texts_view}
 
 first_same : (x y : List ℕ × List ℕ) (xs ys : List (List ℕ × List ℕ)) → x ∷ xs ≡ y ∷ ys → x ≡ y
 first_same x y xs ys e = cc
@@ -44,7 +44,7 @@ put_text (e ∷ es) k v d (member l f ms) own are =
     (put_text es k v d ms own (others_same _ _ _ _ are))
 
 -- the texts joined are the text of the members
-pub joined_text : (later : Bool) (ms : Members) → joined later (texts_of ms) ≡ members_text later ms
+pub joined_text : (later : Bool) (ms : Members) → object_rest later (texts_of ms) ≡ members_text later ms
 joined_text later no_members = refl
 joined_text later (member k d ms) =
     ap (λ rest. comma_if later ++ (compact_text (string k) ++ 58 ∷ (compact_text d ++ rest))) (joined_text true ms)

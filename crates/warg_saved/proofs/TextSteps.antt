@@ -3,10 +3,10 @@ use Rattle.std.proofs.Common.{◌≡◌, ◌⊎◌, inl, inr, ℕ, List, String,
 use Rattle.std.specs.Prelude.{Result, Ok, Err, IfOk, IfErr}
 use Rattle.serde_json.specs.Data.{Data, Members, object}
 use Rattle.serde_json.specs.Written.{compact_text}
-use Rattle.warg_crypto.specs.declared.json.error.JsonError.{JsonError}
-use Rattle.warg_crypto.specs.declared.json.error.JsonError.TheVariants.{OutOfMemory}
-use Rattle.warg_crypto.specs.Json.{ReturnsOrNoMemory}
-use Rattle.warg_crypto.specs.Steps.{ok_same}
+use Rattle.warg_json.specs.declared.error.JsonError.{JsonError}
+use Rattle.warg_json.specs.declared.error.JsonError.TheVariants.{OutOfMemory}
+use Rattle.warg_json.specs.Json.{ReturnsOrNoMemory}
+use Rattle.warg_json.specs.JsonLaws.{ok_same}
 use Rattle.warg_saved.specs.Texts.{text_of, texts_in, texts_of}
 
 -- the members that were written, whose texts these are

@@ -2,9 +2,9 @@
 use Rattle.std.specs.Prelude.{ℕ, ◌≡◌, List, Result, Ok}
 use Rattle.std.specs.List.{AllByRecursion}
 use Rattle.serde_json.specs.Data.{Data}
-use Rattle.warg_crypto.specs.declared.json.error.JsonError.{JsonError}
-use Rattle.warg_crypto.specs.Json.{AreReadBack, IsReadBack, Version}
-use Rattle.warg_crypto.specs.PairsLaws.{IsUniquePairs}
+use Rattle.warg_json.specs.declared.error.JsonError.{JsonError}
+use Rattle.warg_json.specs.Json.{AreReadBack, IsReadBack, Version}
+use Rattle.warg_json.specs.Pairs.{IsUniquePairs}
 
 -- the texts of the versions that the pairs have, in names and in values, read back
 abbrev pub AreVersionsBack : {K A : Type 0} → (K → List Version) → (A → List Version) → List (K × A) → Type 0

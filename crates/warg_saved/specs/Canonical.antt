@@ -2,25 +2,25 @@
 use Rattle.std.specs.Prelude.{ℕ, ◌≡◌, zero, suc, ◌<◌, ◌^◌, ⊤, false, IfOk, Result}
 use Rattle.serde_json.specs.Data.{Num, unsigned, negative, float, Data, null, boolean, number, string, array, object, Items, no_items, item, Members, no_members, member}
 use Rattle.serde_json.specs.Written.{has_float}
-use Rattle.warg_crypto.specs.declared.json.error.JsonError.{JsonError}
-use Rattle.warg_crypto.specs.Pairs.{AreAscending, names_of}
+use Rattle.warg_json.specs.declared.error.JsonError.{JsonError}
+use Rattle.warg_json.specs.Pairs.{AreAscending, names_of}
 
 -- what is written, if anything is, has no float
 abbrev pub HasNoFloat : Result Data JsonError → Type 0
 HasNoFloat r = IfOk r (λ d. has_float d ≡ false)
 
 -- a whole number of 64 bits
-abbrev pub IsWhole : Num → Type 0
-IsWhole (unsigned n) = n < 2 ^ 64
-IsWhole (negative z) = ⊥
-IsWhole (float x) = ⊥
+abbrev pub IsWholeNumber : Num → Type 0
+IsWholeNumber (unsigned n) = n < 2 ^ 64
+IsWholeNumber (negative z) = ⊥
+IsWholeNumber (float x) = ⊥
 
 -- Nested at most n deep, with no numbers but whole ones of 64 bits, and the names of each object ascend.
 abbrev mutual
   pub IsCanonical : ℕ → Data → Type 0
   IsCanonical n null = ⊤
   IsCanonical n (boolean b) = ⊤
-  IsCanonical n (number x) = IsWhole x
+  IsCanonical n (number x) = IsWholeNumber x
   IsCanonical n (string s) = ⊤
   IsCanonical zero (array ds) = ⊥
   IsCanonical (suc n) (array ds) = AreCanonical n ds

@@ -10,15 +10,15 @@ use Rattle.std.proofs.Common.{ap, ◌∙◌}
 use Rattle.std.proofs.lemmas.Cmp.{nat_list_cmp_total}
 use Rattle.serde_json.specs.Data.{Data, Members, no_members, member, object, array, put, string}
 use Rattle.serde_json.specs.View.{items_of}
-use Rattle.warg_crypto.specs.declared.json.error.JsonError.{JsonError}
-use Rattle.warg_crypto.specs.Json.{◌>>=◌, wrote}
-use Rattle.warg_crypto.specs.Members.{put_json, put_option, put_some}
-use Rattle.warg_crypto.specs.Pairs.{AreAscending, names_of, pairs_onto}
+use Rattle.warg_json.specs.declared.error.JsonError.{JsonError}
+use Rattle.warg_json.specs.Json.{◌>>=◌, json_result}
+use Rattle.warg_json.specs.Members.{put_json, put_option, put_some}
+use Rattle.warg_json.specs.Pairs.{AreAscending, names_of, pairs_onto}
 use Rattle.warg_saved.specs.Canonical.{AreCanonicalIn, IsCanonical, PutsCanonical, WritesCanonical}
 use Rattle.warg_saved.specs.Maps.{put_pairs}
 
 -- the text is, of which there may be none
-pub text_canonical : (n : ℕ) (r : Result (List ℕ) JsonError) → WritesCanonical n (r >>= λ text. wrote (string text))
+pub text_canonical : (n : ℕ) (r : Result (List ℕ) JsonError) → WritesCanonical n (r >>= λ text. json_result (string text))
 text_canonical n (Ok text) = tt
 text_canonical n (Err e) = tt
 
@@ -91,7 +91,7 @@ module _ (n : ℕ) where
         → PutsCanonical (suc n) (put_json writes name x ms)
     member_canonical name x ms own h = by (writes x) own
       where
-        by : (r : Result Data JsonError) → WritesCanonical n r → PutsCanonical (suc n) (r >>= λ d. wrote (put name d ms))
+        by : (r : Result Data JsonError) → WritesCanonical n r → PutsCanonical (suc n) (r >>= λ d. json_result (put name d ms))
         by (Ok d) is = put_canonical name d ms is h
         by (Err e) is = tt
 
@@ -102,7 +102,7 @@ module _ (n : ℕ) where
     option_canonical name (Some x) ms own h = by (writes x) (own x refl)
       where
         by : (r : Result Data JsonError) → WritesCanonical n r
-            → PutsCanonical (suc n) ((r >>= λ d. wrote (Some d)) >>= λ o. wrote (put_some name o ms))
+            → PutsCanonical (suc n) ((r >>= λ d. json_result (Some d)) >>= λ o. json_result (put_some name o ms))
         by (Ok d) is = put_canonical name d ms is h
         by (Err e) is = tt
 
@@ -124,6 +124,6 @@ module _ {K A : Type 0} (n : ℕ) (name_of : K → List ℕ) (writes : A → Res
   pairs_canonical name (e ∷ es) ms h = by (pairs_onto name_of writes no_members (e ∷ es)) (onto_canonical no_members (e ∷ es) (none_canonical n))
     where
       by : (r : Result Members JsonError) → PutsCanonical (suc n) r
-          → PutsCanonical (suc (suc n)) (((r >>= λ found. wrote (object found)) >>= λ d. wrote (Some d)) >>= λ o. wrote (put_some name o ms))
+          → PutsCanonical (suc (suc n)) (((r >>= λ found. json_result (object found)) >>= λ d. json_result (Some d)) >>= λ o. json_result (put_some name o ms))
       by (Ok found) is = put_canonical (suc n) name (object found) ms is h
       by (Err e) is = tt

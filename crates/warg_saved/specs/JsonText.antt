@@ -2,9 +2,9 @@
 use Rattle.std.specs.Prelude.{ℕ, ◌≡◌, List, Option, Some, None, Result, Ok, Err}
 use Rattle.serde_json.specs.Data.{Data}
 use Rattle.serde_json.specs.Read.{read}
-use Rattle.warg_crypto.specs.Results.{ReturnsOr}
-use Rattle.warg_crypto.specs.declared.json.error.JsonError.{JsonError}
-use Rattle.warg_crypto.specs.declared.json.error.JsonError.TheVariants as json
+use Rattle.warg_crypto.specs.OutcomeResults.{ReturnsOr}
+use Rattle.warg_json.specs.declared.error.JsonError.{JsonError}
+use Rattle.warg_json.specs.declared.error.JsonError.TheVariants as json
 use Rattle.warg_saved.specs.declared.error.JsonTextError.{JsonTextError}
 use Rattle.warg_saved.specs.declared.error.JsonTextError.TheVariants.{NotJson, OutOfMemory, Value}
 

@@ -3,19 +3,19 @@ use Rattle.std.specs.Prelude.{ℕ, ◌≡◌, ◌⊎◌, List, Option, Some, Non
 use Rattle.std.proofs.Common.{ap, ◌∙◌, inl, inr}
 use Rattle.serde_json.specs.Data.{Data}
 use Rattle.serde_json.specs.Read.{read}
-use Rattle.warg_crypto.specs.declared.json.error.JsonError.{JsonError}
-use Rattle.warg_crypto.specs.declared.json.error.JsonError.TheVariants as json
-use Rattle.warg_crypto.specs.Json.{◌>>=◌, wrote}
+use Rattle.warg_json.specs.declared.error.JsonError.{JsonError}
+use Rattle.warg_json.specs.declared.error.JsonError.TheVariants as json
+use Rattle.warg_json.specs.Json.{◌>>=◌, json_result}
 use Rattle.warg_saved.specs.declared.error.JsonTextError.{JsonTextError}
 use Rattle.warg_saved.specs.declared.error.JsonTextError.TheVariants.{OutOfMemory}
 use Rattle.warg_saved.specs.JsonText.{in_text, of_json_in, or_fault, text_fault}
 
 module _ {A : Type 0} (reads : Data → Result A JsonError) where
   -- of a text whose JSON is d, what is read of d
-  pub of_value : (text : List ℕ) (d : Data) → in_text wrote text ≡ Ok d → in_text reads text ≡ or_fault (reads d)
+  pub of_value : (text : List ℕ) (d : Data) → in_text json_result text ≡ Ok d → in_text reads text ≡ or_fault (reads d)
   of_value text d e = by (read text) e
     where
-      by : (o : Option Data) → of_json_in wrote o ≡ Ok d → of_json_in reads o ≡ or_fault (reads d)
+      by : (o : Option Data) → of_json_in json_result o ≡ Ok d → of_json_in reads o ≡ or_fault (reads d)
       by None h = absurd cc
       by (Some c) h = ap (λ r. of_json_in reads (dropped r)) h
         where

@@ -1,7 +1,7 @@
-pub mod Names
+pub mod MapNames
 pub mod NameLaws
 pub mod Maps
-pub mod Permissions
+pub mod SavedPermissions
 pub mod Fit
 pub mod Backs
 pub mod Canonical

@@ -12,10 +12,10 @@ use Rattle.semver.specs.declared.error.Error.{Error}
 use Rattle.semver.specs.Identifiers.{parts_of, parts_text}
 use Rattle.semver.specs.Parse.{version_parts}
 use Rattle.semver.proofs.Grammar.{version_parts-sound}
-use Rattle.warg_crypto.specs.Json.{AreReadBack, Version, or_bad_text, wrote}
-use Rattle.warg_saved.specs.Names.{text_name, text_named, version_name, version_named}
+use Rattle.warg_json.specs.Json.{AreReadBack, Version, or_bad_text, json_result}
+use Rattle.warg_saved.specs.MapNames.{text_name, text_named, version_name, version_named}
 
-named_same : {A : Type 0} (x y : A) → wrote x ≡ Ok y → x ≡ y
+named_same : {A : Type 0} (x y : A) → json_result x ≡ Ok y → x ≡ y
 named_same x y e = cc
 
 -- a name that is read as a text is written as it was

@@ -5,12 +5,12 @@ use Rattle.std.specs.declared.alloc.Global.{Global}
 use Rattle.serde_json.specs.Data.{Data, Members, no_members, member, string}
 use Rattle.serde_json.specs.Read.{read}
 use Rattle.serde_json.specs.Written.{comma_if, compact_text}
-use Rattle.warg_crypto.specs.declared.json.error.JsonError.{JsonError}
-use Rattle.warg_crypto.specs.Json.{◌>>=◌, ReturnsOrNoMemory, wrote}
+use Rattle.warg_json.specs.declared.error.JsonError.{JsonError}
+use Rattle.warg_json.specs.Json.{◌>>=◌, ReturnsOrNoMemory, json_result}
 
 -- the text of what is written, with no space
 abbrev pub text_of : Result Data JsonError → Result (List ℕ) JsonError
-text_of r = r >>= λ d. wrote (compact_text d)
+text_of r = r >>= λ d. json_result (compact_text d)
 
 -- the text is read as what is written, if anything is
 abbrev pub IsReadAs : Result Data JsonError → List ℕ → Type 0
@@ -23,12 +23,12 @@ texts_of (member name d more) = (name, compact_text d) ∷ texts_of more
 
 -- the texts of members, where they could be written
 abbrev pub texts_in : Result Members JsonError → Result (List (List ℕ × List ℕ)) JsonError
-texts_in r = r >>= λ ms. wrote (texts_of ms)
+texts_in r = r >>= λ ms. json_result (texts_of ms)
 
 -- the members as text: each its name, a colon and its text, with commas between them and the closing brace
-abbrev pub joined : Bool → List (List ℕ × List ℕ) → List ℕ
-joined later [] = 125 ∷ []
-joined later (e ∷ es) = comma_if later ++ (compact_text (string e.0) ++ 58 ∷ (e.1 ++ joined true es))
+abbrev pub object_rest : Bool → List (List ℕ × List ℕ) → List ℕ
+object_rest later [] = 125 ∷ []
+object_rest later (e ∷ es) = comma_if later ++ (compact_text (string e.0) ++ 58 ∷ (e.1 ++ object_rest true es))
 
 -- how long the text of the members is at most, where no name has to be escaped: two for the braces, and of each member its
 -- name, its text, and four for the quotes, the colon and the comma

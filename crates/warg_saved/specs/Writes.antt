@@ -5,8 +5,8 @@ use Rattle.json.specs.Tree.{json_tokens}
 use Rattle.json.specs.Written.{Written}
 use Rattle.serde_json.specs.Data.{Data}
 use Rattle.serde_json.specs.Written.{outline}
-use Rattle.warg_crypto.specs.declared.json.error.JsonError.{JsonError}
-use Rattle.warg_crypto.specs.declared.json.error.JsonError.TheVariants.{OutOfMemory}
+use Rattle.warg_json.specs.declared.error.JsonError.{JsonError}
+use Rattle.warg_json.specs.declared.error.JsonError.TheVariants.{OutOfMemory}
 
 -- the tokens of the text of a value that has no float
 abbrev pub tokens_of : Data → List Token

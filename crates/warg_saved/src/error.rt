@@ -3,7 +3,7 @@ ghost use Rattle.std.specs.Prelude.{◌≡◌};
 ghost use Rattle.warg_saved.specs.JsonText.{text_fault};
 
 use thiserror::Error;
-use warg_crypto::JsonError;
+use warg_json::JsonError;
 
 /// Why the text of a value's JSON gives no value.
 #[derive(Clone, Copy, Debug, PartialEq, Eq, Error)]

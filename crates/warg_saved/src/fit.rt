@@ -2,8 +2,8 @@
 ghost use Rattle.std.specs.Prelude.{◌≡◌, IfOk, IfErr};
 ghost use Rattle.std.specs.List.{list_any};
 ghost use Rattle.std.specs.Map.{keys_of};
-ghost use Rattle.warg_crypto.specs.declared.json.error.JsonError.TheVariants as fault;
-ghost use Rattle.warg_crypto.specs.Pairs.{plain_pairs};
+ghost use Rattle.warg_json.specs.declared.error.JsonError.TheVariants as fault;
+ghost use Rattle.warg_json.specs.Pairs.{plain_pairs};
 ghost use Rattle.warg_saved.specs.Fit.{RefusesCase, RefusesCaseOrNoMemory, begun_case, empty_case, is_misplaced, is_unknown, keys_case, rights_case, version_case};
 
 use crate::value::SavedValue;
@@ -11,7 +11,7 @@ use indexmap::IndexMap;
 use std::alloc::Global;
 use warg_crypto::hash::HashAlgorithm;
 use warg_crypto::signing::{KeyID, PublicKey};
-use warg_crypto::{Incoherence, JsonError};
+use warg_json::{Incoherence, JsonError};
 
 /// Refuses an algorithm without a head, and a head without an algorithm. Of the head its version is given.
 pub fn check_begun(algorithm: &Option<HashAlgorithm>, version: Option<u32>) -> Result<(), JsonError>

@@ -2,9 +2,9 @@
 ghost use Rattle.std.specs.Prelude.{IfErr, OnErr, OnOk, ◌≡◌, string_bytes};
 ghost use Rattle.serde_json.specs.Data.{put};
 ghost use Rattle.serde_json.specs.View.{members_view, view};
-ghost use Rattle.warg_crypto.specs.declared.json.error.JsonError.TheVariants as fault;
-ghost use Rattle.warg_crypto.specs.Json.{ReturnsOrNoMemory};
-ghost use Rattle.warg_crypto.specs.Pairs.{AreAscending, names_of, pairs_json, pairs_member, pairs_of, plain_pairs};
+ghost use Rattle.warg_json.specs.declared.error.JsonError.TheVariants as fault;
+ghost use Rattle.warg_json.specs.Json.{ReturnsOrNoMemory};
+ghost use Rattle.warg_json.specs.Pairs.{AreAscending, names_of, pairs_json, pairs_member, pairs_of, plain_pairs};
 ghost use Rattle.warg_saved.specs.Backs.{AreBack, AreVersionsBack};
 ghost use Rattle.warg_saved.specs.Fit.{is_nil};
 ghost use Rattle.warg_saved.specs.Maps.{put_pairs};
@@ -14,8 +14,8 @@ use crate::value::SavedValue;
 use indexmap::IndexMap;
 use serde_json::{Map, Value};
 use std::alloc::Global;
-use warg_crypto::JsonError;
-use warg_crypto::json::members::{members_in, put_member};
+use warg_json::JsonError;
+use warg_json::members::{members_in, put_member};
 
 /// Puts a member under a name of its own, of which no copy is made. The error is `OutOfMemory`.
 fn put_named(members: &mut Map<String, Value>, name: String, value: Value) -> Result<(), JsonError>
@@ -36,7 +36,7 @@ pub fn map_value<K: SavedName, V: SavedValue>(
         (plain_pairs K.plain V.plain map.now.entries)) }
     ensures back { OnOk result (AreVersionsBack K.versions V.versions
         (plain_pairs K.plain V.plain map.now.entries)
-        → AreBack K.name_of K.named V.writes V.reads
+        → AreBack K.name_of K.key_named V.writes V.reads
         (plain_pairs K.plain V.plain map.now.entries)) }
 {
     let mut members = Map::new(alloc);
@@ -67,7 +67,7 @@ pub fn put_map<K: SavedName, V: SavedValue>(
         (members_view members.old.entries)) }
     ensures back { OnOk result (AreVersionsBack K.versions V.versions
         (plain_pairs K.plain V.plain map.now.entries)
-        → AreBack K.name_of K.named V.writes V.reads
+        → AreBack K.name_of K.key_named V.writes V.reads
         (plain_pairs K.plain V.plain map.now.entries)) }
     ensures kept { OnErr result (members_view members.new.entries ≡
         members_view members.old.entries) }
@@ -87,7 +87,7 @@ fn map_of<K: SavedName, V: SavedValue>(
 ) -> Result<IndexMap<K, V>, JsonError>
     requires { AreAscending (names_of (members_view object.now.entries)) }
     ensures { ReturnsOrNoMemory (λ m. plain_pairs K.plain V.plain m.entries) result
-        (pairs_of K.named V.reads (members_view object.now.entries)) }
+        (pairs_of K.key_named V.reads (members_view object.now.entries)) }
 {
     let mut map = IndexMap::with_capacity(alloc, object.len())?;
     'members: for (name, value) in object.iter() {
@@ -104,7 +104,7 @@ fn map_in<K: SavedName, V: SavedValue>(
     object: &Map<String, Value>,
 ) -> Result<IndexMap<K, V>, JsonError>
     ensures { ReturnsOrNoMemory (λ m. plain_pairs K.plain V.plain m.entries) result
-        (pairs_of K.named V.reads (members_view object.now.entries)) }
+        (pairs_of K.key_named V.reads (members_view object.now.entries)) }
 {
     let _len = object.len();
     map_of::<K, V>(alloc, object)
@@ -118,7 +118,7 @@ pub fn map_member<K: SavedName, V: SavedValue>(
     name: &str,
 ) -> Result<IndexMap<K, V>, JsonError>
     ensures { ReturnsOrNoMemory (λ m. plain_pairs K.plain V.plain m.entries) result
-        (pairs_member K.named V.reads name.now (view value.now)) }
+        (pairs_member K.key_named V.reads name.now (view value.now)) }
 {
     let _members = members_in(value)?;
     let Some(value) = value.get(name) else {

@@ -1,23 +1,23 @@
 //! The members that states of every kind have: the algorithm, the permissions and the keys.
 ghost use Rattle.std.specs.Prelude.{◌≡◌, OnErr, OnOk, codes};
 ghost use Rattle.serde_json.specs.View.{members_view, view};
-ghost use Rattle.warg_crypto.specs.Json.{ReturnsOrNoMemory};
-ghost use Rattle.warg_crypto.specs.JsonTexts.{algorithm_in, algorithm_json, key_in, key_json};
-ghost use Rattle.warg_crypto.specs.Members.{optional_member, put_option};
-ghost use Rattle.warg_crypto.specs.Pairs.{pairs_member};
+ghost use Rattle.warg_json.specs.Json.{ReturnsOrNoMemory};
+ghost use Rattle.warg_json.specs.JsonTexts.{algorithm_in, algorithm_json, key_in, key_json};
+ghost use Rattle.warg_json.specs.Members.{optional_member, put_option};
+ghost use Rattle.warg_json.specs.Pairs.{pairs_member};
 ghost use Rattle.warg_saved.specs.Backs.{AreBack};
 ghost use Rattle.warg_saved.specs.Fit.{is_nil};
 ghost use Rattle.warg_saved.specs.Maps.{put_pairs};
-ghost use Rattle.warg_saved.specs.Names.{text_name, text_named};
+ghost use Rattle.warg_saved.specs.MapNames.{text_name, text_named};
 
 use crate::map::{map_member, put_map};
 use indexmap::IndexMap;
 use serde_json::{Map, Value};
 use std::alloc::Global;
-use warg_crypto::JsonError;
 use warg_crypto::hash::HashAlgorithm;
-use warg_crypto::json::members::{optional_member, put_value};
 use warg_crypto::signing::{KeyID, PublicKey};
+use warg_json::JsonError;
+use warg_json::members::{optional_member, put_value};
 
 /// Puts the algorithm, if there is one. Where that fails, the object is as it was.
 pub fn put_algorithm(

@@ -3,16 +3,16 @@ ghost use Rattle.std.specs.Prelude.{◌≡◌, List, [], ◌∷◌, ℕ, true, O
 ghost use Rattle.std.specs.declared.alloc.Global.{Global};
 ghost use Rattle.std.proofs.lemmas.Slice.Eq.{bytes_eq-Decides};
 ghost use Rattle.semver.specs.Identifiers.{parts_of};
-ghost use Rattle.warg_crypto.specs.declared.json.error.JsonError.{JsonError};
-ghost use Rattle.warg_crypto.specs.Json.{AreReadBack, ReturnsOrNoMemory, Version as VersionData, wrote};
-ghost use Rattle.warg_saved.specs.Names.{text_name, text_named, version_name, version_named};
+ghost use Rattle.warg_json.specs.declared.error.JsonError.{JsonError};
+ghost use Rattle.warg_json.specs.Json.{AreReadBack, ReturnsOrNoMemory, Version as VersionData, json_result};
+ghost use Rattle.warg_saved.specs.MapNames.{text_name, text_named, version_name, version_named};
 ghost use Rattle.warg_saved.specs.NameLaws.{text_back, version_back, version_read, one_version, same_version};
 
 use semver::Version;
 use std::alloc::{AllocError, Global};
 use std::hash::Hash;
-use warg_crypto::JsonError;
 use warg_crypto::signing::KeyID;
+use warg_json::JsonError;
 
 /// A key of a map, which names a member of an object.
 pub trait SavedName: Eq + Hash + Drop {
@@ -25,24 +25,24 @@ pub trait SavedName: Eq + Hash + Drop {
     ghost name_of: { Plain → List ℕ };
 
     // What is read of a name, or its fault.
-    ghost named: { List ℕ → Result Plain JsonError };
+    ghost key_named: { List ℕ → Result Plain JsonError };
 
     // The versions whose texts have to read back so that the name does.
     ghost versions: { Plain → List VersionData };
 
     /// The name. The error is `OutOfMemory`.
     fn to_name(&self, alloc: Global) -> Result<String, JsonError>
-        ensures { ReturnsOrNoMemory string_bytes result (wrote (name_of (plain self.now))) };
+        ensures { ReturnsOrNoMemory string_bytes result (json_result (name_of (plain self.now))) };
 
     /// What the name says, or its fault.
     fn from_name(alloc: Global, name: &str) -> Result<Self, JsonError>
-        ensures { ReturnsOrNoMemory plain result (named name.now) };
+        ensures { ReturnsOrNoMemory plain result (key_named name.now) };
 
     // A name that is read is written as it was.
-    ghost back: { (name : List ℕ) (k : Plain) → named name ≡ Ok k → name_of k ≡ name };
+    ghost back: { (name : List ℕ) (k : Plain) → key_named name ≡ Ok k → name_of k ≡ name };
 
     // The name that is written is read as the key.
-    ghost read: { (k : Plain) → AreReadBack (versions k) → named (name_of k) ≡ Ok k };
+    ghost read: { (k : Plain) → AreReadBack (versions k) → key_named (name_of k) ≡ Ok k };
 
     // Keys are equal exactly if they are one as plain data.
     ghost one_key: { (a b : Self) → Self.eq a b ≡ true → plain a ≡ plain b };
@@ -57,7 +57,7 @@ impl SavedName for KeyID {
 
     ghost name_of = { text_name };
 
-    ghost named = { text_named };
+    ghost key_named = { text_named };
 
     ghost versions = { λ _. [] };
 
@@ -85,7 +85,7 @@ impl SavedName for String {
 
     ghost name_of = { text_name };
 
-    ghost named = { text_named };
+    ghost key_named = { text_named };
 
     ghost versions = { λ _. [] };
 
@@ -127,7 +127,7 @@ impl SavedName for Version {
 
     ghost name_of = { version_name };
 
-    ghost named = { version_named };
+    ghost key_named = { version_named };
 
     ghost versions = { λ v. v ∷ [] };
 

@@ -1,9 +1,9 @@
 //! Sets of permissions as lists of their names.
 ghost use Rattle.std.specs.Prelude.{List, []};
 ghost use Rattle.serde_json.specs.View.{items_view, view};
-ghost use Rattle.warg_crypto.specs.Json.{Returns, ReturnsOrNoMemory};
+ghost use Rattle.warg_json.specs.Json.{Returns, ReturnsOrNoMemory};
 ghost use Rattle.warg_saved.specs.CanonicalLaws.{texts_canonical};
-ghost use Rattle.warg_saved.specs.Permissions.{permission_in, permissions_from, permissions_in, permissions_json};
+ghost use Rattle.warg_saved.specs.SavedPermissions.{permission_in, permissions_from, permissions_in, permissions_json};
 ghost use Rattle.warg_saved.specs.Writes.{WritesText};
 
 use crate::value::SavedValue;
@@ -11,13 +11,13 @@ use indexmap::IndexSet;
 use json::Writer;
 use serde_json::Value;
 use std::alloc::Global;
-use warg_crypto::JsonError;
-use warg_crypto::json::members::{items_in, string_value, text_in};
+use warg_json::JsonError;
+use warg_json::members::{items_in, string_value, text_in};
 use warg_permissions::LogPermission;
 
 /// The permission of a value.
 fn permission_in<P: LogPermission>(value: &Value) -> Result<P, JsonError>
-    ensures { Returns (λ p. p) result (permission_in P.eq P.named (view value.now)) }
+    ensures { Returns (λ p. p) result (permission_in P.eq P.permission_named (view value.now)) }
 {
     let text = text_in(value)?;
     P::from_text(text).ok_or(JsonError::BadText)
@@ -29,7 +29,7 @@ fn permissions_of<P: LogPermission>(
     items: &Vec<Value>,
 ) -> Result<IndexSet<P>, JsonError>
     ensures { ReturnsOrNoMemory (λ s. s.keys) result
-        (permissions_from P.eq P.named [] (items_view items.now.items)) }
+        (permissions_from P.eq P.permission_named [] (items_view items.now.items)) }
 {
     let mut set = IndexSet::new(alloc);
     'items: for value in items.iter() {
@@ -70,7 +70,7 @@ impl<P: LogPermission> SavedValue for IndexSet<P> {
 
     ghost writes = { permissions_json P.text_of };
 
-    ghost reads = { permissions_in P.eq P.named };
+    ghost reads = { permissions_in P.eq P.permission_named };
 
     ghost versions = { λ _. [] };
 

@@ -4,28 +4,28 @@ ghost use Rattle.std.specs.Option.{option_map};
 ghost use Rattle.serde_json.specs.Data.{Data, Members, object, put, string};
 ghost use Rattle.serde_json.specs.View.{view};
 ghost use Rattle.serde_json.specs.Written.{compact_text, has_float};
-ghost use Rattle.warg_crypto.specs.declared.json.error.JsonError.TheVariants as fault;
-ghost use Rattle.warg_crypto.specs.Json.{AreReadBack, ReturnsOrNoMemory, IsReadBack, wrote};
-ghost use Rattle.warg_crypto.specs.JsonTexts.{key_in, key_json};
-ghost use Rattle.warg_crypto.specs.Members.{put_option};
-ghost use Rattle.warg_crypto.specs.Pairs.{plain_pairs};
+ghost use Rattle.warg_json.specs.declared.error.JsonError.TheVariants as fault;
+ghost use Rattle.warg_json.specs.Json.{AreReadBack, ReturnsOrNoMemory, IsReadBack, json_result};
+ghost use Rattle.warg_json.specs.JsonTexts.{key_in, key_json};
+ghost use Rattle.warg_json.specs.Members.{put_option};
+ghost use Rattle.warg_json.specs.Pairs.{plain_pairs};
 ghost use Rattle.warg_saved.specs.Backs.{AreBack, AreVersionsBack};
 ghost use Rattle.warg_saved.specs.Maps.{put_pairs};
-ghost use Rattle.warg_saved.specs.Names.{text_name, text_named};
+ghost use Rattle.warg_saved.specs.MapNames.{text_name, text_named};
 ghost use Rattle.warg_saved.specs.Canonical.{HasNoFloat};
 ghost use Rattle.warg_saved.specs.Texts.{PutsText, room_of, texts_of};
 
-use crate::map_text::map_text;
 use crate::name::SavedName;
 use crate::value::SavedValue;
+use crate::write_map::map_text;
 use indexmap::IndexMap;
 use serde_json::Value;
 use std::alloc::Global;
 use std::collections::BTreeMap;
 use std::marker::Model;
-use warg_crypto::json::members::text_value;
 use warg_crypto::signing::{KeyID, PublicKey};
-use warg_crypto::{JsonError, JsonValue};
+use warg_json::members::text_value;
+use warg_json::{JsonError, JsonValue};
 
 /// The members of an object, each as its text: the object's text is joined of them, and no value of the whole object is
 /// ever held.
@@ -46,7 +46,7 @@ impl Model for MemberTexts {
 
 /// A text as JSON writes it.
 fn quoted(alloc: Global, text: &str) -> Result<String, JsonError>
-    ensures { ReturnsOrNoMemory string_bytes result (wrote (compact_text (string text.now))) }
+    ensures { ReturnsOrNoMemory string_bytes result (json_result (compact_text (string text.now))) }
 {
     let value = text_value(alloc, text)?;
     Ok(value.to_string(alloc)?)
@@ -118,7 +118,7 @@ impl MemberTexts {
             (plain_pairs K.plain V.plain map.now.entries)) result self.old self.new }
         ensures back { OnOk result (AreVersionsBack K.versions V.versions
             (plain_pairs K.plain V.plain map.now.entries)
-            → AreBack K.name_of K.named V.writes V.reads
+            → AreBack K.name_of K.key_named V.writes V.reads
             (plain_pairs K.plain V.plain map.now.entries)) }
         ensures kept { OnErr result (self.new ≡ self.old) }
     {

@@ -1,6 +1,6 @@
 //! Values of texts.
 ghost use Rattle.serde_json.specs.View.{view};
-ghost use Rattle.warg_crypto.specs.Json.{wrote};
+ghost use Rattle.warg_json.specs.Json.{json_result};
 ghost use Rattle.warg_saved.specs.JsonText.{ReturnsOfText, in_text};
 
 use crate::error::JsonTextError;
@@ -9,7 +9,7 @@ use std::alloc::Global;
 
 /// The value that the text is, with texts of its own.
 pub fn read_value(alloc: Global, text: &str) -> Result<Value, JsonTextError>
-    ensures { ReturnsOfText view result (in_text wrote text.now) }
+    ensures { ReturnsOfText view result (in_text json_result text.now) }
 {
     match Value::from_str(alloc, text) {
         Ok(value) => Ok(value),

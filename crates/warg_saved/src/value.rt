@@ -2,9 +2,9 @@
 ghost use Rattle.std.specs.Prelude.{◌≡◌, List, [], Result, Ok, Err, IfOk, IfErr, OnOk, refl};
 ghost use Rattle.serde_json.specs.Data.{Data};
 ghost use Rattle.serde_json.specs.View.{view};
-ghost use Rattle.warg_crypto.specs.declared.json.error.JsonError.{JsonError};
-ghost use Rattle.warg_crypto.specs.Json.{AreReadBack, ReturnsOrNoMemory, IsReadBack, ReadsBack, Version};
-ghost use Rattle.warg_crypto.specs.JsonTexts.{key_in, key_json};
+ghost use Rattle.warg_json.specs.declared.error.JsonError.{JsonError};
+ghost use Rattle.warg_json.specs.Json.{AreReadBack, ReturnsOrNoMemory, IsReadBack, ReadsBack, Version};
+ghost use Rattle.warg_json.specs.JsonTexts.{key_in, key_json};
 ghost use Rattle.warg_crypto.specs.NamedBytes.{NamedBytes};
 ghost use Rattle.warg_saved.specs.Canonical.{WritesCanonical, value_depth};
 ghost use Rattle.warg_saved.specs.Writes.{WritesText};
@@ -13,7 +13,7 @@ use json::Writer;
 use serde_json::Value;
 use std::alloc::Global;
 use warg_crypto::signing::PublicKey;
-use warg_crypto::{JsonError, JsonValue};
+use warg_json::{JsonError, JsonValue};
 
 /// A value of a map of a saved state. A set, which is no type of this repository's, is one too.
 pub trait SavedValue: Drop {

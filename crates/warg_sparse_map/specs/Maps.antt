@@ -1,6 +1,6 @@
 -- Sparse Merkle maps over a hash: a whole tree with a leaf for each key, most of them empty.
 use Rattle.std.specs.Prelude.{◌≡◌, ◌⊎◌, ℕ, zero, suc, ◌-◌, ◌/◌, ◌%◌, ◌^◌, ◌<◌, ◌==◌, Bool, if◌then◌else◌, List, [], ◌∷◌, ◌++◌, reverse, length, slice_index, Option, Some, None}
-use Rattle.warg_merkle.specs.Trees.{Side, Left, Right, leaf_input, node_input, climb, climbed, HaveCollision}
+use Rattle.warg_merkle.specs.Trees.{Side, Left, Right, leaf_input, node_input, climb, climb_inputs, HaveCollision}
 
 -- the bit of a key at a depth from the root: the first bit of the first byte is at the root
 unfoldable pub is_right : List ℕ → ℕ → Bool
@@ -42,12 +42,12 @@ module _ (hash : List ℕ → List ℕ) where
   Leads value key path root = climb hash (sides_up 256 key) path (hash (value_input value)) ≡ Some root
 
   -- all that is hashed where a path is tried
-  abbrev pub tried : Option (List ℕ) → List ℕ → List (List ℕ) → List (List ℕ)
-  tried value key path = value_input value ∷ climbed hash (sides_up 256 key) path (hash (value_input value))
+  abbrev pub path_inputs : Option (List ℕ) → List ℕ → List (List ℕ) → List (List ℕ)
+  path_inputs value key path = value_input value ∷ climb_inputs hash (sides_up 256 key) path (hash (value_input value))
 
   -- the value and the path are the map's own, or what is hashed for them and for the map's own collides
   abbrev pub IsOwn : (List Side → Option (List ℕ)) → Option (List ℕ) → List ℕ → List (List ℕ) → Type 0
-  IsOwn m value key path = ((m (way_down key) ≡ value) × (map_path m (way_down key) ≡ path)) ⊎ HaveCollision hash (tried (m (way_down key)) key (map_path m (way_down key))) (tried value key path)
+  IsOwn m value key path = ((m (way_down key) ≡ value) × (map_path m (way_down key) ≡ path)) ⊎ HaveCollision hash (path_inputs (m (way_down key)) key (map_path m (way_down key))) (path_inputs value key path)
 
   -- the root of an empty map
   unfoldable pub empty_root : ℕ → List ℕ

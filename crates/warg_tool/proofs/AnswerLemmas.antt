@@ -1,23 +1,14 @@
--- What is said of answers and of the ends of commands.
+-- The ends of commands as their answers, and answers by words and files.
 use Rattle.std.proofs.Common.{◌≡◌, ◌≢◌, inl, refl, ℕ, List, [], Option, Result, Ok, Err}
 use Rattle.std.proofs.lemmas.Bool.{false≢true}
-use Rattle.warg_audit.specs.Printed.{Printed}
-use Rattle.warg_tool.specs.Additions.{Files, Reads}
-use Rattle.warg_tool.specs.Answers.{answer_view, Answers, IfStopped, IsSettled}
-use Rattle.warg_tool.specs.Unusable.{IfUsable, IsUnusable, IsOfFile, unread, read, IsOfWord, no_word, word}
-use Rattle.warg_tool.specs.declared.answer.Answer.{Answer}
-use Rattle.warg_tool.specs.declared.stop.Stop.{Stop}
-use Rattle.warg_tool.specs.declared.stop.Stop.TheVariants as stop
-
-pub IfStopped-to : (P Q : Printed → Type 0) → ((printed : Printed) → P printed → Q printed) → (end : Stop)
-    → IfStopped P end → IfStopped Q end
-IfStopped-to P Q f (stop.Answer answer) h = f (answer_view answer) h
-IfStopped-to P Q f stop.OutOfMemory h = tt
-
-pub Answers-to : (P Q : Printed → Type 0) → ((printed : Printed) → P printed → Q printed) → (result : Result Answer Stop)
-    → Answers P result → Answers Q result
-Answers-to P Q f (Ok answer) h = f (answer_view answer) h
-Answers-to P Q f (Err end) h = IfStopped-to P Q f end h
+use Rattle.warg_audit.specs.Printouts.{Printout}
+use Rattle.warg_answers.specs.Files.{Files, Reads}
+use Rattle.warg_answers.specs.Answers.{answer_view, Answers, IfStopped, IsSettled, IsUnusable}
+use Rattle.warg_tool.specs.Unusable.{IfUsable, IsOfFile, unread, read, IsOfWord, no_word, word}
+use Rattle.warg_answers.specs.declared.answer.Answer.{Answer}
+use Rattle.warg_answers.specs.declared.stop.Stop.{Stop}
+use Rattle.warg_answers.specs.declared.stop.Stop.TheVariants as stop
+use Rattle.warg_answers.proofs.AnswerLemmas.{Answers-to, IfStopped-to}
 
 -- of what nothing is said
 pub nothing_said_of_end : (end : Stop) → IfStopped (λ printed. Unit {0}) end
@@ -30,27 +21,27 @@ nothing_said (Err end) = nothing_said_of_end end
 
 -- ---- ends of commands as their answers
 
-settled_by_end : (P : Printed → Type 0) (end : Stop) (answer : Answer) → IsSettled (Err end) (Ok answer) → IfStopped P end
+settled_by_end : (P : Printout → Type 0) (end : Stop) (answer : Answer) → IsSettled (Err end) (Ok answer) → IfStopped P end
     → P (answer_view answer)
 settled_by_end P (stop.Answer it) answer e h = let same : it ≡ answer = cc in rw same at h
 settled_by_end P stop.OutOfMemory answer e h = absurd (false≢true e)
 
-pub settled_is : (P : Printed → Type 0) (outcome : Result Answer Stop) (answer : Answer) → IsSettled outcome (Ok answer)
+pub settled_is : (P : Printout → Type 0) (outcome : Result Answer Stop) (answer : Answer) → IsSettled outcome (Ok answer)
     → Answers P outcome → P (answer_view answer)
 settled_is P (Ok it) answer e h = let same : it ≡ answer = cc in rw same at h
 settled_is P (Err end) answer e h = settled_by_end P end answer e h
 
 -- ---- words and files that can't be used
 
-pub unusable_is : (printed : Printed) (status : ℕ) → printed ≡ record { text = []; status = status } → status ≢ 0 → IsUnusable printed
+pub unusable_is : (printed : Printout) (status : ℕ) → printed ≡ record { text = []; status = status } → status ≢ 0 → IsUnusable printed
 unusable_is printed status e h = rw e (refl, h)
 
-pub unusable_end : (P : Printed → Type 0) (end : Stop) → IfStopped IsUnusable end → IfStopped (IfUsable P) end
+pub unusable_end : (P : Printout → Type 0) (end : Stop) → IfStopped IsUnusable end → IfStopped (IfUsable P) end
 unusable_end P end h = IfStopped-to IsUnusable (IfUsable P) (λ printed is. inl is) end h
 
 -- ---- files
 
-module _ (files : Option Files) (path : List ℕ) (P : List ℕ → Printed → Type 0) where
+module _ (files : Option Files) (path : List ℕ) (P : List ℕ → Printout → Type 0) where
   pub file_read : (bytes : List ℕ) (result : Result Answer Stop) → Reads files path bytes → Answers (P bytes) result
       → Answers (IsOfFile files path P) result
   file_read bytes result held h = Answers-to (P bytes) (IsOfFile files path P) (λ printed is. read bytes held is) result h
@@ -60,10 +51,10 @@ module _ (files : Option Files) (path : List ℕ) (P : List ℕ → Printed → 
 
 -- ---- words
 
-pub word_read : {A : Type 0} (Says : A → Type 0) (P : A → Printed → Type 0) (value : A) (result : Result Answer Stop) → Says value
+pub word_read : {A : Type 0} (Says : A → Type 0) (P : A → Printout → Type 0) (value : A) (result : Result Answer Stop) → Says value
     → Answers (P value) result → Answers (IsOfWord Says P) result
 word_read Says P value result says h = Answers-to (P value) (IsOfWord Says P) (λ printed is. word value says is) result h
 
-pub word_unread : {A : Type 0} (Says : A → Type 0) (P : A → Printed → Type 0) (end : Stop) → IfStopped IsUnusable end
+pub word_unread : {A : Type 0} (Says : A → Type 0) (P : A → Printout → Type 0) (end : Stop) → IfStopped IsUnusable end
     → IfStopped (IsOfWord Says P) end
 word_unread Says P end h = IfStopped-to IsUnusable (IsOfWord Says P) (λ printed is. no_word is) end h

@@ -1,12 +1,4 @@
-pub mod RecordLineLemmas
-pub mod PlainLemmas
-pub mod JudgedLemmas
-pub mod TextLemmas
-pub mod StateLemmas
-pub mod CompareLemmas
-pub mod ResumeLemmas
 pub mod JsonLemmas
-pub mod ClaimLemmas
 pub mod AnswerLemmas
 pub mod RequestLemmas
 pub mod TaskLemmas

@@ -6,7 +6,7 @@ use Rattle.std.specs.Str.{bytes_eq}
 use Rattle.std.specs.Str.Lines.{lines}
 use Rattle.serde_json.specs.Data.{string}
 use Rattle.serde_json.specs.Written.{compact_text}
-use Rattle.warg_audit.specs.Printed.{Printed}
+use Rattle.warg_audit.specs.Printouts.{Printout}
 
 -- the command, a member with this JSON, and the status
 abbrev pub json_object : List ℕ → List ℕ → List ℕ → ℕ → List ℕ
@@ -37,11 +37,11 @@ abbrev pub message_object : List ℕ → ℕ → List ℕ → List ℕ
 message_object command status sentence = json_object command (codes "message") (compact_text (string sentence)) status
 
 -- the text is the object of each line that is printed, or of a sentence, where none is
-pub record IsJsonText (command : List ℕ) (printed : Printed) (text : List ℕ) : Type 0 where
+pub record IsJsonText (command : List ℕ) (printed : Printout) (text : List ℕ) : Type 0 where
   pub of_lines : 0 < length printed.text → text ≡ line_objects command printed.status (lines printed.text)
   pub of_none : printed.text ≡ [] → (sentence : List ℕ) × (text ≡ message_object command printed.status sentence)
 
 -- what is printed in JSON, with the same status
-pub record IsInJson (command : List ℕ) (printed json : Printed) : Type 0 where
+pub record IsInJson (command : List ℕ) (printed json : Printout) : Type 0 where
   pub text : IsJsonText command printed json.text
   pub status : json.status ≡ printed.status

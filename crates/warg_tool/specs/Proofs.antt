@@ -13,27 +13,27 @@ use Rattle.warg_registry.specs.RegistryJson.{checkpoint_in}
 use Rattle.warg_registry.specs.declared.checkpoint.Checkpoint.{Checkpoint}
 use Rattle.warg_registry.specs.declared.leaf.LogLeaf.{LogLeaf}
 use Rattle.warg_registry.specs.declared.log_id.LogId.{LogId}
-use Rattle.warg_audit.specs.Printed.{Printed}
-use Rattle.warg_tool.specs.Additions.{Files, Reads}
-use Rattle.warg_tool.specs.Texts.{line, yes, no}
-use Rattle.warg_tool.specs.declared.statement.Statement.{Statement}
-use Rattle.warg_tool.specs.declared.statement.Statement.TheVariants as statement
+use Rattle.warg_audit.specs.Printouts.{Printout}
+use Rattle.warg_answers.specs.Files.{Files, Reads}
+use Rattle.warg_answers.specs.Texts.{line, yes, no}
+use Rattle.warg_words.specs.declared.statement.Statement.{Statement}
+use Rattle.warg_words.specs.declared.statement.Statement.TheVariants as statement
 
 -- whether a statement holds, in words
-abbrev pub verdict_text : Bool → Printed
+abbrev pub verdict_text : Bool → Printout
 verdict_text holds = if holds then yes (codes "holds\n") else no (codes "does not hold\n")
 
 -- the words are those of the statement
-abbrev pub IsVerdict : Type 0 → Printed → Type 0
+abbrev pub IsVerdict : Type 0 → Printout → Type 0
 IsVerdict Statement printed = (Statement × (printed ≡ yes (codes "holds\n"))) ⊎ ((Statement → ⊥) × (printed ≡ no (codes "does not hold\n")))
 
 -- a proof on the log on a line, or `none`
-abbrev pub log_proof_line : Option (List (List ℕ)) → Printed
+abbrev pub log_proof_line : Option (List (List ℕ)) → Printout
 log_proof_line None = no (codes "none\n")
 log_proof_line (Some hashes) = yes (line (log_proof_text hashes))
 
 -- a proof on the map on a line
-abbrev pub map_proof_line : List (List ℕ) → Printed
+abbrev pub map_proof_line : List (List ℕ) → Printout
 map_proof_line path = yes (line (map_proof_text path))
 
 -- ---- what words and files say
@@ -69,7 +69,7 @@ module _ (files : Option Files) where
 
   -- ---- what is said of each statement, by its words and its files
 
-  pub record IsInclusionVerdict (checkpoint_path place log_id record_id proof_path : List ℕ) (printed : Printed) : Type 0 where
+  pub record IsInclusionVerdict (checkpoint_path place log_id record_id proof_path : List ℕ) (printed : Printout) : Type 0 where
     pub leaf : LogLeaf
     pub leaf_is : IsLeafOf log_id record_id leaf
     pub index : ℕ
@@ -80,7 +80,7 @@ module _ (files : Option Files) where
     pub hashes_are : IsLogProofIn proof_path hashes
     pub is : IsVerdict (Includes sha256 (log_leaf_encoding_of leaf) index checkpoint.log_length hashes checkpoint.log_root.bytes) printed
 
-  pub record IsConsistencyVerdict (old_path new_path proof_path : List ℕ) (printed : Printed) : Type 0 where
+  pub record IsConsistencyVerdict (old_path new_path proof_path : List ℕ) (printed : Printout) : Type 0 where
     pub old : Checkpoint
     pub old_is : IsCheckpointIn old_path old
     pub new : Checkpoint
@@ -89,7 +89,7 @@ module _ (files : Option Files) where
     pub hashes_are : IsLogProofIn proof_path hashes
     pub is : IsVerdict (GoesOn old new hashes) printed
 
-  pub record IsHeadVerdict (checkpoint_path log_id record_id proof_path : List ℕ) (printed : Printed) : Type 0 where
+  pub record IsHeadVerdict (checkpoint_path log_id record_id proof_path : List ℕ) (printed : Printout) : Type 0 where
     pub leaf : LogLeaf
     pub leaf_is : IsLeafOf log_id record_id leaf
     pub checkpoint : Checkpoint
@@ -98,7 +98,7 @@ module _ (files : Option Files) where
     pub siblings_are : IsMapProofIn proof_path siblings
     pub is : IsVerdict (ShowsHead checkpoint leaf.log_id leaf.record_id siblings) printed
 
-  pub record IsAbsenceVerdict (checkpoint_path log_id proof_path : List ℕ) (printed : Printed) : Type 0 where
+  pub record IsAbsenceVerdict (checkpoint_path log_id proof_path : List ℕ) (printed : Printout) : Type 0 where
     pub log : LogId
     pub log_is : log_id_of_text log_id ≡ Ok log
     pub checkpoint : Checkpoint
@@ -107,10 +107,10 @@ module _ (files : Option Files) where
     pub siblings_are : IsMapProofIn proof_path siblings
     pub is : IsVerdict (Leads sha256 None log.hash.bytes siblings checkpoint.map_root.bytes) printed
 
-  abbrev pub IsStatementVerdict : Statement → Printed → Type 0
-  IsStatementVerdict (statement.Inclusion checkpoint place log_id record_id proof) printed =
-      IsInclusionVerdict checkpoint.now place.now log_id.now record_id.now proof.now printed
+  abbrev pub IsStatementVerdict : Statement → Printout → Type 0
+  IsStatementVerdict (statement.Inclusion checkpoint place leaf proof) printed =
+      IsInclusionVerdict checkpoint.now place.now leaf.log_id.now leaf.record_id.now proof.now printed
   IsStatementVerdict (statement.Consistency old new proof) printed = IsConsistencyVerdict old.now new.now proof.now printed
-  IsStatementVerdict (statement.Head checkpoint log_id record_id proof) printed =
-      IsHeadVerdict checkpoint.now log_id.now record_id.now proof.now printed
+  IsStatementVerdict (statement.Head checkpoint leaf proof) printed =
+      IsHeadVerdict checkpoint.now leaf.log_id.now leaf.record_id.now proof.now printed
   IsStatementVerdict (statement.Absence checkpoint log_id proof) printed = IsAbsenceVerdict checkpoint.now log_id.now proof.now printed

@@ -13,32 +13,35 @@ use Rattle.warg_protocol.specs.Operator as operators
 use Rattle.warg_protocol.specs.Package as packages
 use Rattle.warg_protocol.specs.Records.{toy_belongs}
 use Rattle.warg_audit.specs.Answers.{IsIdAnswer}
-use Rattle.warg_audit.specs.LogAnswers.{Shown}
+use Rattle.warg_audit.specs.LogAnswers.{LogDisplay}
 use Rattle.warg_audit.specs.LogTypes.{operator_log, package_log}
-use Rattle.warg_audit.specs.declared.command.LogType.{LogType}
-use Rattle.warg_audit.specs.declared.command.LogType.TheVariants as log_type
-use Rattle.warg_audit.specs.Printed.{Printed}
+use Rattle.warg_log_type.specs.declared.LogType.{LogType}
+use Rattle.warg_log_type.specs.declared.LogType.TheVariants as log_type
+use Rattle.warg_audit.specs.Printouts.{Printout}
 use Rattle.warg_verified.specs.Claims.{ClaimData, is_claimed}
 use Rattle.warg_verified.specs.Texts.{IsReadFrom}
-use Rattle.warg_tool.specs.Additions.{Files, Reads}
+use Rattle.warg_answers.specs.Files.{Files, Reads}
 use Rattle.warg_tool.specs.JsonLines.{IsInJson}
 use Rattle.warg_tool.specs.ManyAudits.{IsManyAnswer}
 use Rattle.warg_tool.specs.Proofs.{IsStatementVerdict}
-use Rattle.warg_tool.specs.Questions.{IsStateText, IsPermissionsText, IsChainText, IsCompared, IsLatestOf}
-use Rattle.warg_tool.specs.RecordLines.{texts}
-use Rattle.warg_tool.specs.Resumption.{IsResumed}
+use Rattle.warg_answers.specs.Questions.{IsStateText, IsPermissionsText, IsChainText, IsCompared}
+use Rattle.warg_tool.specs.Latest.{IsLatestOf}
+use Rattle.warg_answers.specs.RecordLines.{texts}
+use Rattle.warg_answers.specs.Resumption.{IsResumed}
 use Rattle.warg_tool.specs.Tasks.{DoneLeaves, IsDoneAnswer}
-use Rattle.warg_tool.specs.Unusable.{IfUsable, IsUnusable, IsOfFile, IsOfLines, IsOfWord}
-use Rattle.warg_tool.specs.Verdicts.{HasAuditStatus, IsAuditOf, IsPrintedOf}
-use Rattle.warg_tool.specs.declared.request.Invocation.{Invocation}
-use Rattle.warg_tool.specs.declared.request.Question.{Question}
-use Rattle.warg_tool.specs.declared.request.Question.TheVariants as question
-use Rattle.warg_tool.specs.declared.request.Request.{Request}
-use Rattle.warg_tool.specs.declared.request.Request.TheVariants as request
+use Rattle.warg_tool.specs.Unusable.{IfUsable, IsOfFile, IsOfLines, IsOfWord}
+use Rattle.warg_answers.specs.Answers.{IsUnusable}
+use Rattle.warg_answers.specs.Verdicts.{HasAuditStatus, IsPrintedOf}
+use Rattle.warg_tool.specs.Audits.{IsAuditOf}
+use Rattle.warg_words.specs.declared.request.Invocation.{Invocation}
+use Rattle.warg_words.specs.declared.request.Question.{Question}
+use Rattle.warg_words.specs.declared.request.Question.TheVariants as question
+use Rattle.warg_words.specs.declared.request.Request.{Request}
+use Rattle.warg_words.specs.declared.request.Request.TheVariants as request
 
 -- a kind of log that questions are asked of: how it is shown, and what is said of its states and its keys
 pub record Askable (Meaning Fault View Offence S P : Type 0) : Type 0 where
-  pub shown : Shown Meaning Fault View Offence
+  pub shown : LogDisplay Meaning Fault View Offence
   pub view : S → View
   pub json : S → Result (List ℕ) JsonError
   pub reads : List ℕ → Result S JsonTextError
@@ -50,7 +53,7 @@ pub record Askable (Meaning Fault View Offence S P : Type 0) : Type 0 where
 
 module _ {Meaning Fault View Offence S P : Type 0} (kind : Askable Meaning Fault View Offence S P) (belongs : SignatureRelation) (files : Option Files) where
   -- what is answered to a question, by what files hold; of a log in words the status alone is said
-  abbrev pub IsQuestionAnswer : Question → Printed → Type 0
+  abbrev pub IsQuestionAnswer : Question → Printout → Type 0
   IsQuestionAnswer (question.Show log) printed = IsOfLines files log.now (HasAuditStatus kind.shown belongs) printed
   IsQuestionAnswer (question.State log) printed =
       IsOfLines files log.now (IsPrintedOf kind.shown belongs (IsStateText kind.shown kind.view kind.json)) printed
@@ -66,7 +69,7 @@ module _ {Meaning Fault View Offence S P : Type 0} (kind : Askable Meaning Fault
       IsOfLines files left.now (λ here. IsOfLines files right.now (IsCompared kind.shown belongs here)) printed
 
 -- what is answered to a question on logs of a kind
-abbrev pub IsAskedAnswer : LogType → SignatureRelation → Option Files → Question → Printed → Type 0
+abbrev pub IsAskedAnswer : LogType → SignatureRelation → Option Files → Question → Printout → Type 0
 IsAskedAnswer log_type.Package belongs files question printed =
     IsQuestionAnswer (record {
       shown = package_log;
@@ -93,13 +96,13 @@ IsAskedAnswer log_type.Operator belongs files question printed =
     }) belongs files question printed
 
 -- the greatest release of the log in a file that meets the requirement that a word says
-abbrev pub IsLatestAnswer : SignatureRelation → Option Files → List ℕ → List ℕ → Printed → Type 0
+abbrev pub IsLatestAnswer : SignatureRelation → Option Files → List ℕ → List ℕ → Printout → Type 0
 IsLatestAnswer belongs files requirement path printed =
     IsOfWord (λ (wanted : List Comparator). req_of requirement ≡ Ok (map comparator_view wanted))
     (λ wanted. IsOfLines files path (IsPrintedOf package_log belongs (IsLatestOf wanted))) printed
 
 -- what is answered to a request, by what files hold before and after; verdicts on many logs may be in JSON
-abbrev pub IsRequestAnswer : Bool → SignatureRelation → Option Files → Option Files → Request → Printed → Type 0
+abbrev pub IsRequestAnswer : Bool → SignatureRelation → Option Files → Option Files → Request → Printout → Type 0
 IsRequestAnswer json belongs old new (request.Id kind path) printed = IsOfLines old path.now (IsIdAnswer kind) printed
 IsRequestAnswer json belongs old new (request.Audit kind path) printed = IsOfLines old path.now (IsAuditOf kind belongs) printed
 IsRequestAnswer json belongs old new (request.Audits kind paths) printed = IsManyAnswer json kind belongs old (texts paths.items) printed
@@ -132,21 +135,21 @@ is_many (request.Ask kind question) = false
 is_many (request.Do kind task) = false
 
 -- what is printed of an answer: itself, or its JSON
-abbrev pub IsGiven : Bool → List ℕ → Printed → Printed → Type 0
+abbrev pub IsGiven : Bool → List ℕ → Printout → Printout → Type 0
 IsGiven false command plain printed = printed ≡ plain
 IsGiven true command plain printed = IsInJson command plain printed
 
 -- the same of an answer of which P holds
-abbrev pub IsGivenAs : Bool → List ℕ → (Printed → Type 0) → Printed → Type 0
-IsGivenAs json command P printed = (plain : Printed) × P plain × IsGiven json command plain printed
+abbrev pub IsGivenAs : Bool → List ℕ → (Printout → Type 0) → Printout → Type 0
+IsGivenAs json command P printed = (plain : Printout) × P plain × IsGiven json command plain printed
 
 -- what is printed to a request of which P holds; verdicts on many logs have an object for each log already
-abbrev pub IsGivenTo : Bool → Bool → List ℕ → (Printed → Type 0) → Printed → Type 0
+abbrev pub IsGivenTo : Bool → Bool → List ℕ → (Printout → Type 0) → Printout → Type 0
 IsGivenTo false json command P printed = IsGivenAs json command P printed
 IsGivenTo true json command P printed = P printed
 
 -- what is printed to a request
-abbrev pub IsResponse : Bool → List ℕ → SignatureRelation → Option Files → Option Files → Request → Printed → Type 0
+abbrev pub IsResponse : Bool → List ℕ → SignatureRelation → Option Files → Option Files → Request → Printout → Type 0
 IsResponse json command belongs old new it printed = IsGivenTo (is_many it) json command (IsRequestAnswer json belongs old new it) printed
 
 -- the claims that the file of a path lists
@@ -161,7 +164,7 @@ IsUnder files None Unread P = P toy_belongs
 IsUnder files (Some path) Unread P = Unread ⊎ ((claims : List ClaimData) × AreClaimsIn files path.now claims × P (is_claimed claims))
 
 -- what is answered to an invocation, by what files hold before and after
-abbrev pub IsInvocationAnswer : Option Files → Option Files → Invocation → Printed → Type 0
+abbrev pub IsInvocationAnswer : Option Files → Option Files → Invocation → Printout → Type 0
 IsInvocationAnswer old new it printed =
     IsUnder old it.verified (IsGivenAs it.json it.command.now IsUnusable printed)
     (λ belongs. IsResponse it.json it.command.now belongs old new it.request printed)

@@ -2,18 +2,19 @@
 
 ghost use Rattle.std.specs.Prelude.{◌≡◌};
 ghost use Rattle.warg_audit.specs.Answers.{IsIdAnswer};
-ghost use Rattle.warg_audit.specs.LogAnswers.{IsAuditAnswer, accepted};
-ghost use Rattle.warg_tool.specs.Answers.{Answers};
-ghost use Rattle.warg_tool.specs.RecordLines.{record_lines};
-ghost use Rattle.warg_tool.specs.Verdicts.{ForShown, IsAuditOf};
+ghost use Rattle.warg_audit.specs.LogAnswers.{IsAuditAnswer, accepted_line};
+ghost use Rattle.warg_answers.specs.Answers.{Answers};
+ghost use Rattle.warg_answers.specs.RecordLines.{record_lines};
+ghost use Rattle.warg_answers.specs.Verdicts.{ForDisplay};
+ghost use Rattle.warg_tool.specs.Audits.{IsAuditOf};
 
-use crate::answer::Answer;
-use crate::input::Input;
-use crate::judged::judged;
-use crate::kind::ToolLog;
-use crate::lines::record_text;
-use crate::stop::Stop;
 use std::alloc::Global;
+use warg_answers::answer::Answer;
+use warg_answers::input::Input;
+use warg_answers::judged::judged;
+use warg_answers::kind::ToolLog;
+use warg_answers::lines::record_text;
+use warg_answers::stop::Stop;
 use warg_audit::{LogType, accepted_reply, id_reply};
 use warg_protocol::signing::Verifier;
 use warg_protocol::{operator, package};
@@ -29,7 +30,7 @@ pub(crate) fn id_answer(alloc: Global, kind: LogType, input: Input<'_>) -> Resul
 
 // The verdict on a lawful log.
 pub(crate) fn accepted<L: ToolLog>(alloc: Global, state: &L, count: usize) -> Result<Answer, Stop>
-    ensures { Answers (λ printed. printed ≡ accepted count (L.kind.head (L.view state.now))
+    ensures { Answers (λ printed. printed ≡ accepted_line count (L.kind.head (L.view state.now))
         (L.lines_of state.now)) result }
 {
     let reply = accepted_reply(alloc, state, count)?;
@@ -41,7 +42,7 @@ fn verdict<L: ToolLog, V: Verifier>(
     verifier: &V,
     input: Input<'_>,
 ) -> Result<Answer, Stop>
-    ensures { ForShown L.view L.kind L.Record.read L.Record.fault_of L.offence_of
+    ensures { ForDisplay L.view L.kind L.Record.read L.Record.fault_of L.offence_of
         L.name_of L.lines_of (λ log.
         Answers (IsAuditAnswer log (V.belongs verifier.now) (record_lines input.entry.bytes.items))
         result) }

@@ -3,29 +3,30 @@
 ghost use Rattle.std.specs.Prelude.{◌≡◌, IfOk};
 ghost use Rattle.warg_audit.specs.Answers.{IsIdAnswer};
 ghost use Rattle.warg_audit.specs.LogTypes.{package_log};
-ghost use Rattle.warg_tool.specs.Answers.{answer_view, Answers};
-ghost use Rattle.warg_tool.specs.Questions.{IsLatestOf};
+ghost use Rattle.warg_answers.specs.Answers.{answer_view, Answers};
+ghost use Rattle.warg_tool.specs.Latest.{IsLatestOf};
 ghost use Rattle.warg_tool.specs.Requests.{is_many, IsAskedAnswer, IsGiven, IsLatestAnswer, IsRequestAnswer, IsResponse, RequestLeaves};
 ghost use Rattle.warg_tool.specs.Tasks.{DoneLeaves, IsDoneAnswer};
 ghost use Rattle.warg_tool.specs.Unusable.{IsOfLines};
-ghost use Rattle.warg_tool.specs.Verdicts.{IsAuditOf, IsPrintedOf};
+ghost use Rattle.warg_tool.specs.Audits.{IsAuditOf};
+ghost use Rattle.warg_answers.specs.Verdicts.{IsPrintedOf};
 
-use crate::answer::Answer;
 use crate::audit::{audit_answer, id_answer};
-use crate::input::{Store, read_input};
 use crate::json::json_answer;
 use crate::latest::{latest_answer, requirement_of};
 use crate::many_audits::audits_answer;
 use crate::prove::prove_answer;
 use crate::questions::question_answer;
-use crate::request::{Invocation, Question, Request};
-use crate::stop::{Stop, settled};
-use crate::task::{Task, task_answer};
+use crate::task::task_answer;
 use crate::verify::verify_answer;
 use std::alloc::{AllocError, Global};
+use warg_answers::answer::Answer;
+use warg_answers::input::{Store, read_input};
+use warg_answers::stop::{Stop, settled};
 use warg_audit::LogType;
 use warg_protocol::signing::Verifier;
 use warg_protocol::{VersionReq, operator, package};
+use warg_words::{Invocation, Question, Request, Task};
 
 // The answer to what is asked of logs of a kind.
 fn asked_answer<V: Verifier, S: Store>(

@@ -2,20 +2,21 @@
 
 ghost use Rattle.hex.specs.Hex.{encode_lower};
 ghost use Rattle.std.specs.Prelude.{◌≡◌, IfOk};
-ghost use Rattle.warg_tool.specs.Answers.{answer_view, Answers};
+ghost use Rattle.warg_answers.specs.Answers.{answer_view, Answers};
 ghost use Rattle.warg_tool.specs.Tasks.{IsMadeLine, IsMadeOf};
-ghost use Rattle.warg_tool.specs.Texts.{line, yes};
-ghost use Rattle.warg_tool.specs.Verdicts.{ForShown};
+ghost use Rattle.warg_answers.specs.Texts.{line, yes};
+ghost use Rattle.warg_answers.specs.Verdicts.{ForDisplay};
 
-use crate::answer::Answer;
-use crate::input::Input;
-use crate::judged::judged;
-use crate::kind::ToolLog;
 use crate::read_words::unusable;
-use crate::stop::Stop;
 use std::alloc::{AllocError, Global};
+use warg_answers::answer::Answer;
+use warg_answers::input::Input;
+use warg_answers::judged::judged;
+use warg_answers::kind::ToolLog;
+use warg_answers::stop::Stop;
 use warg_make::{MakeError, Worded, make};
 use warg_protocol::signing::Verifier;
+use warg_words::Draft;
 
 // The line of an envelope.
 fn made_line(alloc: Global, envelope: &[u8]) -> Result<Answer, AllocError>
@@ -27,16 +28,11 @@ fn made_line(alloc: Global, envelope: &[u8]) -> Result<Answer, AllocError>
 }
 
 // The line of the record that comes next after the state.
-fn made<L: ToolLog + Worded>(
-    alloc: Global,
-    state: &L,
-    name: &str,
-    time: &str,
-    entries: &[&str],
-) -> Result<Answer, Stop>
+fn made<L: ToolLog + Worded>(alloc: Global, state: &L, draft: &Draft<'_>) -> Result<Answer, Stop>
     ensures { Answers IsMadeLine result }
 {
-    match make::<L>(alloc, state, name, time, entries) {
+    let entries = draft.entries.as_slice();
+    match make::<L>(alloc, state, draft.name, draft.time, entries) {
         Ok(envelope) => Ok(made_line(alloc, envelope.as_slice())?),
         Err(MakeError::OutOfMemory) => Err(Stop::OutOfMemory),
         Err(error) => Err(unusable(alloc, format!(in alloc; "warg: {error}\n"))),
@@ -48,17 +44,15 @@ pub(crate) fn make_answer<L: ToolLog + Worded, V: Verifier>(
     alloc: Global,
     verifier: &V,
     input: Input<'_>,
-    name: &str,
-    time: &str,
-    entries: &[&str],
+    draft: &Draft<'_>,
 ) -> Result<Answer, Stop>
     // Where the log is not lawful, the audit's line is the answer, and no record is made.
-    ensures { ForShown L.view L.kind L.Record.read L.Record.fault_of L.offence_of
+    ensures { ForDisplay L.view L.kind L.Record.read L.Record.fault_of L.offence_of
         L.name_of L.lines_of (λ log.
         Answers (IsMadeOf log (V.belongs verifier.now) input.entry.bytes.items) result) }
 {
     match judged::<L, V>(alloc, verifier, input) {
-        Ok((state, _)) => made(alloc, &state, name, time, entries),
+        Ok((state, _)) => made(alloc, &state, draft),
         Err(stop) => Err(stop),
     }
 }

@@ -2,19 +2,18 @@
 
 ghost use Rattle.std.specs.Prelude.{◌≡◌, [], ◌∷◌, filter, IfOk, IfErr, OnOk, string_bytes};
 ghost use Rattle.std.specs.Str.Lines.{lines};
-ghost use Rattle.warg_tool.specs.Answers.{answer_view, Answers, IfStopped};
+ghost use Rattle.warg_answers.specs.Answers.{answer_view, Answers, IfStopped, IsUnusable};
 ghost use Rattle.warg_tool.specs.ManyAudits.{audit_line, first_of, is_path, IsManyAnswer, IsVerdictOn, IsWith, IsWithAll, IsWithListed, IsWithNamed};
-ghost use Rattle.warg_tool.specs.RecordLines.{texts};
-ghost use Rattle.warg_tool.specs.Unusable.{IsUnusable};
+ghost use Rattle.warg_answers.specs.RecordLines.{texts};
 
-use crate::answer::Answer;
 use crate::audit::audit_answer;
-use crate::input::{Input, ReadFault, Store, read_input};
 use crate::json::path_object;
 use crate::read_words::file_stop;
-use crate::stop::{Stop, settled};
 use std::alloc::{AllocError, Global};
 use std::str;
+use warg_answers::answer::Answer;
+use warg_answers::input::{Input, ReadFault, Store, read_input};
+use warg_answers::stop::{Stop, settled};
 use warg_audit::LogType;
 use warg_protocol::signing::Verifier;
 

@@ -2,20 +2,20 @@
 
 ghost use Rattle.std.specs.Prelude.{◌≡◌, IfOk, IfSome};
 ghost use Rattle.warg_protocol.specs.Transparency.{log_proof_text, map_proof_text};
-ghost use Rattle.warg_tool.specs.Answers.{answer_view};
+ghost use Rattle.warg_answers.specs.Answers.{answer_view};
 ghost use Rattle.warg_tool.specs.Proofs.{log_proof_line, map_proof_line};
 
-use crate::answer::{Answer, UNUSABLE};
-use crate::input::{Input, Store, line_sentence, read_input};
-use crate::lines::record_text;
 use crate::read_words::value_of;
-use crate::statement::Wanted;
-use crate::stop::Stop;
 use std::alloc::{AllocError, Global};
+use warg_answers::answer::{Answer, UNUSABLE};
+use warg_answers::input::{Input, Store, line_sentence, read_input};
+use warg_answers::lines::record_text;
+use warg_answers::stop::Stop;
 use warg_audit::{cut_line, without_return};
 use warg_protocol::registry::{Checkpoint, LogId, LogLeaf, MapLeaf, RecordId};
 use warg_protocol::transparency::{LogProof, LogTree, MapProof, MapTree, OfTrees};
 use warg_protocol::{JsonError, JsonValue};
+use warg_words::Wanted;
 
 // A registry's log and map.
 #[derive(Drop)]

@@ -1,27 +1,27 @@
 //! What is asked of logs of one kind, from the files that are named.
 
-ghost use Rattle.warg_tool.specs.Answers.{Answers};
-ghost use Rattle.warg_tool.specs.Questions.{IsChainText, IsCompared, IsPermissionsText, IsStateText};
-ghost use Rattle.warg_tool.specs.RecordLines.{record_lines};
+ghost use Rattle.warg_answers.specs.Answers.{Answers};
+ghost use Rattle.warg_answers.specs.Questions.{IsChainText, IsCompared, IsPermissionsText, IsStateText};
+ghost use Rattle.warg_answers.specs.RecordLines.{record_lines};
 ghost use Rattle.warg_tool.specs.Requests.{IsQuestionAnswer};
 ghost use Rattle.warg_tool.specs.Unusable.{IsOfFile, IsOfLines, IsOfWord};
-ghost use Rattle.warg_tool.specs.Resumption.{IsResumed};
-ghost use Rattle.warg_tool.specs.Verdicts.{ForShown, HasAuditStatus, IsPrintedOf};
+ghost use Rattle.warg_answers.specs.Resumption.{IsResumed};
+ghost use Rattle.warg_answers.specs.Verdicts.{ForDisplay, HasAuditStatus, IsPrintedOf};
 ghost use Rattle.std.specs.Prelude.{◌≡◌};
 
-use crate::answer::Answer;
-use crate::chain::{chain_answer, wanted_permission};
-use crate::compare::compare_answer;
-use crate::input::{Input, Store, read_input};
-use crate::kind::ToolLog;
-use crate::permissions::permissions_answer;
-use crate::request::Question;
-use crate::resume::resume_answer;
-use crate::show::show_answer;
-use crate::state::state_answer;
-use crate::stop::Stop;
 use std::alloc::Global;
+use warg_answers::answer::Answer;
+use warg_answers::chain::{chain_answer, wanted_permission};
+use warg_answers::compare::compare_answer;
+use warg_answers::input::{Input, Store, read_input};
+use warg_answers::kind::ToolLog;
+use warg_answers::permissions::permissions_answer;
+use warg_answers::resume::resume_answer;
+use warg_answers::show::show_answer;
+use warg_answers::state::state_answer;
+use warg_answers::stop::Stop;
 use warg_protocol::signing::Verifier;
+use warg_words::Question;
 
 fn show_of_file<L: ToolLog, V: Verifier, S: Store>(
     alloc: Global,
@@ -29,7 +29,7 @@ fn show_of_file<L: ToolLog, V: Verifier, S: Store>(
     path: &str,
     store: &mut S,
 ) -> Result<Answer, Stop>
-    ensures answered { ForShown L.view L.kind L.Record.read L.Record.fault_of L.offence_of
+    ensures answered { ForDisplay L.view L.kind L.Record.read L.Record.fault_of L.offence_of
         L.name_of L.lines_of (λ log.
         Answers (IsOfLines (S.files store.old) path.now
         (HasAuditStatus log (V.belongs verifier.now))) result) }
@@ -47,7 +47,7 @@ fn state_of_file<L: ToolLog, V: Verifier, S: Store>(
     path: &str,
     store: &mut S,
 ) -> Result<Answer, Stop>
-    ensures answered { ForShown L.view L.kind L.Record.read L.Record.fault_of L.offence_of
+    ensures answered { ForDisplay L.view L.kind L.Record.read L.Record.fault_of L.offence_of
         L.name_of L.lines_of (λ log.
         Answers (IsOfLines (S.files store.old) path.now
         (IsPrintedOf log (V.belongs verifier.now) (IsStateText log L.view L.json_of))) result) }
@@ -66,10 +66,10 @@ fn permissions_of_file<L: ToolLog, V: Verifier, S: Store>(
     path: &str,
     store: &mut S,
 ) -> Result<Answer, Stop>
-    ensures answered { ForShown L.view L.kind L.Record.read L.Record.fault_of L.offence_of
+    ensures answered { ForDisplay L.view L.kind L.Record.read L.Record.fault_of L.offence_of
         L.name_of L.lines_of (λ log.
         Answers (IsOfLines (S.files store.old) path.now (IsPrintedOf log (V.belongs verifier.now)
-        (IsPermissionsText log L.view L.knows L.held L.order L.text_of key_id.now))) result) }
+        (IsPermissionsText log L.view L.knows L.holds L.order L.text_of key_id.now))) result) }
     ensures kept { S.files store.new ≡ S.files store.old }
 {
     match read_input(alloc, store, path) {
@@ -86,7 +86,7 @@ fn chain_of_file<L: ToolLog, V: Verifier, S: Store>(
     path: &str,
     store: &mut S,
 ) -> Result<Answer, Stop>
-    ensures answered { ForShown L.view L.kind L.Record.read L.Record.fault_of L.offence_of
+    ensures answered { ForDisplay L.view L.kind L.Record.read L.Record.fault_of L.offence_of
         L.name_of L.lines_of (λ log.
         Answers (IsOfLines (S.files store.old) path.now
         (IsPrintedOf log (V.belongs verifier.now)
@@ -109,7 +109,7 @@ fn chain_of_word<L: ToolLog, V: Verifier, S: Store>(
     path: &str,
     store: &mut S,
 ) -> Result<Answer, Stop>
-    ensures answered { ForShown L.view L.kind L.Record.read L.Record.fault_of L.offence_of
+    ensures answered { ForDisplay L.view L.kind L.Record.read L.Record.fault_of L.offence_of
         L.name_of L.lines_of (λ log.
         Answers (IsOfWord (λ permission. L.text_of permission ≡ word.now) (λ permission.
         IsOfLines (S.files store.old) path.now
@@ -132,7 +132,7 @@ fn resumed_from_file<L: ToolLog, V: Verifier, S: Store>(
     path: &str,
     store: &mut S,
 ) -> Result<Answer, Stop>
-    ensures answered { ForShown L.view L.kind L.Record.read L.Record.fault_of L.offence_of
+    ensures answered { ForDisplay L.view L.kind L.Record.read L.Record.fault_of L.offence_of
         L.name_of L.lines_of (λ log.
         Answers (IsOfLines (S.files store.old) path.now
         (IsResumed log (V.belongs verifier.now) L.view L.json_of L.state_of
@@ -153,7 +153,7 @@ fn resumed_from_files<L: ToolLog, V: Verifier, S: Store>(
     path: &str,
     store: &mut S,
 ) -> Result<Answer, Stop>
-    ensures answered { ForShown L.view L.kind L.Record.read L.Record.fault_of L.offence_of
+    ensures answered { ForDisplay L.view L.kind L.Record.read L.Record.fault_of L.offence_of
         L.name_of L.lines_of (λ log.
         Answers (IsOfFile (S.files store.old) state.now (λ saved.
         IsOfLines (S.files store.old) path.now
@@ -173,7 +173,7 @@ fn compared_with_file<L: ToolLog, V: Verifier, S: Store>(
     path: &str,
     store: &mut S,
 ) -> Result<Answer, Stop>
-    ensures answered { ForShown L.view L.kind L.Record.read L.Record.fault_of L.offence_of
+    ensures answered { ForDisplay L.view L.kind L.Record.read L.Record.fault_of L.offence_of
         L.name_of L.lines_of (λ log.
         Answers (IsOfLines (S.files store.old) path.now
         (IsCompared log (V.belongs verifier.now) (record_lines left.entry.bytes.items)))
@@ -193,7 +193,7 @@ fn compared_files<L: ToolLog, V: Verifier, S: Store>(
     right: &str,
     store: &mut S,
 ) -> Result<Answer, Stop>
-    ensures answered { ForShown L.view L.kind L.Record.read L.Record.fault_of L.offence_of
+    ensures answered { ForDisplay L.view L.kind L.Record.read L.Record.fault_of L.offence_of
         L.name_of L.lines_of (λ log.
         Answers (IsOfLines (S.files store.old) left.now
         (λ here. IsOfLines (S.files store.old) right.now
@@ -213,7 +213,8 @@ pub(crate) fn question_answer<L: ToolLog, V: Verifier, S: Store>(
     question: &Question<'_>,
     store: &mut S,
 ) -> Result<Answer, Stop>
-    ensures answered { ForShown L.view L.kind L.Record.read L.Record.fault_of L.offence_of L.name_of
+    ensures answered { ForDisplay L.view L.kind L.Record.read L.Record.fault_of L.offence_of
+        L.name_of
         L.lines_of (λ log. Answers
         (IsQuestionAnswer (record {
           shown = log;
@@ -222,7 +223,7 @@ pub(crate) fn question_answer<L: ToolLog, V: Verifier, S: Store>(
           reads =
               L.state_of;
           knows = L.knows;
-          held = L.held;
+          held = L.holds;
           order = L.order;
           text_of = L.text_of;
           effects =

@@ -3,20 +3,19 @@
 ghost use Rattle.std.specs.Prelude.{◌≡◌, Ok, Some, IfOk, IfErr};
 ghost use Rattle.std.specs.Str.{trim_end};
 ghost use Rattle.warg_protocol.specs.Transparency.{log_proof_of, map_proof_of};
-ghost use Rattle.warg_tool.specs.Answers.{IfStopped};
+ghost use Rattle.warg_answers.specs.Answers.{IfStopped, IsUnusable};
 ghost use Rattle.serde_json.specs.Data.{Data};
 ghost use Rattle.serde_json.specs.Read.{read};
 ghost use Rattle.serde_json.specs.View.{view};
 ghost use Rattle.warg_registry.specs.RegistryJson.{checkpoint_in};
 ghost use Rattle.warg_tool.specs.Proofs.{IsCheckpointIn, IsLogProofIn, IsMapProofIn};
-ghost use Rattle.warg_tool.specs.Unusable.{IsUnusable};
 
-use crate::answer::{Answer, UNUSABLE};
-use crate::input::{Input, Store, read_input, sentence};
-use crate::stop::Stop;
 use serde_json::{Category, Value};
 use std::alloc::{AllocError, Global};
 use std::str::FromStr;
+use warg_answers::answer::{Answer, UNUSABLE};
+use warg_answers::input::{Input, Store, read_input, sentence};
+use warg_answers::stop::Stop;
 use warg_protocol::registry::Checkpoint;
 use warg_protocol::transparency::{LogProof, MapProof, ProofTextError};
 use warg_protocol::{JsonError, JsonValue};

@@ -2,79 +2,24 @@
 
 ghost use Rattle.std.specs.Prelude.{◌≡◌, OnErr};
 ghost use Rattle.warg_protocol.specs.Logs.{envelope_of};
-ghost use Rattle.warg_tool.specs.Answers.{Answers};
-ghost use Rattle.warg_tool.specs.ClaimTexts.{IsClaimsAnswer};
+ghost use Rattle.warg_answers.specs.Answers.{Answers};
+ghost use Rattle.warg_answers.specs.ClaimTexts.{IsClaimsAnswer};
 ghost use Rattle.warg_tool.specs.Tasks.{IsAddedTo, IsAppended, IsMade, IsTaskAnswer, Leaves};
 ghost use Rattle.warg_tool.specs.Unusable.{IsOfLines};
-ghost use Rattle.warg_tool.specs.Verdicts.{ForShown};
+ghost use Rattle.warg_answers.specs.Verdicts.{ForDisplay};
 
-use crate::answer::Answer;
 use crate::append::append_answer;
-use crate::claim_lines::claims_answer;
-use crate::input::{Input, Store, read_input, read_log};
-use crate::kind::ToolLog;
 use crate::making::make_answer;
-use crate::stop::Stop;
-use crate::words::value;
-use clap::ArgMatches;
-use std::alloc::{AllocError, Global};
+use std::alloc::Global;
+use warg_answers::answer::Answer;
+use warg_answers::claim_lines::claims_answer;
+use warg_answers::input::{Input, Store, read_input, read_log};
+use warg_answers::kind::ToolLog;
+use warg_answers::stop::Stop;
 use warg_host::Hosted;
 use warg_make::Worded;
 use warg_protocol::signing::Verifier;
-
-/// What is done with a log, with the paths of the files. `-` is standard input.
-#[derive(Debug, Drop)]
-pub enum Task<'a> {
-    /// What a host has to verify is listed.
-    Claims {
-        /// The log.
-        log: &'a str,
-    },
-    /// The next record is made, and signed by the toy scheme.
-    Make {
-        /// The log. Where there is no such file, it has no records yet.
-        log: &'a str,
-        /// Whose toy key signs.
-        name: &'a str,
-        /// The record's time.
-        time: &'a str,
-        /// The record's entries, in words.
-        entries: Vec<&'a str>,
-    },
-    /// Records are added to the log.
-    Append {
-        /// The log. Where there is no such file, it has no records yet.
-        log: &'a str,
-        /// The file with the records' lines.
-        lines: &'a str,
-    },
-}
-
-/// The task of a command, if the command is one.
-pub(crate) fn parse_task<'a>(
-    alloc: Global,
-    command: &str,
-    matches: &ArgMatches<'a>,
-) -> Result<Option<Task<'a>>, AllocError> {
-    let log = value(matches, "LOG");
-    match command {
-        "claims" => Ok(Some(Task::Claims { log })),
-        "make" => Ok(Some(Task::Make {
-            log,
-            name: value(matches, "NAME"),
-            time: value(matches, "TIME"),
-            entries: match matches.get_strs("ENTRY") {
-                Some(entries) => entries.to_vec(alloc)?,
-                None => Vec::new(alloc),
-            },
-        })),
-        "append" => Ok(Some(Task::Append {
-            log,
-            lines: value(matches, "LINES"),
-        })),
-        _ => Ok(None),
-    }
-}
+use warg_words::{Draft, Task};
 
 // The claims of the log in a file.
 fn claims_of_file<L: ToolLog + Hosted, S: Store>(
@@ -97,18 +42,16 @@ fn made_for_file<L: ToolLog + Worded, V: Verifier, S: Store>(
     alloc: Global,
     verifier: &V,
     log: &str,
-    name: &str,
-    time: &str,
-    entries: &[&str],
+    draft: &Draft<'_>,
     store: &mut S,
 ) -> Result<Answer, Stop>
-    ensures answered { ForShown L.view L.kind L.Record.read L.Record.fault_of L.offence_of
+    ensures answered { ForDisplay L.view L.kind L.Record.read L.Record.fault_of L.offence_of
         L.name_of L.lines_of (λ shown. Answers
         (IsMade shown (V.belongs verifier.now) (S.files store.old) log.now) result) }
     ensures kept { S.files store.new ≡ S.files store.old }
 {
     match read_log(alloc, store, log) {
-        Ok(input) => make_answer::<L, V>(alloc, verifier, input, name, time, entries),
+        Ok(input) => make_answer::<L, V>(alloc, verifier, input, draft),
         Err(stop) => Err(stop),
     }
 }
@@ -121,7 +64,7 @@ fn added_to_log<L: ToolLog, V: Verifier, S: Store>(
     lines: &str,
     store: &mut S,
 ) -> Result<Answer, Stop>
-    ensures answered { ForShown L.view L.kind L.Record.read L.Record.fault_of L.offence_of
+    ensures answered { ForDisplay L.view L.kind L.Record.read L.Record.fault_of L.offence_of
         L.name_of L.lines_of (λ shown. Answers
         (IsAddedTo shown (V.belongs verifier.now) (S.files store.old) (S.files store.new)
         log.entry.path.now log.entry.bytes.items lines.now) result) }
@@ -141,7 +84,7 @@ fn added_to_file<L: ToolLog, V: Verifier, S: Store>(
     lines: &str,
     store: &mut S,
 ) -> Result<Answer, Stop>
-    ensures answered { ForShown L.view L.kind L.Record.read L.Record.fault_of L.offence_of
+    ensures answered { ForDisplay L.view L.kind L.Record.read L.Record.fault_of L.offence_of
         L.name_of L.lines_of (λ shown. Answers
         (IsAppended shown (V.belongs verifier.now) (S.files store.old) (S.files store.new)
         log.now lines.now) result) }
@@ -160,24 +103,18 @@ pub(crate) fn task_answer<L: ToolLog + Hosted + Worded, V: Verifier, S: Store>(
     task: &Task<'_>,
     store: &mut S,
 ) -> Result<Answer, Stop>
-    ensures answered { ForShown L.view L.kind L.Record.read L.Record.fault_of L.offence_of
+    ensures answered { ForDisplay L.view L.kind L.Record.read L.Record.fault_of L.offence_of
         L.name_of L.lines_of (λ shown. Answers
         (IsTaskAnswer shown (V.belongs verifier.now) (S.files store.old) (S.files store.new)
         task.now) result) }
-    ensures files { ForShown L.view L.kind L.Record.read L.Record.fault_of L.offence_of
+    ensures files { ForDisplay L.view L.kind L.Record.read L.Record.fault_of L.offence_of
         L.name_of L.lines_of (λ shown. Leaves shown (V.belongs verifier.now)
         (S.files store.old) (S.files store.new) task.now) }
 {
     match task {
         Task::Claims { log } => claims_of_file::<L, S>(alloc, log, store),
-        Task::Make {
-            log,
-            name,
-            time,
-            entries,
-        } => {
-            let entries = entries.as_slice();
-            made_for_file::<L, V, S>(alloc, verifier, log, name, time, entries, store)
+        Task::Make { log, draft } => {
+            made_for_file::<L, V, S>(alloc, verifier, log, draft, store)
         }
         Task::Append { log, lines } => {
             added_to_file::<L, V, S>(alloc, verifier, log, lines, store)

@@ -3,20 +3,19 @@
 ghost use Rattle.std.specs.Prelude.{◌≡◌, IfOk, IfErr};
 ghost use Rattle.std.specs.Str.Lines.{lines};
 ghost use Rattle.warg_verified.specs.Texts.{IsReadFrom};
-ghost use Rattle.warg_tool.specs.Answers.{answer_view, IfStopped};
+ghost use Rattle.warg_answers.specs.Answers.{answer_view, IfStopped, IsUnusable};
 ghost use Rattle.warg_tool.specs.Requests.{AreClaimsIn, InvocationLeaves, IsGivenAs, IsInvocationAnswer};
-ghost use Rattle.warg_tool.specs.Unusable.{IsUnusable};
 
-use crate::answer::Answer;
 use crate::commands::{given, respond};
-use crate::input::{Input, Store, line_sentence, read_input};
 use crate::read_words::{file_stop, unusable};
-use crate::request::Invocation;
-use crate::stop::Stop;
 use std::alloc::{AllocError, Global};
 use std::str;
+use warg_answers::answer::Answer;
+use warg_answers::input::{Input, Store, line_sentence, read_input};
+use warg_answers::stop::Stop;
 use warg_protocol::toy::ToyVerifier;
 use warg_verified::{ClaimParseError, Verified, VerifiedParseError};
+use warg_words::Invocation;
 
 fn claim_sentence(
     alloc: Global,

@@ -4,20 +4,20 @@ ghost use Rattle.std.specs.Prelude.{◌≡◌, None, IfOk, IfErr};
 ghost use Rattle.sha2.specs.Sha256.{sha256};
 ghost use Rattle.warg_protocol.specs.RegistryMaps.{Leads};
 ghost use Rattle.warg_protocol.specs.Transparency.{GoesOn, Includes, ShowsHead, log_leaf_encoding_of};
-ghost use Rattle.warg_tool.specs.Answers.{answer_view, Answers, IfStopped};
+ghost use Rattle.warg_answers.specs.Answers.{answer_view, Answers, IfStopped, IsUnusable};
 ghost use Rattle.warg_tool.specs.Proofs.{IsAbsenceVerdict, IsConsistencyVerdict, IsHeadVerdict, IsInclusionVerdict, IsLeafOf, IsNumberWord, IsStatementVerdict, IsVerdict, verdict_text};
-ghost use Rattle.warg_tool.specs.Unusable.{IfUsable, IsUnusable};
+ghost use Rattle.warg_tool.specs.Unusable.{IfUsable};
 
-use crate::answer::Answer;
-use crate::input::Store;
 use crate::read_words::{read_checkpoint, read_log_proof, read_map_proof, value_of};
-use crate::statement::Statement;
-use crate::stop::Stop;
 use std::alloc::{AllocError, Global};
+use warg_answers::answer::Answer;
+use warg_answers::input::Store;
+use warg_answers::stop::Stop;
 use warg_protocol::registry::{Checkpoint, LogId, LogLeaf, RecordId};
 use warg_protocol::transparency::{
     LogProof, MapProof, verify_absence, verify_consistency, verify_head, verify_inclusion,
 };
+use warg_words::{LeafIds, Statement};
 
 // What is said of a statement.
 fn verdict(alloc: Global, holds: bool) -> Result<Answer, AllocError>
@@ -116,16 +116,15 @@ fn inclusion_answer<S: Store>(
     alloc: Global,
     checkpoint: &str,
     place: &str,
-    log_id: &str,
-    record_id: &str,
+    leaf: &LeafIds<'_>,
     proof: &str,
     store: &mut S,
 ) -> Result<Answer, Stop>
     ensures answered { Answers (IfUsable (IsInclusionVerdict (S.files store.old)
-        checkpoint.now place.now log_id.now record_id.now proof.now)) result }
+        checkpoint.now place.now leaf.now.log_id.now leaf.now.record_id.now proof.now)) result }
     ensures kept { S.files store.new ≡ S.files store.old }
 {
-    let leaf = leaf_of(alloc, log_id, record_id)?;
+    let leaf = leaf_of(alloc, leaf.log_id, leaf.record_id)?;
     let place = place_of(alloc, place)?;
     let checkpoint = read_checkpoint(alloc, checkpoint, store)?;
     let proof = read_log_proof(alloc, proof, store)?;
@@ -154,16 +153,15 @@ fn consistency_answer<S: Store>(
 fn head_answer<S: Store>(
     alloc: Global,
     checkpoint: &str,
-    log_id: &str,
-    record_id: &str,
+    leaf: &LeafIds<'_>,
     proof: &str,
     store: &mut S,
 ) -> Result<Answer, Stop>
     ensures answered { Answers (IfUsable (IsHeadVerdict (S.files store.old) checkpoint.now
-        log_id.now record_id.now proof.now)) result }
+        leaf.now.log_id.now leaf.now.record_id.now proof.now)) result }
     ensures kept { S.files store.new ≡ S.files store.old }
 {
-    let leaf = leaf_of(alloc, log_id, record_id)?;
+    let leaf = leaf_of(alloc, leaf.log_id, leaf.record_id)?;
     let checkpoint = read_checkpoint(alloc, checkpoint, store)?;
     let proof = read_map_proof(alloc, proof, store)?;
     Ok(head_verdict(alloc, &checkpoint, &leaf, &proof)?)
@@ -201,19 +199,17 @@ pub(crate) fn verify_answer<S: Store>(
         Statement::Inclusion {
             checkpoint,
             place,
-            log_id,
-            record_id,
+            leaf,
             proof,
-        } => inclusion_answer(alloc, checkpoint, place, log_id, record_id, proof, store),
+        } => inclusion_answer(alloc, checkpoint, place, leaf, proof, store),
         Statement::Consistency { old, new, proof } => {
             consistency_answer(alloc, old, new, proof, store)
         }
         Statement::Head {
             checkpoint,
-            log_id,
-            record_id,
+            leaf,
             proof,
-        } => head_answer(alloc, checkpoint, log_id, record_id, proof, store),
+        } => head_answer(alloc, checkpoint, leaf, proof, store),
         Statement::Absence {
             checkpoint,
             log_id,

@@ -8,7 +8,7 @@ use Rattle.warg_registry.specs.PrefixEncodings.{IsHash, map_leaf_encoding_of}
 use Rattle.warg_registry.specs.declared.checkpoint.Checkpoint.{Checkpoint}
 use Rattle.warg_registry.specs.declared.leaf.MapLeaf.{MapLeaf}
 use Rattle.warg_registry.specs.declared.log_id.LogId.{LogId}
-use Rattle.warg_sparse_map.specs.Maps.{Leads, tried}
+use Rattle.warg_sparse_map.specs.Maps.{Leads, path_inputs}
 
 -- the leaf of a log whose last record this is
 abbrev pub head_leaf : RecordId → MapLeaf
@@ -25,5 +25,5 @@ abbrev pub ShowsHead : Checkpoint → LogId → RecordId → List (List ℕ) →
 ShowsHead checkpoint log_id record_id proof = ShowsLeaf checkpoint.map_root log_id (head_leaf record_id) proof
 
 -- what is hashed where the proof of a leaf is tried
-abbrev pub tried_for : LogId → MapLeaf → List (List ℕ) → List (List ℕ)
-tried_for log_id leaf proof = tried sha256 (Some (map_leaf_encoding_of leaf)) log_id.hash.bytes proof
+abbrev pub path_inputs_for : LogId → MapLeaf → List (List ℕ) → List (List ℕ)
+path_inputs_for log_id leaf proof = path_inputs sha256 (Some (map_leaf_encoding_of leaf)) log_id.hash.bytes proof

@@ -17,7 +17,7 @@ ghost use Rattle.warg_audited_log.specs.Log.{contents};
 ghost use Rattle.warg_merkle.specs.Trees.{HaveCollision, Includes, IsOwn, Side, tree_hash};
 ghost use Rattle.warg_merkle.specs.Extensions.{consistency_proof, IsBeginning};
 ghost use Rattle.warg_sparse_map.specs.Maps as maps;
-ghost use Rattle.warg_transparency.specs.Heads.{head_leaf, ShowsHead, ShowsLeaf, tried_for};
+ghost use Rattle.warg_transparency.specs.Heads.{head_leaf, ShowsHead, ShowsLeaf, path_inputs_for};
 ghost use Rattle.warg_transparency.specs.Views.{GoesOn, IsLogOf};
 
 use warg_audited_log::laws::equal_heads;
@@ -53,7 +53,8 @@ pub fn one_leaf()
     ensures { (root : AnyHash) (log_id : LogId) (leaf other : MapLeaf)
         (proof other_proof : List (List ℕ)) →
         ShowsLeaf root log_id leaf proof → ShowsLeaf root log_id other other_proof → (leaf ≡ other)
-        ⊎ HaveCollision sha256 (tried_for log_id leaf proof) (tried_for log_id other other_proof) }
+        ⊎ HaveCollision sha256 (path_inputs_for log_id leaf proof)
+        (path_inputs_for log_id other other_proof) }
 {
     no_encoding_begins_another();
 }
@@ -67,16 +68,16 @@ pub fn heads<L: Validator>()
         L.kind.head (L.kind.view_of es) ≡ Some head → L.kind.head (L.kind.view_of fs) ≡ Some other →
         ShowsHead checkpoint log_id head proof → ShowsHead checkpoint log_id other other_proof →
         (contents es ≡ contents fs) ⊎ records.HaveCollision L.kind.id (contents es) (contents fs)
-        ⊎ HaveCollision sha256 (tried_for log_id (head_leaf head) proof)
-        (tried_for log_id (head_leaf other) other_proof) }
+        ⊎ HaveCollision sha256 (path_inputs_for log_id (head_leaf head) proof)
+        (path_inputs_for log_id (head_leaf other) other_proof) }
 {
     equal_heads::<L>();
     one_leaf();
 }
 
-/// Where no proof shows that the log of a checkpoint begins with that of an older one, no entries with the length and root
-/// of the new one have the older root at the older length: the registry has shown two logs. It is enough that the entries'
-/// own proof is refused.
+/// Where no proof shows that the log of a checkpoint begins with that of an older one, which is not longer, no entries with
+/// the length and root of the new one, of at most 2^63 leaves, have the older root at the older length: the registry has
+/// shown two logs. It is enough that the entries' own proof is refused. Of more leaves it may have too many hashes.
 pub fn split_view()
     ensures own { (old new : Checkpoint) (entries : List (List ℕ)) →
         old.log_length ≤ new.log_length →

@@ -4,7 +4,7 @@ ghost use Rattle.std.specs.Prelude.{◌≡◌, ◌≢◌, ◌<◌, ◌≤◌, �
 ghost use Rattle.std.specs.List.{All, concat};
 ghost use Rattle.base64.specs.Engines.{standard};
 ghost use Rattle.base64.specs.GeneralPurpose.{decode_of};
-ghost use Rattle.warg_crypto.specs.Results.{ReturnsOr};
+ghost use Rattle.warg_crypto.specs.OutcomeResults.{ReturnsOr};
 ghost use Rattle.warg_transparency.specs.Texts.{log_proof_of, log_proof_text};
 ghost use Rattle.warg_transparency.specs.declared.error.ProofTextError.TheVariants as fault;
 

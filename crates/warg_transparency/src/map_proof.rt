@@ -7,7 +7,7 @@ ghost use Rattle.std.specs.Str.{bytes_eq};
 ghost use Rattle.base64.specs.Engines.{standard};
 ghost use Rattle.base64.specs.GeneralPurpose.{decode_of};
 ghost use Rattle.sha2.specs.Sha256.{sha256};
-ghost use Rattle.warg_crypto.specs.Results.{ReturnsOr};
+ghost use Rattle.warg_crypto.specs.OutcomeResults.{ReturnsOr};
 ghost use Rattle.warg_map_proof.specs.ShortForms.{IsShortForm, short_form_len};
 ghost use Rattle.warg_transparency.specs.Texts.{map_proof_of, map_proof_text, text_fault_of};
 ghost use Rattle.warg_transparency.specs.declared.error.ProofTextError.TheVariants as fault;

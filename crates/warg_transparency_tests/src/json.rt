@@ -4,7 +4,7 @@ use crate::known::{CONSISTENCY, PRESENCE};
 use serde_json::Value;
 use std::alloc::{AllocError, Global};
 use std::test::Fail;
-use warg_crypto::{JsonError, JsonValue};
+use warg_json::{JsonError, JsonValue};
 use warg_transparency::{LogProof, MapProof};
 
 // The text as JSON.

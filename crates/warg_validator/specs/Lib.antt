@@ -1,8 +1,8 @@
 pub mod Effects
 pub mod Enclosed
-pub mod Judging
+pub mod OutcomeOffences
 pub mod Kinds
 pub mod Messages
-pub mod Outcomes
+pub mod OutcomeRuns
 pub mod Strings
 pub mod Walks

@@ -1,11 +1,11 @@
 //! Laws over all logs of a kind. They have no effect.
 ghost use Rattle.std.specs.Prelude.{◌≡◌, ◌==◌, ◌&&◌, ◌↔◌, ℕ, ◌+◌, List, [], ◌∷◌, ◌++◌, length, map, take, Option, Some, None, true};
 ghost use Rattle.std.specs.List.{slice_get};
-ghost use Rattle.warg_crypto.specs.Json.{AreReadBack};
+ghost use Rattle.warg_json.specs.Json.{AreReadBack};
 ghost use Rattle.warg_envelope.specs.Envelopes.{EnvelopeFault, envelope_of};
 ghost use Rattle.warg_envelope.specs.EnvelopeData.{EnvelopeData};
-ghost use Rattle.warg_validator.specs.Kinds.{SignatureRelation, either, IsAccepted, StandsFor, last_id};
-ghost use Rattle.warg_validator.specs.Outcomes.{same_cause, HasNoOffence, IsFirstOffence, IsFoundBy, first_offence_from};
+ghost use Rattle.warg_validator.specs.Kinds.{SignatureRelation, accepted_by_either, IsAccepted, StandsFor, last_id};
+ghost use Rattle.warg_validator.specs.OutcomeRuns.{same_cause, HasNoOffence, IsFirstOffence, IsFoundBy, first_offence_from};
 ghost use Rattle.warg_validator.specs.Strings.{Cause, read_all};
 ghost use Rattle.warg_validator.specs.declared.effect.Effect.{Effect};
 ghost use Rattle.warg_validator.specs.declared.replay.RunCause.{RunCause};
@@ -105,7 +105,7 @@ pub fn two_verifiers<L: Validator>()
     ensures { (d b : SignatureRelation) (es : List EnvelopeData) (ss : List (List ℕ)) →
         IsAccepted L.kind d es →
         HasNoOffence L.kind b (envelope_of L.Record.read) (λ fs. L.kind.view_of (es ++ fs)) ss →
-        IsAccepted L.kind (either d b) (es ++ read_all (envelope_of L.Record.read) ss) }
+        IsAccepted L.kind (accepted_by_either d b) (es ++ read_all (envelope_of L.Record.read) ss) }
 {}
 
 /// When `==` is true: of effects exactly where they are identical; of refusals exactly where their places and causes

@@ -6,8 +6,8 @@ use Rattle.hex.specs.Hex.{IsBytes, decode_of, encode_lower, encode_with, hex_dig
 use Rattle.hex.proofs.HexLemmas.{IsDigits-lower_digits, decode_of-encode_lower}
 use Rattle.std.proofs.lemmas.Bool.{eqb-true}
 use Rattle.warg_crypto.specs.Keys.{public_key_of, signature_of}
-use Rattle.warg_crypto.specs.NamedBytes.{IsName, tag_text}
-use Rattle.warg_crypto.specs.Names.{public_key_of-tag_text, signature_of-tag_text}
+use Rattle.warg_crypto.specs.NamedBytes.{IsName, named_bytes_text}
+use Rattle.warg_crypto.specs.NamedBytesLaws.{public_key_of-named_bytes_text, signature_of-named_bytes_text}
 use Rattle.warg_verified.specs.Claims.{ClaimData, claim_text}
 use Rattle.warg_verified.specs.Lines.{claim_of, claim_of_parts, is_space}
 use Rattle.warg_verified.proofs.CutLemmas.{cut-line}
@@ -45,20 +45,20 @@ no_space-encode (b ∷ bytes) h =
     rw (high, low) (no_space-encode bytes (λ k. h (suc k)))
 
 parts-read : (c : ClaimData) → IsName c.key.name → IsName c.signature.name → IsBytes c.key.bytes → IsBytes c.message → IsBytes c.signature.bytes
-    → claim_of_parts (public_key_of (tag_text c.key)) (decode_of (encode_lower c.message)) (signature_of (tag_text c.signature)) ≡ Ok c
+    → claim_of_parts (public_key_of (named_bytes_text c.key)) (decode_of (encode_lower c.message)) (signature_of (named_bytes_text c.signature)) ≡ Ok c
 parts-read c key signature k m s =
-    rw (public_key_of-tag_text c.key key k, decode_of-encode_lower c.message m, signature_of-tag_text c.signature signature s) refl
+    rw (public_key_of-named_bytes_text c.key key k, decode_of-encode_lower c.message m, signature_of-named_bytes_text c.signature signature s) refl
 
 -- the line of a claim whose key's text has no space
-pub claim_of-claim_text : (c : ClaimData) → IsName c.key.name → IsName c.signature.name → list_any is_space (tag_text c.key) ≡ false
+pub claim_of-claim_text : (c : ClaimData) → IsName c.key.name → IsName c.signature.name → list_any is_space (named_bytes_text c.key) ≡ false
     → IsBytes c.key.bytes → IsBytes c.message → IsBytes c.signature.bytes → claim_of (claim_text c) ≡ Ok c
 claim_of-claim_text c key signature none k m s =
-    let behind = encode_lower c.message ++ 32 ∷ tag_text c.signature in
-    let line = tag_text c.key ++ 32 ∷ behind in
+    let behind = encode_lower c.message ++ 32 ∷ named_bytes_text c.signature in
+    let line = named_bytes_text c.key ++ 32 ∷ behind in
     let digits = no_space-encode c.message m in
-    ap claim_of (append_assoc (tag_text c.key) (32 ∷ encode_lower c.message) (32 ∷ tag_text c.signature))
-    ∙ cut-line line (tag_text c.key) behind (encode_lower c.message) (tag_text c.signature)
-    (sym (before-space (tag_text c.key) behind none)) (sym (after-space (tag_text c.key) behind none)) (has-space (tag_text c.key) behind none)
-    (sym (before-space (encode_lower c.message) (tag_text c.signature) digits)) (sym (after-space (encode_lower c.message) (tag_text c.signature) digits))
-    (has-space (encode_lower c.message) (tag_text c.signature) digits)
+    ap claim_of (append_assoc (named_bytes_text c.key) (32 ∷ encode_lower c.message) (32 ∷ named_bytes_text c.signature))
+    ∙ cut-line line (named_bytes_text c.key) behind (encode_lower c.message) (named_bytes_text c.signature)
+    (sym (before-space (named_bytes_text c.key) behind none)) (sym (after-space (named_bytes_text c.key) behind none)) (has-space (named_bytes_text c.key) behind none)
+    (sym (before-space (encode_lower c.message) (named_bytes_text c.signature) digits)) (sym (after-space (encode_lower c.message) (named_bytes_text c.signature) digits))
+    (has-space (encode_lower c.message) (named_bytes_text c.signature) digits)
     ∙ parts-read c key signature k m s

@@ -3,7 +3,7 @@
 ghost use Rattle.std.specs.Prelude.{◌≡◌, ◌↔◌, ℕ, List, Contains, Ok, false, true};
 ghost use Rattle.std.specs.List.{list_any};
 ghost use Rattle.hex.specs.Hex.{IsBytes};
-ghost use Rattle.warg_crypto.specs.NamedBytes.{IsName, NamedBytes, tag_text};
+ghost use Rattle.warg_crypto.specs.NamedBytes.{IsName, NamedBytes, named_bytes_text};
 ghost use Rattle.warg_verified.specs.Claims.{ClaimData, claim_text, is_claimed};
 ghost use Rattle.warg_verified.specs.Lines.{claim_of, is_space};
 
@@ -25,7 +25,7 @@ pub fn more_claims_take_more()
 /// What is written of a claim reads back, where no space stands in its key's text.
 pub fn claim_reads_back()
     ensures { (c : ClaimData) → IsName c.key.name → IsName c.signature.name →
-        list_any is_space (tag_text c.key) ≡ false →
+        list_any is_space (named_bytes_text c.key) ≡ false →
         IsBytes c.key.bytes → IsBytes c.message → IsBytes c.signature.bytes →
         claim_of (claim_text c) ≡ Ok c }
 {}

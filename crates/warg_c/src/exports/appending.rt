@@ -19,17 +19,18 @@ use warg_host::Told;
 
 fn ask_held(
     alloc: Global,
-    held: &Held,
+    held: &mut Held,
     envelope: &[u8],
     bytes: &mut [u8],
     used: &mut usize,
     asked: &mut Asked,
 ) -> Result<(), Failure>
-    ensures asked { OnOk result (ask_tells held.now envelope.now asked.new
+    ensures asked { OnOk result (ask_tells held.old envelope.now asked.new
         (take used.new bytes.new)) }
-    ensures failed { IfErr result (ask_fails held.now envelope.now asked.new
+    ensures failed { IfErr result (ask_fails held.old envelope.now asked.new
         bytes.old used.new bytes.new) }
     ensures buffer { IfErr result (λ f. f ≡ TooSmall → bytes.new ≡ bytes.old) }
+    ensures unchanged { held.new ≡ held.old }
     ensures within { used.old ≡ 0 → IsWithin result used.new bytes.new }
     ensures quiet { used.old ≡ 0 → IfErr result (λ f. f ≢ TooSmall → f ≢ NoEnvelope →
         f ≢ Refused → used.new ≡ 0) }
@@ -59,10 +60,10 @@ pub extern "C" fn warg_ask(
     ensures within { result ≢ 3 → used.new ≤ length bytes.new }
 {
     *used = 0;
-    let Some(held) = log.take(alloc) else {
+    let Some(mut held) = log.take(alloc) else {
         return status(Err(Failure::NotOpen));
     };
-    let outcome = ask_held(alloc, &held, envelope, bytes, used, asked);
+    let outcome = ask_held(alloc, &mut held, envelope, bytes, used, asked);
     log.put(held);
     status(outcome)
 }
@@ -89,27 +90,33 @@ fn append_held(
     }
 }
 
+// The caller's word for a question: its bytes, the lengths of its parts, and whether they belong together.
+#[derive(Clone, Copy)]
+struct Word<'a> {
+    question: &'a [u8],
+    asked: &'a Asked,
+    belongs: bool,
+}
+
 // The record of the bytes, appended by the caller's word for a question.
 fn append_told(
     alloc: Global,
     held: &mut Held,
     envelope: &[u8],
-    question: &[u8],
-    asked: &Asked,
-    belongs: bool,
+    word: &Word<'_>,
     text: &mut [u8],
     used: &mut usize,
 ) -> Result<(), Failure>
-    ensures appended { OnOk result
-        ((b : SignatureRelation) → HoldsOf b belongs asked.now question.now →
+    ensures appended { OnOk result ((b : SignatureRelation) →
+        HoldsOf b word.now.belongs word.now.asked.now word.now.question.now →
         append_does b envelope.now held.old held.new) }
-    ensures failed { IfErr result (append_fails held.old belongs asked.now question.now
-        envelope.now used.new text.new) }
+    ensures failed { IfErr result (append_fails held.old word.now.belongs word.now.asked.now
+        word.now.question.now envelope.now used.new text.new) }
     ensures unchanged { OnErr result (held.new ≡ held.old) }
     ensures within { used.old ≡ 0 → used.new ≤ length text.new }
     ensures quiet { used.old ≡ 0 → IsQuiet result used.new }
 {
-    let answer = told(alloc, question, asked, belongs)?;
+    let answer = told(alloc, word.question, word.asked, word.belongs)?;
     append_held(alloc, held, envelope, &answer, text, used)
 }
 
@@ -147,9 +154,12 @@ pub extern "C" fn warg_append(
     let Some(mut held) = log.take(alloc) else {
         return status(Err(Failure::NotOpen));
     };
-    let outcome = append_told(
-        alloc, &mut held, envelope, question, asked, belongs, text, used,
-    );
+    let word = Word {
+        question,
+        asked,
+        belongs,
+    };
+    let outcome = append_told(alloc, &mut held, envelope, &word, text, used);
     log.put(held);
     status(outcome)
 }

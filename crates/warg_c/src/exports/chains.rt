@@ -1,6 +1,6 @@
 //! By which entries keys came to hold permissions.
 ghost use Rattle.std.specs.Prelude.{◌≡◌, ◌≢◌, ◌≤◌, ◌⊎◌, None, IfErr, IfOk, map, length, take};
-ghost use Rattle.warg_c.specs.Chains.{ChainIs, NoChain, chain_bad, chain_lacks, chain_tells, shown_link};
+ghost use Rattle.warg_c.specs.ChainAnswers.{ChainIs, NoChain, chain_bad, chain_lacks, chain_tells, shown_link};
 ghost use Rattle.warg_c.specs.Keys.{IsNoPermission};
 ghost use Rattle.warg_c.specs.Logs.{whole_of};
 ghost use Rattle.warg_c.specs.Statuses.{Answers};
@@ -52,11 +52,14 @@ fn chain_of_log<L: Validator>(
 ) -> Result<Vec<Link>, Failure>
 where
     L::Permission: LogPermission,
-    ensures ok { IfOk result (λ v. ChainIs L.effects L.Permission.named (whole_of log.now)
+    ensures ok { IfOk result (λ v. ChainIs L.effects L.Permission.permission_named
+        (whole_of log.now)
         key_id.now permission.now v.items) }
     ensures err { IfErr result (FailsAs
-        (NoChain L.effects L.Permission.named (whole_of log.now) key_id.now permission.now)
-        ((whole_of log.now ≡ None) ⊎ IsNoPermission L.Permission.named key_id.now permission.now)) }
+        (NoChain L.effects L.Permission.permission_named (whole_of log.now) key_id.now
+        permission.now)
+        ((whole_of log.now ≡ None) ⊎ IsNoPermission L.Permission.permission_named key_id.now
+        permission.now)) }
 {
     let Some(log) = log.whole() else {
         return Err(Failure::BadArgument);

@@ -1,11 +1,10 @@
 //! The id of an envelope's record.
 ghost use Rattle.std.specs.Prelude.{◌≡◌, ◌≢◌, ◌≤◌, ◌⊎◌, Ok, Some, IfErr, OnOk, length, take};
 ghost use Rattle.warg_envelope.specs.Envelopes.{envelope_of, envelope_fault_of};
-ghost use Rattle.warg_validator.specs.Messages.{cause_name};
-ghost use Rattle.warg_validator.specs.Outcomes.{told};
+ghost use Rattle.warg_validator.specs.OutcomeRuns.{cause_named_by};
 ghost use Rattle.warg_c.specs.Ids.{IsIdOf, IdFails, id_tells, id_fails};
-ghost use Rattle.warg_c.specs.Statuses.{Answered};
-ghost use Rattle.warg_c.specs.Texts.{IsWithin};
+ghost use Rattle.warg_c.specs.Statuses.{IsStatusOf};
+ghost use Rattle.warg_c.specs.Texts.{IsWithin, SaysCause};
 ghost use Rattle.warg_c.specs.declared.failure.Failure.TheVariants.{NoEnvelope, Refused, TooSmall};
 
 use crate::exports::records::id_text;
@@ -32,7 +31,8 @@ where
     ensures ok { OnOk result (IsIdOf L.kind (envelope_of L.Record.read) envelope.now
         (take used.new text.new)) }
     ensures err { IfErr result (IdFails L.kind (envelope_of L.Record.read)
-        (told (envelope_fault_of L.Record.fault_of) L.offence_of) (cause_name L.Error.name_of)
+        (cause_named_by (envelope_fault_of L.Record.fault_of) L.offence_of)
+        (SaysCause L.Error.name_of L.Error.output)
         envelope.now text.old used.new text.new) }
     ensures buffer { IfErr result (λ f. f ≡ TooSmall → text.new ≡ text.old) }
     ensures within { used.old ≡ 0 → IsWithin result used.new text.new }
@@ -79,7 +79,7 @@ pub extern "C" fn warg_id(
     text: &mut [u8],
     used: &mut usize,
 ) -> u32
-    ensures answer { Answered result (id_tells kind envelope.now (take used.new text.new))
+    ensures answer { IsStatusOf result (id_tells kind envelope.now (take used.new text.new))
         (id_fails kind envelope.now text.old used.new text.new) }
     ensures buffer { result ≡ 3 → text.new ≡ text.old }
     ensures used { result ≢ 0 → result ≢ 3 → result ≢ 4 → result ≢ 5 → used.new ≡ 0 }

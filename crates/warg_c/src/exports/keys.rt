@@ -2,7 +2,7 @@
 ghost use Rattle.std.specs.Prelude.{◌≡◌, ◌≢◌, ◌≤◌, ◌⊎◌, None, Some, true, false, Bool, IfOk, IfErr, OnOk, take, string_bytes, length};
 ghost use Rattle.std.specs.Option.{option_copied};
 ghost use Rattle.std.specs.Str.{IsUtf8};
-ghost use Rattle.warg_c.specs.Keys.{HoldsIs, IsNoPermission, KeyText, added, holds_tells, holds_bad, key_of, PackageText, OperatorText, permissions_tell, permissions_lack, package_permissions, operator_permissions};
+ghost use Rattle.warg_c.specs.Keys.{HoldsIs, IsNoPermission, KeyText, with_name, holds_tells, holds_bad, key_of, PackageText, OperatorText, permissions_tell, permissions_lack, package_permissions, operator_permissions};
 ghost use Rattle.warg_operator_log.specs.State as operators;
 ghost use Rattle.warg_package_log.specs.State as packages;
 ghost use Rattle.warg_c.specs.Logs.{state_of};
@@ -32,12 +32,13 @@ fn log_holds<L: Validator>(
 ) -> Result<(), Failure>
 where
     L::Permission: LogPermission,
-    ensures ok { OnOk result (HoldsIs L.Permission.named (L.held (L.view (state_of log.now)))
+    ensures ok { OnOk result (HoldsIs L.Permission.permission_named
+        (L.holds (L.view (state_of log.now)))
         key_id.now permission.now true) }
     ensures err { IfErr result (FailsAs
-        (HoldsIs L.Permission.named (L.held (L.view (state_of log.now)))
+        (HoldsIs L.Permission.permission_named (L.holds (L.view (state_of log.now)))
         key_id.now permission.now false)
-        (IsNoPermission L.Permission.named key_id.now permission.now)) }
+        (IsNoPermission L.Permission.permission_named key_id.now permission.now)) }
 {
     let key_id = key_id_of(alloc, key_id)?;
     let permission = permission_of::<L::Permission>(permission)?;
@@ -83,7 +84,7 @@ pub extern "C" fn warg_holds(
 
 // Adds a name to the text, behind a space where it is not the first, if it is held.
 fn add(text: &mut Vec<u8>, is_held: bool, name: &str) -> Result<(), AllocError>
-    ensures { OnOk result (text.new.items ≡ added text.old.items is_held name.now) }
+    ensures { OnOk result (text.new.items ≡ with_name text.old.items is_held name.now) }
 {
     if is_held {
         if !text.is_empty() {

@@ -4,7 +4,7 @@ ghost use Rattle.std.specs.Option.{option_copied, option_map};
 ghost use Rattle.std.specs.Str.{IsUtf8};
 ghost use Rattle.warg_operator_log.specs.NamespaceMap.{namespace_view};
 ghost use Rattle.warg_operator_log.specs.State.{view_of};
-ghost use Rattle.warg_c.specs.Namespaces.{NamespaceIs, namespace_tells, namespace_lacks, namespace_bad};
+ghost use Rattle.warg_c.specs.NamespaceAnswers.{NamespaceIs, namespace_tells, namespace_lacks, namespace_bad};
 ghost use Rattle.warg_c.specs.Statuses.{Answers};
 ghost use Rattle.warg_c.specs.Texts.{FailsAs, TextFails};
 

@@ -1,7 +1,7 @@
 //! Opening and closing.
 ghost use Rattle.std.specs.Prelude.{◌≡◌, ◌≢◌, ◌⊎◌, None, Some, IfOk, IfErr, IsSomeAnd};
 ghost use Rattle.warg_c.specs.Held.{IsNew, IsOfNumber, IsNoKind};
-ghost use Rattle.warg_c.specs.Statuses.{Answered};
+ghost use Rattle.warg_c.specs.Statuses.{IsStatusOf};
 ghost use Rattle.warg_c.specs.Texts.{CallFails, FailsAs};
 
 use crate::failure::{Failure, status};
@@ -27,7 +27,7 @@ fn opened(alloc: Global, kind: u32) -> Result<Box<Held>, Failure>
 /// Begins a log of no records. One that was open is closed.
 #[unsafe(no_mangle)]
 pub extern "C" fn warg_open(alloc: Global, log: &mut WargLog, kind: u32) -> u32
-    ensures answer { Answered result
+    ensures answer { IsStatusOf result
         (IsSomeAnd log.new.owned.kept (λ held. IsNew held × IsOfNumber kind held))
         (CallFails ⊥ (IsNoKind kind)) }
     ensures unchanged { result ≢ 0 → log.new.owned.kept ≡ log.old.owned.kept }

@@ -1,7 +1,7 @@
 //! What a registry proves of its log and its map.
 ghost use Rattle.std.specs.Prelude.{OnOk, IfErr};
-ghost use Rattle.warg_c.specs.Proofs.{Consistent, Included, IsAbsence, IsConsistency, IsInclusion, IsNoAbsence, IsNoConsistency, IsNoInclusion, IsNoPresence, IsPresence, Lacking, NotConsistent, NotIncluded, NotLacking, NotPresent, Present, ProofFails};
-ghost use Rattle.warg_c.specs.Statuses.{Answered};
+ghost use Rattle.warg_c.specs.ProofAnswers.{ShowsConsistency, ShowsInclusion, IsAbsence, IsConsistency, IsInclusion, IsNoAbsence, IsNoConsistency, IsNoInclusion, IsNoPresence, IsPresence, ShowsAbsence, ShowsNoConsistency, ShowsNoInclusion, ShowsNoAbsence, ShowsNoPresence, ShowsPresence, ProofFails};
+ghost use Rattle.warg_c.specs.Statuses.{IsStatusOf};
 
 use crate::failure::{Failure, status};
 use crate::proof_text::{hash_in, leaf_in, log_proof_in, map_proof_in};
@@ -9,25 +9,32 @@ use std::alloc::Global;
 use warg_registry::{Checkpoint, LogId, MapLeaf};
 use warg_transparency::{verify_absence, verify_consistency, verify_inclusion, verify_presence};
 
+// A place in a log, and the log's length, in leaves.
+#[derive(Clone, Copy)]
+struct Place {
+    index: u64,
+    length: u64,
+}
+
 fn inclusion(
     alloc: Global,
     log_id: &[u8],
     record_id: &[u8],
-    place: u64,
-    length: u64,
+    place: Place,
     root: &[u8],
     proof: &[u8],
 ) -> Result<(), Failure>
     ensures ok { OnOk result (IsInclusion log_id.now record_id.now root.now proof.now
-        (Included place length)) }
+        (ShowsInclusion place.index place.length)) }
     ensures err { IfErr result (ProofFails
-        (IsInclusion log_id.now record_id.now root.now proof.now (NotIncluded place length))
+        (IsInclusion log_id.now record_id.now root.now proof.now
+        (ShowsNoInclusion place.index place.length))
         (IsNoInclusion log_id.now record_id.now root.now proof.now)) }
 {
     let leaf = leaf_in(log_id, record_id)?;
     let root = hash_in(root)?;
     let proof = log_proof_in(alloc, proof)?;
-    if verify_inclusion(&leaf, place, length, proof.hashes(), &root) {
+    if verify_inclusion(&leaf, place.index, place.length, proof.hashes(), &root) {
         Ok(())
     } else {
         Err(Failure::Refused)
@@ -45,13 +52,17 @@ pub extern "C" fn warg_verify_inclusion(
     root: &[u8],
     proof: &[u8],
 ) -> u32
-    ensures { Answered result (IsInclusion log_id.now record_id.now root.now proof.now
-        (Included place length))
+    ensures { IsStatusOf result (IsInclusion log_id.now record_id.now root.now proof.now
+        (ShowsInclusion place length))
         (ProofFails (IsInclusion log_id.now record_id.now root.now proof.now
-        (NotIncluded place length))
+        (ShowsNoInclusion place length))
         (IsNoInclusion log_id.now record_id.now root.now proof.now)) }
 {
-    status(inclusion(alloc, log_id, record_id, place, length, root, proof))
+    let leaf_place = Place {
+        index: place,
+        length,
+    };
+    status(inclusion(alloc, log_id, record_id, leaf_place, root, proof))
 }
 
 fn consistency(
@@ -63,9 +74,10 @@ fn consistency(
     proof: &[u8],
 ) -> Result<(), Failure>
     ensures ok { OnOk result (IsConsistency old_root.now new_root.now proof.now
-        (Consistent old_length new_length)) }
+        (ShowsConsistency old_length new_length)) }
     ensures err { IfErr result (ProofFails
-        (IsConsistency old_root.now new_root.now proof.now (NotConsistent old_length new_length))
+        (IsConsistency old_root.now new_root.now proof.now
+        (ShowsNoConsistency old_length new_length))
         (IsNoConsistency old_root.now new_root.now proof.now)) }
 {
     let old_root = hash_in(old_root)?;
@@ -99,10 +111,10 @@ pub extern "C" fn warg_verify_consistency(
     new_root: &[u8],
     proof: &[u8],
 ) -> u32
-    ensures { Answered result (IsConsistency old_root.now new_root.now proof.now
-        (Consistent old_length new_length))
+    ensures { IsStatusOf result (IsConsistency old_root.now new_root.now proof.now
+        (ShowsConsistency old_length new_length))
         (ProofFails (IsConsistency old_root.now new_root.now proof.now
-        (NotConsistent old_length new_length))
+        (ShowsNoConsistency old_length new_length))
         (IsNoConsistency old_root.now new_root.now proof.now)) }
 {
     status(consistency(alloc, old_length, old_root, new_length, new_root, proof))
@@ -115,9 +127,10 @@ fn presence(
     root: &[u8],
     proof: &[u8],
 ) -> Result<(), Failure>
-    ensures ok { OnOk result (IsPresence log_id.now record_id.now root.now proof.now Present) }
+    ensures ok { OnOk result (IsPresence log_id.now record_id.now root.now proof.now
+        ShowsPresence) }
     ensures err { IfErr result (ProofFails
-        (IsPresence log_id.now record_id.now root.now proof.now NotPresent)
+        (IsPresence log_id.now record_id.now root.now proof.now ShowsNoPresence)
         (IsNoPresence log_id.now record_id.now root.now proof.now)) }
 {
     let leaf = leaf_in(log_id, record_id)?;
@@ -142,16 +155,17 @@ pub extern "C" fn warg_verify_presence(
     root: &[u8],
     proof: &[u8],
 ) -> u32
-    ensures { Answered result (IsPresence log_id.now record_id.now root.now proof.now Present)
-        (ProofFails (IsPresence log_id.now record_id.now root.now proof.now NotPresent)
+    ensures { IsStatusOf result (IsPresence log_id.now record_id.now root.now proof.now
+        ShowsPresence)
+        (ProofFails (IsPresence log_id.now record_id.now root.now proof.now ShowsNoPresence)
         (IsNoPresence log_id.now record_id.now root.now proof.now)) }
 {
     status(presence(alloc, log_id, record_id, root, proof))
 }
 
 fn absence(alloc: Global, log_id: &[u8], root: &[u8], proof: &[u8]) -> Result<(), Failure>
-    ensures ok { OnOk result (IsAbsence log_id.now root.now proof.now Lacking) }
-    ensures err { IfErr result (ProofFails (IsAbsence log_id.now root.now proof.now NotLacking)
+    ensures ok { OnOk result (IsAbsence log_id.now root.now proof.now ShowsAbsence) }
+    ensures err { IfErr result (ProofFails (IsAbsence log_id.now root.now proof.now ShowsNoAbsence)
         (IsNoAbsence log_id.now root.now proof.now)) }
 {
     let log = hash_in(log_id)?;
@@ -172,8 +186,8 @@ pub extern "C" fn warg_verify_absence(
     root: &[u8],
     proof: &[u8],
 ) -> u32
-    ensures { Answered result (IsAbsence log_id.now root.now proof.now Lacking)
-        (ProofFails (IsAbsence log_id.now root.now proof.now NotLacking)
+    ensures { IsStatusOf result (IsAbsence log_id.now root.now proof.now ShowsAbsence)
+        (ProofFails (IsAbsence log_id.now root.now proof.now ShowsNoAbsence)
         (IsNoAbsence log_id.now root.now proof.now)) }
 {
     status(absence(alloc, log_id, root, proof))

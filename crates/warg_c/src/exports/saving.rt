@@ -1,14 +1,14 @@
 //! Saving a state, and going on from one.
 ghost use Rattle.std.specs.Prelude.{◌≡◌, ◌≢◌, ◌≤◌, ◌⊎◌, Err, IfOk, IfErr, IsSomeAnd, length, take};
 ghost use Rattle.std.specs.Str.{IsUtf8};
-ghost use Rattle.warg_crypto.specs.Json.{AreReadBack};
+ghost use Rattle.warg_json.specs.Json.{AreReadBack};
 ghost use Rattle.warg_saved.specs.JsonText.{TextReadsBack};
 ghost use Rattle.warg_saved.specs.Texts.{text_of};
 ghost use Rattle.warg_saved.specs.declared.error.JsonTextError.TheVariants as json;
 ghost use Rattle.warg_c.specs.declared.failure.Failure.TheVariants.{OutOfMemory, BadArgument};
 ghost use Rattle.warg_c.specs.Held.{IsNoKind, IsOfKind};
-ghost use Rattle.warg_c.specs.Saved.{IsWritten, SaysNoState, fault_name, value_name, reads_back, save_tells, save_lacks, saved_text, resumes, resumes_number, is_no_saved};
-ghost use Rattle.warg_c.specs.Statuses.{Answered, Answers};
+ghost use Rattle.warg_c.specs.Saved.{IsWritten, SaysNoState, fault_name, value_name, reads_back, save_tells, save_lacks, saved_text, resume_gives, resume_gives_number, is_no_saved};
+ghost use Rattle.warg_c.specs.Statuses.{IsStatusOf, Answers};
 ghost use Rattle.warg_c.specs.Texts.{CallFails, FailsAs, IsNameText, TextFails};
 
 use crate::failure::{Failure, status};
@@ -18,7 +18,7 @@ use crate::held::{Held, Kind};
 use crate::kept_log::KeptLog;
 use crate::refusal::give_if_room;
 use std::alloc::Global;
-use warg_crypto::JsonError;
+use warg_json::JsonError;
 use warg_log::PersistentState;
 use warg_operator_log::LogState as OperatorState;
 use warg_package_log::LogState as PackageState;
@@ -118,7 +118,7 @@ fn refuse_saved(error: JsonTextError, text: &mut [u8], used: &mut usize) -> Fail
 
 // The log of a state's text.
 fn read_saved(alloc: Global, kind: Kind, saved: &str) -> Result<Held, JsonTextError>
-    ensures ok { IfOk result (λ held. IsOfKind kind held × resumes saved.now held) }
+    ensures ok { IfOk result (λ held. IsOfKind kind held × resume_gives saved.now held) }
     ensures err { IfErr result (λ e. (e ≡ json.OutOfMemory) ⊎ SaysNoState kind saved.now e) }
 {
     match kind {
@@ -140,7 +140,7 @@ fn resumed(
     text: &mut [u8],
     used: &mut usize,
 ) -> Result<Box<Held>, Failure>
-    ensures ok { IfOk result (λ b. resumes_number kind saved.now b.value) }
+    ensures ok { IfOk result (λ b. resume_gives_number kind saved.now b.value) }
     ensures err { IfErr result (FailsAs ⊥ (is_no_saved kind saved.now used.new text.new)) }
     ensures within { used.new ≤ length text.new }
     ensures quiet { (used.new ≡ 0) ⊎ (result ≡ Err BadArgument) }
@@ -169,7 +169,8 @@ pub extern "C" fn warg_resume(
     text: &mut [u8],
     used: &mut usize,
 ) -> u32
-    ensures answer { Answered result (IsSomeAnd log.new.owned.kept (resumes_number kind saved.now))
+    ensures answer { IsStatusOf result (IsSomeAnd log.new.owned.kept
+        (resume_gives_number kind saved.now))
         (CallFails ⊥ (is_no_saved kind saved.now used.new text.new)) }
     ensures unchanged { result ≢ 0 → log.new.owned.kept ≡ log.old.owned.kept }
     ensures used { result ≢ 7 → used.new ≡ 0 }

@@ -1,6 +1,6 @@
 //! The library's version.
 ghost use Rattle.std.specs.Prelude.{◌≡◌, ◌≢◌, ◌≤◌, codes, length, take};
-ghost use Rattle.warg_c.specs.Statuses.{Answered};
+ghost use Rattle.warg_c.specs.Statuses.{IsStatusOf};
 ghost use Rattle.warg_c.specs.Texts.{TextFails};
 
 use crate::failure::status;
@@ -12,7 +12,7 @@ const VERSION: &str = "0.1.0";
 /// The library's version.
 #[unsafe(no_mangle)]
 pub extern "C" fn warg_version(text: &mut [u8], used: &mut usize) -> u32
-    ensures answer { Answered result (take used.new text.new ≡ codes "0.1.0")
+    ensures answer { IsStatusOf result (take used.new text.new ≡ codes "0.1.0")
         (TextFails (λ version. version ≡ codes "0.1.0") ⊥ ⊥ used.new text.old) }
     ensures buffer { result ≢ 0 → text.new ≡ text.old }
     ensures used { result ≢ 0 → result ≢ 3 → used.new ≡ 0 }

@@ -63,7 +63,7 @@ impl fmt::Debug for Sha256Visitor {
 }
 
 impl ByteVisitor for Sha256Visitor {
-    ghost seen = { λ v m. Holds256 v.hasher m };
+    ghost has_seen = { λ v m. Holds256 v.hasher m };
 
     ghost refuses = { λ _ _. ⊥ };
 

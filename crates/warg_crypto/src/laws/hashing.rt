@@ -3,11 +3,9 @@
 ghost use Rattle.std.specs.Prelude.{◌≡◌};
 ghost use Rattle.std.specs.Hash as fed;
 ghost use Rattle.std.specs.List.{fold};
-ghost use Rattle.warg_crypto.specs.Same.{tag_hash_input};
-ghost use Rattle.warg_crypto.specs.Times.{time_hash_input};
+ghost use Rattle.warg_crypto.specs.SameNamedBytes.{named_bytes_hash_input};
 
 use crate::signing::{KeyID, PublicKey, Signature};
-use crate::time::Timestamp;
 use std::hash::{Hash, Hasher};
 
 /// Of a key id: its text.
@@ -19,21 +17,14 @@ pub fn feed_id<H: Hasher>(id: &KeyID, hasher: &mut H)
 
 /// Of a key: its name, then its bytes behind their number.
 pub fn feed_key<H: Hasher>(key: &PublicKey, hasher: &mut H)
-    ensures { hasher.new ≡ fold H.write hasher.old (tag_hash_input key.now) }
+    ensures { hasher.new ≡ fold H.write hasher.old (named_bytes_hash_input key.now) }
 {
     key.hash(hasher);
 }
 
 /// Of a signature: its name, then its bytes behind their number.
 pub fn feed_signature<H: Hasher>(signature: &Signature, hasher: &mut H)
-    ensures { hasher.new ≡ fold H.write hasher.old (tag_hash_input signature.now) }
+    ensures { hasher.new ≡ fold H.write hasher.old (named_bytes_hash_input signature.now) }
 {
     signature.hash(hasher);
-}
-
-/// Of a time: its seconds, then its nanoseconds.
-pub fn feed_time<H: Hasher>(time: &Timestamp, hasher: &mut H)
-    ensures { hasher.new ≡ fold H.write hasher.old (time_hash_input time.now) }
-{
-    time.hash(hasher);
 }

@@ -1,13 +1,12 @@
 //! Order, where a type has one.
 
-ghost use Rattle.std.specs.Prelude.{◌≡◌, ◌<◌, ◌<ℤ◌, ◌⊎◌, ◌↔◌, IsTrue};
+ghost use Rattle.std.specs.Prelude.{◌≡◌};
 ghost use Rattle.std.specs.Cmp.Lexicographic.{slice_cmp};
 ghost use Rattle.std.specs.Ordering.{nat_cmp, ordering_then};
 ghost use Rattle.std.specs.declared.cmp.Ordering.TheVariants.{Equal};
 
 use crate::hash::{AnyHash, Hash, HashAlgorithm};
 use crate::signing::KeyID;
-use crate::time::Timestamp;
 use std::cmp::Ordering;
 
 /// There is one algorithm.
@@ -37,12 +36,4 @@ pub fn compare_ids(a: &KeyID, b: &KeyID) -> Ordering
     ensures { result ≡ slice_cmp nat_cmp a.now b.now }
 {
     a.cmp(b)
-}
-
-/// Times are ordered by seconds, then nanoseconds.
-pub fn is_before(a: &Timestamp, b: &Timestamp) -> bool
-    ensures { IsTrue result ↔ ((a.now.seconds <ℤ b.now.seconds) ⊎
-        ((a.now.seconds ≡ b.now.seconds) × (a.now.nanos < b.now.nanos))) }
-{
-    a < b
 }

@@ -3,12 +3,10 @@
 ghost use Rattle.std.specs.Prelude.{◌≡◌};
 ghost use Rattle.std.specs.Fmt.{WritesOnOk, WritesStyledOnOk};
 ghost use Rattle.warg_crypto.specs.HashText.{algorithm_text, hash_text};
-ghost use Rattle.warg_crypto.specs.NamedBytes.{tag_text};
-ghost use Rattle.warg_crypto.specs.Times.{shown_time};
+ghost use Rattle.warg_crypto.specs.NamedBytes.{named_bytes_text};
 
 use crate::hash::{AnyHash, Hash, HashAlgorithm, SupportedDigest};
 use crate::signing::{KeyID, PublicKey, Signature};
-use crate::time::Timestamp;
 use std::fmt::{Display, Formatter, Result, Write};
 
 /// An algorithm prints as its name.
@@ -51,25 +49,19 @@ pub fn print_id<W: Write>(id: &KeyID, f: &mut Formatter<W>) -> Result
 
 /// A key prints as its text.
 pub fn print_key<W: Write>(key: &PublicKey, f: &mut Formatter<W>) -> Result
-    ensures plain { WritesOnOk W.write_str_gives f.old result (tag_text key.now) f.new }
-    ensures styled { WritesStyledOnOk W.write_str_gives f.old result (tag_text key.now) f.new }
+    ensures plain { WritesOnOk W.write_str_gives f.old result (named_bytes_text key.now) f.new }
+    ensures styled { WritesStyledOnOk W.write_str_gives f.old result (named_bytes_text key.now)
+        f.new }
 {
     key.fmt(f)
 }
 
 /// A signature prints as its text.
 pub fn print_signature<W: Write>(signature: &Signature, f: &mut Formatter<W>) -> Result
-    ensures plain { WritesOnOk W.write_str_gives f.old result (tag_text signature.now) f.new }
+    ensures plain { WritesOnOk W.write_str_gives f.old result (named_bytes_text signature.now)
+        f.new }
     ensures styled { WritesStyledOnOk W.write_str_gives f.old result
-        (tag_text signature.now) f.new }
+        (named_bytes_text signature.now) f.new }
 {
     signature.fmt(f)
-}
-
-/// A time prints as seconds, a dot and nanoseconds.
-pub fn print_time<W: Write>(time: &Timestamp, f: &mut Formatter<W>) -> Result
-    ensures plain { WritesOnOk W.write_str_gives f.old result (shown_time time.now) f.new }
-    ensures styled { WritesStyledOnOk W.write_str_gives f.old result (shown_time time.now) f.new }
-{
-    time.fmt(f)
 }

@@ -2,7 +2,7 @@
 
 ghost use Rattle.std.specs.Prelude.{◌≡◌};
 
-use crate::signing::tagged::TagError;
+use crate::signing::algorithm_bytes::NamedBytesError;
 use std::alloc::{AllocError, AllocFailed};
 use thiserror::Error;
 
@@ -23,17 +23,17 @@ pub enum KeyParseError {
     OutOfMemory,
 }
 
-impl From<TagError> for KeyParseError {
+impl From<NamedBytesError> for KeyParseError {
     ghost use Rattle.warg_crypto.specs.Keys.{key_fault};
 
     ghost from_gives = { λ e f. f ≡ key_fault e };
 
-    fn from(error: TagError) -> KeyParseError {
+    fn from(error: NamedBytesError) -> KeyParseError {
         match error {
-            TagError::MissingColon => KeyParseError::MissingColon,
-            TagError::EmptyAlgorithm => KeyParseError::EmptyAlgorithm,
-            TagError::BadBase64 => KeyParseError::BadBase64,
-            TagError::OutOfMemory => KeyParseError::OutOfMemory,
+            NamedBytesError::MissingColon => KeyParseError::MissingColon,
+            NamedBytesError::EmptyAlgorithm => KeyParseError::EmptyAlgorithm,
+            NamedBytesError::BadBase64 => KeyParseError::BadBase64,
+            NamedBytesError::OutOfMemory => KeyParseError::OutOfMemory,
         }
     }
 }
@@ -65,17 +65,17 @@ pub enum SignatureParseError {
     OutOfMemory,
 }
 
-impl From<TagError> for SignatureParseError {
+impl From<NamedBytesError> for SignatureParseError {
     ghost use Rattle.warg_crypto.specs.Keys.{signature_fault};
 
     ghost from_gives = { λ e f. f ≡ signature_fault e };
 
-    fn from(error: TagError) -> SignatureParseError {
+    fn from(error: NamedBytesError) -> SignatureParseError {
         match error {
-            TagError::MissingColon => SignatureParseError::MissingColon,
-            TagError::EmptyAlgorithm => SignatureParseError::EmptyAlgorithm,
-            TagError::BadBase64 => SignatureParseError::BadBase64,
-            TagError::OutOfMemory => SignatureParseError::OutOfMemory,
+            NamedBytesError::MissingColon => SignatureParseError::MissingColon,
+            NamedBytesError::EmptyAlgorithm => SignatureParseError::EmptyAlgorithm,
+            NamedBytesError::BadBase64 => SignatureParseError::BadBase64,
+            NamedBytesError::OutOfMemory => SignatureParseError::OutOfMemory,
         }
     }
 }

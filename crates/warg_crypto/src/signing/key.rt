@@ -4,12 +4,12 @@ ghost use Rattle.std.specs.Prelude.{◌≡◌, ◌⊎◌, IfOk, IfErr, Some};
 ghost use Rattle.std.specs.String.{string_bytes};
 ghost use Rattle.base64.specs.GeneralPurpose.{IsBytes};
 ghost use Rattle.warg_crypto.specs.Keys.{public_key_of};
-ghost use Rattle.warg_crypto.specs.NamedBytes.{HasName, IsName, tag_text, fingerprint_of};
+ghost use Rattle.warg_crypto.specs.NamedBytes.{HasName, IsName, named_bytes_text, fingerprint_of};
 ghost use Rattle.warg_crypto.specs.declared.signing.error.KeyParseError.TheVariants as fault;
 
 use crate::hash::HashAlgorithm;
+use crate::signing::algorithm_bytes::AlgorithmBytes;
 use crate::signing::error::KeyParseError;
-use crate::signing::tagged::Tagged;
 use std::alloc::{AllocError, Global};
 use std::cmp::Ordering;
 use std::fmt;
@@ -184,7 +184,7 @@ impl Clone for KeyID {
 /// A public key: the name of its algorithm, and bytes.
 #[derive(Drop)]
 pub struct PublicKey {
-    tagged: Tagged,
+    named_bytes: AlgorithmBytes,
 }
 
 impl Model for PublicKey {
@@ -192,7 +192,7 @@ impl Model for PublicKey {
 
     ghost Value = { NamedBytes };
 
-    ghost view = { λ k. k.tagged };
+    ghost view = { λ k. k.named_bytes };
 }
 
 impl PublicKey {
@@ -204,7 +204,7 @@ impl PublicKey {
         ensures bytes { result.bytes ≡ bytes.items }
     {
         PublicKey {
-            tagged: Tagged::new(algorithm, bytes),
+            named_bytes: AlgorithmBytes::new(algorithm, bytes),
         }
     }
 
@@ -213,7 +213,7 @@ impl PublicKey {
         ensures value { result.now ≡ self.now.name }
         ensures named { IsName self.now.name }
     {
-        self.tagged.name()
+        self.named_bytes.name()
     }
 
     /// The key's bytes.
@@ -221,7 +221,7 @@ impl PublicKey {
         ensures value { result.now ≡ self.now.bytes }
         ensures are_bytes { IsBytes self.now.bytes }
     {
-        self.tagged.bytes()
+        self.named_bytes.bytes()
     }
 
     /// The key that a text says: a name, a colon, and bytes in base64 (RFC 4648, with padding). `MissingColon` and
@@ -232,15 +232,15 @@ impl PublicKey {
             (public_key_of text.now ≡ Err e)) }
         ensures memory { IfErr result (λ e. e ≡ fault.OutOfMemory → HasName text.now) }
     {
-        let tagged = Tagged::parse(alloc, text)?;
-        Ok(PublicKey { tagged })
+        let named_bytes = AlgorithmBytes::parse(alloc, text)?;
+        Ok(PublicKey { named_bytes })
     }
 
     /// The text of the key: its name, a colon, and its bytes in base64 (RFC 4648, with padding).
     pub fn to_text(&self, alloc: Global) -> Result<String, AllocError>
-        ensures { IfOk result (λ text. string_bytes text ≡ tag_text self.now) }
+        ensures { IfOk result (λ text. string_bytes text ≡ named_bytes_text self.now) }
     {
-        self.tagged.to_text(alloc)
+        self.named_bytes.to_text(alloc)
     }
 
     /// A copy.
@@ -262,22 +262,23 @@ impl PublicKey {
 }
 
 impl fmt::Display for PublicKey {
-    ghost output = { λ k. Some (tag_text k) };
+    ghost output = { λ k. Some (named_bytes_text k) };
 
-    ghost styled_output = { λ k _. Some (tag_text k) };
+    ghost styled_output = { λ k _. Some (named_bytes_text k) };
 
     fn fmt<W: fmt::Write>(&self, f: &mut fmt::Formatter<W>) -> fmt::Result {
-        fmt::Display::fmt(&self.tagged, f)
+        fmt::Display::fmt(&self.named_bytes, f)
     }
 }
 
 impl fmt::Debug for PublicKey {
     ghost use Rattle.std.specs.Fmt.{WritesStyledOnOk};
 
-    ghost debug_output = { λ k. Some (tag_text k) };
+    ghost debug_output = { λ k. Some (named_bytes_text k) };
 
     fn fmt<W: fmt::Write>(&self, f: &mut fmt::Formatter<W>) -> fmt::Result
-        ensures styled { WritesStyledOnOk W.write_str_gives f.old result (tag_text self.now) f.new }
+        ensures styled { WritesStyledOnOk W.write_str_gives f.old result (named_bytes_text self.now)
+            f.new }
     {
         fmt::Display::fmt(self, f)
     }
@@ -285,33 +286,34 @@ impl fmt::Debug for PublicKey {
 
 impl PartialEq for PublicKey {
     ghost use Rattle.std.specs.Cmp.{partial_equiv_from_equiv};
-    ghost use Rattle.warg_crypto.specs.NamedBytes.{same_tag};
-    ghost use Rattle.warg_crypto.specs.Same.{same_tag_equiv};
+    ghost use Rattle.warg_crypto.specs.NamedBytes.{same_named_bytes};
+    ghost use Rattle.warg_crypto.specs.SameLaws.{same_named_bytes_equiv};
 
-    ghost eq = { same_tag };
+    ghost eq = { same_named_bytes };
 
-    ghost laws = { partial_equiv_from_equiv same_tag_equiv };
+    ghost laws = { partial_equiv_from_equiv same_named_bytes_equiv };
 
     fn eq(&self, other: &PublicKey) -> bool {
-        self.tagged == other.tagged
+        self.named_bytes == other.named_bytes
     }
 }
 
 impl Eq for PublicKey {
-    ghost use Rattle.warg_crypto.specs.Same.{same_tag_equiv};
+    ghost use Rattle.warg_crypto.specs.SameLaws.{same_named_bytes_equiv};
 
-    ghost laws = { same_tag_equiv };
+    ghost laws = { same_named_bytes_equiv };
 }
 
 impl Hash for PublicKey {
-    ghost use Rattle.warg_crypto.specs.Same.{tag_hash_input, tag_hash_input-same_tag};
+    ghost use Rattle.warg_crypto.specs.SameNamedBytes.{named_bytes_hash_input};
+    ghost use Rattle.warg_crypto.specs.SameLaws.{named_bytes_hash_input-same_named_bytes};
 
-    ghost hash_input = { tag_hash_input };
+    ghost hash_input = { named_bytes_hash_input };
 
-    ghost respects_eq = { tag_hash_input-same_tag };
+    ghost respects_eq = { named_bytes_hash_input-same_named_bytes };
 
     fn hash<H: Hasher>(&self, state: &mut H) {
-        self.tagged.hash(state);
+        self.named_bytes.hash(state);
     }
 }
 
@@ -320,7 +322,7 @@ impl Clone for PublicKey {
 
     fn clone(&self) -> Result<PublicKey, AllocError> {
         Ok(PublicKey {
-            tagged: self.tagged.clone()?,
+            named_bytes: self.named_bytes.clone()?,
         })
     }
 }

@@ -3,15 +3,14 @@
 ghost use Rattle.std.specs.Prelude.{◌≡◌, IfOk};
 ghost use Rattle.std.specs.Cmp.{partial_equiv_from_equiv};
 ghost use Rattle.warg_envelope.specs.Faults.{IsReading};
-ghost use Rattle.warg_envelope.specs.Same.{same_envelope_data, same_envelope_data_equiv};
+ghost use Rattle.warg_envelope.specs.SameEnvelopes.{same_envelope_data, same_envelope_data_equiv};
 
 mod json;
 
 use crate::proto_envelope::{ProtoEnvelope, decode_contents};
-use crate::{Record, RegistryIndex};
+use crate::{DecodeError, Record, RegistryIndex};
 use std::alloc::{AllocError, Global};
 use std::marker::Model;
-use warg_crypto::DecodeError;
 use warg_crypto::signing::{KeyID, Signature};
 
 /// An envelope whose content bytes are not read yet.

@@ -1,13 +1,13 @@
 //! A set of permissions as JSON: the list of their names.
 ghost use Rattle.std.specs.Prelude.{List, []};
 ghost use Rattle.warg_saved.specs.CanonicalLaws.{texts_canonical};
-ghost use Rattle.warg_saved.specs.Permissions.{permissions_in, permissions_json};
+ghost use Rattle.warg_saved.specs.SavedPermissions.{permissions_in, permissions_json};
 
 use crate::permission_set::PermissionSet;
 use indexmap::IndexSet;
 use serde_json::Value;
 use std::alloc::Global;
-use warg_crypto::JsonError;
+use warg_json::JsonError;
 use warg_permissions::LogPermission;
 use warg_saved::{SavedValue, Writer};
 
@@ -18,7 +18,7 @@ impl<P: LogPermission> SavedValue for PermissionSet<P> {
 
     ghost writes = { permissions_json P.text_of };
 
-    ghost reads = { permissions_in P.eq P.named };
+    ghost reads = { permissions_in P.eq P.permission_named };
 
     ghost versions = { λ _. [] };
 

@@ -3,8 +3,8 @@
 ghost use Rattle.std.specs.Prelude.{◌≡◌, [], ◌∷◌, codes, Ok, IfOk};
 ghost use Rattle.semver.specs.Identifiers.{parts_of};
 ghost use Rattle.serde_json.specs.View.{members_view, view};
-ghost use Rattle.warg_crypto.specs.EqualLaws.{same_equal};
-ghost use Rattle.warg_crypto.specs.Json.{AreReadBack, ReturnsOrNoMemory, wrote};
+ghost use Rattle.warg_json.specs.EqualLaws.{same_equal};
+ghost use Rattle.warg_json.specs.Json.{AreReadBack, ReturnsOrNoMemory, json_result};
 ghost use Rattle.warg_package_log.specs.ReleaseMap.{release_view};
 ghost use Rattle.warg_package_log.specs.SameReleaseLaws.{release_decides};
 ghost use Rattle.warg_package_log.specs.ReleaseVersionLaws.{release_versions, release_within};
@@ -18,13 +18,14 @@ use semver::Version;
 use serde_json::{Map, Value};
 use std::alloc::Global;
 use warg_crypto::hash::AnyHash;
-use warg_crypto::json::members::{
+use warg_crypto::signing::KeyID;
+use warg_json::members::{
     member_in, object_value, put_member, put_value, string_value, text_in, text_value,
 };
-use warg_crypto::signing::KeyID;
-use warg_crypto::{JsonError, JsonValue, Timestamp};
+use warg_json::{JsonError, JsonValue};
 use warg_records::RecordId;
 use warg_saved::SavedName;
+use warg_time::Timestamp;
 
 /// The text of the version.
 fn version_value(alloc: Global, version: &Version) -> Result<Value, JsonError>
@@ -45,7 +46,7 @@ fn version_in(alloc: Global, value: &Value) -> Result<Version, JsonError>
 /// The status as the first member of a state.
 fn status_member(alloc: Global, status: &str) -> Result<Map<String, Value>, JsonError>
     ensures { ReturnsOrNoMemory (λ map. members_view map.entries) result
-        (wrote (status_member status.now)) }
+        (json_result (status_member status.now)) }
 {
     let mut map = Map::new(alloc);
     put_member(&mut map, alloc, "status", text_value(alloc, status)?)?;

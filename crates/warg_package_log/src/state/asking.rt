@@ -3,7 +3,7 @@ ghost use Rattle.std.specs.Prelude.{IfOk, IfErr};
 ghost use Rattle.warg_permissions.specs.PackagePermissions.{same_permission};
 ghost use Rattle.warg_log.specs.Asking.{Asks, RefusesAnyway};
 ghost use Rattle.warg_package_log.specs.Releases.{rules};
-ghost use Rattle.warg_package_log.specs.State.{view_of, offence_of, plain_envelope};
+ghost use Rattle.warg_package_log.specs.State.{view_of, offence_of, envelope_as_data};
 
 use crate::error::ValidationError;
 use crate::state::LogState;
@@ -16,10 +16,10 @@ impl LogState {
     /// signature of the answer belongs. Anything else is what is wrong first, whatever the signature.
     pub fn ask(&self, envelope: &ProtoEnvelope<PackageRecord>) -> Result<Question, ValidationError>
         ensures asks { IfOk result (λ q. Asks rules same_permission (view_of self.now)
-            (plain_envelope envelope.now) q) }
+            (envelope_as_data envelope.now) q) }
         ensures refused { IfErr result
             (λ e. RefusesAnyway rules same_permission (offence_of e) (view_of self.now)
-            (plain_envelope envelope.now)) }
+            (envelope_as_data envelope.now)) }
     {
         self.log.ask(envelope)
     }

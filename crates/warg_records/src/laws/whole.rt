@@ -3,24 +3,24 @@
 ghost use Rattle.std.specs.List.{AllByRecursion};
 ghost use Rattle.warg_records.specs.OperatorEntries as in_operator;
 ghost use Rattle.warg_records.specs.PackageEntries as in_package;
-ghost use Rattle.warg_records.specs.Whole.{IsReadable, IsWhole, IsWholeEntry, IsWholeHash, IsWholeLink, IsWholeOperatorOwnEntry, IsWholePackageOwnEntry, IsWholeNamedBytes, IsWholeTime};
+ghost use Rattle.warg_records.specs.WellFormed.{IsReadable, IsWellFormed, IsWellFormedEntry, IsWellFormedHash, IsWellFormedLink, IsWellFormedOperatorOwnEntry, IsWellFormedPackageOwnEntry, IsWellFormedNamedBytes, IsWellFormedTime};
 
 use crate::operator::{OperatorEntry, OperatorRecord};
 use crate::package::{PackageEntry, PackageRecord};
 use crate::record_id::RecordId;
-use warg_crypto::Timestamp;
 use warg_crypto::hash::AnyHash;
 use warg_crypto::laws::byte_range;
 use warg_crypto::signing::PublicKey;
+use warg_time::Timestamp;
 
 fn hash_is_whole(hash: &AnyHash)
-    ensures { IsWholeHash hash.now }
+    ensures { IsWellFormedHash hash.now }
 {
     byte_range(hash.bytes());
 }
 
 fn link_is_whole(link: &Option<RecordId>)
-    ensures { IsWholeLink link.now }
+    ensures { IsWellFormedLink link.now }
 {
     if let Some(id) = link {
         hash_is_whole(&AnyHash::from(*id));
@@ -28,14 +28,14 @@ fn link_is_whole(link: &Option<RecordId>)
 }
 
 fn key_is_whole(key: &PublicKey)
-    ensures { IsWholeNamedBytes key.now }
+    ensures { IsWellFormedNamedBytes key.now }
 {
     let _name = key.algorithm();
     byte_range(key.bytes());
 }
 
 fn time_is_whole(time: Timestamp)
-    ensures { IsWholeTime time }
+    ensures { IsWellFormedTime time }
 {
     let _seconds = time.seconds();
     let _nanos = time.nanos();
@@ -43,7 +43,7 @@ fn time_is_whole(time: Timestamp)
 
 fn package_entry_is_whole(entry: &PackageEntry)
     ensures { IsReadable (in_package.entry_data entry.now) →
-        IsWholeEntry IsWholePackageOwnEntry (in_package.entry_data entry.now) }
+        IsWellFormedEntry IsWellFormedPackageOwnEntry (in_package.entry_data entry.now) }
 {
     match entry {
         PackageEntry::Init { key, .. } => key_is_whole(key),
@@ -54,7 +54,7 @@ fn package_entry_is_whole(entry: &PackageEntry)
 }
 
 fn operator_entry_is_whole(entry: &OperatorEntry)
-    ensures { IsWholeEntry IsWholeOperatorOwnEntry (in_operator.entry_data entry.now) }
+    ensures { IsWellFormedEntry IsWellFormedOperatorOwnEntry (in_operator.entry_data entry.now) }
 {
     match entry {
         OperatorEntry::Init { key, .. } => key_is_whole(key),
@@ -68,7 +68,7 @@ fn operator_entry_is_whole(entry: &OperatorEntry)
 /// A package record reads back as it is written wherever the texts of its versions do.
 pub fn package_records_are_whole(package_record: &PackageRecord)
     ensures { AllByRecursion IsReadable (in_package.record_data package_record.now).entries →
-        IsWhole IsWholePackageOwnEntry (in_package.record_data package_record.now) }
+        IsWellFormed IsWellFormedPackageOwnEntry (in_package.record_data package_record.now) }
 {
     link_is_whole(&package_record.prev);
     time_is_whole(package_record.timestamp);
@@ -79,7 +79,8 @@ pub fn package_records_are_whole(package_record: &PackageRecord)
 
 /// Every operator record reads back as it is written.
 pub fn operator_records_are_whole(operator_record: &OperatorRecord)
-    ensures { IsWhole IsWholeOperatorOwnEntry (in_operator.record_data operator_record.now) }
+    ensures { IsWellFormed IsWellFormedOperatorOwnEntry
+        (in_operator.record_data operator_record.now) }
 {
     link_is_whole(&operator_record.prev);
     time_is_whole(operator_record.timestamp);

@@ -6,7 +6,7 @@ ghost use Rattle.warg_protobuf.specs.OperatorRecord.{operator_record_view};
 ghost use Rattle.warg_envelope.specs.Faults.{fault_of, IsReading};
 ghost use Rattle.warg_records.specs.OperatorEntries.{OperatorOwnEntry, entry_data, record_data};
 ghost use Rattle.warg_records.specs.OperatorReading.{operator_entry_of};
-ghost use Rattle.warg_records.specs.Steps.{record_of};
+ghost use Rattle.warg_records.specs.RecordReading.{record_of};
 ghost use Rattle.warg_permissions.specs.declared.operator.Permission.{Permission};
 
 use crate::entries::FromMessage;
@@ -14,7 +14,7 @@ use crate::log_record::LogRecord;
 use crate::operator::{OperatorEntry, OperatorRecord, Permission};
 use crate::reading::{read_grant, read_init, read_revoke};
 use std::alloc::Global;
-use warg_crypto::DecodeError;
+use warg_envelope::DecodeError;
 use warg_protobuf as message;
 use warg_protobuf::laws::fields_give_values;
 use warg_protobuf::operator_entry::Contents;

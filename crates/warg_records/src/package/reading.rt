@@ -10,7 +10,7 @@ ghost use Rattle.warg_protobuf.specs.PackageRecord.{package_record_view};
 ghost use Rattle.warg_envelope.specs.Faults.{fault_of, IsReading};
 ghost use Rattle.warg_records.specs.PackageEntries.{PackageOwnEntry, entry_data, record_data};
 ghost use Rattle.warg_records.specs.PackageReading.{package_entry_of, release_of, version_of, yank_of};
-ghost use Rattle.warg_records.specs.Steps.{own, record_of};
+ghost use Rattle.warg_records.specs.RecordReading.{own_entry, record_of};
 ghost use Rattle.warg_permissions.specs.declared.package.Permission.{Permission};
 
 use crate::entries::FromMessage;
@@ -20,8 +20,8 @@ use crate::reading::{read_grant, read_init, read_revoke};
 use semver::Version;
 use std::alloc::{AllocError, Global};
 use std::str::FromStr;
-use warg_crypto::DecodeError;
 use warg_crypto::hash::AnyHash;
+use warg_envelope::DecodeError;
 use warg_protobuf as message;
 use warg_protobuf::laws::fields_give_values;
 use warg_protobuf::package_entry::Contents;
@@ -48,7 +48,7 @@ fn read_version(alloc: Global, text: &str) -> Result<Version, DecodeError>
 }
 
 fn read_release(alloc: Global, message: PackageRelease) -> Result<PackageEntry, DecodeError>
-    ensures { IsReading entry_data fault_of (own (release_of (release_view message))) result }
+    ensures { IsReading entry_data fault_of (own_entry (release_of (release_view message))) result }
 {
     let version = read_version(alloc, message.version.as_str())?;
     match AnyHash::from_str(message.content_hash.as_str()) {
@@ -58,7 +58,7 @@ fn read_release(alloc: Global, message: PackageRelease) -> Result<PackageEntry, 
 }
 
 fn read_yank(alloc: Global, message: PackageYank) -> Result<PackageEntry, DecodeError>
-    ensures { IsReading entry_data fault_of (own (yank_of (yank_view message))) result }
+    ensures { IsReading entry_data fault_of (own_entry (yank_of (yank_view message))) result }
 {
     let version = read_version(alloc, message.version.as_str())?;
     Ok(PackageEntry::Yank { version })

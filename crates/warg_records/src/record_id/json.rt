@@ -1,9 +1,9 @@
 //! JSON of the ids of records.
 
 ghost use Rattle.std.specs.Prelude.{◌≡◌, []};
-ghost use Rattle.warg_crypto.specs.EqualLaws.{same_equal};
+ghost use Rattle.warg_json.specs.EqualLaws.{same_equal};
 ghost use Rattle.serde_json.specs.View.{view};
-ghost use Rattle.warg_crypto.specs.Json.{Returns};
+ghost use Rattle.warg_json.specs.Json.{Returns};
 ghost use Rattle.warg_records.specs.RecordIdJson.{record_id_in, record_id_json};
 ghost use Rattle.warg_records.specs.declared.record_id.RecordId.{RecordId};
 
@@ -11,7 +11,7 @@ use crate::record_id::RecordId;
 use serde_json::Value;
 use std::alloc::Global;
 use warg_crypto::hash::AnyHash;
-use warg_crypto::{JsonError, JsonValue};
+use warg_json::{JsonError, JsonValue};
 
 impl JsonValue for RecordId {
     ghost Plain = { RecordId };

@@ -1,6 +1,6 @@
 use Rattle.std.proofs.Common.{◌≡◌, true, [], ◌∷◌, ◌++◌, ◌+◌, Ok, ap, arith}
 use Rattle.std.proofs.lemmas.Grind.{common_steps}
-use Rattle.warg_protocol.specs.Logs.{envelope_of, envelope_fault_of, told}
+use Rattle.warg_protocol.specs.Logs.{envelope_of, envelope_fault_of, cause_named_by}
 use Rattle.warg_audit.specs.Lines.{lines_of, strings_from}
 use Rattle.warg_audit.proofs.JudgeLemmas.{none_judged, one_judged, still_refused}
 use Rattle.warg_audit.proofs.StringLemmas.{one_read, rest_read, some_strings}
@@ -10,7 +10,7 @@ pub loop-rest-init : goal.loop-rest-init
 loop-rest-init g c = record {
   judged = rw c.as_slice-rest.ensures.value (none_judged g.L.Validator.kind (g.V.Verifier.belongs c.args.verifier.now) (envelope_of g.L.Record.Record.read)
       (lines_of c.args.text.items) (g.L.Validator.view c.in_ok-state.state) c.in_ok-state.ensures
-      (g.met.L.Validator.laws.by_list (g.V.Verifier.belongs c.args.verifier.now) [] tt));
+      (g.met.L.Validator.laws.by_history (g.V.Verifier.belongs c.args.verifier.now) [] tt));
   short = rw c.as_slice-rest.ensures.value (omega arith);
 }
 
@@ -20,7 +20,7 @@ loop-rest-preserved g c =
     let so_far = rw c.cut_line.ensures.line at c.loop-rest.invariant.judged in
     let string = c.decode_line.new.buffer.items in record {
       judged = one_judged g.L.Validator.kind (g.V.Verifier.belongs c.args.verifier.now) (envelope_of g.L.Record.Record.read) g.L.Validator.view
-          (told (envelope_fault_of g.L.Record.Record.fault_of) g.L.Validator.offence_of) (lines_of c.args.text.items)
+          (cause_named_by (envelope_fault_of g.L.Record.Record.fault_of) g.L.Validator.offence_of) (lines_of c.args.text.items)
           c.loop-rest.count c.cut_line.result.0.now (lines_of c.cut_line.result.1.now)
           (g.L.Validator.view c.loop-rest.state) so_far string (c.in_ok-decode_line.ensures.bytes (ap Ok good))
           c.in-Ok-take_string.next (c.in-Ok-take_string.ensures so_far.strings so_far.many so_far.lawful so_far.stands);
@@ -42,7 +42,7 @@ returns-in-Err-take_string-clause-ok g c =
       (
         rest_read 0 lines (c.loop-rest.count + 1) rest strings more.0 read more.1,
         rw c.in_ok-refusal-in-Err-take_string.ensures.ok (still_refused g.L.Validator.kind (g.V.Verifier.belongs c.args.verifier.now) (envelope_of g.L.Record.Record.read) g.L.Validator.kind.view_of
-            strings more.0 (told (envelope_fault_of g.L.Record.Record.fault_of) g.L.Validator.offence_of)
+            strings more.0 (cause_named_by (envelope_fault_of g.L.Record.Record.fault_of) g.L.Validator.offence_of)
             c.in-Err-take_string.error (c.in-Err-take_string.ensures judged.strings judged.many judged.lawful judged.stands)),
         tt,
       ),

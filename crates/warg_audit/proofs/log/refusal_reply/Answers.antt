@@ -1,5 +1,5 @@
 use Rattle.std.proofs.lemmas.Result.{IfOk-weaker}
-use Rattle.warg_protocol.specs.Logs.{envelope_fault_of, told}
+use Rattle.warg_protocol.specs.Logs.{envelope_fault_of, cause_named_by}
 use Rattle.warg_audit.specs.Replies.{printed_of}
 use Rattle.warg_audit.proofs.LogLemmas.{told_answers}
 use Rattle.warg_audit.proofs.log.refusal_reply.Goals as goal
@@ -9,6 +9,6 @@ returns-in-Some g c =
     IfOk-weaker c.refused_reply.result _ _
     (λ reply is belongs seen fault_name offence_name shown reports strings refusal.
     told_answers _ _ strings (printed_of reply) seen c.args.error.now.index c.in-Some.name.now
-    (told (envelope_fault_of g.L.Record.Record.fault_of) g.L.Validator.offence_of c.args.error.now.cause)
+    (cause_named_by (envelope_fault_of g.L.Record.Record.fault_of) g.L.Validator.offence_of c.args.error.now.cause)
     refusal.first (c.in-Some.ensures fault_name offence_name shown reports) is)
     c.refused_reply.ensures

@@ -1,5 +1,5 @@
 use Rattle.std.proofs.Common.{[], ◌∷◌}
-use Rattle.warg_protocol.specs.Logs.{envelope_of, envelope_fault_of, read_all, told}
+use Rattle.warg_protocol.specs.Logs.{envelope_of, envelope_fault_of, read_all, cause_named_by}
 use Rattle.warg_audit.proofs.JudgeLemmas.{next_lawful, next_refused}
 use Rattle.warg_audit.proofs.log.take_string.Goals as goal
 
@@ -9,7 +9,7 @@ returns-in-Ok g c = λ strings many lawful stands.
     let read = envelope_of g.L.Record.Record.read in
     let run = rw c.from_ref.ensures.value at c.in-Ok.ensures.continued in
     next_lawful k (g.V.Verifier.belongs c.args.verifier.now) read strings c.args.string.now.items lawful g.L.Validator.view
-    (told (envelope_fault_of g.L.Record.Record.fault_of) g.L.Validator.offence_of)
+    (cause_named_by (envelope_fault_of g.L.Record.Record.fault_of) g.L.Validator.offence_of)
     (c.resumption.ensures.lawful (g.V.Verifier.belongs c.args.verifier.now) strings (c.args.string.now.items ∷ [])) c.in-Ok.next
     (run (g.V.Verifier.belongs c.args.verifier.now) (read_all read strings) (c.strings_are_accepted.ensures (g.V.Verifier.belongs c.args.verifier.now) strings lawful) stands)
 
@@ -19,7 +19,7 @@ returns-in-Err g c = λ strings many lawful stands.
     let read = envelope_of g.L.Record.Record.read in
     let run = rw c.from_ref.ensures.value at c.in-Err.ensures.continued in
     next_refused k (g.V.Verifier.belongs c.args.verifier.now) read strings c.args.string.now.items lawful g.L.Validator.view
-    (told (envelope_fault_of g.L.Record.Record.fault_of) g.L.Validator.offence_of)
+    (cause_named_by (envelope_fault_of g.L.Record.Record.fault_of) g.L.Validator.offence_of)
     (c.resumption.ensures.first (g.V.Verifier.belongs c.args.verifier.now) strings (c.args.string.now.items ∷ []) lawful)
     c.args.place many c.in-Err.error
     (run (g.V.Verifier.belongs c.args.verifier.now) (read_all read strings) (c.strings_are_accepted.ensures (g.V.Verifier.belongs c.args.verifier.now) strings lawful) stands)

@@ -47,9 +47,9 @@ reads-preserved g c =
     record {
       reads = omega (arith, c.in-Ok.ensures.reads);
       failures = c.in-Ok.ensures.failures ∙ c.reads.invariant.failures;
-      taken = omega (arith, c.in-Ok.ensures.taken);
-      late = λ unended.
-          let kept = c.reads.invariant.late unended in
+      bytes_taken = omega (arith, c.in-Ok.ensures.taken);
+      late_reads = λ unended.
+          let kept = c.reads.invariant.late_reads unended in
           (rw (kept.0, ne_eqb c.in-Ok.count 0 c.if-count-eq0.false) at c.in-Ok.ensures.ended, rw kept.0 at c.in-Ok.ensures.late ∙ kept.1);
       enough = omega arith;
       short = omega arith;

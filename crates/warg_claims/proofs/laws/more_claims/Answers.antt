@@ -6,7 +6,7 @@ use Rattle.warg_claims.proofs.laws.more_claims.Goals as goal
 
 pub returns-clause-accepted : goal.returns-clause-accepted
 returns-clause-accepted g c = λ few many more es h i e at.
-    g.met.L.Validator.laws.trusting (is_claimed few) (is_claimed many) (claimed-within few many more) _ e (h i e at)
+    g.met.L.Validator.laws.more_signatures (is_claimed few) (is_claimed many) (claimed-within few many more) _ e (h i e at)
 
 pub returns-clause-strings : goal.returns-clause-strings
 returns-clause-strings g c = λ few many more ss.

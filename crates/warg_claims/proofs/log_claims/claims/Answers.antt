@@ -3,7 +3,7 @@ use Rattle.std.specs.Vec.{vec_items}
 use Rattle.std.specs.List.{slice_get}
 use Rattle.std.proofs.lemmas.List.{length-map}
 use Rattle.warg_envelope.specs.Envelopes.{envelope_of, envelope_fault_of}
-use Rattle.warg_validator.specs.Outcomes.{told}
+use Rattle.warg_validator.specs.OutcomeRuns.{cause_named_by}
 use Rattle.warg_validator.proofs.KindWalks.{lawful-accepted}
 use Rattle.warg_claims.specs.Claimed.{any_signature}
 use Rattle.warg_claims.proofs.ClaimLaws.{claims-front, claims-none, claims-step, claims-whole, refused-at}
@@ -18,7 +18,7 @@ loop-bytes-init g c =
     record {
       claims = rw none (claims-none k (envelope_of g.L.Record.Record.read));
       accepted = lawful-accepted k laws any_signature [] tt;
-      stands = c.in-Ok.ensures ∙ sym (laws.by_list any_signature [] tt);
+      stands = c.in-Ok.ensures ∙ sym (laws.by_history any_signature [] tt);
     }
 
 pub loop-bytes-preserved : goal.loop-bytes-preserved
@@ -54,14 +54,14 @@ pub returns-in-Err-clause-end : goal.returns-in-Err-clause-end
 returns-in-Err-clause-end g c =
     let k = g.L.Validator.kind in
     let read = envelope_of g.L.Record.Record.read in
-    let told_by = told (envelope_fault_of g.L.Record.Record.fault_of) g.L.Validator.offence_of in
+    let named_by = cause_named_by (envelope_fault_of g.L.Record.Record.fault_of) g.L.Validator.offence_of in
     let log = c.args.log.now in
     let ss = map vec_items log in
     let i = c.loop-bytes.bytes-index in
     let here : i < length ss = rw length-map c.loop-bytes-test.true in
     let front = claims-front k read ss i c.loop-bytes.claims.items (omega (arith, here)) c.loop-bytes.invariant.claims in
     let at : slice_get ss i ≡ Some c.as_slice.result.now = slice_get-map-at vec_items log i c.bytes-item.result c.as_slice.result.now c.loop-bytes-test.true c.bytes-item.is c.as_slice.ensures.value in
-    rw front.0 (refused-at k read told_by (g.L.Validator.view c.loop-bytes.state) ss i c.as_slice.result.now c.in-Err.cause at c.loop-bytes.invariant.stands c.in-Err.ensures.refused)
+    rw front.0 (refused-at k read named_by (g.L.Validator.view c.loop-bytes.state) ss i c.as_slice.result.now c.in-Err.cause at c.loop-bytes.invariant.stands c.in-Err.ensures.refused)
 
 pub returns-clause-claims : goal.returns-clause-claims
 returns-clause-claims g c =

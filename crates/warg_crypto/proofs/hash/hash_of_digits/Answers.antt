@@ -1,5 +1,5 @@
 use Rattle.std.proofs.Common.{sym}
-use Rattle.warg_crypto.specs.HashLemmas.{hash_of_digits-bad, hash_of_digits-long}
+use Rattle.warg_crypto.specs.HashTextLaws.{hash_of_digits-bad, hash_of_digits-long}
 use Rattle.warg_crypto.proofs.hash.hash_of_digits.Goals as goal
 
 pub returns-then-are_pairs : goal.returns-then-are_pairs

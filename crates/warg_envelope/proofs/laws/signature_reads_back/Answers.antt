@@ -1,12 +1,12 @@
 use Rattle.std.proofs.Common.{◌≡◌, Ok, refl, rules}
 use Rattle.base64.specs.GeneralPurpose.{IsBytes}
-use Rattle.warg_crypto.specs.NamedBytes.{IsName, NamedBytes, tag_text}
+use Rattle.warg_crypto.specs.NamedBytes.{IsName, NamedBytes, named_bytes_text}
 use Rattle.warg_crypto.specs.Keys.{signature_of}
-use Rattle.warg_crypto.specs.Names.{tag_of-tag_text}
+use Rattle.warg_crypto.specs.NamedBytesLaws.{named_bytes_of-named_bytes_text}
 use Rattle.warg_envelope.proofs.laws.signature_reads_back.Goals as goal
 
-read_again : (t : NamedBytes) → IsName t.name → IsBytes t.bytes → signature_of (tag_text t) ≡ Ok t
-read_again t own fits = rw (tag_of-tag_text t own fits) refl
+read_again : (t : NamedBytes) → IsName t.name → IsBytes t.bytes → signature_of (named_bytes_text t) ≡ Ok t
+read_again t own fits = rw (named_bytes_of-named_bytes_text t own fits) refl
 
 pub returns : goal.returns
 returns g c =

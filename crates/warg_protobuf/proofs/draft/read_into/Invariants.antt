@@ -4,7 +4,7 @@ use Rattle.warg_protobuf.specs.Values.{kept_of}
 use Rattle.warg_protobuf.proofs.draft.read_into.Given as goal
 
 abbrev pub invariant-loop-rest : goal.invariant-loop-rest
-invariant-loop-rest g l = kept_of g.D.Draft.with_field (g.D.Draft.kept l.draft) (fields_of g.D.Draft.table l.rest) ≡ kept_of g.D.Draft.with_field (g.D.Draft.kept l.fn.draft) (fields_of g.D.Draft.table l.bytes)
+invariant-loop-rest g l = kept_of g.D.Draft.with_field (g.D.Draft.kept_data l.draft) (fields_of g.D.Draft.table l.rest) ≡ kept_of g.D.Draft.with_field (g.D.Draft.kept_data l.fn.draft) (fields_of g.D.Draft.table l.bytes)
 
 abbrev pub decreases-loop-rest : goal.decreases-loop-rest
 decreases-loop-rest g l = length l.rest

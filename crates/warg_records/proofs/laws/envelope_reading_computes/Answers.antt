@@ -12,9 +12,9 @@ returns-clause-of_package c =
     reads_envelope (IsRecord package_record_table IsPackageRecord package_entry_of) (HasRecordFault package_record_table IsPackageRecord package_entry_of) package_record_of
     (record {
       value = λ b m h. (of b).value m h;
-      value_again = λ b m h. (of b).value_again m h;
+      value_converse = λ b m h. (of b).value_converse m h;
       fault = λ b f h. (of b).fault f h;
-      fault_again = λ b f h. (of b).fault_again f h;
+      fault_converse = λ b f h. (of b).fault_converse f h;
     })
     c.decoding_computes.ensures.envelope
 
@@ -24,8 +24,8 @@ returns-clause-of_operator c =
     reads_envelope (IsRecord operator_record_table IsOperatorRecord operator_entry_of) (HasRecordFault operator_record_table IsOperatorRecord operator_entry_of) operator_record_of
     (record {
       value = λ b m h. (of b).value m h;
-      value_again = λ b m h. (of b).value_again m h;
+      value_converse = λ b m h. (of b).value_converse m h;
       fault = λ b f h. (of b).fault f h;
-      fault_again = λ b f h. (of b).fault_again f h;
+      fault_converse = λ b f h. (of b).fault_converse f h;
     })
     c.decoding_computes.ensures.envelope

@@ -4,4 +4,4 @@ use Rattle.indexmap.specs.IndexSet.{insert_all}
 use Rattle.warg_records.proofs.mention.mentions.Given as goal
 
 abbrev pub invariant-loop-entry : goal.invariant-loop-entry
-invariant-loop-entry g l = l.items.keys ≡ insert_all g.E.Item.PartialEq.eq [] (filter_map g.E.Mention.mentioned (take l.entry-index l.entries))
+invariant-loop-entry g l = l.items.keys ≡ insert_all g.E.Item.PartialEq.eq [] (filter_map g.E.Mention.mention_of (take l.entry-index l.entries))

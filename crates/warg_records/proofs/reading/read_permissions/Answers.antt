@@ -1,8 +1,8 @@
 use Rattle.std.proofs.Common.{◌≡◌, Ok, ◌∷◌, [], ◌++◌, List, length, sym, ap, subst, ◌∙◌, append_assoc, arith}
 use Rattle.std.proofs.lemmas.Result.{err_from_is_err_and}
 use Rattle.std.specs.Vec.Iter.{into_iter_items}
-use Rattle.warg_envelope.specs.Faults.{TellsFault, fault_of}
-use Rattle.warg_records.specs.Steps.{each, permission_in}
+use Rattle.warg_envelope.specs.Faults.{NamesFault, fault_of}
+use Rattle.warg_records.specs.RecordReading.{each, permission_in}
 use Rattle.warg_records.proofs.Each.{each-grows, each-stops}
 use Rattle.warg_records.proofs.reading.read_permissions.Goals as goal
 
@@ -10,9 +10,9 @@ pub returns-in_err-permission : goal.returns-in_err-permission
 returns-in_err-permission g c =
     let p = err_from_is_err_and c.from_residual-in_err-permission.result c.from_residual-in_err-permission.ensures.1 in
     let steps : into_iter_items c.loop-number.number-iterator ≡ c.in-Some.number ∷ into_iter_items c.next.new.self = c.in-Some.ensures.steps.0 in
-    let told : TellsFault (permission_in g.P.LogPermission.permission_of c.in-Some.number) (fault_of c.in_err-permission.field-0.0) = grind (arith, c.in_err-permission.ensures) in
+    let told : NamesFault (permission_in g.P.LogPermission.permission_of c.in-Some.number) (fault_of c.in_err-permission.field-0.0) = grind (arith, c.in_err-permission.ensures) in
     let f = permission_in g.P.LogPermission.permission_of in
-    rw (p.1, p.2) (subst (λ (l : List _). TellsFault (each f l) (fault_of c.in_err-permission.field-0.0))
+    rw (p.1, p.2) (subst (λ (l : List _). NamesFault (each f l) (fault_of c.in_err-permission.field-0.0))
     (ap (λ r. c.loop-number.yielded ++ r) (sym steps) ∙ c.loop-number.invariant.1 ∙ c.into_iter-number-iterator.ensures.into_iter_gives.0)
     (each-stops f c.loop-number.yielded c.loop-number.permissions.items c.in-Some.number (into_iter_items c.next.new.self) (fault_of c.in_err-permission.field-0.0) c.loop-number.invariant.0 told))
 

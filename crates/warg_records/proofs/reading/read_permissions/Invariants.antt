@@ -1,6 +1,6 @@
 use Rattle.std.proofs.Common.{◌≡◌, ◌++◌, Ok, length}
 use Rattle.std.specs.Vec.Iter.{into_iter_items, into_iter_len}
-use Rattle.warg_records.specs.Steps.{each, permission_in}
+use Rattle.warg_records.specs.RecordReading.{each, permission_in}
 use Rattle.warg_records.proofs.reading.read_permissions.Given as goal
 
 abbrev pub invariant-loop-number : goal.invariant-loop-number

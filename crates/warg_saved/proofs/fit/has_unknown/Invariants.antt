@@ -1,7 +1,7 @@
 use Rattle.std.proofs.Common.{◌≡◌}
 use Rattle.std.specs.List.{list_any}
 use Rattle.std.specs.Map.{keys_of}
-use Rattle.warg_crypto.specs.Pairs.{plain_pairs}
+use Rattle.warg_json.specs.Pairs.{plain_pairs}
 use Rattle.warg_saved.specs.Fit.{is_unknown}
 use Rattle.warg_saved.proofs.fit.has_unknown.Given as goal
 

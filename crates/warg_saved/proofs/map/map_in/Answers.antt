@@ -1,4 +1,4 @@
-use Rattle.warg_crypto.proofs.Pairs.{ascending}
+use Rattle.warg_json.proofs.Pairs.{ascending}
 use Rattle.warg_saved.proofs.map.map_in.Goals as goal
 
 pub map_of-requires : goal.map_of-requires

@@ -1,11 +1,11 @@
 use Rattle.std.proofs.Common.{refl, subst}
 use Rattle.warg_audit.specs.LogTypes.{package_log}
 use Rattle.warg_protocol.specs.Package.{View}
-use Rattle.warg_tool.proofs.JudgedLemmas.{stopped_prints}
-use Rattle.warg_tool.specs.Answers.{answer_view}
-use Rattle.warg_tool.specs.Questions.{IsLatestText}
-use Rattle.warg_tool.specs.RecordLines.{record_lines}
-use Rattle.warg_tool.specs.Verdicts.{lawful}
+use Rattle.warg_answers.proofs.JudgedLemmas.{stopped_prints}
+use Rattle.warg_answers.specs.Answers.{answer_view}
+use Rattle.warg_tool.specs.Latest.{IsLatestText}
+use Rattle.warg_answers.specs.RecordLines.{record_lines}
+use Rattle.warg_answers.specs.Verdicts.{lawful}
 use Rattle.warg_tool.proofs.latest.latest_answer.Goals as goal
 
 pub returns-in_ok-latest_of-in-Ok : goal.returns-in_ok-latest_of-in-Ok

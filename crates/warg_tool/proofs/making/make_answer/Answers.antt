@@ -1,6 +1,6 @@
-use Rattle.warg_tool.proofs.JudgedLemmas.{stopped_prints}
+use Rattle.warg_answers.proofs.JudgedLemmas.{stopped_prints}
 use Rattle.warg_tool.proofs.TaskLemmas.{lawful_prints}
-use Rattle.warg_tool.specs.RecordLines.{record_lines}
+use Rattle.warg_answers.specs.RecordLines.{record_lines}
 use Rattle.warg_tool.specs.Tasks.{IsMadeLine}
 use Rattle.warg_tool.proofs.making.make_answer.Goals as goal
 

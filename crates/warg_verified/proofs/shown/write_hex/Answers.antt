@@ -5,7 +5,7 @@ use Rattle.std.proofs.lemmas.Str.{IsUtf8-from_ascii}
 use Rattle.std.specs.Slice.Iter.{chunks_rest}
 use Rattle.hex.specs.Hex.{encode_lower, lower_digits}
 use Rattle.hex.proofs.HexLemmas.{IsAscii-encode_with}
-use Rattle.warg_crypto.specs.HashLemmas.{IsAscii-lower_digits}
+use Rattle.warg_crypto.specs.HashTextLaws.{IsAscii-lower_digits}
 use Rattle.warg_verified.proofs.HexLemmas.{encode_lower-nil, piece_first}
 use Rattle.warg_verified.proofs.shown.write_hex.Goals as goal
 

@@ -1,13 +1,13 @@
 use Rattle.std.proofs.Common.{refl}
 use Rattle.warg_envelope.specs.Envelopes.{envelope_of, envelope_fault_of}
-use Rattle.warg_validator.specs.Messages.{cause_name}
-use Rattle.warg_validator.specs.Outcomes.{told}
+use Rattle.warg_validator.specs.OutcomeRuns.{cause_named_by}
 use Rattle.warg_validator.specs.declared.replay.RunCause.TheVariants.{Parse}
+use Rattle.warg_c.specs.Texts.{SaysCause}
 use Rattle.warg_c.proofs.Refusals.{id-fails}
 use Rattle.warg_c.proofs.exports.identifying.id_in.Goals as goal
 
 pub returns-in-Err-clause-err : goal.returns-in-Err-clause-err
 returns-in-Err-clause-err g c =
-    id-fails g.L.Validator.kind (envelope_of g.L.Record.Record.read) (told (envelope_fault_of g.L.Record.Record.fault_of) g.L.Validator.offence_of) (cause_name g.L.Error.Named.name_of)
+    id-fails g.L.Validator.kind (envelope_of g.L.Record.Record.read) (cause_named_by (envelope_fault_of g.L.Record.Record.fault_of) g.L.Validator.offence_of) (SaysCause g.L.Error.Named.name_of g.L.Error.Display.output)
     c.args.envelope.now c.args.text.now c.refuse.new.used c.refuse.new.text (Parse c.in-Err.error) c.refuse.result c.refuse.ensures.failure c.refuse.ensures.text
     (envelope_fault_of g.L.Record.Record.fault_of c.in-Err.error) refl c.in-Err.ensures.opened

@@ -2,7 +2,7 @@
 use Rattle.warg_c.proofs.Steps.{◌≡◌, refl, sym, List, [], ◌∷◌, ◌++◌, Val, id⊢, ftrue, fsep, WpFn, tables, fact, ‵, raw, prop, ◌⊛◌, ◌$◌, ◌∵◌, !, qed, done, move, drop, use1, split, join, fsplit, fjoin, rewrite, regoal, suffices, enter, of_opd, stop, fld, no_more, and_then, returns, whole, sub, agg, alloc_all, pass_all, free_all, look_at, get, get_in, sets, yes, type_at, heard, nothing, says, Stays, stay_dropped, walk_of, ends_at, Goes-dropped, proved_at, D, B, word, box_typed}
 use Rattle.std.specs.Prelude.{true, Option, Some, None, is_some}
 use Rattle.std.proofs.lemmas.Bool.{false≢true}
-use Rattle.warg_c.specs.Kept.{Kept}
+use Rattle.warg_c.specs.Kept.{HeldValue}
 use Rattle.warg_c.proofs.AsBox.{E, FromOwned}
 use Rattle.warg_c.proofs.Words.{is_words}
 use Rattle.warg_c.specs.contracts.owned.Owned as Owned
@@ -13,7 +13,7 @@ use Rattle.warg_c.proofs.owned.Owned.into_parts.Code as code
 abbrev stayed : Stays f.ended.signature.params f.ended.kept
 stayed = (stay_dropped FromOwned yes, tt)
 
-held : (m : Option Kept) → is_some m ≡ true → (x : Kept) × (m ≡ Some x)
+held : (m : Option HeldValue) → is_some m ≡ true → (x : HeldValue) × (m ≡ Some x)
 held (Some x) _ = (x, refl)
 held None h = absurd (false≢true h)
 
@@ -29,7 +29,7 @@ into_parts_spec 𝓤 𝓛 𝓜 𝓡 wired =
     let box : D E = record { ptr = h.at; alloc = h.alloc; value = x } in
     let made : To.Denot = record { ptr = h.at; alloc = h.alloc; value = x } in
     split ! $ drop ! $ fsplit ! $
-    rewrite ! 0 (λ (m : Option Kept). ‵ (Owned.the_row.own_val (record h { kept = m }) y.0.4.0)) is refl $
+    rewrite ! 0 (λ (m : Option HeldValue). ‵ (Owned.the_row.own_val (record h { kept = m }) y.0.4.0)) is refl $
     use1 𝓛 (‵ ((B E).own_val box y.0.4.0)) (id⊢ 𝓤 _) $
     is_words E ! box y.0.4.0 (λ b o hv e ws fits.
     let w = word E hv b o in

@@ -6,7 +6,7 @@ use Rattle.std.proofs.lemmas.Str.{IsUtf8-from_ascii, IsAscii-append}
 use Rattle.std.proofs.lemmas.Str.Ascii.{IsAscii-from_all}
 use Rattle.hex.specs.Hex.{encode_lower, lower_digits}
 use Rattle.hex.proofs.HexLemmas.{IsAscii-encode_with}
-use Rattle.warg_crypto.specs.HashLemmas.{IsAscii-lower_digits}
+use Rattle.warg_crypto.specs.HashTextLaws.{IsAscii-lower_digits}
 use Rattle.warg_crypto.proofs.hash.AnyHash.write_text.Goals as goal
 
 IsAscii-name : IsAscii (codes "sha256:")

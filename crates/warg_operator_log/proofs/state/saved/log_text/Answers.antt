@@ -2,14 +2,14 @@ use Rattle.std.proofs.Common.{◌≡◌, ap, ◌∙◌, sym, codes, string_bytes
 use Rattle.std.specs.Prelude.{Ok}
 use Rattle.std.proofs.lemmas.Result.{err_from_is_err_and}
 use Rattle.serde_json.specs.Data.{no_members}
-use Rattle.warg_crypto.specs.JsonTexts.{algorithm_json, key_json, key_in}
-use Rattle.warg_crypto.specs.Members.{put_option}
+use Rattle.warg_json.specs.JsonTexts.{algorithm_json, key_json, key_in}
+use Rattle.warg_json.specs.Members.{put_option}
 use Rattle.warg_crypto.specs.NamedBytes.{NamedBytes}
 use Rattle.warg_permissions.specs.OperatorPermissions.{permission_text, permission_in, same_permission}
 use Rattle.warg_permissions.specs.declared.operator.Permission.{Permission}
 use Rattle.warg_saved.specs.Maps.{put_pairs}
-use Rattle.warg_saved.specs.Names.{text_name, text_named}
-use Rattle.warg_saved.specs.Permissions.{permissions_json, permissions_in}
+use Rattle.warg_saved.specs.MapNames.{text_name, text_named}
+use Rattle.warg_saved.specs.SavedPermissions.{permissions_json, permissions_in}
 use Rattle.warg_saved.specs.Backs.{AreBack}
 use Rattle.warg_saved.proofs.CanonicalTexts.{gives_reads}
 use Rattle.warg_saved.proofs.Optional.{same_option}

@@ -7,4 +7,4 @@ pub returns-clause-agrees : goal.returns-clause-agrees
 returns-clause-agrees g c = let e = g.E.Codec in record_agrees g.E.Codec.table e.value e.Says c.laws.ensures.agrees
 
 pub returns-clause-written : goal.returns-clause-written
-returns-clause-written g c = let e = g.E.Codec in record_again g.E.Codec.table e.Says (λ v. bytes_of (e.written v)) e.is_sound c.laws.ensures.written
+returns-clause-written g c = let e = g.E.Codec in record_again g.E.Codec.table e.Says (λ v. bytes_of (e.written_fields v)) e.is_sound c.laws.ensures.written

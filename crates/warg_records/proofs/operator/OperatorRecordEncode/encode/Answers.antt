@@ -2,7 +2,7 @@ use Rattle.warg_protobuf.specs.OperatorRecord.{operator_record_table, IsOperator
 use Rattle.warg_records.specs.OperatorEntries.{record_data}
 use Rattle.warg_records.specs.OperatorReading.{operator_entry_of, operator_record_of}
 use Rattle.warg_records.specs.OperatorWriting.{operator_record_message}
-use Rattle.warg_records.proofs.WriteBack.{encoded_back, operator_back}
+use Rattle.warg_records.proofs.WrittenRecords.{encoded_back, operator_back}
 use Rattle.warg_records.proofs.operator.OperatorRecordEncode.encode.Goals as goal
 
 pub returns-clause-read_again : goal.returns-clause-read_again

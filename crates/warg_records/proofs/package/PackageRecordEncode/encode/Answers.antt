@@ -2,7 +2,7 @@ use Rattle.warg_protobuf.specs.PackageRecord.{package_record_table, IsPackageRec
 use Rattle.warg_records.specs.PackageEntries.{record_data}
 use Rattle.warg_records.specs.PackageReading.{package_entry_of, package_record_of}
 use Rattle.warg_records.specs.PackageWriting.{package_record_message}
-use Rattle.warg_records.proofs.WriteBack.{encoded_back, package_back}
+use Rattle.warg_records.proofs.WrittenRecords.{encoded_back, package_back}
 use Rattle.warg_records.proofs.package.PackageRecordEncode.encode.Goals as goal
 
 pub returns-clause-read_again : goal.returns-clause-read_again

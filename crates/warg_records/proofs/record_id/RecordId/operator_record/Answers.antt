@@ -1,5 +1,5 @@
 use Rattle.std.proofs.Common.{ℕ, List, ap, ◌∙◌}
-use Rattle.warg_crypto.specs.RecordIds.{operator_record_message}
+use Rattle.warg_records.specs.RecordHashes.{operator_record_message}
 use Rattle.warg_records.specs.RecordIds.{id_by}
 use Rattle.warg_records.proofs.record_id.RecordId.operator_record.Goals as goal
 

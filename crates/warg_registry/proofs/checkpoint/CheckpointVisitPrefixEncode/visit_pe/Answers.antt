@@ -20,6 +20,6 @@ returns-clause-err g c = on_err-map c.visit_hash-2.result (λ x. (stops_second _
 
 pub returns-clause-ok : goal.returns-clause-ok
 returns-clause-ok g c = λ m h.
-    subst (λ (l : List ℕ). OnOk c.visit_hash-2.result (g.BV.ByteVisitor.seen c.visit_hash-2.new.visitor.visitor.now l))
+    subst (λ (l : List ℕ). OnOk c.visit_hash-2.result (g.BV.ByteVisitor.has_seen c.visit_hash-2.new.visitor.visitor.now l))
     (pieces_4 m (codes "WARG-CHECKPOINT-V0") (unsigned_of c.args.self.now.log_length) (hash_encoding_of c.args.self.now.log_root) (hash_encoding_of c.args.self.now.map_root))
     (c.visit_hash-2.ensures.ok _ (c.in_ok-visit_hash.ensures.ok _ (c.in_ok-visit_unsigned.ensures.ok _ (c.in_ok-visit_str_raw.ensures.ok m h))))

@@ -23,6 +23,6 @@ returns-clause-err g c = on_err-map c.visit_unsigned-2.result (λ x. (stops_seco
 
 pub returns-clause-ok : goal.returns-clause-ok
 returns-clause-ok g c = λ m h.
-    subst (λ (l : List ℕ). OnOk c.visit_unsigned-2.result (g.BV.ByteVisitor.seen c.visit_unsigned-2.new.self.visitor.now l))
+    subst (λ (l : List ℕ). OnOk c.visit_unsigned-2.result (g.BV.ByteVisitor.has_seen c.visit_unsigned-2.new.self.visitor.now l))
     (pieces_5 m (codes "WARG-TIMESTAMPED-CHECKPOINT-V0") (unsigned_of c.args.self.now.checkpoint.log_length) (hash_encoding_of c.args.self.now.checkpoint.log_root) (hash_encoding_of c.args.self.now.checkpoint.map_root) (unsigned_of c.args.self.now.timestamp))
     (c.visit_unsigned-2.ensures.ok _ (c.in_ok-visit_hash-2.ensures.ok _ (c.in_ok-visit_hash.ensures.ok _ (c.in_ok-visit_unsigned.ensures.ok _ (c.in_ok-visit_str_raw.ensures.ok m h)))))

@@ -16,6 +16,6 @@ returns-clause-err g c = rw (← c.from.ensures) (on_err-map c.visit_hash-2.resu
 
 pub returns-clause-ok : goal.returns-clause-ok
 returns-clause-ok g c = λ m h. rw (← c.from.ensures)
-    (subst (λ (l : List ℕ). OnOk c.visit_hash-2.result (g.BV.ByteVisitor.seen c.visit_hash-2.new.visitor.visitor.now l))
+    (subst (λ (l : List ℕ). OnOk c.visit_hash-2.result (g.BV.ByteVisitor.has_seen c.visit_hash-2.new.visitor.visitor.now l))
     (pieces_3 m (codes "WARG-LOG-LEAF-V0") (hash_encoding_of c.args.self.now.log_id.hash) (hash_encoding_of c.from.result))
     (c.visit_hash-2.ensures.ok _ (c.in_ok-visit_hash.ensures.ok _ (c.in_ok-visit_str_raw.ensures.ok m h))))

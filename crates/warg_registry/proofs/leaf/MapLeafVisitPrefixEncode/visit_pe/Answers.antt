@@ -12,6 +12,6 @@ returns-clause-err g c = rw (← c.from.ensures) (on_err-map c.visit_hash.result
 
 pub returns-clause-ok : goal.returns-clause-ok
 returns-clause-ok g c = λ m h. rw (← c.from.ensures)
-    (subst (λ (l : List ℕ). OnOk c.visit_hash.result (g.BV.ByteVisitor.seen c.visit_hash.new.visitor.visitor.now l))
+    (subst (λ (l : List ℕ). OnOk c.visit_hash.result (g.BV.ByteVisitor.has_seen c.visit_hash.new.visitor.visitor.now l))
     (append_assoc m (codes "WARG-MAP-LEAF-V0") (hash_encoding_of c.from.result))
     (c.visit_hash.ensures.ok _ (c.in_ok-visit_str_raw.ensures.ok m h)))

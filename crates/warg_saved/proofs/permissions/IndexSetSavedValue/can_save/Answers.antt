@@ -7,5 +7,5 @@ returns-clause-ok g c = (_, refl)
 
 pub returns-clause-back : goal.returns-clause-back
 returns-clause-back g c = λ none d is.
-    permissions_read_back g.P.PartialEq.eq g.met.P.Eq.laws g.P.LogPermission.text_of g.P.LogPermission.named g.met.P.LogPermission.text_reads_back
+    permissions_read_back g.P.PartialEq.eq g.met.P.Eq.laws g.P.LogPermission.text_of g.P.LogPermission.permission_named g.met.P.LogPermission.text_reads_back
     c.args.self.now.keys c.iter-permissions.ensures.unique (λ d. d) (Ok d) is none

@@ -1,9 +1,9 @@
 use Rattle.std.proofs.Common.{List, ℕ, subst, codes}
-use Rattle.warg_crypto.specs.JsonTexts.{key_in, key_json}
+use Rattle.warg_json.specs.JsonTexts.{key_in, key_json}
 use Rattle.warg_crypto.specs.NamedBytes.{NamedBytes}
 use Rattle.warg_saved.specs.Backs.{AreBack}
 use Rattle.warg_saved.specs.Maps.{put_pairs}
-use Rattle.warg_saved.specs.Names.{text_name, text_named}
+use Rattle.warg_saved.specs.MapNames.{text_name, text_named}
 use Rattle.warg_saved.specs.Texts.{PutsText}
 use Rattle.warg_saved.proofs.MapsBack.{no_versions, on_ok_then}
 use Rattle.warg_saved.proofs.Optional.{same_pairs}

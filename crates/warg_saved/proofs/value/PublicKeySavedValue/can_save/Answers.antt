@@ -1,5 +1,5 @@
 use Rattle.std.proofs.Common.{refl}
-use Rattle.warg_crypto.proofs.JsonTextLaws.{key_reads_back}
+use Rattle.warg_json.proofs.JsonTextLaws.{key_reads_back}
 use Rattle.warg_saved.proofs.value.PublicKeySavedValue.can_save.Goals as goal
 
 pub returns-clause-ok : goal.returns-clause-ok

@@ -1,5 +1,5 @@
 use Rattle.std.proofs.Common.{◌∙◌, string_bytes}
-use Rattle.warg_tool.specs.Answers.{answer_view}
+use Rattle.warg_answers.specs.Answers.{answer_view}
 use Rattle.warg_tool.proofs.ManyAuditLemmas.{with_line}
 use Rattle.warg_tool.proofs.many_audits.Verdicts.add.Goals as goal
 

@@ -1,5 +1,5 @@
 use Rattle.std.proofs.Common.{◌≡◌, filter, map}
-use Rattle.warg_tool.specs.Answers.{answer_view}
+use Rattle.warg_answers.specs.Answers.{answer_view}
 use Rattle.warg_tool.specs.ManyAudits.{is_path, IsWithAll}
 use Rattle.warg_tool.proofs.many_audits.Verdicts.add_all.Given as goal
 

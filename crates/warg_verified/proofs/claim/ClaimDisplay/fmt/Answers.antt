@@ -1,7 +1,7 @@
 use Rattle.std.proofs.Common.{◌≡◌, ℕ, List, [], ◌∷◌, ◌++◌, append_assoc, ap, rules, sym, ◌∙◌}
 use Rattle.std.proofs.Output.{has_written_styled_append, has_written_styled_of_eq}
 use Rattle.hex.specs.Hex.{encode_lower}
-use Rattle.warg_crypto.specs.NamedBytes.{NamedBytes, tag_text}
+use Rattle.warg_crypto.specs.NamedBytes.{NamedBytes, named_bytes_text}
 use Rattle.warg_verified.specs.Claims.{ClaimData, claim_text}
 use Rattle.warg_verified.proofs.claim.ClaimDisplay.fmt.Goals as goal
 
@@ -11,9 +11,9 @@ joined key message signature = sym (append_assoc key (32 ∷ message) (32 ∷ si
 
 shown : (key signature : NamedBytes) (message items : List ℕ) (claim : ClaimData) → message ≡ items
     → record { key = key; message = items; signature = signature } ≡ claim
-    → tag_text key ++ ((32 ∷ []) ++ (encode_lower message ++ ((32 ∷ []) ++ tag_text signature))) ≡ claim_text claim
+    → named_bytes_text key ++ ((32 ∷ []) ++ (encode_lower message ++ ((32 ∷ []) ++ named_bytes_text signature))) ≡ claim_text claim
 shown key signature message items claim same view =
-    joined (tag_text key) (encode_lower message) (tag_text signature)
+    joined (named_bytes_text key) (encode_lower message) (named_bytes_text signature)
     ∙ ap claim_text (ap (λ (l : List ℕ). record { key = key; message = l; signature = signature }) same ∙ view)
 
 pub returns-clause-styled : goal.returns-clause-styled

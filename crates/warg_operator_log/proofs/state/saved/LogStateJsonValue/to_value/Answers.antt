@@ -1,6 +1,6 @@
 use Rattle.std.proofs.Common.{ℕ, List, [], ap, sym, subst, ◌∙◌}
 use Rattle.serde_json.specs.View.{view}
-use Rattle.warg_crypto.specs.Json.{AreReadBack, ReadsBack, wrote}
+use Rattle.warg_json.specs.Json.{AreReadBack, ReadsBack, json_result}
 use Rattle.warg_permissions.specs.declared.operator.Permission.{Permission}
 use Rattle.warg_log.specs.AuthorityData.{AuthorityData}
 use Rattle.warg_log.specs.States.{State}
@@ -16,4 +16,4 @@ returns-clause-back c =
     AreReadBack [] → ReadsBack state_in AreEqual s (view c.object_value.result))
     c.self.view_is
     (λ back. state_back c.self.inside.log (view c.object_value.result) c.in_ok-members_of.ensures.savable
-    (c.in_ok-members_of.ensures.written ∙ ap wrote (sym c.object_value.ensures)))
+    (c.in_ok-members_of.ensures.written ∙ ap json_result (sym c.object_value.ensures)))

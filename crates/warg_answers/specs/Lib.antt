@@ -1,0 +1,11 @@
+pub mod RecordLines
+pub mod Texts
+pub mod Files
+pub mod Answers
+pub mod Verdicts
+pub mod StateFaults
+pub mod Questions
+pub mod Resumption
+pub mod ClaimTexts
+pub mod ReadFaults
+pub mod Sentences

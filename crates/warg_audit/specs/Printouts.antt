@@ -1,0 +1,37 @@
+-- What may be printed.
+use Rattle.std.specs.Prelude.{ℕ, List, ◌++◌, codes}
+use Rattle.std.specs.Fmt.{decimal}
+use Rattle.warg_protocol.specs.Records.{hash_text, RecordId}
+
+-- the text that is printed, and the exit status
+pub record Printout : Type 0 where
+  pub text : List ℕ
+  pub status : ℕ
+
+-- what is printed where the words ask for nothing that the program knows
+abbrev pub usage : Printout
+usage = record { text = codes "usage: warg_audit [id] package|operator\n"; status = 2 }
+
+-- what is printed where the input is over the limit
+abbrev pub too_long : Printout
+too_long = record { text = codes "too long\n"; status = 2 }
+
+-- what is printed where the line at this index spells no bytes, is missing, or is one too many
+abbrev pub bad_line : ℕ → Printout
+bad_line index = record { text = codes "bad line " ++ decimal index ++ codes "\n"; status = 2 }
+
+-- what is printed of the record whose id was asked
+abbrev pub record_id : RecordId → Printout
+record_id id = record { text = hash_text id.hash ++ codes "\n"; status = 0 }
+
+-- what is printed where the string at this index is refused, with the name of what is wrong
+abbrev pub refused_line : ℕ → List ℕ → Printout
+refused_line index name = record { text = codes "refused " ++ decimal index ++ codes " " ++ name ++ codes "\n"; status = 1 }
+
+-- what is printed in place of an answer where a read failed
+abbrev pub read_fault : Printout
+read_fault = record { text = codes "read fault\n"; status = 3 }
+
+-- what is printed in place of an answer where memory ran out
+abbrev pub out_of_memory : Printout
+out_of_memory = record { text = codes "out of memory\n"; status = 3 }

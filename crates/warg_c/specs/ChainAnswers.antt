@@ -1,0 +1,43 @@
+-- By which entries keys came to hold permissions.
+use Rattle.std.specs.Prelude.{◌≡◌, ◌⊎◌, List, ℕ, map, Option, Some, None}
+use Rattle.warg_audited_log.specs.Chains.{IsChainAnswer}
+use Rattle.warg_audited_log.specs.Log.{StateAndRecords, envelopes}
+use Rattle.warg_audited_log.specs.declared.link.Link as whole
+use Rattle.warg_operator_log.specs.StateLaws as operator_laws
+use Rattle.warg_package_log.specs.StateLaws as package_laws
+use Rattle.warg_permissions.specs.OperatorPermissions as operator_permission
+use Rattle.warg_permissions.specs.PackagePermissions as package_permission
+use Rattle.warg_validator.specs.Effects.{Effects}
+use Rattle.warg_c.specs.declared.exports.chains.Link.{Link}
+use Rattle.warg_c.specs.declared.held.Held.{Held}
+use Rattle.warg_c.specs.declared.held.Held.TheVariants.{Package, Operator}
+use Rattle.warg_c.specs.Keys.{IsNoPermission}
+use Rattle.warg_c.specs.Logs.{whole_of}
+
+-- the place of an entry, for the caller
+abbrev pub shown_link : whole.Link → Link
+shown_link link = record { record_index = link.record_index; entry_index = link.entry_index }
+
+module _ {S C P : Type 0} (f : Effects P) (named : List ℕ → Option P) where
+  -- the links are those of the chain by which the key id holds the permission of the text
+  abbrev pub ChainIs : Option (StateAndRecords S C) → List ℕ → List ℕ → List Link → Type 0
+  ChainIs (Some log) key text links = (p : P) × (found : List whole.Link) × (named text ≡ Some p) × IsChainAnswer f (envelopes log.records) key p (Some found) × (links ≡ map shown_link found)
+  ChainIs None key text links = ⊥
+
+  -- the key id does not hold it
+  abbrev pub NoChain : Option (StateAndRecords S C) → List ℕ → List ℕ → Type 0
+  NoChain (Some log) key text = (p : P) × (named text ≡ Some p) × IsChainAnswer f (envelopes log.records) key p None
+  NoChain None key text = ⊥
+
+abbrev pub chain_tells : Held → List ℕ → List ℕ → List Link → Type 0
+chain_tells (Package log) = ChainIs package_laws.effects package_permission.permission_in (whole_of log)
+chain_tells (Operator log) = ChainIs operator_laws.effects operator_permission.permission_in (whole_of log)
+
+abbrev pub chain_lacks : Held → List ℕ → List ℕ → Type 0
+chain_lacks (Package log) = NoChain package_laws.effects package_permission.permission_in (whole_of log)
+chain_lacks (Operator log) = NoChain operator_laws.effects operator_permission.permission_in (whole_of log)
+
+-- the log was resumed, or the texts are no key id and permission
+abbrev pub chain_bad : Held → List ℕ → List ℕ → Type 0
+chain_bad (Package log) key text = (whole_of log ≡ None) ⊎ IsNoPermission package_permission.permission_in key text
+chain_bad (Operator log) key text = (whole_of log ≡ None) ⊎ IsNoPermission operator_permission.permission_in key text

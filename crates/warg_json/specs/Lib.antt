@@ -1,0 +1,12 @@
+pub mod Json
+pub mod JsonLaws
+pub mod JsonTexts
+pub mod Members
+pub mod MemberLaws
+pub mod Numbers
+pub mod Pairs
+pub mod PairsLaws
+pub mod PairsReadLaws
+pub mod Within
+pub mod WithinLaws
+pub mod EqualLaws

@@ -1,6 +1,0 @@
-use Rattle.std.proofs.lemmas.Bool.Decides.{Decides-at}
-use Rattle.warg_protobuf.proofs.Equalities.{revocation_decided}
-use Rattle.warg_protobuf.proofs.laws.equality.are_same_revocations.Goals as goal
-
-pub returns : goal.returns
-returns c = Decides-at _ _ c.eq.ensures (revocation_decided c.args.a.now c.args.b.now)

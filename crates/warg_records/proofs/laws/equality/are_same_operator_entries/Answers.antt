@@ -1,6 +1,0 @@
-use Rattle.std.proofs.lemmas.Bool.Decides.{Decides-at}
-use Rattle.warg_records.proofs.OperatorEqualities.{entry_decided}
-use Rattle.warg_records.proofs.laws.equality.are_same_operator_entries.Goals as goal
-
-pub returns : goal.returns
-returns c = Decides-at _ _ c.eq.ensures (entry_decided c.args.a.now c.args.b.now)

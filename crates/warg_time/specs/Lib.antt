@@ -1,0 +1,5 @@
+pub mod Times
+pub mod TimesLaws
+pub mod TimeText
+pub mod TimeTextLaws
+pub mod TimeJson

@@ -1,0 +1,16 @@
+//! The words of the program `warg`: its commands, as its help shows them, and what its words ask for.
+#![tactic(auto)]
+
+mod proof_table;
+mod request;
+mod statement;
+mod table;
+mod task;
+mod task_table;
+mod version;
+mod words;
+
+pub use request::{Invocation, Question, Request, Said};
+pub use statement::{LeafIds, Statement, Wanted};
+pub use task::{Draft, Task};
+pub use words::parse_words;

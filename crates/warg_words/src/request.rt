@@ -1,0 +1,133 @@
+//! What the words of the program ask for.
+
+use crate::statement::{Statement, Wanted};
+use crate::task::Task;
+use warg_log_type::LogType;
+
+/// What is asked of logs of one kind, with the paths of the files. `-` is standard input.
+#[derive(Clone, Copy, Debug, PartialEq, Eq)]
+pub enum Question<'a> {
+    /// The log in words.
+    Show {
+        /// The log.
+        log: &'a str,
+    },
+    /// The state that the log adds up to, as JSON.
+    State {
+        /// The log.
+        log: &'a str,
+    },
+    /// The state after the records of a log, from a saved one.
+    Resume {
+        /// The saved state.
+        state: &'a str,
+        /// The records that came since.
+        log: &'a str,
+    },
+    /// What a key holds.
+    Permissions {
+        /// The key's id.
+        key_id: &'a str,
+        /// The log.
+        log: &'a str,
+    },
+    /// By which entries a key came to hold a permission.
+    Chain {
+        /// The key's id.
+        key_id: &'a str,
+        /// The permission's text.
+        permission: &'a str,
+        /// The log.
+        log: &'a str,
+    },
+    /// How two logs compare.
+    Compare {
+        /// One log.
+        left: &'a str,
+        /// The other.
+        right: &'a str,
+    },
+}
+
+/// What is asked.
+#[derive(Debug, Drop)]
+pub enum Request<'a> {
+    /// The id of one record.
+    Id {
+        /// The kind of its log.
+        kind: LogType,
+        /// The file with its line.
+        log: &'a str,
+    },
+    /// The verdict on a log.
+    Audit {
+        /// Its kind.
+        kind: LogType,
+        /// The log.
+        log: &'a str,
+    },
+    /// The verdicts on many logs, a line each. A path that begins with `@` names a file of paths.
+    Audits {
+        /// Their kind.
+        kind: LogType,
+        /// Their paths.
+        logs: Vec<&'a str>,
+    },
+    /// The greatest release of a package that meets a requirement.
+    Latest {
+        /// The requirement's text.
+        requirement: &'a str,
+        /// The log.
+        log: &'a str,
+    },
+    /// What a registry is to prove.
+    Prove {
+        /// What it is.
+        wanted: Wanted<'a>,
+        /// The file of its leaves.
+        leaves: &'a str,
+    },
+    /// What is to be verified.
+    Verify {
+        /// What it is.
+        statement: Statement<'a>,
+    },
+    /// What is asked of logs of one kind.
+    Ask {
+        /// The kind.
+        kind: LogType,
+        /// What is asked.
+        question: Question<'a>,
+    },
+    /// What is done with a log.
+    Do {
+        /// The kind of the log.
+        kind: LogType,
+        /// What is done.
+        task: Task<'a>,
+    },
+}
+
+/// A request, and how it is to be answered.
+#[derive(Debug, Drop)]
+pub struct Invocation<'a> {
+    /// The name of the command.
+    pub command: &'a str,
+    /// What is asked.
+    pub request: Request<'a>,
+    /// Whether the answer is printed as JSON, a line an object.
+    pub json: bool,
+    /// The file of the signatures that were verified; none for the toy scheme.
+    pub verified: Option<&'a str>,
+}
+
+/// What the words say.
+#[derive(Debug, Drop)]
+pub enum Said<'a> {
+    /// Something is asked.
+    Invocation(Invocation<'a>),
+    /// A text is asked for alone, help or the version: this is it.
+    Help(String),
+    /// They can't be used: this says why.
+    Fault(String),
+}

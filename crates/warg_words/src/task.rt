@@ -1,0 +1,73 @@
+//! What is done with a log, by the words of `claims`, `make` and `append`.
+
+use crate::words::value;
+use clap::ArgMatches;
+use std::alloc::{AllocError, Global};
+
+/// The record that comes next in a log, in words.
+#[derive(Debug, Drop)]
+pub struct Draft<'a> {
+    /// Whose toy key signs.
+    pub name: &'a str,
+    /// The record's time.
+    pub time: &'a str,
+    /// The record's entries.
+    pub entries: Vec<&'a str>,
+}
+
+/// What is done with a log, with the paths of the files. `-` is standard input.
+#[derive(Debug, Drop)]
+pub enum Task<'a> {
+    /// What a host has to verify is listed.
+    Claims {
+        /// The log.
+        log: &'a str,
+    },
+    /// The next record is made, and signed by the toy scheme.
+    Make {
+        /// The log. Where there is no such file, it has no records yet.
+        log: &'a str,
+        /// The record.
+        draft: Draft<'a>,
+    },
+    /// Records are added to the log.
+    Append {
+        /// The log. Where there is no such file, it has no records yet.
+        log: &'a str,
+        /// The file with the records' lines.
+        lines: &'a str,
+    },
+}
+
+// The record that the words say.
+fn parse_draft<'a>(alloc: Global, matches: &ArgMatches<'a>) -> Result<Draft<'a>, AllocError> {
+    Ok(Draft {
+        name: value(matches, "NAME"),
+        time: value(matches, "TIME"),
+        entries: match matches.get_strs("ENTRY") {
+            Some(entries) => entries.to_vec(alloc)?,
+            None => Vec::new(alloc),
+        },
+    })
+}
+
+/// The task of a command, if the command is one.
+pub(crate) fn parse_task<'a>(
+    alloc: Global,
+    command: &str,
+    matches: &ArgMatches<'a>,
+) -> Result<Option<Task<'a>>, AllocError> {
+    let log = value(matches, "LOG");
+    match command {
+        "claims" => Ok(Some(Task::Claims { log })),
+        "make" => Ok(Some(Task::Make {
+            log,
+            draft: parse_draft(alloc, matches)?,
+        })),
+        "append" => Ok(Some(Task::Append {
+            log,
+            lines: value(matches, "LINES"),
+        })),
+        _ => Ok(None),
+    }
+}
