@@ -1,12 +1,12 @@
 //! The words of the program `warg`: its commands, as its help shows them, and what its words ask for.
 #![tactic(auto)]
 
-mod proof_table;
+mod log_commands;
+mod proof_commands;
 mod request;
 mod statement;
 mod table;
 mod task;
-mod task_table;
 mod version;
 mod words;
 

@@ -1,14 +1,42 @@
 //! The words of the program.
 
-use crate::proof_table::{prove_request, verify_request};
+use crate::log_commands::LOG_COMMANDS;
+use crate::proof_commands::{PROVE, VERIFY, prove_request, verify_request};
 use crate::request::{Invocation, Question, Request, Said};
-use crate::table::program;
+use crate::table::{Options, with_commands};
 use crate::task::parse_task;
 use crate::version::VERSION;
 use clap::error::ErrorKind;
-use clap::{ArgMatches, Error};
+use clap::{ArgMatches, Command, Error};
 use std::alloc::{AllocError, Global};
 use warg_log_type::LogType;
+
+const ABOUT: &str = "Checks the logs of a package registry, and answers from them";
+
+const AFTER: &str = "A log is a file of lines, each a signed record in hex. Comments, which begin
+with #, are passed over, and so is a blank last line. - is standard input.
+
+Status: 0 yes, 1 a negative answer, 2 wrong words or unreadable input, 3 a failed
+read or write, or out of memory.";
+
+// The program's command line.
+fn program<'a>(alloc: Global) -> Result<Command<'a>, AllocError> {
+    let program = Command::new(alloc, "warg")
+        .version(VERSION)
+        .about(ABOUT)
+        .after_help(AFTER)
+        .arg_required_else_help(true);
+    let program = with_commands(alloc, program, LOG_COMMANDS, Options::JsonAndVerified)?;
+    let prove = Command::new(alloc, "prove").about(
+        "Prints a registry's checkpoint, or a proof under it",
+    );
+    let verify = Command::new(alloc, "verify").about(
+        "Says whether a proof under a checkpoint holds",
+    );
+    program
+        .subcommand(with_commands(alloc, prove, PROVE, Options::Json)?)?
+        .subcommand(with_commands(alloc, verify, VERIFY, Options::Json)?)
+}
 
 // The value of a word that the command requires or has a default for.
 pub(crate) fn value<'a>(matches: &ArgMatches<'a>, name: &str) -> &'a str {

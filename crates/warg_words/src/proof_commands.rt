@@ -1,0 +1,176 @@
+//! The commands on a registry's log and map, and what their words ask for.
+
+use crate::request::Request;
+use crate::statement::{LeafIds, Statement, Wanted};
+use crate::table::{Form, Row, Word};
+use crate::words::value;
+use clap::ArgMatches;
+
+const LEAVES: Word = Word {
+    name: "LEAVES",
+    form: Form::Input,
+    help: "The file of the registry's leaves: a line each, the ids of a log and of a record",
+};
+
+const LOG_ID: Word = Word {
+    name: "LOG_ID",
+    form: Form::Required,
+    help: "The log's id",
+};
+
+const RECORD_ID: Word = Word {
+    name: "RECORD_ID",
+    form: Form::Required,
+    help: "The record's id",
+};
+
+const CHECKPOINT: Word = Word {
+    name: "CHECKPOINT",
+    form: Form::Required,
+    help: "The file of the checkpoint's JSON",
+};
+
+const PROOF: Word = Word {
+    name: "PROOF",
+    form: Form::Required,
+    help: "The file of the proof's text",
+};
+
+const PLACE: Word = Word {
+    name: "PLACE",
+    form: Form::Required,
+    help: "The leaf's place, counted from 0",
+};
+
+/// What is proved.
+pub(crate) const PROVE: &[Row] = &[
+    Row {
+        name: "checkpoint",
+        about: "Prints the checkpoint, as JSON",
+        example: "Example: warg prove checkpoint leaves.txt > checkpoint.json",
+        words: &[LEAVES],
+    },
+    Row {
+        name: "inclusion",
+        about: "Proves that a leaf stands at a place",
+        example: "Example: warg prove inclusion 5 leaves.txt > proof.txt",
+        words: &[PLACE, LEAVES],
+    },
+    Row {
+        name: "consistency",
+        about: "Proves that the log goes on from an older one",
+        example: "Example: warg prove consistency 6 leaves.txt > proof.txt",
+        words: &[
+            Word {
+                name: "LENGTH",
+                form: Form::Required,
+                help: "The older log's length, in leaves",
+            },
+            LEAVES,
+        ],
+    },
+    Row {
+        name: "head",
+        about: "Proves what the map says of a log",
+        example: "Example: warg prove head sha256:0a1b.. leaves.txt > proof.txt",
+        words: &[LOG_ID, LEAVES],
+    },
+];
+
+/// What is verified.
+pub(crate) const VERIFY: &[Row] = &[
+    Row {
+        name: "inclusion",
+        about: "Whether a leaf stands at a place of the log",
+        example: "Example: warg verify inclusion checkpoint.json 5 sha256:0a1b.. sha256:2c3d.. proof.txt",
+        words: &[CHECKPOINT, PLACE, LOG_ID, RECORD_ID, PROOF],
+    },
+    Row {
+        name: "consistency",
+        about: "Whether the log of one checkpoint begins with that of another",
+        example: "Example: warg verify consistency old.json new.json proof.txt",
+        words: &[
+            Word {
+                name: "OLD",
+                form: Form::Required,
+                help: "The file of the older checkpoint's JSON",
+            },
+            Word {
+                name: "NEW",
+                form: Form::Required,
+                help: "The file of the newer checkpoint's JSON",
+            },
+            PROOF,
+        ],
+    },
+    Row {
+        name: "head",
+        about: "Whether a record is the last of a log",
+        example: "Example: warg verify head checkpoint.json sha256:0a1b.. sha256:2c3d.. proof.txt",
+        words: &[CHECKPOINT, LOG_ID, RECORD_ID, PROOF],
+    },
+    Row {
+        name: "absence",
+        about: "Whether a log has no record",
+        example: "Example: warg verify absence checkpoint.json sha256:0a1b.. proof.txt",
+        words: &[CHECKPOINT, LOG_ID, PROOF],
+    },
+];
+
+/// What is to be proved.
+pub(crate) fn prove_request<'a>(matches: &ArgMatches<'a>) -> Option<Request<'a>> {
+    let (name, matches) = matches.subcommand()?;
+    let wanted = match name {
+        "checkpoint" => Wanted::Checkpoint,
+        "inclusion" => Wanted::Inclusion {
+            place: value(matches, "PLACE"),
+        },
+        "consistency" => Wanted::Consistency {
+            length: value(matches, "LENGTH"),
+        },
+        "head" => Wanted::Head {
+            log_id: value(matches, "LOG_ID"),
+        },
+        _ => return None,
+    };
+    let leaves = value(matches, "LEAVES");
+    Some(Request::Prove { wanted, leaves })
+}
+
+// The leaf that the words say.
+fn leaf_ids<'a>(matches: &ArgMatches<'a>) -> LeafIds<'a> {
+    LeafIds {
+        log_id: value(matches, "LOG_ID"),
+        record_id: value(matches, "RECORD_ID"),
+    }
+}
+
+/// What is to be verified.
+pub(crate) fn verify_request<'a>(matches: &ArgMatches<'a>) -> Option<Request<'a>> {
+    let (name, matches) = matches.subcommand()?;
+    let statement = match name {
+        "inclusion" => Statement::Inclusion {
+            checkpoint: value(matches, "CHECKPOINT"),
+            place: value(matches, "PLACE"),
+            leaf: leaf_ids(matches),
+            proof: value(matches, "PROOF"),
+        },
+        "consistency" => Statement::Consistency {
+            old: value(matches, "OLD"),
+            new: value(matches, "NEW"),
+            proof: value(matches, "PROOF"),
+        },
+        "head" => Statement::Head {
+            checkpoint: value(matches, "CHECKPOINT"),
+            leaf: leaf_ids(matches),
+            proof: value(matches, "PROOF"),
+        },
+        "absence" => Statement::Absence {
+            checkpoint: value(matches, "CHECKPOINT"),
+            log_id: value(matches, "LOG_ID"),
+            proof: value(matches, "PROOF"),
+        },
+        _ => return None,
+    };
+    Some(Request::Verify { statement })
+}
