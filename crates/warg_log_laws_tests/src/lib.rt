@@ -2,5 +2,6 @@
 //! cited in the kind's own words.
 #![tactic(auto)]
 
+pub mod checkpoints;
 pub mod operator;
 pub mod package;

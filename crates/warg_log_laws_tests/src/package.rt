@@ -12,7 +12,11 @@ ghost use Rattle.warg_package_log.specs.Releases.{record_id_of};
 ghost use Rattle.warg_package_log.specs.StateHistory.{OneYankEach};
 ghost use Rattle.warg_protocol.specs.Logs.{EnvelopeData, Cause, EnvelopeFault, HasForm, HaveCollision, IfStarted, IsAccepted, IsChainAnswer, IsExtinct, IsRun, KindLaws, NoKeyBringsItselfIn, SignatureRelation, StandsFor, StaysExtinct, LogOffence, cause_next, contents, envelope_fault_of, envelope_of, envelopes, cause_named_by};
 ghost use Rattle.warg_protocol.specs.Package.{AreDistinct, OwnOffence, Permission as OfPermission, PackageOwnEntry, View, effects, history, kind, offence_of, package_record_of, envelope_as_data, records_of, same_permission, versions, view_of};
-ghost use Rattle.warg_protocol.specs.Records.{EntryData, RecordFault, fault_of};
+ghost use Rattle.warg_protocol.specs.Records.{EntryData, RecordFault, RecordId as OfRecordId, fault_of};
+ghost use Rattle.warg_protocol.specs.Transparency as checkpoints;
+ghost use Rattle.sha2.specs.Sha256.{sha256};
+ghost use Rattle.warg_registry.specs.declared.checkpoint.Checkpoint.{Checkpoint};
+ghost use Rattle.warg_registry.specs.declared.log_id.LogId.{LogId};
 ghost use Rattle.warg_audited_log.specs.declared.link.Link.{Link as OfLink};
 ghost use Rattle.warg_package_log.specs.declared.error.ValidationError.{ValidationError as OfError};
 ghost use Rattle.warg_validator.specs.Effects as by_effects;
@@ -24,7 +28,7 @@ ghost use Rattle.warg_validator.specs.declared.replay.RunError.{RunError};
 use std::alloc::AllocError;
 use warg_log_laws::package as laws;
 use warg_log_laws::package::audited;
-use warg_protocol::laws::{audited_logs, logs, package, runs};
+use warg_protocol::laws::{audited_logs, logs, package, runs, transparency};
 use warg_protocol::package::{LogState, PackageRecord, Permission, ValidationError};
 use warg_protocol::signing::{KeyID, Verifier};
 use warg_protocol::{AuditedLog, Link, ProtoEnvelope, RunCause};
@@ -188,6 +192,22 @@ pub fn audited_logs()
     audited_logs::last_entry_decides::<LogState>();
     logs::equal_heads();
     logs::refusals_tell_apart::<Permission>();
+}
+
+/// Logs whose heads are shown under one checkpoint, at this kind.
+pub fn heads_under_one_checkpoint()
+    ensures { (b d : SignatureRelation) (es fs : List EnvelopeData) (head other : OfRecordId)
+        (checkpoint : Checkpoint) (log_id : LogId) (proof other_proof : List (List ℕ)) →
+        IsAccepted kind b es → IsAccepted kind d fs →
+        kind.head (kind.view_of es) ≡ Some head → kind.head (kind.view_of fs) ≡ Some other →
+        checkpoints.ShowsHead checkpoint log_id head proof →
+        checkpoints.ShowsHead checkpoint log_id other other_proof →
+        (contents es ≡ contents fs) ⊎ HaveCollision kind.id (contents es) (contents fs)
+        ⊎ checkpoints.HaveCollision sha256
+        (checkpoints.path_inputs_for log_id (checkpoints.head_leaf head) proof)
+        (checkpoints.path_inputs_for log_id (checkpoints.head_leaf other) other_proof) }
+{
+    transparency::heads::<LogState>();
 }
 
 /// The laws of all runs, at this kind.
