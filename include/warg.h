@@ -73,6 +73,14 @@ enum warg_kind {
     WARG_OPERATOR = 1
 };
 
+/* The trees of a registry, on which proofs are. */
+enum warg_tree {
+    /* The log of all records: proofs of inclusion and of consistency. */
+    WARG_LOG_TREE = 0,
+    /* The map of the heads of logs: proofs of presence and of absence. */
+    WARG_MAP_TREE = 1
+};
+
 /* A log, or none: all bytes 0 is none. */
 struct warg_log {
     void *at;
@@ -277,7 +285,7 @@ uint32_t warg_resume(struct warg_log *log, uint32_t kind, const uint8_t *saved, 
  *     hashed at one place on two ways to the root, the proof's and the log's or the map's own. No call knows whose root it is, nor whether
  *     a log of this root has this length: so a log's length and root have to be signed together, and the map's root with them.
  *   WARG_REFUSED: it does not hold.
- *   WARG_BAD_ARGUMENT: a text is not of its form. No fault is named.
+ *   WARG_BAD_ARGUMENT: a text is not of its form. `warg_proof_fault` says what is wrong with a proof's.
  *   WARG_OUT_OF_MEMORY: nothing is said. */
 
 /* That the leaf of a log's record stands at a place of the registry's log, which has `length` leaves and this root.
@@ -300,6 +308,12 @@ uint32_t warg_verify_presence(const uint8_t *log_id, size_t log_id_len, const ui
  *   WARG_OK: no map of this root says anything of the log, or two strings collide. */
 uint32_t warg_verify_absence(const uint8_t *log_id, size_t log_id_len, const uint8_t *root, size_t root_len,
                              const uint8_t *proof, size_t proof_len);
+
+/* The name of what is wrong with the text of a proof on one of `enum warg_tree`, so that a caller can say it: TooLong, BadBase64, BadLength
+ * or EmptySibling.
+ *   WARG_NONE: nothing is wrong: it is the text of a proof, whatever that shows.
+ *   WARG_BAD_ARGUMENT: no such tree. */
+uint32_t warg_proof_fault(uint32_t tree, const uint8_t *proof, size_t proof_len, uint8_t *text, size_t text_len, size_t *used);
 
 /* The library */
 

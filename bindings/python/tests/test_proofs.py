@@ -6,7 +6,7 @@ from collections.abc import Callable
 
 from weoldrin import BadArgument, verify_absence, verify_consistency, verify_inclusion, verify_presence
 
-from .trees import Leaf, hash_text, id_of, log_root
+from .trees import EMPTY, Leaf, hash_text, id_of, log_root
 
 INCLUSION = (
     "bML0VncumO1gymhI9p9DawMcQnVTNa2WUrNw14Aq7DELD7yQO/3GX1TnDyNdlyNl+BI5/0o0nLbP5Kt1TH2/cg371IIl6nKYXW5cNRhz0vRw+5C8x4IjFkOBx8eooRUN"
@@ -52,7 +52,7 @@ class Proofs(unittest.TestCase):
         self._refuses_texts(lambda it: verify_inclusion(it, record, 5, 8, root, INCLUSION))
         self._refuses_texts(lambda it: verify_inclusion(log, it, 5, 8, root, INCLUSION))
         self._refuses_texts(lambda it: verify_inclusion(log, record, 5, 8, it, INCLUSION))
-        self._refuses_texts(lambda it: verify_inclusion(log, record, 5, 8, root, it))
+        self._refuses_texts(lambda it: verify_inclusion(log, record, 5, 8, root, it), "BadBase64")
 
     def test_a_length_is_taken_on_trust(self) -> None:
         """The proof has the same form in a log of 7: a root is worth nothing without the length that is signed with it."""
@@ -66,7 +66,7 @@ class Proofs(unittest.TestCase):
         self.assertFalse(verify_consistency(8, root_of(8), 6, root_of(6), CONSISTENCY))
         self.assertFalse(verify_consistency(6, root_of(6), 8, root_of(8), _changed(CONSISTENCY)))
         self._refuses_texts(lambda it: verify_consistency(6, it, 8, root_of(8), CONSISTENCY))
-        self._refuses_texts(lambda it: verify_consistency(6, root_of(6), 8, root_of(8), it))
+        self._refuses_texts(lambda it: verify_consistency(6, root_of(6), 8, root_of(8), it), "BadBase64")
 
     def test_map(self) -> None:
         self.assertTrue(verify_presence(id_of("log 0"), id_of("record 6"), MAP_ROOT, PRESENCE))
@@ -77,7 +77,7 @@ class Proofs(unittest.TestCase):
         self.assertFalse(verify_absence(id_of("log 0"), MAP_ROOT, PRESENCE))
         self.assertFalse(verify_absence(id_of("log 2"), root_of(8), ABSENCE))
         self.assertFalse(verify_absence(id_of("log 2"), MAP_ROOT, _changed(ABSENCE)))
-        self._refuses_texts(lambda it: verify_presence(id_of("log 0"), id_of("record 6"), MAP_ROOT, it))
+        self._refuses_texts(lambda it: verify_presence(id_of("log 0"), id_of("record 6"), MAP_ROOT, it), "BadBase64")
         self._refuses_texts(lambda it: verify_absence(id_of("log 2"), it, ABSENCE))
 
     def test_numbers_beyond_the_calls(self) -> None:
@@ -89,9 +89,34 @@ class Proofs(unittest.TestCase):
         for old, new in ((6 + 2**64, 8), (6, 8 + 2**64), (-1, 8)):
             self.assertRaises(BadArgument, verify_consistency, old, root_of(6), new, root, CONSISTENCY)
 
-    def _refuses_texts(self, call: Callable[[str], bool]) -> None:
+    def test_faults_of_texts(self) -> None:
+        """The longest text of a proof on a log has 2732 digits, on a map 10968."""
+        shown = verify_inclusion, id_of("log 2"), id_of("record 5"), 5, 8, root_of(8)
+        absent = verify_absence, id_of("log 2"), MAP_ROOT
+        self._has_fault("TooLong", *shown, "A" * 2733)
+        self._has_fault("BadBase64", *shown, "A" * 2730)
+        self._has_fault("BadBase64", *shown, "AA=")
+        self._has_fault("BadBase64", *shown, "é")
+        self._has_fault("BadLength", *shown, "AA==")
+        self._has_fault("BadLength", *shown, "A" * 2732)
+        self._has_fault("TooLong", *absent, "A" * 10969)
+        self._has_fault("BadBase64", *absent, "A" * 10966)
+        self._has_fault("BadLength", *absent, "")
+        self._has_fault("BadLength", *absent, "A" * 10968)
+        # All siblings are left out but that of the leaf, which is the root of an empty subtree too.
+        bits = bytes([0x7F, *[0xFF] * 31])
+        self._has_fault("EmptySibling", *absent, base64.b64encode(bits + EMPTY[0]).decode())
+        # No proof's fault is named where another text is not of its form.
+        self._has_fault("", verify_absence, "log 2", MAP_ROOT, ABSENCE)
+
+    def _has_fault(self, name: str, call: Callable[..., bool], *words: str | int) -> None:
+        with self.assertRaises(BadArgument) as raised:
+            call(*words)
+        self.assertEqual(raised.exception.name, name)
+
+    def _refuses_texts(self, call: Callable[[str], bool], name: str = "") -> None:
         for wrong in ("sha256", "sha256:00", "!", "A"):
-            self.assertRaises(BadArgument, call, wrong)
+            self._has_fault(name, call, wrong)
 
 
 if __name__ == "__main__":

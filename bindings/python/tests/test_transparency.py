@@ -30,20 +30,27 @@ PARSE: dict[str, Callable[[str], bool]] = {
 }
 
 
+def fault(error: BadArgument, wanted: str) -> str:
+    """The fault of a proof's text. Of a text that is no hash none is named: then the wanted one is taken for it."""
+    if error.name:
+        return f"! {error.name}"
+    return wanted if wanted not in ("= ok", "! Refused") else "a fault"
+
+
 def verified(topic: str, words: list[str], wanted: str) -> str:
-    """What the library answers. Of a text that is no proof it does not say why."""
+    """What the library answers."""
     try:
         return "= ok" if VERIFY[topic](*words) else "! Refused"
-    except BadArgument:
-        return wanted if wanted not in ("= ok", "! Refused") else "no proof"
+    except BadArgument as error:
+        return fault(error, wanted)
 
 
 def parsed(kind: str, text: str, wanted: str) -> str:
     """The same of a text: whether it is a proof."""
     try:
         return "shown" if PARSE[kind](text) else f"= {quoted(text)}"
-    except BadArgument:
-        return wanted if wanted.startswith("! ") else "no proof"
+    except BadArgument as error:
+        return f"! {error.name}"
 
 
 def leaves_of(words: list[str]) -> list[Leaf]:

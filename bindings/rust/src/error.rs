@@ -7,12 +7,15 @@ use std::fmt;
 pub struct Reason {
     /// The error's name, as `SignatureError` or `ProtobufEnvelope.Truncated`.
     pub name: String,
-    /// What it means.
+    /// What it means, or nothing where the name alone is known.
     pub sentence: String,
 }
 
 impl fmt::Display for Reason {
     fn fmt(&self, f: &mut fmt::Formatter<'_>) -> fmt::Result {
+        if self.sentence.is_empty() {
+            return f.write_str(&self.name);
+        }
         write!(f, "{}: {}", self.name, self.sentence)
     }
 }
@@ -27,7 +30,7 @@ pub enum Error {
     NoEnvelope(Reason),
     /// The record is unlawful.
     Refused(Reason),
-    /// An argument is not of its form, or the log was resumed and has no records. A text that is no saved state has the fault's name.
+    /// An argument is not of its form, or the log was resumed and has no records. A text that is no saved state, or no proof, has the fault's name.
     BadArgument(Option<Reason>),
 }
 

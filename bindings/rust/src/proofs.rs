@@ -1,11 +1,13 @@
 //! What a registry proves of its log and its map. Roots are texts of hashes, ids are texts of ids, proofs are texts of base64.
 //!
-//! Each call says whether the proof holds. The error is [`Error::BadArgument`], which names no fault, where a text is not of its form.
+//! Each call says whether the proof holds. The error is [`Error::BadArgument`] where a text is not of its form. If that is the proof's, the
+//! fault is named: `TooLong`, `BadBase64`, `BadLength` or `EmptySibling`.
 //!
 //! What an accepted proof shows is so of every log of that length and root, and of every map of that root, or two strings that differ
 //! have one hash. No call knows whose root it is, or how long its log is: take a log's length and root, and the map's root, from one
 //! signed checkpoint.
-use crate::error::Error;
+use crate::buffer;
+use crate::error::{Error, Reason};
 use crate::raw;
 
 /// Whether the leaf of a log's record stands at a place of the registry's log, which has `length` leaves and this root.
@@ -17,7 +19,7 @@ pub fn verify_inclusion(
     root: &str,
     proof: &str,
 ) -> Result<bool, Error> {
-    said(unsafe {
+    let status = unsafe {
         raw::warg_verify_inclusion(
             log_id.as_ptr(),
             log_id.len(),
@@ -30,7 +32,8 @@ pub fn verify_inclusion(
             proof.as_ptr(),
             proof.len(),
         )
-    })
+    };
+    said(status, raw::LOG_TREE, proof)
 }
 
 /// Whether the registry's log of `new_length` leaves begins with the one of `old_length` leaves.
@@ -41,7 +44,7 @@ pub fn verify_consistency(
     new_root: &str,
     proof: &str,
 ) -> Result<bool, Error> {
-    said(unsafe {
+    let status = unsafe {
         raw::warg_verify_consistency(
             old_length,
             old_root.as_ptr(),
@@ -52,12 +55,13 @@ pub fn verify_consistency(
             proof.as_ptr(),
             proof.len(),
         )
-    })
+    };
+    said(status, raw::LOG_TREE, proof)
 }
 
 /// Whether the registry's map says that a log's last record is this one.
 pub fn verify_presence(log_id: &str, record_id: &str, root: &str, proof: &str) -> Result<bool, Error> {
-    said(unsafe {
+    let status = unsafe {
         raw::warg_verify_presence(
             log_id.as_ptr(),
             log_id.len(),
@@ -68,20 +72,31 @@ pub fn verify_presence(log_id: &str, record_id: &str, root: &str, proof: &str) -
             proof.as_ptr(),
             proof.len(),
         )
-    })
+    };
+    said(status, raw::MAP_TREE, proof)
 }
 
 /// Whether the registry's map says nothing of a log.
 pub fn verify_absence(log_id: &str, root: &str, proof: &str) -> Result<bool, Error> {
-    said(unsafe {
+    let status = unsafe {
         raw::warg_verify_absence(log_id.as_ptr(), log_id.len(), root.as_ptr(), root.len(), proof.as_ptr(), proof.len())
-    })
+    };
+    said(status, raw::MAP_TREE, proof)
 }
 
-fn said(status: u32) -> Result<bool, Error> {
+fn said(status: u32, tree: u32, proof: &str) -> Result<bool, Error> {
     match status {
         raw::OK => Ok(true),
         raw::REFUSED => Ok(false),
+        raw::BAD_ARGUMENT => Err(Error::BadArgument(fault_of(tree, proof)?)),
         status => Err(Error::of(status, &[])),
     }
+}
+
+// What is wrong with the text as that of a proof on the tree, if anything is.
+fn fault_of(tree: u32, proof: &str) -> Result<Option<Reason>, Error> {
+    let name = buffer::filled(0, |text, used| unsafe {
+        raw::warg_proof_fault(tree, proof.as_ptr(), proof.len(), text.as_mut_ptr(), text.len(), used)
+    })?;
+    Ok(name.map(|it| Reason { name: buffer::text_of(it), sentence: String::new() }))
 }

@@ -9,6 +9,9 @@ pub(crate) const REFUSED: u32 = 5;
 pub(crate) const NONE: u32 = 6;
 pub(crate) const BAD_ARGUMENT: u32 = 7;
 
+pub(crate) const LOG_TREE: u32 = 0;
+pub(crate) const MAP_TREE: u32 = 1;
+
 /// A `struct warg_log`. All 0 is none.
 #[repr(C)]
 pub(crate) struct Log {
@@ -225,6 +228,14 @@ extern "C" {
         root_len: usize,
         proof: *const u8,
         proof_len: usize,
+    ) -> u32;
+    pub(crate) fn warg_proof_fault(
+        tree: u32,
+        proof: *const u8,
+        proof_len: usize,
+        text: *mut u8,
+        text_len: usize,
+        used: *mut usize,
     ) -> u32;
     pub(crate) fn warg_version(text: *mut u8, text_len: usize, used: *mut usize) -> u32;
 }

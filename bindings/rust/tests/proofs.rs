@@ -46,6 +46,21 @@ fn refuses_texts(call: impl Fn(&str) -> Result<bool, Error>) {
     }
 }
 
+/// The call refuses texts that are no proof, and names the fault.
+fn names_faults(call: impl Fn(&str) -> Result<bool, Error>) {
+    for wrong in ["sha256", "sha256:00", "!", "A", "\0", "é"] {
+        assert_eq!(fault_of(call(wrong)), "BadBase64", "{wrong:?}");
+    }
+}
+
+/// The name of the fault that an answer says.
+fn fault_of(answer: Result<bool, Error>) -> String {
+    match answer {
+        Err(Error::BadArgument(Some(reason))) => reason.name,
+        _ => format!("{answer:?}"),
+    }
+}
+
 #[test]
 fn inclusion() -> Tested {
     assert!(verify_inclusion(LOG_2, RECORD_5, 5, 8, ROOT_8, INCLUSION)?);
@@ -60,7 +75,7 @@ fn inclusion() -> Tested {
     refuses_texts(|it| verify_inclusion(it, RECORD_5, 5, 8, ROOT_8, INCLUSION));
     refuses_texts(|it| verify_inclusion(LOG_2, it, 5, 8, ROOT_8, INCLUSION));
     refuses_texts(|it| verify_inclusion(LOG_2, RECORD_5, 5, 8, it, INCLUSION));
-    refuses_texts(|it| verify_inclusion(LOG_2, RECORD_5, 5, 8, ROOT_8, it));
+    names_faults(|it| verify_inclusion(LOG_2, RECORD_5, 5, 8, ROOT_8, it));
     Ok(())
 }
 
@@ -85,7 +100,7 @@ fn consistency() -> Tested {
     assert!(!verify_consistency(6, ROOT_6, 8, ROOT_8, &changed(CONSISTENCY))?);
     refuses_texts(|it| verify_consistency(6, it, 8, ROOT_8, CONSISTENCY));
     refuses_texts(|it| verify_consistency(6, ROOT_6, 8, it, CONSISTENCY));
-    refuses_texts(|it| verify_consistency(6, ROOT_6, 8, ROOT_8, it));
+    names_faults(|it| verify_consistency(6, ROOT_6, 8, ROOT_8, it));
     Ok(())
 }
 
@@ -99,8 +114,8 @@ fn presence() -> Tested {
     refuses_texts(|it| verify_presence(it, RECORD_6, MAP_ROOT, PRESENCE));
     refuses_texts(|it| verify_presence(LOG_0, it, MAP_ROOT, PRESENCE));
     refuses_texts(|it| verify_presence(LOG_0, RECORD_6, it, PRESENCE));
-    refuses_texts(|it| verify_presence(LOG_0, RECORD_6, MAP_ROOT, it));
-    assert_eq!(verify_presence(LOG_0, RECORD_6, MAP_ROOT, ""), Err(Error::BadArgument(None)));
+    names_faults(|it| verify_presence(LOG_0, RECORD_6, MAP_ROOT, it));
+    assert_eq!(fault_of(verify_presence(LOG_0, RECORD_6, MAP_ROOT, "")), "BadLength");
     Ok(())
 }
 
@@ -113,7 +128,7 @@ fn absence() -> Tested {
     assert!(!verify_absence(LOG_2, MAP_ROOT, &changed(ABSENCE))?);
     refuses_texts(|it| verify_absence(it, MAP_ROOT, ABSENCE));
     refuses_texts(|it| verify_absence(LOG_2, it, ABSENCE));
-    refuses_texts(|it| verify_absence(LOG_2, MAP_ROOT, it));
+    names_faults(|it| verify_absence(LOG_2, MAP_ROOT, it));
     Ok(())
 }
 
@@ -137,13 +152,14 @@ fn least_and_greatest_numbers() -> Tested {
 fn lengths_of_texts() -> Tested {
     // 64 hashes are the most that a proof on a log has, and 256 that one on a map has behind its 32 bytes.
     assert!(!verify_inclusion(LOG_2, RECORD_5, 5, 8, ROOT_8, &format!("{}AAA=", "AAAA".repeat(682)))?);
-    for groups in [1, 33, 683, 684, 700_000] {
+    for (groups, fault) in [(1, "BadLength"), (33, "BadLength"), (683, "BadLength"), (684, "TooLong"), (700_000, "TooLong")]
+    {
         let answer = verify_inclusion(LOG_2, RECORD_5, 5, 8, ROOT_8, &"AAAA".repeat(groups));
-        assert_eq!(answer, Err(Error::BadArgument(None)), "{groups}");
+        assert_eq!(fault_of(answer), fault, "{groups}");
     }
-    for groups in [1, 2742, 2743, 700_000] {
+    for (groups, fault) in [(1, "BadLength"), (2742, "BadLength"), (2743, "TooLong"), (700_000, "TooLong")] {
         let answer = verify_absence(LOG_2, MAP_ROOT, &"AAAA".repeat(groups));
-        assert_eq!(answer, Err(Error::BadArgument(None)), "{groups}");
+        assert_eq!(fault_of(answer), fault, "{groups}");
     }
     Ok(())
 }

@@ -14,3 +14,4 @@ pub mod ComparisonAnswers
 pub mod Saved
 pub mod Ids
 pub mod ProofAnswers
+pub mod ProofFaults

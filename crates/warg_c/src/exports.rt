@@ -7,6 +7,7 @@ mod identifying;
 mod keys;
 mod namespaces;
 mod opening;
+mod proof_faults;
 mod proofs;
 mod records;
 mod releases;

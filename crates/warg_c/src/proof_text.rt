@@ -3,6 +3,7 @@ ghost use Rattle.std.specs.Prelude.{◌≡◌, ◌⊎◌, Ok, IfOk, IfErr};
 ghost use Rattle.warg_crypto.specs.HashText.{hash_of};
 ghost use Rattle.warg_transparency.specs.Texts.{log_proof_of, map_proof_of};
 ghost use Rattle.warg_c.specs.ProofAnswers.{AreLeafTexts, IsNoText};
+ghost use Rattle.warg_c.specs.ProofFaults.{tree_numbered};
 ghost use Rattle.warg_c.specs.Texts.{FailsAs};
 
 use crate::failure::Failure;
@@ -11,6 +12,28 @@ use warg_crypto::hash::AnyHash;
 use warg_records::RecordId;
 use warg_registry::{LogId, LogLeaf};
 use warg_transparency::{LogProof, MapProof, ProofTextError};
+
+/// A tree of a registry, on which a proof is.
+#[derive(Clone, Copy, Debug, PartialEq, Eq)]
+pub enum Tree {
+    /// The log of all records.
+    Log,
+    /// The map of the heads of logs.
+    Map,
+}
+
+impl Tree {
+    /// The tree that a number names.
+    pub(crate) fn numbered(number: u32) -> Result<Tree, Failure>
+        ensures { result ≡ tree_numbered number }
+    {
+        match number {
+            0 => Ok(Tree::Log),
+            1 => Ok(Tree::Map),
+            _ => Err(Failure::BadArgument),
+        }
+    }
+}
 
 /// The hash of a text.
 pub(crate) fn hash_in(text: &[u8]) -> Result<AnyHash, Failure>

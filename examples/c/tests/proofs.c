@@ -42,6 +42,47 @@ static uint32_t absence(const char *log, const char *root, const char *proof) {
     return warg_verify_absence(TEXT(log), TEXT(root), TEXT(proof));
 }
 
+/* The fault of the proof is of this name. */
+static bool has_fault(uint32_t tree, const char *proof, size_t len, const char *name) {
+    uint8_t text[16] = {0};
+    size_t used = 0;
+    uint32_t status = warg_proof_fault(tree, (const uint8_t *)proof, len, text, sizeof text, &used);
+    return status == WARG_OK && used == strlen(name) && memcmp(text, name, used) == 0;
+}
+static uint32_t fault(uint32_t tree, const char *proof) {
+    uint8_t text[16] = {0};
+    size_t used = 0;
+    uint32_t status = warg_proof_fault(tree, TEXT(proof), text, sizeof text, &used);
+    CHECK(status == WARG_OK || used == 0);
+    return status;
+}
+
+/* Texts that are no proof, each by the name of its fault. */
+static void test_faults(void) {
+    static char many[10972];
+    memset(many, 'A', sizeof many);
+    CHECK(has_fault(WARG_LOG_TREE, many, 2733, "TooLong"));
+    CHECK(has_fault(WARG_LOG_TREE, many, 2732, "BadLength"));
+    CHECK(has_fault(WARG_LOG_TREE, "AA==", 4, "BadLength"));
+    CHECK(has_fault(WARG_LOG_TREE, "!", 1, "BadBase64"));
+    CHECK(has_fault(WARG_LOG_TREE, "\xff", 1, "BadBase64"));
+    CHECK(has_fault(WARG_MAP_TREE, many, 10969, "TooLong"));
+    CHECK(has_fault(WARG_MAP_TREE, many, 10968, "BadLength"));
+    CHECK(has_fault(WARG_MAP_TREE, "", 0, "BadLength"));
+    CHECK(has_fault(WARG_MAP_TREE, "!", 1, "BadBase64"));
+    CHECK(fault(WARG_LOG_TREE, "") == WARG_NONE);
+    CHECK(fault(WARG_LOG_TREE, INCLUSION) == WARG_NONE);
+    CHECK(fault(WARG_MAP_TREE, PRESENCE) == WARG_NONE);
+    CHECK(fault(2, INCLUSION) == WARG_BAD_ARGUMENT);
+    CHECK(fault(UINT32_MAX, INCLUSION) == WARG_BAD_ARGUMENT);
+    uint8_t text[4] = {1, 2, 3, 4};
+    size_t used = 0;
+    CHECK(warg_proof_fault(WARG_LOG_TREE, TEXT("!"), text, sizeof text, &used) == WARG_TOO_SMALL && used == 9);
+    CHECK(text[0] == 1 && text[3] == 4);
+}
+
+static uint32_t named_fault(void) { return fault(WARG_LOG_TREE, "AA=="); }
+
 static uint32_t lawful_inclusion(void) { return inclusion(RECORD_5, 5, INCLUSION); }
 static uint32_t lawful_consistency(void) { return consistency(6, ROOT_6, CONSISTENCY); }
 static uint32_t lawful_presence(void) { return presence(RECORD_6, MAP_ROOT, PRESENCE); }
@@ -80,7 +121,8 @@ int main(void) {
     CHECK(presence(RECORD_6, MAP_ROOT, "A") == WARG_BAD_ARGUMENT);
     CHECK(absence(LOG_0, MAP_ROOT, PRESENCE) == WARG_REFUSED);
     CHECK(absence("log", MAP_ROOT, ABSENCE) == WARG_BAD_ARGUMENT);
-    long all = refuse_each(lawful_inclusion) + refuse_each(lawful_consistency) + refuse_each(lawful_presence) +
+    test_faults();
+    long all = refuse_each(named_fault) + refuse_each(lawful_inclusion) + refuse_each(lawful_consistency) + refuse_each(lawful_presence) +
                refuse_each(lawful_absence);
     printf("%ld requests refused\n", all);
     return 0;

@@ -99,6 +99,7 @@ _CALLS: dict[str, list[Any]] = {
     "verify_consistency": [_U64, *_IN, _U64, *_IN, *_IN],
     "verify_presence": [*_IN, *_IN, *_IN, *_IN],
     "verify_absence": [*_IN, *_IN, *_IN],
+    "proof_fault": [_U32, *_IN, *_OUT],
     "version": [*_OUT],
 }
 

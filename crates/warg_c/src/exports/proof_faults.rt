@@ -1,0 +1,92 @@
+//! What is wrong with the text of a proof.
+ghost use Rattle.std.specs.Prelude.{◌≡◌, ◌≢◌, ◌≤◌, Err, IfOk, IfErr, IsOk, length, take};
+ghost use Rattle.warg_transparency.specs.Texts.{log_proof_of, map_proof_of};
+ghost use Rattle.warg_c.specs.ProofFaults.{FaultLacks, FaultTells, IsFaultOf, IsNoTree, proof_fault_name, proof_on};
+ghost use Rattle.warg_c.specs.Statuses.{IsStatusOf};
+ghost use Rattle.warg_c.specs.Texts.{FailsAs, TextFails};
+
+use crate::failure::Failure;
+use crate::given::finish;
+use crate::proof_text::Tree;
+use std::alloc::Global;
+use warg_transparency::{LogProof, MapProof, ProofTextError};
+
+// Why a text is no proof on a log.
+fn log_fault(alloc: Global, text: &str) -> Result<ProofTextError, Failure>
+    ensures ok { IfOk result (λ e. log_proof_of text.now ≡ Err e) }
+    ensures err { IfErr result (FailsAs (IsOk (log_proof_of text.now)) ⊥) }
+{
+    match LogProof::parse(alloc, text) {
+        Ok(_) => Err(Failure::Absent),
+        Err(ProofTextError::OutOfMemory) => Err(Failure::OutOfMemory),
+        Err(fault) => Ok(fault),
+    }
+}
+
+// Why a text is no proof on a map.
+fn map_fault(alloc: Global, text: &str) -> Result<ProofTextError, Failure>
+    ensures ok { IfOk result (λ e. map_proof_of text.now ≡ Err e) }
+    ensures err { IfErr result (FailsAs (IsOk (map_proof_of text.now)) ⊥) }
+{
+    match MapProof::parse(alloc, text) {
+        Ok(_) => Err(Failure::Absent),
+        Err(ProofTextError::OutOfMemory) => Err(Failure::OutOfMemory),
+        Err(fault) => Ok(fault),
+    }
+}
+
+// Why bytes are no text of a proof on the tree.
+fn fault_in(alloc: Global, tree: Tree, proof: &[u8]) -> Result<ProofTextError, Failure>
+    ensures ok { IfOk result (IsFaultOf tree proof.now) }
+    ensures err { IfErr result (FailsAs (IsOk (proof_on tree proof.now)) ⊥) }
+{
+    let Ok(text) = str::from_utf8(proof) else {
+        return Ok(ProofTextError::BadBase64);
+    };
+    match tree {
+        Tree::Log => log_fault(alloc, text),
+        Tree::Map => map_fault(alloc, text),
+    }
+}
+
+fn fault_name(fault: ProofTextError) -> &'static str
+    ensures { result.now ≡ proof_fault_name fault }
+{
+    match fault {
+        ProofTextError::TooLong => "TooLong",
+        ProofTextError::BadBase64 => "BadBase64",
+        ProofTextError::BadLength => "BadLength",
+        ProofTextError::EmptySibling => "EmptySibling",
+        ProofTextError::OutOfMemory => "OutOfMemory",
+    }
+}
+
+fn fault_text(alloc: Global, number: u32, proof: &[u8]) -> Result<Vec<u8>, Failure>
+    ensures ok { IfOk result (λ v. FaultTells number proof.now v.items) }
+    ensures err { IfErr result (FailsAs (FaultLacks number proof.now) (IsNoTree number)) }
+{
+    let tree = Tree::numbered(number)?;
+    let fault = fault_in(alloc, tree, proof)?;
+    let name = fault_name(fault);
+    Ok(Vec::from_slice(alloc, name.as_bytes())?)
+}
+
+/// The name of what is wrong with the text of a proof on the tree of that number.
+#[unsafe(no_mangle)]
+pub extern "C" fn warg_proof_fault(
+    alloc: Global,
+    tree: u32,
+    proof: &[u8],
+    text: &mut [u8],
+    used: &mut usize,
+) -> u32
+    ensures answer { IsStatusOf result (FaultTells tree proof.now (take used.new text.new))
+        (TextFails (FaultTells tree proof.now) (FaultLacks tree proof.now) (IsNoTree tree)
+        used.new text.old) }
+    ensures buffer { result ≢ 0 → text.new ≡ text.old }
+    ensures used { result ≢ 0 → result ≢ 3 → used.new ≡ 0 }
+    ensures within { result ≢ 3 → used.new ≤ length text.new }
+{
+    let outcome = fault_text(alloc, tree, proof);
+    finish(outcome, text, used)
+}
