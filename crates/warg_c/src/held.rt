@@ -5,6 +5,7 @@ ghost use Rattle.warg_c.specs.declared.failure.Failure.TheVariants.{BadArgument}
 
 use crate::failure::Failure;
 use crate::kept_log::KeptLog;
+use crate::spelled::Spelled;
 use std::alloc::{AllocError, Global};
 use warg_operator_log::LogState as OperatorState;
 use warg_package_log::LogState as PackageState;
@@ -56,6 +57,16 @@ impl Held {
         ensures { IfOk result (λ b. b.value ≡ self) }
     {
         Ok(Box::new(alloc, self)?)
+    }
+
+    /// Hands over the question that was asked last, where it was kept.
+    pub(crate) fn take_spelled(&mut self) -> Option<Spelled>
+        ensures { self.new ≡ self.old }
+    {
+        match self {
+            Held::Package(log) => log.take_spelled(),
+            Held::Operator(log) => log.take_spelled(),
+        }
     }
 
     /// The state of a package log.

@@ -2,6 +2,7 @@
 #![tactic(auto)]
 
 mod argument;
+mod asked_log;
 mod asking;
 mod exports;
 mod failure;
@@ -16,3 +17,4 @@ mod proof_text;
 mod question;
 mod refusal;
 mod release_text;
+mod spelled;

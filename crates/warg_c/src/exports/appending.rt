@@ -13,7 +13,8 @@ use crate::asking::{append_log, ask_log};
 use crate::failure::{Failure, status};
 use crate::handle::WargLog;
 use crate::held::Held;
-use crate::question::{Asked, told};
+use crate::question::Asked;
+use crate::spelled::answer_for;
 use std::alloc::Global;
 use warg_host::Told;
 
@@ -116,7 +117,8 @@ fn append_told(
     ensures within { used.old ≡ 0 → used.new ≤ length text.new }
     ensures quiet { used.old ≡ 0 → IsQuiet result used.new }
 {
-    let answer = told(alloc, word.question, word.asked, word.belongs)?;
+    let kept = held.take_spelled();
+    let answer = answer_for(alloc, kept, word.question, word.asked, word.belongs)?;
     append_held(alloc, held, envelope, &answer, text, used)
 }
 

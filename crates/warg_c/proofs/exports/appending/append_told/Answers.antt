@@ -1,5 +1,10 @@
+use Rattle.std.proofs.Common.{subst}
+use Rattle.std.specs.Prelude.{IfErr}
+use Rattle.warg_c.specs.Held.{append_refuses}
 use Rattle.warg_c.proofs.Answers.{fails-if}
 use Rattle.warg_c.proofs.exports.appending.append_told.Goals as goal
 
 pub returns-clause-failed : goal.returns-clause-failed
-returns-clause-failed c = fails-if c.args.held.now c.args.word.now.belongs c.args.word.now.asked.now c.args.word.now.question.now c.args.envelope.now c.append_held.new.used c.append_held.new.text c.in_ok-answer.answer c.in_ok-answer.ensures.ok.0 c.in_ok-answer.ensures.ok.1 c.append_held.result c.append_held.ensures.failed
+returns-clause-failed c =
+    fails-if c.args.held.now c.args.word.now.belongs c.args.word.now.asked.now c.args.word.now.question.now c.args.envelope.now c.append_held.new.used c.append_held.new.text c.in_ok-answer.answer c.in_ok-answer.ensures.ok.0 c.in_ok-answer.ensures.ok.1 c.append_held.result
+    (subst (λ held. IfErr c.append_held.result (append_refuses held c.in_ok-answer.answer c.args.envelope.now c.append_held.new.used c.append_held.new.text)) c.take_spelled-kept.ensures c.append_held.ensures.failed)
