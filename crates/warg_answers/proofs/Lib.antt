@@ -7,3 +7,4 @@ pub mod CompareLemmas
 pub mod ResumeLemmas
 pub mod ClaimLemmas
 pub mod AnswerLemmas
+pub mod ShownLemmas

@@ -8,4 +8,6 @@ pub mod Questions
 pub mod Resumption
 pub mod ClaimTexts
 pub mod ReadFaults
+pub mod ShownWords
+pub mod ShownLogs
 pub mod Sentences

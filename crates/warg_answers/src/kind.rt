@@ -1,8 +1,10 @@
 //! What the commands ask of a kind of log.
 
-ghost use Rattle.std.specs.Prelude.{◌≡◌, ℕ, Bool, List, Result, IfOk, IfSome, string_bytes};
+ghost use Rattle.std.specs.Prelude.{◌≡◌, ℕ, Bool, List, Result, Ok, IfOk, IfSome, string_bytes};
 ghost use Rattle.warg_protocol.specs.Json.{JsonError as OfJsonError, JsonTextError as OfJsonTextError, ReturnsOrNoMemory};
+ghost use Rattle.warg_protocol.specs.Logs.{EnvelopeData};
 ghost use Rattle.warg_saved.specs.JsonText.{ReturnsOfText};
+ghost use Rattle.warg_answers.specs.ShownWords.{IsRecordLine};
 
 use std::alloc::{AllocError, Global};
 use warg_audit::Report;
@@ -23,6 +25,14 @@ pub trait ToolLog: Report {
     ghost json_of: { Self → Result (List ℕ) OfJsonError };
 
     ghost state_of: { List ℕ → Result Self OfJsonTextError };
+
+    // The words of a record's entries, and whether content bytes say a record with such words.
+    ghost words_of: { Self.Record → List (List ℕ) };
+
+    ghost says_words: { List ℕ → List (List ℕ) → Type 0 };
+
+    // Whether a text shows the state that records lead to.
+    ghost shows: { List EnvelopeData → List ℕ → Type 0 };
 
     /// The permissions of the kind, in their order.
     fn permissions(alloc: Global) -> Result<Vec<Self::Permission>, AllocError>
@@ -51,12 +61,13 @@ pub trait ToolLog: Report {
         text: &mut String,
     ) -> Result<(), AllocError>;
 
-    /// Appends the record's time, its signer, and its entries in words.
-    fn append_record(
+    /// The line of a record: its time, its signer, and its entries in words.
+    fn record_line(
         alloc: Global,
         envelope: &ProtoEnvelope<Self::Record>,
-        text: &mut String,
-    ) -> Result<(), AllocError>;
+    ) -> Result<String, AllocError>
+        ensures { IfOk result (λ line. IsRecordLine envelope.now.envelope.key_id
+            (words_of envelope.now.contents) (string_bytes line)) };
 
     /// The content bytes of the record with so many of its first entries.
     fn first_entries(
@@ -65,8 +76,16 @@ pub trait ToolLog: Report {
         count: usize,
     ) -> Result<Vec<u8>, AllocError>;
 
-    /// Appends a line for each key, and for each release or namespace.
-    fn append_state(&self, alloc: Global, text: &mut String) -> Result<(), AllocError>;
+    /// A line for each key, and for each release or namespace.
+    fn state_text(&self, alloc: Global) -> Result<String, AllocError>
+        ensures { (records : List EnvelopeData) →
+            Self.Validator.view self.now ≡ Self.Validator.kind.view_of records →
+            IfOk result (λ text. shows records (string_bytes text)) };
+
+    // A record has the words that the content bytes say that say it.
+    ghost says_its_words: { (r : Self.Record) (content : List ℕ) →
+        Self.Record.read content ≡ Ok (Self.Record.meaning r) →
+        says_words content (words_of r) };
 }
 
 /// The permission that the text names.

@@ -1,69 +1,84 @@
 //! What the commands say of operator logs.
 
+ghost use Rattle.std.specs.Prelude.{◌≡◌, string_bytes, IfOk};
+ghost use Rattle.warg_protocol.specs.Operator.{namespace_view};
+ghost use Rattle.warg_answers.specs.ShownWords.{namespace_line, namespace_lines};
+
 use crate::kind::ToolLog;
-use crate::wording::{
-    EntryWords, append, append_keys, append_named, append_permissions, append_record,
-};
+use crate::wording::{EntryWords, append, key_lines, permission_words, record_line};
 use std::alloc::{AllocError, Global};
 use warg_permissions::LogPermission;
 use warg_protocol::operator::{
-    LogState, NamespaceState, OperatorEntry, OperatorRecord, Permission, ValidationError,
+    LogState, NamespaceState, Namespaces, OperatorEntry, OperatorRecord, Permission,
+    ValidationError,
 };
 use warg_protocol::signing::KeyID;
 use warg_protocol::{Encode, JsonError, JsonTextError, ProtoEnvelope};
 
 impl EntryWords for OperatorEntry {
-    fn append_words(&self, alloc: Global, text: &mut String) -> Result<(), AllocError> {
+    ghost use Rattle.warg_protocol.specs.Operator.{entry_data};
+    ghost use Rattle.warg_answers.specs.ShownWords.{operator_entry_words};
+
+    ghost words_of = { λ entry. operator_entry_words (entry_data entry) };
+
+    fn words(&self, alloc: Global) -> Result<String, AllocError> {
         match self {
-            OperatorEntry::Init { key, .. } => append_named(alloc, "init", key, text),
+            OperatorEntry::Init { key, .. } => format!(in alloc; "init {key}"),
             OperatorEntry::GrantFlat { key, permissions } => {
-                append_named(alloc, "grant", key, text)?;
-                append_permissions(permissions.as_slice(), text)
+                let permissions = permission_words(alloc, permissions.as_slice())?;
+                format!(in alloc; "grant {key}{permissions}")
             }
             OperatorEntry::RevokeFlat {
                 key_id,
                 permissions,
             } => {
-                append_named(alloc, "revoke", key_id, text)?;
-                append_permissions(permissions.as_slice(), text)
+                let permissions = permission_words(alloc, permissions.as_slice())?;
+                format!(in alloc; "revoke {key_id}{permissions}")
             }
             OperatorEntry::DefineNamespace { namespace } => {
-                append_named(alloc, "define", namespace, text)
+                format!(in alloc; "define {namespace}")
             }
             OperatorEntry::ImportNamespace {
                 namespace,
                 registry,
-            } => {
-                append_named(alloc, "import", namespace, text)?;
-                text.push(' ')?;
-                text.push_str(registry.as_str())
-            }
+            } => format!(in alloc; "import {namespace} {registry}"),
         }
     }
 }
 
 // The line of a namespace: its name and what it is.
-fn append_namespace(
-    alloc: Global,
-    name: &str,
-    state: &NamespaceState,
-    text: &mut String,
-) -> Result<(), AllocError> {
-    append_named(alloc, "namespace", &name, text)?;
+fn namespace_line(alloc: Global, name: &str, state: &NamespaceState) -> Result<String, AllocError>
+    ensures { IfOk result (λ line. string_bytes line ≡
+        namespace_line name.now (namespace_view state.now)) }
+{
     match state {
-        NamespaceState::Defined => text.push_str(" defined")?,
+        NamespaceState::Defined => format!(in alloc; "namespace {name} defined\n"),
         NamespaceState::Imported { registry } => {
-            append_named(alloc, " imported from", registry, text)?
+            format!(in alloc; "namespace {name} imported from {registry}\n")
         }
     }
-    text.push('\n')
+}
+
+// A line for each namespace.
+fn namespace_lines(alloc: Global, namespaces: Namespaces<'_>) -> Result<String, AllocError>
+    ensures { IfOk result (λ text. string_bytes text ≡ namespace_lines namespaces.entry) }
+{
+    let mut text = String::new(alloc);
+    for (name, state) in namespaces {
+        let line = namespace_line(alloc, name, state)?;
+        text.push_str(line.as_str())?;
+    }
+    Ok(text)
 }
 
 impl ToolLog for LogState {
-    ghost use Rattle.std.specs.Prelude.{[], ◌∷◌};
+    ghost use Rattle.std.proofs.Common.{sym};
+    ghost use Rattle.std.proofs.lemmas.Simd.{map-map};
+    ghost use Rattle.std.specs.Prelude.{[], ◌∷◌, map};
     ghost use Rattle.warg_protocol.specs.Json.{in_text, text_of as written_text};
-    ghost use Rattle.warg_protocol.specs.Operator.{permission_text, state_in, state_json, view_of};
+    ghost use Rattle.warg_protocol.specs.Operator.{entry_data, permission_text, record_data, state_in, state_json, view_of};
     ghost use Rattle.warg_permissions.specs.declared.operator.Permission.TheVariants as permission;
+    ghost use Rattle.warg_answers.specs.ShownWords.{operator_entry_words, says_operator_words, shows_namespaces};
 
     ghost order = { permission.Commit ∷ permission.DefineNamespace ∷ permission.ImportNamespace ∷ [] };
 
@@ -74,6 +89,13 @@ impl ToolLog for LogState {
     ghost json_of = { λ state. written_text (state_json state) };
 
     ghost state_of = { in_text state_in };
+
+    ghost words_of = { λ it.
+        map (λ entry. operator_entry_words (entry_data entry)) it.entries.items };
+
+    ghost says_words = { says_operator_words };
+
+    ghost shows = { shows_namespaces };
 
     fn permissions(alloc: Global) -> Result<Vec<Permission>, AllocError> {
         Permission::all().to_vec(alloc)
@@ -103,12 +125,11 @@ impl ToolLog for LogState {
         append(alloc, error, text)
     }
 
-    fn append_record(
+    fn record_line(
         alloc: Global,
         envelope: &ProtoEnvelope<OperatorRecord>,
-        text: &mut String,
-    ) -> Result<(), AllocError> {
-        append_record(alloc, envelope, text)
+    ) -> Result<String, AllocError> {
+        record_line(alloc, envelope)
     }
 
     fn first_entries(
@@ -121,11 +142,13 @@ impl ToolLog for LogState {
         record.encode(alloc)
     }
 
-    fn append_state(&self, alloc: Global, text: &mut String) -> Result<(), AllocError> {
-        append_keys(alloc, self.keys(), text)?;
-        for (name, state) in self.namespaces() {
-            append_namespace(alloc, name, state, text)?;
-        }
-        Ok(())
+    fn state_text(&self, alloc: Global) -> Result<String, AllocError> {
+        let mut text = key_lines(alloc, self.keys())?;
+        let namespaces = namespace_lines(alloc, self.namespaces())?;
+        text.push_str(namespaces.as_str())?;
+        Ok(text)
     }
+
+    ghost says_its_words = { λ it content e.
+        (record_data it, e, sym (map-map operator_entry_words entry_data it.entries.items)) };
 }

@@ -1,65 +1,107 @@
 //! What the commands say of package logs.
 
+ghost use Rattle.std.specs.Prelude.{◌≡◌, string_bytes, IfOk};
+ghost use Rattle.semver.specs.Identifiers.{parts_of, parts_text};
+ghost use Rattle.warg_protocol.specs.Package.{release_view};
+ghost use Rattle.warg_answers.specs.ShownWords.{AreReleaseLines, IsReleaseLine, IsStandingLine, yanked_line};
+
 use crate::kind::ToolLog;
-use crate::wording::{
-    EntryWords, append, append_keys, append_named, append_permissions, append_record, append_time,
-};
+use crate::wording::{EntryWords, append, key_lines, permission_words, record_line, time_words};
 use std::alloc::{AllocError, Global};
 use warg_permissions::LogPermission;
 use warg_protocol::package::{
-    LogState, PackageEntry, PackageRecord, Permission, Release, ReleaseState, ValidationError,
+    LogState, PackageEntry, PackageRecord, Permission, Release, ReleaseState, Releases,
+    ValidationError,
 };
 use warg_protocol::signing::KeyID;
-use warg_protocol::{Encode, JsonError, JsonTextError, ProtoEnvelope};
+use warg_protocol::{Encode, JsonError, JsonTextError, ProtoEnvelope, Version};
 
 impl EntryWords for PackageEntry {
-    fn append_words(&self, alloc: Global, text: &mut String) -> Result<(), AllocError> {
+    ghost use Rattle.warg_protocol.specs.Package.{entry_data};
+    ghost use Rattle.warg_answers.specs.ShownWords.{package_entry_words};
+
+    ghost words_of = { λ entry. package_entry_words (entry_data entry) };
+
+    fn words(&self, alloc: Global) -> Result<String, AllocError> {
         match self {
-            PackageEntry::Init { key, .. } => append_named(alloc, "init", key, text),
+            PackageEntry::Init { key, .. } => format!(in alloc; "init {key}"),
             PackageEntry::GrantFlat { key, permissions } => {
-                append_named(alloc, "grant", key, text)?;
-                append_permissions(permissions.as_slice(), text)
+                let permissions = permission_words(alloc, permissions.as_slice())?;
+                format!(in alloc; "grant {key}{permissions}")
             }
             PackageEntry::RevokeFlat {
                 key_id,
                 permissions,
             } => {
-                append_named(alloc, "revoke", key_id, text)?;
-                append_permissions(permissions.as_slice(), text)
+                let permissions = permission_words(alloc, permissions.as_slice())?;
+                format!(in alloc; "revoke {key_id}{permissions}")
             }
             PackageEntry::Release { version, content } => {
-                append_named(alloc, "release", version, text)?;
-                text.push(' ')?;
-                append(alloc, content, text)
+                format!(in alloc; "release {version} {content}")
             }
-            PackageEntry::Yank { version } => append_named(alloc, "yank", version, text),
+            PackageEntry::Yank { version } => format!(in alloc; "yank {version}"),
+        }
+    }
+}
+
+// The line of a release that was yanked, by the words of the time.
+fn yanked_line(
+    alloc: Global,
+    version: &Version,
+    by: &KeyID,
+    time: &str,
+) -> Result<String, AllocError>
+    ensures { IfOk result (λ line. string_bytes line ≡
+        yanked_line (parts_text (parts_of version.now)) by.now time.now) }
+{
+    format!(in alloc; "release {version} yanked by {by} at {time}\n")
+}
+
+// The line of a release that stands, or was yanked.
+fn standing_line(
+    alloc: Global,
+    version: &Version,
+    state: &ReleaseState,
+) -> Result<String, AllocError>
+    ensures { IfOk result (λ line. IsStandingLine (parts_text (parts_of version.now))
+        state.now (string_bytes line)) }
+{
+    match state {
+        ReleaseState::Released { content } => format!(in alloc; "release {version} {content}\n"),
+        ReleaseState::Yanked { by, timestamp } => {
+            let time = time_words(alloc, *timestamp)?;
+            yanked_line(alloc, version, by, time.as_str())
         }
     }
 }
 
 // The line of a release: its version, and its content's digest or who yanked it and when.
-fn append_release(alloc: Global, release: &Release, text: &mut String) -> Result<(), AllocError> {
-    append_named(alloc, "release", &release.version, text)?;
-    match &release.state {
-        ReleaseState::Released { content } => {
-            text.push(' ')?;
-            append(alloc, content, text)?;
-        }
-        ReleaseState::Yanked { by, timestamp } => {
-            text.push_str(" yanked by ")?;
-            text.push_str(by.as_str())?;
-            text.push_str(" at ")?;
-            append_time(alloc, *timestamp, text)?;
-        }
+fn release_line(alloc: Global, release: &Release) -> Result<String, AllocError>
+    ensures { IfOk result (λ line. IsReleaseLine (release_view release.now) (string_bytes line)) }
+{
+    standing_line(alloc, &release.version, &release.state)
+}
+
+// A line for each release.
+fn release_lines(alloc: Global, releases: Releases<'_>) -> Result<String, AllocError>
+    ensures { IfOk result (λ text. AreReleaseLines releases.entry (string_bytes text)) }
+{
+    let mut text = String::new(alloc);
+    for release in releases {
+        let line = release_line(alloc, release)?;
+        text.push_str(line.as_str())?;
     }
-    text.push('\n')
+    Ok(text)
 }
 
 impl ToolLog for LogState {
-    ghost use Rattle.std.specs.Prelude.{[], ◌∷◌};
+    ghost use Rattle.std.proofs.Common.{sym};
+    ghost use Rattle.std.proofs.lemmas.Simd.{map-map};
+    ghost use Rattle.std.specs.Prelude.{[], ◌∷◌, map};
     ghost use Rattle.warg_protocol.specs.Json.{in_text, text_of as written_text};
-    ghost use Rattle.warg_protocol.specs.Package.{permission_text, state_in, state_json, view_of};
+    ghost use Rattle.warg_protocol.specs.Package.{entry_data, permission_text, record_data, state_in, state_json, view_of};
     ghost use Rattle.warg_permissions.specs.declared.package.Permission.TheVariants as permission;
+    ghost use Rattle.warg_answers.specs.ShownWords.{package_entry_words, says_package_words, shows_releases};
 
     ghost order = { permission.Release ∷ permission.Yank ∷ [] };
 
@@ -70,6 +112,13 @@ impl ToolLog for LogState {
     ghost json_of = { λ state. written_text (state_json state) };
 
     ghost state_of = { in_text state_in };
+
+    ghost words_of = { λ it.
+        map (λ entry. package_entry_words (entry_data entry)) it.entries.items };
+
+    ghost says_words = { says_package_words };
+
+    ghost shows = { shows_releases };
 
     fn permissions(alloc: Global) -> Result<Vec<Permission>, AllocError> {
         Permission::all().to_vec(alloc)
@@ -99,12 +148,11 @@ impl ToolLog for LogState {
         append(alloc, error, text)
     }
 
-    fn append_record(
+    fn record_line(
         alloc: Global,
         envelope: &ProtoEnvelope<PackageRecord>,
-        text: &mut String,
-    ) -> Result<(), AllocError> {
-        append_record(alloc, envelope, text)
+    ) -> Result<String, AllocError> {
+        record_line(alloc, envelope)
     }
 
     fn first_entries(
@@ -117,11 +165,13 @@ impl ToolLog for LogState {
         record.encode(alloc)
     }
 
-    fn append_state(&self, alloc: Global, text: &mut String) -> Result<(), AllocError> {
-        append_keys(alloc, self.keys(), text)?;
-        for release in self.releases() {
-            append_release(alloc, release, text)?;
-        }
-        Ok(())
+    fn state_text(&self, alloc: Global) -> Result<String, AllocError> {
+        let mut text = key_lines(alloc, self.keys())?;
+        let releases = release_lines(alloc, self.releases())?;
+        text.push_str(releases.as_str())?;
+        Ok(text)
     }
+
+    ghost says_its_words = { λ it content e.
+        (record_data it, e, sym (map-map package_entry_words entry_data it.entries.items)) };
 }

@@ -1,13 +1,15 @@
 //! `show`: a log in words.
 
-ghost use Rattle.std.specs.Prelude.{◌≡◌, ◌≤◌, ◌<◌, List, ℕ, IfOk, IfSome, OnOk, map};
+ghost use Rattle.std.specs.Prelude.{◌≡◌, ◌++◌, List, ℕ, IfOk, codes, map, string_bytes};
+ghost use Rattle.std.specs.Fmt.{decimal};
+ghost use Rattle.std.specs.Option.{option_copied};
 ghost use Rattle.std.specs.Vec.{vec_items};
-ghost use Rattle.warg_protocol.specs.Logs.{EnvelopeData, SignatureRelation, envelope_of, envelope_fault_of, cause_named_by, IsRefusal};
-ghost use Rattle.warg_audit.specs.LogAnswers.{IsLogAnswer, IsRefused};
-ghost use Rattle.warg_audit.specs.Printouts.{Printout};
-ghost use Rattle.warg_answers.specs.Answers.{Answers};
+ghost use Rattle.warg_protocol.specs.Logs.{EnvelopeData, SignatureRelation, envelope_of, envelope_fault_of, envelopes, cause_named_by, IsRefusal};
+ghost use Rattle.warg_answers.specs.Answers.{answer_view, Answers};
 ghost use Rattle.warg_answers.specs.RecordLines.{record_lines};
-ghost use Rattle.warg_answers.specs.Verdicts.{ForDisplay, HasAuditStatus, HasStatusOf};
+ghost use Rattle.warg_answers.specs.ShownLogs.{AreEnvelopeLines, cause_words, entry_line, head_line, IsCauseText, IsCutText, IsLogText, IsRefusalText, IsShown, IsShownOf};
+ghost use Rattle.warg_answers.specs.Texts.{no, yes};
+ghost use Rattle.warg_answers.specs.Verdicts.{ForDisplay};
 
 use crate::advice::advice;
 use crate::answer::Answer;
@@ -17,6 +19,7 @@ use crate::kind::ToolLog;
 use crate::stop::Stop;
 use std::alloc::{AllocError, Global};
 use warg_audit::refusal_reply;
+use warg_protocol::registry::RecordId;
 use warg_protocol::signing::{PublicKey, Signature, SignatureError, Verifier};
 use warg_protocol::{
     AuditedLog, Envelope, Message, ParseEnvelopeError, ProtoEnvelope, RunCause, RunError,
@@ -119,124 +122,211 @@ fn entry_of_offence<L: ToolLog>(
     Ok(Some(lawful))
 }
 
-// Appends the error's sentence, the place of the entry that it is of, and what a publisher can do.
-fn append_cause<L: ToolLog>(
+// The place of the entry that the offence of a string is of, if the string is an envelope.
+fn entry_in<L: ToolLog>(
+    alloc: Global,
+    state: &L,
+    string: &[u8],
+    offence: &L::Error,
+) -> Result<Option<usize>, AllocError> {
+    match envelope_in::<L>(alloc, string)? {
+        Some(envelope) => entry_of_offence(alloc, state, &envelope, offence),
+        None => Ok(None),
+    }
+}
+
+// The line of the entry that an offence is of, if it is of one.
+fn entry_line(alloc: Global, entry: Option<usize>) -> Result<String, AllocError>
+    ensures { IfOk result (λ line. string_bytes line ≡ entry_line entry) }
+{
+    match entry {
+        Some(entry) => format!(in alloc; "entry: {entry}\n"),
+        None => Ok(String::new(alloc)),
+    }
+}
+
+// Why a record is refused, by its parts.
+fn cause_words(
+    alloc: Global,
+    why: &str,
+    entry: Option<usize>,
+    advice: &str,
+) -> Result<String, AllocError>
+    ensures { IfOk result (λ text. string_bytes text ≡ cause_words why.now entry advice.now) }
+{
+    let line = entry_line(alloc, entry)?;
+    format!(in alloc; "why: {why}\n{line}try: {advice}\n")
+}
+
+// The offence's sentence, the entry that it is of, and what a publisher can do.
+fn offence_text<L: ToolLog>(
+    alloc: Global,
+    state: &L,
+    string: &[u8],
+    offence: &L::Error,
+) -> Result<String, AllocError>
+    ensures { IfOk result (λ text. IsCauseText (string_bytes text)) }
+{
+    let mut why = String::new(alloc);
+    L::append_error(alloc, offence, &mut why)?;
+    let entry = entry_in(alloc, state, string, offence)?;
+    let advice = advice(L::error_name(offence).unwrap_or("OutOfMemory"));
+    cause_words(alloc, why.as_str(), entry, advice)
+}
+
+// The fault's sentence, and what a publisher can do.
+fn fault_text(alloc: Global, fault: &ParseEnvelopeError) -> Result<String, AllocError>
+    ensures { IfOk result (λ text. IsCauseText (string_bytes text)) }
+{
+    let why = fault.to_string(alloc)?;
+    let advice = advice(fault.name());
+    cause_words(alloc, why.as_str(), None, advice)
+}
+
+// The error's sentence, the entry that it is of, and what a publisher can do.
+fn cause_text<L: ToolLog>(
     alloc: Global,
     state: &L,
     string: &[u8],
     cause: &RunCause<L::Error>,
-    text: &mut String,
-) -> Result<(), AllocError> {
+) -> Result<String, AllocError>
+    ensures { IfOk result (λ text. IsCauseText (string_bytes text)) }
+{
     match cause {
-        RunCause::Parse(fault) => {
-            let line = format!(in alloc; "why: {fault}\ntry: {}\n", advice(fault.name()))?;
-            text.push_str(line.as_str())
-        }
-        RunCause::Validation(offence) => {
-            text.push_str("why: ")?;
-            L::append_error(alloc, offence, text)?;
-            let entry = match envelope_in::<L>(alloc, string)? {
-                Some(envelope) => entry_of_offence(alloc, state, &envelope, offence)?,
-                None => None,
-            };
-            if let Some(entry) = entry {
-                let line = format!(in alloc; "\nentry: {entry}")?;
-                text.push_str(line.as_str())?;
-            }
-            let name = L::error_name(offence).unwrap_or("OutOfMemory");
-            let line = format!(in alloc; "\ntry: {}\n", advice(name))?;
-            text.push_str(line.as_str())
-        }
+        RunCause::Parse(fault) => fault_text(alloc, fault),
+        RunCause::Validation(offence) => offence_text(alloc, state, string, offence),
     }
 }
 
-// Appends why the next record is refused: the audit's line, and the cause in words. Refused memory is no cause.
-fn append_refusal<L: ToolLog>(
+// Why the next record is refused: the audit's line, and the cause in words. Refused memory is no cause.
+fn refusal_text<L: ToolLog>(
     alloc: Global,
     state: &L,
     string: &[u8],
     error: &RunError<L::Error>,
-    text: &mut String,
-) -> Result<(), AllocError>
+) -> Result<String, AllocError>
     ensures { ForDisplay L.view L.kind L.Record.read L.Record.fault_of L.offence_of
         L.name_of L.lines_of (λ log.
-        OnOk result ((belongs : SignatureRelation) (seen : List EnvelopeData → L.View)
+        IfOk result (λ text. (belongs : SignatureRelation) (seen : List EnvelopeData → L.View)
         (strings : List (List ℕ)) →
         IsRefusal L.kind belongs (envelope_of L.Record.read) seen
         (cause_named_by (envelope_fault_of L.Record.fault_of) L.offence_of) strings error.now →
-        (audited : Printout) × IsRefused log belongs seen strings audited)) }
+        IsRefusalText log belongs seen strings error.now.index (string_bytes text))) }
 {
     let reply = refusal_reply::<L>(alloc, error)?;
-    text.push_str(reply.text())?;
-    append_cause(alloc, state, string, &error.cause, text)
+    let cause = cause_text(alloc, state, string, &error.cause)?;
+    let mut all = String::from_str(alloc, reply.text())?;
+    all.push_str(cause.as_str())?;
+    Ok(all)
+}
+
+// The line of a record behind its place.
+fn placed_line(alloc: Global, place: usize, said: &str) -> Result<String, AllocError>
+    ensures { IfOk result (λ line. string_bytes line ≡ decimal place ++ (codes " " ++ said.now)) }
+{
+    format!(in alloc; "{place} {said}")
 }
 
 // A line for each record, its place first.
-fn append_records<L: ToolLog>(
+fn records_text<L: ToolLog>(
     alloc: Global,
     records: &[ProtoEnvelope<L::Record>],
-    text: &mut String,
-) -> Result<(), AllocError> {
+) -> Result<String, AllocError>
+    ensures { IfOk result (λ text. AreEnvelopeLines L.words_of records.now (string_bytes text)) }
+{
+    let mut text = String::new(alloc);
     for (place, envelope) in records.iter().enumerate() {
-        let line = format!(in alloc; "{place} ")?;
+        let said = L::record_line(alloc, envelope)?;
+        let line = placed_line(alloc, place, said.as_str())?;
         text.push_str(line.as_str())?;
-        L::append_record(alloc, envelope, text)?;
     }
-    Ok(())
+    Ok(text)
+}
+
+// The line of a head.
+fn head_line(alloc: Global, head: Option<&RecordId>) -> Result<String, AllocError>
+    ensures { IfOk result (λ line. string_bytes line ≡ head_line (option_copied head.entry)) }
+{
+    match head {
+        Some(id) => format!(in alloc; "head {id}\n"),
+        None => String::from_str(alloc, "head none\n"),
+    }
 }
 
 // The text of a lawful log: its records, its head, and its state.
-fn append_log<L: ToolLog, V: Verifier + Drop>(
+fn log_text<L: ToolLog, V: Verifier + Drop>(
     alloc: Global,
     log: &AuditedLog<L, V>,
-    text: &mut String,
-) -> Result<(), AllocError> {
-    match log.head() {
-        Some(id) => {
-            let line = format!(in alloc; "head {id}\n")?;
-            text.push_str(line.as_str())?;
-        }
-        None => text.push_str("head none\n")?,
-    }
-    log.state().append_state(alloc, text)
+) -> Result<String, AllocError>
+    ensures { IfOk result (λ text. IsLogText L.says_words
+        (L.kind.head (L.kind.view_of (envelopes log.now.records))) L.shows
+        (envelopes log.now.records) (string_bytes text)) }
+{
+    let mut text = records_text::<L>(alloc, log.records())?;
+    let head = head_line(alloc, log.head())?;
+    text.push_str(head.as_str())?;
+    let state = log.state().state_text(alloc)?;
+    text.push_str(state.as_str())?;
+    Ok(text)
 }
 
-// The text of a lawful log, as an answer.
+// The records before the one that is refused, and why it is.
+fn cut_text<L: ToolLog, V: Verifier + Drop>(
+    alloc: Global,
+    log: &AuditedLog<L, V>,
+    string: &[u8],
+    error: &RunError<L::Error>,
+) -> Result<String, AllocError>
+    ensures { ForDisplay L.view L.kind L.Record.read L.Record.fault_of L.offence_of
+        L.name_of L.lines_of (λ shown.
+        IfOk result (λ text. (belongs : SignatureRelation) (seen : List EnvelopeData → L.View)
+        (strings : List (List ℕ)) →
+        IsRefusal L.kind belongs (envelope_of L.Record.read) seen
+        (cause_named_by (envelope_fault_of L.Record.fault_of) L.offence_of) strings error.now →
+        IsCutText L.says_words (IsRefusalText shown belongs seen strings error.now.index)
+        (envelopes log.now.records) (string_bytes text))) }
+{
+    let mut text = records_text::<L>(alloc, log.records())?;
+    let refused = refusal_text(alloc, log.state(), string, error)?;
+    text.push_str(refused.as_str())?;
+    Ok(text)
+}
+
+// The answer to a lawful log.
 fn lawful_answer<L: ToolLog, V: Verifier + Drop>(
     alloc: Global,
     log: &AuditedLog<L, V>,
 ) -> Result<Answer, AllocError>
-    ensures { IfOk result (λ answer. answer.status ≡ 0) }
+    ensures { IfOk result (λ answer. (text : List ℕ) × IsLogText L.says_words
+        (L.kind.head (L.kind.view_of (envelopes log.now.records))) L.shows
+        (envelopes log.now.records) text × (answer_view answer ≡ yes text)) }
 {
-    let mut text = String::new(alloc);
-    append_records::<L>(alloc, log.records(), &mut text)?;
-    append_log(alloc, log, &mut text)?;
+    let text = log_text(alloc, log)?;
     Ok(Answer::new(alloc, text, 0))
 }
 
-// The records before the one that is refused, and why it is, as an answer.
+// The answer to strings of which one is refused, by the log of those before it.
 fn refused_answer<L: ToolLog, V: Verifier + Drop>(
     alloc: Global,
     log: &AuditedLog<L, V>,
     strings: &[Vec<u8>],
     error: &RunError<L::Error>,
 ) -> Result<Answer, AllocError>
-    ensures status { IfOk result (λ answer. answer.status ≡ 1) }
-    ensures refused { ForDisplay L.view L.kind L.Record.read L.Record.fault_of L.offence_of
+    ensures { ForDisplay L.view L.kind L.Record.read L.Record.fault_of L.offence_of
         L.name_of L.lines_of (λ shown.
-        IfOk result (λ _. (belongs : SignatureRelation) (seen : List EnvelopeData → L.View)
+        IfOk result (λ answer. (belongs : SignatureRelation) (seen : List EnvelopeData → L.View)
         (all : List (List ℕ)) →
         IsRefusal L.kind belongs (envelope_of L.Record.read) seen
         (cause_named_by (envelope_fault_of L.Record.fault_of) L.offence_of) all error.now →
-        (audited : Printout) × IsRefused shown belongs seen all audited)) }
+        (text : List ℕ) × IsCutText L.says_words
+        (IsRefusalText shown belongs seen all error.now.index) (envelopes log.now.records) text
+        × (answer_view answer ≡ no text))) }
 {
-    let mut text = String::new(alloc);
-    append_records::<L>(alloc, log.records(), &mut text)?;
-    let refused = match strings.get(error.index) {
+    let string = match strings.get(error.index) {
         Some(string) => string.as_slice(),
         None => b"",
     };
-    append_refusal(alloc, log.state(), refused, error, &mut text)?;
+    let text = cut_text(alloc, log, string, error)?;
     Ok(Answer::new(alloc, text, 1))
 }
 
@@ -248,9 +338,8 @@ fn strings_answer<L: ToolLog, V: Verifier + Drop>(
 ) -> Result<Answer, AllocError>
     ensures { ForDisplay L.view L.kind L.Record.read L.Record.fault_of L.offence_of
         L.name_of L.lines_of (λ log.
-        IfOk result (λ answer. HasStatusOf
-        (IsLogAnswer log (V.belongs verifier) (map vec_items strings.now))
-        answer.status)) }
+        IfOk result (λ answer. IsShownOf log (V.belongs verifier) L.says_words L.shows
+        (map vec_items strings.now) (answer_view answer))) }
 {
     let mut log = AuditedLog::<L, V>::new(alloc, verifier)?;
     match log.append_all(strings) {
@@ -265,11 +354,10 @@ pub fn show_answer<L: ToolLog, V: Verifier>(
     verifier: &V,
     input: Input<'_>,
 ) -> Result<Answer, Stop>
-    // The status is that of the audit.
     ensures { ForDisplay L.view L.kind L.Record.read L.Record.fault_of L.offence_of
         L.name_of L.lines_of (λ log.
-        Answers (HasAuditStatus log (V.belongs verifier.now) (record_lines input.entry.bytes.items))
-        result) }
+        Answers (IsShown log (V.belongs verifier.now) L.says_words L.shows
+        (record_lines input.entry.bytes.items)) result) }
 {
     match file_strings(alloc, input.path, input.bytes) {
         Ok(strings) => Ok(strings_answer::<L, Lent<'_, V>>(

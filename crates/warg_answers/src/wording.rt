@@ -1,15 +1,26 @@
 //! Words that both kinds of log are shown in.
 
+ghost use Rattle.std.specs.Prelude.{◌≡◌, [], ◌∷◌, ◌++◌, IfOk, OnOk, map, string_bytes, unwrap_or};
+ghost use Rattle.std.specs.Option.{option_map};
+ghost use Rattle.warg_answers.specs.ShownWords.{after_commas, IsRecordLine, key_line, key_lines, comma_list, record_line, after_spaces};
+
 use std::alloc::{AllocError, Global};
 use std::fmt::Display;
 use warg_permissions::LogPermission;
-use warg_protocol::package::Keys;
-use warg_protocol::{LogRecord, ProtoEnvelope, Timestamp};
+use warg_protocol::package::{KeyEntry, Keys};
+use warg_protocol::signing::KeyID;
+use warg_protocol::{IndexSet, LogRecord, ProtoEnvelope, Timestamp};
 
 /// An entry of a record that has words.
 pub(crate) trait EntryWords {
-    /// Appends the entry in words.
-    fn append_words(&self, alloc: Global, text: &mut String) -> Result<(), AllocError>;
+    ghost use Rattle.std.specs.Prelude.{List, ℕ};
+
+    // The words.
+    ghost words_of: { Self → List ℕ };
+
+    /// The entry in words.
+    fn words(&self, alloc: Global) -> Result<String, AllocError>
+        ensures { IfOk result (λ text. string_bytes text ≡ words_of self.now) };
 }
 
 /// Appends what the value prints.
@@ -21,78 +32,135 @@ pub(crate) fn append<T: Display>(
     text.push_str(value.to_string(alloc)?.as_str())
 }
 
-/// Appends the word, a space, and what the value prints.
-pub(crate) fn append_named<T: Display>(
-    alloc: Global,
-    word: &str,
-    named: &T,
-    text: &mut String,
-) -> Result<(), AllocError> {
-    text.push_str(word)?;
-    text.push(' ')?;
-    append(alloc, named, text)
+// Appends the words behind a sign.
+fn append_behind(sign: &str, words: &str, text: &mut String) -> Result<(), AllocError>
+    ensures { OnOk result (string_bytes text.new ≡ string_bytes text.old ++
+        (sign.now ++ words.now)) }
+{
+    text.push_str(sign)?;
+    text.push_str(words)
 }
 
-/// Appends the time as RFC 3339 says it, in UTC; outside the years that it knows, as seconds and nanoseconds since 1970.
-pub(crate) fn append_time(
-    alloc: Global,
-    time: Timestamp,
-    text: &mut String,
-) -> Result<(), AllocError> {
+/// The time as RFC 3339 says it, in UTC; outside the years that it knows, as seconds and nanoseconds since 1970.
+pub(crate) fn time_words(alloc: Global, time: Timestamp) -> Result<String, AllocError> {
     match jiff::Timestamp::new(time.seconds(), time.nanos() as i32) {
-        Ok(instant) => append(alloc, &instant, text),
-        Err(_) => append(alloc, &time, text),
+        Ok(instant) => instant.to_string(alloc),
+        Err(_) => time.to_string(alloc),
     }
 }
 
-/// Appends a space and the text of each permission.
-pub(crate) fn append_permissions<P: LogPermission>(
+/// The texts of permissions, a space before each.
+pub(crate) fn permission_words<P: LogPermission>(
+    alloc: Global,
     permissions: &[P],
-    text: &mut String,
-) -> Result<(), AllocError> {
+) -> Result<String, AllocError>
+    ensures { IfOk result (λ text. string_bytes text ≡
+        after_spaces (map P.text_of permissions.now)) }
+{
+    let mut text = String::new(alloc);
     for permission in permissions {
-        text.push(' ')?;
-        text.push_str(permission.as_text())?;
+        append_behind(" ", permission.as_text(), &mut text)?;
     }
-    Ok(())
+    Ok(text)
 }
 
-/// Appends the record's time, its signer and its entries, with commas between.
-pub(crate) fn append_record<E: EntryWords>(
+// The words of entries, a comma and a space before each.
+fn later_words<E: EntryWords>(alloc: Global, entries: &[E]) -> Result<String, AllocError>
+    ensures { IfOk result (λ text. string_bytes text ≡ after_commas (map E.words_of entries.now)) }
+{
+    let mut text = String::new(alloc);
+    for entry in entries {
+        let words = entry.words(alloc)?;
+        append_behind(", ", words.as_str(), &mut text)?;
+    }
+    Ok(text)
+}
+
+// The words of an entry and of those after it in a list, behind a space.
+fn listed_words<E: EntryWords>(alloc: Global, first: &E, later: &[E]) -> Result<String, AllocError>
+    ensures { IfOk result (λ text. string_bytes text ≡
+        comma_list (map E.words_of (first.now ∷ later.now))) }
+{
+    let first = first.words(alloc)?;
+    let later = later_words(alloc, later)?;
+    format!(in alloc; " {first}{later}")
+}
+
+// The words of entries in a list, behind a space.
+fn entry_words<E: EntryWords>(alloc: Global, entries: &[E]) -> Result<String, AllocError>
+    ensures { IfOk result (λ text. string_bytes text ≡ comma_list (map E.words_of entries.now)) }
+{
+    match entries.split_first() {
+        Some((first, later)) => listed_words(alloc, first, later),
+        None => Ok(String::new(alloc)),
+    }
+}
+
+// The line of a record by its parts.
+fn joined_line(
+    alloc: Global,
+    time: &str,
+    key_id: &KeyID,
+    entries: &str,
+) -> Result<String, AllocError>
+    ensures { IfOk result (λ line. string_bytes line ≡
+        record_line time.now key_id.now entries.now) }
+{
+    format!(in alloc; "{time} {key_id}:{entries}\n")
+}
+
+/// The line of a record: its time, its signer, and its entries.
+pub(crate) fn record_line<E: EntryWords>(
     alloc: Global,
     envelope: &ProtoEnvelope<LogRecord<E>>,
-    text: &mut String,
-) -> Result<(), AllocError> {
-    append_time(alloc, envelope.contents().timestamp, text)?;
-    text.push(' ')?;
-    text.push_str(envelope.key_id().as_str())?;
-    text.push(':')?;
-    let mut separator = " ";
-    for entry in envelope.contents().entries.iter() {
-        text.push_str(separator)?;
-        entry.append_words(alloc, text)?;
-        separator = ", ";
-    }
-    text.push('\n')
+) -> Result<String, AllocError>
+    ensures { IfOk result (λ line. IsRecordLine envelope.now.envelope.key_id
+        (map E.words_of envelope.now.contents.entries.items) (string_bytes line)) }
+{
+    let record = envelope.contents();
+    let time = time_words(alloc, record.timestamp)?;
+    let entries = entry_words(alloc, record.entries.as_slice())?;
+    joined_line(alloc, time.as_str(), envelope.key_id(), entries.as_str())
 }
 
-/// Appends a line for each key: its id, the key, and what it holds.
-pub(crate) fn append_keys<P: LogPermission>(
+// The texts of the permissions of a set, a space before each; of no set there are none.
+fn held_words<P: LogPermission>(
+    alloc: Global,
+    held: Option<&IndexSet<P>>,
+) -> Result<String, AllocError>
+    ensures { IfOk result (λ text. string_bytes text ≡
+        after_spaces (map P.text_of (unwrap_or (option_map (λ set. set.now.keys) held.entry) []))) }
+{
+    match held {
+        Some(permissions) => permission_words(alloc, permissions.as_slice()),
+        None => Ok(String::new(alloc)),
+    }
+}
+
+// The line of a key: its id, the key, and what it holds.
+fn key_line<P: LogPermission>(alloc: Global, key: KeyEntry<'_, P>) -> Result<String, AllocError>
+    ensures { IfOk result (λ line. string_bytes line ≡ key_line P.text_of (record {
+      id = key.entry.id.now;
+      key = key.entry.key.now;
+      permissions = option_map (λ set. set.now.keys) key.entry.permissions;
+    })) }
+{
+    let (id, public_key) = (key.id, key.key);
+    let held = held_words(alloc, key.permissions)?;
+    format!(in alloc; "key {id} {public_key}{held}\n")
+}
+
+/// A line for each key.
+pub(crate) fn key_lines<P: LogPermission>(
     alloc: Global,
     keys: Keys<'_, P>,
-    text: &mut String,
-) -> Result<(), AllocError> {
+) -> Result<String, AllocError>
+    ensures { IfOk result (λ text. string_bytes text ≡ key_lines P.text_of keys.entry) }
+{
+    let mut text = String::new(alloc);
     for key in keys {
-        append_named(alloc, "key", key.id, text)?;
-        text.push(' ')?;
-        append(alloc, key.key, text)?;
-        if let Some(permissions) = key.permissions {
-            for permission in permissions.iter() {
-                text.push(' ')?;
-                text.push_str(permission.as_text())?;
-            }
-        }
-        text.push('\n')?;
+        let line = key_line(alloc, key)?;
+        text.push_str(line.as_str())?;
     }
-    Ok(())
+    Ok(text)
 }

@@ -1,2 +1,5 @@
 pub mod KeyWords
 pub mod Sealed
+pub mod Words
+pub mod Entries
+pub mod NextRecords

@@ -1,7 +1,10 @@
 //! The words that entries of both kinds have.
 
-ghost use Rattle.std.specs.Prelude.{◌≡◌, IfOk};
+ghost use Rattle.std.specs.Prelude.{◌≡◌, ◌⊎◌, false, true, Ok, Err, IfErr, IfOk, MatchResult};
+ghost use Rattle.warg_crypto.specs.NamedBytes.{NamedBytes};
 ghost use Rattle.warg_make.specs.KeyWords.{IsIdOf, IsKeyOf, toy_key};
+ghost use Rattle.warg_make.specs.Words.{AreNamed, behind_word, first_word, has_no_space, HasUnknown};
+ghost use Rattle.warg_make.specs.declared.error.EntryFault.TheVariants as fault;
 
 use crate::error::EntryFault;
 use std::alloc::{AllocError, Global};
@@ -10,7 +13,11 @@ use warg_protocol::signing::{KeyID, KeyParseError, PublicKey, Signer, is_algorit
 use warg_protocol::toy::ToySigner;
 
 /// The first word of a text, and what follows the space behind it.
-pub(crate) fn first_word(text: &str) -> Result<(&str, &str), EntryFault> {
+pub(crate) fn first_word(text: &str) -> Result<(&str, &str), EntryFault>
+    ensures { MatchResult result (λ it. (has_no_space text.now ≡ false) ×
+        (it.0.now ≡ first_word text.now) × (it.1.now ≡ behind_word text.now))
+        (λ it. (has_no_space text.now ≡ true) × (it ≡ fault.MissingWord)) }
+{
     match text.split_once(' ') {
         Some((word, rest)) => Ok((word, rest)),
         None => Err(EntryFault::MissingWord),
@@ -18,8 +25,14 @@ pub(crate) fn first_word(text: &str) -> Result<(&str, &str), EntryFault> {
 }
 
 /// The first word of a text, and what follows it, if anything does.
-pub(crate) fn word_and_rest(text: &str) -> (&str, &str) {
-    text.split_once(' ').unwrap_or((text, ""))
+pub(crate) fn word_and_rest(text: &str) -> (&str, &str)
+    ensures word { result.0.now ≡ first_word text.now }
+    ensures rest { result.1.now ≡ behind_word text.now }
+{
+    match text.split_once(' ') {
+        Some(parts) => parts,
+        None => (text, ""),
+    }
 }
 
 /// The toy scheme's key of a name.
@@ -33,7 +46,9 @@ fn toy_key(alloc: Global, name: &str) -> Result<PublicKey, AllocError>
 
 /// The key that a word says: of a name without a colon the toy key, else the key's text.
 pub(crate) fn key(alloc: Global, word: &str) -> Result<PublicKey, EntryFault>
-    ensures { IfOk result (IsKeyOf word.now) }
+    ensures ok { IfOk result (IsKeyOf word.now) }
+    ensures err { IfErr result (λ it. (it ≡ fault.OutOfMemory) ⊎
+        ((it ≡ fault.BadKey) × ((key : NamedBytes) → IsKeyOf word.now key → ⊥))) }
 {
     if is_algorithm_name(word) {
         return Ok(toy_key(alloc, word)?);
@@ -62,6 +77,10 @@ pub(crate) fn permissions<P: FromStr + Drop>(
 ) -> Result<Vec<P>, EntryFault>
 where
     P::Err: Drop,
+    ensures ok { IfOk result (λ permissions.
+        AreNamed (λ word it. P.from_str_gives word (Ok it)) names.now permissions.items) }
+    ensures err { IfErr result (λ it. (it ≡ fault.OutOfMemory) ⊎ ((it ≡ fault.BadPermission) ×
+        HasUnknown (λ word. (error : P.Err) × P.from_str_gives word (Err error)) names.now)) }
 {
     let mut permissions = Vec::new(alloc);
     for name in names.split_whitespace() {

@@ -1,8 +1,11 @@
 //! Why words make no record.
 
+ghost use Rattle.std.specs.Prelude.{◌≡◌};
+ghost use Rattle.warg_make.specs.declared.error.EntryFault.TheVariants as entry;
+ghost use Rattle.warg_make.specs.declared.error.MakeError.TheVariants as made;
+
 use std::alloc::{AllocError, AllocFailed};
 use thiserror::Error;
-use warg_protocol::JsonError;
 use warg_protocol::signing::SignatureError;
 
 /// Why words say no entry.
@@ -29,12 +32,16 @@ pub enum EntryFault {
 }
 
 impl From<AllocError> for EntryFault {
+    ghost from_gives = { λ _ fault. fault ≡ entry.OutOfMemory };
+
     fn from(_error: AllocError) -> EntryFault {
         EntryFault::OutOfMemory
     }
 }
 
 impl<T: Drop> From<AllocFailed<T>> for EntryFault {
+    ghost from_gives = { λ _ fault. fault ≡ entry.OutOfMemory };
+
     fn from(_error: AllocFailed<T>) -> EntryFault {
         EntryFault::OutOfMemory
     }
@@ -60,28 +67,25 @@ pub enum MakeError {
 }
 
 impl From<AllocError> for MakeError {
+    ghost from_gives = { λ _ error. error ≡ made.OutOfMemory };
+
     fn from(_error: AllocError) -> MakeError {
         MakeError::OutOfMemory
     }
 }
 
 impl<T: Drop> From<AllocFailed<T>> for MakeError {
+    ghost from_gives = { λ _ error. error ≡ made.OutOfMemory };
+
     fn from(_error: AllocFailed<T>) -> MakeError {
         MakeError::OutOfMemory
     }
 }
 
-impl From<JsonError> for MakeError {
-    fn from(error: JsonError) -> MakeError {
-        match error {
-            JsonError::OutOfMemory => MakeError::OutOfMemory,
-            _ => MakeError::BadTime,
-        }
-    }
-}
-
 // A toy signer refuses no message, so what is left is memory.
 impl From<SignatureError> for MakeError {
+    ghost from_gives = { λ _ error. error ≡ made.OutOfMemory };
+
     fn from(_error: SignatureError) -> MakeError {
         MakeError::OutOfMemory
     }

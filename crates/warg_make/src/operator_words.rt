@@ -10,7 +10,26 @@ use warg_protocol::hash::HashAlgorithm;
 use warg_protocol::operator::{LogState, OperatorEntry};
 
 impl Worded for LogState {
+    ghost use Rattle.std.specs.Prelude.{◌≡◌, map, IfErr, IfOk};
+    ghost use Rattle.std.specs.Option.{option_map};
+    ghost use Rattle.warg_protocol.specs.Operator.{entry_data, view_of};
+    ghost use Rattle.warg_make.specs.Entries.{LacksOperatorEntry, OperatorEntryData, SaysOperatorEntry};
+    ghost use Rattle.warg_make.specs.NextRecords.{operator_content, operator_prefix};
+    ghost use Rattle.warg_make.specs.Sealed.{IsSealed};
+
     type Entry = OperatorEntry;
+
+    ghost EntryData = { OperatorEntryData };
+
+    ghost as_data = { entry_data };
+
+    ghost says = { SaysOperatorEntry };
+
+    ghost lacks = { LacksOperatorEntry };
+
+    ghost content = { operator_content };
+
+    ghost prefix = { operator_prefix };
 
     fn entry(alloc: Global, words: &str) -> Result<OperatorEntry, EntryFault> {
         let (verb, rest) = first_word(words)?;
@@ -45,7 +64,12 @@ impl Worded for LogState {
         name: &str,
         timestamp: Timestamp,
         entries: Vec<OperatorEntry>,
-    ) -> Result<Vec<u8>, MakeError> {
+    ) -> Result<Vec<u8>, MakeError>
+        ensures ok { IfOk result (λ bytes. IsSealed name.now operator_prefix
+            (operator_content (option_map (λ head. head.digest) (view_of self.now).head) timestamp
+            (map entry_data entries.items)) bytes.items) }
+        ensures err { IfErr result (λ error. error ≡ MakeError.OutOfMemory) }
+    {
         sealed(alloc, name, self.next_record(timestamp, entries))
     }
 }

@@ -1,5 +1,10 @@
 //! The words of a package log's entries.
 
+ghost use Rattle.std.specs.Prelude.{◌≡◌, ◌⊎◌, ◌↔◌, Ok, IfErr, IfOk, IsErr, IsTrue};
+ghost use Rattle.semver.specs.Identifiers.{parts_of};
+ghost use Rattle.semver.specs.Parse.{memory_error, version_parts};
+ghost use Rattle.warg_make.specs.declared.error.EntryFault.TheVariants as fault;
+
 use crate::entries::{first_word, key, key_id, permissions, word_and_rest};
 use crate::error::{EntryFault, MakeError};
 use crate::sealed::sealed;
@@ -9,17 +14,50 @@ use warg_protocol::hash::HashAlgorithm;
 use warg_protocol::package::{LogState, PackageEntry};
 use warg_protocol::{Timestamp, Version};
 
+// Whether parsing a version found no memory.
+fn is_memory_error(error: semver::Error) -> bool
+    ensures { IsTrue result ↔ (error ≡ memory_error) }
+{
+    error == semver::Error::from(AllocError)
+}
+
 // The version of this text.
-fn version(alloc: Global, text: &str) -> Result<Version, EntryFault> {
+fn version(alloc: Global, text: &str) -> Result<Version, EntryFault>
+    ensures ok { IfOk result (λ version. version_parts text.now ≡ Ok (parts_of version)) }
+    ensures err { IfErr result (λ it. (it ≡ fault.OutOfMemory) ⊎
+        ((it ≡ fault.BadVersion) × IsErr (version_parts text.now))) }
+{
     match Version::parse(alloc, text) {
         Ok(version) => Ok(version),
-        Err(error) if error == semver::Error::from(AllocError) => Err(EntryFault::OutOfMemory),
-        Err(_) => Err(EntryFault::BadVersion),
+        Err(error) => Err(if is_memory_error(error) {
+            EntryFault::OutOfMemory
+        } else {
+            EntryFault::BadVersion
+        }),
     }
 }
 
 impl Worded for LogState {
+    ghost use Rattle.std.specs.Prelude.{map};
+    ghost use Rattle.std.specs.Option.{option_map};
+    ghost use Rattle.warg_protocol.specs.Package.{entry_data, view_of};
+    ghost use Rattle.warg_make.specs.Entries.{LacksPackageEntry, PackageEntryData, SaysPackageEntry};
+    ghost use Rattle.warg_make.specs.NextRecords.{package_content, package_prefix};
+    ghost use Rattle.warg_make.specs.Sealed.{IsSealed};
+
     type Entry = PackageEntry;
+
+    ghost EntryData = { PackageEntryData };
+
+    ghost as_data = { entry_data };
+
+    ghost says = { SaysPackageEntry };
+
+    ghost lacks = { LacksPackageEntry };
+
+    ghost content = { package_content };
+
+    ghost prefix = { package_prefix };
 
     fn entry(alloc: Global, words: &str) -> Result<PackageEntry, EntryFault> {
         let (verb, rest) = first_word(words)?;
@@ -54,7 +92,12 @@ impl Worded for LogState {
         name: &str,
         timestamp: Timestamp,
         entries: Vec<PackageEntry>,
-    ) -> Result<Vec<u8>, MakeError> {
+    ) -> Result<Vec<u8>, MakeError>
+        ensures ok { IfOk result (λ bytes. IsSealed name.now package_prefix
+            (package_content (option_map (λ head. head.digest) (view_of self.now).head) timestamp
+            (map entry_data entries.items)) bytes.items) }
+        ensures err { IfErr result (λ error. error ≡ MakeError.OutOfMemory) }
+    {
         sealed(alloc, name, self.next_record(timestamp, entries))
     }
 }

@@ -1,6 +1,6 @@
 //! Records in envelopes that a toy key signs.
 
-ghost use Rattle.std.specs.Prelude.{IfOk};
+ghost use Rattle.std.specs.Prelude.{◌≡◌, IfErr, IfOk};
 ghost use Rattle.warg_make.specs.Sealed.{IsSealed};
 
 use crate::error::MakeError;
@@ -14,8 +14,9 @@ pub(crate) fn sealed<C: Signable + Drop>(
     name: &str,
     contents: C,
 ) -> Result<Vec<u8>, MakeError>
-    ensures { IfOk result (λ bytes. IsSealed name.now C.signed_prefix
+    ensures ok { IfOk result (λ bytes. IsSealed name.now C.signed_prefix
         (C.encoding contents) bytes.items) }
+    ensures err { IfErr result (λ error. error ≡ MakeError.OutOfMemory) }
 {
     let signer = ToySigner::new(alloc, name.as_bytes())?;
     Ok(ProtoEnvelope::signed_contents(alloc, &signer, contents)?.to_protobuf(alloc)?)

@@ -1,5 +1,11 @@
 //! Kinds of logs whose entries have words.
 
+ghost use Rattle.std.specs.Prelude.{◌≡◌, ℕ, List, map, Option, IfErr, IfOk};
+ghost use Rattle.warg_time.specs.Times.{Time};
+ghost use Rattle.warg_protocol.specs.Records.{RecordId};
+ghost use Rattle.warg_make.specs.Sealed.{IsSealed};
+ghost use Rattle.warg_make.specs.declared.error.EntryFault.{EntryFault as OfEntryFault};
+
 use crate::error::{EntryFault, MakeError};
 use std::alloc::Global;
 use warg_protocol::{Timestamp, Validator};
@@ -9,8 +15,27 @@ pub trait Worded: Validator {
     /// An entry of a record.
     type Entry: Drop;
 
+    // An entry as plain data.
+    ghost EntryData: { Type 0 };
+
+    ghost as_data: { Self.Entry → EntryData };
+
+    // Whether words say an entry.
+    ghost says: { List ℕ → EntryData → Type 0 };
+
+    // What is wrong with words that say none.
+    ghost lacks: { List ℕ → OfEntryFault → Type 0 };
+
+    // The content bytes of a record, by the id of the record before, the time and the entries.
+    ghost content: { Option RecordId → Time → List EntryData → List ℕ };
+
+    // What the signed messages of records begin with.
+    ghost prefix: { List ℕ };
+
     /// The entry that the words say.
-    fn entry(alloc: Global, words: &str) -> Result<Self::Entry, EntryFault>;
+    fn entry(alloc: Global, words: &str) -> Result<Self::Entry, EntryFault>
+        ensures ok { IfOk result (λ entry. says words.now (as_data entry)) }
+        ensures err { IfErr result (lacks words.now) };
 
     /// The envelope of the record with these entries that comes next, signed by the toy key of the name.
     fn next_envelope(
@@ -19,5 +44,9 @@ pub trait Worded: Validator {
         name: &str,
         timestamp: Timestamp,
         entries: Vec<Self::Entry>,
-    ) -> Result<Vec<u8>, MakeError>;
+    ) -> Result<Vec<u8>, MakeError>
+        ensures ok { IfOk result (λ bytes. IsSealed name.now prefix (content
+            (Self.Validator.kind.head (Self.Validator.view self.now)) timestamp
+            (map as_data entries.items)) bytes.items) }
+        ensures err { IfErr result (λ error. error ≡ MakeError.OutOfMemory) };
 }

@@ -10,14 +10,10 @@ use Rattle.warg_answers.specs.declared.stop.Stop.{Stop}
 use Rattle.warg_answers.specs.declared.stop.Stop.TheVariants as stop
 use Rattle.warg_answers.proofs.AnswerLemmas.{Answers-to, IfStopped-to}
 
--- of what nothing is said
-pub nothing_said_of_end : (end : Stop) → IfStopped (λ printed. Unit {0}) end
-nothing_said_of_end (stop.Answer answer) = tt
-nothing_said_of_end stop.OutOfMemory = tt
-
-pub nothing_said : (result : Result Answer Stop) → Answers (λ printed. Unit {0}) result
-nothing_said (Ok answer) = tt
-nothing_said (Err end) = nothing_said_of_end end
+-- what holds of each answer
+pub always_stopped : (P : Printout → Type 0) (end : Stop) → ((printed : Printout) → P printed) → IfStopped P end
+always_stopped P (stop.Answer answer) f = f (answer_view answer)
+always_stopped P stop.OutOfMemory f = tt
 
 -- ---- ends of commands as their answers
 

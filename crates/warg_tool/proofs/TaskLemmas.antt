@@ -6,8 +6,7 @@ use Rattle.warg_audit.specs.Printouts.{Printout}
 use Rattle.warg_answers.specs.Files.{Files, Reads, ReadsLog}
 use Rattle.warg_tool.specs.Additions.{IsAllOrNone}
 use Rattle.warg_answers.specs.Answers.{answer_view, Answers, IfStopped, IsUnusable}
-use Rattle.warg_tool.specs.Tasks.{IsAddedTo, no_lines, of_lines, IsAppended, no_log, to_log, IsMade, no_file, of_log, IsMadeOf}
-use Rattle.warg_answers.specs.Verdicts.{IsLawful, IsPrintedOf, lawful}
+use Rattle.warg_tool.specs.Tasks.{IsAddedTo, no_lines, of_lines, IsAppended, no_log, to_log}
 use Rattle.warg_answers.specs.declared.answer.Answer.{Answer}
 use Rattle.warg_answers.specs.declared.stop.Stop.{Stop}
 use Rattle.warg_answers.proofs.AnswerLemmas.{Answers-to, IfStopped-to}
@@ -17,22 +16,6 @@ pub append_leaves : (P : Printout → Type 0) (old new : Option Files) (result :
     → OnErr result (new ≡ old) → (new ≡ old) ⊎ ((printed : Printout) × P printed)
 append_leaves P old new (Ok answer) h kept = inr (answer_view answer, h)
 append_leaves P old new (Err end) h kept = inl kept
-
--- to a lawful log P is answered
-pub lawful_prints : {Meaning Fault View Offence : Type 0} (log : LogDisplay Meaning Fault View Offence) (belongs : SignatureRelation)
-    (P : Printout → Type 0) (ls strings : List (List ℕ)) → IsLawful log belongs ls strings → (result : Result Answer Stop)
-    → Answers P result → Answers (IsPrintedOf log belongs (λ own made. P made) ls) result
-lawful_prints log belongs P ls strings it result h =
-    Answers-to P (IsPrintedOf log belongs (λ own made. P made) ls) (λ printed is. lawful strings it is) result h
-
-module _ {Meaning Fault View Offence : Type 0} (log : LogDisplay Meaning Fault View Offence) (belongs : SignatureRelation) (old : Option Files) (path : List ℕ) where
-  pub made_read : (file : List ℕ) (result : Result Answer Stop) → ReadsLog old path file → Answers (IsMadeOf log belongs file) result
-      → Answers (IsMade log belongs old path) result
-  made_read file result held h =
-      Answers-to (IsMadeOf log belongs file) (IsMade log belongs old path) (λ printed it. of_log file held it) result h
-
-  pub made_unread : (end : Stop) → IfStopped IsUnusable end → IfStopped (IsMade log belongs old path) end
-  made_unread end h = IfStopped-to IsUnusable (IsMade log belongs old path) (λ printed it. no_file it) end h
 
 module _ {Meaning Fault View Offence : Type 0} (log : LogDisplay Meaning Fault View Offence) (belongs : SignatureRelation) (old new : Option Files)
     (path lines : List ℕ) where

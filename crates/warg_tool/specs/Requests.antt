@@ -8,7 +8,7 @@ use Rattle.semver.specs.declared.Comparator.{Comparator}
 use Rattle.warg_permissions.specs.declared.operator.Permission.TheVariants as operator_permission
 use Rattle.warg_permissions.specs.declared.package.Permission.TheVariants as package_permission
 use Rattle.warg_protocol.specs.Json.{JsonError, JsonTextError, in_text, text_of}
-use Rattle.warg_protocol.specs.Logs.{Effects, SignatureRelation}
+use Rattle.warg_protocol.specs.Logs.{Effects, EnvelopeData, SignatureRelation}
 use Rattle.warg_protocol.specs.Operator as operators
 use Rattle.warg_protocol.specs.Package as packages
 use Rattle.warg_protocol.specs.Records.{toy_belongs}
@@ -23,16 +23,19 @@ use Rattle.warg_verified.specs.Texts.{IsReadFrom}
 use Rattle.warg_answers.specs.Files.{Files, Reads}
 use Rattle.warg_tool.specs.JsonLines.{IsInJson}
 use Rattle.warg_tool.specs.ManyAudits.{IsManyAnswer}
+use Rattle.warg_tool.specs.ProofTexts.{IsProofAnswer}
 use Rattle.warg_tool.specs.Proofs.{IsStatementVerdict}
 use Rattle.warg_answers.specs.Questions.{IsStateText, IsPermissionsText, IsChainText, IsCompared}
 use Rattle.warg_tool.specs.Latest.{IsLatestOf}
 use Rattle.warg_answers.specs.RecordLines.{texts}
 use Rattle.warg_answers.specs.Resumption.{IsResumed}
+use Rattle.warg_answers.specs.ShownLogs.{IsShown}
+use Rattle.warg_answers.specs.ShownWords.{says_operator_words, says_package_words, shows_namespaces, shows_releases}
 use Rattle.warg_tool.specs.Tasks.{DoneLeaves, IsDoneAnswer}
 use Rattle.warg_tool.specs.Unusable.{IfUsable, IsOfFile, IsOfLines, IsOfWord}
 use Rattle.warg_answers.specs.Answers.{IsUnusable}
-use Rattle.warg_answers.specs.Verdicts.{HasAuditStatus, IsPrintedOf}
 use Rattle.warg_tool.specs.Audits.{IsAuditOf}
+use Rattle.warg_answers.specs.Verdicts.{IsPrintedOf}
 use Rattle.warg_words.specs.declared.request.Invocation.{Invocation}
 use Rattle.warg_words.specs.declared.request.Question.{Question}
 use Rattle.warg_words.specs.declared.request.Question.TheVariants as question
@@ -51,10 +54,10 @@ pub record Askable (Meaning Fault View Offence S P : Type 0) : Type 0 where
   pub text_of : P → List ℕ
   pub effects : Effects P
 
-module _ {Meaning Fault View Offence S P : Type 0} (kind : Askable Meaning Fault View Offence S P) (belongs : SignatureRelation) (files : Option Files) where
-  -- what is answered to a question, by what files hold; of a log in words the status alone is said
+module _ {Meaning Fault View Offence S P : Type 0} (kind : Askable Meaning Fault View Offence S P) (Says : List ℕ → List (List ℕ) → Type 0) (Shows : List EnvelopeData → List ℕ → Type 0) (belongs : SignatureRelation) (files : Option Files) where
+  -- what is answered to a question, by what files hold, the words of a record's entries, and what a state is shown as
   abbrev pub IsQuestionAnswer : Question → Printout → Type 0
-  IsQuestionAnswer (question.Show log) printed = IsOfLines files log.now (HasAuditStatus kind.shown belongs) printed
+  IsQuestionAnswer (question.Show log) printed = IsOfLines files log.now (IsShown kind.shown belongs Says Shows) printed
   IsQuestionAnswer (question.State log) printed =
       IsOfLines files log.now (IsPrintedOf kind.shown belongs (IsStateText kind.shown kind.view kind.json)) printed
   IsQuestionAnswer (question.Resume state log) printed =
@@ -81,7 +84,7 @@ IsAskedAnswer log_type.Package belongs files question printed =
       order = package_permission.Release ∷ package_permission.Yank ∷ [];
       text_of = packages.permission_text;
       effects = packages.effects;
-    }) belongs files question printed
+    }) says_package_words shows_releases belongs files question printed
 IsAskedAnswer log_type.Operator belongs files question printed =
     IsQuestionAnswer (record {
       shown = operator_log;
@@ -93,7 +96,7 @@ IsAskedAnswer log_type.Operator belongs files question printed =
       order = operator_permission.Commit ∷ operator_permission.DefineNamespace ∷ operator_permission.ImportNamespace ∷ [];
       text_of = operators.permission_text;
       effects = operators.effects;
-    }) belongs files question printed
+    }) says_operator_words shows_namespaces belongs files question printed
 
 -- the greatest release of the log in a file that meets the requirement that a word says
 abbrev pub IsLatestAnswer : SignatureRelation → Option Files → List ℕ → List ℕ → Printout → Type 0
@@ -107,7 +110,7 @@ IsRequestAnswer json belongs old new (request.Id kind path) printed = IsOfLines 
 IsRequestAnswer json belongs old new (request.Audit kind path) printed = IsOfLines old path.now (IsAuditOf kind belongs) printed
 IsRequestAnswer json belongs old new (request.Audits kind paths) printed = IsManyAnswer json kind belongs old (texts paths.items) printed
 IsRequestAnswer json belongs old new (request.Latest requirement path) printed = IsLatestAnswer belongs old requirement.now path.now printed
-IsRequestAnswer json belongs old new (request.Prove wanted path) printed = Unit {0}
+IsRequestAnswer json belongs old new (request.Prove wanted path) printed = IsProofAnswer old wanted path.now printed
 IsRequestAnswer json belongs old new (request.Verify statement) printed = IfUsable (IsStatementVerdict old statement) printed
 IsRequestAnswer json belongs old new (request.Ask kind question) printed = IsAskedAnswer kind belongs old question printed
 IsRequestAnswer json belongs old new (request.Do kind task) printed = IsDoneAnswer kind belongs old new task printed

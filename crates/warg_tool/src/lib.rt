@@ -6,6 +6,7 @@ mod audit;
 mod commands;
 mod json;
 mod latest;
+mod leaves;
 mod making;
 mod many_audits;
 mod prove;

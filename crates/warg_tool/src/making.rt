@@ -2,8 +2,10 @@
 
 ghost use Rattle.hex.specs.Hex.{encode_lower};
 ghost use Rattle.std.specs.Prelude.{◌≡◌, IfOk};
-ghost use Rattle.warg_answers.specs.Answers.{answer_view, Answers};
-ghost use Rattle.warg_tool.specs.Tasks.{IsMadeLine, IsMadeOf};
+ghost use Rattle.warg_answers.specs.Answers.{answer_view, Answers, IfStopped, IsUnusable};
+ghost use Rattle.warg_make.specs.declared.error.MakeError.TheVariants.{OutOfMemory};
+ghost use Rattle.warg_tool.specs.MadeRecords.{IsMadeOf, IsMadeText};
+ghost use Rattle.warg_answers.specs.RecordLines.{texts};
 ghost use Rattle.warg_answers.specs.Texts.{line, yes};
 ghost use Rattle.warg_answers.specs.Verdicts.{ForDisplay};
 
@@ -27,15 +29,27 @@ fn made_line(alloc: Global, envelope: &[u8]) -> Result<Answer, AllocError>
     Ok(Answer::new(alloc, text, 0))
 }
 
+// The end of the command where no record is made.
+fn make_stop(alloc: Global, error: &MakeError) -> Stop
+    ensures unusable { IfStopped IsUnusable result }
+    ensures memory { error.now ≡ OutOfMemory → result ≡ Stop.OutOfMemory }
+{
+    match error {
+        MakeError::OutOfMemory => Stop::OutOfMemory,
+        error => unusable(alloc, format!(in alloc; "warg: {error}\n")),
+    }
+}
+
 // The line of the record that comes next after the state.
 fn made<L: ToolLog + Worded>(alloc: Global, state: &L, draft: &Draft<'_>) -> Result<Answer, Stop>
-    ensures { Answers IsMadeLine result }
+    ensures { Answers (IsMadeText L.says L.lacks L.content L.prefix
+        (L.kind.head (L.view state.now)) draft.now.name.now draft.now.time.now
+        (texts draft.now.entries.items)) result }
 {
     let entries = draft.entries.as_slice();
     match make::<L>(alloc, state, draft.name, draft.time, entries) {
         Ok(envelope) => Ok(made_line(alloc, envelope.as_slice())?),
-        Err(MakeError::OutOfMemory) => Err(Stop::OutOfMemory),
-        Err(error) => Err(unusable(alloc, format!(in alloc; "warg: {error}\n"))),
+        Err(error) => Err(make_stop(alloc, &error)),
     }
 }
 
@@ -49,7 +63,9 @@ pub(crate) fn make_answer<L: ToolLog + Worded, V: Verifier>(
     // Where the log is not lawful, the audit's line is the answer, and no record is made.
     ensures { ForDisplay L.view L.kind L.Record.read L.Record.fault_of L.offence_of
         L.name_of L.lines_of (λ log.
-        Answers (IsMadeOf log (V.belongs verifier.now) input.entry.bytes.items) result) }
+        Answers (IsMadeOf L.says L.lacks L.content L.prefix log (V.belongs verifier.now)
+        draft.now.name.now draft.now.time.now (texts draft.now.entries.items)
+        input.entry.bytes.items) result) }
 {
     match judged::<L, V>(alloc, verifier, input) {
         Ok((state, _)) => made(alloc, &state, draft),

@@ -1,95 +1,132 @@
 //! `prove`: the checkpoint of a registry's leaves, and proofs under it.
 
-ghost use Rattle.std.specs.Prelude.{◌≡◌, IfOk, IfSome};
-ghost use Rattle.warg_protocol.specs.Transparency.{log_proof_text, map_proof_text};
-ghost use Rattle.warg_answers.specs.Answers.{answer_view};
+ghost use Rattle.std.specs.Prelude.{◌≡◌, Ok, IfOk, IfErr, IfSome, OnOk, string_bytes};
+ghost use Rattle.warg_protocol.specs.Json.{ReturnsOrNoMemory, text_of};
+ghost use Rattle.warg_protocol.specs.RegistryMaps.{leaves_of};
+ghost use Rattle.warg_protocol.specs.Transparency.{map_proof_of, map_proof_text};
+ghost use Rattle.warg_registry.specs.RegistryJson.{checkpoint_json};
+ghost use Rattle.warg_answers.specs.Answers.{answer_view, Answers, IfStopped};
+ghost use Rattle.warg_tool.specs.ProofTexts.{Asks, AsksConsistency, AsksHead, AsksInclusion, checkpoint_line, IsByLeaves, IsCheckpointText, IsConsistencyText, IsHeadText, IsInclusionText, IsLogWord, IsNumber, IsProofAnswer, IsProved, IsUnsaid, LogProofReadsBack};
 ghost use Rattle.warg_tool.specs.Proofs.{log_proof_line, map_proof_line};
+ghost use Rattle.warg_answers.specs.RecordLines.{record_lines};
+ghost use Rattle.warg_tool.specs.RegistryLeaves.{ForRegistry};
+ghost use Rattle.warg_tool.specs.Unusable.{IsOfLines};
 
+use crate::leaves::{Trees, trees_of};
 use crate::read_words::value_of;
 use std::alloc::{AllocError, Global};
-use warg_answers::answer::{Answer, UNUSABLE};
-use warg_answers::input::{Input, Store, line_sentence, read_input};
-use warg_answers::lines::record_text;
+use warg_answers::answer::Answer;
+use warg_answers::input::{Input, Store, read_input};
 use warg_answers::stop::Stop;
-use warg_audit::{cut_line, without_return};
-use warg_protocol::registry::{Checkpoint, LogId, LogLeaf, MapLeaf, RecordId};
-use warg_protocol::transparency::{LogProof, LogTree, MapProof, MapTree, OfTrees};
+use warg_protocol::registry::{Checkpoint, LogId};
+use warg_protocol::transparency::{LogProof, MapProof, OfTrees};
 use warg_protocol::{JsonError, JsonValue};
 use warg_words::Wanted;
 
-// A registry's log and map.
+/// What is asked of a registry, as words say it.
 #[derive(Drop)]
-struct Trees {
-    log: LogTree,
-    map: MapTree,
+pub(crate) enum Asked {
+    /// The checkpoint that it stands at.
+    Checkpoint,
+    /// That a leaf stands at this place.
+    Inclusion(u64),
+    /// That its log goes on from its first leaves, of which there are so many.
+    Consistency(u64),
+    /// What its map says of this log.
+    Head(LogId),
 }
 
-impl Trees {
-    fn new(alloc: Global) -> Result<Trees, AllocError> {
-        Ok(Trees {
-            log: LogTree::new(alloc),
-            map: MapTree::new(alloc)?,
-        })
+// The number that a word says, of what the kind names.
+fn number_of(alloc: Global, word: &str, kind: &str) -> Result<u64, Stop>
+    ensures ok { IfOk result (IsNumber word.now) }
+    ensures stopped { IfErr result (IfStopped (IsUnsaid (IsNumber word.now))) }
+{
+    value_of::<u64>(alloc, word, kind)
+}
+
+// The id of a log that a word says.
+fn log_id_of(alloc: Global, word: &str) -> Result<LogId, Stop>
+    ensures ok { IfOk result (IsLogWord word.now) }
+    ensures stopped { IfErr result (IfStopped (IsUnsaid (IsLogWord word.now))) }
+{
+    value_of::<LogId>(alloc, word, "id of a log")
+}
+
+// The proof of the place that a word says.
+fn inclusion_asked(alloc: Global, word: &str) -> Result<Asked, Stop>
+    ensures ok { IfOk result (AsksInclusion word.now) }
+    ensures stopped { IfErr result (IfStopped (IsUnsaid (AsksInclusion word.now))) }
+{
+    match number_of(alloc, word, "place of a leaf") {
+        Ok(index) => Ok(Asked::Inclusion(index)),
+        Err(stop) => Err(stop),
     }
+}
 
-    // Takes the leaf in: its record is the last of its log then.
-    fn push(&mut self, leaf: &LogLeaf) -> Result<(), AllocError> {
-        let record_id = leaf.record_id;
-        self.log.push(leaf)?;
-        let _ = self.map.insert(&leaf.log_id, &MapLeaf { record_id })?;
-        Ok(())
+// The proof that the log goes on from as many leaves as a word says.
+fn consistency_asked(alloc: Global, word: &str) -> Result<Asked, Stop>
+    ensures ok { IfOk result (AsksConsistency word.now) }
+    ensures stopped { IfErr result (IfStopped (IsUnsaid (AsksConsistency word.now))) }
+{
+    match number_of(alloc, word, "length of a log") {
+        Ok(first) => Ok(Asked::Consistency(first)),
+        Err(stop) => Err(stop),
     }
 }
 
-// The leaf of a line: the id of its log, a space, and the id of its record.
-fn leaf_of(line: &[u8]) -> Option<LogLeaf> {
-    let Ok(text) = str::from_utf8(without_return(line)) else {
-        return None;
-    };
-    let (log_id, record_id) = text.split_once(' ')?;
-    let (Ok(log_id), Ok(record_id)) = (log_id.parse::<LogId>(), record_id.parse::<RecordId>())
-    else {
-        return None;
-    };
-    Some(LogLeaf { log_id, record_id })
-}
-
-// The registry of the leaves that the file lists.
-fn trees_of(alloc: Global, input: Input<'_>) -> Result<Trees, Stop> {
-    let path = input.path;
-    let (text, comments) = record_text(alloc, input.bytes)?;
-    let mut trees = Trees::new(alloc)?;
-    let mut rest = text.as_slice();
-    let mut index = 0usize;
-    while !rest.is_empty() {
-        let (line, more) = cut_line(rest);
-        let Some(leaf) = leaf_of(line) else {
-            let place = comments.place_in_file(index);
-            let sentence = line_sentence(alloc, path, place, "it is no leaf")?;
-            return Err(Stop::Answer(Answer::fault(alloc, sentence, UNUSABLE)));
-        };
-        trees.push(&leaf)?;
-        rest = more;
-        index = index.saturating_add(1);
+// What the map says of the log that a word names.
+fn head_asked(alloc: Global, word: &str) -> Result<Asked, Stop>
+    ensures ok { IfOk result (AsksHead word.now) }
+    ensures stopped { IfErr result (IfStopped (IsUnsaid (AsksHead word.now))) }
+{
+    match log_id_of(alloc, word) {
+        Ok(log_id) => Ok(Asked::Head(log_id)),
+        Err(stop) => Err(stop),
     }
-    Ok(trees)
 }
 
-// The JSON of a checkpoint on a line.
-fn checkpoint_answer(alloc: Global, checkpoint: &Checkpoint) -> Result<Answer, Stop> {
+// What is asked, by the words of what is wanted.
+fn asked_of(alloc: Global, wanted: &Wanted<'_>) -> Result<Asked, Stop>
+    ensures ok { IfOk result (Asks wanted.now) }
+    ensures stopped { IfErr result (IfStopped (IsUnsaid (Asks wanted.now))) }
+{
+    match wanted {
+        Wanted::Checkpoint => Ok(Asked::Checkpoint),
+        Wanted::Inclusion { place } => inclusion_asked(alloc, place),
+        Wanted::Consistency { length } => consistency_asked(alloc, length),
+        Wanted::Head { log_id } => head_asked(alloc, log_id),
+    }
+}
+
+// The JSON of a checkpoint.
+fn checkpoint_text(alloc: Global, checkpoint: &Checkpoint) -> Result<String, JsonError>
+    ensures { ReturnsOrNoMemory string_bytes result (text_of (checkpoint_json checkpoint.now)) }
+{
     match checkpoint.to_value(alloc) {
-        Ok(value) => {
-            let text = value.to_string(alloc)?;
-            Ok(Answer::new(alloc, format!(in alloc; "{text}\n")?, 0))
-        }
-        Err(JsonError::OutOfMemory) => Err(Stop::OutOfMemory),
-        Err(_) => Ok(Answer::fixed(alloc, "none\n", 1)?),
+        Ok(value) => Ok(value.to_string(alloc)?),
+        Err(error) => Err(error),
     }
 }
 
-// A proof on the log, if there is one.
+// The same on a line.
+fn checkpoint_line(alloc: Global, checkpoint: &Checkpoint) -> Result<Answer, AllocError>
+    ensures { IfOk result (λ answer. answer_view answer ≡
+        checkpoint_line (text_of (checkpoint_json checkpoint.now))) }
+{
+    match checkpoint_text(alloc, checkpoint) {
+        Ok(mut text) => {
+            text.push('\n')?;
+            Ok(Answer::new(alloc, text, 0))
+        }
+        Err(JsonError::OutOfMemory) => Err(AllocError),
+        Err(_) => Answer::fixed(alloc, "none\n", 1),
+    }
+}
+
+// A proof on the log on a line, if there is one.
 fn log_proof_answer(alloc: Global, proof: Option<LogProof>) -> Result<Answer, AllocError>
-    ensures { IfOk result (λ answer. answer_view answer ≡ log_proof_line proof) }
+    ensures is { IfOk result (λ answer. answer_view answer ≡ log_proof_line proof) }
+    ensures reads_back { OnOk result (IfSome proof LogProofReadsBack) }
 {
     match proof {
         Some(proof) => {
@@ -100,12 +137,90 @@ fn log_proof_answer(alloc: Global, proof: Option<LogProof>) -> Result<Answer, Al
     }
 }
 
-// A proof on the map.
+// A proof on the map on a line.
 fn map_proof_answer(alloc: Global, proof: &MapProof) -> Result<Answer, AllocError>
-    ensures { IfOk result (λ answer. answer_view answer ≡ map_proof_line proof.now) }
+    ensures is { IfOk result (λ answer. answer_view answer ≡ map_proof_line proof.now) }
+    ensures reads_back { OnOk result (map_proof_of (map_proof_text proof.now) ≡ Ok proof.now) }
 {
     let text = proof.to_text(alloc)?;
     Ok(Answer::new(alloc, format!(in alloc; "{text}\n")?, 0))
+}
+
+// The checkpoint of a registry.
+fn checkpoint_answer(alloc: Global, trees: &Trees) -> Result<Answer, AllocError>
+    ensures { ForRegistry trees.now.log (leaves_of trees.now.map) (λ leaves.
+        IfOk result (λ answer. IsCheckpointText leaves (answer_view answer))) }
+{
+    let checkpoint = Checkpoint::of(&trees.log, &trees.map);
+    checkpoint_line(alloc, &checkpoint)
+}
+
+// The proof that a leaf stands at a place.
+fn inclusion_answer(alloc: Global, trees: &Trees, index: u64) -> Result<Answer, AllocError>
+    ensures { ForRegistry trees.now.log (leaves_of trees.now.map) (λ leaves.
+        IfOk result (λ answer. IsInclusionText index leaves (answer_view answer))) }
+{
+    let proof = trees.log.inclusion(index)?;
+    log_proof_answer(alloc, proof)
+}
+
+// The proof that the log begins with its first leaves.
+fn consistency_answer(alloc: Global, trees: &Trees, first: u64) -> Result<Answer, AllocError>
+    ensures { ForRegistry trees.now.log (leaves_of trees.now.map) (λ leaves.
+        IfOk result (λ answer. IsConsistencyText first leaves (answer_view answer))) }
+{
+    let proof = trees.log.consistency(first)?;
+    log_proof_answer(alloc, proof)
+}
+
+// What the map says of a log.
+fn head_answer(alloc: Global, trees: &Trees, log_id: &LogId) -> Result<Answer, AllocError>
+    ensures { ForRegistry trees.now.log (leaves_of trees.now.map) (λ leaves.
+        IfOk result (λ answer. IsHeadText log_id.now leaves (answer_view answer))) }
+{
+    let proof = trees.map.proof(log_id)?;
+    map_proof_answer(alloc, &proof)
+}
+
+// What a registry answers.
+fn trees_answer(alloc: Global, asked: &Asked, trees: &Trees) -> Result<Answer, AllocError>
+    ensures { ForRegistry trees.now.log (leaves_of trees.now.map) (λ leaves.
+        IfOk result (λ answer. IsProved asked.now leaves (answer_view answer))) }
+{
+    match asked {
+        Asked::Checkpoint => checkpoint_answer(alloc, trees),
+        Asked::Inclusion(index) => inclusion_answer(alloc, trees, *index),
+        Asked::Consistency(first) => consistency_answer(alloc, trees, *first),
+        Asked::Head(log_id) => head_answer(alloc, trees, log_id),
+    }
+}
+
+// What the registry of the leaves that a file lists answers.
+fn leaves_answer(alloc: Global, asked: &Asked, input: Input<'_>) -> Result<Answer, Stop>
+    ensures { Answers (IsByLeaves (IsProved asked.now)
+        (record_lines input.entry.bytes.items)) result }
+{
+    match trees_of(alloc, input) {
+        Ok(trees) => Ok(trees_answer(alloc, asked, &trees)?),
+        Err(stop) => Err(stop),
+    }
+}
+
+// The same by the file's path.
+fn answer_of_file<S: Store>(
+    alloc: Global,
+    asked: &Asked,
+    leaves: &str,
+    store: &mut S,
+) -> Result<Answer, Stop>
+    ensures answered { Answers (IsOfLines (S.files store.old) leaves.now
+        (IsByLeaves (IsProved asked.now))) result }
+    ensures kept { S.files store.new ≡ S.files store.old }
+{
+    match read_input(alloc, store, leaves) {
+        Ok(input) => leaves_answer(alloc, asked, input),
+        Err(stop) => Err(stop),
+    }
 }
 
 /// What is wanted of the registry of the leaves that a file lists.
@@ -115,27 +230,11 @@ pub(crate) fn prove_answer<S: Store>(
     leaves: &str,
     store: &mut S,
 ) -> Result<Answer, Stop>
+    ensures answered { Answers (IsProofAnswer (S.files store.old) wanted.now leaves.now) result }
     ensures kept { S.files store.new ≡ S.files store.old }
 {
-    match wanted {
-        Wanted::Checkpoint => {
-            let trees = trees_of(alloc, read_input(alloc, store, leaves)?)?;
-            checkpoint_answer(alloc, &Checkpoint::of(&trees.log, &trees.map))
-        }
-        Wanted::Inclusion { place } => {
-            let place = value_of::<u64>(alloc, place, "place of a leaf")?;
-            let trees = trees_of(alloc, read_input(alloc, store, leaves)?)?;
-            Ok(log_proof_answer(alloc, trees.log.inclusion(place)?)?)
-        }
-        Wanted::Consistency { length } => {
-            let length = value_of::<u64>(alloc, length, "length of a log")?;
-            let trees = trees_of(alloc, read_input(alloc, store, leaves)?)?;
-            Ok(log_proof_answer(alloc, trees.log.consistency(length)?)?)
-        }
-        Wanted::Head { log_id } => {
-            let log_id = value_of::<LogId>(alloc, log_id, "id of a log")?;
-            let trees = trees_of(alloc, read_input(alloc, store, leaves)?)?;
-            Ok(map_proof_answer(alloc, &trees.map.proof(&log_id)?)?)
-        }
+    match asked_of(alloc, wanted) {
+        Ok(asked) => answer_of_file(alloc, &asked, leaves, store),
+        Err(stop) => Err(stop),
     }
 }

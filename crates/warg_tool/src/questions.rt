@@ -6,7 +6,8 @@ ghost use Rattle.warg_answers.specs.RecordLines.{record_lines};
 ghost use Rattle.warg_tool.specs.Requests.{IsQuestionAnswer};
 ghost use Rattle.warg_tool.specs.Unusable.{IsOfFile, IsOfLines, IsOfWord};
 ghost use Rattle.warg_answers.specs.Resumption.{IsResumed};
-ghost use Rattle.warg_answers.specs.Verdicts.{ForDisplay, HasAuditStatus, IsPrintedOf};
+ghost use Rattle.warg_answers.specs.ShownLogs.{IsShown};
+ghost use Rattle.warg_answers.specs.Verdicts.{ForDisplay, IsPrintedOf};
 ghost use Rattle.std.specs.Prelude.{◌≡◌};
 
 use std::alloc::Global;
@@ -32,7 +33,7 @@ fn show_of_file<L: ToolLog, V: Verifier, S: Store>(
     ensures answered { ForDisplay L.view L.kind L.Record.read L.Record.fault_of L.offence_of
         L.name_of L.lines_of (λ log.
         Answers (IsOfLines (S.files store.old) path.now
-        (HasAuditStatus log (V.belongs verifier.now))) result) }
+        (IsShown log (V.belongs verifier.now) L.says_words L.shows)) result) }
     ensures kept { S.files store.new ≡ S.files store.old }
 {
     match read_input(alloc, store, path) {
@@ -228,7 +229,7 @@ pub(crate) fn question_answer<L: ToolLog, V: Verifier, S: Store>(
           text_of = L.text_of;
           effects =
               L.effects;
-        }) (V.belongs verifier.now) (S.files store.old) question.now) result) }
+        }) L.says_words L.shows (V.belongs verifier.now) (S.files store.old) question.now) result) }
     ensures kept { S.files store.new ≡ S.files store.old }
 {
     match question {

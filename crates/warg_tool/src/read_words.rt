@@ -1,6 +1,6 @@
 //! Ids, numbers, checkpoints and proofs, by words and files.
 
-ghost use Rattle.std.specs.Prelude.{◌≡◌, Ok, Some, IfOk, IfErr};
+ghost use Rattle.std.specs.Prelude.{◌≡◌, Ok, Err, Some, IfOk, IfErr};
 ghost use Rattle.std.specs.Str.{trim_end};
 ghost use Rattle.warg_protocol.specs.Transparency.{log_proof_of, map_proof_of};
 ghost use Rattle.warg_answers.specs.Answers.{IfStopped, IsUnusable};
@@ -50,6 +50,8 @@ where
     T::Err: Drop,
     ensures ok { IfOk result (λ value. T.from_str_gives word.now (Ok value)) }
     ensures stopped { IfErr result (IfStopped IsUnusable) }
+    ensures refused { IfErr result (IfStopped (λ _. (error : T.Err) ×
+        T.from_str_gives word.now (Err error))) }
 {
     match word.parse::<T>() {
         Ok(value) => Ok(value),

@@ -4,7 +4,9 @@ ghost use Rattle.std.specs.Prelude.{◌≡◌, OnErr};
 ghost use Rattle.warg_protocol.specs.Logs.{envelope_of};
 ghost use Rattle.warg_answers.specs.Answers.{Answers};
 ghost use Rattle.warg_answers.specs.ClaimTexts.{IsClaimsAnswer};
-ghost use Rattle.warg_tool.specs.Tasks.{IsAddedTo, IsAppended, IsMade, IsTaskAnswer, Leaves};
+ghost use Rattle.warg_tool.specs.MadeRecords.{IsMade};
+ghost use Rattle.warg_answers.specs.RecordLines.{texts};
+ghost use Rattle.warg_tool.specs.Tasks.{IsAddedTo, IsAppended, IsTaskAnswer, Leaves};
 ghost use Rattle.warg_tool.specs.Unusable.{IsOfLines};
 ghost use Rattle.warg_answers.specs.Verdicts.{ForDisplay};
 
@@ -47,7 +49,9 @@ fn made_for_file<L: ToolLog + Worded, V: Verifier, S: Store>(
 ) -> Result<Answer, Stop>
     ensures answered { ForDisplay L.view L.kind L.Record.read L.Record.fault_of L.offence_of
         L.name_of L.lines_of (λ shown. Answers
-        (IsMade shown (V.belongs verifier.now) (S.files store.old) log.now) result) }
+        (IsMade L.says L.lacks L.content L.prefix shown (V.belongs verifier.now)
+        draft.now.name.now draft.now.time.now (texts draft.now.entries.items)
+        (S.files store.old) log.now) result) }
     ensures kept { S.files store.new ≡ S.files store.old }
 {
     match read_log(alloc, store, log) {
@@ -105,8 +109,8 @@ pub(crate) fn task_answer<L: ToolLog + Hosted + Worded, V: Verifier, S: Store>(
 ) -> Result<Answer, Stop>
     ensures answered { ForDisplay L.view L.kind L.Record.read L.Record.fault_of L.offence_of
         L.name_of L.lines_of (λ shown. Answers
-        (IsTaskAnswer shown (V.belongs verifier.now) (S.files store.old) (S.files store.new)
-        task.now) result) }
+        (IsTaskAnswer L.says L.lacks L.content L.prefix shown (V.belongs verifier.now)
+        (S.files store.old) (S.files store.new) task.now) result) }
     ensures files { ForDisplay L.view L.kind L.Record.read L.Record.fault_of L.offence_of
         L.name_of L.lines_of (λ shown. Leaves shown (V.belongs verifier.now)
         (S.files store.old) (S.files store.new) task.now) }

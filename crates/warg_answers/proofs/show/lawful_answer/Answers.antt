@@ -1,6 +1,5 @@
-use Rattle.std.proofs.Common.{ap}
-use Rattle.warg_audit.specs.Printouts.{Printout}
+use Rattle.std.proofs.Common.{string_bytes}
 use Rattle.warg_answers.proofs.show.lawful_answer.Goals as goal
 
 pub returns : goal.returns
-returns g c = ap (λ (p : Printout). p.status) c.new.ensures
+returns g c = (string_bytes c.in_ok-text.text, c.in_ok-text.ensures, c.new.ensures)

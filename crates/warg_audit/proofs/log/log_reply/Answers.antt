@@ -23,7 +23,7 @@ returns-in-Ok-Err g c =
     spelled_answers _ _ (lines_of c.args.text.items) (printed_of reply) judged.0 judged.1.0
     (refused_answers _ _ judged.0 (printed_of reply)
     (is (g.V.Verifier.belongs c.args.verifier.now) g.L.Validator.kind.view_of fault_name offence_name shown reports judged.0 judged.1.1)))
-    c.refusal_reply.ensures
+    c.refusal_reply.ensures.refused
 
 pub returns-in-Err-Bad : goal.returns-in-Err-Bad
 returns-in-Err-Bad g c =

@@ -1,4 +1,3 @@
-use Rattle.warg_tool.proofs.AnswerLemmas.{nothing_said}
 use Rattle.warg_tool.proofs.commands.request_answer.Goals as goal
 
 pub returns-in-Id-clause-answered : goal.returns-in-Id-clause-answered
@@ -26,7 +25,7 @@ pub returns-in-Latest-clause-files : goal.returns-in-Latest-clause-files
 returns-in-Latest-clause-files g c = rw c.in-Latest.is c.latest_of_file.ensures.kept
 
 pub returns-in-Prove-clause-answered : goal.returns-in-Prove-clause-answered
-returns-in-Prove-clause-answered g c = rw c.in-Prove.is (nothing_said c.prove_answer.result)
+returns-in-Prove-clause-answered g c = rw c.in-Prove.is c.prove_answer.ensures.answered
 
 pub returns-in-Prove-clause-files : goal.returns-in-Prove-clause-files
 returns-in-Prove-clause-files g c = rw c.in-Prove.is c.prove_answer.ensures.kept

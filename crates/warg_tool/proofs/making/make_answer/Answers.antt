@@ -1,14 +1,12 @@
 use Rattle.warg_answers.proofs.JudgedLemmas.{stopped_prints}
-use Rattle.warg_tool.proofs.TaskLemmas.{lawful_prints}
+use Rattle.warg_tool.proofs.MadeLemmas.{made_after}
 use Rattle.warg_answers.specs.RecordLines.{record_lines}
-use Rattle.warg_tool.specs.Tasks.{IsMadeLine}
 use Rattle.warg_tool.proofs.making.make_answer.Goals as goal
 
 pub returns-in-Ok : goal.returns-in-Ok
 returns-in-Ok g c = λ fault_name offence_name shown reports.
     let it = c.in-Ok.ensures.lawful fault_name offence_name shown reports in
-    lawful_prints _ (g.V.Verifier.belongs c.args.verifier.now) IsMadeLine (record_lines c.args.input.bytes.items) it.0 it.1.0
-    c.made.result c.made.ensures
+    made_after _ _ _ _ _ _ _ _ _ (record_lines c.args.input.bytes.items) it.0 _ c.made.result it.1.0 it.1.1 c.made.ensures
 
 pub returns-in-Err : goal.returns-in-Err
 returns-in-Err g c = λ fault_name offence_name shown reports.

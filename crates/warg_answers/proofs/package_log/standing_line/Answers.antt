@@ -1,0 +1,6 @@
+use Rattle.std.proofs.lemmas.Result.{IfOk-weaker}
+use Rattle.warg_answers.proofs.package_log.standing_line.Goals as goal
+
+pub returns-in_ok-time-in-Yanked : goal.returns-in_ok-time-in-Yanked
+returns-in_ok-time-in-Yanked c =
+    rw c.in-Yanked.is (IfOk-weaker c.yanked_line.result _ _ (λ line is. (c.as_str.result.now, is)) c.yanked_line.ensures)

@@ -1,0 +1,65 @@
+-- The records that words say.
+use Rattle.std.proofs.Common.{◌≡◌, ◌≤◌, ◌<◌, ◌+◌, ℕ, suc, List, [], ◌∷◌, ◌++◌, length, map, take, slice_index_or, ap, ◌∙◌, subst, arith, Option, IsErr, Bor}
+use Rattle.std.specs.Global.{Vec}
+use Rattle.std.specs.List.{AllZip}
+use Rattle.std.proofs.Math.Seq.{take-suc}
+use Rattle.std.proofs.lemmas.List.{map-append, take_all}
+use Rattle.warg_time.specs.TimeText.{time_of}
+use Rattle.warg_time.specs.Times.{Time}
+use Rattle.warg_protocol.specs.Operator as in_operator
+use Rattle.warg_protocol.specs.Package as in_package
+use Rattle.warg_protocol.specs.Records.{RecordId}
+use Rattle.warg_records.specs.declared.log_record.LogRecord.{LogRecord}
+use Rattle.warg_records.specs.declared.operator.model.OperatorEntry.{OperatorEntry}
+use Rattle.warg_records.specs.declared.package.model.PackageEntry.{PackageEntry}
+use Rattle.warg_make.specs.NextRecords.{IsEntriesError, IsMakeError, operator_content, package_content, texts}
+use Rattle.warg_make.specs.declared.error.EntryFault.{EntryFault}
+use Rattle.warg_make.specs.declared.error.MakeError.{MakeError}
+use Rattle.warg_make.specs.declared.error.MakeError.TheVariants.{BadTime, Entry, OutOfMemory}
+use Rattle.warg_make.proofs.WordLemmas.{zip_more}
+
+-- the content bytes of a record by its parts
+pub package_content_is : (it : LogRecord PackageEntry) (prev : Option RecordId) (time : Time) (entries : Vec PackageEntry)
+    → it.prev ≡ prev → it.version ≡ 1 → it.timestamp ≡ time → it.entries ≡ entries
+    → in_package.package_content_of (in_package.record_data it) ≡ package_content prev time (map in_package.entry_data entries.items)
+package_content_is it prev time entries p v t e =
+    λ i. in_package.package_content_of (record { prev = p i; version = v i; time = t i; entries = map in_package.entry_data (e i).items })
+
+pub operator_content_is : (it : LogRecord OperatorEntry) (prev : Option RecordId) (time : Time) (entries : Vec OperatorEntry)
+    → it.prev ≡ prev → it.version ≡ 1 → it.timestamp ≡ time → it.entries ≡ entries
+    → in_operator.operator_content_of (in_operator.record_data it) ≡ operator_content prev time (map in_operator.entry_data entries.items)
+operator_content_is it prev time entries p v t e =
+    λ i. in_operator.operator_content_of (record { prev = p i; version = v i; time = t i; entries = map in_operator.entry_data (e i).items })
+
+module _ (Lacks : List ℕ → EntryFault → Type 0) (time : List ℕ) (words : List (List ℕ)) where
+  -- what is wrong with words that say no time, or no entries
+  pub time_refused : (it : MakeError) → (it ≡ BadTime) × IsErr (time_of time) → IsMakeError Lacks time words it
+  time_refused it h = rw h.0 h.1
+
+  pub entries_refused : (it : MakeError) → IsEntriesError Lacks words it → IsMakeError Lacks time words it
+  entries_refused BadTime h = absurd h
+  entries_refused (Entry place fault) h = h
+  entries_refused OutOfMemory h = tt
+
+  pub memory_refused : (it : MakeError) → it ≡ OutOfMemory → IsMakeError Lacks time words it
+  memory_refused it e = rw e tt
+
+-- ---- the entries so far
+
+taken_more : (n : ℕ) (words : List (Bor (List ℕ))) (d : Bor (List ℕ)) → n < length words
+    → texts (take (n + 1) words) ≡ texts (take n words) ++ (slice_index_or words n d).now ∷ []
+taken_more n words d low =
+    let e : n + 1 ≡ suc n = omega arith in
+    rw e (ap texts (take-suc words n d low) ∙ map-append (λ (word : Bor (List ℕ)). word.now) (take n words) (slice_index_or words n d ∷ []))
+
+module _ {E T : Type 0} (Says : List ℕ → T → Type 0) (as_data : E → T) (words : List (Bor (List ℕ))) where
+  pub said_more : (n : ℕ) (d : Bor (List ℕ)) (old new : List E) (entry : E) → n < length words → new ≡ old ++ entry ∷ []
+      → AllZip Says (texts (take n words)) (map as_data old) → Says (slice_index_or words n d).now (as_data entry)
+      → AllZip Says (texts (take (n + 1) words)) (map as_data new)
+  said_more n d old new entry low more so_far says =
+      let items = ap (map as_data) more ∙ map-append as_data old (entry ∷ []) in
+      rw (taken_more n words d low, items) (zip_more Says (texts (take n words)) (map as_data old) (slice_index_or words n d).now (as_data entry) so_far says)
+
+  pub all_said : (n : ℕ) (entries : List E) → length words ≤ n → AllZip Says (texts (take n words)) (map as_data entries)
+      → AllZip Says (texts words) (map as_data entries)
+  all_said n entries past so_far = subst (λ (ws : List (Bor (List ℕ))). AllZip Says (texts ws) (map as_data entries)) (take_all n words past) so_far
