@@ -1,9 +1,11 @@
 -- The records that words say.
-use Rattle.std.proofs.Common.{◌≡◌, ◌≤◌, ◌<◌, ◌+◌, ℕ, suc, List, [], ◌∷◌, ◌++◌, length, map, take, slice_index_or, ap, ◌∙◌, subst, arith, Option, IsErr, Bor}
+use Rattle.std.proofs.Common.{◌≡◌, ◌≤◌, ◌<◌, ◌+◌, ℕ, suc, List, [], ◌∷◌, ◌++◌, length, map, take, slice_index_or, ap, ◌∙◌, subst, sym, refl, arith, Option, Some, Ok, IsErr, IsOk, Bor}
 use Rattle.std.specs.Global.{Vec}
-use Rattle.std.specs.List.{AllZip}
+use Rattle.std.specs.List.{AllZip, slice_get}
+use Rattle.std.specs.Option.{option_map}
+use Rattle.std.proofs.lemmas.Option.{slice_get-map, slice_get-get_or}
 use Rattle.std.proofs.Math.Seq.{take-suc}
-use Rattle.std.proofs.lemmas.List.{map-append, take_all}
+use Rattle.std.proofs.lemmas.List.{map-append, take-map, take_all}
 use Rattle.warg_time.specs.TimeText.{time_of}
 use Rattle.warg_time.specs.Times.{Time}
 use Rattle.warg_protocol.specs.Operator as in_operator
@@ -31,17 +33,18 @@ pub operator_content_is : (it : LogRecord OperatorEntry) (prev : Option RecordId
 operator_content_is it prev time entries p v t e =
     λ i. in_operator.operator_content_of (record { prev = p i; version = v i; time = t i; entries = map in_operator.entry_data (e i).items })
 
-module _ (Lacks : List ℕ → EntryFault → Type 0) (time : List ℕ) (words : List (List ℕ)) where
+module _ {T : Type 0} (Says : List ℕ → T → Type 0) (Lacks : List ℕ → EntryFault → Type 0) (time : List ℕ) (words : List (List ℕ)) where
   -- what is wrong with words that say no time, or no entries
-  pub time_refused : (it : MakeError) → (it ≡ BadTime) × IsErr (time_of time) → IsMakeError Lacks time words it
+  pub time_refused : (it : MakeError) → (it ≡ BadTime) × IsErr (time_of time) → IsMakeError Says Lacks time words it
   time_refused it h = rw h.0 h.1
 
-  pub entries_refused : (it : MakeError) → IsEntriesError Lacks words it → IsMakeError Lacks time words it
-  entries_refused BadTime h = absurd h
-  entries_refused (Entry place fault) h = h
-  entries_refused OutOfMemory h = tt
+  pub entries_refused : (at : Time) (it : MakeError) → time_of time ≡ Ok at → IsEntriesError Says Lacks words it
+      → IsMakeError Says Lacks time words it
+  entries_refused at BadTime is h = absurd h
+  entries_refused at (Entry place fault) is h = (subst IsOk (sym is) refl, h)
+  entries_refused at OutOfMemory is h = tt
 
-  pub memory_refused : (it : MakeError) → it ≡ OutOfMemory → IsMakeError Lacks time words it
+  pub memory_refused : (it : MakeError) → it ≡ OutOfMemory → IsMakeError Says Lacks time words it
   memory_refused it e = rw e tt
 
 -- ---- the entries so far
@@ -52,6 +55,12 @@ taken_more n words d low =
     let e : n + 1 ≡ suc n = omega arith in
     rw e (ap texts (take-suc words n d low) ∙ map-append (λ (word : Bor (List ℕ)). word.now) (take n words) (slice_index_or words n d ∷ []))
 
+pub text_at : (words : List (Bor (List ℕ))) (n : ℕ) (d : Bor (List ℕ)) → n < length words
+    → slice_get (texts words) n ≡ Some (slice_index_or words n d).now
+text_at words n d low =
+    let now = λ (word : Bor (List ℕ)). word.now in
+    slice_get-map now words n ∙ ap (option_map now) (slice_get-get_or words n d low)
+
 module _ {E T : Type 0} (Says : List ℕ → T → Type 0) (as_data : E → T) (words : List (Bor (List ℕ))) where
   pub said_more : (n : ℕ) (d : Bor (List ℕ)) (old new : List E) (entry : E) → n < length words → new ≡ old ++ entry ∷ []
       → AllZip Says (texts (take n words)) (map as_data old) → Says (slice_index_or words n d).now (as_data entry)
@@ -59,6 +68,12 @@ module _ {E T : Type 0} (Says : List ℕ → T → Type 0) (as_data : E → T) (
   said_more n d old new entry low more so_far says =
       let items = ap (map as_data) more ∙ map-append as_data old (entry ∷ []) in
       rw (taken_more n words d low, items) (zip_more Says (texts (take n words)) (map as_data old) (slice_index_or words n d).now (as_data entry) so_far says)
+
+  -- the texts before a place say entries, as plain data
+  pub said_before : (n : ℕ) (entries : List E) → AllZip Says (texts (take n words)) (map as_data entries)
+      → AllZip Says (take n (texts words)) (map as_data entries)
+  said_before n entries so_far =
+      subst (λ (ts : List (List ℕ)). AllZip Says ts (map as_data entries)) (sym (take-map (λ (word : Bor (List ℕ)). word.now) n words)) so_far
 
   pub all_said : (n : ℕ) (entries : List E) → length words ≤ n → AllZip Says (texts (take n words)) (map as_data entries)
       → AllZip Says (texts words) (map as_data entries)

@@ -20,7 +20,7 @@ use Rattle.warg_answers.proofs.AnswerLemmas.{Answers-to, IfStopped-to}
 module _ {T : Type 0} (Says : List ℕ → T → Type 0) (Lacks : List ℕ → EntryFault → Type 0) (content : Option RecordId → Time → List T → List ℕ) (prefix : List ℕ) where
   -- words that say no record
   pub none_made : (prev : Option RecordId) (name time : List ℕ) (words : List (List ℕ)) (error : MakeError) (end : Stop)
-      → (error ≡ OutOfMemory → end ≡ stop.OutOfMemory) → IsMakeError Lacks time words error → IfStopped IsUnusable end
+      → (error ≡ OutOfMemory → end ≡ stop.OutOfMemory) → IsMakeError Says Lacks time words error → IfStopped IsUnusable end
       → IfStopped (IsMadeText Says Lacks content prefix prev name time words) end
   none_made prev name time words error (stop.Answer answer) memory why h =
       unsaid error (λ is. let e : stop.Answer answer ≡ stop.OutOfMemory = memory is in cc) why h

@@ -22,7 +22,7 @@ module _ {T : Type 0} (Says : List ℕ → T → Type 0) (Lacks : List ℕ → E
   pub data IsMadeText (prev : Option RecordId) (name time : List ℕ) (words : List (List ℕ)) (printed : Printout) : Type 0 where
     made : (bytes : List ℕ) → IsNextEnvelope Says content prefix prev name time words bytes → printed ≡ yes (line (encode_lower bytes))
         → IsMadeText prev name time words printed
-    unsaid : (error : MakeError) → error ≢ OutOfMemory → IsMakeError Lacks time words error → IsUnusable printed
+    unsaid : (error : MakeError) → error ≢ OutOfMemory → IsMakeError Says Lacks time words error → IsUnusable printed
         → IsMadeText prev name time words printed
 
   module _ {Meaning Fault View Offence : Type 0} (log : LogDisplay Meaning Fault View Offence) (belongs : SignatureRelation) (name time : List ℕ) (words : List (List ℕ)) where
