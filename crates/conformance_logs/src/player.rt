@@ -89,19 +89,27 @@ pub fn play_log<L: Scripted>(
     script: &Block,
     report: &mut Report,
 ) -> Result<(), Fail> {
-    let mut player = Player::<L> {
-        log: Log::new(alloc)?,
-        aside: None,
-        refusal: None,
-    };
-    for line in script.lines.iter() {
-        player.play_line(alloc, line, report)?;
-    }
-    player.tell_refusal(alloc, report)?;
-    player.log.run_again(alloc)
+    let mut player = Player::<L>::new(alloc)?;
+    player.play(alloc, script, report)
 }
 
 impl<L: Scripted> Player<L> {
+    fn new(alloc: Global) -> Result<Player<L>, Fail> {
+        Ok(Player {
+            log: Log::new(alloc)?,
+            aside: None,
+            refusal: None,
+        })
+    }
+
+    fn play(&mut self, alloc: Global, script: &Block, report: &mut Report) -> Result<(), Fail> {
+        for line in script.lines.iter() {
+            self.play_line(alloc, line, report)?;
+        }
+        self.tell_refusal(alloc, report)?;
+        self.log.run_again(alloc)
+    }
+
     fn play_line(&mut self, alloc: Global, line: &Line, report: &mut Report) -> Result<(), Fail> {
         let text = line.text.as_str();
         match self.try_line(alloc, line, report) {
@@ -143,8 +151,8 @@ impl<L: Scripted> Player<L> {
     }
 
     fn put_aside(&mut self, alloc: Global) -> Result<(), Fail> {
-        let new = Log::new(alloc)?;
         self.log.run_again(alloc)?;
+        let new = Log::new(alloc)?;
         self.aside = Some(mem::replace(&mut self.log, new));
         Ok(())
     }

@@ -4,9 +4,9 @@ use crate::player::Log;
 use crate::written::{permissions_written, value_written, written};
 use conformance_rows::{Answer, Fail};
 use conformance_scripts::{Scripted, check, id, none, words_of};
-use std::alloc::Global;
+use std::alloc::{AllocError, Global};
 use warg_protocol::toy::ToyVerifier;
-use warg_protocol::{AuditedLog, Comparison, HeadComparison};
+use warg_protocol::{AuditedLog, Comparison, HeadComparison, Link};
 
 /// The log's answer to a question, beside the log that was put aside.
 pub fn ask<L: Scripted>(
@@ -17,27 +17,50 @@ pub fn ask<L: Scripted>(
 ) -> Result<Answer, Fail> {
     let (look_up, subject, permission) = words_of(question);
     match look_up {
-        "saved" if subject == "" => written(alloc, &log.state),
-        "saved" => permissions_written(alloc, &log.state, id(alloc, subject)?.as_str()),
-        "head-json" => match log.state.last() {
-            Some(head) => value_written(alloc, head),
-            None => value(none(alloc)?),
-        },
-        "effect" => value(effect(alloc, log, question)?),
-        "chain" => value(chain(alloc, kept(log)?, subject, permission)?),
-        "records" => Answer::value(alloc, &count(kept(log)?)?),
-        "heads" => Answer::value(alloc, &heads(log, aside)?),
-        "comparison" => value(comparison(alloc, log, aside)?),
-        "equal" => {
-            let aside = aside.ok_or("no log is put aside")?;
-            Answer::value(alloc, &(log.state == aside.state))
-        }
-        _ => value(log.state.answer(alloc, look_up, subject)?),
+        "saved" => saved(alloc, &log.state, subject),
+        "head-json" => head_json(alloc, &log.state),
+        "effect" => valued(effect(alloc, log, question)),
+        "chain" => valued(chain(alloc, log, subject, permission)),
+        "records" => records(alloc, log),
+        "heads" => heads(alloc, log, aside),
+        "comparison" => valued(comparison(alloc, log, aside)),
+        "equal" => equal(alloc, log, aside),
+        _ => valued(log.state.answer(alloc, look_up, subject)),
     }
 }
 
-fn value(text: String) -> Result<Answer, Fail> {
-    Ok(Answer::Value(text))
+fn valued(text: Result<String, Fail>) -> Result<Answer, Fail> {
+    Ok(Answer::Value(text?))
+}
+
+// The state as it is saved, or what is saved of a person's permissions.
+fn saved<L: Scripted>(alloc: Global, state: &L, name: &str) -> Result<Answer, Fail> {
+    if name == "" {
+        return written(alloc, state);
+    }
+    permissions_written(alloc, state, id(alloc, name)?.as_str())
+}
+
+fn head_json<L: Scripted>(alloc: Global, state: &L) -> Result<Answer, Fail> {
+    match state.last() {
+        Some(head) => value_written(alloc, head),
+        None => valued(none(alloc)),
+    }
+}
+
+fn records<L: Scripted>(alloc: Global, log: &Log<L>) -> Result<Answer, Fail> {
+    Answer::value(alloc, &count(kept(log)?)?)
+}
+
+fn beside<'a, L: Scripted>(aside: Option<&'a Log<L>>) -> Result<&'a Log<L>, Fail> {
+    match aside {
+        Some(aside) => Ok(aside),
+        None => Err(Fail::new("no log is put aside")),
+    }
+}
+
+fn equal<L: Scripted>(alloc: Global, log: &Log<L>, aside: Option<&Log<L>>) -> Result<Answer, Fail> {
+    Answer::value(alloc, &(log.state == beside(aside)?.state))
 }
 
 // Of an entry of the last record: `effect 1 bob release`.
@@ -55,17 +78,20 @@ fn kept<'a, L: Scripted>(log: &'a Log<L>) -> Result<&'a AuditedLog<L, ToyVerifie
 // By which entries, a record's place and an entry's each, the person came to hold the permission.
 fn chain<L: Scripted>(
     alloc: Global,
-    log: &AuditedLog<L, ToyVerifier>,
+    log: &Log<L>,
     name: &str,
     permission: &str,
 ) -> Result<String, Fail> {
     let key_id = id(alloc, name)?;
-    let permission = L::permission(permission)?;
-    let Some(links) = log.permission_chain(&key_id, permission)? else {
-        return none(alloc);
-    };
+    match kept(log)?.permission_chain(&key_id, L::permission(permission)?)? {
+        Some(links) => places(alloc, links.as_slice()),
+        None => none(alloc),
+    }
+}
+
+fn places(alloc: Global, links: &[Link]) -> Result<String, Fail> {
     let mut text = String::new(alloc);
-    for link in &links {
+    for link in links {
         if !text.is_empty() {
             text.push(' ')?;
         }
@@ -75,13 +101,13 @@ fn chain<L: Scripted>(
 }
 
 // What the heads of the log and of the one that was put aside say.
-fn heads<L: Scripted>(log: &Log<L>, aside: Option<&Log<L>>) -> Result<&'static str, Fail> {
-    let aside = aside.ok_or("no log is put aside")?;
-    Ok(match kept(log)?.compare_heads(kept(aside)?) {
+fn heads<L: Scripted>(alloc: Global, log: &Log<L>, aside: Option<&Log<L>>) -> Result<Answer, Fail> {
+    let text = match kept(log)?.compare_heads(kept(beside(aside)?)?) {
         HeadComparison::Same => "same",
         HeadComparison::Different => "different",
         HeadComparison::Collision { .. } => "collision",
-    })
+    };
+    Answer::value(alloc, &text)
 }
 
 // How the records of the log and of the one that was put aside compare, and at which place.
@@ -90,14 +116,18 @@ fn comparison<L: Scripted>(
     log: &Log<L>,
     aside: Option<&Log<L>>,
 ) -> Result<String, Fail> {
-    let aside = aside.ok_or("no log is put aside")?;
-    Ok(match kept(log)?.compare(kept(aside)?) {
-        Comparison::Same => String::from_str(alloc, "same")?,
-        Comparison::LeftIsPrefix { at } => format!(in alloc; "left-is-prefix {at}")?,
-        Comparison::RightIsPrefix { at } => format!(in alloc; "right-is-prefix {at}")?,
-        Comparison::Fork { at } => format!(in alloc; "fork {at}")?,
-        Comparison::Collision { left, right } => format!(in alloc; "collision {left} {right}")?,
-    })
+    let comparison = kept(log)?.compare(kept(beside(aside)?)?);
+    Ok(comparison_text(alloc, &comparison)?)
+}
+
+fn comparison_text(alloc: Global, comparison: &Comparison) -> Result<String, AllocError> {
+    match comparison {
+        Comparison::Same => String::from_str(alloc, "same"),
+        Comparison::LeftIsPrefix { at } => format!(in alloc; "left-is-prefix {at}"),
+        Comparison::RightIsPrefix { at } => format!(in alloc; "right-is-prefix {at}"),
+        Comparison::Fork { at } => format!(in alloc; "fork {at}"),
+        Comparison::Collision { left, right } => format!(in alloc; "collision {left} {right}"),
+    }
 }
 
 // How many records are kept. A log with none has no head, and else its head is the last record's id.

@@ -5,7 +5,7 @@ use conformance_rows::{Answer, Block, Fail, Line, Report, Row};
 use conformance_scripts::{Scripted, cause_words, check, string_of};
 use std::alloc::Global;
 use warg_protocol::toy::ToyVerifier;
-use warg_protocol::{AuditedLog, run};
+use warg_protocol::{AuditedLog, RunError, run};
 
 /// Plays such a script.
 pub fn play_run<L: Scripted>(
@@ -55,33 +55,64 @@ fn tell<L: Scripted>(
 
 // The first string that is refused and the cause. A log that is kept takes the strings before it.
 fn outcome<L: Scripted>(alloc: Global, strings: &[Vec<u8>]) -> Result<String, Fail> {
-    let mut log = AuditedLog::<L, ToyVerifier>::new(alloc, ToyVerifier)?;
-    let error = match run::<L, ToyVerifier>(alloc, &ToyVerifier, strings) {
-        Ok(_) => return Ok(String::from_str(alloc, "accepted")?),
-        Err(error) => error,
-    };
+    match run::<L, ToyVerifier>(alloc, &ToyVerifier, strings) {
+        Ok(_) => Ok(String::from_str(alloc, "accepted")?),
+        Err(error) => refusal::<L>(alloc, strings, &error),
+    }
+}
+
+fn refusal<L: Scripted>(
+    alloc: Global,
+    strings: &[Vec<u8>],
+    error: &RunError<L::Error>,
+) -> Result<String, Fail> {
     let words = cause_words::<L>(alloc, &error.cause)?;
+    let text = format!(in alloc; "! {} {words}", error.index)?;
+    keeps_front::<L>(alloc, strings, error.index, text.as_str())?;
+    Ok(text)
+}
+
+// The kept log refuses the same string for the same cause, and has those before it.
+fn keeps_front<L: Scripted>(
+    alloc: Global,
+    strings: &[Vec<u8>],
+    index: usize,
+    wanted: &str,
+) -> Result<(), Fail> {
+    let mut log = AuditedLog::<L, ToyVerifier>::new(alloc, ToyVerifier)?;
     let is_same = match log.append_all(strings) {
         Ok(()) => false,
-        Err(same) => { same.index == error.index && cause_words::<L>(alloc, &same.cause)? == words }
+        Err(error) => is_told::<L>(alloc, &error, wanted)?,
     };
     check(is_same, "the kept log answers otherwise")?;
     check(
-        log.records().len() == error.index,
+        log.records().len() == index,
         "the kept log has another length",
-    )?;
-    Ok(format!(in alloc; "! {} {words}", error.index)?)
+    )
+}
+
+fn is_told<L: Scripted>(
+    alloc: Global,
+    error: &RunError<L::Error>,
+    wanted: &str,
+) -> Result<bool, Fail> {
+    let words = cause_words::<L>(alloc, &error.cause)?;
+    let text = format!(in alloc; "! {} {words}", error.index)?;
+    Ok(text.as_str() == wanted)
 }
 
 // What the state of all strings answers.
 fn ask<L: Scripted>(alloc: Global, strings: &[Vec<u8>], question: &str) -> Result<Answer, Fail> {
-    let state = match run::<L, ToyVerifier>(alloc, &ToyVerifier, strings) {
-        Ok(state) => state,
-        Err(_) => return Err(Fail::new("the strings are refused")),
-    };
-    match question.split_once(' ') {
-        Some((look_up, subject)) => Ok(Answer::Value(state.answer(alloc, look_up, subject)?)),
-        None if question == "saved" => written(alloc, &state),
-        None => Ok(Answer::Value(state.answer(alloc, question, "")?)),
+    match run::<L, ToyVerifier>(alloc, &ToyVerifier, strings) {
+        Ok(state) => answer(alloc, &state, question),
+        Err(_) => Err(Fail::new("the strings are refused")),
     }
+}
+
+fn answer<L: Scripted>(alloc: Global, state: &L, question: &str) -> Result<Answer, Fail> {
+    if question == "saved" {
+        return written(alloc, state);
+    }
+    let (look_up, subject) = question.split_once(' ').unwrap_or((question, ""));
+    Ok(Answer::Value(state.answer(alloc, look_up, subject)?))
 }

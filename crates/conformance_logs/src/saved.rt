@@ -10,10 +10,13 @@ use warg_protocol::{JsonValue, operator, package};
 /// What a text of JSON is read as, written again: `saved KIND TEXT`.
 pub fn answer(alloc: Global, words: &str) -> Result<Answer, Fail> {
     let mut words = Words::new(words);
-    let kind = words.next(alloc)?;
+    let kind = words.next_written();
     let text = words.rest_text(alloc)?;
-    let text = text.as_str();
-    match kind.as_str() {
+    read_kind(alloc, kind, text.as_str())
+}
+
+fn read_kind(alloc: Global, kind: &str, text: &str) -> Result<Answer, Fail> {
+    match kind {
         "package" => saved_state::<package::LogState>(alloc, text),
         "operator" => saved_state::<operator::LogState>(alloc, text),
         "head" => of_value::<Head>(alloc, text),

@@ -16,19 +16,38 @@ pub fn advance<L: Scripted>(
 ) -> Result<Option<String>, Fail> {
     match judged(alloc, log.state.try_clone()?, string.as_slice()) {
         Ok(state) => {
-            makes(alloc, log, &string, &state)?;
-            keep(log, &string, &state)?;
-            log.strings.push(string)?;
-            log.state = state;
+            take(alloc, log, string, state)?;
             Ok(None)
         }
-        Err(cause) => {
-            let words = cause_words::<L>(alloc, &cause)?;
-            refuses(alloc, log, &string, words.as_str())?;
-            keep_out(alloc, log, &string, words.as_str())?;
-            Ok(Some(words))
-        }
+        Err(cause) => Ok(Some(leave(alloc, log, &string, &cause)?)),
     }
+}
+
+// Appends the string, which leads to the state.
+fn take<L: Scripted>(
+    alloc: Global,
+    log: &mut Log<L>,
+    string: Vec<u8>,
+    state: L,
+) -> Result<(), Fail> {
+    makes(alloc, log, &string, &state)?;
+    keep(log, &string, &state)?;
+    log.strings.push(string)?;
+    log.state = state;
+    Ok(())
+}
+
+// Leaves the log as it is, which refuses the string: the cause in words.
+fn leave<L: Scripted>(
+    alloc: Global,
+    log: &mut Log<L>,
+    string: &Vec<u8>,
+    cause: &RunCause<L::Error>,
+) -> Result<String, Fail> {
+    let words = cause_words::<L>(alloc, cause)?;
+    refuses(alloc, log, string, words.as_str())?;
+    keep_out(alloc, log, string, words.as_str())?;
+    Ok(words)
 }
 
 // The state or the cause, where a string comes next.

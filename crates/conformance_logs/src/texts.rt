@@ -11,8 +11,8 @@ use warg_protocol::{
 /// The text of an error: `refusal KIND ERROR..`.
 pub fn answer(alloc: Global, words: &str) -> Result<Answer, Fail> {
     let mut words = Words::new(words);
-    let kind = words.next(alloc)?;
-    match kind.as_str() {
+    let kind = words.next_written();
+    match kind {
         "package" => of_error::<package::LogState>(alloc, words),
         "operator" => of_error::<operator::LogState>(alloc, words),
         "json" => text(alloc, &json_fault(words.rest())?),

@@ -70,11 +70,21 @@ pub fn key_entry<P: LogPermission + Display>(
         permissions == entry.permissions,
         "other permissions are listed",
     )?;
-    let mut text = String::from_str(alloc, owner(entry.id))?;
-    if let Some(permissions) = permissions {
-        for permission in permissions.iter() {
-            write!(text, "+{permission}")?;
-        }
+    match permissions {
+        Some(permissions) => owner_with(alloc, owner(entry.id), permissions),
+        None => Ok(String::from_str(alloc, owner(entry.id))?),
+    }
+}
+
+// An owner, and what the owner's key may do.
+fn owner_with<P: LogPermission + Display>(
+    alloc: Global,
+    owner: &str,
+    permissions: &IndexSet<P>,
+) -> Result<String, Fail> {
+    let mut text = String::from_str(alloc, owner)?;
+    for permission in permissions.iter() {
+        write!(text, "+{permission}")?;
     }
     Ok(text)
 }

@@ -112,29 +112,41 @@ pub fn envelope_of<L: Scripted>(
     }
 }
 
+// The string of the draft's record in a log whose last one is `last`, which it then is itself.
+fn signed_string<L: Scripted>(
+    alloc: Global,
+    last: &mut Option<RecordId>,
+    draft: &Draft<'_>,
+) -> Result<Vec<u8>, Fail> {
+    let envelope = signed::<L>(alloc, *last, draft)?;
+    *last = Some(L::record_id(&envelope));
+    Ok(envelope.to_protobuf(alloc)?)
+}
+
 /// The string that a line says: hex digits, or a record in a log whose last one is `last`, which it then is itself.
 pub fn string_of<L: Scripted>(
     alloc: Global,
     last: &mut Option<RecordId>,
     line: &str,
 ) -> Result<Vec<u8>, Fail> {
-    let Some(draft) = Draft::parse(line)? else {
-        return bytes(alloc, line);
-    };
-    let envelope = signed::<L>(alloc, *last, &draft)?;
-    *last = Some(L::record_id(&envelope));
+    match Draft::parse(line)? {
+        Some(draft) => signed_string::<L>(alloc, last, &draft),
+        None => bytes(alloc, line),
+    }
+}
+
+// The string of the record that the state makes next.
+fn made_string<L: Scripted>(alloc: Global, state: &L, draft: &Draft<'_>) -> Result<Vec<u8>, Fail> {
+    let envelope = state.next(alloc, draft, entries_of::<L>(alloc, draft.entries)?)?;
     Ok(envelope.to_protobuf(alloc)?)
 }
 
 /// The string that a line says: hex digits, or a record that comes after the state.
 pub fn next_string<L: Scripted>(alloc: Global, state: &L, line: &str) -> Result<Vec<u8>, Fail> {
-    let mut last = state.head_digest().copied();
     match Draft::parse(line)? {
-        Some(draft) if draft.is_next => {
-            let entries = entries_of::<L>(alloc, draft.entries)?;
-            Ok(state.next(alloc, &draft, entries)?.to_protobuf(alloc)?)
-        }
-        _ => string_of::<L>(alloc, &mut last, line),
+        Some(draft) if draft.is_next => made_string(alloc, state, &draft),
+        Some(draft) => signed_string::<L>(alloc, &mut state.head_digest().copied(), &draft),
+        None => bytes(alloc, line),
     }
 }
 

@@ -9,7 +9,8 @@ use warg_registry::{Checkpoint, LogId, LogLeaf, MapLeaf, PackageName, Timestampe
 
 /// `bytes KIND WORDS..`: the bytes of the value.
 pub(crate) fn bytes_of(alloc: Global, mut words: Words<'_>) -> Result<Answer, Fail> {
-    match words.next(alloc)?.as_str() {
+    let kind = words.next_written();
+    match kind {
         "package-name" => of_both_visits::<PackageName>(alloc, words),
         "log-id" => of_visit::<LogId>(alloc, words),
         "map-leaf" => of_both_visits::<MapLeaf>(alloc, words),

@@ -85,7 +85,14 @@ const INCOHERENCE: &[Incoherence] = &[
 /// this crate.
 pub(crate) fn text(alloc: Global, mut words: Words<'_>) -> Result<Option<Answer>, Fail> {
     let of_type = words.next_written();
-    let fault = words.rest();
+    match of_type {
+        "UnknownAlgorithm" => Ok(Some(only(alloc, &UnknownAlgorithm, words)?)),
+        "InvalidPermission" => Ok(Some(only(alloc, &InvalidPermission, words)?)),
+        _ => of_fault(alloc, of_type, words.rest()),
+    }
+}
+
+fn of_fault(alloc: Global, of_type: &str, fault: &str) -> Result<Option<Answer>, Fail> {
     let answer = match of_type {
         "AnyHashError" => named(alloc, HASH, fault),
         "KeyParseError" => named(alloc, KEY, fault),
@@ -96,12 +103,7 @@ pub(crate) fn text(alloc: Global, mut words: Words<'_>) -> Result<Option<Answer>
         "TimeError" => named(alloc, TIME, fault),
         "JsonError" => named(alloc, JSON, fault),
         "Incoherence" => named(alloc, INCOHERENCE, fault),
-        "UnknownAlgorithm" => only(alloc, &UnknownAlgorithm, words),
-        "InvalidPermission" => only(alloc, &InvalidPermission, words),
-        "PermissionParseError" => {
-            let value = fault.parse::<i32>()?;
-            printed(alloc, &PermissionParseError { value })
-        }
+        "PermissionParseError" => permission(alloc, fault),
         "PackageNameError" => package_name(alloc, fault),
         _ => return Ok(None),
     };
@@ -129,6 +131,12 @@ fn named<E: Display + Debug>(alloc: Global, errors: &[E], name: &str) -> Result<
         }
     }
     Err(Fail::new("an unknown fault"))
+}
+
+// The number of a permission that there is not.
+fn permission(alloc: Global, number: &str) -> Result<Answer, Fail> {
+    let value = number.parse::<i32>()?;
+    printed(alloc, &PermissionParseError { value })
 }
 
 // `Permission NUMBER`, or another fault.

@@ -13,7 +13,8 @@ use warg_time::Timestamp;
 
 /// `to-json KIND WORDS..`: the JSON of the value.
 pub(crate) fn to_json(alloc: Global, mut words: Words<'_>) -> Result<Answer, Fail> {
-    match words.next(alloc)?.as_str() {
+    let kind = words.next_written();
+    match kind {
         "u32" => written::<u32>(alloc, words),
         "u64" => written::<u64>(alloc, words),
         "usize" => written::<usize>(alloc, words),
@@ -45,10 +46,13 @@ fn written<T: Worded + JsonValue>(alloc: Global, words: Words<'_>) -> Result<Ans
 
 /// `from-json KIND JSON`: the value that the JSON says, in words.
 pub(crate) fn from_json(alloc: Global, mut words: Words<'_>) -> Result<Answer, Fail> {
-    let kind = words.next(alloc)?;
+    let kind = words.next_written();
     let json = Value::from_str(alloc, words.rest())?;
-    let json = &json;
-    match kind.as_str() {
+    read_kind(alloc, kind, &json)
+}
+
+fn read_kind(alloc: Global, kind: &str, json: &Value) -> Result<Answer, Fail> {
+    match kind {
         "u32" => read::<u32>(alloc, json),
         "u64" => read::<u64>(alloc, json),
         "usize" => read::<usize>(alloc, json),

@@ -16,29 +16,31 @@ fn named_bytes(alloc: Global, name: &str, bytes: &[u8]) -> Result<Answer, Fail> 
 /// `parts KIND TEXT`: the algorithm and the bytes of a hash, a key or a signature; the namespace and the name of a
 /// package; the bytes of the id of a log.
 pub(crate) fn parts(alloc: Global, mut words: Words<'_>) -> Result<Answer, Fail> {
-    match words.next(alloc)?.as_str() {
-        "hash" => {
-            let hash = value_of::<AnyHash>(alloc, words)?;
-            named_bytes(alloc, hash.algorithm().as_str(), hash.bytes())
-        }
-        "key" => {
-            let key = value_of::<PublicKey>(alloc, words)?;
-            named_bytes(alloc, key.algorithm(), key.bytes())
-        }
-        "signature" => {
-            let signature = value_of::<Signature>(alloc, words)?;
-            named_bytes(alloc, signature.algorithm(), signature.bytes())
-        }
-        "package-name" => {
-            let name = value_of::<PackageName>(alloc, words)?;
-            Answer::value(alloc, &format_args!("{} {}", name.namespace(), name.name()))
-        }
-        "log-id" => {
-            let id = value_of::<LogId>(alloc, words)?;
-            answer_bytes(alloc, id.as_bytes())
-        }
+    let kind = words.next_written();
+    match kind {
+        "hash" => hash_parts(alloc, &value_of(alloc, words)?),
+        "key" => key_parts(alloc, &value_of(alloc, words)?),
+        "signature" => signature_parts(alloc, &value_of(alloc, words)?),
+        "package-name" => name_parts(alloc, &value_of(alloc, words)?),
+        "log-id" => answer_bytes(alloc, value_of::<LogId>(alloc, words)?.as_bytes()),
         _ => no_such_kind(),
     }
+}
+
+fn hash_parts(alloc: Global, hash: &AnyHash) -> Result<Answer, Fail> {
+    named_bytes(alloc, hash.algorithm().as_str(), hash.bytes())
+}
+
+fn key_parts(alloc: Global, key: &PublicKey) -> Result<Answer, Fail> {
+    named_bytes(alloc, key.algorithm(), key.bytes())
+}
+
+fn signature_parts(alloc: Global, signature: &Signature) -> Result<Answer, Fail> {
+    named_bytes(alloc, signature.algorithm(), signature.bytes())
+}
+
+fn name_parts(alloc: Global, name: &PackageName) -> Result<Answer, Fail> {
+    Answer::value(alloc, &format_args!("{} {}", name.namespace(), name.name()))
 }
 
 // The name and the bytes that the words say.

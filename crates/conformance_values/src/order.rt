@@ -20,7 +20,8 @@ fn pair_of<T: Worded>(alloc: Global, mut words: Words<'_>) -> Result<(T, T), Fai
 
 /// `compare KIND WORDS.. WORDS..`: whether the first value is less than the second, equal or greater.
 pub(crate) fn compare(alloc: Global, mut words: Words<'_>) -> Result<Answer, Fail> {
-    match words.next(alloc)?.as_str() {
+    let kind = words.next_written();
+    match kind {
         "hash" => compared::<AnyHash>(alloc, words),
         "key-id" => compared::<KeyID>(alloc, words),
         "time" => compared::<Timestamp>(alloc, words),
@@ -45,7 +46,8 @@ fn compared<T: Worded + Ord>(alloc: Global, words: Words<'_>) -> Result<Answer, 
 
 /// `same KIND WORDS.. WORDS..`: whether both values are the same, and are hashed alike.
 pub(crate) fn same(alloc: Global, mut words: Words<'_>) -> Result<Answer, Fail> {
-    match words.next(alloc)?.as_str() {
+    let kind = words.next_written();
+    match kind {
         "hash" => are_same::<AnyHash>(alloc, words),
         "key" => are_same::<PublicKey>(alloc, words),
         "signature" => are_same::<Signature>(alloc, words),

@@ -20,13 +20,20 @@ fn expect(
 /// The value's text, which is the same under each of several options.
 pub(crate) fn text_of<T: Display>(alloc: Global, value: &T) -> Result<String, Fail> {
     let text = format!(in alloc; "{value}")?;
-    let plain = text.as_str();
-    expect(format!(in alloc; "{value:>200}"), plain, ">200")?;
-    expect(format!(in alloc; "{value:*^200}"), plain, "*^200")?;
-    expect(format!(in alloc; "{value:#}"), plain, "#")?;
-    expect(format!(in alloc; "{value:.1}"), plain, ".1")?;
-    expect(format!(in alloc; "{value:+0200.1}"), plain, "+0200.1")?;
+    expect_padded(alloc, value, text.as_str())?;
+    expect_flagged(alloc, value, text.as_str())?;
     Ok(text)
+}
+
+fn expect_padded<T: Display>(alloc: Global, value: &T, text: &str) -> Result<(), Fail> {
+    expect(format!(in alloc; "{value:>200}"), text, ">200")?;
+    expect(format!(in alloc; "{value:*^200}"), text, "*^200")?;
+    expect(format!(in alloc; "{value:+0200.1}"), text, "+0200.1")
+}
+
+fn expect_flagged<T: Display>(alloc: Global, value: &T, text: &str) -> Result<(), Fail> {
+    expect(format!(in alloc; "{value:#}"), text, "#")?;
+    expect(format!(in alloc; "{value:.1}"), text, ".1")
 }
 
 /// The same of a value that prints so for programmers too.

@@ -13,11 +13,14 @@ use warg_time::Timestamp;
 
 /// `parse KIND TEXT`: the value that the text says, in words.
 pub(crate) fn parse(alloc: Global, mut words: Words<'_>) -> Result<Answer, Fail> {
-    let kind = words.next(alloc)?;
+    let kind = words.next_written();
     let text = words.next(alloc)?;
     words.end()?;
-    let text = text.as_str();
-    match kind.as_str() {
+    parse_kind(alloc, kind, text.as_str())
+}
+
+fn parse_kind(alloc: Global, kind: &str, text: &str) -> Result<Answer, Fail> {
+    match kind {
         "algorithm" => answer_of(alloc, text.parse::<HashAlgorithm>()),
         "hash" => answer_of(alloc, text.parse::<AnyHash>()),
         "key" => answer_of(alloc, PublicKey::parse(alloc, text)),
@@ -45,7 +48,8 @@ fn package_name(alloc: Global, text: &str) -> Result<Answer, Fail> {
 
 /// `shown KIND WORDS..`: what the value prints, whatever options it is printed under.
 pub(crate) fn shown(alloc: Global, mut words: Words<'_>) -> Result<Answer, Fail> {
-    match words.next(alloc)?.as_str() {
+    let kind = words.next_written();
+    match kind {
         "algorithm" => of_text::<HashAlgorithm>(alloc, words),
         "hash" => of_only_text::<AnyHash>(alloc, words),
         "key" => of_only_text::<PublicKey>(alloc, words),

@@ -17,20 +17,29 @@ struct Judged {
     questions: Vec<Question>,
 }
 
-// Judges a whole log but for its signatures. It goes on as if each belonged: what is asked says what the result is worth.
-fn judge(alloc: Global, log: &[Vec<u8>]) -> anyhow::Result<Judged> {
-    let mut state = LogState::new(alloc)?;
-    let mut questions = Vec::new(alloc);
-    for string in log {
-        let bytes = string.as_slice();
+impl Judged {
+    // Judges the next record but for its signature, and goes on as if that belonged.
+    fn take(&mut self, alloc: Global, bytes: &[u8]) -> anyhow::Result<()> {
         let told = Told {
-            question: ask(alloc, &state, bytes)?,
+            question: ask(alloc, &self.state, bytes)?,
             belongs: true,
         };
-        append(alloc, &mut state, bytes, &told)?;
-        questions.push(told.question)?;
+        append(alloc, &mut self.state, bytes, &told)?;
+        self.questions.push(told.question)?;
+        Ok(())
     }
-    Ok(Judged { state, questions })
+}
+
+// Judges a whole log but for its signatures. What is asked says what the result is worth.
+fn judge(alloc: Global, log: &[Vec<u8>]) -> anyhow::Result<Judged> {
+    let mut judged = Judged {
+        state: LogState::new(alloc)?,
+        questions: Vec::new(alloc),
+    };
+    for string in log {
+        judged.take(alloc, string.as_slice())?;
+    }
+    Ok(judged)
 }
 
 // Stands for what verifies elsewhere: a library of another language, other threads, other machines.

@@ -42,7 +42,11 @@ pub(crate) fn saved(alloc: Global, inputs: &[Vec<u8>]) -> Result<String, Refusal
 
 /// The same, written with no value of the whole.
 pub(crate) fn saved_text(alloc: Global, inputs: &[Vec<u8>]) -> Result<String, Refusal> {
-    Ok(state_of(alloc, inputs)?.to_json(alloc)?)
+    text_of(alloc, &state_of(alloc, inputs)?)
+}
+
+fn text_of(alloc: Global, state: &LogState) -> Result<String, Refusal> {
+    Ok(state.to_json(alloc)?)
 }
 
 /// `run`: the state of the log.
@@ -121,11 +125,15 @@ fn told_after(
     told(alloc, log.state())
 }
 
+fn append_to(alloc: Global, log: &mut Log, inputs: &[Vec<u8>]) -> Result<String, Refusal> {
+    let taken = take_each(alloc, log, inputs)?;
+    told_after(alloc, log, inputs, taken)
+}
+
 /// `append` of each input. A refused one is appended once more.
 pub(crate) fn append(alloc: Global, inputs: &[Vec<u8>]) -> Result<String, Refusal> {
     let mut log = Log::new(alloc, ToyVerifier)?;
-    let taken = take_each(alloc, &mut log, inputs)?;
-    told_after(alloc, &log, inputs, taken)
+    append_to(alloc, &mut log, inputs)
 }
 
 // Where an input is refused, its place comes with the refusal.
@@ -155,11 +163,15 @@ fn take_all(
     }
 }
 
+fn append_all_to(alloc: Global, log: &mut Log, inputs: &[Vec<u8>]) -> Result<String, Refusal> {
+    let taken = take_all(alloc, log, inputs)?;
+    told_after(alloc, log, inputs, taken)
+}
+
 /// `append_all` of the inputs. From a refused one on they are appended once more.
 pub(crate) fn append_all(alloc: Global, inputs: &[Vec<u8>]) -> Result<String, Refusal> {
     let mut log = Log::new(alloc, ToyVerifier)?;
-    let taken = take_all(alloc, &mut log, inputs)?;
-    told_after(alloc, &log, inputs, taken)
+    append_all_to(alloc, &mut log, inputs)
 }
 
 fn key_id(alloc: Global, name: &str) -> Result<KeyID, Refusal> {

@@ -61,7 +61,7 @@ fn tell_values(rt: &impl Print, alloc: Global) -> io::Result<()> {
     tell(rt, "leaf", values::leaf(alloc))
 }
 
-fn tell_saved(rt: &impl Print, alloc: Global) -> io::Result<()> {
+fn tell_values_read(rt: &impl Print, alloc: Global) -> io::Result<()> {
     for (name, text) in saved::TEXTS {
         tell(rt, name, saved::state(alloc, text))?;
     }
@@ -72,7 +72,10 @@ fn tell_saved(rt: &impl Print, alloc: Global) -> io::Result<()> {
         rt,
         "begun, a namespace of a bad name",
         saved::bad_namespace(alloc),
-    )?;
+    )
+}
+
+fn tell_texts_read(rt: &impl Print, alloc: Global) -> io::Result<()> {
     for (name, text) in saved::STATES {
         tell(rt, name, saved::text_state(alloc, text))?;
     }
@@ -95,7 +98,8 @@ fn main(rt: HostRuntime) -> io::Result<()> {
         Ok(log) => {
             tell_logs(&rt, rt.alloc(), log.as_slice())?;
             tell_values(&rt, rt.alloc())?;
-            tell_saved(&rt, rt.alloc())?;
+            tell_values_read(&rt, rt.alloc())?;
+            tell_texts_read(&rt, rt.alloc())?;
             tell_trees(&rt, rt.alloc())
         }
         Err(refusal) => println!(rt; "log: {}", refusal.name),

@@ -1,36 +1,43 @@
 //! Proofs that an entry is in a tree.
 
-use crate::known::{ENTRIES, hash, root};
+use crate::known::{ENTRIES, PATH_2_OF_3, PATH_5_OF_8, first, is_path, root};
+use std::alloc::Global;
 use std::test::Fail;
 use warg_merkle::{prove_inclusion, tree_hash, verify_inclusion};
 
 #[test]
 fn roots_are_the_known_ones(rt: HostRuntime) -> Result<(), Fail> {
-    assert_eq!(rt; tree_hash(&ENTRIES[..0]), root(0)?);
-    assert_eq!(rt; tree_hash(&ENTRIES[..1]), root(1)?);
-    assert_eq!(rt; tree_hash(&ENTRIES[..2]), root(2)?);
-    assert_eq!(rt; tree_hash(&ENTRIES[..3]), root(3)?);
-    assert_eq!(rt; tree_hash(&ENTRIES[..5]), root(5)?);
-    assert_eq!(rt; tree_hash(&ENTRIES[..7]), root(7)?);
-    assert_eq!(rt; tree_hash(&ENTRIES), root(8)?);
+    for count in [0, 1, 2, 3, 5, 7, 8] {
+        assert_eq!(rt; tree_hash(first(count)), root(count)?);
+    }
     Ok(())
 }
 
-fn path_5_of_8() -> Result<[[u8; 32]; 3], Fail> {
-    Ok([
-        hash("bc1a0643b12e4d2d7c77918f44e0f4f79a838b6cf9ec5b5c283e1f4d88599e6b")?,
-        hash("ca854ea128ed050b41b35ffc1b87b8eb2bde461e9e3b5596ece6b9d5975a0ae0")?,
-        hash("d37ee418976dd95753c1c73862b9398fa2a2cf9b4ff0fdfe8b30cd95209614b7")?,
-    ])
+fn path_of(alloc: Global, index: usize, count: usize) -> Result<Vec<[u8; 32]>, Fail> {
+    let entries = first(count);
+    if index < entries.len() {
+        Ok(prove_inclusion(alloc, entries, index)?)
+    } else {
+        Err(Fail::from("past the end"))
+    }
+}
+
+// Whether the path of an entry in the tree of the first ones is the known one.
+fn is_known(alloc: Global, index: usize, count: usize, digits: &[&str]) -> Result<bool, Fail> {
+    is_path(&path_of(alloc, index, count)?, digits)
 }
 
 #[test]
 fn known_paths(rt: HostRuntime) -> Result<(), Fail> {
-    let path = prove_inclusion(rt.alloc(), &ENTRIES, 5)?;
-    assert_eq!(rt; path.as_slice(), path_5_of_8()?.as_slice());
+    assert!(rt; is_known(rt.alloc(), 5, 8, PATH_5_OF_8)?);
+    assert!(rt; is_known(rt.alloc(), 2, 3, PATH_2_OF_3)?);
+    Ok(())
+}
+
+#[test]
+fn an_entry_is_shown(rt: HostRuntime) -> Result<(), Fail> {
+    let path = path_of(rt.alloc(), 5, 8)?;
     assert!(rt; verify_inclusion(ENTRIES[5], 5, 8, &path, &root(8)?));
-    let path = prove_inclusion(rt.alloc(), &ENTRIES[..3], 2)?;
-    assert_eq!(rt; path.as_slice(), [root(2)?].as_slice());
     Ok(())
 }
 

@@ -28,16 +28,31 @@ fn neighbour(key: &[u8; 32]) -> [u8; 32] {
     other
 }
 
+// Whether no value stood there that this one takes the place of.
+fn puts(
+    alloc: Global,
+    map: &mut MapTree,
+    key: &[u8; 32],
+    value: &[u8],
+) -> Result<bool, AllocError> {
+    let old = map.insert(key, Vec::from_slice(alloc, value)?)?;
+    Ok(old.is_none())
+}
+
 // A map of that many pairs of neighbours.
 fn pairs(alloc: Global, count: u8) -> Result<MapTree, AllocError> {
     let mut map = MapTree::new(alloc)?;
     for byte in 0..count {
         let first = key(byte);
-        let _ = map.insert(&first, Vec::from_slice(alloc, [byte].as_slice())?)?;
-        let value = Vec::from_slice(alloc, [byte, byte].as_slice())?;
-        let _ = map.insert(&neighbour(&first), value)?;
+        puts(alloc, &mut map, &first, &[byte])?;
+        puts(alloc, &mut map, &neighbour(&first), &[byte, byte])?;
     }
     Ok(map)
+}
+
+// Whether the map has the root that the digits spell.
+fn has_root(map: &MapTree, digits: &str) -> Result<bool, Fail> {
+    Ok(map.root() == hash(digits)?)
 }
 
 // Whether the map's proof, read back from its short form, shows the value, and neither absence nor another value.
@@ -66,50 +81,52 @@ fn lacks(alloc: Global, map: &MapTree, key: &[u8; 32]) -> Result<bool, Fail> {
 // The map of "a" to `1` and "b" to `22`.
 fn two(alloc: Global) -> Result<MapTree, AllocError> {
     let mut map = MapTree::new(alloc)?;
-    let _ = map.insert(&Sha256::digest(b"a"), Vec::from_slice(alloc, b"1")?)?;
-    let _ = map.insert(&Sha256::digest(b"b"), Vec::from_slice(alloc, b"22")?)?;
+    puts(alloc, &mut map, &Sha256::digest(b"a"), b"1")?;
+    puts(alloc, &mut map, &Sha256::digest(b"b"), b"22")?;
     Ok(map)
 }
+
+const EMPTY_ROOT: &str = "dfbe207a8b9bb8228d1b300ba7f792cb99b47a5de57a206926b4632d0f1195fe";
 
 #[test]
 fn the_empty_map(rt: HostRuntime) -> Result<(), Fail> {
     let map = MapTree::new(rt.alloc())?;
-    assert!(rt; map.is_empty());
-    assert_eq!(rt;
-        map.root(),
-        hash("dfbe207a8b9bb8228d1b300ba7f792cb99b47a5de57a206926b4632d0f1195fe")?
-    );
+    assert!(rt; map.is_empty() && has_root(&map, EMPTY_ROOT)?);
     assert!(rt; lacks(rt.alloc(), &map, &key(0))?);
     Ok(())
 }
 
+const ONE_ROOT: &str = "5de8c4834b8a6544cc3c7a2fd5b719f4c1aae74712bd0513c4686f157f30aac1";
+
 #[test]
 fn the_map_of_one_key(rt: HostRuntime) -> Result<(), Fail> {
-    let alloc = rt.alloc();
-    let mut map = MapTree::new(alloc)?;
+    let mut map = MapTree::new(rt.alloc())?;
     let a = Sha256::digest(b"a");
-    assert!(rt; map.insert(&a, Vec::from_slice(alloc, b"1")?)?.is_none());
-    assert_eq!(rt;
-        map.root(),
-        hash("5de8c4834b8a6544cc3c7a2fd5b719f4c1aae74712bd0513c4686f157f30aac1")?
-    );
-    assert!(rt; has(alloc, &map, &a, b"1")?);
-    assert!(rt; lacks(alloc, &map, &neighbour(&a))?);
+    assert!(rt; puts(rt.alloc(), &mut map, &a, b"1")? && has_root(&map, ONE_ROOT)?);
+    assert!(rt; has(rt.alloc(), &map, &a, b"1")? && lacks(rt.alloc(), &map, &neighbour(&a))?);
     Ok(())
 }
 
 #[test]
-fn roots_are_the_known_ones(rt: HostRuntime) -> Result<(), Fail> {
-    let alloc = rt.alloc();
-    assert_eq!(rt; two(alloc)?.root(), hash(TWO_ROOT)?);
-    assert_eq!(rt;
-        pairs(alloc, 1)?.root(),
-        hash("4f716e215c794fd381e7ca878e300b3b57463280bf562b6d27ca32660eeac3f7")?
-    );
-    assert_eq!(rt;
-        pairs(alloc, 50)?.root(),
-        hash("b4b270143541d97467f5e7cc126fee7108ae27fac99659d5187dfa7e6a6654e6")?
-    );
+fn the_map_of_two_keys(rt: HostRuntime) -> Result<(), Fail> {
+    assert!(rt; has_root(&two(rt.alloc())?, TWO_ROOT)?);
+    Ok(())
+}
+
+#[test]
+fn maps_of_pairs(rt: HostRuntime) -> Result<(), Fail> {
+    for (count, digits) in [
+        (
+            1,
+            "4f716e215c794fd381e7ca878e300b3b57463280bf562b6d27ca32660eeac3f7",
+        ),
+        (
+            50,
+            "b4b270143541d97467f5e7cc126fee7108ae27fac99659d5187dfa7e6a6654e6",
+        ),
+    ] {
+        assert!(rt; has_root(&pairs(rt.alloc(), count)?, digits)?);
+    }
     Ok(())
 }
 
@@ -122,23 +139,31 @@ fn is_proof(alloc: Global, map: &MapTree, key: &[u8; 32], digits: &str) -> Resul
 #[test]
 fn proofs_are_the_known_ones(rt: HostRuntime) -> Result<(), Fail> {
     let map = two(rt.alloc())?;
-    assert!(rt; is_proof(rt.alloc(), &map, &Sha256::digest(b"a"), OF_A)?);
-    assert!(rt; is_proof(rt.alloc(), &map, &Sha256::digest(b"c"), OF_C)?);
+    for (name, digits) in [(b"a", OF_A), (b"c", OF_C)] {
+        assert!(rt; is_proof(rt.alloc(), &map, &Sha256::digest(name), digits)?);
+    }
     Ok(())
+}
+
+// Whether the value that stood there is this one.
+fn stood(old: Option<Vec<u8>>, value: &[u8]) -> bool {
+    old.is_some_and(|old| old.as_slice() == value)
+}
+
+// Whether another value takes the place of the one there, and the map is another one then.
+fn changes(alloc: Global, map: &mut MapTree, at: u8) -> Result<bool, Fail> {
+    let root = map.root();
+    let old = map.insert(&key(at), Vec::from_slice(alloc, b"new")?)?;
+    Ok(stood(old, &[at]) && map.root() != root && has(alloc, map, &key(at), b"new")?)
 }
 
 #[test]
 fn a_new_value_takes_the_place_of_the_old(rt: HostRuntime) -> Result<(), Fail> {
-    let alloc = rt.alloc();
-    let mut map = pairs(alloc, 3)?;
+    let mut map = pairs(rt.alloc(), 3)?;
     let root = map.root();
-    let old = map.insert(&key(1), Vec::from_slice(alloc, b"new")?)?;
-    assert!(rt; old.is_some_and(|old| old.as_slice() == [1].as_slice()));
-    assert_eq!(rt; map.len(), 6);
-    assert!(rt; map.root() != root);
-    assert!(rt; has(alloc, &map, &key(1), b"new")?);
-    let _ = map.insert(&key(1), Vec::from_slice(alloc, [1].as_slice())?)?;
-    assert_eq!(rt; map.root(), root);
+    assert!(rt; changes(rt.alloc(), &mut map, 1)?);
+    assert!(rt; !puts(rt.alloc(), &mut map, &key(1), &[1])?);
+    assert!(rt; map.len() == 6 && map.root() == root);
     Ok(())
 }
 
@@ -169,18 +194,13 @@ fn the_number_of_hashes_is_what_the_bits_call_for(rt: HostRuntime) -> Result<(),
 
 #[test]
 fn lengths_are_told_to_the_byte(rt: HostRuntime) -> Result<(), Fail> {
-    let alloc = rt.alloc();
-    assert_eq!(rt;
-        MapProof::decode(alloc, b"").err(),
-        Some(MapProofError::TooShort)
-    );
-    assert_eq!(rt;
-        MapProof::decode(alloc, [0xff; 31].as_slice()).err(),
-        Some(MapProofError::TooShort)
-    );
-    assert_eq!(rt;
-        MapProof::decode(alloc, [0xff; 33].as_slice()).err(),
-        Some(MapProofError::TooLong)
-    );
+    let rows: [(&[u8], MapProofError); 3] = [
+        (b"", MapProofError::TooShort),
+        (&[0xff; 31], MapProofError::TooShort),
+        (&[0xff; 33], MapProofError::TooLong),
+    ];
+    for (bytes, expected) in rows {
+        assert_eq!(rt; MapProof::decode(rt.alloc(), bytes).err(), Some(expected));
+    }
     Ok(())
 }

@@ -1,64 +1,61 @@
 //! Copies, envelopes that are read back, and a time that is not saved.
 use crate::samples::{envelope, state};
 use conformance_scripts::Scripted;
-use std::alloc::Global;
+use std::alloc::{AllocError, Global};
 use std::process::Abort;
 use std::test::Fail;
 use warg_protocol::package::{Release, ReleaseState};
 use warg_protocol::signing::KeyID;
 use warg_protocol::{JsonError, JsonValue, ProtoEnvelope, Record, Timestamp, operator, package};
 
-fn is_release_copied(release: &Release) -> Result<bool, Fail> {
-    Ok(release.try_clone()? == *release)
+// The copy is equal to the value.
+fn is_copy<T: PartialEq + Drop>(rt: &impl Abort, copy: Result<T, AllocError>, value: &T) {
+    let copy = copy.expect(rt, "memory");
+    assert!(rt; copy == *value);
 }
 
-fn is_fate_copied(fate: &ReleaseState) -> Result<bool, Fail> {
-    Ok(fate.try_clone()? == *fate)
+fn copy_head(rt: &impl Abort, head: &Option<package::Head>) {
+    let head = head.as_ref().expect(rt, "a head");
+    is_copy(rt, head.try_clone(), head);
 }
 
-fn is_head_copied(head: &Option<package::Head>) -> Result<bool, Fail> {
-    match head {
-        Some(head) => Ok(head.try_clone()? == *head),
-        None => Ok(false),
-    }
+fn copy_release(rt: &impl Abort, release: &Release) {
+    is_copy(rt, release.try_clone(), release);
+    is_copy(rt, release.state.try_clone(), &release.state);
 }
 
-fn copy_package(rt: &impl Abort, state: &package::LogState) -> Result<(), Fail> {
-    assert!(rt; state.try_clone()? == *state);
-    assert!(rt; is_head_copied(state.head())?);
-    for release in state.releases() {
-        assert!(rt; is_release_copied(release)?);
-        assert!(rt; is_fate_copied(&release.state)?);
-    }
-    Ok(())
-}
-
-fn is_namespace_copied(state: &operator::LogState, name: &str) -> Result<bool, Fail> {
-    let namespace = state.namespace_state(name).ok_or("no namespace")?;
-    Ok(namespace.try_clone()? == *namespace)
-}
-
-fn copy_operator(rt: &impl Abort, state: &operator::LogState) -> Result<(), Fail> {
-    assert!(rt; state.try_clone()? == *state);
-    assert!(rt; is_head_copied(state.head())?);
-    assert!(rt; is_namespace_copied(state, "my-namespace")?);
-    assert!(rt; is_namespace_copied(state, "imported-namespace")?);
-    Ok(())
+fn copy_namespace(rt: &impl Abort, state: &operator::LogState, name: &str) {
+    let namespace = state.namespace_state(name).expect(rt, name);
+    is_copy(rt, namespace.try_clone(), namespace);
 }
 
 #[test]
-fn copies_are_equal(rt: HostRuntime) -> Result<(), Fail> {
-    let alloc = rt.alloc();
-    let package = "
+fn package_states(rt: HostRuntime) -> Result<(), Fail> {
+    let log = "
         alice 1.0: init alice, grant bob release yank
         bob 2.0: release 1.0.0, release 1.1.0
         alice 3.0: revoke bob release yank, yank 1.1.0
     ";
-    copy_package(&rt, &state::<package::LogState>(alloc, package)?)?;
-    let operator = "
+    let state = state::<package::LogState>(rt.alloc(), log)?;
+    is_copy(&rt, state.try_clone(), &state);
+    copy_head(&rt, state.head());
+    for release in state.releases() {
+        copy_release(&rt, release);
+    }
+    Ok(())
+}
+
+#[test]
+fn operator_states(rt: HostRuntime) -> Result<(), Fail> {
+    let log = "
         alice 1.0: init alice, define my-namespace, import imported-namespace registry.example.com
     ";
-    copy_operator(&rt, &state::<operator::LogState>(alloc, operator)?)
+    let state = state::<operator::LogState>(rt.alloc(), log)?;
+    is_copy(&rt, state.try_clone(), &state);
+    copy_head(&rt, state.head());
+    copy_namespace(&rt, &state, "my-namespace");
+    copy_namespace(&rt, &state, "imported-namespace");
+    Ok(())
 }
 
 fn is_read_back<R: Record + PartialEq>(

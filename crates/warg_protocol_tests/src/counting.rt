@@ -13,7 +13,7 @@ use std::test::Fail;
 use warg_protocol::signing::{PublicKey, Signature, SignatureError, Signer, Verifier};
 use warg_protocol::toy::{ToySigner, ToyVerifier};
 use warg_protocol::{
-    AuditedLog, ProtoEnvelope, SerdeEnvelope, Signable, Timestamp, operator, package, run,
+    AuditedLog, Encode, ProtoEnvelope, SerdeEnvelope, Signable, Timestamp, operator, package, run,
 };
 
 fn count(calls: &Cell<u32>) {
@@ -49,61 +49,67 @@ const LOG: &str = "
 ";
 
 // `run` asks once for each record.
-fn runs<L: Scripted>(rt: &impl Abort, alloc: Global) -> Result<(), Fail>
-where
-    L::Error: Debug,
-{
+fn runs<L: Scripted>(rt: &impl Abort, alloc: Global, strings: &[Vec<u8>]) {
     let calls = Cell::new(0);
-    let strings = strings::<L>(alloc, LOG)?;
     let verifier = CountingVerifier { calls: &calls };
-    let answer = run::<L, CountingVerifier>(alloc, &verifier, strings.as_slice());
-    assert!(rt; answer.is_ok());
-    assert_eq!(rt; calls.get(), 3);
-    Ok(())
+    let answer = run::<L, CountingVerifier>(alloc, &verifier, strings);
+    assert!(rt; answer.is_ok() && calls.get() == 3);
 }
 
 // So does a log that is kept.
-fn keeps<L: Scripted>(rt: &impl Abort, alloc: Global) -> Result<(), Fail>
-where
-    L::Error: Debug,
-{
-    let calls = Cell::new(0);
-    let strings = strings::<L>(alloc, LOG)?;
-    let mut log = AuditedLog::<L, CountingVerifier>::new(
-        alloc,
-        CountingVerifier { calls: &calls },
-    )?;
-    assert!(rt; log.append_all(strings.as_slice()).is_ok());
-    assert_eq!(rt; calls.get(), 3);
-    Ok(())
-}
-
-// A state asks once, where it takes a record in place and where it gives another.
-fn takes<L: Scripted>(rt: &impl Abort, alloc: Global) -> Result<(), Fail>
+fn keeps<L: Scripted>(rt: &impl Abort, alloc: Global, strings: &[Vec<u8>])
 where
     L::Error: Debug,
 {
     let calls = Cell::new(0);
     let verifier = CountingVerifier { calls: &calls };
+    let mut log = AuditedLog::<L, CountingVerifier>::new(alloc, verifier).expect(rt, "memory");
+    let answer = log.append_all(strings);
+    assert!(rt; answer.is_ok() && calls.get() == 3);
+}
+
+// So does a state that takes a record in place.
+fn takes<L: Scripted>(rt: &impl Abort, alloc: Global, envelope: &ProtoEnvelope<L::Record>) -> L {
+    let calls = Cell::new(0);
+    let verifier = CountingVerifier { calls: &calls };
+    let mut state = L::new(alloc).expect(rt, "memory");
+    let answer = state.append(envelope, &verifier);
+    assert!(rt; answer.is_ok() && calls.get() == 1);
+    state
+}
+
+// So does one that gives another, which is the same.
+fn gives<L: Scripted>(
+    rt: &impl Abort,
+    alloc: Global,
+    envelope: &ProtoEnvelope<L::Record>,
+    same: &L,
+) {
+    let calls = Cell::new(0);
+    let verifier = CountingVerifier { calls: &calls };
+    let state = L::new(alloc).expect(rt, "memory");
+    let answer = state.validate(envelope, &verifier);
+    assert!(rt; answer.is_ok_and(|given| given == *same));
+    assert!(rt; calls.get() == 1);
+}
+
+fn asks_once<L: Scripted>(rt: &impl Abort, alloc: Global) -> Result<(), Fail>
+where
+    L::Error: Debug,
+{
+    let strings = strings::<L>(alloc, LOG)?;
+    runs::<L>(rt, alloc, strings.as_slice());
+    keeps::<L>(rt, alloc, strings.as_slice());
     let envelope = envelope::<L>(alloc, "alice 1.0: init alice")?;
-    let mut state = L::new(alloc)?;
-    assert!(rt; state.append(&envelope, &verifier).is_ok());
-    assert_eq!(rt; calls.get(), 1);
-    let same = L::new(alloc)?.validate(&envelope, &verifier);
-    assert!(rt; same.is_ok_and(|same| same == state));
-    assert_eq!(rt; calls.get(), 2);
+    let state = takes::<L>(rt, alloc, &envelope);
+    gives::<L>(rt, alloc, &envelope, &state);
     Ok(())
 }
 
 #[test]
 fn a_verifier_is_asked_once(rt: HostRuntime) -> Result<(), Fail> {
-    let alloc = rt.alloc();
-    runs::<package::LogState>(&rt, alloc)?;
-    runs::<operator::LogState>(&rt, alloc)?;
-    keeps::<package::LogState>(&rt, alloc)?;
-    keeps::<operator::LogState>(&rt, alloc)?;
-    takes::<package::LogState>(&rt, alloc)?;
-    takes::<operator::LogState>(&rt, alloc)
+    asks_once::<package::LogState>(&rt, rt.alloc())?;
+    asks_once::<operator::LogState>(&rt, rt.alloc())
 }
 
 // Signs by the toy scheme.
@@ -152,19 +158,54 @@ fn alice(alloc: Global) -> Result<CountingSigner, Fail> {
     })
 }
 
-fn signs(rt: &impl Abort, alloc: Global, alice: &CountingSigner) -> Result<(), Fail> {
-    let envelope = ProtoEnvelope::signed_contents(alloc, alice, record(alloc))?;
+// She was asked once, and this is her signature of the content.
+fn is_asked_once(
+    rt: &impl Abort,
+    alloc: Global,
+    alice: &CountingSigner,
+    content: &[u8],
+    signature: &Signature,
+) -> Result<(), Fail> {
     assert_eq!(rt; alice.calls.get(), 1);
-    let content = envelope.content_bytes();
-    assert!(rt; is_of::<package::PackageRecord>(alloc, content, envelope.signature())?);
-    let published = SerdeEnvelope::signed_contents(alloc, alice, record(alloc))?;
-    assert_eq!(rt; alice.calls.get(), 2);
-    assert!(rt; is_of::<package::PackageRecord>(alloc, content, published.signature())?);
+    assert!(rt; is_of::<package::PackageRecord>(alloc, content, signature)?);
     Ok(())
+}
+
+fn signed(
+    alloc: Global,
+    alice: &CountingSigner,
+) -> Result<ProtoEnvelope<package::PackageRecord>, Fail> {
+    Ok(ProtoEnvelope::signed_contents(alloc, alice, record(alloc))?)
+}
+
+fn signs(rt: &impl Abort, alloc: Global) -> Result<(), Fail> {
+    let alice = alice(alloc)?;
+    let envelope = signed(alloc, &alice)?;
+    is_asked_once(
+        rt,
+        alloc,
+        &alice,
+        envelope.content_bytes(),
+        envelope.signature(),
+    )
+}
+
+fn signed_without_bytes(
+    alloc: Global,
+    alice: &CountingSigner,
+) -> Result<SerdeEnvelope<package::PackageRecord>, Fail> {
+    Ok(SerdeEnvelope::signed_contents(alloc, alice, record(alloc))?)
+}
+
+fn signs_without_bytes(rt: &impl Abort, alloc: Global) -> Result<(), Fail> {
+    let alice = alice(alloc)?;
+    let content = record(alloc).encode(alloc)?;
+    let envelope = signed_without_bytes(alloc, &alice)?;
+    is_asked_once(rt, alloc, &alice, content.as_slice(), envelope.signature())
 }
 
 #[test]
 fn a_signer_is_asked_once(rt: HostRuntime) -> Result<(), Fail> {
-    let alloc = rt.alloc();
-    signs(&rt, alloc, &alice(alloc)?)
+    signs(&rt, rt.alloc())?;
+    signs_without_bytes(&rt, rt.alloc())
 }

@@ -6,7 +6,6 @@ use crate::samples::{envelope, told};
 use conformance_scripts::{Scripted, cause_words, signer};
 use std::alloc::Global;
 use std::cell::Cell;
-use std::fmt::Debug;
 use std::process::Abort;
 use std::test::Fail;
 use warg_protocol::hash::HashAlgorithm;
@@ -14,7 +13,8 @@ use warg_protocol::registry::{Checkpoint, TimestampedCheckpoint};
 use warg_protocol::signing::{PublicKey, Signature, SignatureError, Signer, Verifier};
 use warg_protocol::toy::{ToySigner, ToyVerifier};
 use warg_protocol::{
-    AuditedLog, ProtoEnvelope, RunCause, SerdeEnvelope, Signable, Timestamp, operator, package, run,
+    AuditedLog, ProtoEnvelope, RunCause, RunError, SerdeEnvelope, Signable, Timestamp, operator,
+    package, run,
 };
 
 // Takes no signature.
@@ -78,27 +78,64 @@ fn refuses<L: Scripted, V: Verifier>(
     words: &str,
 ) -> Result<(), Fail> {
     let strings = vec![in alloc; first::<L>(alloc)?]?;
-    let Some(error) = run::<L, V>(alloc, verifier, strings.as_slice()).err() else {
-        return Err(Fail::new("the record is taken"));
-    };
-    let cause = told(cause_words::<L>(alloc, &error.cause))?;
-    assert!(rt; error.index == 0 && cause.as_str() == words);
+    match run::<L, V>(alloc, verifier, strings.as_slice()) {
+        Ok(_) => Err(Fail::new("the record is taken")),
+        Err(error) => is_first::<L>(rt, alloc, &error, words),
+    }
+}
+
+// The first record is refused, for this cause.
+fn is_first<L: Scripted>(
+    rt: &impl Abort,
+    alloc: Global,
+    error: &RunError<L::Error>,
+    words: &str,
+) -> Result<(), Fail> {
+    assert!(rt; error.index == 0);
+    is_cause::<L>(rt, alloc, &error.cause, words)
+}
+
+fn is_cause<L: Scripted>(
+    rt: &impl Abort,
+    alloc: Global,
+    cause: &RunCause<L::Error>,
+    words: &str,
+) -> Result<(), Fail> {
+    assert_eq!(rt; told(cause_words::<L>(alloc, cause))?.as_str(), words);
     Ok(())
 }
 
-// A log whose verifier takes no signature refuses its first record, and stays as it is.
+// The log has no record, and is as it began.
+fn is_empty<L: Scripted, V: Verifier + Drop>(
+    rt: &impl Abort,
+    alloc: Global,
+    log: &AuditedLog<L, V>,
+) {
+    let state = L::new(alloc).expect(rt, "memory");
+    assert!(rt; log.records().is_empty() && *log.state() == state);
+}
+
+// The log, which is empty, refuses the string, and stays as it is.
+fn refuses_string<L: Scripted>(
+    rt: &impl Abort,
+    alloc: Global,
+    log: &mut AuditedLog<L, Never>,
+    string: &[u8],
+) -> Result<(), Fail> {
+    match log.append(string) {
+        Ok(()) => Err(Fail::new("the record is taken")),
+        Err(cause) => {
+            is_empty(rt, alloc, log);
+            is_cause::<L>(rt, alloc, &cause, "SignatureError")
+        }
+    }
+}
+
+// A log whose verifier takes no signature refuses its first record.
 fn takes_nothing<L: Scripted>(rt: &impl Abort, alloc: Global) -> Result<(), Fail> {
-    let mut log = AuditedLog::<L, Never>::new(alloc, Never)?;
     let string = first::<L>(alloc)?;
-    let Some(cause) = log.append(string.as_slice()).err() else {
-        return Err(Fail::new("the record is taken"));
-    };
-    assert_eq!(rt;
-        told(cause_words::<L>(alloc, &cause))?.as_str(),
-        "SignatureError"
-    );
-    assert!(rt; log.records().is_empty() && *log.state() == L::new(alloc)?);
-    Ok(())
+    let mut log = AuditedLog::<L, Never>::new(alloc, Never)?;
+    refuses_string(rt, alloc, &mut log, string.as_slice())
 }
 
 #[test]
@@ -125,25 +162,25 @@ fn lacks_memory<L: Scripted>(
     alloc: Global,
     log: &mut AuditedLog<L, Poor>,
     string: &[u8],
-) -> Result<(), Fail>
-where
-    L::Error: Debug,
-{
+) {
     let refused = log.append(string);
     assert!(rt; refused.is_err_and(|cause| is_out_of_memory::<L>(&cause)));
-    assert!(rt; log.records().is_empty() && *log.state() == L::new(alloc)?);
-    Ok(())
+    is_empty(rt, alloc, log);
+}
+
+// The log, which is empty, takes the string.
+fn takes<L: Scripted>(rt: &impl Abort, log: &mut AuditedLog<L, Poor>, string: &[u8]) {
+    let answer = log.append(string);
+    assert!(rt; answer.is_ok());
+    assert!(rt; log.records().len() == 1);
 }
 
 // A log whose verifier finds no memory once takes the same bytes then.
-fn takes_later<L: Scripted>(rt: &impl Abort, alloc: Global) -> Result<(), Fail>
-where
-    L::Error: Debug,
-{
-    let mut log = AuditedLog::<L, Poor>::new(alloc, without_memory())?;
+fn takes_later<L: Scripted>(rt: &impl Abort, alloc: Global) -> Result<(), Fail> {
     let string = first::<L>(alloc)?;
-    lacks_memory(rt, alloc, &mut log, string.as_slice())?;
-    assert!(rt; log.append(string.as_slice()).is_ok() && log.records().len() == 1);
+    let mut log = AuditedLog::<L, Poor>::new(alloc, without_memory())?;
+    lacks_memory(rt, alloc, &mut log, string.as_slice());
+    takes(rt, &mut log, string.as_slice());
     Ok(())
 }
 
@@ -194,41 +231,56 @@ fn is_unsigned<C: Signable + Drop>(
     Ok(signed.is_err_and(|found| found == error))
 }
 
-// Whether no signature and no envelope comes of a checkpoint.
-fn is_checkpoint_unsigned(alloc: Global, error: SignatureError) -> Result<bool, Fail> {
-    let unwilling = unwilling_alice(alloc, error)?;
-    let checkpoint = TimestampedCheckpoint {
+fn checkpoint() -> TimestampedCheckpoint {
+    TimestampedCheckpoint {
         checkpoint: Checkpoint {
             log_root: HashAlgorithm::Sha256.digest(b""),
             log_length: 0,
             map_root: HashAlgorithm::Sha256.digest(b""),
         },
         timestamp: 1,
-    };
-    let signature = checkpoint.sign(alloc, &unwilling);
-    let signed = SerdeEnvelope::signed_contents(alloc, &unwilling, checkpoint);
-    Ok(signature.is_err_and(|found| found == error) && signed.is_err_and(|found| found == error))
+    }
+}
+
+// Whether no signature comes of a checkpoint.
+fn is_checkpoint_unsigned(alloc: Global, error: SignatureError) -> Result<bool, Fail> {
+    let signature = checkpoint().sign(alloc, &unwilling_alice(alloc, error)?);
+    Ok(signature.is_err_and(|found| found == error))
+}
+
+// Whether no envelope does.
+fn is_checkpoint_without_envelope(alloc: Global, error: SignatureError) -> Result<bool, Fail> {
+    let unwilling = unwilling_alice(alloc, error)?;
+    let signed = SerdeEnvelope::signed_contents(alloc, &unwilling, checkpoint());
+    Ok(signed.is_err_and(|found| found == error))
+}
+
+fn package_record(alloc: Global) -> package::PackageRecord {
+    package::PackageRecord {
+        prev: None,
+        version: 0,
+        timestamp: Timestamp::new(1, 0),
+        entries: Vec::new(alloc),
+    }
+}
+
+fn operator_record(alloc: Global) -> operator::OperatorRecord {
+    operator::OperatorRecord {
+        prev: None,
+        version: 0,
+        timestamp: Timestamp::new(1, 0),
+        entries: Vec::new(alloc),
+    }
 }
 
 #[test]
 fn a_signer_may_refuse(rt: HostRuntime) -> Result<(), Fail> {
     let alloc = rt.alloc();
     for error in [SignatureError::Refused, SignatureError::OutOfMemory] {
-        let record = package::PackageRecord {
-            prev: None,
-            version: 0,
-            timestamp: Timestamp::new(1, 0),
-            entries: Vec::new(alloc),
-        };
-        assert!(rt; is_unsigned(alloc, record, error)?);
-        let record = operator::OperatorRecord {
-            prev: None,
-            version: 0,
-            timestamp: Timestamp::new(1, 0),
-            entries: Vec::new(alloc),
-        };
-        assert!(rt; is_unsigned(alloc, record, error)?);
+        assert!(rt; is_unsigned(alloc, package_record(alloc), error)?);
+        assert!(rt; is_unsigned(alloc, operator_record(alloc), error)?);
         assert!(rt; is_checkpoint_unsigned(alloc, error)?);
+        assert!(rt; is_checkpoint_without_envelope(alloc, error)?);
     }
     Ok(())
 }

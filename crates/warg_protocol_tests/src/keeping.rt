@@ -8,28 +8,60 @@ use std::test::Fail;
 use warg_protocol::toy::ToyVerifier;
 use warg_protocol::{PersistentState, ProtoEnvelope, Signable, Timestamp, operator, package};
 
-// The state comes back, and takes a record with no entry, whose id is then the head.
+// The state comes back.
+fn comes_back<L: PersistentState>(alloc: Global, state: &L) -> Result<L, Fail> {
+    let text = state.to_json(alloc)?;
+    Ok(L::from_json(alloc, text.as_str())?)
+}
+
+// The envelope of the state's next record, with no entry.
+fn next<L: PersistentState>(alloc: Global, state: &L) -> Result<ProtoEnvelope<L::Record>, Fail>
+where
+    L::Record: Signable,
+{
+    let record = state.next_record(Timestamp::new(9, 0), Vec::new(alloc));
+    Ok(ProtoEnvelope::signed_contents(alloc, &signer(alloc, "alice")?, record)?)
+}
+
+// It takes the record, whose id is then the head.
+fn takes<L: PersistentState>(rt: &impl Abort, state: &mut L, envelope: &ProtoEnvelope<L::Record>)
+where
+    L::Error: Debug,
+{
+    let answer = state.append(envelope, &ToyVerifier);
+    assert!(rt; answer.is_ok());
+    assert!(rt; state.head_digest() == Some(&L::record_id(envelope)));
+}
+
 fn goes_on<L: PersistentState>(rt: &impl Abort, alloc: Global, state: &L) -> Result<(), Fail>
 where
     L::Record: Signable,
     L::Error: Debug,
 {
-    let text = state.to_json(alloc)?;
-    let mut again = L::from_json(alloc, text.as_str())?;
+    let mut again = comes_back(alloc, state)?;
     assert!(rt; again == *state);
-    let record = again.next_record(Timestamp::new(9, 0), Vec::new(alloc));
-    let envelope = ProtoEnvelope::signed_contents(alloc, &signer(alloc, "alice")?, record)?;
-    assert!(rt; again.append(&envelope, &ToyVerifier).is_ok());
+    let envelope = next(alloc, &again)?;
+    takes(rt, &mut again, &envelope);
     assert!(rt; again != *state);
-    assert!(rt; again.head_digest() == Some(&L::record_id(&envelope)));
     Ok(())
 }
 
 #[test]
-fn either_kind_is_kept(rt: HostRuntime) -> Result<(), Fail> {
-    let alloc = rt.alloc();
-    let package = state::<package::LogState>(alloc, "alice 1.0: init alice, release 1.0.0 first")?;
-    goes_on(&rt, alloc, &package)?;
-    let operator = state::<operator::LogState>(alloc, "alice 1.0: init alice, define own")?;
-    goes_on(&rt, alloc, &operator)
+fn package_logs_are_kept(rt: HostRuntime) -> Result<(), Fail> {
+    let log = "alice 1.0: init alice, release 1.0.0 first";
+    goes_on(
+        &rt,
+        rt.alloc(),
+        &state::<package::LogState>(rt.alloc(), log)?,
+    )
+}
+
+#[test]
+fn operator_logs_are_kept(rt: HostRuntime) -> Result<(), Fail> {
+    let log = "alice 1.0: init alice, define own";
+    goes_on(
+        &rt,
+        rt.alloc(),
+        &state::<operator::LogState>(rt.alloc(), log)?,
+    )
 }

@@ -1,7 +1,8 @@
 //! Copies of entries, records, envelopes and bodies, by `try_clone` and by `clone`.
 
 use crate::samples::alice;
-use std::alloc::Global;
+use std::alloc::{AllocError, Global};
+use std::process::Abort;
 use std::test::Fail;
 use warg_envelope::{
     Decode, DecodeError, ProtoEnvelope, ProtoEnvelopeBody, PublishedProtoEnvelope,
@@ -37,27 +38,45 @@ fn operator_record(alloc: Global) -> Result<OperatorRecord, DecodeError> {
     OperatorRecord::decode(alloc, OPERATOR_CONTENT)
 }
 
+// The copy is equal to the value.
+fn is_copy<T: PartialEq + Drop>(rt: &impl Abort, copy: Result<T, AllocError>, value: &T) {
+    let copy = copy.expect(rt, "memory");
+    assert!(rt; copy == *value);
+}
+
 #[test]
 fn package_records(rt: HostRuntime) -> Result<(), Fail> {
     let record = package_record(rt.alloc())?;
-    assert_eq!(rt; record.entries.len(), 5);
-    for entry in &record.entries {
-        assert!(rt; entry.try_clone()? == *entry);
-    }
-    assert!(rt; Record::try_clone(&record)? == record);
-    assert!(rt; record.clone()? == record);
+    is_copy(&rt, Record::try_clone(&record), &record);
+    is_copy(&rt, record.clone(), &record);
     Ok(())
 }
 
 #[test]
 fn operator_records(rt: HostRuntime) -> Result<(), Fail> {
     let record = operator_record(rt.alloc())?;
-    assert_eq!(rt; record.entries.len(), 5);
-    for entry in &record.entries {
-        assert!(rt; entry.try_clone()? == *entry);
+    is_copy(&rt, Record::try_clone(&record), &record);
+    is_copy(&rt, record.clone(), &record);
+    Ok(())
+}
+
+#[test]
+fn package_entries(rt: HostRuntime) -> Result<(), Fail> {
+    let entries = package_record(rt.alloc())?.entries;
+    assert_eq!(rt; entries.len(), 5);
+    for entry in &entries {
+        is_copy(&rt, entry.try_clone(), entry);
     }
-    assert!(rt; Record::try_clone(&record)? == record);
-    assert!(rt; record.clone()? == record);
+    Ok(())
+}
+
+#[test]
+fn operator_entries(rt: HostRuntime) -> Result<(), Fail> {
+    let entries = operator_record(rt.alloc())?.entries;
+    assert_eq!(rt; entries.len(), 5);
+    for entry in &entries {
+        is_copy(&rt, entry.try_clone(), entry);
+    }
     Ok(())
 }
 
@@ -69,44 +88,74 @@ fn smallest(alloc: Global) -> Result<ProtoEnvelope<OperatorRecord>, Fail> {
 #[test]
 fn envelopes(rt: HostRuntime) -> Result<(), Fail> {
     let envelope = smallest(rt.alloc())?;
-    assert!(rt; envelope.try_clone()? == envelope);
-    assert!(rt; envelope.clone()? == envelope);
+    is_copy(&rt, envelope.try_clone(), &envelope);
+    is_copy(&rt, envelope.clone(), &envelope);
     Ok(())
+}
+
+fn body(alloc: Global) -> Result<ProtoEnvelopeBody, Fail> {
+    Ok(ProtoEnvelopeBody::from(smallest(alloc)?))
+}
+
+#[test]
+fn bodies(rt: HostRuntime) -> Result<(), Fail> {
+    let body = body(rt.alloc())?;
+    is_copy(&rt, body.clone(), &body);
+    is_copy(&rt, body.try_clone(), &body);
+    Ok(())
+}
+
+fn envelope_of(
+    alloc: Global,
+    body: ProtoEnvelopeBody,
+) -> Result<ProtoEnvelope<OperatorRecord>, Fail> {
+    Ok(ProtoEnvelope::from_body(alloc, body)?)
 }
 
 // An envelope of a body has that body again, and keeps it where a copy is taken of it.
 #[test]
-fn bodies(rt: HostRuntime) -> Result<(), Fail> {
-    let body = ProtoEnvelopeBody::from(smallest(rt.alloc())?);
-    assert!(rt; body.clone()? == body);
-    let envelope = ProtoEnvelope::<OperatorRecord>::from_body(rt.alloc(), body.try_clone()?)?;
-    assert!(rt; envelope.to_body()? == body);
-    assert!(rt; ProtoEnvelopeBody::from(envelope) == body);
+fn envelopes_of_bodies(rt: HostRuntime) -> Result<(), Fail> {
+    let envelope = envelope_of(rt.alloc(), body(rt.alloc())?)?;
+    let body = body(rt.alloc())?;
+    is_copy(&rt, envelope.to_body(), &body);
+    is_copy(&rt, Ok(ProtoEnvelopeBody::from(envelope)), &body);
     Ok(())
+}
+
+fn published(alloc: Global) -> Result<PublishedProtoEnvelope<OperatorRecord>, Fail> {
+    Ok(PublishedProtoEnvelope {
+        envelope: smallest(alloc)?,
+        registry_index: 7,
+    })
 }
 
 #[test]
 fn published_envelopes(rt: HostRuntime) -> Result<(), Fail> {
-    let published = PublishedProtoEnvelope {
-        envelope: smallest(rt.alloc())?,
-        registry_index: 7,
-    };
-    assert!(rt; published.try_clone()? == published);
-    let copy = published.to_body()?;
-    let body = PublishedProtoEnvelopeBody::from(published);
-    assert!(rt; copy == body);
-    assert_eq!(rt; body.registry_index, 7);
-    assert!(rt; body.try_clone()? == body);
+    let published = published(rt.alloc())?;
+    is_copy(&rt, published.try_clone(), &published);
     Ok(())
 }
 
 #[test]
+fn published_bodies(rt: HostRuntime) -> Result<(), Fail> {
+    let published = published(rt.alloc())?;
+    let copy = published.to_body();
+    let body = PublishedProtoEnvelopeBody::from(published);
+    is_copy(&rt, copy, &body);
+    is_copy(&rt, body.try_clone(), &body);
+    assert_eq!(rt; body.registry_index, 7);
+    Ok(())
+}
+
+fn signed(alloc: Global) -> Result<SerdeEnvelope<PackageRecord>, Fail> {
+    Ok(SerdeEnvelope::signed_contents(alloc, &alice(alloc)?, package_record(alloc)?)?)
+}
+
+#[test]
 fn envelopes_without_bytes(rt: HostRuntime) -> Result<(), Fail> {
+    let envelope = signed(rt.alloc())?;
+    is_copy(&rt, envelope.try_clone(), &envelope);
     let record = package_record(rt.alloc())?;
-    let alice = alice(rt.alloc())?;
-    let envelope = SerdeEnvelope::signed_contents(rt.alloc(), &alice, record.try_clone()?)?;
-    let copy = envelope.try_clone()?;
-    assert!(rt; copy == envelope);
-    assert!(rt; copy.into_contents() == record);
+    is_copy(&rt, Ok(envelope.into_contents()), &record);
     Ok(())
 }

@@ -2,7 +2,8 @@
 //! paths: what no row of the conformance suite can say.
 #![tactic(auto)]
 
-pub mod callers;
+#[cfg(test)]
+mod callers;
 #[cfg(test)]
 mod copies;
 #[cfg(test)]

@@ -58,11 +58,14 @@ fn is_timed(rt: &impl Abort, time: Timestamp, want: Result<u64, TimeError>) {
 
 #[test]
 fn times(rt: HostRuntime) {
-    let before = Timestamp::new(-1, 999_999_999);
-    is_timed(&rt, before, Err(TimeError::TimeBeforeEpoch));
-    is_timed(&rt, Timestamp::new(0, 0), Ok(0));
-    is_timed(&rt, Timestamp::new(1, 999_999_999), Ok(1));
-    is_timed(&rt, Timestamp::new(5, 0), Ok(5));
+    for (seconds, nanos, want) in [
+        (-1, 999_999_999, Err(TimeError::TimeBeforeEpoch)),
+        (0, 0, Ok(0)),
+        (1, 999_999_999, Ok(1)),
+        (5, 0, Ok(5)),
+    ] {
+        is_timed(&rt, Timestamp::new(seconds, nanos), want);
+    }
 }
 
 // Takes so many pieces, and refuses the next one.
@@ -107,17 +110,24 @@ fn may_be_stopped<T: VisitBytes>(rt: &impl Abort, alloc: Global, value: &T) {
 
 #[test]
 fn refused_pieces(rt: HostRuntime) {
-    let alloc = rt.alloc();
     let (log_id, record_id) = (LogId::from(empty_hash()), RecordId::from(empty_hash()));
-    may_be_stopped(&rt, alloc, &log_id);
-    may_be_stopped(&rt, alloc, &MapLeaf { record_id });
-    may_be_stopped(&rt, alloc, &LogLeaf { log_id, record_id });
-    may_be_stopped(&rt, alloc, &checkpoint());
+    may_be_stopped(&rt, rt.alloc(), &log_id);
+    may_be_stopped(&rt, rt.alloc(), &MapLeaf { record_id });
+    may_be_stopped(&rt, rt.alloc(), &LogLeaf { log_id, record_id });
+}
+
+#[test]
+fn refused_pieces_of_checkpoints(rt: HostRuntime) {
+    may_be_stopped(&rt, rt.alloc(), &checkpoint());
     let timestamped = TimestampedCheckpoint {
         checkpoint: checkpoint(),
         timestamp: 1,
     };
-    may_be_stopped(&rt, alloc, &timestamped);
-    let name = PackageName::new(alloc, "foo:bar").expect(&rt, "a name");
-    may_be_stopped(&rt, alloc, &name);
+    may_be_stopped(&rt, rt.alloc(), &timestamped);
+}
+
+#[test]
+fn refused_pieces_of_names(rt: HostRuntime) {
+    let name = PackageName::new(rt.alloc(), "foo:bar").expect(&rt, "a name");
+    may_be_stopped(&rt, rt.alloc(), &name);
 }
