@@ -112,8 +112,9 @@ fn each_log_goes_on_from_its_first_leaves(rt: HostRuntime) -> Result<(), Fail> {
 
 #[test]
 fn no_log_goes_on_from_more_leaves(rt: HostRuntime) -> Result<(), Fail> {
-    for count in 0..8u8 {
-        let log = log_of(rt.alloc(), usize::from(count))?;
+    let mut log = LogTree::new(rt.alloc());
+    for leaf in 0..16u8 {
+        log.push(&[leaf])?;
         assert!(rt; log.consistency(log.len() + 1)?.is_none());
     }
     Ok(())
