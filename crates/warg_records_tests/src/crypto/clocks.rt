@@ -2,7 +2,7 @@
 
 ghost use Rattle.std.specs.Prelude.{◌≡◌};
 
-use crate::values::is;
+use crate::crypto::values::is;
 use std::cell::Cell;
 use std::time::Duration;
 use std::{io, rt};

@@ -1,6 +1,6 @@
 //! Copies of keys, signatures and key ids, which may share their text.
 
-use crate::values::{id, is, key, same, signature};
+use crate::crypto::values::{id, is, key, same, signature};
 use std::alloc::Global;
 use std::process::Abort;
 

@@ -3,7 +3,7 @@
 ghost use Rattle.std.specs.Prelude.{⊤};
 ghost use Rattle.warg_crypto.specs.Signed.{toy_belongs};
 
-use crate::values::{bytes, is};
+use crate::crypto::values::{bytes, is};
 use std::alloc::{AllocError, Global};
 use std::cell::Cell;
 use std::process::Abort;

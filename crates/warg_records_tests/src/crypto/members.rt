@@ -1,6 +1,6 @@
 //! Members that are put into objects, in any order.
 
-use crate::values::is;
+use crate::crypto::values::is;
 use serde_json::Map;
 use warg_json::members::{object_value, optional, put_member, put_optional, put_value, text_value};
 

@@ -2,7 +2,7 @@
 
 ghost use Rattle.std.specs.Prelude.{◌≡◌};
 
-use crate::values::is;
+use crate::crypto::values::is;
 use std::alloc::{AllocError, Global};
 use std::process::Abort;
 use warg_crypto::{ByteVisitor, VisitBytes};

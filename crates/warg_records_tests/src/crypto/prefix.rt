@@ -1,6 +1,6 @@
 //! The prefix encoding of a client's value.
 
-use crate::values::{bytes, is};
+use crate::crypto::values::{bytes, is};
 use std::alloc::AllocError;
 use warg_crypto::hash::{AnyHash, Hash, HashAlgorithm, Sha256};
 use warg_crypto::prefix::{PrefixEncodeVisitor, VisitPrefixEncode};

@@ -1,6 +1,6 @@
 //! Out of memory stays that in whichever error it is passed on.
 
-use crate::values::is;
+use crate::crypto::values::is;
 use std::alloc::AllocError;
 use std::process::Abort;
 use warg_crypto::signing::{KeyParseError, SignatureError, SignatureParseError};

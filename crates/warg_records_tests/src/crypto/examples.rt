@@ -4,7 +4,7 @@ ghost use Rattle.std.specs.Prelude.{◌≡◌, ◌↔◌, ◌++◌, ℕ, List, l
 ghost use Rattle.std.specs.Str.{bytes_eq};
 ghost use Rattle.warg_crypto.specs.NamedBytes.{IsName};
 
-use crate::values::{bytes, is, key, text};
+use crate::crypto::values::{bytes, is, key, text};
 use std::alloc::{AllocError, Global};
 use warg_crypto::signing::{
     PublicKey, Signature, SignatureError, Signer, Verifier, is_algorithm_name,

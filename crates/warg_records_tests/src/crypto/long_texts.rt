@@ -2,7 +2,7 @@
 
 ghost use Rattle.std.specs.Prelude.{◌≡◌, codes, string_bytes};
 
-use crate::values::{bytes, is};
+use crate::crypto::values::{bytes, is};
 use std::alloc::{AllocError, Global};
 use std::fmt::Display;
 use std::process::Abort;
