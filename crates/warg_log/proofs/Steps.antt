@@ -19,10 +19,6 @@ or-false true b = refl
 or-false false true = refl
 or-false false false = refl
 
-and-true : (a : Bool) → (a && true) ≡ a
-and-true true = refl
-and-true false = refl
-
 -- what an entry has done, where c is what stands beneath the changes
 module _ {P Z X : Type 0} (same : P → P → Bool) (algorithm algorithm' : Option HashAlgorithm) (base old new : IndexMap (List ℕ) (List P) Z) (base_keys old_keys new_keys : IndexMap (List ℕ) NamedBytes X)
     (signer : List ℕ) (c d e : AuthorityData P) (base_is : authority_data algorithm base base_keys ≡ c) (old_is : authority_data algorithm' old old_keys ≡ d) where
@@ -44,16 +40,16 @@ module _ {P Z X : Type 0} (same : P → P → Bool) (algorithm algorithm' : Opti
       (λ k. rw (entered k, printed) (or-false (has_entry_over base old k) (bytes_eq (fingerprint_of key) k)))
       (λ k. rw (keyed k, copied, printed, alike) (sym (latest-one (bytes_eq (fingerprint_of key) k) (Some key) (value_over base_keys.entries old_keys.entries k)))))
 
-  pub init-step : (named : HashAlgorithm) → authority_data (Some named) new new_keys ≡ e → (all : List P) → ((p : P) → lists same all p ≡ true) → (key key' : NamedBytes) (id id' signer' : List ℕ) → id ≡ fingerprint_of key → id' ≡ id → key' ≡ key → signer' ≡ signer
-      → ((k : List ℕ) → value_over base_keys.entries new_keys.entries k ≡ (if bytes_eq id' k then Some key' else value_over base_keys.entries old_keys.entries k))
-      → ((k : List ℕ) (p : P) → held_over same base new k p ≡ (if bytes_eq signer' k && lists same all p then true else held_over same base old k p))
-      → ((k : List ℕ) → has_entry_over base new k ≡ (has_entry_over base old k || bytes_eq signer' k))
+  pub init-step : (named : HashAlgorithm) → authority_data (Some named) new new_keys ≡ e → (key : NamedBytes) (id : List ℕ) → id ≡ fingerprint_of key
+      → ((k : List ℕ) → value_over base_keys.entries new_keys.entries k ≡ (if bytes_eq id k then Some key else value_over base_keys.entries old_keys.entries k))
+      → ((k : List ℕ) (p : P) → held_over same base new k p ≡ (if bytes_eq signer k then true else held_over same base old k p))
+      → ((k : List ℕ) → has_entry_over base new k ≡ (has_entry_over base old k || bytes_eq signer k))
       → access_view_over same c e ≡ after same (access_view_over same c d) (record { signer = signer; entry = Init named key } ∷ [])
-  init-step named new_is all whole key key' id id' signer' printed copied alike is keyed gave entered =
+  init-step named new_is key id printed keyed gave entered =
       from_maps (Some named) new_is (Init named key) (same_access_view same _ _ refl
-      (λ k p. rw (gave k p, is, whole p, and-true (bytes_eq signer k)) (sym (latest-one (bytes_eq signer k) true (held_over same base old k p))))
-      (λ k. rw (entered k, is) (or-false (has_entry_over base old k) (bytes_eq signer k)))
-      (λ k. rw (keyed k, copied, printed, alike) (sym (latest-one (bytes_eq (fingerprint_of key) k) (Some key) (value_over base_keys.entries old_keys.entries k)))))
+      (λ k p. rw (gave k p) (sym (latest-one (bytes_eq signer k) true (held_over same base old k p))))
+      (λ k. rw (entered k) (or-false (has_entry_over base old k) (bytes_eq signer k)))
+      (λ k. rw (keyed k, printed) (sym (latest-one (bytes_eq (fingerprint_of key) k) (Some key) (value_over base_keys.entries old_keys.entries k)))))
 
   pub revoke-step : authority_data algorithm' new new_keys ≡ e → (id : List ℕ) (permissions : List P) → old_keys ≡ new_keys
       → ((k : List ℕ) (p : P) → held_over same base new k p ≡ (if bytes_eq id k && lists same permissions p then false else held_over same base old k p))

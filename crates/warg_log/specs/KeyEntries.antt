@@ -1,5 +1,4 @@
 -- A listed key, as plain data.
-use Rattle.std.specs.Prelude.{List, Option}
 use Rattle.std.specs.Option.{option_map}
 use Rattle.warg_log.specs.declared.keys.KeyEntry.{KeyEntry}
 use Rattle.warg_log.specs.Keys.{KeyData}

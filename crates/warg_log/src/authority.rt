@@ -10,10 +10,11 @@ ghost use Rattle.warg_log.specs.Equal.{same_authority_data, same_maps, same_sets
 ghost use Rattle.warg_log.specs.EqualLaws.{authority_data_equiv};
 ghost use Rattle.warg_log.specs.Keys.{AreKeysOf, authority_keys};
 
+mod maps;
 mod saved;
 
+pub(crate) use crate::authority::maps::Maps;
 use crate::keys::Keys;
-use crate::map_changes::{lay_over, make_room};
 use crate::own_state::OwnState;
 use crate::permission_set::PermissionSet;
 use crate::rights;
@@ -30,10 +31,7 @@ use warg_permissions::LogPermission;
 pub struct Authority<P: LogPermission> {
     pub(crate) alloc: Global,
     pub(crate) algorithm: Option<HashAlgorithm>,
-    pub(crate) permissions: IndexMap<KeyID, PermissionSet<P>>,
-    pub(crate) keys: IndexMap<KeyID, PublicKey>,
-    /// The sets that are shared; among changes, those that are not among the log's yet.
-    pub(crate) sets: Vec<PermissionSet<P>>,
+    pub(crate) maps: Maps<P>,
 }
 
 impl<P: LogPermission> Model for Authority<P> {
@@ -41,7 +39,7 @@ impl<P: LogPermission> Model for Authority<P> {
 
     ghost Value = { AuthorityData P };
 
-    ghost view = { λ a. authority_data a.algorithm a.permissions a.keys };
+    ghost view = { λ a. authority_data a.algorithm a.maps.permissions a.maps.keys };
 }
 
 impl<P: LogPermission> Authority<P> {
@@ -54,9 +52,7 @@ impl<P: LogPermission> Authority<P> {
         Authority {
             alloc,
             algorithm: None,
-            permissions: IndexMap::new(alloc),
-            keys: IndexMap::new(alloc),
-            sets: Vec::new(alloc),
+            maps: Maps::new(alloc),
         }
     }
 
@@ -64,21 +60,21 @@ impl<P: LogPermission> Authority<P> {
     pub fn holds(&self, key_id: &KeyID, permission: P) -> bool
         ensures { result ≡ (access_view P.eq self.now).holds key_id.now permission }
     {
-        rights::holds(&self.permissions, key_id, permission)
+        rights::holds(&self.maps.permissions, key_id, permission)
     }
 
     /// The key of the id.
     pub fn public_key(&self, key_id: &KeyID) -> Option<&PublicKey>
         ensures { option_copied result ≡ (access_view P.eq self.now).key key_id.now }
     {
-        self.keys.get(key_id)
+        self.maps.keys.get(key_id)
     }
 
     /// What the key holds, if it has an entry.
     pub(crate) fn held(&self, key_id: &KeyID) -> Option<&PermissionSet<P>>
         ensures { option_copied result ≡ rights_at self.now key_id.now }
     {
-        self.permissions.get(key_id)
+        self.maps.permissions.get(key_id)
     }
 
     /// The permissions of the key, if it has an entry.
@@ -96,8 +92,8 @@ impl<P: LogPermission> Authority<P> {
         ensures keys { AreKeysOf P.eq (access_view P.eq self.now) result }
     {
         Keys {
-            keys: self.keys.iter(),
-            rights: &self.permissions,
+            keys: self.maps.keys.iter(),
+            rights: &self.maps.permissions,
         }
     }
 
@@ -105,7 +101,7 @@ impl<P: LogPermission> Authority<P> {
     fn known_id<'a>(&'a self, key_id: &'a KeyID) -> &'a KeyID
         ensures { result.now ≡ key_id.now }
     {
-        match self.keys.get_key_value(key_id) {
+        match self.maps.keys.get_key_value(key_id) {
             Some((known, _)) => known,
             None => key_id,
         }
@@ -134,17 +130,12 @@ impl<P: LogPermission> Authority<P> {
     {
         let Authority {
             algorithm,
-            mut permissions,
-            mut keys,
-            mut sets,
+            mut maps,
             ..
         } = changes;
-        make_room(&mut self.permissions, &mut permissions)?;
-        make_room(&mut self.keys, &mut keys)?;
-        self.sets.append(&mut sets)?;
+        self.maps.make_room(&mut maps)?;
         own_state.commit(change)?;
-        lay_over(&mut self.permissions, permissions);
-        lay_over(&mut self.keys, keys);
+        self.maps.lay_over(maps);
         self.algorithm = algorithm.or(self.algorithm);
         Ok(())
     }
@@ -156,9 +147,7 @@ impl<P: LogPermission> Authority<P> {
         Ok(Authority {
             alloc: self.alloc,
             algorithm: self.algorithm,
-            permissions: self.permissions.clone()?,
-            keys: self.keys.clone()?,
-            sets: self.sets.clone()?,
+            maps: self.maps.try_clone()?,
         })
     }
 }
@@ -167,8 +156,8 @@ impl<P: LogPermission + fmt::Debug> fmt::Debug for Authority<P> {
     fn fmt<W: fmt::Write>(&self, f: &mut fmt::Formatter<W>) -> fmt::Result {
         f.debug_struct("Authority")
             .field("algorithm", &self.algorithm)
-            .field("permissions", &self.permissions)
-            .field("keys", &self.keys)
+            .field("permissions", &self.maps.permissions)
+            .field("keys", &self.maps.keys)
             .finish()
     }
 }
@@ -180,8 +169,8 @@ impl<P: LogPermission> PartialEq for Authority<P> {
 
     fn eq(&self, other: &Authority<P>) -> bool {
         same_algorithms(&self.algorithm, &other.algorithm)
-            && same_rights(&self.permissions, &other.permissions)
-            && same_registered(&self.keys, &other.keys)
+            && same_rights(&self.maps.permissions, &other.maps.permissions)
+            && same_registered(&self.maps.keys, &other.maps.keys)
     }
 }
 

@@ -1,24 +1,60 @@
 //! What a record's entries ask of an authority. They are judged by it with the changes that the entries before them
 //! make laid over it; what they change is noted among these changes. `before` is what the signer held before them, so
 //! that it is looked up once a record.
-ghost use Rattle.std.specs.Prelude.{◌≡◌, [], ◌∷◌, OnOk, is_some};
+ghost use Rattle.std.specs.Prelude.{◌≡◌, ◌||◌, ℕ, List, [], ◌∷◌, OnOk, is_some, not, true, if◌then◌else◌};
+ghost use Rattle.std.specs.Str.{bytes_eq};
 ghost use Rattle.std.specs.Option.{option_copied};
 ghost use Rattle.warg_crypto.specs.NamedBytes.{fingerprint_of};
 ghost use Rattle.warg_records.specs.RecordData.{Init, GrantFlat, RevokeFlat};
 ghost use Rattle.warg_log.specs.SignedEntries.{after};
 ghost use Rattle.warg_log.specs.AuthorityData.{rights_at, access_view_over};
 ghost use Rattle.warg_validator.specs.OutcomeOffences.{ReturnsOffence};
-ghost use Rattle.warg_log.specs.Rights.{is_listed};
-ghost use Rattle.warg_log.specs.Offences.{offence_of, first_unauthorized, permission_offence, required_offence, not_begun, empty_grant, init_offence, grant_offence, revoke_offence};
+ghost use Rattle.warg_log.specs.Rights.{is_listed, held_over, has_entry_over};
+ghost use Rattle.warg_log.specs.Offences.{offence_of, first_unauthorized, permission_offence, required_offence, not_begun, unless, KeyIDNotRecognized, empty_grant, init_offence, grant_offence, revoke_offence};
 
-use crate::authority::Authority;
+use crate::authority::{Authority, Maps};
 use crate::own_state::Origin;
 use crate::permission_set::PermissionSet;
 use crate::refusal::Refusal;
-use crate::rights::{self, Standing};
+use crate::rights;
+use std::alloc::{AllocError, Global};
 use warg_crypto::hash::HashAlgorithm;
 use warg_crypto::signing::{KeyID, PublicKey};
 use warg_permissions::LogPermission;
+
+/// Refuses an Init whose signer has to own its key, and does not.
+fn check_owner<P>(by_own_key: bool, signer: &KeyID, key_id: &KeyID) -> Result<(), Refusal<P>>
+    ensures { ReturnsOffence offence_of
+        (unless (not by_own_key || bytes_eq signer.now key_id.now) (KeyIDNotRecognized signer.now))
+        result }
+{
+    if by_own_key && *signer != *key_id {
+        return Err(Refusal::KeyIDNotRecognized {
+            key_id: signer.clone()?,
+        });
+    }
+    Ok(())
+}
+
+/// Gives the key all permissions of the kind, among the changes.
+fn give_all<P: LogPermission>(
+    alloc: Global,
+    maps: &Maps<P>,
+    changes: &mut Maps<P>,
+    key_id: &KeyID,
+) -> Result<(), AllocError>
+    ensures holds { OnOk result ((k : List ℕ) (p : P) →
+        held_over P.eq maps.now.permissions changes.new.permissions k p
+        ≡ (if bytes_eq key_id.now k then true else held_over P.eq maps.now.permissions
+        changes.old.permissions k p)) }
+    ensures entries { OnOk result ((k : List ℕ) →
+        has_entry_over maps.now.permissions changes.new.permissions k ≡
+        (has_entry_over maps.now.permissions changes.old.permissions k || bytes_eq key_id.now k)) }
+    ensures keys { changes.new.keys ≡ changes.old.keys }
+{
+    let all = P::all(alloc)?;
+    maps.give(alloc, changes, key_id.clone()?, &all)
+}
 
 impl<P: LogPermission> Authority<P> {
     /// Whether an Init stands.
@@ -39,7 +75,7 @@ impl<P: LogPermission> Authority<P> {
         ensures { (p : P) → is_listed P.eq (option_copied result) p
             ≡ (access_view_over P.eq self.now changes.now).holds key_id.now p }
     {
-        rights::look(before, &changes.permissions, key_id)
+        rights::look(before, &changes.maps.permissions, key_id)
     }
 
     /// Whether the key holds the permission.
@@ -66,7 +102,7 @@ impl<P: LogPermission> Authority<P> {
         ensures { option_copied result ≡
             (access_view_over P.eq self.now changes.now).key key_id.now }
     {
-        rights::look(self.keys.get(key_id), &changes.keys, key_id)
+        rights::look(self.maps.keys.get(key_id), &changes.maps.keys, key_id)
     }
 
     /// Refuses where the key lacks the permission.
@@ -167,23 +203,10 @@ impl<P: LogPermission> Authority<P> {
             return Err(Refusal::InitialEntryAfterBeginning);
         }
         let key_id = key.fingerprint(self.alloc)?.share()?;
-        if by_own_key && *signer != key_id {
-            return Err(Refusal::KeyIDNotRecognized {
-                key_id: signer.clone()?,
-            });
-        }
-        let all = P::all(self.alloc)?;
+        check_owner(by_own_key, signer, &key_id)?;
         changes.algorithm = Some(hash_algorithm);
-        let stood = Standing {
-            alloc: self.alloc,
-            sets: self.sets.as_slice(),
-            rights: &self.permissions,
-        };
-        let added = &mut changes.sets;
-        let given = &mut changes.permissions;
-        rights::give(&stood, added, given, signer.clone()?, &all)?;
-        rights::put(&mut changes.keys, key_id, key.clone()?)?;
-        Ok(())
+        give_all(self.alloc, &self.maps, &mut changes.maps, signer)?;
+        Ok(changes.maps.register(key_id, key)?)
     }
 
     /// Refuses a grant of no permission to the key, but in a record of version 0.
@@ -228,16 +251,11 @@ impl<P: LogPermission> Authority<P> {
         self.check_grant(origin.version, key, permissions)?;
         self.check_permissions(changes, origin.signer, before, permissions)?;
         let key_id = key.fingerprint(self.alloc)?.share()?;
-        rights::put(&mut changes.keys, key_id.clone()?, key.clone()?)?;
-        let stood = Standing {
-            alloc: self.alloc,
-            sets: self.sets.as_slice(),
-            rights: &self.permissions,
-        };
-        let added = &mut changes.sets;
-        let given = &mut changes.permissions;
-        rights::give(&stood, added, given, key_id, permissions)?;
-        Ok(())
+        changes.maps.register(key_id.clone()?, key)?;
+        Ok(
+            self.maps
+                .give(self.alloc, &mut changes.maps, key_id, permissions)?,
+        )
     }
 
     /// Checks a RevokeFlat and notes what it changes.
@@ -259,18 +277,9 @@ impl<P: LogPermission> Authority<P> {
     {
         self.check_begun(changes)?;
         self.check_permissions(changes, signer, before, permissions)?;
-        let stood = Standing {
-            alloc: self.alloc,
-            sets: self.sets.as_slice(),
-            rights: &self.permissions,
-        };
-        let missing = rights::take_all(
-            &stood,
-            &mut changes.sets,
-            &mut changes.permissions,
-            key_id,
-            permissions,
-        )?;
+        let missing = self
+            .maps
+            .take(self.alloc, &mut changes.maps, key_id, permissions)?;
         if let Some(permission) = missing {
             return Err(Refusal::PermissionNotFoundToRevoke {
                 permission,

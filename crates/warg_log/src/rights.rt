@@ -180,11 +180,11 @@ fn take_from<P: LogPermission>(
         ≡ (if lists P.eq permissions.now p then false else list_any (P.eq p) held.old))) }
 {
     let mut set = copy_set(held)?;
-    let missing = remove_all(&mut set, permissions);
-    if missing.is_none() {
-        *held = share(stood.alloc, stood.sets, added, set)?;
+    if let Some(missing) = remove_all(&mut set, permissions) {
+        return Ok(Some(missing));
     }
-    Ok(missing)
+    *held = share(stood.alloc, stood.sets, added, set)?;
+    Ok(None)
 }
 
 /// Takes the permissions from the key, among the changes, or answers the first that it does not hold any more.

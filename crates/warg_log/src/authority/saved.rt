@@ -2,7 +2,7 @@
 ghost use Rattle.std.specs.Prelude.{◌≡◌};
 ghost use Rattle.warg_log.specs.AuthorityData.{authority_data};
 
-use crate::authority::Authority;
+use crate::authority::{Authority, Maps};
 use crate::permission_set::PermissionSet;
 use indexmap::IndexMap;
 use std::alloc::Global;
@@ -23,9 +23,11 @@ impl<P: LogPermission> Authority<P> {
         Authority {
             alloc,
             algorithm,
-            permissions,
-            keys,
-            sets: Vec::new(alloc),
+            maps: Maps {
+                permissions,
+                keys,
+                sets: Vec::new(alloc),
+            },
         }
     }
 
@@ -40,13 +42,13 @@ impl<P: LogPermission> Authority<P> {
     pub(crate) fn permissions(&self) -> &IndexMap<KeyID, PermissionSet<P>>
         ensures { result.now.entries ≡ self.now.rights }
     {
-        &self.permissions
+        &self.maps.permissions
     }
 
     /// The keys by their ids.
     pub(crate) fn keys(&self) -> &IndexMap<KeyID, PublicKey>
         ensures { result.now.entries ≡ self.now.keys }
     {
-        &self.keys
+        &self.maps.keys
     }
 }

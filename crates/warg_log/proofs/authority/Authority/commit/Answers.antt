@@ -7,7 +7,7 @@ pub returns-clause-made : goal.returns-clause-made
 returns-clause-made g c =
     let a = c.self.inside in
     let b = c.changes.inside in
-    made-over g.P.PartialEq.eq a.algorithm b.algorithm _ a.permissions b.permissions c.lay_over.new.map a.keys b.keys c.lay_over-2.new.map c.args.self.now c.args.changes _ c.self.view_is c.changes.view_is refl
+    made-over g.P.PartialEq.eq a.algorithm b.algorithm _ a.maps.permissions b.maps.permissions c.lay_over.new.self.permissions a.maps.keys b.maps.keys c.lay_over.new.self.keys c.args.self.now c.args.changes _ c.self.view_is c.changes.view_is refl
     (search rules)
-    (λ k. c.lay_over.ensures k ∙ (λ i. value_over (c.make_room.ensures.entries i) (c.make_room.ensures.changes i) k))
-    (λ k. c.lay_over-2.ensures k ∙ (λ i. value_over (c.make_room-2.ensures.entries i) (c.make_room-2.ensures.changes i) k))
+    (λ k. c.lay_over.ensures.permissions k ∙ (λ i. value_over (c.make_room.ensures.entries.0 i) (c.make_room.ensures.changes.0 i) k))
+    (λ k. c.lay_over.ensures.keys k ∙ (λ i. value_over (c.make_room.ensures.entries.1 i) (c.make_room.ensures.changes.1 i) k))
