@@ -1,10 +1,6 @@
 pub mod RecordLineLemmas
 pub mod PlainLemmas
 pub mod JudgedLemmas
-pub mod TextLemmas
-pub mod StateLemmas
-pub mod CompareLemmas
-pub mod ResumeLemmas
-pub mod ClaimLemmas
 pub mod AnswerLemmas
-pub mod ShownLemmas
+pub mod UnusableLemmas
+pub mod ShownWordLemmas

@@ -2,12 +2,8 @@ pub mod RecordLines
 pub mod Texts
 pub mod Files
 pub mod Answers
+pub mod Unusable
 pub mod Verdicts
-pub mod StateFaults
-pub mod Questions
-pub mod Resumption
-pub mod ClaimTexts
 pub mod ReadFaults
 pub mod ShownWords
-pub mod ShownLogs
 pub mod Sentences

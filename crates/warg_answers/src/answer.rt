@@ -63,7 +63,7 @@ impl Answer {
     }
 
     /// The same answer, with this sentence on standard error.
-    pub(crate) fn with_sentence(self, sentence: String) -> Answer
+    pub fn with_sentence(self, sentence: String) -> Answer
         ensures { answer_view result ≡ answer_view self }
     {
         Answer {

@@ -2,13 +2,13 @@
 
 ghost use Rattle.std.specs.Prelude.{◌≡◌, ◌≢◌, ◌⊎◌, [], Option, IfOk, IfErr, OnOk, OnErr, ◌+◌, ◌-◌, ◌^◌, min, string_bytes};
 ghost use Rattle.warg_answers.specs.Files.{Files, Lacks, Puts, Reads, ReadsLog};
-ghost use Rattle.warg_answers.specs.Answers.{IfStopped};
+ghost use Rattle.warg_answers.specs.Answers.{IfStopped, IsUnusable};
 ghost use Rattle.warg_answers.specs.ReadFaults.{unread_text};
 ghost use Rattle.warg_answers.specs.Sentences.{line_sentence, sentence, shown_path};
 ghost use Rattle.warg_answers.specs.declared.input.ReadFault.TheVariants.{Missing};
 
 use crate::answer::Answer;
-use crate::stop::Stop;
+use crate::stop::{Stop, unusable};
 use std::alloc::{AllocError, Global};
 
 /// Why a file's bytes are not there.
@@ -110,6 +110,13 @@ pub fn line_sentence(
     let name = shown_path(path);
     let number = place.saturating_add(1);
     format!(in alloc; "warg: {name}:{number}: {fault}\n")
+}
+
+/// The end of a command for a file that does not hold what it should.
+pub fn file_stop(alloc: Global, path: &str, fault: &str) -> Stop
+    ensures { IfStopped IsUnusable result }
+{
+    unusable(alloc, sentence(alloc, path, fault))
 }
 
 // What is answered where the file of this path can't be read.

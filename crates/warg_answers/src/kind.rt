@@ -89,7 +89,7 @@ pub trait ToolLog: Report {
 }
 
 /// The permission that the text names.
-pub(crate) fn permission_of<L: ToolLog>(
+pub fn permission_of<L: ToolLog>(
     alloc: Global,
     text: &str,
 ) -> Result<Option<L::Permission>, AllocError>

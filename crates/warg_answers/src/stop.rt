@@ -1,9 +1,9 @@
 //! Why a command ends before its own answer.
 
-ghost use Rattle.warg_answers.specs.Answers.{IsSettled};
+ghost use Rattle.warg_answers.specs.Answers.{IfStopped, IsSettled, IsUnusable};
 
-use crate::answer::Answer;
-use std::alloc::{AllocError, AllocFailed};
+use crate::answer::{Answer, UNUSABLE};
+use std::alloc::{AllocError, AllocFailed, Global};
 
 /// Why a command ends before its own answer.
 #[derive(Debug, Drop)]
@@ -33,6 +33,16 @@ impl<T: Drop> From<AllocFailed<T>> for Stop {
 
     fn from(_error: AllocFailed<T>) -> Stop {
         Stop::OutOfMemory
+    }
+}
+
+/// The end of a command that can't use its words or files, for what the sentence says.
+pub fn unusable(alloc: Global, sentence: Result<String, AllocError>) -> Stop
+    ensures { IfStopped IsUnusable result }
+{
+    match sentence {
+        Ok(sentence) => Stop::Answer(Answer::fault(alloc, sentence, UNUSABLE)),
+        Err(_) => Stop::OutOfMemory,
     }
 }
 

@@ -1,9 +1,1 @@
-pub mod JsonLemmas
-pub mod AnswerLemmas
-pub mod RegistryLemmas
-pub mod ProofTextLemmas
 pub mod RequestLemmas
-pub mod TaskLemmas
-pub mod MadeLemmas
-pub mod ManyAuditLemmas
-pub mod AdditionLemmas

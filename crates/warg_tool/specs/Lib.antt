@@ -1,12 +1,2 @@
-pub mod JsonLines
-pub mod Audits
-pub mod Latest
-pub mod Additions
-pub mod Proofs
-pub mod RegistryLeaves
-pub mod Unusable
-pub mod ProofTexts
-pub mod ManyAudits
-pub mod MadeRecords
-pub mod Tasks
+pub mod AtOnce
 pub mod Requests

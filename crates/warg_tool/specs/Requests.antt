@@ -1,5 +1,5 @@
 -- What is answered to requests, by the words that they have and what the files that they name hold.
-use Rattle.std.specs.Prelude.{◌≡◌, ◌⊎◌, ℕ, Bool, true, false, List, [], ◌∷◌, map, Option, Some, None, Result, Ok}
+use Rattle.std.specs.Prelude.{◌≡◌, ◌⊎◌, ℕ, Bool, true, false, List, [], ◌∷◌, map, Option, Some, None, Ok}
 use Rattle.std.specs.Borrow.{Bor}
 use Rattle.std.specs.Str.Lines.{lines}
 use Rattle.semver.specs.Identifiers.{comparator_view}
@@ -7,13 +7,12 @@ use Rattle.semver.specs.Parse.{req_of}
 use Rattle.semver.specs.declared.Comparator.{Comparator}
 use Rattle.warg_permissions.specs.declared.operator.Permission.TheVariants as operator_permission
 use Rattle.warg_permissions.specs.declared.package.Permission.TheVariants as package_permission
-use Rattle.warg_protocol.specs.Json.{JsonError, JsonTextError, in_text, text_of}
-use Rattle.warg_protocol.specs.Logs.{Effects, EnvelopeData, SignatureRelation}
+use Rattle.warg_protocol.specs.Json.{in_text, text_of}
+use Rattle.warg_protocol.specs.Logs.{SignatureRelation}
 use Rattle.warg_protocol.specs.Operator as operators
 use Rattle.warg_protocol.specs.Package as packages
 use Rattle.warg_protocol.specs.Records.{toy_belongs}
 use Rattle.warg_audit.specs.Answers.{IsIdAnswer}
-use Rattle.warg_audit.specs.LogAnswers.{LogDisplay}
 use Rattle.warg_audit.specs.LogTypes.{operator_log, package_log}
 use Rattle.warg_log_type.specs.declared.LogType.{LogType}
 use Rattle.warg_log_type.specs.declared.LogType.TheVariants as log_type
@@ -21,55 +20,23 @@ use Rattle.warg_audit.specs.Printouts.{Printout}
 use Rattle.warg_verified.specs.Claims.{ClaimData, is_claimed}
 use Rattle.warg_verified.specs.Texts.{IsReadFrom}
 use Rattle.warg_answers.specs.Files.{Files, Reads}
-use Rattle.warg_tool.specs.JsonLines.{IsInJson}
-use Rattle.warg_tool.specs.ManyAudits.{IsManyAnswer}
-use Rattle.warg_tool.specs.ProofTexts.{IsProofAnswer}
-use Rattle.warg_tool.specs.Proofs.{IsStatementVerdict}
-use Rattle.warg_answers.specs.Questions.{IsStateText, IsPermissionsText, IsChainText, IsCompared}
-use Rattle.warg_tool.specs.Latest.{IsLatestOf}
+use Rattle.warg_tasks.specs.JsonLines.{IsInJson}
+use Rattle.warg_tasks.specs.ManyAudits.{IsManyAnswer}
+use Rattle.warg_checkpoints.specs.ProofTexts.{IsProofAnswer}
+use Rattle.warg_checkpoints.specs.Proofs.{IsStatementVerdict}
+use Rattle.warg_tasks.specs.Latest.{IsLatestOf}
+use Rattle.warg_questions.specs.QuestionAnswers.{IsQuestionAnswer}
 use Rattle.warg_answers.specs.RecordLines.{texts}
-use Rattle.warg_answers.specs.Resumption.{IsResumed}
-use Rattle.warg_answers.specs.ShownLogs.{IsShown}
 use Rattle.warg_answers.specs.ShownWords.{says_operator_words, says_package_words, shows_namespaces, shows_releases}
-use Rattle.warg_tool.specs.Tasks.{DoneLeaves, IsDoneAnswer}
-use Rattle.warg_tool.specs.Unusable.{IfUsable, IsOfFile, IsOfLines, IsOfWord}
+use Rattle.warg_tasks.specs.Tasks.{DoneLeaves, IsDoneAnswer}
+use Rattle.warg_answers.specs.Unusable.{IfUsable, IsOfLines, IsOfWord}
 use Rattle.warg_answers.specs.Answers.{IsUnusable}
-use Rattle.warg_tool.specs.Audits.{IsAuditOf}
+use Rattle.warg_tasks.specs.Audits.{IsAuditOf}
 use Rattle.warg_answers.specs.Verdicts.{IsPrintedOf}
 use Rattle.warg_words.specs.declared.request.Invocation.{Invocation}
 use Rattle.warg_words.specs.declared.request.Question.{Question}
-use Rattle.warg_words.specs.declared.request.Question.TheVariants as question
 use Rattle.warg_words.specs.declared.request.Request.{Request}
 use Rattle.warg_words.specs.declared.request.Request.TheVariants as request
-
--- a kind of log that questions are asked of: how it is shown, and what is said of its states and its keys
-pub record Askable (Meaning Fault View Offence S P : Type 0) : Type 0 where
-  pub shown : LogDisplay Meaning Fault View Offence
-  pub view : S → View
-  pub json : S → Result (List ℕ) JsonError
-  pub reads : List ℕ → Result S JsonTextError
-  pub knows : S → List ℕ → Bool
-  pub held : View → List ℕ → P → Bool
-  pub order : List P
-  pub text_of : P → List ℕ
-  pub effects : Effects P
-
-module _ {Meaning Fault View Offence S P : Type 0} (kind : Askable Meaning Fault View Offence S P) (Says : List ℕ → List (List ℕ) → Type 0) (Shows : List EnvelopeData → List ℕ → Type 0) (belongs : SignatureRelation) (files : Option Files) where
-  -- what is answered to a question, by what files hold, the words of a record's entries, and what a state is shown as
-  abbrev pub IsQuestionAnswer : Question → Printout → Type 0
-  IsQuestionAnswer (question.Show log) printed = IsOfLines files log.now (IsShown kind.shown belongs Says Shows) printed
-  IsQuestionAnswer (question.State log) printed =
-      IsOfLines files log.now (IsPrintedOf kind.shown belongs (IsStateText kind.shown kind.view kind.json)) printed
-  IsQuestionAnswer (question.Resume state log) printed =
-      IsOfFile files state.now (λ saved. IsOfLines files log.now (IsResumed kind.shown belongs kind.view kind.json kind.reads saved)) printed
-  IsQuestionAnswer (question.Permissions key_id log) printed =
-      IsOfLines files log.now (IsPrintedOf kind.shown belongs
-      (IsPermissionsText kind.shown kind.view kind.knows kind.held kind.order kind.text_of key_id.now)) printed
-  IsQuestionAnswer (question.Chain key_id permission log) printed =
-      IsOfWord (λ it. kind.text_of it ≡ permission.now)
-      (λ it. IsOfLines files log.now (IsPrintedOf kind.shown belongs (IsChainText kind.shown kind.effects key_id.now it))) printed
-  IsQuestionAnswer (question.Compare left right) printed =
-      IsOfLines files left.now (λ here. IsOfLines files right.now (IsCompared kind.shown belongs here)) printed
 
 -- what is answered to a question on logs of a kind
 abbrev pub IsAskedAnswer : LogType → SignatureRelation → Option Files → Question → Printout → Type 0

@@ -4,28 +4,25 @@ ghost use Rattle.std.specs.Prelude.{◌≡◌, IfOk};
 ghost use Rattle.warg_audit.specs.Answers.{IsIdAnswer};
 ghost use Rattle.warg_audit.specs.LogTypes.{package_log};
 ghost use Rattle.warg_answers.specs.Answers.{answer_view, Answers};
-ghost use Rattle.warg_tool.specs.Latest.{IsLatestOf};
+ghost use Rattle.warg_tasks.specs.Latest.{IsLatestOf};
 ghost use Rattle.warg_tool.specs.Requests.{is_many, IsAskedAnswer, IsGiven, IsLatestAnswer, IsRequestAnswer, IsResponse, RequestLeaves};
-ghost use Rattle.warg_tool.specs.Tasks.{DoneLeaves, IsDoneAnswer};
-ghost use Rattle.warg_tool.specs.Unusable.{IsOfLines};
-ghost use Rattle.warg_tool.specs.Audits.{IsAuditOf};
+ghost use Rattle.warg_tasks.specs.Tasks.{DoneLeaves, IsDoneAnswer};
+ghost use Rattle.warg_answers.specs.Unusable.{IsOfLines};
+ghost use Rattle.warg_tasks.specs.Audits.{IsAuditOf};
 ghost use Rattle.warg_answers.specs.Verdicts.{IsPrintedOf};
 
-use crate::audit::{audit_answer, id_answer};
-use crate::json::json_answer;
-use crate::latest::{latest_answer, requirement_of};
-use crate::many_audits::audits_answer;
-use crate::prove::prove_answer;
-use crate::questions::question_answer;
-use crate::task::task_answer;
-use crate::verify::verify_answer;
 use std::alloc::{AllocError, Global};
 use warg_answers::answer::Answer;
 use warg_answers::input::{Store, read_input};
 use warg_answers::stop::{Stop, settled};
 use warg_audit::LogType;
+use warg_checkpoints::{prove_answer, verify_answer};
 use warg_protocol::signing::Verifier;
 use warg_protocol::{VersionReq, operator, package};
+use warg_questions::question_answer;
+use warg_tasks::{
+    audit_answer, audits_answer, id_answer, json_answer, latest_answer, requirement_of, task_answer,
+};
 use warg_words::{Invocation, Question, Request, Task};
 
 // The answer to what is asked of logs of a kind.

@@ -1,20 +1,8 @@
 //! The program `warg`: each command as a function of its words and the bytes of its files.
 #![tactic(auto)]
 
-mod append;
-mod audit;
 mod commands;
-mod json;
-mod latest;
-mod leaves;
-mod making;
-mod many_audits;
-mod prove;
-mod questions;
-mod read_words;
-mod task;
 mod verified;
-mod verify;
 mod words;
 
 pub use commands::respond;

@@ -7,12 +7,11 @@ ghost use Rattle.warg_answers.specs.Answers.{answer_view, IfStopped, IsUnusable}
 ghost use Rattle.warg_tool.specs.Requests.{AreClaimsIn, InvocationLeaves, IsGivenAs, IsInvocationAnswer};
 
 use crate::commands::{given, respond};
-use crate::read_words::{file_stop, unusable};
 use std::alloc::{AllocError, Global};
 use std::str;
 use warg_answers::answer::Answer;
-use warg_answers::input::{Input, Store, line_sentence, read_input};
-use warg_answers::stop::Stop;
+use warg_answers::input::{Input, Store, file_stop, line_sentence, read_input};
+use warg_answers::stop::{Stop, unusable};
 use warg_protocol::toy::ToyVerifier;
 use warg_verified::{ClaimParseError, Verified, VerifiedParseError};
 use warg_words::Invocation;

@@ -1,7 +1,7 @@
 //! The words of the program, with what those are answered that ask for nothing.
 
 ghost use Rattle.std.specs.Prelude.{IfOk};
-ghost use Rattle.warg_tool.specs.Unusable.{IfAnsweredAtOnce, IsAnsweredAtOnce};
+ghost use Rattle.warg_tool.specs.AtOnce.{IfAnsweredAtOnce, IsAnsweredAtOnce};
 
 use std::alloc::{AllocError, Global};
 use warg_answers::answer::{Answer, UNUSABLE};

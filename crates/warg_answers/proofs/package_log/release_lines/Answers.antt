@@ -1,7 +1,7 @@
 use Rattle.std.proofs.Common.{◌≡◌, List, [], ap, ◌++◌, ◌∙◌, rules, string_bytes, subst}
 use Rattle.warg_protocol.specs.Package.{ReleaseView}
 use Rattle.warg_answers.specs.ShownWords.{AreReleaseLines}
-use Rattle.warg_answers.proofs.ShownLemmas.{release_end, release_more}
+use Rattle.warg_answers.proofs.ShownWordLemmas.{release_end, release_more}
 use Rattle.warg_answers.proofs.package_log.release_lines.Goals as goal
 
 pub loop-release-init : goal.loop-release-init

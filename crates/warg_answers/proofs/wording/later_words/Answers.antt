@@ -1,5 +1,5 @@
 use Rattle.std.proofs.Common.{◌∙◌, arith}
-use Rattle.warg_answers.proofs.ShownLemmas.{after_commas_more}
+use Rattle.warg_answers.proofs.ShownWordLemmas.{after_commas_more}
 use Rattle.warg_answers.proofs.wording.later_words.Goals as goal
 
 pub loop-entry-preserved : goal.loop-entry-preserved

@@ -1,5 +1,5 @@
 use Rattle.std.proofs.Common.{arith}
-use Rattle.warg_answers.proofs.ShownLemmas.{after_spaces_more}
+use Rattle.warg_answers.proofs.ShownWordLemmas.{after_spaces_more}
 use Rattle.warg_answers.proofs.wording.permission_words.Goals as goal
 
 pub loop-permission-preserved : goal.loop-permission-preserved

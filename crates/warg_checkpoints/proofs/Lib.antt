@@ -1,0 +1,2 @@
+pub mod RegistryLemmas
+pub mod ProofTextLemmas

@@ -1,0 +1,11 @@
+use Rattle.std.proofs.Common.{refl}
+use Rattle.warg_checkpoints.specs.ProofTexts.{AsksConsistency, IsNumber}
+use Rattle.warg_checkpoints.proofs.ProofTextLemmas.{unsaid_to}
+use Rattle.warg_checkpoints.proofs.prove.consistency_asked.Goals as goal
+
+pub returns-in-Ok-clause-ok : goal.returns-in-Ok-clause-ok
+returns-in-Ok-clause-ok c = (c.in-Ok.first, refl, c.in-Ok.ensures.ok)
+
+pub returns-in-Err-clause-stopped : goal.returns-in-Err-clause-stopped
+returns-in-Err-clause-stopped c =
+    unsaid_to (IsNumber c.args.word.now) (AsksConsistency c.args.word.now) c.in-Err.stop c.in-Err.ensures.stopped (λ it asks. (asks.0, asks.2))

@@ -1,0 +1,3 @@
+pub mod Proofs
+pub mod RegistryLeaves
+pub mod ProofTexts

@@ -1,0 +1,197 @@
+//! Ids, numbers, checkpoints and proofs, by words and files.
+
+ghost use Rattle.std.specs.Prelude.{◌≡◌, Ok, Err, Some, IfOk, IfErr};
+ghost use Rattle.std.specs.Str.{trim_end};
+ghost use Rattle.warg_protocol.specs.Transparency.{log_proof_of, map_proof_of};
+ghost use Rattle.warg_answers.specs.Answers.{IfStopped, IsUnusable};
+ghost use Rattle.serde_json.specs.Data.{Data};
+ghost use Rattle.serde_json.specs.Read.{read};
+ghost use Rattle.serde_json.specs.View.{view};
+ghost use Rattle.warg_registry.specs.RegistryJson.{checkpoint_in};
+ghost use Rattle.warg_checkpoints.specs.Proofs.{IsCheckpointIn, IsLogProofIn, IsMapProofIn};
+
+use serde_json::{Category, Value};
+use std::alloc::Global;
+use std::str::FromStr;
+use warg_answers::input::{Input, Store, file_stop, read_input};
+use warg_answers::stop::{Stop, unusable};
+use warg_protocol::registry::Checkpoint;
+use warg_protocol::transparency::{LogProof, MapProof, ProofTextError};
+use warg_protocol::{JsonError, JsonValue};
+
+// The end of a command for a word that is none of its kind.
+fn word_stop(alloc: Global, word: &str, kind: &str) -> Stop
+    ensures { IfStopped IsUnusable result }
+{
+    unusable(alloc, format!(in alloc; "warg: {word:?} is no {kind}\n"))
+}
+
+/// The value that the word says, of what the kind names.
+pub(crate) fn value_of<T: FromStr + Drop>(alloc: Global, word: &str, kind: &str) -> Result<T, Stop>
+where
+    T::Err: Drop,
+    ensures ok { IfOk result (λ value. T.from_str_gives word.now (Ok value)) }
+    ensures stopped { IfErr result (IfStopped IsUnusable) }
+    ensures refused { IfErr result (IfStopped (λ _. (error : T.Err) ×
+        T.from_str_gives word.now (Err error))) }
+{
+    match word.parse::<T>() {
+        Ok(value) => Ok(value),
+        Err(_) => Err(word_stop(alloc, word, kind)),
+    }
+}
+
+// The JSON that the file holds.
+fn json_of(alloc: Global, input: &Input<'_>) -> Result<Value, Stop>
+    ensures ok { IfOk result (λ value. read input.now.bytes.items ≡ Some (view value)) }
+    ensures stopped { IfErr result (IfStopped IsUnusable) }
+{
+    match Value::from_slice(alloc, input.bytes.as_slice()) {
+        Ok(value) => Ok(value),
+        Err(error) => match error.classify() {
+            Category::Memory => Err(Stop::OutOfMemory),
+            _ => Err(file_stop(alloc, input.path, "it holds no JSON")),
+        },
+    }
+}
+
+// The checkpoint that JSON is.
+fn checkpoint_of(alloc: Global, path: &str, value: &Value) -> Result<Checkpoint, Stop>
+    ensures ok { IfOk result (λ checkpoint. checkpoint_in (view value.now) ≡ Ok checkpoint) }
+    ensures stopped { IfErr result (IfStopped IsUnusable) }
+{
+    match Checkpoint::from_value(alloc, value) {
+        Ok(checkpoint) => Ok(checkpoint),
+        Err(JsonError::OutOfMemory) => Err(Stop::OutOfMemory),
+        Err(_) => Err(file_stop(alloc, path, "it holds no checkpoint")),
+    }
+}
+
+// The checkpoint whose JSON the file holds.
+fn checkpoint_of_file(alloc: Global, input: &Input<'_>) -> Result<Checkpoint, Stop>
+    ensures ok { IfOk result (λ checkpoint. (value : Data) ×
+        (read input.now.bytes.items ≡ Some value)
+        × (checkpoint_in value ≡ Ok checkpoint)) }
+    ensures stopped { IfErr result (IfStopped IsUnusable) }
+{
+    match json_of(alloc, input) {
+        Ok(value) => checkpoint_of(alloc, input.path, &value),
+        Err(stop) => Err(stop),
+    }
+}
+
+/// The checkpoint in the file of this path.
+pub(crate) fn read_checkpoint<S: Store>(
+    alloc: Global,
+    path: &str,
+    store: &mut S,
+) -> Result<Checkpoint, Stop>
+    ensures ok { IfOk result (IsCheckpointIn (S.files store.old) path.now) }
+    ensures stopped { IfErr result (IfStopped IsUnusable) }
+    ensures kept { S.files store.new ≡ S.files store.old }
+{
+    match read_input(alloc, store, path) {
+        Ok(input) => checkpoint_of_file(alloc, &input),
+        Err(stop) => Err(stop),
+    }
+}
+
+// The text of the file, without the end of its line.
+fn text_of<'a>(alloc: Global, input: &'a Input<'_>) -> Result<&'a str, Stop>
+    ensures ok { IfOk result (λ text. text.now ≡ trim_end input.now.bytes.items) }
+    ensures stopped { IfErr result (IfStopped IsUnusable) }
+{
+    match str::from_utf8(input.bytes.as_slice()) {
+        Ok(text) => Ok(text.trim_end()),
+        Err(_) => Err(file_stop(alloc, input.path, "it is no text")),
+    }
+}
+
+// The end of a command for a text that is no proof.
+fn proof_stop(alloc: Global, path: &str, fault: ProofTextError) -> Stop
+    ensures { IfStopped IsUnusable result }
+{
+    if fault == ProofTextError::OutOfMemory {
+        return Stop::OutOfMemory;
+    }
+    match format!(in alloc; "it holds no proof: {fault}") {
+        Ok(text) => file_stop(alloc, path, text.as_str()),
+        Err(_) => Stop::OutOfMemory,
+    }
+}
+
+// The proof on a log that the text is of.
+fn log_proof_of(alloc: Global, path: &str, text: &str) -> Result<LogProof, Stop>
+    ensures ok { IfOk result (λ proof. log_proof_of text.now ≡ Ok proof) }
+    ensures stopped { IfErr result (IfStopped IsUnusable) }
+{
+    match LogProof::parse(alloc, text) {
+        Ok(proof) => Ok(proof),
+        Err(fault) => Err(proof_stop(alloc, path, fault)),
+    }
+}
+
+// The proof on a log whose text the file holds.
+fn log_proof_of_file(alloc: Global, input: &Input<'_>) -> Result<LogProof, Stop>
+    ensures ok { IfOk result (λ proof. log_proof_of (trim_end input.now.bytes.items) ≡ Ok proof) }
+    ensures stopped { IfErr result (IfStopped IsUnusable) }
+{
+    match text_of(alloc, input) {
+        Ok(text) => log_proof_of(alloc, input.path, text),
+        Err(stop) => Err(stop),
+    }
+}
+
+/// The proof on a log in the file of this path.
+pub(crate) fn read_log_proof<S: Store>(
+    alloc: Global,
+    path: &str,
+    store: &mut S,
+) -> Result<LogProof, Stop>
+    ensures ok { IfOk result (IsLogProofIn (S.files store.old) path.now) }
+    ensures stopped { IfErr result (IfStopped IsUnusable) }
+    ensures kept { S.files store.new ≡ S.files store.old }
+{
+    match read_input(alloc, store, path) {
+        Ok(input) => log_proof_of_file(alloc, &input),
+        Err(stop) => Err(stop),
+    }
+}
+
+// The proof on a map that the text is of.
+fn map_proof_of(alloc: Global, path: &str, text: &str) -> Result<MapProof, Stop>
+    ensures ok { IfOk result (λ proof. map_proof_of text.now ≡ Ok proof) }
+    ensures stopped { IfErr result (IfStopped IsUnusable) }
+{
+    match MapProof::parse(alloc, text) {
+        Ok(proof) => Ok(proof),
+        Err(fault) => Err(proof_stop(alloc, path, fault)),
+    }
+}
+
+// The proof on a map whose text the file holds.
+fn map_proof_of_file(alloc: Global, input: &Input<'_>) -> Result<MapProof, Stop>
+    ensures ok { IfOk result (λ proof. map_proof_of (trim_end input.now.bytes.items) ≡ Ok proof) }
+    ensures stopped { IfErr result (IfStopped IsUnusable) }
+{
+    match text_of(alloc, input) {
+        Ok(text) => map_proof_of(alloc, input.path, text),
+        Err(stop) => Err(stop),
+    }
+}
+
+/// The proof on a map in the file of this path.
+pub(crate) fn read_map_proof<S: Store>(
+    alloc: Global,
+    path: &str,
+    store: &mut S,
+) -> Result<MapProof, Stop>
+    ensures ok { IfOk result (IsMapProofIn (S.files store.old) path.now) }
+    ensures stopped { IfErr result (IfStopped IsUnusable) }
+    ensures kept { S.files store.new ≡ S.files store.old }
+{
+    match read_input(alloc, store, path) {
+        Ok(input) => map_proof_of_file(alloc, &input),
+        Err(stop) => Err(stop),
+    }
+}

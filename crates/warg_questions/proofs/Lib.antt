@@ -1,0 +1,5 @@
+pub mod TextLemmas
+pub mod StateLemmas
+pub mod CompareLemmas
+pub mod ResumeLemmas
+pub mod ShownLemmas

@@ -1,0 +1,15 @@
+use Rattle.warg_answers.specs.Answers.{answer_view}
+use Rattle.warg_questions.proofs.CompareLemmas.{fork_is_within, told_of_kept}
+use Rattle.warg_questions.proofs.compare.compared.Goals as goal
+
+pub comparison_answer-requires : goal.comparison_answer-requires
+comparison_answer-requires g c =
+    rw (c.records-here.ensures.records, c.records-there.ensures.records) (fork_is_within _ _ _ _ _ c.compare-comparison.ensures.answer)
+
+pub returns : goal.returns
+returns g c =
+    told_of_kept g.L.Validator.kind _ _ _ _ c.compare-comparison.result (answer_view c.in_ok-comparison_answer.field-0)
+    (rw c.records-here.ensures.records at c.records-here.ensures.audited.stands)
+    (rw c.records-there.ensures.records at c.records-there.ensures.audited.stands)
+    c.compare-comparison.ensures.answer
+    (rw (c.records-here.ensures.records, c.records-there.ensures.records) at c.in_ok-comparison_answer.ensures)

@@ -1,0 +1,5 @@
+pub mod StateFaults
+pub mod Questions
+pub mod Resumption
+pub mod ShownLogs
+pub mod QuestionAnswers

@@ -1,0 +1,124 @@
+//! `chain`: by which entries a key came to hold a permission.
+
+ghost use Rattle.std.specs.Prelude.{◌≡◌, ◌++◌, List, ℕ, IfOk, IfErr, OnOk, string_bytes};
+ghost use Rattle.std.specs.Option.{option_copied, option_map};
+ghost use Rattle.std.specs.Vec.{vec_items};
+ghost use Rattle.warg_protocol.specs.Logs.{envelopes};
+ghost use Rattle.warg_answers.specs.Answers.{answer_view, Answers, IfStopped, IsUnusable};
+ghost use Rattle.warg_questions.specs.Questions.{IsChainText};
+ghost use Rattle.warg_answers.specs.RecordLines.{record_lines};
+ghost use Rattle.warg_answers.specs.Texts.{chain_text as text_of_chain, link_text, links_text, receiver, signer_at};
+ghost use Rattle.warg_answers.specs.Verdicts.{ForDisplay, IsPrintedOf};
+
+use std::alloc::{AllocError, Global};
+use warg_answers::answer::{Answer, UNUSABLE};
+use warg_answers::input::Input;
+use warg_answers::judged::{Lent, kept};
+use warg_answers::kind::{ToolLog, permission_of};
+use warg_answers::stop::Stop;
+use warg_protocol::signing::{KeyID, Verifier};
+use warg_protocol::{Link, ProtoEnvelope};
+
+// The signer of the record at a place.
+fn signer<C>(records: &[ProtoEnvelope<C>], place: usize) -> Option<&KeyID>
+    ensures { option_copied result ≡ signer_at (envelopes records.now) place }
+{
+    Some(records.get(place)?.key_id())
+}
+
+// Whom an entry gives to: the signer of the next link's record; the last one, the key that is asked for.
+fn receiver<'a, C>(records: &'a [ProtoEnvelope<C>], key_id: &'a KeyID, later: &[Link]) -> &'a KeyID
+    ensures { result.now ≡ receiver (envelopes records.now) key_id.now later.now }
+{
+    match later.first() {
+        Some(next) => signer(records, next.record_index).unwrap_or(key_id),
+        None => key_id,
+    }
+}
+
+// A link's line: the places of the record and of the entry, and whom it gives to.
+fn link_line(alloc: Global, link: Link, to: &KeyID) -> Result<String, AllocError>
+    ensures { IfOk result (λ text. string_bytes text ≡ link_text link to.now) }
+{
+    let (record, entry) = (link.record_index, link.entry_index);
+    format!(in alloc; "{record} {entry} {to}\n")
+}
+
+// The lines of links.
+fn chain_lines<C>(
+    alloc: Global,
+    records: &[ProtoEnvelope<C>],
+    links: &[Link],
+    key_id: &KeyID,
+) -> Result<String, AllocError>
+    ensures { IfOk result (λ text. string_bytes text ≡
+        links_text (envelopes records.now) key_id.now links.now) }
+{
+    let mut text = String::new(alloc);
+    let mut rest = links;
+    while let Some((link, later)) = rest.split_first() {
+        let line = link_line(alloc, *link, receiver(records, key_id, later))?;
+        text.push_str(line.as_str())?;
+        rest = later;
+    }
+    Ok(text)
+}
+
+// The answer of a chain.
+fn chain_of<C>(
+    alloc: Global,
+    records: &[ProtoEnvelope<C>],
+    links: Option<Vec<Link>>,
+    key_id: &KeyID,
+) -> Result<Answer, AllocError>
+    ensures { IfOk result (λ answer. answer_view answer ≡
+        text_of_chain (envelopes records.now) key_id.now (option_map vec_items links)) }
+{
+    match links {
+        Some(links) => {
+            let text = chain_lines(alloc, records, links.as_slice(), key_id)?;
+            Ok(Answer::new(alloc, text, 0))
+        }
+        None => Answer::fixed(alloc, "none\n", 1),
+    }
+}
+
+/// The permission that the word says.
+pub fn wanted_permission<L: ToolLog>(alloc: Global, word: &str) -> Result<L::Permission, Stop>
+    ensures ok { IfOk result (λ permission. L.text_of permission ≡ word.now) }
+    ensures stopped { IfErr result (IfStopped IsUnusable) }
+{
+    match permission_of::<L>(alloc, word)? {
+        Some(permission) => Ok(permission),
+        None => {
+            let sentence = format!(in alloc;
+                "warg: {word:?} is no permission of this kind of log\n"
+            )?;
+            Err(Stop::Answer(Answer::fault(alloc, sentence, UNUSABLE)))
+        }
+    }
+}
+
+/// The chain of a key and a permission in the log in a file.
+pub fn chain_answer<L: ToolLog, V: Verifier>(
+    alloc: Global,
+    verifier: &V,
+    key_id: &str,
+    permission: L::Permission,
+    input: Input<'_>,
+) -> Result<Answer, Stop>
+    ensures { ForDisplay L.view L.kind L.Record.read L.Record.fault_of L.offence_of
+        L.name_of L.lines_of (λ log.
+        Answers (IsPrintedOf log (V.belongs verifier.now)
+        (IsChainText log L.effects key_id.now permission)
+        (record_lines input.entry.bytes.items)) result) }
+{
+    let key_id = KeyID::from(String::from_str(alloc, key_id)?);
+    match kept::<L, Lent<'_, V>>(alloc, Lent(verifier), input) {
+        Ok(log) => {
+            let links = log.permission_chain(&key_id, permission)?;
+            Ok(chain_of(alloc, log.records(), links, &key_id)?)
+        }
+        Err(stop) => Err(stop),
+    }
+}

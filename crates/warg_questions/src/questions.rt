@@ -1,0 +1,253 @@
+//! What is asked of logs of one kind, from the files that are named.
+
+ghost use Rattle.warg_answers.specs.Answers.{Answers};
+ghost use Rattle.warg_questions.specs.Questions.{IsChainText, IsCompared, IsPermissionsText, IsStateText};
+ghost use Rattle.warg_answers.specs.RecordLines.{record_lines};
+ghost use Rattle.warg_questions.specs.QuestionAnswers.{IsQuestionAnswer};
+ghost use Rattle.warg_answers.specs.Unusable.{IsOfFile, IsOfLines, IsOfWord};
+ghost use Rattle.warg_questions.specs.Resumption.{IsResumed};
+ghost use Rattle.warg_questions.specs.ShownLogs.{IsShown};
+ghost use Rattle.warg_answers.specs.Verdicts.{ForDisplay, IsPrintedOf};
+ghost use Rattle.std.specs.Prelude.{◌≡◌};
+
+use crate::chain::{chain_answer, wanted_permission};
+use crate::compare::compare_answer;
+use crate::permissions::permissions_answer;
+use crate::resume::resume_answer;
+use crate::show::show_answer;
+use crate::state::state_answer;
+use std::alloc::Global;
+use warg_answers::answer::Answer;
+use warg_answers::input::{Input, Store, read_input};
+use warg_answers::kind::ToolLog;
+use warg_answers::stop::Stop;
+use warg_protocol::signing::Verifier;
+use warg_words::Question;
+
+fn show_of_file<L: ToolLog, V: Verifier, S: Store>(
+    alloc: Global,
+    verifier: &V,
+    path: &str,
+    store: &mut S,
+) -> Result<Answer, Stop>
+    ensures answered { ForDisplay L.view L.kind L.Record.read L.Record.fault_of L.offence_of
+        L.name_of L.lines_of (λ log.
+        Answers (IsOfLines (S.files store.old) path.now
+        (IsShown log (V.belongs verifier.now) L.says_words L.shows)) result) }
+    ensures kept { S.files store.new ≡ S.files store.old }
+{
+    match read_input(alloc, store, path) {
+        Ok(input) => show_answer::<L, V>(alloc, verifier, input),
+        Err(stop) => Err(stop),
+    }
+}
+
+fn state_of_file<L: ToolLog, V: Verifier, S: Store>(
+    alloc: Global,
+    verifier: &V,
+    path: &str,
+    store: &mut S,
+) -> Result<Answer, Stop>
+    ensures answered { ForDisplay L.view L.kind L.Record.read L.Record.fault_of L.offence_of
+        L.name_of L.lines_of (λ log.
+        Answers (IsOfLines (S.files store.old) path.now
+        (IsPrintedOf log (V.belongs verifier.now) (IsStateText log L.view L.json_of))) result) }
+    ensures kept { S.files store.new ≡ S.files store.old }
+{
+    match read_input(alloc, store, path) {
+        Ok(input) => state_answer::<L, V>(alloc, verifier, input),
+        Err(stop) => Err(stop),
+    }
+}
+
+fn permissions_of_file<L: ToolLog, V: Verifier, S: Store>(
+    alloc: Global,
+    verifier: &V,
+    key_id: &str,
+    path: &str,
+    store: &mut S,
+) -> Result<Answer, Stop>
+    ensures answered { ForDisplay L.view L.kind L.Record.read L.Record.fault_of L.offence_of
+        L.name_of L.lines_of (λ log.
+        Answers (IsOfLines (S.files store.old) path.now (IsPrintedOf log (V.belongs verifier.now)
+        (IsPermissionsText log L.view L.knows L.holds L.order L.text_of key_id.now))) result) }
+    ensures kept { S.files store.new ≡ S.files store.old }
+{
+    match read_input(alloc, store, path) {
+        Ok(input) => permissions_answer::<L, V>(alloc, verifier, key_id, input),
+        Err(stop) => Err(stop),
+    }
+}
+
+fn chain_of_file<L: ToolLog, V: Verifier, S: Store>(
+    alloc: Global,
+    verifier: &V,
+    key_id: &str,
+    permission: L::Permission,
+    path: &str,
+    store: &mut S,
+) -> Result<Answer, Stop>
+    ensures answered { ForDisplay L.view L.kind L.Record.read L.Record.fault_of L.offence_of
+        L.name_of L.lines_of (λ log.
+        Answers (IsOfLines (S.files store.old) path.now
+        (IsPrintedOf log (V.belongs verifier.now)
+        (IsChainText log L.effects key_id.now permission)))
+        result) }
+    ensures kept { S.files store.new ≡ S.files store.old }
+{
+    match read_input(alloc, store, path) {
+        Ok(input) => chain_answer::<L, V>(alloc, verifier, key_id, permission, input),
+        Err(stop) => Err(stop),
+    }
+}
+
+// The chain of a permission by its word.
+fn chain_of_word<L: ToolLog, V: Verifier, S: Store>(
+    alloc: Global,
+    verifier: &V,
+    key_id: &str,
+    word: &str,
+    path: &str,
+    store: &mut S,
+) -> Result<Answer, Stop>
+    ensures answered { ForDisplay L.view L.kind L.Record.read L.Record.fault_of L.offence_of
+        L.name_of L.lines_of (λ log.
+        Answers (IsOfWord (λ permission. L.text_of permission ≡ word.now) (λ permission.
+        IsOfLines (S.files store.old) path.now
+        (IsPrintedOf log (V.belongs verifier.now)
+        (IsChainText log L.effects key_id.now permission)))) result) }
+    ensures kept { S.files store.new ≡ S.files store.old }
+{
+    match wanted_permission::<L>(alloc, word) {
+        Ok(permission) => {
+            chain_of_file::<L, V, S>(alloc, verifier, key_id, permission, path, store)
+        }
+        Err(stop) => Err(stop),
+    }
+}
+
+fn resumed_from_file<L: ToolLog, V: Verifier, S: Store>(
+    alloc: Global,
+    verifier: &V,
+    saved: Input<'_>,
+    path: &str,
+    store: &mut S,
+) -> Result<Answer, Stop>
+    ensures answered { ForDisplay L.view L.kind L.Record.read L.Record.fault_of L.offence_of
+        L.name_of L.lines_of (λ log.
+        Answers (IsOfLines (S.files store.old) path.now
+        (IsResumed log (V.belongs verifier.now) L.view L.json_of L.state_of
+        saved.entry.bytes.items))
+        result) }
+    ensures kept { S.files store.new ≡ S.files store.old }
+{
+    match read_input(alloc, store, path) {
+        Ok(input) => resume_answer::<L, V>(alloc, verifier, saved, input),
+        Err(stop) => Err(stop),
+    }
+}
+
+fn resumed_from_files<L: ToolLog, V: Verifier, S: Store>(
+    alloc: Global,
+    verifier: &V,
+    state: &str,
+    path: &str,
+    store: &mut S,
+) -> Result<Answer, Stop>
+    ensures answered { ForDisplay L.view L.kind L.Record.read L.Record.fault_of L.offence_of
+        L.name_of L.lines_of (λ log.
+        Answers (IsOfFile (S.files store.old) state.now (λ saved.
+        IsOfLines (S.files store.old) path.now
+        (IsResumed log (V.belongs verifier.now) L.view L.json_of L.state_of saved))) result) }
+    ensures kept { S.files store.new ≡ S.files store.old }
+{
+    match read_input(alloc, store, state) {
+        Ok(saved) => resumed_from_file::<L, V, S>(alloc, verifier, saved, path, store),
+        Err(stop) => Err(stop),
+    }
+}
+
+fn compared_with_file<L: ToolLog, V: Verifier, S: Store>(
+    alloc: Global,
+    verifier: &V,
+    left: Input<'_>,
+    path: &str,
+    store: &mut S,
+) -> Result<Answer, Stop>
+    ensures answered { ForDisplay L.view L.kind L.Record.read L.Record.fault_of L.offence_of
+        L.name_of L.lines_of (λ log.
+        Answers (IsOfLines (S.files store.old) path.now
+        (IsCompared log (V.belongs verifier.now) (record_lines left.entry.bytes.items)))
+        result) }
+    ensures kept { S.files store.new ≡ S.files store.old }
+{
+    match read_input(alloc, store, path) {
+        Ok(right) => compare_answer::<L, V>(alloc, verifier, left, right),
+        Err(stop) => Err(stop),
+    }
+}
+
+fn compared_files<L: ToolLog, V: Verifier, S: Store>(
+    alloc: Global,
+    verifier: &V,
+    left: &str,
+    right: &str,
+    store: &mut S,
+) -> Result<Answer, Stop>
+    ensures answered { ForDisplay L.view L.kind L.Record.read L.Record.fault_of L.offence_of
+        L.name_of L.lines_of (λ log.
+        Answers (IsOfLines (S.files store.old) left.now
+        (λ here. IsOfLines (S.files store.old) right.now
+        (IsCompared log (V.belongs verifier.now) here))) result) }
+    ensures kept { S.files store.new ≡ S.files store.old }
+{
+    match read_input(alloc, store, left) {
+        Ok(left) => compared_with_file::<L, V, S>(alloc, verifier, left, right, store),
+        Err(stop) => Err(stop),
+    }
+}
+
+/// The answer to what is asked of logs of this kind.
+pub fn question_answer<L: ToolLog, V: Verifier, S: Store>(
+    alloc: Global,
+    verifier: &V,
+    question: &Question<'_>,
+    store: &mut S,
+) -> Result<Answer, Stop>
+    ensures answered { ForDisplay L.view L.kind L.Record.read L.Record.fault_of L.offence_of
+        L.name_of
+        L.lines_of (λ log. Answers
+        (IsQuestionAnswer (record {
+          shown = log;
+          view = L.view;
+          json = L.json_of;
+          reads =
+              L.state_of;
+          knows = L.knows;
+          held = L.holds;
+          order = L.order;
+          text_of = L.text_of;
+          effects =
+              L.effects;
+        }) L.says_words L.shows (V.belongs verifier.now) (S.files store.old) question.now) result) }
+    ensures kept { S.files store.new ≡ S.files store.old }
+{
+    match question {
+        Question::Show { log } => show_of_file::<L, V, S>(alloc, verifier, log, store),
+        Question::State { log } => state_of_file::<L, V, S>(alloc, verifier, log, store),
+        Question::Resume { state, log } => {
+            resumed_from_files::<L, V, S>(alloc, verifier, state, log, store)
+        }
+        Question::Permissions { key_id, log } => {
+            permissions_of_file::<L, V, S>(alloc, verifier, key_id, log, store)
+        }
+        Question::Chain {
+            key_id,
+            permission,
+            log,
+        } => chain_of_word::<L, V, S>(alloc, verifier, key_id, permission, log, store),
+        Question::Compare { left, right } => {
+            compared_files::<L, V, S>(alloc, verifier, left, right, store)
+        }
+    }
+}

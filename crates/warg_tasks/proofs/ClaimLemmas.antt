@@ -1,0 +1,70 @@
+-- The lines of claims.
+use Rattle.std.proofs.Common.{◌≡◌, ◌+◌, ◌<◌, ℕ, suc, List, [], ◌∷◌, ◌++◌, length, map, take, refl, sym, ap, ◌∙◌, append_assoc, arith, slice_index_or, Result, Ok, Err}
+use Rattle.std.proofs.Math.Seq.{take-suc}
+use Rattle.std.proofs.lemmas.List.{map-append}
+use Rattle.warg_protocol.specs.Logs.{EnvelopeData, Kind}
+use Rattle.warg_audit.specs.Lines.{strings_of}
+use Rattle.warg_audit.specs.Printouts.{Printout, bad_line}
+use Rattle.warg_audit.specs.declared.lines.LineError.TheVariants.{Bad}
+use Rattle.warg_audit.proofs.StringLemmas as lines
+use Rattle.warg_claims.specs.Claimed.{AreClaims}
+use Rattle.warg_verified.specs.Claims.{ClaimData, claim_text}
+use Rattle.warg_answers.specs.Answers.{Answers, IfStopped}
+use Rattle.warg_tasks.specs.ClaimTexts.{IsClaimList, IsClaimsAnswer, first_bad, listed}
+use Rattle.warg_answers.specs.declared.answer.Answer.{Answer}
+use Rattle.warg_answers.specs.declared.stop.Stop.{Stop}
+use Rattle.warg_answers.proofs.AnswerLemmas.{Answers-to, IfStopped-to}
+use Rattle.warg_answers.specs.Texts.{all_lines, line}
+
+all_lines-append : (texts : List (List ℕ)) (text : List ℕ) → all_lines (texts ++ text ∷ []) ≡ all_lines texts ++ (text ++ 10 ∷ [])
+all_lines-append [] text = append_nil_line text
+  where
+    append_nil_line : (text : List ℕ) → (text ++ 10 ∷ []) ++ [] ≡ text ++ 10 ∷ []
+    append_nil_line [] = refl
+    append_nil_line (b ∷ more) = ap (λ rest. b ∷ rest) (append_nil_line more)
+all_lines-append (first ∷ more) text =
+    ap (λ rest. line first ++ rest) (all_lines-append more text) ∙ sym (append_assoc (line first) (all_lines more) (text ++ 10 ∷ []))
+
+-- one claim more
+pub claims_more : (n : ℕ) (claims : List ClaimData) (claim : ClaimData) (text new : List ℕ) → n < length claims
+    → claim ≡ slice_index_or claims n claim → text ≡ all_lines (map claim_text (take n claims))
+    → new ≡ text ++ line (claim_text claim) → new ≡ all_lines (map claim_text (take (n + 1) claims))
+claims_more n claims claim text new low is so_far more =
+    let e : n + 1 ≡ suc n = omega arith in
+    more ∙ ap (λ t. t ++ line (claim_text claim)) so_far ∙ sym (all_lines-append (map claim_text (take n claims)) (claim_text claim))
+    ∙ ap (λ it. all_lines (map claim_text (take n claims) ++ claim_text it ∷ [])) is
+    ∙ sym (rw e (ap (λ cs. all_lines (map claim_text cs)) (take-suc claims n claim low)
+    ∙ ap all_lines (map-append claim_text (take n claims) (slice_index_or claims n claim ∷ []))))
+
+-- ---- answers
+
+not_both : (n : ℕ) → n ≡ 1 → n ≡ 0 → ⊥
+not_both n one none = omega arith
+
+module _ {View Offence F : Type 0} (k : Kind View Offence) (read : List ℕ → Result EnvelopeData F) where
+  pub claim_list : (strings : List (List ℕ)) (claims : List ClaimData) (text : List ℕ) (status : ℕ) (printed : Printout)
+      → printed ≡ record { text = text; status = status } → AreClaims k read (take (length claims) strings) claims
+      → text ≡ all_lines (map claim_text claims) → (status ≡ 0 → length claims ≡ length strings)
+      → IsClaimList k read strings printed
+  claim_list strings claims text status printed is own e whole =
+      rw is (record { claims = claims; own = own; text = e; whole = whole })
+
+  -- of a list that was cut the status is no 0
+  pub cut_list : (strings : List (List ℕ)) (claims : List ClaimData) (text : List ℕ) (printed : Printout)
+      → printed ≡ record { text = text; status = 1 } → AreClaims k read (take (length claims) strings) claims
+      → text ≡ all_lines (map claim_text claims) → IsClaimList k read strings printed
+  cut_list strings claims text printed is own e =
+      claim_list strings claims text 1 printed is own e (λ none. absurd (not_both 1 refl none))
+
+  pub list_answers : (ls strings : List (List ℕ)) (result : Result Answer Stop) → strings_of ls ≡ Ok strings
+      → Answers (IsClaimList k read strings) result → Answers (IsClaimsAnswer k read ls) result
+  list_answers ls strings result e h =
+      Answers-to (IsClaimList k read strings) (IsClaimsAnswer k read ls)
+      (λ printed it. listed strings (lines.spell_from 0 ls strings e) it) result h
+
+  pub bad_line_answers : (ls : List (List ℕ)) (end : Stop)
+      → IfStopped (λ printed. (index : ℕ) × ((strings_of ls ≡ Err (Bad index)) × (printed ≡ bad_line index))) end
+      → IfStopped (IsClaimsAnswer k read ls) end
+  bad_line_answers ls end h =
+      IfStopped-to (λ printed. (index : ℕ) × ((strings_of ls ≡ Err (Bad index)) × (printed ≡ bad_line index)))
+      (IsClaimsAnswer k read ls) (λ printed bad. first_bad bad.0 (lines.first_bad ls bad.0 bad.1.0) bad.1.1) end h

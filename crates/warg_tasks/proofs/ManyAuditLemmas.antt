@@ -1,0 +1,128 @@
+-- The lines of many logs, one after another.
+use Rattle.std.proofs.Common.{◌≡◌, ◌+◌, ◌<◌, ℕ, Bool, true, false, max, List, [], ◌∷◌, ◌++◌, length, take, filter, map, refl, sym, ap, ◌∙◌, subst, Option, Some, None, unwrap_or, slice_index_or, Result, Ok, Err, IfOk, OnOk, Bor}
+use Rattle.std.proofs.lemmas.Iterator.{YieldsList}
+use Rattle.std.proofs.lemmas.List.{map-append}
+use Rattle.std.proofs.lemmas.List.Elements.{filter-append}
+use Rattle.std.specs.Prelude.{◌==◌}
+use Rattle.std.specs.declared.alloc.AllocError.{AllocError}
+use Rattle.warg_protocol.specs.Logs.{SignatureRelation}
+use Rattle.warg_audit.specs.Printouts.{Printout}
+use Rattle.warg_log_type.specs.declared.LogType.{LogType}
+use Rattle.warg_answers.specs.Files.{Files, Lacks, Reads}
+use Rattle.warg_answers.specs.Answers.{answer_view, Answers, IsSettled}
+use Rattle.warg_tasks.specs.ManyAudits.{audit_line, first_of, is_path, IsVerdictOn, audited, unread, IsWith, IsWithAll, IsWithNamed, IsWithWords}
+use Rattle.warg_answers.specs.ReadFaults.{unread_text}
+use Rattle.warg_answers.specs.RecordLines.{record_lines, texts}
+use Rattle.warg_tasks.specs.Audits.{IsAuditOf}
+use Rattle.warg_answers.specs.declared.answer.Answer.{Answer}
+use Rattle.warg_answers.specs.declared.input.ReadFault.{ReadFault}
+use Rattle.warg_answers.specs.declared.input.ReadFault.TheVariants.{Missing}
+use Rattle.warg_answers.specs.declared.stop.Stop.{Stop}
+use Rattle.warg_answers.proofs.AnswerLemmas.{Answers-to}
+use Rattle.warg_answers.proofs.UnusableLemmas.{settled_is}
+use Rattle.warg_answers.proofs.RecordLineLemmas.{taken-suc}
+
+-- P of the answer of a command, by its end or before it
+settled_answers : (P : Printout → Type 0) (outcome : Result Answer Stop) (settled : Result Answer AllocError)
+    → IsSettled outcome settled → Answers P outcome → IfOk settled (λ answer. P (answer_view answer))
+settled_answers P outcome (Ok answer) is h = settled_is P outcome answer is h
+settled_answers P outcome (Err error) is h = tt
+
+-- the verdict on the log in a file that is read
+pub verdict_read : (kind : LogType) (belongs : SignatureRelation) (files : Option Files) (path bytes : List ℕ) (outcome : Result Answer Stop)
+    (settled : Result Answer AllocError) → IsSettled outcome settled → Reads files path bytes
+    → Answers (IsAuditOf kind belongs (record_lines bytes)) outcome
+    → IfOk settled (λ answer. IsVerdictOn kind belongs files path (answer_view answer))
+verdict_read kind belongs files path bytes outcome settled is held h =
+    settled_answers (IsVerdictOn kind belongs files path) outcome settled is
+    (Answers-to (IsAuditOf kind belongs (record_lines bytes)) (IsVerdictOn kind belongs files path)
+    (λ printed it. audited bytes held it) outcome h)
+
+-- and why one can't be read
+printed_of_both : (verdict told : Printout) (text : List ℕ) (status : ℕ) → verdict ≡ record { text = text; status = status }
+    → text ≡ told.text → status ≡ told.status → verdict ≡ told
+printed_of_both verdict told text status is e f = is ∙ rw (e, f) refl
+
+pub verdict_unread : (kind : LogType) (belongs : SignatureRelation) (files : Option Files) (path : List ℕ) (fault : ReadFault)
+    (verdict : Printout) (text : List ℕ) (status : ℕ) → (fault ≡ Missing → Lacks files path)
+    → verdict ≡ record { text = text; status = status } → text ≡ (unread_text fault).text → status ≡ (unread_text fault).status
+    → IsVerdictOn kind belongs files path verdict
+verdict_unread kind belongs files path fault verdict text status lacks is e f =
+    unread fault lacks (printed_of_both verdict (unread_text fault) text status is e f)
+
+pub on_ok_to : {T E P Q : Type 0} → (P → Q) → (r : Result T E) → OnOk r P → OnOk r Q
+on_ok_to f (Ok x) h = f h
+on_ok_to f (Err e) h = tt
+
+-- what a call gives first, or nothing
+pub first_given : {S : Type 0} (steps : S → Option (Bor (List ℕ)) → S → Type 0) (s t : S) (ys : List (List ℕ))
+    (r : Option (Bor (List ℕ))) (d : Bor (List ℕ)) → YieldsList steps (λ x. x.now) s ys → steps s r t → d.now ≡ []
+    → (unwrap_or r d).now ≡ first_of ys
+first_given steps s t [] None d road step none = none
+first_given steps s t [] (Some x) d road step none = absurd (road.runs x t step)
+first_given steps s t (y ∷ more) None d road step none = absurd (road.runs.0 t step)
+first_given steps s t (y ∷ more) (Some x) d road step none = (road.runs.1 x t step).0
+
+abbrev printed_of : List ℕ → ℕ → Printout
+printed_of text status = record { text = text; status = status }
+
+printed_is : (text t : List ℕ) (status n : ℕ) → text ≡ t → status ≡ n → printed_of text status ≡ printed_of t n
+printed_is text t status n e f = rw (e, f) refl
+
+module _ (json : Bool) (kind : LogType) (belongs : SignatureRelation) (files : Option Files) where
+  -- one line more
+  pub with_line : (path : List ℕ) (before verdict : Printout) (text line : List ℕ) (status : ℕ)
+      → IsVerdictOn kind belongs files path verdict → line ≡ audit_line json path verdict
+      → text ≡ before.text ++ line → status ≡ max before.status verdict.status
+      → IsWith json kind belongs files path before (record { text = text; status = status })
+  with_line path before verdict text line status own said more greater = record {
+    verdict = verdict;
+    own = own;
+    is = printed_is text _ status _ (rw said at more) greater;
+  }
+
+  -- an empty line of a list names no log, and another names one
+  pub no_line : (line : List ℕ) (before : Printout) → (length line == 0) ≡ true
+      → IsWithAll json kind belongs files (filter is_path (line ∷ [])) before before
+  no_line line before e = rw e refl
+
+  pub one_line : (line : List ℕ) (before after : Printout) → (length line == 0) ≡ false
+      → IsWith json kind belongs files line before after
+      → IsWithAll json kind belongs files (filter is_path (line ∷ [])) before after
+  one_line line before after e it = rw e (after, it, refl)
+
+  -- lines behind lines
+  pub all_more : (paths more : List (List ℕ)) (before middle after : Printout)
+      → IsWithAll json kind belongs files paths before middle → IsWithAll json kind belongs files more middle after
+      → IsWithAll json kind belongs files (paths ++ more) before after
+  all_more [] more before middle after e it = subst (λ (p : Printout). IsWithAll json kind belongs files more p after) e it
+  all_more (path ∷ paths) more before middle after h it =
+      (h.0, h.1, all_more paths more h.0 middle after h.2 it)
+
+  -- the lines of a list so far, and one line more
+  pub listed_more : (done : List (Bor (List ℕ))) (line : Bor (List ℕ)) (before middle after : Printout)
+      → IsWithAll json kind belongs files (filter is_path (map (λ it. it.now) done)) before middle
+      → IsWithAll json kind belongs files (filter is_path (line.now ∷ [])) middle after
+      → IsWithAll json kind belongs files (filter is_path (map (λ it. it.now) (done ++ line ∷ []))) before after
+  listed_more done line before middle after so_far it =
+      let now : Bor (List ℕ) → List ℕ = λ it. it.now in
+      let e : filter is_path (map now (done ++ line ∷ [])) ≡ filter is_path (map now done) ++ filter is_path (line.now ∷ []) =
+      ap (filter is_path) (map-append now done (line ∷ [])) ∙ filter-append is_path (map now done) (line.now ∷ []) in
+      subst (λ (paths : List (List ℕ)). IsWithAll json kind belongs files paths before after) (sym e)
+      (all_more (filter is_path (map now done)) (filter is_path (line.now ∷ [])) before middle after so_far it)
+
+  word_more : (words : List (List ℕ)) (word : List ℕ) (before middle after : Printout)
+      → IsWithWords json kind belongs files words before middle → IsWithNamed json kind belongs files word middle after
+      → IsWithWords json kind belongs files (words ++ word ∷ []) before after
+  word_more [] word before middle after e it =
+      (after, subst (λ (p : Printout). IsWithNamed json kind belongs files word p after) e it, refl)
+  word_more (first ∷ words) word before middle after h it =
+      (h.0, h.1, word_more words word h.0 middle after h.2 it)
+
+  -- one word more
+  pub words_more : (n : ℕ) (words : List (Bor (List ℕ))) (d : Bor (List ℕ)) (before middle after : Printout) → n < length words
+      → IsWithWords json kind belongs files (texts (take n words)) before middle
+      → IsWithNamed json kind belongs files (slice_index_or words n d).now middle after
+      → IsWithWords json kind belongs files (texts (take (n + 1) words)) before after
+  words_more n words d before middle after low so_far it =
+      rw (taken-suc n words d low) (word_more (texts (take n words)) (slice_index_or words n d).now before middle after so_far it)

@@ -1,0 +1,16 @@
+use Rattle.warg_answers.proofs.JudgedLemmas.{stopped_audited, verdict_audited}
+use Rattle.warg_answers.specs.RecordLines.{record_lines}
+use Rattle.warg_tasks.proofs.audit.verdict.Goals as goal
+
+pub returns-in-Ok : goal.returns-in-Ok
+returns-in-Ok g c = λ fault_name offence_name shown reports.
+    let state = c.in-Ok.state in
+    let it = c.in-Ok.ensures.lawful fault_name offence_name shown reports in
+    verdict_audited _ (g.V.Verifier.belongs c.args.verifier.now) (record_lines c.args.input.bytes.items) it.0 it.1.0
+    (g.L.Validator.view state) it.1.1 c.in-Ok.count it.1.2 (g.L.Report.lines_of state) (reports.lines state)
+    c.accepted.result c.accepted.ensures
+
+pub returns-in-Err : goal.returns-in-Err
+returns-in-Err g c = λ fault_name offence_name shown reports.
+    stopped_audited _ (g.V.Verifier.belongs c.args.verifier.now) (record_lines c.args.input.bytes.items) c.in-Err.stop
+    (c.in-Err.ensures.stopped fault_name offence_name shown reports)

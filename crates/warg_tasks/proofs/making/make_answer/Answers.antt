@@ -1,0 +1,14 @@
+use Rattle.warg_answers.proofs.JudgedLemmas.{stopped_prints}
+use Rattle.warg_tasks.proofs.MadeLemmas.{made_after}
+use Rattle.warg_answers.specs.RecordLines.{record_lines}
+use Rattle.warg_tasks.proofs.making.make_answer.Goals as goal
+
+pub returns-in-Ok : goal.returns-in-Ok
+returns-in-Ok g c = λ fault_name offence_name shown reports.
+    let it = c.in-Ok.ensures.lawful fault_name offence_name shown reports in
+    made_after _ _ _ _ _ _ _ _ _ (record_lines c.args.input.bytes.items) it.0 _ c.made.result it.1.0 it.1.1 c.made.ensures
+
+pub returns-in-Err : goal.returns-in-Err
+returns-in-Err g c = λ fault_name offence_name shown reports.
+    stopped_prints _ (g.V.Verifier.belongs c.args.verifier.now) _ (record_lines c.args.input.bytes.items) c.in-Err.stop
+    (c.in-Err.ensures.stopped fault_name offence_name shown reports)

@@ -1,0 +1,80 @@
+//! `latest`: the greatest release that meets a requirement.
+
+ghost use Rattle.std.specs.Prelude.{◌≡◌, IfOk, IfErr, Ok, map};
+ghost use Rattle.std.specs.Option.{option_copied, option_map};
+ghost use Rattle.semver.specs.Identifiers.{comparator_view};
+ghost use Rattle.semver.specs.Parse.{req_of};
+ghost use Rattle.warg_protocol.specs.Package.{release_view, view_of};
+ghost use Rattle.warg_audit.specs.LogTypes.{package_log};
+ghost use Rattle.warg_answers.specs.Answers.{answer_view, Answers, IfStopped, IsUnusable};
+ghost use Rattle.warg_tasks.specs.Latest.{IsLatestOf, IsLatestText, latest_text};
+ghost use Rattle.warg_answers.specs.RecordLines.{record_lines};
+ghost use Rattle.warg_answers.specs.Verdicts.{IsPrintedOf};
+
+use std::alloc::{AllocError, Global};
+use warg_answers::answer::Answer;
+use warg_answers::input::Input;
+use warg_answers::judged::judged;
+use warg_answers::stop::{Stop, unusable};
+use warg_protocol::VersionReq;
+use warg_protocol::package::{LogState, Release};
+use warg_protocol::signing::Verifier;
+
+// The line of a release, if there is one.
+fn release_answer(alloc: Global, release: Option<&Release>) -> Result<Answer, AllocError>
+    ensures { IfOk result (λ answer. answer_view answer ≡
+        latest_text (option_map release_view (option_copied release.entry))) }
+{
+    let Some(release) = release else {
+        return Answer::fixed(alloc, "none\n", 1);
+    };
+    match release.content() {
+        Some(content) => {
+            let version = release.version.to_string(alloc)?;
+            let text = format!(in alloc; "{version} {content}\n")?;
+            Ok(Answer::new(alloc, text, 0))
+        }
+        None => Answer::fixed(alloc, "none\n", 1),
+    }
+}
+
+/// The answer of a state: the greatest release that meets the requirement and is not yanked.
+fn latest_of(alloc: Global, state: &LogState, wanted: &VersionReq) -> Result<Answer, AllocError>
+    ensures { IfOk result (λ answer. IsLatestText (view_of state.now).state.own_state
+        wanted.now.comparators.items
+        (answer_view answer)) }
+{
+    release_answer(alloc, state.find_latest_release(wanted))
+}
+
+/// The requirement that the word says.
+pub fn requirement_of(alloc: Global, word: &str) -> Result<VersionReq, Stop>
+    ensures ok { IfOk result (λ wanted. req_of word.now ≡
+        Ok (map comparator_view wanted.comparators.items)) }
+    ensures stopped { IfErr result (IfStopped IsUnusable) }
+{
+    match VersionReq::parse(alloc, word) {
+        Ok(wanted) => Ok(wanted),
+        Err(error) => Err(unusable(
+            alloc,
+            format!(in alloc; "warg: {word:?} is no requirement of versions: {error}\n"),
+        )),
+    }
+}
+
+/// The version and the content of the release of the log in a file that meets the requirement best.
+pub fn latest_answer<V: Verifier>(
+    alloc: Global,
+    verifier: &V,
+    wanted: &VersionReq,
+    input: Input<'_>,
+) -> Result<Answer, Stop>
+    ensures { Answers (IsPrintedOf package_log (V.belongs verifier.now)
+        (IsLatestOf wanted.now.comparators.items)
+        (record_lines input.entry.bytes.items)) result }
+{
+    match judged::<LogState, V>(alloc, verifier, input) {
+        Ok((state, _)) => Ok(latest_of(alloc, &state, wanted)?),
+        Err(stop) => Err(stop),
+    }
+}

@@ -1,0 +1,18 @@
+//! What commands do with the logs in files: audits, the latest release, claims, records that are made and added; and answers
+//! in JSON.
+#![tactic(auto)]
+
+mod append;
+mod audit;
+mod claim_lines;
+mod json;
+mod latest;
+mod making;
+mod many_audits;
+mod task;
+
+pub use audit::{audit_answer, id_answer};
+pub use json::json_answer;
+pub use latest::{latest_answer, requirement_of};
+pub use many_audits::audits_answer;
+pub use task::task_answer;

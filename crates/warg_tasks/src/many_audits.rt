@@ -1,0 +1,192 @@
+//! `audit` of many logs in one call: a line each.
+
+ghost use Rattle.std.specs.Prelude.{◌≡◌, [], ◌∷◌, filter, IfOk, IfErr, OnOk, string_bytes};
+ghost use Rattle.std.specs.Str.Lines.{lines};
+ghost use Rattle.warg_answers.specs.Answers.{answer_view, Answers, IfStopped, IsUnusable};
+ghost use Rattle.warg_tasks.specs.ManyAudits.{audit_line, first_of, is_path, IsManyAnswer, IsVerdictOn, IsWith, IsWithAll, IsWithListed, IsWithNamed};
+ghost use Rattle.warg_answers.specs.RecordLines.{texts};
+
+use crate::audit::audit_answer;
+use crate::json::path_object;
+use std::alloc::{AllocError, Global};
+use std::str;
+use warg_answers::answer::Answer;
+use warg_answers::input::{Input, ReadFault, Store, file_stop, read_input};
+use warg_answers::stop::{Stop, settled};
+use warg_audit::LogType;
+use warg_protocol::signing::Verifier;
+
+// The verdict on one log of many, or why it can't be read.
+fn answer_of_one<V: Verifier, S: Store>(
+    alloc: Global,
+    verifier: &V,
+    kind: LogType,
+    store: &mut S,
+    path: &str,
+) -> Result<Answer, AllocError>
+    ensures verdict { IfOk result (λ answer. IsVerdictOn kind (V.belongs verifier.now)
+        (S.files store.old) path.now (answer_view answer)) }
+    ensures kept { S.files store.new ≡ S.files store.old }
+{
+    match store.read(path) {
+        Ok(bytes) => settled(audit_answer(alloc, verifier, kind, Input { path, bytes })),
+        Err(ReadFault::OutOfMemory) => Err(AllocError),
+        Err(fault) => Answer::fixed(alloc, fault.text(), fault.status()),
+    }
+}
+
+// The first line of a text, if it has one.
+fn first_line(text: &str) -> &str
+    ensures { result.now ≡ first_of (lines text.now) }
+{
+    text.lines().next().unwrap_or("")
+}
+
+// The line of one log of many: its path, and the first line of its verdict or why it can't be read.
+fn one_line(alloc: Global, path: &str, answer: &Answer, is_json: bool) -> Result<String, AllocError>
+    ensures { IfOk result (λ text. string_bytes text ≡
+        audit_line is_json path.now (answer_view answer.now)) }
+{
+    let line = first_line(answer.text.as_str());
+    if is_json {
+        path_object(alloc, path, line, answer.status)
+    } else {
+        format!(in alloc; "{path}: {line}\n")
+    }
+}
+
+/// The verdicts on many logs: of which kind they are, and how each is printed.
+#[derive(Clone, Copy, Debug)]
+struct Verdicts<'v, V> {
+    alloc: Global,
+    verifier: &'v V,
+    kind: LogType,
+    is_json: bool,
+}
+
+impl<'v, V: Verifier> Verdicts<'v, V> {
+    // Adds the line of a log.
+    fn add<S: Store>(&self, store: &mut S, path: &str, all: &mut Answer) -> Result<(), AllocError>
+        ensures added { OnOk result (IsWith self.now.is_json self.now.kind
+            (V.belongs self.now.verifier.now) (S.files store.old) path.now
+            (answer_view all.old) (answer_view all.new)) }
+        ensures kept { S.files store.new ≡ S.files store.old }
+    {
+        let answer = answer_of_one(self.alloc, self.verifier, self.kind, store, path)?;
+        let line = one_line(self.alloc, path, &answer, self.is_json)?;
+        all.text.push_str(line.as_str())?;
+        all.status = all.status.max(answer.status);
+        Ok(())
+    }
+
+    // Adds the line of the log that a line of a list names; an empty line names none.
+    fn add_line<S: Store>(
+        &self,
+        store: &mut S,
+        line: &str,
+        all: &mut Answer,
+    ) -> Result<(), AllocError>
+        ensures added { OnOk result (IsWithAll self.now.is_json self.now.kind
+            (V.belongs self.now.verifier.now) (S.files store.old) (filter is_path (line.now ∷ []))
+            (answer_view all.old) (answer_view all.new)) }
+        ensures kept { S.files store.new ≡ S.files store.old }
+    {
+        if line.is_empty() {
+            Ok(())
+        } else {
+            self.add(store, line, all)
+        }
+    }
+
+    // Adds the lines of the logs of these paths, a line each.
+    fn add_all<S: Store>(
+        &self,
+        store: &mut S,
+        paths: &str,
+        all: &mut Answer,
+    ) -> Result<(), AllocError>
+        ensures added { OnOk result (IsWithAll self.now.is_json self.now.kind
+            (V.belongs self.now.verifier.now) (S.files store.old) (filter is_path (lines paths.now))
+            (answer_view all.old) (answer_view all.new)) }
+        ensures kept { S.files store.new ≡ S.files store.old }
+    {
+        for line in paths.lines() {
+            self.add_line(store, line, all)?;
+        }
+        Ok(())
+    }
+
+    // Adds the lines of the logs whose paths a file lists, by its bytes.
+    fn add_bytes<S: Store>(
+        &self,
+        store: &mut S,
+        list: &str,
+        bytes: &[u8],
+        all: &mut Answer,
+    ) -> Result<(), Stop>
+        ensures added { OnOk result (IsWithAll self.now.is_json self.now.kind
+            (V.belongs self.now.verifier.now) (S.files store.old) (filter is_path (lines bytes.now))
+            (answer_view all.old) (answer_view all.new)) }
+        ensures stopped { IfErr result (IfStopped IsUnusable) }
+        ensures kept { S.files store.new ≡ S.files store.old }
+    {
+        match str::from_utf8(bytes) {
+            Ok(paths) => Ok(self.add_all(store, paths, all)?),
+            Err(_) => Err(file_stop(self.alloc, list, "its paths are no UTF-8")),
+        }
+    }
+
+    // Adds the lines of the logs whose paths a file lists.
+    fn add_listed<S: Store>(&self, store: &mut S, list: &str, all: &mut Answer) -> Result<(), Stop>
+        ensures added { OnOk result (IsWithListed self.now.is_json self.now.kind
+            (V.belongs self.now.verifier.now) (S.files store.old) list.now
+            (answer_view all.old) (answer_view all.new)) }
+        ensures stopped { IfErr result (IfStopped IsUnusable) }
+        ensures kept { S.files store.new ≡ S.files store.old }
+    {
+        match read_input(self.alloc, store, list) {
+            Ok(input) => self.add_bytes(store, list, input.bytes.as_slice(), all),
+            Err(stop) => Err(stop),
+        }
+    }
+
+    // Adds the lines of the logs that a word names.
+    fn add_named<S: Store>(&self, store: &mut S, word: &str, all: &mut Answer) -> Result<(), Stop>
+        ensures added { OnOk result (IsWithNamed self.now.is_json self.now.kind
+            (V.belongs self.now.verifier.now) (S.files store.old) word.now
+            (answer_view all.old) (answer_view all.new)) }
+        ensures stopped { IfErr result (IfStopped IsUnusable) }
+        ensures kept { S.files store.new ≡ S.files store.old }
+    {
+        match word.strip_prefix('@') {
+            Some(list) => self.add_listed(store, list, all),
+            None => Ok(self.add(store, word, all)?),
+        }
+    }
+}
+
+/// The verdicts on many logs, a line each, in the given order. A path that begins with `@` names a list of paths.
+pub fn audits_answer<V: Verifier, S: Store>(
+    alloc: Global,
+    verifier: &V,
+    kind: LogType,
+    store: &mut S,
+    logs: &[&str],
+    is_json: bool,
+) -> Result<Answer, Stop>
+    ensures answered { Answers (IsManyAnswer is_json kind (V.belongs verifier.now)
+        (S.files store.old) (texts logs.now)) result }
+    ensures kept { S.files store.new ≡ S.files store.old }
+{
+    let verdicts = Verdicts {
+        alloc,
+        verifier,
+        kind,
+        is_json,
+    };
+    let mut all = Answer::new(alloc, String::new(alloc), 0);
+    for log in logs {
+        verdicts.add_named(store, log, &mut all)?;
+    }
+    Ok(all)
+}

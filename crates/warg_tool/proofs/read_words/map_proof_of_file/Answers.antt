@@ -1,4 +1,0 @@
-use Rattle.warg_tool.proofs.read_words.map_proof_of_file.Goals as goal
-
-pub returns-in-Ok-clause-ok : goal.returns-in-Ok-clause-ok
-returns-in-Ok-clause-ok c = rw c.in-Ok.ensures.ok at c.map_proof_of.ensures.ok
