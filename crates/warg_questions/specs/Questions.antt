@@ -22,6 +22,12 @@ abbrev pub IsComparisonOf : {View Offence : Type 0} → Kind View Offence → Li
 IsComparisonOf kind left right printed =
     IsComparisonTold kind.id (kind.head (kind.view_of left)) (kind.head (kind.view_of right)) (contents left) (contents right) printed
 
+-- by which entries of these envelopes the key came to hold the permission
+pub record IsChainTold {P : Type 0} (effects : Effects P) (envelopes : List EnvelopeData) (key : List ℕ) (permission : P) (printed : Printout) : Type 0 where
+  pub chain : Option (List Link)
+  pub is_chain : IsChainAnswer effects envelopes key permission chain
+  pub is : printed ≡ chain_text envelopes key chain
+
 -- both lists have an item at the place of a fork
 abbrev pub IsForkWithin : List (List ℕ) → List (List ℕ) → Comparison → Type 0
 IsForkWithin left right (Fork place) = (place < length left) × (place < length right)
@@ -45,10 +51,8 @@ module _ {Meaning Fault View Offence : Type 0} (log : LogDisplay Meaning Fault V
     pub is : printed ≡ permissions_text (knows state key) order text_of (held (view state) key)
 
   -- by which entries the key came to hold the permission after the strings
-  pub record IsChainText {P : Type 0} (effects : Effects P) (key : List ℕ) (permission : P) (strings : List (List ℕ)) (printed : Printout) : Type 0 where
-    pub chain : Option (List Link)
-    pub is_chain : IsChainAnswer effects (envelopes_of log strings) key permission chain
-    pub is : printed ≡ chain_text (envelopes_of log strings) key chain
+  abbrev pub IsChainText : {P : Type 0} → Effects P → List ℕ → P → List (List ℕ) → Printout → Type 0
+  IsChainText effects key permission strings printed = IsChainTold effects (envelopes_of log strings) key permission printed
 
   -- how the strings of two lawful logs compare
   abbrev pub IsComparisonText : List (List ℕ) → List (List ℕ) → Printout → Type 0

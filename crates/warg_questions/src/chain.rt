@@ -5,7 +5,7 @@ ghost use Rattle.std.specs.Option.{option_copied, option_map};
 ghost use Rattle.std.specs.Vec.{vec_items};
 ghost use Rattle.warg_protocol.specs.Logs.{envelopes};
 ghost use Rattle.warg_answers.specs.Answers.{answer_view, Answers, IfStopped, IsUnusable};
-ghost use Rattle.warg_questions.specs.Questions.{IsChainText};
+ghost use Rattle.warg_questions.specs.Questions.{IsChainText, IsChainTold};
 ghost use Rattle.warg_answers.specs.RecordLines.{record_lines};
 ghost use Rattle.warg_answers.specs.Texts.{chain_text as text_of_chain, link_text, links_text, receiver, signer_at};
 ghost use Rattle.warg_answers.specs.Verdicts.{ForDisplay, IsPrintedOf};
@@ -17,7 +17,7 @@ use warg_answers::judged::{Lent, kept};
 use warg_answers::kind::{ToolLog, permission_of};
 use warg_answers::stop::Stop;
 use warg_protocol::signing::{KeyID, Verifier};
-use warg_protocol::{Link, ProtoEnvelope};
+use warg_protocol::{AuditedLog, Link, ProtoEnvelope};
 
 // The signer of the record at a place.
 fn signer<C>(records: &[ProtoEnvelope<C>], place: usize) -> Option<&KeyID>
@@ -99,6 +99,20 @@ pub fn wanted_permission<L: ToolLog>(alloc: Global, word: &str) -> Result<L::Per
     }
 }
 
+// The answer of the chain in a log.
+fn chain_in<L: ToolLog, V: Verifier + Drop>(
+    alloc: Global,
+    log: &AuditedLog<L, V>,
+    key_id: &KeyID,
+    permission: L::Permission,
+) -> Result<Answer, AllocError>
+    ensures { IfOk result (λ answer. IsChainTold L.effects (envelopes log.now.records) key_id.now
+        permission (answer_view answer)) }
+{
+    let links = log.permission_chain(key_id, permission)?;
+    chain_of(alloc, log.records(), links, key_id)
+}
+
 /// The chain of a key and a permission in the log in a file.
 pub fn chain_answer<L: ToolLog, V: Verifier>(
     alloc: Global,
@@ -115,10 +129,7 @@ pub fn chain_answer<L: ToolLog, V: Verifier>(
 {
     let key_id = KeyID::from(String::from_str(alloc, key_id)?);
     match kept::<L, Lent<'_, V>>(alloc, Lent(verifier), input) {
-        Ok(log) => {
-            let links = log.permission_chain(&key_id, permission)?;
-            Ok(chain_of(alloc, log.records(), links, &key_id)?)
-        }
+        Ok(log) => Ok(chain_in(alloc, &log, &key_id, permission)?),
         Err(stop) => Err(stop),
     }
 }

@@ -1,27 +1,20 @@
-use Rattle.std.proofs.Common.{List, ℕ, ◌∙◌, ap, subst}
-use Rattle.std.specs.Option.{option_map}
-use Rattle.std.specs.Vec.{vec_items}
-use Rattle.warg_protocol.specs.Logs.{EnvelopeData, IsChainAnswer, envelopes}
+use Rattle.std.proofs.Common.{List, ℕ, ◌∙◌, subst}
+use Rattle.warg_protocol.specs.Logs.{EnvelopeData, envelopes}
+use Rattle.warg_answers.specs.Answers.{answer_view}
 use Rattle.warg_answers.proofs.JudgedLemmas.{stopped_prints}
 use Rattle.warg_answers.specs.RecordLines.{record_lines}
-use Rattle.warg_answers.specs.Texts.{chain_text}
 use Rattle.warg_answers.specs.Verdicts.{lawful}
+use Rattle.warg_questions.specs.Questions.{IsChainTold}
 use Rattle.warg_questions.proofs.chain.chain_answer.Goals as goal
 
 pub returns-in-Ok : goal.returns-in-Ok
 returns-in-Ok g c = λ fault_name offence_name shown reports.
     let it = c.in-Ok.ensures.lawful fault_name offence_name shown reports in
-    let chain = option_map vec_items c.in_ok-links-in-Ok.links in
+    let printed = answer_view c.in_ok-chain_in-in-Ok.field-0 in
     let key = c.from-key_id.ensures ∙ c.in_ok-from_str.ensures.ok in
-    let ByKey : List ℕ → Type 0 = λ k. IsChainAnswer g.L.Validator.effects (envelopes c.in-Ok.log.records) k c.args.permission chain in
-    let ByRecords : List EnvelopeData → Type 0 = λ es. IsChainAnswer g.L.Validator.effects es c.args.key_id.now c.args.permission chain in
-    lawful it.0 it.1.0 (record {
-      chain = chain;
-      is_chain = subst ByRecords it.1.1 (subst ByKey key c.in_ok-links-in-Ok.ensures);
-      is = c.in_ok-chain_of-in-Ok.ensures ∙ ap (λ rs. chain_text (envelopes rs) c.from-key_id.result chain) c.records.ensures.records
-          ∙ ap (λ k. chain_text (envelopes c.in-Ok.log.records) k chain) key
-          ∙ ap (λ es. chain_text es c.args.key_id.now chain) it.1.1;
-    })
+    let ByKey : List ℕ → Type 0 = λ k. IsChainTold g.L.Validator.effects (envelopes c.in-Ok.log.records) k c.args.permission printed in
+    let ByRecords : List EnvelopeData → Type 0 = λ es. IsChainTold g.L.Validator.effects es c.args.key_id.now c.args.permission printed in
+    lawful it.0 it.1.0 (subst ByRecords it.1.1 (subst ByKey key c.in_ok-chain_in-in-Ok.ensures))
 
 pub returns : goal.returns
 returns g c = λ fault_name offence_name shown reports.
