@@ -1,5 +1,5 @@
 //! Objects written as text member by member, with no value of the whole.
-ghost use Rattle.std.specs.Prelude.{IfErr, IfOk, OnErr, OnOk, ◌≡◌, ◌≤◌, [], List, Some, false, codes, string_bytes};
+ghost use Rattle.std.specs.Prelude.{IfErr, IfOk, OnErr, OnOk, ◌≡◌, ◌≤◌, ◌++◌, ◌∷◌, [], ℕ, List, Some, false, true, codes, string_bytes};
 ghost use Rattle.std.specs.Option.{option_map};
 ghost use Rattle.serde_json.specs.Data.{Data, Members, object, put, string};
 ghost use Rattle.serde_json.specs.View.{view};
@@ -13,7 +13,7 @@ ghost use Rattle.warg_saved.specs.Backs.{AreBack, AreVersionsBack};
 ghost use Rattle.warg_saved.specs.Maps.{put_pairs};
 ghost use Rattle.warg_saved.specs.MapNames.{text_name, text_named};
 ghost use Rattle.warg_saved.specs.Canonical.{HasNoFloat};
-ghost use Rattle.warg_saved.specs.Texts.{PutsText, room_of, texts_of};
+ghost use Rattle.warg_saved.specs.Texts.{PutsText, object_rest, room_of, texts_of};
 
 use crate::name::SavedName;
 use crate::value::SavedValue;
@@ -50,6 +50,30 @@ fn quoted(alloc: Global, text: &str) -> Result<String, JsonError>
 {
     let value = text_value(alloc, text)?;
     Ok(value.to_string(alloc)?)
+}
+
+/// Puts a member behind what was written of an object, with a comma where another stands before it. The error is
+/// `OutOfMemory`.
+fn push_member(
+    alloc: Global,
+    text: &mut String,
+    later: bool,
+    name: &str,
+    value: &str,
+) -> Result<(), JsonError>
+    ensures ok { OnOk result ((rest : List (List ℕ × List ℕ)) →
+        string_bytes text.new ++ object_rest true rest
+        ≡ string_bytes text.old ++ object_rest later ((name.now, value.now) ∷ rest)) }
+    ensures err { IfErr result (λ e. e ≡ fault.OutOfMemory) }
+{
+    if later {
+        text.push(',')?;
+    }
+    let name = quoted(alloc, name)?;
+    text.push_str(name.as_str())?;
+    text.push(':')?;
+    text.push_str(value)?;
+    Ok(())
 }
 
 impl MemberTexts {
@@ -162,13 +186,7 @@ impl MemberTexts {
         text.push('{')?;
         let mut later = false;
         'members: for (name, value) in self.texts.iter() {
-            if later {
-                text.push(',')?;
-            }
-            let name = quoted(self.alloc, name.as_str())?;
-            text.push_str(name.as_str())?;
-            text.push(':')?;
-            text.push_str(value.as_str())?;
+            push_member(self.alloc, &mut text, later, name.as_str(), value.as_str())?;
             later = true;
         }
         text.push('}')?;
