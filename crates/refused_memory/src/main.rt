@@ -62,10 +62,14 @@ fn tell_values(rt: &impl Print, alloc: Global) -> io::Result<()> {
 }
 
 fn tell_values_read(rt: &impl Print, alloc: Global) -> io::Result<()> {
-    for (name, text) in saved::TEXTS {
+    for (name, text) in saved::texts() {
         tell(rt, name, saved::state(alloc, text))?;
     }
-    for (name, members) in saved::MEMBERS {
+    Ok(())
+}
+
+fn tell_members_read(rt: &impl Print, alloc: Global) -> io::Result<()> {
+    for (name, members) in saved::members() {
         tell(rt, name, saved::begun(alloc, members))?;
     }
     tell(
@@ -76,16 +80,32 @@ fn tell_values_read(rt: &impl Print, alloc: Global) -> io::Result<()> {
 }
 
 fn tell_texts_read(rt: &impl Print, alloc: Global) -> io::Result<()> {
-    for (name, text) in saved::STATES {
+    for (name, text) in saved::states() {
         tell(rt, name, saved::text_state(alloc, text))?;
     }
-    for (name, text) in saved::OPERATOR_STATES {
+    Ok(())
+}
+
+fn tell_operator_texts_read(rt: &impl Print, alloc: Global) -> io::Result<()> {
+    for (name, text) in saved::operator_states() {
         tell(rt, name, saved::operator_text_state(alloc, text))?;
     }
-    for (name, text) in saved::CHECKPOINTS {
+    Ok(())
+}
+
+fn tell_checkpoints_read(rt: &impl Print, alloc: Global) -> io::Result<()> {
+    for (name, text) in saved::checkpoints() {
         tell(rt, name, saved::checkpoint(alloc, text))?;
     }
     Ok(())
+}
+
+fn tell_read(rt: &impl Print, alloc: Global) -> io::Result<()> {
+    tell_values_read(rt, alloc)?;
+    tell_members_read(rt, alloc)?;
+    tell_texts_read(rt, alloc)?;
+    tell_operator_texts_read(rt, alloc)?;
+    tell_checkpoints_read(rt, alloc)
 }
 
 fn tell_trees(rt: &impl Print, alloc: Global) -> io::Result<()> {
@@ -93,15 +113,16 @@ fn tell_trees(rt: &impl Print, alloc: Global) -> io::Result<()> {
     tell(rt, "head", trees::head(alloc))
 }
 
+fn tell_all(rt: &impl Print, alloc: Global, log: &[Vec<u8>]) -> io::Result<()> {
+    tell_logs(rt, alloc, log)?;
+    tell_values(rt, alloc)?;
+    tell_read(rt, alloc)?;
+    tell_trees(rt, alloc)
+}
+
 fn main(rt: HostRuntime) -> io::Result<()> {
     match inputs(&rt) {
-        Ok(log) => {
-            tell_logs(&rt, rt.alloc(), log.as_slice())?;
-            tell_values(&rt, rt.alloc())?;
-            tell_values_read(&rt, rt.alloc())?;
-            tell_texts_read(&rt, rt.alloc())?;
-            tell_trees(&rt, rt.alloc())
-        }
+        Ok(log) => tell_all(&rt, rt.alloc(), log.as_slice()),
         Err(refusal) => println!(rt; "log: {}", refusal.name),
     }
 }

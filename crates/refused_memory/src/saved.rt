@@ -10,8 +10,7 @@ use warg_protocol::{Incoherence, JsonError, JsonTextError, JsonValue, operator, 
 const BEGUN: &str =
     "\"algorithm\":\"sha256\",\"head\":{\"digest\":\"sha256:e3b0c44298fc1c149afbf4c8996fb92427ae41e4649b934ca495991b7852b855\",\"timestamp\":\"1.0\"}";
 
-/// Whole texts, each with what it is.
-pub(crate) const TEXTS: &[(&str, &str)] = &[
+const TEXTS: &[(&str, &str)] = &[
     ("no members", "{}"),
     ("a head of null", "{\"head\":null}"),
     ("a list", "[]"),
@@ -31,8 +30,12 @@ pub(crate) const TEXTS: &[(&str, &str)] = &[
     ("a key of no bytes", "{\"keys\":{\"x\":\"toy\"}}"),
 ];
 
-/// Members behind an algorithm and a head, each with what they are.
-pub(crate) const MEMBERS: &[(&str, &str)] = &[
+/// Whole texts, each with what it is.
+pub(crate) fn texts() -> &'static [(&'static str, &'static str)] {
+    TEXTS
+}
+
+const MEMBERS: &[(&str, &str)] = &[
     ("begun", ""),
     (
         "begun, a key under another id",
@@ -48,8 +51,12 @@ pub(crate) const MEMBERS: &[(&str, &str)] = &[
     ),
 ];
 
-/// Texts of which a state is read with no value of the whole, each with what it is.
-pub(crate) const STATES: &[(&str, &str)] = &[
+/// Members behind an algorithm and a head, each with what they are.
+pub(crate) fn members() -> &'static [(&'static str, &'static str)] {
+    MEMBERS
+}
+
+const STATES: &[(&str, &str)] = &[
     (
         "from_json",
         "{\"algorithm\":\"sha256\",\"head\":{\"digest\":\"sha256:88e63a3e22d45d5304a601e1f3f96e4c8edb3772b5250b528a833bfbf3c3c718\",\"timestamp\":\"3.0\"},\"keys\":{\"sha256:41217e6dcb8c0694d904eb6ff3e4098d479db7c8f90cd8db737d85701d464db0\":\"toy:Ym9i\",\"sha256:6f03ae61d0fd3df261d400afe99bdcd613f266104552b6ad5281c7666633c6e2\":\"toy:YWxpY2U=\"},\"permissions\":{\"sha256:41217e6dcb8c0694d904eb6ff3e4098d479db7c8f90cd8db737d85701d464db0\":[],\"sha256:6f03ae61d0fd3df261d400afe99bdcd613f266104552b6ad5281c7666633c6e2\":[\"release\",\"yank\"]},\"releases\":{\"1.1.0\":{\"by\":\"sha256:41217e6dcb8c0694d904eb6ff3e4098d479db7c8f90cd8db737d85701d464db0\",\"recordId\":\"sha256:980dfd23c944eebfbcc477c24acde9b1c3838478faa48d4f9e13e947740a3482\",\"state\":{\"by\":\"sha256:6f03ae61d0fd3df261d400afe99bdcd613f266104552b6ad5281c7666633c6e2\",\"status\":\"yanked\",\"timestamp\":\"3.0\"},\"timestamp\":\"2.0\",\"version\":\"1.1.0\"}}}",
@@ -66,8 +73,12 @@ pub(crate) const STATES: &[(&str, &str)] = &[
     ("from_json, no end", "{\"releases\":{"),
 ];
 
-/// Texts of which an operator log's state is read, each with what it is.
-pub(crate) const OPERATOR_STATES: &[(&str, &str)] = &[
+/// Texts of which a state is read with no value of the whole, each with what it is.
+pub(crate) fn states() -> &'static [(&'static str, &'static str)] {
+    STATES
+}
+
+const OPERATOR_STATES: &[(&str, &str)] = &[
     (
         "from_json, two namespaces",
         "{\"algorithm\":\"sha256\",\"head\":{\"digest\":\"sha256:88e63a3e22d45d5304a601e1f3f96e4c8edb3772b5250b528a833bfbf3c3c718\",\"timestamp\":\"3.0\"},\"keys\":{\"sha256:6f03ae61d0fd3df261d400afe99bdcd613f266104552b6ad5281c7666633c6e2\":\"toy:YWxpY2U=\"},\"namespaces\":{\"my-namespace\":{\"state\":\"defined\"},\"other\":{\"state\":{\"imported\":{\"registry\":\"registry.example.com\"}}}},\"permissions\":{\"sha256:6f03ae61d0fd3df261d400afe99bdcd613f266104552b6ad5281c7666633c6e2\":[\"commit\"]}}",
@@ -78,8 +89,12 @@ pub(crate) const OPERATOR_STATES: &[(&str, &str)] = &[
     ),
 ];
 
-/// Checkpoints, each with what it is.
-pub(crate) const CHECKPOINTS: &[(&str, &str)] = &[
+/// Texts of which an operator log's state is read, each with what it is.
+pub(crate) fn operator_states() -> &'static [(&'static str, &'static str)] {
+    OPERATOR_STATES
+}
+
+const CHECKPOINTS: &[(&str, &str)] = &[
     (
         "a checkpoint of length -1",
         "{\"logLength\":-1,\"logRoot\":\"sha256:e3b0c44298fc1c149afbf4c8996fb92427ae41e4649b934ca495991b7852b855\",\"mapRoot\":\"sha256:e3b0c44298fc1c149afbf4c8996fb92427ae41e4649b934ca495991b7852b855\"}",
@@ -89,6 +104,11 @@ pub(crate) const CHECKPOINTS: &[(&str, &str)] = &[
         "{\"logLength\":1.5,\"logRoot\":\"sha256:e3b0c44298fc1c149afbf4c8996fb92427ae41e4649b934ca495991b7852b855\",\"mapRoot\":\"sha256:e3b0c44298fc1c149afbf4c8996fb92427ae41e4649b934ca495991b7852b855\"}",
     ),
 ];
+
+/// Checkpoints, each with what it is.
+pub(crate) fn checkpoints() -> &'static [(&'static str, &'static str)] {
+    CHECKPOINTS
+}
 
 fn incoherence_name(incoherence: Incoherence) -> &'static str {
     match incoherence {
