@@ -2,7 +2,8 @@
 #![tactic(auto)]
 
 use std::alloc::{AllocError, Global};
-use std::{env, fs};
+use std::rt::{Env, Files};
+use std::{env, fs, io};
 use warg_protocol::package::{LogState, ValidationError};
 use warg_protocol::signing::SignatureError;
 use warg_protocol::toy::ToyVerifier;
@@ -45,14 +46,16 @@ fn describe_cause(alloc: Global, cause: &RunCause<ValidationError>) -> Result<St
     }
 }
 
+fn describe_error(alloc: Global, error: &RunError<ValidationError>) -> Result<String, AllocError> {
+    let cause = describe_cause(alloc, &error.cause)?;
+    format!(in alloc; "record {}: {cause}", error.index)
+}
+
 // The result for a whole log, as text.
 fn describe(alloc: Global, log: &[Vec<u8>]) -> Result<String, AllocError> {
     match run::<LogState, ToyVerifier>(alloc, &ToyVerifier, log) {
         Ok(state) => format!(in alloc; "lawful, with {} releases", state.releases().count()),
-        Err(RunError { index, cause }) => format!(in alloc;
-            "record {index}: {}",
-            describe_cause(alloc, &cause)?
-        ),
+        Err(error) => describe_error(alloc, &error),
     }
 }
 
@@ -70,18 +73,31 @@ fn refusal_name(alloc: Global, log: &[Vec<u8>]) -> Option<&'static str> {
     }
 }
 
-fn main(rt: HostRuntime) -> anyhow::Result<()> {
+// The envelopes in the files that the program's words name.
+fn read_log(rt: &(impl Alloc<A = Global> + Env + Files)) -> anyhow::Result<Vec<Vec<u8>>> {
     let mut log = Vec::new(rt.alloc());
-    for file in env::args(&rt)?.skip(1) {
-        log.push(fs::read(&rt, file.as_str())?)?;
+    for file in env::args(rt)?.skip(1) {
+        log.push(fs::read(rt, file.as_str())?)?;
     }
-    println!(rt; "{}", describe(rt.alloc(), log.as_slice())?)?;
-    match count_releases(rt.alloc(), log.as_slice()) {
-        Ok(count) => println!(rt; "{count} releases")?,
-        Err(error) => println!(rt; "{error}")?,
+    Ok(log)
+}
+
+fn tell_count(rt: &(impl Alloc<A = Global> + Print), log: &[Vec<u8>]) -> io::Result<()> {
+    match count_releases(rt.alloc(), log) {
+        Ok(count) => println!(rt; "{count} releases"),
+        Err(error) => println!(rt; "{error}"),
     }
-    if let Some(name) = refusal_name(rt.alloc(), log.as_slice()) {
+}
+
+fn tell(rt: &(impl Alloc<A = Global> + Print), log: &[Vec<u8>]) -> anyhow::Result<()> {
+    println!(rt; "{}", describe(rt.alloc(), log)?)?;
+    tell_count(rt, log)?;
+    if let Some(name) = refusal_name(rt.alloc(), log) {
         println!(rt; "{name}")?;
     }
     Ok(())
+}
+
+fn main(rt: HostRuntime) -> anyhow::Result<()> {
+    tell(&rt, read_log(&rt)?.as_slice())
 }

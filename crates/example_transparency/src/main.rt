@@ -4,6 +4,7 @@
 #![tactic(auto)]
 
 use std::alloc::Global;
+use std::rt::{Env, Files};
 use std::{env, fs};
 use warg_protocol::hash::{HashAlgorithm, Sha256};
 use warg_protocol::operator::LogState;
@@ -16,6 +17,8 @@ use warg_protocol::transparency::{
     LogProof, LogTree, MapProof, MapTree, OfTrees, verify_consistency, verify_head,
 };
 use warg_protocol::{AuditedLog, Encode, Signable, Timestamp};
+
+type OperatorLog = AuditedLog<LogState, ToyVerifier>;
 
 // A checkpoint as it is published.
 #[derive(Drop)]
@@ -104,15 +107,17 @@ fn goes_on(alloc: Global, old: &Checkpoint, new: &Checkpoint, text: &str) -> any
     Ok(verify_consistency(old, new, proof.hashes()))
 }
 
-// The operator log that the envelopes are.
-fn audited(
-    alloc: Global,
-    envelopes: &[Vec<u8>],
-) -> anyhow::Result<AuditedLog<LogState, ToyVerifier>> {
-    let mut log = AuditedLog::<LogState, ToyVerifier>::new(alloc, ToyVerifier)?;
-    if let Err(error) = log.append_all(envelopes) {
-        anyhow::bail!("record {} is refused", error.index);
+fn append_all(log: &mut OperatorLog, envelopes: &[Vec<u8>]) -> anyhow::Result<()> {
+    match log.append_all(envelopes) {
+        Ok(()) => Ok(()),
+        Err(error) => anyhow::bail!("record {} is refused", error.index),
     }
+}
+
+// The operator log that the envelopes are.
+fn audited(alloc: Global, envelopes: &[Vec<u8>]) -> anyhow::Result<OperatorLog> {
+    let mut log = OperatorLog::new(alloc, ToyVerifier)?;
+    append_all(&mut log, envelopes)?;
     Ok(log)
 }
 
@@ -120,50 +125,167 @@ fn told(is_so: bool) -> &'static str {
     if is_so { "shown" } else { "refused" }
 }
 
-fn main(rt: HostRuntime) -> anyhow::Result<()> {
-    let alloc = rt.alloc();
-    let mut envelopes = Vec::new(alloc);
-    for file in env::args(&rt)?.skip(1) {
-        envelopes.push(fs::read(&rt, file.as_str())?)?;
+// The heads of two logs of a registry: of the one that is audited, and of another.
+#[derive(Clone, Copy)]
+struct Heads {
+    log_id: LogId,
+    head: RecordId,
+    other_log: LogId,
+    other: RecordId,
+}
+
+impl Heads {
+    fn new(head: RecordId) -> Heads {
+        Heads {
+            log_id: LogId::operator_log::<Sha256>(),
+            head,
+            other_log: LogId::from(HashAlgorithm::Sha256.digest(b"another log")),
+            other: RecordId::from(HashAlgorithm::Sha256.digest(b"a record of another log")),
+        }
     }
-    let log = audited(alloc, envelopes.as_slice())?;
-    let Some(head) = log.head() else {
-        anyhow::bail!("the log is empty");
-    };
-    let log_id = LogId::operator_log::<Sha256>();
-    let other = RecordId::from(HashAlgorithm::Sha256.digest(b"a record of another log"));
-    let other_log = LogId::from(HashAlgorithm::Sha256.digest(b"another log"));
+}
 
-    // What the registry publishes: two checkpoints, and proofs as texts.
-    let mut registry = Registry::new(alloc, b"alice")?;
-    registry.publish(log_id, *head)?;
-    let first = registry.checkpoint(alloc)?;
-    let head_text = registry.map.proof(&log_id)?.to_text(alloc)?;
-    registry.publish(other_log, other)?;
-    let second = registry.checkpoint(alloc)?;
-    let length = first.checkpoint.checkpoint.log_length;
-    let consistency_text = registry.consistency(alloc, length)?;
+// A checkpoint with the text of a proof: that the head stands under it, or that its log goes on from the first leaf.
+#[derive(Drop)]
+struct Proved {
+    published: Published,
+    text: String,
+}
 
-    // Another history of the same length, by a stranger.
+// The first checkpoint that the registry publishes, with the head's proof.
+fn begun(alloc: Global, registry: &mut Registry, heads: &Heads) -> anyhow::Result<Proved> {
+    registry.publish(heads.log_id, heads.head)?;
+    let text = registry.map.proof(&heads.log_id)?.to_text(alloc)?;
+    Ok(Proved {
+        published: registry.checkpoint(alloc)?,
+        text,
+    })
+}
+
+// The checkpoint after one more leaf, with the proof that its log goes on from the first one.
+fn gone_on(
+    alloc: Global,
+    registry: &mut Registry,
+    log_id: LogId,
+    head: RecordId,
+) -> anyhow::Result<Proved> {
+    registry.publish(log_id, head)?;
+    let text = registry.consistency(alloc, 1)?;
+    Ok(Proved {
+        published: registry.checkpoint(alloc)?,
+        text,
+    })
+}
+
+// Another history of the same length, by a stranger.
+fn forked(alloc: Global, heads: &Heads) -> anyhow::Result<Proved> {
     let mut fork = Registry::new(alloc, b"mallory")?;
-    fork.publish(other_log, other)?;
-    fork.publish(log_id, *head)?;
-    let forked = fork.checkpoint(alloc)?;
-    let fork_text = fork.consistency(alloc, length)?;
+    fork.publish(heads.other_log, heads.other)?;
+    gone_on(alloc, &mut fork, heads.log_id, heads.head)
+}
 
-    // What the client tests.
-    for published in [&first, &second, &forked] {
-        let is_signed = is_signed(alloc, log.state(), published)?;
-        println!(rt; "the signature of an operator: {}", told(is_signed))?;
-    }
-    let old = &first.checkpoint.checkpoint;
-    for record in [head, &other] {
-        let is_head = has_head(alloc, old, &log_id, record, head_text.as_str())?;
+// What comes next by the registry, and by the stranger.
+fn later(
+    alloc: Global,
+    registry: &mut Registry,
+    heads: &Heads,
+) -> anyhow::Result<(Proved, Proved)> {
+    let second = gone_on(alloc, registry, heads.other_log, heads.other)?;
+    Ok((second, forked(alloc, heads)?))
+}
+
+// Whether an operator signed the checkpoint.
+fn tell_signature(
+    rt: &(impl Alloc<A = Global> + Print),
+    operator: &LogState,
+    proved: &Proved,
+) -> anyhow::Result<()> {
+    let is_signed = is_signed(rt.alloc(), operator, &proved.published)?;
+    println!(rt; "the signature of an operator: {}", told(is_signed))?;
+    Ok(())
+}
+
+// Whether each of two records is the head of the log under the checkpoint.
+fn tell_heads(
+    rt: &(impl Alloc<A = Global> + Print),
+    first: &Proved,
+    heads: &Heads,
+) -> anyhow::Result<()> {
+    let checkpoint = &first.published.checkpoint.checkpoint;
+    for record in [heads.head, heads.other] {
+        let text = first.text.as_str();
+        let is_head = has_head(rt.alloc(), checkpoint, &heads.log_id, &record, text)?;
         println!(rt; "the head {record}: {}", told(is_head))?;
     }
-    for (new, text) in [(&second, &consistency_text), (&forked, &fork_text)] {
-        let is_later = goes_on(alloc, old, &new.checkpoint.checkpoint, text.as_str())?;
-        println!(rt; "the next checkpoint: {}", told(is_later))?;
-    }
     Ok(())
+}
+
+// Whether the log of the new checkpoint goes on from that of the first one.
+fn tell_next(
+    rt: &(impl Alloc<A = Global> + Print),
+    first: &Proved,
+    new: &Proved,
+) -> anyhow::Result<()> {
+    let old = &first.published.checkpoint.checkpoint;
+    let checkpoint = &new.published.checkpoint.checkpoint;
+    let is_later = goes_on(rt.alloc(), old, checkpoint, new.text.as_str())?;
+    println!(rt; "the next checkpoint: {}", told(is_later))?;
+    Ok(())
+}
+
+// What the client tests.
+fn tell_tests(
+    rt: &(impl Alloc<A = Global> + Print),
+    operator: &LogState,
+    heads: &Heads,
+    first: &Proved,
+    second: &Proved,
+    fork: &Proved,
+) -> anyhow::Result<()> {
+    for proved in [first, second, fork] {
+        tell_signature(rt, operator, proved)?;
+    }
+    tell_heads(rt, first, heads)?;
+    tell_next(rt, first, second)?;
+    tell_next(rt, first, fork)
+}
+
+// What the client tests under the first checkpoint.
+fn tell_under(
+    rt: &(impl Alloc<A = Global> + Print),
+    operator: &LogState,
+    heads: &Heads,
+    registry: &mut Registry,
+    first: &Proved,
+) -> anyhow::Result<()> {
+    let (second, fork) = later(rt.alloc(), registry, heads)?;
+    tell_tests(rt, operator, heads, first, &second, &fork)
+}
+
+// What the client tests of a registry, whose operators' log has this state.
+fn tell(
+    rt: &(impl Alloc<A = Global> + Print),
+    operator: &LogState,
+    heads: &Heads,
+) -> anyhow::Result<()> {
+    let mut registry = Registry::new(rt.alloc(), b"alice")?;
+    let first = begun(rt.alloc(), &mut registry, heads)?;
+    tell_under(rt, operator, heads, &mut registry, &first)
+}
+
+// The envelopes in the files that the program's words name.
+fn read_log(rt: &(impl Alloc<A = Global> + Env + Files)) -> anyhow::Result<Vec<Vec<u8>>> {
+    let mut envelopes = Vec::new(rt.alloc());
+    for file in env::args(rt)?.skip(1) {
+        envelopes.push(fs::read(rt, file.as_str())?)?;
+    }
+    Ok(envelopes)
+}
+
+fn main(rt: HostRuntime) -> anyhow::Result<()> {
+    let log = audited(rt.alloc(), read_log(&rt)?.as_slice())?;
+    match log.head() {
+        Some(head) => tell(&rt, log.state(), &Heads::new(*head)),
+        None => anyhow::bail!("the log is empty"),
+    }
 }
