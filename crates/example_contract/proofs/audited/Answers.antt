@@ -1,7 +1,0 @@
--- What `run` returns is what the law speaks of, for this verifier and these strings.
-use Rattle.std.proofs.Common.{map}
-use Rattle.std.specs.Vec.{vec_items}
-use Rattle.example_contract.proofs.audited.Goals as goal
-
-pub returns : goal.returns
-returns g c = c.states_tell_history.ensures.run (g.V.Verifier.belongs c.args.verifier.now) (map vec_items c.args.strings.now) c.run.result c.run.ensures
