@@ -1,6 +1,6 @@
 use Rattle.std.proofs.Common.{map}
 use Rattle.std.specs.Vec.{vec_items}
-use Rattle.warg_protocol_tests.proofs.package_program.audited.Goals as goal
+use Rattle.warg_tests.proofs.package_program.audited.Goals as goal
 
 pub returns : goal.returns
 returns g c = c.states_tell_history.ensures.run (g.V.Verifier.belongs c.args.verifier.now) (map vec_items c.args.strings.now) c.run.result c.run.ensures

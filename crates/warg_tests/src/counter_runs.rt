@@ -1,9 +1,9 @@
 //! Strings of the least kind of log, read as a whole.
-use crate::counter::{CountError, Counter};
 use std::alloc::{AllocError, Global};
 use std::test::Fail;
 use warg_crypto::toy::ToyVerifier;
 use warg_envelope::{DecodeError, ParseEnvelopeError, ProtoEnvelope};
+use warg_protocol_tests::counter::{CountError, Counter};
 use warg_validator::{RunCause, RunError, Validator, run, run_from};
 
 /// A string whose record says the number; at 255 one whose content is no record.
@@ -53,7 +53,7 @@ fn the_first_offence_is_told(rt: HostRuntime) -> Result<(), Fail> {
     ] {
         let strings = lines(alloc, &numbers)?;
         let found = run::<Counter, ToyVerifier>(alloc, &ToyVerifier, strings.as_slice());
-        assert_eq!(rt; found.map(|state| state.count), want);
+        assert_eq!(rt; found.map(|state| state.count()), want);
     }
     Ok(())
 }
@@ -64,7 +64,7 @@ fn no_strings_are_an_empty_log(rt: HostRuntime) -> Result<(), Fail> {
         Ok(state) => state,
         Err(_) => return Err(Fail::from("refused")),
     };
-    assert_eq!(rt; state.count, 0);
+    assert_eq!(rt; state.count(), 0);
     assert!(rt; state.head_digest().is_none());
     Ok(())
 }
@@ -84,7 +84,7 @@ fn a_log_goes_on(rt: HostRuntime) -> Result<(), Fail> {
         };
         let rest = lines(alloc, &numbers)?;
         let found = run_from(alloc, state, &ToyVerifier, rest.as_slice());
-        assert_eq!(rt; found.map(|state| state.count), want);
+        assert_eq!(rt; found.map(|state| state.count()), want);
     }
     Ok(())
 }
@@ -100,7 +100,7 @@ fn a_record_is_taken_in_place(rt: HostRuntime) -> Result<(), Fail> {
     ] {
         let envelope = ProtoEnvelope::from_protobuf(alloc, line(alloc, number)?.as_slice())?;
         assert!(rt; state.append(&envelope, &ToyVerifier) == want);
-        assert_eq!(rt; state.count, 1);
+        assert_eq!(rt; state.count(), 1);
     }
     Ok(())
 }
