@@ -1,3 +1,4 @@
+pub mod FirstEntryLemmas
 pub mod RecordLineLemmas
 pub mod PlainLemmas
 pub mod JudgedLemmas

@@ -6,4 +6,5 @@ pub mod Unusable
 pub mod Verdicts
 pub mod ReadFaults
 pub mod ShownWords
+pub mod Explanations
 pub mod Sentences

@@ -1,8 +1,11 @@
--- The words in which records, keys, releases and namespaces are shown. What a time is shown as is not said here: it stands as some text.
-use Rattle.std.specs.Prelude.{◌≡◌, ℕ, List, [], ◌∷◌, ◌++◌, codes, map, unwrap_or, Result, Ok}
+-- The words in which times, records, keys, releases and namespaces are shown.
+use Rattle.std.specs.Prelude.{◌≡◌, ℕ, ℤ, pos, ◌+ℤ◌, ◌*ℤ◌, List, [], ◌∷◌, ◌++◌, codes, map, unwrap_or, Result, Ok}
 use Rattle.std.specs.List.{IsDistinct}
 use Rattle.std.specs.Map.{keys_of}
 use Rattle.std.specs.Str.{bytes_eq}
+use Rattle.jiff.specs.Words.{civil_nanos, iso_datetime_text}
+use Rattle.jiff.specs.Instant.{IsTimestampParts}
+use Rattle.jiff_core.specs.declared.civil.datetime.DateTime.{DateTime}
 use Rattle.warg_crypto.specs.NamedBytes.{named_bytes_text}
 use Rattle.warg_audit.specs.LogTypes.{operator_log, package_log}
 use Rattle.warg_protocol.specs.Logs.{AreKeysOf, EnvelopeData, KeyData}
@@ -10,13 +13,34 @@ use Rattle.warg_protocol.specs.Operator.{Defined, Imported, Namespace, OperatorO
 use Rattle.warg_protocol.specs.Operator as in_operator
 use Rattle.warg_protocol.specs.Package.{PackageOwnEntry, ReleaseState, ReleaseView}
 use Rattle.warg_protocol.specs.Package as in_package
-use Rattle.warg_protocol.specs.Records.{EntryData, SharedEntry, hash_text, parts_text}
+use Rattle.warg_protocol.specs.Records.{EntryData, RecordData, SharedEntry, hash_text, parts_text}
 use Rattle.warg_protocol.specs.ReleaseStates.{Released, Yanked}
+use Rattle.warg_protocol.specs.Texts.{Time, shown_time}
 use Rattle.warg_records.specs.OperatorEntries.{DefineNamespace, ImportNamespace}
 use Rattle.warg_records.specs.PackageEntries.{Release, Yank}
 use Rattle.warg_records.specs.RecordData.{GrantFlat, Init, Own, RevokeFlat, Shared}
 
+-- ---- times
+
+-- the date and the time of day that a clock at UTC shows then
+abbrev pub IsShownAt : Time → DateTime → Type 0
+IsShownAt time shown = civil_nanos shown ≡ time.seconds *ℤ pos 1_000_000_000 +ℤ pos time.nanos
+
+-- a time as RFC 3339 has it, in UTC; where the calendar does not reach, its seconds and nanoseconds since 1970
+pub data IsTimeText (time : Time) (text : List ℕ) : Type 0 where
+  in_utc : (shown : DateTime) → IsShownAt time shown → text ≡ iso_datetime_text shown ++ codes "Z" → IsTimeText time text
+  beyond : (IsTimestampParts time.seconds (pos time.nanos) → ⊥) → text ≡ shown_time time → IsTimeText time text
+
 -- ---- records
+
+-- what is shown of a record: its time, and its entries in words
+pub record RecordWords : Type 0 where
+  pub time : Time
+  pub entries : List (List ℕ)
+
+-- entries in words, of a record that was made then
+abbrev pub words_at : Time → List (List ℕ) → RecordWords
+words_at time entries = record { time = time; entries = entries }
 
 -- the texts one after another, a space before each
 abbrev pub after_spaces : List (List ℕ) → List ℕ
@@ -37,9 +61,9 @@ comma_list (text ∷ more) = codes " " ++ (text ++ after_commas more)
 abbrev pub record_line : List ℕ → List ℕ → List ℕ → List ℕ
 record_line time key_id entries = time ++ (codes " " ++ (key_id ++ (codes ":" ++ (entries ++ codes "\n"))))
 
--- the line of a record with these entries, which this key is said to have signed
-abbrev pub IsRecordLine : List ℕ → List (List ℕ) → List ℕ → Type 0
-IsRecordLine key_id entries line = (time : List ℕ) × (line ≡ record_line time key_id (comma_list entries))
+-- the line of a record of which this is shown, and which this key is said to have signed
+abbrev pub IsRecordLine : List ℕ → RecordWords → List ℕ → Type 0
+IsRecordLine key_id words line = (time : List ℕ) × IsTimeText words.time time × (line ≡ record_line time key_id (comma_list words.entries))
 
 -- an entry that both kinds have
 abbrev pub shared_words : {P : Type 0} → (P → List ℕ) → SharedEntry P → List ℕ
@@ -59,15 +83,19 @@ operator_entry_words (Shared entry) = shared_words in_operator.permission_text e
 operator_entry_words (Own (DefineNamespace namespace)) = codes "define " ++ namespace
 operator_entry_words (Own (ImportNamespace namespace registry)) = codes "import " ++ (namespace ++ (codes " " ++ registry))
 
--- the content bytes say a record whose entries have these words
-abbrev pub SaysWords : {M F : Type 0} → (List ℕ → Result M F) → (M → List (List ℕ)) → List ℕ → List (List ℕ) → Type 0
+-- the content bytes say a record of which this is shown
+abbrev pub SaysWords : {M F : Type 0} → (List ℕ → Result M F) → (M → RecordWords) → List ℕ → RecordWords → Type 0
 SaysWords {M} read words_of content words = (it : M) × (read content ≡ Ok it) × (words ≡ words_of it)
 
-abbrev pub says_package_words : List ℕ → List (List ℕ) → Type 0
-says_package_words content words = SaysWords package_log.read (λ it. map package_entry_words it.entries) content words
+-- what is shown of a record of either kind, by the words of its entries
+abbrev pub record_words : {P O : Type 0} → (EntryData P O → List ℕ) → RecordData P O → RecordWords
+record_words entry_words it = words_at it.time (map entry_words it.entries)
 
-abbrev pub says_operator_words : List ℕ → List (List ℕ) → Type 0
-says_operator_words content words = SaysWords operator_log.read (λ it. map operator_entry_words it.entries) content words
+abbrev pub says_package_words : List ℕ → RecordWords → Type 0
+says_package_words content words = SaysWords package_log.read (record_words package_entry_words) content words
+
+abbrev pub says_operator_words : List ℕ → RecordWords → Type 0
+says_operator_words content words = SaysWords operator_log.read (record_words operator_entry_words) content words
 
 -- ---- states
 
@@ -88,7 +116,7 @@ yanked_line version by time = codes "release " ++ (version ++ (codes " yanked by
 -- the line of a release that stands, or was yanked
 abbrev pub IsStandingLine : List ℕ → ReleaseState → List ℕ → Type 0
 IsStandingLine version (Released content) line = line ≡ codes "release " ++ (version ++ (codes " " ++ (hash_text content ++ codes "\n")))
-IsStandingLine version (Yanked by timestamp) line = (time : List ℕ) × (line ≡ yanked_line version by time)
+IsStandingLine version (Yanked by timestamp) line = (time : List ℕ) × IsTimeText timestamp time × (line ≡ yanked_line version by time)
 
 abbrev pub IsReleaseLine : ReleaseView → List ℕ → Type 0
 IsReleaseLine release line = IsStandingLine (parts_text release.version) release.state line

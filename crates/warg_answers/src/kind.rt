@@ -4,7 +4,8 @@ ghost use Rattle.std.specs.Prelude.{◌≡◌, ℕ, Bool, List, Result, Ok, IfOk
 ghost use Rattle.warg_protocol.specs.Json.{JsonError as OfJsonError, JsonTextError as OfJsonTextError, ReturnsOrNoMemory};
 ghost use Rattle.warg_protocol.specs.Logs.{EnvelopeData};
 ghost use Rattle.warg_saved.specs.JsonText.{ReturnsOfText};
-ghost use Rattle.warg_answers.specs.ShownWords.{IsRecordLine};
+ghost use Rattle.warg_answers.specs.Explanations.{HoldsFirst};
+ghost use Rattle.warg_answers.specs.ShownWords.{IsRecordLine, RecordWords};
 
 use std::alloc::{AllocError, Global};
 use warg_audit::Report;
@@ -26,10 +27,16 @@ pub trait ToolLog: Report {
 
     ghost state_of: { List ℕ → Result Self OfJsonTextError };
 
-    // The words of a record's entries, and whether content bytes say a record with such words.
-    ghost words_of: { Self.Record → List (List ℕ) };
+    // What is shown of a record, and whether content bytes say a record of which this is shown.
+    ghost words_of: { Self.Record → RecordWords };
 
-    ghost says_words: { List ℕ → List (List ℕ) → Type 0 };
+    ghost says_words: { List ℕ → RecordWords → Type 0 };
+
+    // The sentence of an error.
+    ghost sentence_of: { Self.Error → List ℕ };
+
+    // Whether a record has so many of the first entries of another, and is no other else.
+    ghost has_first: { ℕ → Self.Record → Self.Record → Type 0 };
 
     // Whether a text shows the state that records lead to.
     ghost shows: { List EnvelopeData → List ℕ → Type 0 };
@@ -54,12 +61,9 @@ pub trait ToolLog: Report {
     fn of_json_text(alloc: Global, text: &str) -> Result<Self, JsonTextError>
         ensures { ReturnsOfText (λ state. state) result (state_of text.now) };
 
-    /// Appends the error in words.
-    fn append_error(
-        alloc: Global,
-        error: &Self::Error,
-        text: &mut String,
-    ) -> Result<(), AllocError>;
+    /// The error in words.
+    fn error_sentence(alloc: Global, error: &Self::Error) -> Result<String, AllocError>
+        ensures { IfOk result (λ text. string_bytes text ≡ sentence_of error.now) };
 
     /// The line of a record: its time, its signer, and its entries in words.
     fn record_line(
@@ -69,12 +73,15 @@ pub trait ToolLog: Report {
         ensures { IfOk result (λ line. IsRecordLine envelope.now.envelope.key_id
             (words_of envelope.now.contents) (string_bytes line)) };
 
-    /// The content bytes of the record with so many of its first entries.
+    /// The record with so many of its first entries, in an envelope of the same signer. None where what is written of that
+    /// record does not say it.
     fn first_entries(
         alloc: Global,
         envelope: &ProtoEnvelope<Self::Record>,
         count: usize,
-    ) -> Result<Vec<u8>, AllocError>;
+    ) -> Result<Option<ProtoEnvelope<Self::Record>>, AllocError>
+        ensures { IfOk result (λ found. IfSome found
+            (HoldsFirst has_first envelope.now count)) };
 
     /// A line for each key, and for each release or namespace.
     fn state_text(&self, alloc: Global) -> Result<String, AllocError>

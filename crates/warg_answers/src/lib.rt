@@ -8,5 +8,6 @@ pub mod kind;
 pub mod lines;
 mod operator_log;
 mod package_log;
+mod resealed;
 pub mod stop;
 mod wording;

@@ -5,7 +5,8 @@ ghost use Rattle.warg_protocol.specs.Operator.{namespace_view};
 ghost use Rattle.warg_answers.specs.ShownWords.{namespace_line, namespace_lines};
 
 use crate::kind::ToolLog;
-use crate::wording::{EntryWords, append, key_lines, permission_words, record_line};
+use crate::resealed::resealed;
+use crate::wording::{EntryWords, key_lines, permission_words, record_line};
 use std::alloc::{AllocError, Global};
 use warg_permissions::LogPermission;
 use warg_protocol::operator::{
@@ -13,7 +14,8 @@ use warg_protocol::operator::{
     ValidationError,
 };
 use warg_protocol::signing::KeyID;
-use warg_protocol::{Encode, JsonError, JsonTextError, ProtoEnvelope};
+use warg_protocol::{JsonError, JsonTextError, ProtoEnvelope};
+use warg_records::laws::equality;
 
 impl EntryWords for OperatorEntry {
     ghost use Rattle.warg_protocol.specs.Operator.{entry_data};
@@ -72,13 +74,15 @@ fn namespace_lines(alloc: Global, namespaces: Namespaces<'_>) -> Result<String, 
 }
 
 impl ToolLog for LogState {
-    ghost use Rattle.std.proofs.Common.{sym};
+    ghost use Rattle.std.proofs.Common.{ap, sym};
     ghost use Rattle.std.proofs.lemmas.Simd.{map-map};
     ghost use Rattle.std.specs.Prelude.{[], ◌∷◌, map};
     ghost use Rattle.warg_protocol.specs.Json.{in_text, text_of as written_text};
     ghost use Rattle.warg_protocol.specs.Operator.{entry_data, permission_text, record_data, state_in, state_json, view_of};
+    ghost use Rattle.warg_operator_log.specs.ErrorTexts.{error_text};
+    ghost use Rattle.warg_answers.specs.Explanations.{has_first_operator_entries};
     ghost use Rattle.warg_permissions.specs.declared.operator.Permission.TheVariants as permission;
-    ghost use Rattle.warg_answers.specs.ShownWords.{operator_entry_words, says_operator_words, shows_namespaces};
+    ghost use Rattle.warg_answers.specs.ShownWords.{operator_entry_words, says_operator_words, shows_namespaces, words_at};
 
     ghost order = { permission.Commit ∷ permission.DefineNamespace ∷ permission.ImportNamespace ∷ [] };
 
@@ -90,10 +94,16 @@ impl ToolLog for LogState {
 
     ghost state_of = { in_text state_in };
 
-    ghost words_of = { λ it.
-        map (λ entry. operator_entry_words (entry_data entry)) it.entries.items };
+    ghost words_of = { λ it. record {
+      time = it.timestamp;
+      entries = map (λ entry. operator_entry_words (entry_data entry)) it.entries.items;
+    } };
 
     ghost says_words = { says_operator_words };
+
+    ghost sentence_of = { error_text };
+
+    ghost has_first = { has_first_operator_entries };
 
     ghost shows = { shows_namespaces };
 
@@ -117,12 +127,8 @@ impl ToolLog for LogState {
         LogState::from_json(alloc, text)
     }
 
-    fn append_error(
-        alloc: Global,
-        error: &ValidationError,
-        text: &mut String,
-    ) -> Result<(), AllocError> {
-        append(alloc, error, text)
+    fn error_sentence(alloc: Global, error: &ValidationError) -> Result<String, AllocError> {
+        error.to_string(alloc)
     }
 
     fn record_line(
@@ -136,10 +142,11 @@ impl ToolLog for LogState {
         alloc: Global,
         envelope: &ProtoEnvelope<OperatorRecord>,
         count: usize,
-    ) -> Result<Vec<u8>, AllocError> {
+    ) -> Result<Option<ProtoEnvelope<OperatorRecord>>, AllocError> {
+        equality();
         let mut record = envelope.contents().clone()?;
         record.entries.truncate(count);
-        record.encode(alloc)
+        resealed(alloc, &record, envelope)
     }
 
     fn state_text(&self, alloc: Global) -> Result<String, AllocError> {
@@ -149,6 +156,9 @@ impl ToolLog for LogState {
         Ok(text)
     }
 
-    ghost says_its_words = { λ it content e.
-        (record_data it, e, sym (map-map operator_entry_words entry_data it.entries.items)) };
+    ghost says_its_words = { λ it content e. (
+      record_data it,
+      e,
+      ap (words_at it.timestamp) (sym (map-map operator_entry_words entry_data it.entries.items)),
+    ) };
 }

@@ -6,7 +6,8 @@ ghost use Rattle.warg_protocol.specs.Package.{release_view};
 ghost use Rattle.warg_answers.specs.ShownWords.{AreReleaseLines, IsReleaseLine, IsStandingLine, yanked_line};
 
 use crate::kind::ToolLog;
-use crate::wording::{EntryWords, append, key_lines, permission_words, record_line, time_words};
+use crate::resealed::resealed;
+use crate::wording::{EntryWords, key_lines, permission_words, record_line, time_words};
 use std::alloc::{AllocError, Global};
 use warg_permissions::LogPermission;
 use warg_protocol::package::{
@@ -14,7 +15,8 @@ use warg_protocol::package::{
     ValidationError,
 };
 use warg_protocol::signing::KeyID;
-use warg_protocol::{Encode, JsonError, JsonTextError, ProtoEnvelope, Version};
+use warg_protocol::{JsonError, JsonTextError, ProtoEnvelope, Version};
+use warg_records::laws::equality;
 
 impl EntryWords for PackageEntry {
     ghost use Rattle.warg_protocol.specs.Package.{entry_data};
@@ -95,13 +97,15 @@ fn release_lines(alloc: Global, releases: Releases<'_>) -> Result<String, AllocE
 }
 
 impl ToolLog for LogState {
-    ghost use Rattle.std.proofs.Common.{sym};
+    ghost use Rattle.std.proofs.Common.{ap, sym};
     ghost use Rattle.std.proofs.lemmas.Simd.{map-map};
     ghost use Rattle.std.specs.Prelude.{[], ◌∷◌, map};
     ghost use Rattle.warg_protocol.specs.Json.{in_text, text_of as written_text};
     ghost use Rattle.warg_protocol.specs.Package.{entry_data, permission_text, record_data, state_in, state_json, view_of};
+    ghost use Rattle.warg_package_log.specs.ErrorTexts.{error_text};
+    ghost use Rattle.warg_answers.specs.Explanations.{has_first_package_entries};
     ghost use Rattle.warg_permissions.specs.declared.package.Permission.TheVariants as permission;
-    ghost use Rattle.warg_answers.specs.ShownWords.{package_entry_words, says_package_words, shows_releases};
+    ghost use Rattle.warg_answers.specs.ShownWords.{package_entry_words, says_package_words, shows_releases, words_at};
 
     ghost order = { permission.Release ∷ permission.Yank ∷ [] };
 
@@ -113,10 +117,16 @@ impl ToolLog for LogState {
 
     ghost state_of = { in_text state_in };
 
-    ghost words_of = { λ it.
-        map (λ entry. package_entry_words (entry_data entry)) it.entries.items };
+    ghost words_of = { λ it. record {
+      time = it.timestamp;
+      entries = map (λ entry. package_entry_words (entry_data entry)) it.entries.items;
+    } };
 
     ghost says_words = { says_package_words };
+
+    ghost sentence_of = { error_text };
+
+    ghost has_first = { has_first_package_entries };
 
     ghost shows = { shows_releases };
 
@@ -140,12 +150,8 @@ impl ToolLog for LogState {
         LogState::from_json(alloc, text)
     }
 
-    fn append_error(
-        alloc: Global,
-        error: &ValidationError,
-        text: &mut String,
-    ) -> Result<(), AllocError> {
-        append(alloc, error, text)
+    fn error_sentence(alloc: Global, error: &ValidationError) -> Result<String, AllocError> {
+        error.to_string(alloc)
     }
 
     fn record_line(
@@ -159,10 +165,11 @@ impl ToolLog for LogState {
         alloc: Global,
         envelope: &ProtoEnvelope<PackageRecord>,
         count: usize,
-    ) -> Result<Vec<u8>, AllocError> {
+    ) -> Result<Option<ProtoEnvelope<PackageRecord>>, AllocError> {
+        equality();
         let mut record = envelope.contents().clone()?;
         record.entries.truncate(count);
-        record.encode(alloc)
+        resealed(alloc, &record, envelope)
     }
 
     fn state_text(&self, alloc: Global) -> Result<String, AllocError> {
@@ -172,6 +179,9 @@ impl ToolLog for LogState {
         Ok(text)
     }
 
-    ghost says_its_words = { λ it content e.
-        (record_data it, e, sym (map-map package_entry_words entry_data it.entries.items)) };
+    ghost says_its_words = { λ it content e. (
+      record_data it,
+      e,
+      ap (words_at it.timestamp) (sym (map-map package_entry_words entry_data it.entries.items)),
+    ) };
 }

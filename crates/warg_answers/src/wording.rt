@@ -1,11 +1,13 @@
 //! Words that both kinds of log are shown in.
 
-ghost use Rattle.std.specs.Prelude.{◌≡◌, [], ◌∷◌, ◌++◌, IfOk, OnOk, map, string_bytes, unwrap_or};
+ghost use Rattle.std.specs.Prelude.{◌≡◌, [], ◌∷◌, ◌++◌, codes, true, IfOk, IfSome, OnOk, map, string_bytes, unwrap_or};
 ghost use Rattle.std.specs.Option.{option_map};
-ghost use Rattle.warg_answers.specs.ShownWords.{after_commas, IsRecordLine, key_line, key_lines, comma_list, record_line, after_spaces};
+ghost use Rattle.jiff.specs.Words.{iso_datetime_text};
+ghost use Rattle.warg_answers.specs.ShownWords.{after_commas, IsRecordLine, IsTimeText, key_line, key_lines, comma_list, record_line, after_spaces};
 
+use jiff::civil::DateTime;
+use jiff::tz::Offset;
 use std::alloc::{AllocError, Global};
-use std::fmt::Display;
 use warg_permissions::LogPermission;
 use warg_protocol::package::{KeyEntry, Keys};
 use warg_protocol::signing::KeyID;
@@ -23,15 +25,6 @@ pub(crate) trait EntryWords {
         ensures { IfOk result (λ text. string_bytes text ≡ words_of self.now) };
 }
 
-/// Appends what the value prints.
-pub(crate) fn append<T: Display>(
-    alloc: Global,
-    value: &T,
-    text: &mut String,
-) -> Result<(), AllocError> {
-    text.push_str(value.to_string(alloc)?.as_str())
-}
-
 // Appends the words behind a sign.
 fn append_behind(sign: &str, words: &str, text: &mut String) -> Result<(), AllocError>
     ensures { OnOk result (string_bytes text.new ≡ string_bytes text.old ++
@@ -41,10 +34,19 @@ fn append_behind(sign: &str, words: &str, text: &mut String) -> Result<(), Alloc
     text.push_str(words)
 }
 
-/// The time as RFC 3339 says it, in UTC; outside the years that it knows, as seconds and nanoseconds since 1970.
-pub(crate) fn time_words(alloc: Global, time: Timestamp) -> Result<String, AllocError> {
+// A date and a time of day at UTC, as RFC 3339 says them.
+fn utc_words(alloc: Global, shown: DateTime) -> Result<String, AllocError>
+    ensures { IfOk result (λ text. string_bytes text ≡ iso_datetime_text shown ++ codes "Z") }
+{
+    format!(in alloc; "{shown}Z")
+}
+
+/// The time as RFC 3339 says it, in UTC; where the calendar does not reach, as seconds and nanoseconds since 1970.
+pub(crate) fn time_words(alloc: Global, time: Timestamp) -> Result<String, AllocError>
+    ensures { IfOk result (λ text. IsTimeText time (string_bytes text)) }
+{
     match jiff::Timestamp::new(time.seconds(), time.nanos() as i32) {
-        Ok(instant) => instant.to_string(alloc),
+        Ok(instant) => utc_words(alloc, Offset::UTC.to_datetime(instant)),
         Err(_) => time.to_string(alloc),
     }
 }
@@ -114,8 +116,10 @@ pub(crate) fn record_line<E: EntryWords>(
     alloc: Global,
     envelope: &ProtoEnvelope<LogRecord<E>>,
 ) -> Result<String, AllocError>
-    ensures { IfOk result (λ line. IsRecordLine envelope.now.envelope.key_id
-        (map E.words_of envelope.now.contents.entries.items) (string_bytes line)) }
+    ensures { IfOk result (λ line. IsRecordLine envelope.now.envelope.key_id (record {
+      time = envelope.now.contents.timestamp;
+      entries = map E.words_of envelope.now.contents.entries.items;
+    }) (string_bytes line)) }
 {
     let record = envelope.contents();
     let time = time_words(alloc, record.timestamp)?;

@@ -21,7 +21,7 @@ pub use identify::id_reply;
 pub use information::{Information, parse_information};
 pub use input::Input;
 pub use lines::{LineError, cut_line, decode_line, without_return};
-pub use log::{accepted_reply, judge, log_reply, refusal_reply};
+pub use log::{accepted_first_line, accepted_reply, cause_name, judge, log_reply, refusal_reply};
 pub use output::Output;
 pub use program::{OUT_OF_MEMORY, USAGE, audit, make_reply};
 pub use reading::{InputError, MAX_INPUT, read_all};

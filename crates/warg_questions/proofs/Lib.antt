@@ -2,4 +2,5 @@ pub mod TextLemmas
 pub mod StateLemmas
 pub mod CompareLemmas
 pub mod ResumeLemmas
+pub mod ReasonLemmas
 pub mod ShownLemmas

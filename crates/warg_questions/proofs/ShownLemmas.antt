@@ -1,7 +1,7 @@
 -- Logs in words.
-use Rattle.std.proofs.Common.{◌≡◌, ◌≤◌, ◌<◌, ◌+◌, ℕ, suc, List, [], ◌∷◌, ◌++◌, codes, length, take, slice_index_or, sym, ap, subst, ◌∙◌, append_assoc, append-nil, arith, All, Option, Some, None, Result, Ok, Err, IfOk}
+use Rattle.std.proofs.Common.{◌≡◌, ◌≤◌, ◌<◌, ◌+◌, ℕ, suc, List, [], ◌∷◌, ◌++◌, codes, length, take, slice_index_or, refl, sym, ap, subst, ◌∙◌, append_assoc, append-nil, arith, All, Option, Some, None, Result, Ok, Err, IfOk}
 use Rattle.std.specs.Fmt.{decimal}
-use Rattle.std.specs.List.{AllByRecursion, AllZip}
+use Rattle.std.specs.List.{AllByRecursion, AllZip, slice_get}
 use Rattle.std.specs.Option.{option_map}
 use Rattle.std.specs.declared.alloc.AllocError.{AllocError}
 use Rattle.std.proofs.Math.Seq.{take-suc}
@@ -15,8 +15,9 @@ use Rattle.warg_audit.specs.Printouts.{Printout, bad_line, refused_line}
 use Rattle.warg_audit.specs.declared.lines.LineError.TheVariants.{Bad}
 use Rattle.warg_audit.proofs.StringLemmas as spelling
 use Rattle.warg_answers.specs.Answers.{IfStopped, answer_view}
-use Rattle.warg_questions.specs.ShownLogs.{AreEnvelopeLines, AreRecordLines, IsCauseText, IsCutText, IsLineOf, IsLogText, IsRefusalText, IsShown, IsShownOf, first_bad, lines_with_places, of_log, of_refused, of_strings}
-use Rattle.warg_answers.specs.ShownWords.{IsRecordLine}
+use Rattle.warg_questions.specs.Advice.{advice_on}
+use Rattle.warg_questions.specs.ShownLogs.{AreEnvelopeLines, AreRecordLines, IsCutText, IsLineOf, IsLogText, IsRefusalText, IsShown, IsShownOf, cause_words, first_bad, lines_with_places, of_log, of_refused, of_strings}
+use Rattle.warg_answers.specs.ShownWords.{IsRecordLine, RecordWords}
 use Rattle.warg_answers.specs.Texts.{no, yes}
 use Rattle.warg_answers.specs.Verdicts.{envelopes_of}
 use Rattle.warg_answers.specs.declared.answer.Answer.{Answer}
@@ -42,7 +43,7 @@ lines_with_places-append place at (first ∷ more) line is =
     ap (λ rest. (decimal place ++ (codes " " ++ first)) ++ rest) (lines_with_places-append (place + 1) at more line e)
     ∙ sym (append_assoc (decimal place ++ (codes " " ++ first)) (lines_with_places (place + 1) more) (decimal at ++ (codes " " ++ line)))
 
-module _ {C : Type 0} (words_of : C → List (List ℕ)) where
+module _ {C : Type 0} (words_of : C → RecordWords) where
   -- the line of the record that an envelope holds
   abbrev pub IsLineOfEnvelope : DecodedEnvelope C → List ℕ → Type 0
   IsLineOfEnvelope it line = IsRecordLine it.envelope.key_id (words_of it.contents) line
@@ -73,7 +74,7 @@ module _ {C : Type 0} (words_of : C → List (List ℕ)) where
   every_record records n text past are =
       subst (λ (rs : List (DecodedEnvelope C)). AreEnvelopeLines words_of rs text) (take_all n records past) are
 
-  module _ {M F : Type 0} (meaning : C → M) (read : List ℕ → Result M F) (Says : List ℕ → List (List ℕ) → Type 0)
+  module _ {M F : Type 0} (meaning : C → M) (read : List ℕ → Result M F) (Says : List ℕ → RecordWords → Type 0)
       (said : (it : C) (content : List ℕ) → read content ≡ Ok (meaning it) → Says content (words_of it)) where
     each_said : (records : List (DecodedEnvelope C)) (lines : List (List ℕ)) → AllByRecursion (IsHonest read meaning) records
         → AllZip IsLineOfEnvelope records lines → AllZip (IsLineOf Says) (envelopes records) lines
@@ -105,50 +106,57 @@ three_parts first second third whole so_far added last begun is ended is_last =
 
 module _ {Meaning Fault View Offence : Type 0} (log : LogDisplay Meaning Fault View Offence) (belongs : SignatureRelation) where
   -- the audit's line on a cause, and why
-  pub refusal_told : (seen : List EnvelopeData → View) (strings : List (List ℕ)) (index : ℕ) (cause : Option (Cause (EnvelopeFault Fault) Offence))
-      (name : List ℕ) (audited : Printout) (why text : List ℕ) → IfNamed cause (λ c. IsFirstOffence log.kind belongs (envelope_of log.read) seen strings index c)
-      → Some name ≡ option_map (cause_name log.fault_name log.offence_name) cause → audited ≡ refused_line index name
-      → IsCauseText why → text ≡ audited.text ++ why → IsRefusalText log belongs seen strings index text
-  refusal_told seen strings index None name audited why text first named is told more = cc
-  refusal_told seen strings index (Some c) name audited why text first named is told more =
+  pub refusal_told : (Explains : Cause (EnvelopeFault Fault) Offence → List ℕ → Option ℕ → Type 0) (seen : List EnvelopeData → View) (strings : List (List ℕ))
+      (index : ℕ) (cause : Option (Cause (EnvelopeFault Fault) Offence)) (name why : List ℕ) (entry : Option ℕ) (line text : List ℕ)
+      → IfNamed cause (λ c. IsFirstOffence log.kind belongs (envelope_of log.read) seen strings index c)
+      → Some name ≡ option_map (cause_name log.fault_name log.offence_name) cause
+      → ((c : Cause (EnvelopeFault Fault) Offence) → cause ≡ Some c → Explains c why entry)
+      → line ≡ (refused_line index name).text → text ≡ line ++ cause_words why entry (advice_on name)
+      → IsRefusalText log belongs Explains seen strings index text
+  refusal_told Explains seen strings index None name why entry line text first named explained is more = cc
+  refusal_told Explains seen strings index (Some c) name why entry line text first named explained is more =
       let same : name ≡ cause_name log.fault_name log.offence_name c = cc in
       record {
         cause = c;
         first = first;
         why = why;
-        is_why = told;
-        is = more ∙ ap (λ (p : Printout). p.text ++ why) (is ∙ ap (refused_line index) same);
+        entry = entry;
+        explains = explained c refl;
+        is = rw same at (more ∙ ap (λ t. t ++ cause_words why entry (advice_on name)) is);
       }
 
-  module _ (Says : List ℕ → List (List ℕ) → Type 0) (Shows : List EnvelopeData → List ℕ → Type 0) (strings : List (List ℕ)) where
+  module _ (Says : List ℕ → RecordWords → Type 0) (Shows : List EnvelopeData → List ℕ → Type 0)
+      (Explains : View → List ℕ → Cause (EnvelopeFault Fault) Offence → List ℕ → Option ℕ → Type 0) (strings : List (List ℕ)) where
     pub lawful_shown : (es : List EnvelopeData) (result : Result Answer AllocError)
         → HasNoOffence log.kind belongs (envelope_of log.read) log.kind.view_of strings → es ≡ envelopes_of log strings
         → IfOk result (λ answer. (text : List ℕ) × IsLogText Says (log.kind.head (log.kind.view_of es)) Shows es text
         × (answer_view answer ≡ yes text))
-        → IfOk result (λ answer. IsShownOf log belongs Says Shows strings (answer_view answer))
+        → IfOk result (λ answer. IsShownOf log belongs Says Shows Explains strings (answer_view answer))
     lawful_shown es (Ok answer) none same it =
         let P : List EnvelopeData → Type 0 = λ fs. IsLogText Says (log.kind.head (log.kind.view_of fs)) Shows fs it.0 in
         of_log it.0 none (subst P same it.1) it.2
     lawful_shown es (Err error) none same it = tt
 
-    pub refused_shown : (es : List EnvelopeData) (index : ℕ) (result : Result Answer AllocError) → es ≡ envelopes_of log (take index strings)
-        → IfOk result (λ answer. (text : List ℕ) × IsCutText Says (IsRefusalText log belongs log.kind.view_of strings index) es text
+    pub refused_shown : (es : List EnvelopeData) (index : ℕ) (string : List ℕ) (result : Result Answer AllocError) → es ≡ envelopes_of log (take index strings)
+        → slice_get strings index ≡ Some string
+        → IfOk result (λ answer. (text : List ℕ) × IsCutText Says (IsRefusalText log belongs (Explains (log.kind.view_of es) string) log.kind.view_of strings index) es text
         × (answer_view answer ≡ no text))
-        → IfOk result (λ answer. IsShownOf log belongs Says Shows strings (answer_view answer))
-    refused_shown es index (Ok answer) same it =
-        let P : List EnvelopeData → Type 0 = λ fs. IsCutText Says (IsRefusalText log belongs log.kind.view_of strings index) fs it.0 in
-        of_refused index it.0 (subst P same it.1) it.2
-    refused_shown es index (Err error) same it = tt
+        → IfOk result (λ answer. IsShownOf log belongs Says Shows Explains strings (answer_view answer))
+    refused_shown es index string (Ok answer) same at it =
+        let P : List EnvelopeData → Type 0 = λ fs. IsCutText Says (IsRefusalText log belongs (Explains (log.kind.view_of fs) string) log.kind.view_of strings index) fs it.0 in
+        of_refused index string it.0 at (subst P same it.1) it.2
+    refused_shown es index string (Err error) same at it = tt
 
-  module _ (Says : List ℕ → List (List ℕ) → Type 0) (Shows : List EnvelopeData → List ℕ → Type 0) (ls : List (List ℕ)) where
+  module _ (Says : List ℕ → RecordWords → Type 0) (Shows : List EnvelopeData → List ℕ → Type 0)
+      (Explains : View → List ℕ → Cause (EnvelopeFault Fault) Offence → List ℕ → Option ℕ → Type 0) (ls : List (List ℕ)) where
     pub spelled_shown : (strings : List (List ℕ)) (printed : Printout) → strings_of ls ≡ Ok strings
-        → IsShownOf log belongs Says Shows strings printed → IsShown log belongs Says Shows ls printed
+        → IsShownOf log belongs Says Shows Explains strings printed → IsShown log belongs Says Shows Explains ls printed
     spelled_shown strings printed e it = of_strings strings (spelling.spell_from 0 ls strings e) it
 
     pub bad_shown : (end : Stop)
         → IfStopped (λ printed. (index : ℕ) × ((strings_of ls ≡ Err (Bad index)) × (printed ≡ bad_line index))) end
-        → IfStopped (IsShown log belongs Says Shows ls) end
+        → IfStopped (IsShown log belongs Says Shows Explains ls) end
     bad_shown end h =
         IfStopped-weaker (λ printed. (index : ℕ) × ((strings_of ls ≡ Err (Bad index)) × (printed ≡ bad_line index)))
-        (IsShown log belongs Says Shows ls)
+        (IsShown log belongs Says Shows Explains ls)
         (λ printed it. first_bad it.0 (spelling.first_bad ls it.0 it.1.0) it.1.1) end h

@@ -1,7 +1,12 @@
 //! What a publisher can do about a refused record.
 
+ghost use Rattle.std.specs.Prelude.{◌≡◌};
+ghost use Rattle.warg_questions.specs.Advice.{advice_on};
+
 /// What a publisher can do about a record that is refused for the case of this name.
-pub fn advice(name: &str) -> &'static str {
+pub fn advice(name: &str) -> &'static str
+    ensures { result.now ≡ advice_on name.now }
+{
     match name {
         "FirstEntryIsNotInit" | "InitialRecordDoesNotInit" => {
             "begin the log with a record whose first entry is an init"

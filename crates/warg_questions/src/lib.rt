@@ -6,6 +6,7 @@ mod chain;
 mod compare;
 mod permissions;
 mod questions;
+mod reason;
 mod resume;
 mod show;
 mod state;

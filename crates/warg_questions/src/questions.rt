@@ -1,6 +1,7 @@
 //! What is asked of logs of one kind, from the files that are named.
 
 ghost use Rattle.warg_answers.specs.Answers.{Answers};
+ghost use Rattle.warg_answers.specs.Explanations.{Explains};
 ghost use Rattle.warg_questions.specs.Questions.{IsChainText, IsCompared, IsPermissionsText, IsStateText};
 ghost use Rattle.warg_answers.specs.RecordLines.{record_lines};
 ghost use Rattle.warg_questions.specs.QuestionAnswers.{IsQuestionAnswer};
@@ -33,7 +34,9 @@ fn show_of_file<L: ToolLog, V: Verifier, S: Store>(
     ensures answered { ForDisplay L.view L.kind L.Record.read L.Record.fault_of L.offence_of
         L.name_of L.lines_of (λ log.
         Answers (IsOfLines (S.files store.old) path.now
-        (IsShown log (V.belongs verifier.now) L.says_words L.shows)) result) }
+        (IsShown log (V.belongs verifier.now) L.says_words L.shows
+        (Explains L.sentence_of L.Record.fault_of L.offence_of L.Record.read L.Record.meaning
+        L.has_first L.record_rules.offence))) result) }
     ensures kept { S.files store.new ≡ S.files store.old }
 {
     match read_input(alloc, store, path) {
@@ -229,7 +232,10 @@ pub fn question_answer<L: ToolLog, V: Verifier, S: Store>(
           text_of = L.text_of;
           effects =
               L.effects;
-        }) L.says_words L.shows (V.belongs verifier.now) (S.files store.old) question.now) result) }
+        }) L.says_words L.shows
+        (Explains L.sentence_of L.Record.fault_of L.offence_of L.Record.read L.Record.meaning
+        L.has_first L.record_rules.offence)
+        (V.belongs verifier.now) (S.files store.old) question.now) result) }
     ensures kept { S.files store.new ≡ S.files store.old }
 {
     match question {

@@ -6,134 +6,24 @@ ghost use Rattle.std.specs.Option.{option_copied};
 ghost use Rattle.std.specs.Vec.{vec_items};
 ghost use Rattle.warg_protocol.specs.Logs.{EnvelopeData, SignatureRelation, envelope_of, envelope_fault_of, envelopes, cause_named_by, IsRefusal};
 ghost use Rattle.warg_answers.specs.Answers.{answer_view, Answers};
+ghost use Rattle.warg_answers.specs.Explanations.{Explains};
 ghost use Rattle.warg_answers.specs.RecordLines.{record_lines};
-ghost use Rattle.warg_questions.specs.ShownLogs.{AreEnvelopeLines, cause_words, entry_line, head_line, IsCauseText, IsCutText, IsLogText, IsRefusalText, IsShown, IsShownOf};
+ghost use Rattle.warg_questions.specs.ShownLogs.{AreEnvelopeLines, cause_words, entry_line, head_line, IsCutText, IsLogText, IsRefusalText, IsShown, IsShownOf};
 ghost use Rattle.warg_answers.specs.Texts.{no, yes};
 ghost use Rattle.warg_answers.specs.Verdicts.{ForDisplay};
 
 use crate::advice::advice;
+use crate::reason::reason_of;
 use std::alloc::{AllocError, Global};
 use warg_answers::answer::Answer;
 use warg_answers::input::Input;
 use warg_answers::judged::{Lent, file_strings};
 use warg_answers::kind::ToolLog;
 use warg_answers::stop::Stop;
-use warg_audit::refusal_reply;
+use warg_audit::{cause_name, refused_reply};
 use warg_protocol::registry::RecordId;
-use warg_protocol::signing::{PublicKey, Signature, SignatureError, Verifier};
-use warg_protocol::{
-    AuditedLog, Envelope, Message, ParseEnvelopeError, ProtoEnvelope, RunCause, RunError,
-};
-
-/// Takes each signature.
-#[derive(Clone, Copy, Debug)]
-struct AnySignature;
-
-impl Verifier for AnySignature {
-    ghost use Rattle.std.specs.Prelude.{true};
-
-    ghost belongs = { λ _ _ _ _. true };
-
-    fn verify(
-        &self,
-        _alloc: Global,
-        _key: &PublicKey,
-        _message: &[u8],
-        _signature: &Signature,
-    ) -> Result<(), SignatureError> {
-        Ok(())
-    }
-}
-
-// The envelope that the bytes are, if they are one.
-fn envelope_in<L: ToolLog>(
-    alloc: Global,
-    bytes: &[u8],
-) -> Result<Option<ProtoEnvelope<L::Record>>, AllocError> {
-    match ProtoEnvelope::<L::Record>::from_protobuf(alloc, bytes) {
-        Ok(envelope) => Ok(Some(envelope)),
-        Err(ParseEnvelopeError::OutOfMemory) => Err(AllocError),
-        Err(_) => Ok(None),
-    }
-}
-
-// The record with so many of its first entries, in an envelope with the same signer and signature.
-fn shortened<L: ToolLog>(
-    alloc: Global,
-    envelope: &ProtoEnvelope<L::Record>,
-    count: usize,
-) -> Result<Option<ProtoEnvelope<L::Record>>, AllocError> {
-    let shorter = Envelope {
-        contents: L::first_entries(alloc, envelope, count)?,
-        key_id: String::from_str(alloc, envelope.key_id().as_str())?,
-        signature: envelope.signature().to_string(alloc)?,
-    };
-    let bytes = shorter.encode(alloc)?;
-    envelope_in::<L>(alloc, bytes.as_slice())
-}
-
-// Whether an error is the same as another, unless memory was refused.
-fn is_same<L: ToolLog>(error: &L::Error, offence: &L::Error) -> Result<bool, AllocError> {
-    if L::is_out_of_memory(error) {
-        return Err(AllocError);
-    }
-    Ok(*error == *offence)
-}
-
-// Whether the record's first entries, so many, are refused for the same cause.
-fn is_refused_so<L: ToolLog>(
-    alloc: Global,
-    state: &L,
-    envelope: &ProtoEnvelope<L::Record>,
-    count: usize,
-    offence: &L::Error,
-) -> Result<bool, AllocError> {
-    let Some(shorter) = shortened::<L>(alloc, envelope, count)? else {
-        return Ok(false);
-    };
-    match state.try_clone()?.validate(&shorter, &AnySignature) {
-        Ok(_) => Ok(false),
-        Err(error) => is_same::<L>(&error, offence),
-    }
-}
-
-// The place of the entry that the offence is of: the last of the fewest first entries that are refused so. None where the
-// record is refused so without its entries, or with all of them is not.
-fn entry_of_offence<L: ToolLog>(
-    alloc: Global,
-    state: &L,
-    envelope: &ProtoEnvelope<L::Record>,
-    offence: &L::Error,
-) -> Result<Option<usize>, AllocError> {
-    let (mut lawful, mut refused) = (0, L::entry_count(envelope));
-    if is_refused_so(alloc, state, envelope, lawful, offence)?
-        || !is_refused_so(alloc, state, envelope, refused, offence)?
-    {
-        return Ok(None);
-    }
-    while refused - lawful > 1 {
-        let middle = lawful + (refused - lawful) / 2;
-        if is_refused_so(alloc, state, envelope, middle, offence)? {
-            refused = middle;
-        } else {
-            lawful = middle;
-        }
-    }
-    Ok(Some(lawful))
-}
-
-// The place of the entry that the offence of a string is of, if the string is an envelope.
-fn entry_in<L: ToolLog>(
-    alloc: Global,
-    state: &L,
-    string: &[u8],
-    offence: &L::Error,
-) -> Result<Option<usize>, AllocError> {
-    match envelope_in::<L>(alloc, string)? {
-        Some(envelope) => entry_of_offence(alloc, state, &envelope, offence),
-        None => Ok(None),
-    }
-}
+use warg_protocol::signing::Verifier;
+use warg_protocol::{AuditedLog, ProtoEnvelope, RunError};
 
 // The line of the entry that an offence is of, if it is of one.
 fn entry_line(alloc: Global, entry: Option<usize>) -> Result<String, AllocError>
@@ -158,46 +48,6 @@ fn cause_words(
     format!(in alloc; "why: {why}\n{line}try: {advice}\n")
 }
 
-// The offence's sentence, the entry that it is of, and what a publisher can do.
-fn offence_text<L: ToolLog>(
-    alloc: Global,
-    state: &L,
-    string: &[u8],
-    offence: &L::Error,
-) -> Result<String, AllocError>
-    ensures { IfOk result (λ text. IsCauseText (string_bytes text)) }
-{
-    let mut why = String::new(alloc);
-    L::append_error(alloc, offence, &mut why)?;
-    let entry = entry_in(alloc, state, string, offence)?;
-    let advice = advice(L::error_name(offence).unwrap_or("OutOfMemory"));
-    cause_words(alloc, why.as_str(), entry, advice)
-}
-
-// The fault's sentence, and what a publisher can do.
-fn fault_text(alloc: Global, fault: &ParseEnvelopeError) -> Result<String, AllocError>
-    ensures { IfOk result (λ text. IsCauseText (string_bytes text)) }
-{
-    let why = fault.to_string(alloc)?;
-    let advice = advice(fault.name());
-    cause_words(alloc, why.as_str(), None, advice)
-}
-
-// The error's sentence, the entry that it is of, and what a publisher can do.
-fn cause_text<L: ToolLog>(
-    alloc: Global,
-    state: &L,
-    string: &[u8],
-    cause: &RunCause<L::Error>,
-) -> Result<String, AllocError>
-    ensures { IfOk result (λ text. IsCauseText (string_bytes text)) }
-{
-    match cause {
-        RunCause::Parse(fault) => fault_text(alloc, fault),
-        RunCause::Validation(offence) => offence_text(alloc, state, string, offence),
-    }
-}
-
 // Why the next record is refused: the audit's line, and the cause in words. Refused memory is no cause.
 fn refusal_text<L: ToolLog>(
     alloc: Global,
@@ -211,12 +61,19 @@ fn refusal_text<L: ToolLog>(
         (strings : List (List ℕ)) →
         IsRefusal L.kind belongs (envelope_of L.Record.read) seen
         (cause_named_by (envelope_fault_of L.Record.fault_of) L.offence_of) strings error.now →
-        IsRefusalText log belongs seen strings error.now.index (string_bytes text))) }
+        IsRefusalText log belongs
+        (Explains L.sentence_of L.Record.fault_of L.offence_of L.Record.read L.Record.meaning
+        L.has_first L.record_rules.offence (L.view state.now) string.now)
+        seen strings error.now.index (string_bytes text))) }
 {
-    let reply = refusal_reply::<L>(alloc, error)?;
-    let cause = cause_text(alloc, state, string, &error.cause)?;
+    let Some(name) = cause_name::<L>(&error.cause) else {
+        return Err(AllocError);
+    };
+    let reply = refused_reply(alloc, error.index, name)?;
+    let reason = reason_of(alloc, state, string, &error.cause)?;
+    let words = cause_words(alloc, reason.sentence.as_str(), reason.entry, advice(name))?;
     let mut all = String::from_str(alloc, reply.text())?;
-    all.push_str(cause.as_str())?;
+    all.push_str(words.as_str())?;
     Ok(all)
 }
 
@@ -283,7 +140,10 @@ fn cut_text<L: ToolLog, V: Verifier + Drop>(
         (strings : List (List ℕ)) →
         IsRefusal L.kind belongs (envelope_of L.Record.read) seen
         (cause_named_by (envelope_fault_of L.Record.fault_of) L.offence_of) strings error.now →
-        IsCutText L.says_words (IsRefusalText shown belongs seen strings error.now.index)
+        IsCutText L.says_words (IsRefusalText shown belongs
+        (Explains L.sentence_of L.Record.fault_of L.offence_of L.Record.read L.Record.meaning
+        L.has_first L.record_rules.offence (L.kind.view_of (envelopes log.now.records)) string.now)
+        seen strings error.now.index)
         (envelopes log.now.records) (string_bytes text))) }
 {
     let mut text = records_text::<L>(alloc, log.records())?;
@@ -309,7 +169,7 @@ fn lawful_answer<L: ToolLog, V: Verifier + Drop>(
 fn refused_answer<L: ToolLog, V: Verifier + Drop>(
     alloc: Global,
     log: &AuditedLog<L, V>,
-    strings: &[Vec<u8>],
+    string: &[u8],
     error: &RunError<L::Error>,
 ) -> Result<Answer, AllocError>
     ensures { ForDisplay L.view L.kind L.Record.read L.Record.fault_of L.offence_of
@@ -318,14 +178,12 @@ fn refused_answer<L: ToolLog, V: Verifier + Drop>(
         (all : List (List ℕ)) →
         IsRefusal L.kind belongs (envelope_of L.Record.read) seen
         (cause_named_by (envelope_fault_of L.Record.fault_of) L.offence_of) all error.now →
-        (text : List ℕ) × IsCutText L.says_words
-        (IsRefusalText shown belongs seen all error.now.index) (envelopes log.now.records) text
+        (text : List ℕ) × IsCutText L.says_words (IsRefusalText shown belongs
+        (Explains L.sentence_of L.Record.fault_of L.offence_of L.Record.read L.Record.meaning
+        L.has_first L.record_rules.offence (L.kind.view_of (envelopes log.now.records)) string.now)
+        seen all error.now.index) (envelopes log.now.records) text
         × (answer_view answer ≡ no text))) }
 {
-    let string = match strings.get(error.index) {
-        Some(string) => string.as_slice(),
-        None => b"",
-    };
     let text = cut_text(alloc, log, string, error)?;
     Ok(Answer::new(alloc, text, 1))
 }
@@ -339,12 +197,17 @@ fn strings_answer<L: ToolLog, V: Verifier + Drop>(
     ensures { ForDisplay L.view L.kind L.Record.read L.Record.fault_of L.offence_of
         L.name_of L.lines_of (λ log.
         IfOk result (λ answer. IsShownOf log (V.belongs verifier) L.says_words L.shows
+        (Explains L.sentence_of L.Record.fault_of L.offence_of L.Record.read L.Record.meaning
+        L.has_first L.record_rules.offence)
         (map vec_items strings.now) (answer_view answer))) }
 {
     let mut log = AuditedLog::<L, V>::new(alloc, verifier)?;
     match log.append_all(strings) {
         Ok(()) => lawful_answer(alloc, &log),
-        Err(error) => refused_answer(alloc, &log, strings, &error),
+        Err(error) => match strings.get(error.index) {
+            Some(string) => refused_answer(alloc, &log, string.as_slice(), &error),
+            None => Err(AllocError),
+        },
     }
 }
 
@@ -357,6 +220,8 @@ pub fn show_answer<L: ToolLog, V: Verifier>(
     ensures { ForDisplay L.view L.kind L.Record.read L.Record.fault_of L.offence_of
         L.name_of L.lines_of (λ log.
         Answers (IsShown log (V.belongs verifier.now) L.says_words L.shows
+        (Explains L.sentence_of L.Record.fault_of L.offence_of L.Record.read L.Record.meaning
+        L.has_first L.record_rules.offence)
         (record_lines input.entry.bytes.items)) result) }
 {
     match file_strings(alloc, input.path, input.bytes) {

@@ -1,6 +1,7 @@
 pub mod JsonLemmas
 pub mod TaskLemmas
 pub mod MadeLemmas
+pub mod FirstLineLemmas
 pub mod ManyAuditLemmas
 pub mod AdditionLemmas
 pub mod ClaimLemmas

@@ -3,17 +3,20 @@ use Rattle.std.proofs.Common.{◌≡◌, ◌+◌, ◌<◌, ℕ, Bool, true, fals
 use Rattle.std.proofs.lemmas.Iterator.{YieldsList}
 use Rattle.std.proofs.lemmas.List.{map-append}
 use Rattle.std.proofs.lemmas.List.Elements.{filter-append}
-use Rattle.std.specs.Prelude.{◌==◌}
+use Rattle.std.specs.Prelude.{◌==◌, codes}
+use Rattle.std.specs.Str.Lines.{lines}
 use Rattle.std.specs.declared.alloc.AllocError.{AllocError}
 use Rattle.warg_protocol.specs.Logs.{SignatureRelation}
 use Rattle.warg_audit.specs.Printouts.{Printout}
 use Rattle.warg_log_type.specs.declared.LogType.{LogType}
 use Rattle.warg_answers.specs.Files.{Files, Lacks, Reads}
 use Rattle.warg_answers.specs.Answers.{answer_view, Answers, IsSettled}
-use Rattle.warg_tasks.specs.ManyAudits.{audit_line, first_of, is_path, IsVerdictOn, audited, unread, IsWith, IsWithAll, IsWithNamed, IsWithWords}
+use Rattle.warg_tasks.specs.ManyAudits.{audit_line, is_path, IsVerdictOn, audited, unread, IsWith, IsWithAll, IsWithNamed, IsWithWords}
 use Rattle.warg_answers.specs.ReadFaults.{unread_text}
 use Rattle.warg_answers.specs.RecordLines.{record_lines, texts}
-use Rattle.warg_tasks.specs.Audits.{IsAuditOf}
+use Rattle.warg_tasks.specs.Audits.{BeginsAs, IsAuditOf, first_of}
+use Rattle.warg_tasks.specs.JsonLines.{json_path_object}
+use Rattle.warg_tasks.proofs.FirstLineLemmas.{begins_as_itself}
 use Rattle.warg_answers.specs.declared.answer.Answer.{Answer}
 use Rattle.warg_answers.specs.declared.input.ReadFault.{ReadFault}
 use Rattle.warg_answers.specs.declared.input.ReadFault.TheVariants.{Missing}
@@ -28,15 +31,15 @@ settled_answers : (P : Printout → Type 0) (outcome : Result Answer Stop) (sett
 settled_answers P outcome (Ok answer) is h = settled_is P outcome answer is h
 settled_answers P outcome (Err error) is h = tt
 
--- the verdict on the log in a file that is read
+-- the first line of the verdict on the log in a file that is read
 pub verdict_read : (kind : LogType) (belongs : SignatureRelation) (files : Option Files) (path bytes : List ℕ) (outcome : Result Answer Stop)
     (settled : Result Answer AllocError) → IsSettled outcome settled → Reads files path bytes
-    → Answers (IsAuditOf kind belongs (record_lines bytes)) outcome
-    → IfOk settled (λ answer. IsVerdictOn kind belongs files path (answer_view answer))
+    → Answers (BeginsAs (IsAuditOf kind belongs (record_lines bytes))) outcome
+    → IfOk settled (λ answer. BeginsAs (IsVerdictOn kind belongs files path) (answer_view answer))
 verdict_read kind belongs files path bytes outcome settled is held h =
-    settled_answers (IsVerdictOn kind belongs files path) outcome settled is
-    (Answers-to (IsAuditOf kind belongs (record_lines bytes)) (IsVerdictOn kind belongs files path)
-    (λ printed it. audited bytes held it) outcome h)
+    settled_answers (BeginsAs (IsVerdictOn kind belongs files path)) outcome settled is
+    (Answers-to (BeginsAs (IsAuditOf kind belongs (record_lines bytes))) (BeginsAs (IsVerdictOn kind belongs files path))
+    (λ printed it. record { whole = it.whole; holds = audited bytes held it.holds; line = it.line; status = it.status }) outcome h)
 
 -- and why one can't be read
 printed_of_both : (verdict told : Printout) (text : List ℕ) (status : ℕ) → verdict ≡ record { text = text; status = status }
@@ -46,9 +49,9 @@ printed_of_both verdict told text status is e f = is ∙ rw (e, f) refl
 pub verdict_unread : (kind : LogType) (belongs : SignatureRelation) (files : Option Files) (path : List ℕ) (fault : ReadFault)
     (verdict : Printout) (text : List ℕ) (status : ℕ) → (fault ≡ Missing → Lacks files path)
     → verdict ≡ record { text = text; status = status } → text ≡ (unread_text fault).text → status ≡ (unread_text fault).status
-    → IsVerdictOn kind belongs files path verdict
+    → BeginsAs (IsVerdictOn kind belongs files path) verdict
 verdict_unread kind belongs files path fault verdict text status lacks is e f =
-    unread fault lacks (printed_of_both verdict (unread_text fault) text status is e f)
+    begins_as_itself (IsVerdictOn kind belongs files path) verdict (unread fault lacks (printed_of_both verdict (unread_text fault) text status is e f))
 
 pub on_ok_to : {T E P Q : Type 0} → (P → Q) → (r : Result T E) → OnOk r P → OnOk r Q
 on_ok_to f (Ok x) h = f h
@@ -69,16 +72,24 @@ printed_of text status = record { text = text; status = status }
 printed_is : (text t : List ℕ) (status n : ℕ) → text ≡ t → status ≡ n → printed_of text status ≡ printed_of t n
 printed_is text t status n e f = rw (e, f) refl
 
+-- the line of a log is made of the first line and the status alone
+same_line : (json : Bool) (path : List ℕ) (short whole : Printout) → first_of (lines short.text) ≡ first_of (lines whole.text)
+    → short.status ≡ whole.status → audit_line json path short ≡ audit_line json path whole
+same_line false path short whole line status = ap (λ text. path ++ (codes ": " ++ (text ++ codes "\n"))) line
+same_line true path short whole line status =
+    ap (λ text. json_path_object path text short.status) line ∙ ap (json_path_object path (first_of (lines whole.text))) status
+
 module _ (json : Bool) (kind : LogType) (belongs : SignatureRelation) (files : Option Files) where
   -- one line more
-  pub with_line : (path : List ℕ) (before verdict : Printout) (text line : List ℕ) (status : ℕ)
-      → IsVerdictOn kind belongs files path verdict → line ≡ audit_line json path verdict
-      → text ≡ before.text ++ line → status ≡ max before.status verdict.status
+  pub with_line : (path : List ℕ) (before short : Printout) (text line : List ℕ) (status : ℕ)
+      → BeginsAs (IsVerdictOn kind belongs files path) short → line ≡ audit_line json path short
+      → text ≡ before.text ++ line → status ≡ max before.status short.status
       → IsWith json kind belongs files path before (record { text = text; status = status })
-  with_line path before verdict text line status own said more greater = record {
-    verdict = verdict;
-    own = own;
-    is = printed_is text _ status _ (rw said at more) greater;
+  with_line path before short text line status own said more greater = record {
+    verdict = own.whole;
+    own = own.holds;
+    is = printed_is text _ status _ (rw (said ∙ same_line json path short own.whole own.line own.status) at more)
+        (greater ∙ ap (max before.status) own.status);
   }
 
   -- an empty line of a list names no log, and another names one

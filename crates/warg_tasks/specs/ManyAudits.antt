@@ -9,14 +9,9 @@ use Rattle.warg_tasks.specs.JsonLines.{json_path_object}
 use Rattle.warg_answers.specs.ReadFaults.{unread_text}
 use Rattle.warg_answers.specs.RecordLines.{record_lines}
 use Rattle.warg_answers.specs.Unusable.{IfUsable}
-use Rattle.warg_tasks.specs.Audits.{IsAuditOf}
+use Rattle.warg_tasks.specs.Audits.{IsAuditOf, first_of}
 use Rattle.warg_answers.specs.declared.input.ReadFault.{ReadFault}
 use Rattle.warg_answers.specs.declared.input.ReadFault.TheVariants.{Missing}
-
--- the first of lines, if there is one
-abbrev pub first_of : List (List ℕ) → List ℕ
-first_of [] = []
-first_of (line ∷ more) = line
 
 -- the line of one log of many, as text or in JSON: its path, and the first line of its verdict
 abbrev pub audit_line : Bool → List ℕ → Printout → List ℕ

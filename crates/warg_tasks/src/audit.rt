@@ -6,7 +6,7 @@ ghost use Rattle.warg_audit.specs.LogAnswers.{IsAuditAnswer, accepted_line};
 ghost use Rattle.warg_answers.specs.Answers.{Answers};
 ghost use Rattle.warg_answers.specs.RecordLines.{record_lines};
 ghost use Rattle.warg_answers.specs.Verdicts.{ForDisplay};
-ghost use Rattle.warg_tasks.specs.Audits.{IsAuditOf};
+ghost use Rattle.warg_tasks.specs.Audits.{BeginsAs, IsAuditOf};
 
 use std::alloc::Global;
 use warg_answers::answer::Answer;
@@ -15,7 +15,7 @@ use warg_answers::judged::judged;
 use warg_answers::kind::ToolLog;
 use warg_answers::lines::record_text;
 use warg_answers::stop::Stop;
-use warg_audit::{LogType, accepted_reply, id_reply};
+use warg_audit::{LogType, accepted_first_line, accepted_reply, id_reply};
 use warg_protocol::signing::Verifier;
 use warg_protocol::{operator, package};
 
@@ -50,6 +50,42 @@ fn verdict<L: ToolLog, V: Verifier>(
     match judged::<L, V>(alloc, verifier, input) {
         Ok((state, count)) => accepted(alloc, &state, count),
         Err(stop) => Err(stop),
+    }
+}
+
+// The first line of the verdict.
+fn first_of_verdict<L: ToolLog, V: Verifier>(
+    alloc: Global,
+    verifier: &V,
+    input: Input<'_>,
+) -> Result<Answer, Stop>
+    ensures { ForDisplay L.view L.kind L.Record.read L.Record.fault_of L.offence_of
+        L.name_of L.lines_of (λ log.
+        Answers (BeginsAs (IsAuditAnswer log (V.belongs verifier.now)
+        (record_lines input.entry.bytes.items))) result) }
+{
+    match judged::<L, V>(alloc, verifier, input) {
+        Ok((state, count)) => {
+            let line = accepted_first_line(alloc, state.head_digest(), count)?;
+            Ok(Answer::new(alloc, line, 0))
+        }
+        Err(stop) => Err(stop),
+    }
+}
+
+/// The first line of the verdict on the log in a file, which takes no time for those behind it.
+pub(crate) fn first_of_audit<V: Verifier>(
+    alloc: Global,
+    verifier: &V,
+    kind: LogType,
+    input: Input<'_>,
+) -> Result<Answer, Stop>
+    ensures { Answers (BeginsAs (IsAuditOf kind (V.belongs verifier.now)
+        (record_lines input.entry.bytes.items))) result }
+{
+    match kind {
+        LogType::Package => first_of_verdict::<package::LogState, V>(alloc, verifier, input),
+        LogType::Operator => first_of_verdict::<operator::LogState, V>(alloc, verifier, input),
     }
 }
 

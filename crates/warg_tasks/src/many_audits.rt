@@ -3,10 +3,11 @@
 ghost use Rattle.std.specs.Prelude.{◌≡◌, [], ◌∷◌, filter, IfOk, IfErr, OnOk, string_bytes};
 ghost use Rattle.std.specs.Str.Lines.{lines};
 ghost use Rattle.warg_answers.specs.Answers.{answer_view, Answers, IfStopped, IsUnusable};
-ghost use Rattle.warg_tasks.specs.ManyAudits.{audit_line, first_of, is_path, IsManyAnswer, IsVerdictOn, IsWith, IsWithAll, IsWithListed, IsWithNamed};
+ghost use Rattle.warg_tasks.specs.Audits.{BeginsAs, first_of};
+ghost use Rattle.warg_tasks.specs.ManyAudits.{audit_line, is_path, IsManyAnswer, IsVerdictOn, IsWith, IsWithAll, IsWithListed, IsWithNamed};
 ghost use Rattle.warg_answers.specs.RecordLines.{texts};
 
-use crate::audit::audit_answer;
+use crate::audit::first_of_audit;
 use crate::json::path_object;
 use std::alloc::{AllocError, Global};
 use std::str;
@@ -16,7 +17,7 @@ use warg_answers::stop::{Stop, settled};
 use warg_audit::LogType;
 use warg_protocol::signing::Verifier;
 
-// The verdict on one log of many, or why it can't be read.
+// The first line of the verdict on one log of many, or why it can't be read.
 fn answer_of_one<V: Verifier, S: Store>(
     alloc: Global,
     verifier: &V,
@@ -24,12 +25,12 @@ fn answer_of_one<V: Verifier, S: Store>(
     store: &mut S,
     path: &str,
 ) -> Result<Answer, AllocError>
-    ensures verdict { IfOk result (λ answer. IsVerdictOn kind (V.belongs verifier.now)
-        (S.files store.old) path.now (answer_view answer)) }
+    ensures verdict { IfOk result (λ answer. BeginsAs (IsVerdictOn kind (V.belongs verifier.now)
+        (S.files store.old) path.now) (answer_view answer)) }
     ensures kept { S.files store.new ≡ S.files store.old }
 {
     match store.read(path) {
-        Ok(bytes) => settled(audit_answer(alloc, verifier, kind, Input { path, bytes })),
+        Ok(bytes) => settled(first_of_audit(alloc, verifier, kind, Input { path, bytes })),
         Err(ReadFault::OutOfMemory) => Err(AllocError),
         Err(fault) => Answer::fixed(alloc, fault.text(), fault.status()),
     }

@@ -27,6 +27,7 @@ use Rattle.warg_checkpoints.specs.Proofs.{IsStatementVerdict}
 use Rattle.warg_tasks.specs.Latest.{IsLatestOf}
 use Rattle.warg_questions.specs.QuestionAnswers.{IsQuestionAnswer}
 use Rattle.warg_answers.specs.RecordLines.{texts}
+use Rattle.warg_answers.specs.Explanations.{explains_operator, explains_package}
 use Rattle.warg_answers.specs.ShownWords.{says_operator_words, says_package_words, shows_namespaces, shows_releases}
 use Rattle.warg_tasks.specs.Tasks.{DoneLeaves, IsDoneAnswer}
 use Rattle.warg_answers.specs.Unusable.{IfUsable, IsOfLines, IsOfWord}
@@ -51,7 +52,7 @@ IsAskedAnswer log_type.Package belongs files question printed =
       order = package_permission.Release ∷ package_permission.Yank ∷ [];
       text_of = packages.permission_text;
       effects = packages.effects;
-    }) says_package_words shows_releases belongs files question printed
+    }) says_package_words shows_releases explains_package belongs files question printed
 IsAskedAnswer log_type.Operator belongs files question printed =
     IsQuestionAnswer (record {
       shown = operator_log;
@@ -63,7 +64,7 @@ IsAskedAnswer log_type.Operator belongs files question printed =
       order = operator_permission.Commit ∷ operator_permission.DefineNamespace ∷ operator_permission.ImportNamespace ∷ [];
       text_of = operators.permission_text;
       effects = operators.effects;
-    }) says_operator_words shows_namespaces belongs files question printed
+    }) says_operator_words shows_namespaces explains_operator belongs files question printed
 
 -- the greatest release of the log in a file that meets the requirement that a word says
 abbrev pub IsLatestAnswer : SignatureRelation → Option Files → List ℕ → List ℕ → Printout → Type 0

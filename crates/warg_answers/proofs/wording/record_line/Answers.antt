@@ -11,6 +11,7 @@ returns g c =
     IfOk-weaker c.joined_line.result _ _
     (λ line is. (
       time,
+      rw c.as_str.ensures.value (rw (ap (λ it. it.timestamp) c.contents-record.ensures) at c.in_ok-time.ensures),
       is ∙ ap (λ id. record_line time id c.as_str-2.result.now) c.key_id.ensures
           ∙ ap (record_line time c.args.envelope.now.envelope.key_id) words,
     ))

@@ -6,7 +6,7 @@ use Rattle.warg_tasks.proofs.many_audits.answer_of_one.Goals as goal
 pub returns-in-Ok-clause-verdict : goal.returns-in-Ok-clause-verdict
 returns-in-Ok-clause-verdict g c =
     verdict_read c.args.kind (g.V.Verifier.belongs c.args.verifier.now) (g.S.Store.files c.args.store.now) c.args.path.now
-    c.in-Ok.bytes.items c.audit_answer.result c.settled.result c.settled.ensures c.in-Ok.ensures.bytes c.audit_answer.ensures
+    c.in-Ok.bytes.items c.first_of_audit.result c.settled.result c.settled.ensures c.in-Ok.ensures.bytes c.first_of_audit.ensures
 
 pub returns-in-Err-clause-verdict : goal.returns-in-Err-clause-verdict
 returns-in-Err-clause-verdict g c =

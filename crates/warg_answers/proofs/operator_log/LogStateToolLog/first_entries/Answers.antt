@@ -1,0 +1,17 @@
+use Rattle.std.proofs.Common.{ap, ◌∙◌}
+use Rattle.warg_protocol.specs.Operator.{entry_data, record_data}
+use Rattle.warg_answers.specs.Explanations.{first_entries}
+use Rattle.warg_answers.proofs.FirstEntryLemmas.{cut_short, found_both}
+use Rattle.warg_answers.proofs.operator_log.LogStateToolLog.first_entries.Goals as goal
+
+pub returns : goal.returns
+returns c =
+    let it = c.in_ok-record.record in
+    let cut = cut_short entry_data it.prev it.version it.timestamp it.entries.items c.truncate.new.self.items c.args.count c.truncate.ensures.items in
+    let whole = c.in_ok-record.ensures.cases ∙ ap record_data c.contents.ensures in
+    found_both _ _ _
+    (λ found same signer. record {
+      contents = (c.equality.ensures.operator_records found.contents (record { prev = it.prev; version = it.version; timestamp = it.timestamp; entries = c.truncate.new.self })).0 same ∙ cut ∙ ap (first_entries c.args.count) whole;
+      key_id = signer;
+    })
+    c.resealed.result c.resealed.ensures.contents c.resealed.ensures.signer
