@@ -14,3 +14,4 @@ pub mod Relations
 pub mod WellFormed
 pub mod OfBytes
 pub mod RecordIdJson
+pub mod ReadableLaws
