@@ -1,10 +1,4 @@
-pub mod RecordLines
 pub mod Texts
-pub mod Files
-pub mod Answers
-pub mod Unusable
 pub mod Verdicts
-pub mod ReadFaults
 pub mod ShownWords
 pub mod Explanations
-pub mod Sentences

@@ -6,26 +6,11 @@ use Rattle.std.specs.Option.{option_map}
 use Rattle.warg_protocol.specs.Logs.{EnvelopeData}
 use Rattle.warg_protocol.specs.Records.{hash_text, RecordId}
 use Rattle.warg_protocol.specs.Json.{JsonError}
-use Rattle.warg_audit.specs.Printouts.{Printout}
+use Rattle.warg_files.specs.Printouts.{Printout}
+use Rattle.warg_files.specs.Texts.{yes, no, line, all_lines}
 use Rattle.warg_audited_log.specs.declared.link.Link.{Link}
 use Rattle.warg_audited_log.specs.declared.comparison.Comparison.{Comparison}
 use Rattle.warg_audited_log.specs.declared.comparison.Comparison.TheVariants.{Same, LeftIsPrefix, RightIsPrefix, Fork, Collision}
-
--- a text that is a positive answer, and one that is a negative one
-abbrev pub yes : List ℕ → Printout
-yes text = record { text = text; status = 0 }
-
-abbrev pub no : List ℕ → Printout
-no text = record { text = text; status = 1 }
-
--- a text on a line
-abbrev pub line : List ℕ → List ℕ
-line text = text ++ codes "\n"
-
--- the lines, one after another
-abbrev pub all_lines : List (List ℕ) → List ℕ
-all_lines [] = []
-all_lines (text ∷ more) = line text ++ all_lines more
 
 -- the JSON of a state on a line; where a time in it lies before the epoch, there is none
 abbrev pub json_text : Result (List ℕ) JsonError → Printout
@@ -66,7 +51,3 @@ comparison_text id left right (LeftIsPrefix place) = yes (codes "left is a prefi
 comparison_text id left right (RightIsPrefix place) = yes (codes "right is a prefix " ++ decimal place ++ codes "\n")
 comparison_text id left right (Fork place) = no (codes "fork " ++ (decimal place ++ (codes " " ++ (hash_text (id (slice_index_or left place [])).hash ++ (codes " " ++ (hash_text (id (slice_index_or right place [])).hash ++ codes "\n"))))))
 comparison_text id left right (Collision here there) = no (codes "collision " ++ (decimal here ++ (codes " " ++ (decimal there ++ codes "\n"))))
-
--- what is printed of one side, where that is no lawful log
-abbrev pub side_text : List ℕ → Printout → Printout
-side_text name printed = record { text = name ++ codes ": " ++ printed.text; status = printed.status }

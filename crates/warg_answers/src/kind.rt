@@ -1,8 +1,8 @@
 //! What the commands ask of a kind of log.
 
-ghost use Rattle.std.specs.Prelude.{◌≡◌, ℕ, Bool, List, Result, Ok, IfOk, IfSome, string_bytes};
+ghost use Rattle.std.specs.Prelude.{◌≡◌, ℕ, Bool, List, Result, Ok, IfOk, IfSome, is_some, string_bytes, true};
 ghost use Rattle.warg_protocol.specs.Json.{JsonError as OfJsonError, JsonTextError as OfJsonTextError, ReturnsOrNoMemory};
-ghost use Rattle.warg_protocol.specs.Logs.{EnvelopeData};
+ghost use Rattle.warg_protocol.specs.Logs.{EnvelopeData, IsHonest};
 ghost use Rattle.warg_saved.specs.JsonText.{ReturnsOfText};
 ghost use Rattle.warg_answers.specs.Explanations.{HoldsFirst};
 ghost use Rattle.warg_answers.specs.ShownWords.{IsRecordLine, RecordWords};
@@ -73,15 +73,17 @@ pub trait ToolLog: Report {
         ensures { IfOk result (λ line. IsRecordLine envelope.now.envelope.key_id
             (words_of envelope.now.contents) (string_bytes line)) };
 
-    /// The record with so many of its first entries, in an envelope of the same signer. None where what is written of that
-    /// record does not say it.
+    /// The record with so many of its first entries, in an envelope of the same signer. None where that record would not
+    /// read back as it is written; one that was read does.
     fn first_entries(
         alloc: Global,
         envelope: &ProtoEnvelope<Self::Record>,
         count: usize,
     ) -> Result<Option<ProtoEnvelope<Self::Record>>, AllocError>
-        ensures { IfOk result (λ found. IfSome found
-            (HoldsFirst has_first envelope.now count)) };
+        ensures cut { IfOk result (λ found. IfSome found
+            (HoldsFirst has_first envelope.now count)) }
+        ensures found { IsHonest Self.Record.read Self.Record.meaning envelope.now →
+            IfOk result (λ found. is_some found ≡ true) };
 
     /// A line for each key, and for each release or namespace.
     fn state_text(&self, alloc: Global) -> Result<String, AllocError>

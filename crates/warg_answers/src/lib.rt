@@ -1,13 +1,10 @@
-//! What the commands of `warg` share: files, the lines that stand for records, answers, and what a kind of log is asked.
+//! What the commands of `warg` share: what a kind of log is asked, how a log is judged, and what is answered.
 #![tactic(auto)]
 
-pub mod answer;
-pub mod input;
 pub mod judged;
 pub mod kind;
-pub mod lines;
 mod operator_log;
 mod package_log;
+pub mod reply;
 mod resealed;
-pub mod stop;
 mod wording;

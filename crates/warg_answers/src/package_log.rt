@@ -15,7 +15,7 @@ use warg_protocol::package::{
     ValidationError,
 };
 use warg_protocol::signing::KeyID;
-use warg_protocol::{JsonError, JsonTextError, ProtoEnvelope, Version};
+use warg_protocol::{Encode, JsonError, JsonTextError, ProtoEnvelope, Version};
 use warg_records::laws::equality;
 
 impl EntryWords for PackageEntry {
@@ -169,7 +169,8 @@ impl ToolLog for LogState {
         equality();
         let mut record = envelope.contents().clone()?;
         record.entries.truncate(count);
-        resealed(alloc, &record, envelope)
+        let content = record.encode(alloc)?;
+        resealed(alloc, &record, content, envelope)
     }
 
     fn state_text(&self, alloc: Global) -> Result<String, AllocError> {

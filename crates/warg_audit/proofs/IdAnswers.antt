@@ -4,11 +4,11 @@ use Rattle.std.specs.Io.KnownBytes.{Appends}
 use Rattle.warg_log_type.specs.declared.LogType.{LogType}
 use Rattle.warg_audit.specs.declared.command.Command.{Command}
 use Rattle.warg_audit.specs.Commands.{command_of}
-use Rattle.warg_audit.specs.Lines.{lines_of, string_of, is_line_feed, onto}
+use Rattle.warg_files.specs.Lines.{lines_of, string_of, is_line_feed, onto}
 use Rattle.warg_audit.specs.Answers.{IsEnvelopeAnswer, IsIdAnswer, bad_digits, second_line, one_line, IsCommandAnswer, other_words, over_limit, of_lines}
 use Rattle.warg_audit.specs.Printouts.{Printout, usage, too_long, bad_line}
 use Rattle.warg_audit.specs.Replies.{IsReply, answer, unread, memory_refused, IsAnswered}
-use Rattle.warg_audit.proofs.LineLemmas.{lines_of-are}
+use Rattle.warg_files.proofs.LineLemmas.{lines_of-are}
 
 -- ---- the lines behind the first one
 

@@ -6,8 +6,8 @@ use Rattle.std.proofs.lemmas.List.Elements.{filter_map-append}
 use Rattle.std.proofs.lemmas.Option.{slice_get_within}
 use Rattle.std.specs.List.{slice_get}
 use Rattle.warg_protocol.specs.Logs.{EnvelopeData, SignatureRelation, Kind, Cause, read_all, HasNoOffence, IsFirstOffence, IsRefusal, IsRun, IfNamed, RunCause, RunError}
-use Rattle.warg_audit.specs.Lines.{string_of}
-use Rattle.warg_audit.proofs.StringLemmas.{IsReadTo, none_read, one_read}
+use Rattle.warg_files.specs.Lines.{string_of}
+use Rattle.warg_files.proofs.StringLemmas.{IsReadTo, none_read, one_read}
 
 slice_get-front : {X : Type 0} (xs ys : List X) (i : ℕ) → i < length xs
     → slice_get (xs ++ ys) i ≡ slice_get xs i

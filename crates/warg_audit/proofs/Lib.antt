@@ -1,10 +1,7 @@
 pub mod AnswerLaws
-pub mod LineFeeds
 pub mod IdAnswers
 pub mod InputLemmas
 pub mod JudgeLemmas
-pub mod LineLemmas
 pub mod LogLemmas
 pub mod NameLemmas
-pub mod StringLemmas
 pub mod WholeAnswers

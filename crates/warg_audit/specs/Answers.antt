@@ -11,7 +11,7 @@ use Rattle.warg_audit.specs.declared.command.Command.{Command}
 use Rattle.warg_audit.specs.declared.command.Command.TheVariants.{Id, Audit}
 use Rattle.warg_audit.specs.Commands.{command_of}
 use Rattle.warg_audit.specs.LogTypes.{IsLogTypeAnswer, log_type_answer}
-use Rattle.warg_audit.specs.Lines.{AreLines, string_of, lines_of}
+use Rattle.warg_files.specs.Lines.{AreLines, string_of, lines_of}
 use Rattle.warg_audit.specs.Printouts.{Printout, usage, too_long, bad_line, record_id, refused_line}
 
 -- the id of a record of a log of this type, from its content bytes

@@ -1,5 +1,4 @@
 pub mod Commands
-pub mod Lines
 pub mod Printouts
 pub mod LogAnswers
 pub mod ReleaseLines

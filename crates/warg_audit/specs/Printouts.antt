@@ -2,11 +2,7 @@
 use Rattle.std.specs.Prelude.{ℕ, List, ◌++◌, codes}
 use Rattle.std.specs.Fmt.{decimal}
 use Rattle.warg_protocol.specs.Records.{hash_text, RecordId}
-
--- the text that is printed, and the exit status
-pub record Printout : Type 0 where
-  pub text : List ℕ
-  pub status : ℕ
+pub use Rattle.warg_files.specs.Printouts.{Printout}
 
 -- what is printed where the words ask for nothing that the program knows
 abbrev pub usage : Printout

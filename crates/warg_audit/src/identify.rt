@@ -5,12 +5,12 @@ ghost use Rattle.warg_protocol.specs.Records.{error_name};
 ghost use Rattle.warg_protocol.specs.ParseEnvelopeErrors.{ProtobufEnvelope};
 ghost use Rattle.warg_audit.specs.Answers.{record_id_of, IsEnvelopeAnswer, IsIdAnswer};
 ghost use Rattle.warg_audit.specs.Printouts.{refused_line};
-ghost use Rattle.warg_audit.specs.Lines.{lines_of};
+ghost use Rattle.warg_files.specs.Lines.{lines_of};
 ghost use Rattle.warg_audit.specs.Replies.{printed_of};
 
-use crate::lines::{cut_line, decode_line};
 use crate::reply::{Reply, bad_line_reply, refused_reply};
 use std::alloc::{AllocError, Global};
+use warg_files::lines::{cut_line, decode_line};
 use warg_log_type::LogType;
 use warg_protocol::hash::Sha256;
 use warg_protocol::registry::RecordId;

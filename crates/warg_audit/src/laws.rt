@@ -5,7 +5,7 @@ ghost use Rattle.warg_audit.specs.Answers.{IsIdAnswer, id_answer, IsAnswer, answ
 ghost use Rattle.warg_audit.specs.LogTypes.{IsLogTypeAnswer, log_type_answer};
 ghost use Rattle.warg_log_type.specs.declared.LogType.{LogType};
 ghost use Rattle.warg_audit.specs.Printouts.{Printout};
-ghost use Rattle.warg_audit.specs.Lines.{AreLines, lines_of};
+ghost use Rattle.warg_files.specs.Lines.{AreLines, lines_of};
 
 use warg_protocol::laws::messages::decoding_computes;
 use warg_protocol::laws::runs::first_offence;

@@ -6,7 +6,7 @@ ghost use Rattle.warg_audit.specs.Answers.{IsCommandAnswer};
 ghost use Rattle.warg_audit.specs.Printouts.{usage, read_fault};
 ghost use Rattle.warg_audit.specs.Commands.{command_of};
 ghost use Rattle.warg_audit.specs.LogTypes.{IsLogTypeAnswer};
-ghost use Rattle.warg_audit.specs.Lines.{lines_of};
+ghost use Rattle.warg_files.specs.Lines.{lines_of};
 ghost use Rattle.warg_audit.specs.Meters.{bytes_left, bytes_held, ReadsToEnd, ReadFailed, WriteFailed};
 ghost use Rattle.warg_audit.specs.Replies.{printed_of, IsReply, IsPrintedOrFailed, IsAnswered, IsFailure};
 

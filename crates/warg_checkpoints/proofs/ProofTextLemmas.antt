@@ -9,23 +9,25 @@ use Rattle.serde_json.specs.Written.{compact_text, has_float}
 use Rattle.sha2.specs.Sha256.{sha256}
 use Rattle.warg_crypto.specs.declared.hash.AnyHashError.{AnyHashError}
 use Rattle.warg_json.specs.declared.error.JsonError.TheVariants.{OutOfMemory}
-use Rattle.warg_protocol.specs.Json.{JsonError, text_of}
-use Rattle.warg_protocol.specs.Registry.{id_of_text as log_id_of_text}
-use Rattle.warg_protocol.specs.RegistryMaps.{map_root}
-use Rattle.warg_protocol.specs.Transparency.{Side, consistency_proof, inclusion_path, leaf_input, tree_hash}
-use Rattle.warg_audit.specs.Printouts.{Printout}
+use Rattle.warg_json.specs.declared.error.JsonError.{JsonError}
+use Rattle.warg_saved.specs.Texts.{text_of}
+use Rattle.warg_registry.specs.LogIds.{id_of_text as log_id_of_text}
+use Rattle.warg_sparse_map.specs.Maps.{map_root}
+use Rattle.warg_merkle.specs.Extensions.{consistency_proof}
+use Rattle.warg_merkle.specs.Trees.{Side, inclusion_path, leaf_input, tree_hash}
+use Rattle.warg_files.specs.Printouts.{Printout}
 use Rattle.warg_registry.specs.RegistryJson.{checkpoint_json}
 use Rattle.warg_registry.specs.declared.checkpoint.Checkpoint.{Checkpoint}
 use Rattle.warg_registry.specs.declared.leaf.LogLeaf.{LogLeaf}
 use Rattle.warg_registry.specs.declared.log_id.LogId.{LogId}
-use Rattle.warg_answers.specs.Answers.{Answers, IfStopped, IsUnusable}
+use Rattle.warg_files.specs.Answers.{Answers, IfStopped, IsUnusable}
 use Rattle.warg_checkpoints.specs.ProofTexts.{IsByLeaves, IsByWords, IsConsistencyText, IsInclusionText, IsLogWord, IsNumber, IsUnsaid, LogProofReadsBack, ShowsBeginning, ShowsEntry, consistency_of, inclusion_of, by_value, no_leaf, unsaid}
 use Rattle.warg_checkpoints.specs.Proofs.{log_proof_line}
 use Rattle.warg_checkpoints.specs.RegistryLeaves.{HasNoLeaf, IsCheckpointOf, IsRegistryOf, entries_of}
-use Rattle.warg_answers.specs.declared.answer.Answer.{Answer}
-use Rattle.warg_answers.specs.declared.stop.Stop.{Stop}
-use Rattle.warg_answers.specs.declared.stop.Stop.TheVariants as stop
-use Rattle.warg_answers.proofs.AnswerLemmas.{Answers-to, IfStopped-to}
+use Rattle.warg_files.specs.declared.answer.Answer.{Answer}
+use Rattle.warg_files.specs.declared.stop.Stop.{Stop}
+use Rattle.warg_files.specs.declared.stop.Stop.TheVariants as stop
+use Rattle.warg_files.proofs.AnswerLemmas.{Answers-to, IfStopped-to}
 
 -- ---- words
 

@@ -7,15 +7,19 @@ use Rattle.std.proofs.lemmas.Bool.{cond-false, cond-true, eqb-true, false_from_n
 use Rattle.std.proofs.lemmas.List.{map-append}
 use Rattle.std.proofs.lemmas.Str.{IsUtf8-from_is_utf8, is_utf8-from_IsUtf8}
 use Rattle.sha2.specs.Sha256.{sha256}
-use Rattle.warg_audit.specs.Lines.{lines_of, without_return}
-use Rattle.warg_protocol.specs.RegistryMaps.{map_leaf_encoding_of, Sets, way_of}
-use Rattle.warg_protocol.specs.Transparency.{Side, head_leaf, leaf_input, log_leaf_encoding_of}
+use Rattle.warg_files.specs.Lines.{lines_of, without_return}
+use Rattle.warg_map_tree.specs.Nodes.{Sets}
+use Rattle.warg_registry.specs.PrefixEncodings.{map_leaf_encoding_of}
+use Rattle.warg_transparency.specs.MapTree.{way_of}
+use Rattle.warg_merkle.specs.Trees.{Side, leaf_input}
+use Rattle.warg_registry.specs.PrefixEncodings.{log_leaf_encoding_of}
+use Rattle.warg_transparency.specs.Heads.{head_leaf}
 use Rattle.warg_registry.specs.declared.leaf.LogLeaf.{LogLeaf}
 use Rattle.warg_verified.specs.Lines.{has_no_space, is_space}
-use Rattle.warg_answers.specs.Answers.{IfStopped, IsUnusable}
+use Rattle.warg_files.specs.Answers.{IfStopped, IsUnusable}
 use Rattle.warg_checkpoints.specs.RegistryLeaves.{HasHeads, HasNoLeaf, IsLast, IsRegistryOf, SayLeaves, SayRegistry, entries_of, leaf_of_ids, leaf_of_line, leaf_of_text}
-use Rattle.warg_answers.specs.declared.stop.Stop.{Stop}
-use Rattle.warg_answers.proofs.AnswerLemmas.{IfStopped-to}
+use Rattle.warg_files.specs.declared.stop.Stop.{Stop}
+use Rattle.warg_files.proofs.AnswerLemmas.{IfStopped-to}
 
 -- ---- which leaf a line says
 

@@ -1,21 +1,25 @@
 -- What is printed of a registry's log and map, by the leaves that a file lists.
 use Rattle.std.specs.Prelude.{◌≡◌, ◌<◌, ◌^◌, ℕ, nat_le, nat_lt, List, [], codes, length, take, slice_index_or, Option, Some, None, IfSome, Result, Ok, Err, if◌then◌else◌}
 use Rattle.sha2.specs.Sha256.{sha256}
-use Rattle.warg_protocol.specs.Json.{JsonError, text_of}
-use Rattle.warg_protocol.specs.Registry.{id_of_text as log_id_of_text}
-use Rattle.warg_protocol.specs.RegistryMaps.{Leads, map_path, map_root, way_of}
-use Rattle.warg_protocol.specs.Transparency.{Includes, IsConsistent, Side, consistency_proof, inclusion_path, log_proof_of, log_proof_text, map_proof_of, map_proof_text, tree_hash}
-use Rattle.warg_audit.specs.Printouts.{Printout}
+use Rattle.warg_json.specs.declared.error.JsonError.{JsonError}
+use Rattle.warg_saved.specs.Texts.{text_of}
+use Rattle.warg_registry.specs.LogIds.{id_of_text as log_id_of_text}
+use Rattle.warg_sparse_map.specs.Maps.{Leads, map_path, map_root}
+use Rattle.warg_transparency.specs.MapTree.{way_of}
+use Rattle.warg_merkle.specs.Extensions.{IsConsistent, consistency_proof}
+use Rattle.warg_merkle.specs.Trees.{Includes, Side, inclusion_path, tree_hash}
+use Rattle.warg_transparency.specs.Texts.{log_proof_of, log_proof_text, map_proof_of, map_proof_text}
+use Rattle.warg_files.specs.Printouts.{Printout}
 use Rattle.warg_registry.specs.RegistryJson.{checkpoint_json}
 use Rattle.warg_registry.specs.declared.checkpoint.Checkpoint.{Checkpoint}
 use Rattle.warg_registry.specs.declared.leaf.LogLeaf.{LogLeaf}
 use Rattle.warg_registry.specs.declared.log_id.LogId.{LogId}
-use Rattle.warg_answers.specs.Files.{Files}
+use Rattle.warg_files.specs.Files.{Files}
 use Rattle.warg_checkpoints.specs.Proofs.{IsNumberWord, log_proof_line, map_proof_line}
 use Rattle.warg_checkpoints.specs.RegistryLeaves.{HasHeads, HasNoLeaf, IsCheckpointOf, SayLeaves, entries_of}
-use Rattle.warg_answers.specs.Texts.{line, no, yes}
-use Rattle.warg_answers.specs.Unusable.{IsOfLines}
-use Rattle.warg_answers.specs.Answers.{IsUnusable}
+use Rattle.warg_files.specs.Texts.{line, no, yes}
+use Rattle.warg_files.specs.Unusable.{IsOfLines}
+use Rattle.warg_files.specs.Answers.{IsUnusable}
 use Rattle.warg_checkpoints.specs.declared.prove.Asked.{Asked}
 use Rattle.warg_checkpoints.specs.declared.prove.Asked.TheVariants as asked
 use Rattle.warg_words.specs.declared.statement.Wanted.{Wanted}

@@ -5,17 +5,21 @@ use Rattle.std.specs.Str.Parse.{IsNumeral, digits_value, without_leading_plus}
 use Rattle.sha2.specs.Sha256.{sha256}
 use Rattle.serde_json.specs.Data.{Data}
 use Rattle.serde_json.specs.Read.{read}
-use Rattle.warg_protocol.specs.Records.{id_of_text as record_id_of_text}
-use Rattle.warg_protocol.specs.Registry.{id_of_text as log_id_of_text}
-use Rattle.warg_protocol.specs.RegistryMaps.{Leads}
-use Rattle.warg_protocol.specs.Transparency.{GoesOn, Includes, ShowsHead, log_leaf_encoding_of, log_proof_of, log_proof_text, map_proof_of, map_proof_text}
+use Rattle.warg_records.specs.RecordIds.{id_of_text as record_id_of_text}
+use Rattle.warg_registry.specs.LogIds.{id_of_text as log_id_of_text}
+use Rattle.warg_sparse_map.specs.Maps.{Leads}
+use Rattle.warg_merkle.specs.Trees.{Includes}
+use Rattle.warg_registry.specs.PrefixEncodings.{log_leaf_encoding_of}
+use Rattle.warg_transparency.specs.Heads.{ShowsHead}
+use Rattle.warg_transparency.specs.Texts.{log_proof_of, log_proof_text, map_proof_of, map_proof_text}
+use Rattle.warg_transparency.specs.Views.{GoesOn}
 use Rattle.warg_registry.specs.RegistryJson.{checkpoint_in}
 use Rattle.warg_registry.specs.declared.checkpoint.Checkpoint.{Checkpoint}
 use Rattle.warg_registry.specs.declared.leaf.LogLeaf.{LogLeaf}
 use Rattle.warg_registry.specs.declared.log_id.LogId.{LogId}
-use Rattle.warg_audit.specs.Printouts.{Printout}
-use Rattle.warg_answers.specs.Files.{Files, Reads}
-use Rattle.warg_answers.specs.Texts.{line, yes, no}
+use Rattle.warg_files.specs.Printouts.{Printout}
+use Rattle.warg_files.specs.Files.{Files, Reads}
+use Rattle.warg_files.specs.Texts.{line, yes, no}
 use Rattle.warg_words.specs.declared.statement.Statement.{Statement}
 use Rattle.warg_words.specs.declared.statement.Statement.TheVariants as statement
 

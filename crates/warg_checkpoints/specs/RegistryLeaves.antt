@@ -4,11 +4,17 @@ use Rattle.std.specs.List.{AllByRecursion, after_first, before_first}
 use Rattle.std.specs.Str.{is_utf8}
 use Rattle.sha2.specs.Sha256.{sha256}
 use Rattle.warg_crypto.specs.declared.hash.AnyHashError.{AnyHashError}
-use Rattle.warg_protocol.specs.Records.{RecordId, id_of_text as record_id_of_text}
-use Rattle.warg_protocol.specs.Registry.{id_of_text as log_id_of_text}
-use Rattle.warg_protocol.specs.RegistryMaps.{map_leaf_encoding_of, map_root, way_of}
-use Rattle.warg_protocol.specs.Transparency.{IsLogOf, Side, head_leaf, leaf_input, log_leaf_encoding_of}
-use Rattle.warg_audit.specs.Lines.{without_return}
+use Rattle.warg_records.specs.RecordIds.{id_of_text as record_id_of_text}
+use Rattle.warg_records.specs.declared.record_id.RecordId.{RecordId}
+use Rattle.warg_registry.specs.LogIds.{id_of_text as log_id_of_text}
+use Rattle.warg_registry.specs.PrefixEncodings.{map_leaf_encoding_of}
+use Rattle.warg_sparse_map.specs.Maps.{map_root}
+use Rattle.warg_transparency.specs.MapTree.{way_of}
+use Rattle.warg_merkle.specs.Trees.{Side, leaf_input}
+use Rattle.warg_registry.specs.PrefixEncodings.{log_leaf_encoding_of}
+use Rattle.warg_transparency.specs.Heads.{head_leaf}
+use Rattle.warg_transparency.specs.Views.{IsLogOf}
+use Rattle.warg_files.specs.Lines.{without_return}
 use Rattle.warg_registry.specs.declared.checkpoint.Checkpoint.{Checkpoint}
 use Rattle.warg_registry.specs.declared.leaf.LogLeaf.{LogLeaf}
 use Rattle.warg_registry.specs.declared.log_id.LogId.{LogId}

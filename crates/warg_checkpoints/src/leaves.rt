@@ -2,20 +2,25 @@
 
 ghost use Rattle.std.specs.Prelude.{◌≡◌, ◌++◌, [], ◌∷◌, IfOk, IfErr, OnOk};
 ghost use Rattle.sha2.specs.Sha256.{sha256};
-ghost use Rattle.warg_audit.specs.Lines.{lines_of};
-ghost use Rattle.warg_protocol.specs.RegistryMaps.{leaves_of, map_leaf_encoding_of, Sets, way_of};
-ghost use Rattle.warg_protocol.specs.Transparency.{head_leaf, leaf_input, log_leaf_encoding_of};
-ghost use Rattle.warg_answers.specs.Answers.{IfStopped, IsUnusable};
-ghost use Rattle.warg_answers.specs.RecordLines.{record_lines};
+ghost use Rattle.warg_files.specs.Lines.{lines_of};
+ghost use Rattle.warg_map_tree.specs.Nodes.{Sets};
+ghost use Rattle.warg_registry.specs.PrefixEncodings.{map_leaf_encoding_of};
+ghost use Rattle.warg_transparency.specs.MapTree.{leaves_of, way_of};
+ghost use Rattle.warg_merkle.specs.Trees.{leaf_input};
+ghost use Rattle.warg_registry.specs.PrefixEncodings.{log_leaf_encoding_of};
+ghost use Rattle.warg_transparency.specs.Heads.{head_leaf};
+ghost use Rattle.warg_files.specs.Answers.{IfStopped, IsUnusable};
+ghost use Rattle.warg_files.specs.RecordLines.{record_lines};
 ghost use Rattle.warg_checkpoints.specs.RegistryLeaves.{HasNoLeaf, IsRegistryOf, leaf_of_ids, leaf_of_line, leaf_of_text, SayRegistry};
 
 use std::alloc::{AllocError, Global};
-use warg_answers::input::{Input, line_sentence};
-use warg_answers::lines::{Comments, record_text};
-use warg_answers::stop::{Stop, unusable};
-use warg_audit::{cut_line, without_return};
-use warg_protocol::registry::{LogId, LogLeaf, MapLeaf, RecordId};
-use warg_protocol::transparency::{LogTree, MapTree};
+use warg_files::input::{Input, line_sentence};
+use warg_files::lines::{cut_line, without_return};
+use warg_files::record_lines::{Comments, record_text};
+use warg_files::stop::{Stop, unusable};
+use warg_records::RecordId;
+use warg_registry::{LogId, LogLeaf, MapLeaf};
+use warg_transparency::{LogTree, MapTree};
 
 /// A registry's log and map.
 #[derive(Drop)]

@@ -1,26 +1,27 @@
 //! `prove`: the checkpoint of a registry's leaves, and proofs under it.
 
 ghost use Rattle.std.specs.Prelude.{◌≡◌, Ok, IfOk, IfErr, IfSome, OnOk, string_bytes};
-ghost use Rattle.warg_protocol.specs.Json.{ReturnsOrNoMemory, text_of};
-ghost use Rattle.warg_protocol.specs.RegistryMaps.{leaves_of};
-ghost use Rattle.warg_protocol.specs.Transparency.{map_proof_of, map_proof_text};
+ghost use Rattle.warg_json.specs.Json.{ReturnsOrNoMemory};
+ghost use Rattle.warg_saved.specs.Texts.{text_of};
+ghost use Rattle.warg_transparency.specs.MapTree.{leaves_of};
+ghost use Rattle.warg_transparency.specs.Texts.{map_proof_of, map_proof_text};
 ghost use Rattle.warg_registry.specs.RegistryJson.{checkpoint_json};
-ghost use Rattle.warg_answers.specs.Answers.{answer_view, Answers, IfStopped};
+ghost use Rattle.warg_files.specs.Answers.{answer_view, Answers, IfStopped};
 ghost use Rattle.warg_checkpoints.specs.ProofTexts.{Asks, AsksConsistency, AsksHead, AsksInclusion, checkpoint_line, IsByLeaves, IsCheckpointText, IsConsistencyText, IsHeadText, IsInclusionText, IsLogWord, IsNumber, IsProofAnswer, IsProved, IsUnsaid, LogProofReadsBack};
 ghost use Rattle.warg_checkpoints.specs.Proofs.{log_proof_line, map_proof_line};
-ghost use Rattle.warg_answers.specs.RecordLines.{record_lines};
+ghost use Rattle.warg_files.specs.RecordLines.{record_lines};
 ghost use Rattle.warg_checkpoints.specs.RegistryLeaves.{ForRegistry};
-ghost use Rattle.warg_answers.specs.Unusable.{IsOfLines};
+ghost use Rattle.warg_files.specs.Unusable.{IsOfLines};
 
 use crate::leaves::{Trees, trees_of};
 use crate::read_words::value_of;
 use std::alloc::{AllocError, Global};
-use warg_answers::answer::Answer;
-use warg_answers::input::{Input, Store, read_input};
-use warg_answers::stop::Stop;
-use warg_protocol::registry::{Checkpoint, LogId};
-use warg_protocol::transparency::{LogProof, MapProof, OfTrees};
-use warg_protocol::{JsonError, JsonValue};
+use warg_files::answer::Answer;
+use warg_files::input::{Input, Store, read_input};
+use warg_files::stop::Stop;
+use warg_json::{JsonError, JsonValue};
+use warg_registry::{Checkpoint, LogId};
+use warg_transparency::{LogProof, MapProof, OfTrees};
 use warg_words::Wanted;
 
 /// What is asked of a registry, as words say it.

@@ -2,8 +2,8 @@
 
 ghost use Rattle.std.specs.Prelude.{◌≡◌, Ok, Err, Some, IfOk, IfErr};
 ghost use Rattle.std.specs.Str.{trim_end};
-ghost use Rattle.warg_protocol.specs.Transparency.{log_proof_of, map_proof_of};
-ghost use Rattle.warg_answers.specs.Answers.{IfStopped, IsUnusable};
+ghost use Rattle.warg_transparency.specs.Texts.{log_proof_of, map_proof_of};
+ghost use Rattle.warg_files.specs.Answers.{IfStopped, IsUnusable};
 ghost use Rattle.serde_json.specs.Data.{Data};
 ghost use Rattle.serde_json.specs.Read.{read};
 ghost use Rattle.serde_json.specs.View.{view};
@@ -13,11 +13,11 @@ ghost use Rattle.warg_checkpoints.specs.Proofs.{IsCheckpointIn, IsLogProofIn, Is
 use serde_json::{Category, Value};
 use std::alloc::Global;
 use std::str::FromStr;
-use warg_answers::input::{Input, Store, file_stop, read_input};
-use warg_answers::stop::{Stop, unusable};
-use warg_protocol::registry::Checkpoint;
-use warg_protocol::transparency::{LogProof, MapProof, ProofTextError};
-use warg_protocol::{JsonError, JsonValue};
+use warg_files::input::{Input, Store, file_stop, read_input};
+use warg_files::stop::{Stop, unusable};
+use warg_json::{JsonError, JsonValue};
+use warg_registry::Checkpoint;
+use warg_transparency::{LogProof, MapProof, ProofTextError};
 
 // The end of a command for a word that is none of its kind.
 fn word_stop(alloc: Global, word: &str, kind: &str) -> Stop

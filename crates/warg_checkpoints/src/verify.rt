@@ -2,19 +2,23 @@
 
 ghost use Rattle.std.specs.Prelude.{◌≡◌, None, IfOk, IfErr};
 ghost use Rattle.sha2.specs.Sha256.{sha256};
-ghost use Rattle.warg_protocol.specs.RegistryMaps.{Leads};
-ghost use Rattle.warg_protocol.specs.Transparency.{GoesOn, Includes, ShowsHead, log_leaf_encoding_of};
-ghost use Rattle.warg_answers.specs.Answers.{answer_view, Answers, IfStopped, IsUnusable};
+ghost use Rattle.warg_sparse_map.specs.Maps.{Leads};
+ghost use Rattle.warg_merkle.specs.Trees.{Includes};
+ghost use Rattle.warg_registry.specs.PrefixEncodings.{log_leaf_encoding_of};
+ghost use Rattle.warg_transparency.specs.Heads.{ShowsHead};
+ghost use Rattle.warg_transparency.specs.Views.{GoesOn};
+ghost use Rattle.warg_files.specs.Answers.{answer_view, Answers, IfStopped, IsUnusable};
 ghost use Rattle.warg_checkpoints.specs.Proofs.{IsAbsenceVerdict, IsConsistencyVerdict, IsHeadVerdict, IsInclusionVerdict, IsLeafOf, IsNumberWord, IsStatementVerdict, IsVerdict, verdict_text};
-ghost use Rattle.warg_answers.specs.Unusable.{IfUsable};
+ghost use Rattle.warg_files.specs.Unusable.{IfUsable};
 
 use crate::read_words::{read_checkpoint, read_log_proof, read_map_proof, value_of};
 use std::alloc::{AllocError, Global};
-use warg_answers::answer::Answer;
-use warg_answers::input::Store;
-use warg_answers::stop::Stop;
-use warg_protocol::registry::{Checkpoint, LogId, LogLeaf, RecordId};
-use warg_protocol::transparency::{
+use warg_files::answer::Answer;
+use warg_files::input::Store;
+use warg_files::stop::Stop;
+use warg_records::RecordId;
+use warg_registry::{Checkpoint, LogId, LogLeaf};
+use warg_transparency::{
     LogProof, MapProof, verify_absence, verify_consistency, verify_head, verify_inclusion,
 };
 use warg_words::{LeafIds, Statement};
@@ -111,7 +115,7 @@ fn place_of(alloc: Global, word: &str) -> Result<u64, Stop>
     value_of::<u64>(alloc, word, "place of a leaf")
 }
 
-#[tactic(auto, using(warg_answers::proofs::UnusableLemmas::unusable_end))]
+#[tactic(auto, using(warg_files::proofs::UnusableLemmas::unusable_end))]
 fn inclusion_answer<S: Store>(
     alloc: Global,
     checkpoint: &str,
@@ -131,7 +135,7 @@ fn inclusion_answer<S: Store>(
     Ok(inclusion_verdict(alloc, &checkpoint, &leaf, place, &proof)?)
 }
 
-#[tactic(auto, using(warg_answers::proofs::UnusableLemmas::unusable_end))]
+#[tactic(auto, using(warg_files::proofs::UnusableLemmas::unusable_end))]
 fn consistency_answer<S: Store>(
     alloc: Global,
     old: &str,
@@ -149,7 +153,7 @@ fn consistency_answer<S: Store>(
     Ok(consistency_verdict(alloc, &old, &new, &proof)?)
 }
 
-#[tactic(auto, using(warg_answers::proofs::UnusableLemmas::unusable_end))]
+#[tactic(auto, using(warg_files::proofs::UnusableLemmas::unusable_end))]
 fn head_answer<S: Store>(
     alloc: Global,
     checkpoint: &str,
@@ -167,7 +171,7 @@ fn head_answer<S: Store>(
     Ok(head_verdict(alloc, &checkpoint, &leaf, &proof)?)
 }
 
-#[tactic(auto, using(warg_answers::proofs::UnusableLemmas::unusable_end))]
+#[tactic(auto, using(warg_files::proofs::UnusableLemmas::unusable_end))]
 fn absence_answer<S: Store>(
     alloc: Global,
     checkpoint: &str,

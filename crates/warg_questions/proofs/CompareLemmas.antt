@@ -7,14 +7,15 @@ use Rattle.warg_audited_log.specs.declared.comparison.Comparison.{Comparison}
 use Rattle.warg_audited_log.specs.declared.comparison.Comparison.TheVariants.{Same, LeftIsPrefix, RightIsPrefix, Fork, Collision}
 use Rattle.warg_audit.specs.LogAnswers.{LogDisplay}
 use Rattle.warg_audit.specs.Printouts.{Printout}
-use Rattle.warg_answers.proofs.AnswerLemmas.{IfStopped-to, Answers-to}
-use Rattle.warg_answers.specs.Answers.{answer_view, Answers, IfStopped, IsSideStop}
+use Rattle.warg_files.proofs.AnswerLemmas.{IfStopped-to, Answers-to}
+use Rattle.warg_files.specs.Answers.{answer_view, Answers, IfStopped, IsSideStop}
 use Rattle.warg_questions.specs.Questions.{IsCompared, of_left, by_right, IsComparedWith, of_right, both, IsComparisonOf, IsForkWithin}
-use Rattle.warg_answers.specs.Texts.{comparison_text, side_text}
+use Rattle.warg_files.specs.Texts.{side_text}
+use Rattle.warg_answers.specs.Texts.{comparison_text}
 use Rattle.warg_answers.specs.Verdicts.{IsLawful, IsNegative, envelopes_of}
-use Rattle.warg_answers.specs.declared.answer.Answer.{Answer}
-use Rattle.warg_answers.specs.declared.stop.Stop.{Stop}
-use Rattle.warg_answers.specs.declared.stop.Stop.TheVariants as stop
+use Rattle.warg_files.specs.declared.answer.Answer.{Answer}
+use Rattle.warg_files.specs.declared.stop.Stop.{Stop}
+use Rattle.warg_files.specs.declared.stop.Stop.TheVariants as stop
 
 -- ---- places of records
 

@@ -2,5 +2,3 @@ pub mod TextLemmas
 pub mod StateLemmas
 pub mod CompareLemmas
 pub mod ResumeLemmas
-pub mod ReasonLemmas
-pub mod ShownLemmas

@@ -4,22 +4,22 @@ use Rattle.std.specs.Str.{IsUtf8}
 use Rattle.warg_protocol.specs.Json.{JsonError, JsonTextError, ReturnsOfText}
 use Rattle.warg_saved.specs.declared.error.JsonTextError.TheVariants.{OutOfMemory}
 use Rattle.warg_protocol.specs.Logs.{envelope_of, HasNoOffence, SignatureRelation, read_all, view_after}
-use Rattle.warg_audit.specs.declared.lines.LineError.TheVariants.{Bad}
-use Rattle.warg_audit.specs.Lines.{strings_of}
+use Rattle.warg_files.specs.declared.lines.LineError.TheVariants.{Bad}
+use Rattle.warg_files.specs.Lines.{strings_of}
 use Rattle.warg_audit.specs.LogAnswers.{LogDisplay, IsRefused}
 use Rattle.warg_audit.specs.Printouts.{bad_line}
-use Rattle.warg_audit.proofs.StringLemmas as lines
+use Rattle.warg_files.proofs.StringLemmas as lines
 use Rattle.warg_questions.proofs.StateLemmas.{text_is_read}
-use Rattle.warg_answers.proofs.AnswerLemmas.{IfStopped-to, Answers-to}
-use Rattle.warg_answers.specs.Answers.{Answers, IfStopped}
+use Rattle.warg_files.proofs.AnswerLemmas.{IfStopped-to, Answers-to}
+use Rattle.warg_files.specs.Answers.{Answers, IfStopped}
 use Rattle.warg_questions.specs.Questions.{IsStateText}
 use Rattle.warg_questions.specs.Resumption.{IsGoneOn, first_bad, first_refused, resumed, IsResumed, no_state, gone_on, read_state}
 use Rattle.warg_questions.specs.StateFaults.{bad_state}
 use Rattle.warg_answers.specs.Texts.{json_text}
 use Rattle.warg_answers.specs.Verdicts.{IsLawful, IsNegative, IsPrintedOf, negative, lawful, IsViewOf}
-use Rattle.warg_answers.specs.declared.answer.Answer.{Answer}
-use Rattle.warg_answers.specs.declared.stop.Stop.{Stop}
-use Rattle.warg_answers.specs.declared.stop.Stop.TheVariants as stop
+use Rattle.warg_files.specs.declared.answer.Answer.{Answer}
+use Rattle.warg_files.specs.declared.stop.Stop.{Stop}
+use Rattle.warg_files.specs.declared.stop.Stop.TheVariants as stop
 
 -- ---- the state of a file's bytes
 

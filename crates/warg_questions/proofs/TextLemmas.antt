@@ -2,7 +2,8 @@
 use Rattle.std.proofs.Common.{◌≡◌, ℕ, Bool, true, false, cond, List, [], ◌∷◌, ◌++◌, length, filter, map, refl, sym, ap, ◌∙◌, append_assoc, append-nil, arith}
 use Rattle.warg_audited_log.specs.declared.link.Link.{Link}
 use Rattle.warg_protocol.specs.Logs.{EnvelopeData}
-use Rattle.warg_answers.specs.Texts.{all_lines, line, link_text, links_text, receiver}
+use Rattle.warg_files.specs.Texts.{all_lines, line}
+use Rattle.warg_answers.specs.Texts.{link_text, links_text, receiver}
 
 module _ {P : Type 0} (text_of : P → List ℕ) (held : P → Bool) where
   -- the lines of the items that pass the test, item by item

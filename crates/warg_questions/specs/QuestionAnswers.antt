@@ -1,15 +1,13 @@
 -- What is answered to a question on logs, by what the files that it names hold.
 use Rattle.std.specs.Prelude.{◌≡◌, ℕ, Bool, List, Option, Result}
 use Rattle.warg_protocol.specs.Json.{JsonError, JsonTextError}
-use Rattle.warg_protocol.specs.Logs.{Cause, Effects, EnvelopeData, EnvelopeFault, SignatureRelation}
+use Rattle.warg_protocol.specs.Logs.{Effects, SignatureRelation}
 use Rattle.warg_audit.specs.LogAnswers.{LogDisplay}
 use Rattle.warg_audit.specs.Printouts.{Printout}
-use Rattle.warg_answers.specs.Files.{Files}
+use Rattle.warg_files.specs.Files.{Files}
 use Rattle.warg_questions.specs.Questions.{IsStateText, IsPermissionsText, IsChainText, IsCompared}
 use Rattle.warg_questions.specs.Resumption.{IsResumed}
-use Rattle.warg_questions.specs.ShownLogs.{IsShown}
-use Rattle.warg_answers.specs.ShownWords.{RecordWords}
-use Rattle.warg_answers.specs.Unusable.{IsOfFile, IsOfLines, IsOfWord}
+use Rattle.warg_files.specs.Unusable.{IsOfFile, IsOfLines, IsOfWord}
 use Rattle.warg_answers.specs.Verdicts.{IsPrintedOf}
 use Rattle.warg_words.specs.declared.request.Question.{Question}
 use Rattle.warg_words.specs.declared.request.Question.TheVariants as question
@@ -26,11 +24,9 @@ pub record Askable (Meaning Fault View Offence S P : Type 0) : Type 0 where
   pub text_of : P → List ℕ
   pub effects : Effects P
 
-module _ {Meaning Fault View Offence S P : Type 0} (kind : Askable Meaning Fault View Offence S P) (Says : List ℕ → RecordWords → Type 0) (Shows : List EnvelopeData → List ℕ → Type 0)
-    (Explains : View → List ℕ → Cause (EnvelopeFault Fault) Offence → List ℕ → Option ℕ → Type 0) (belongs : SignatureRelation) (files : Option Files) where
-  -- what is answered to a question, by what files hold, what is shown of a record and of a state, and what explains a refusal
+module _ {Meaning Fault View Offence S P : Type 0} (kind : Askable Meaning Fault View Offence S P) (belongs : SignatureRelation) (files : Option Files) where
+  -- what is answered to a question, by what files hold
   abbrev pub IsQuestionAnswer : Question → Printout → Type 0
-  IsQuestionAnswer (question.Show log) printed = IsOfLines files log.now (IsShown kind.shown belongs Says Shows Explains) printed
   IsQuestionAnswer (question.State log) printed =
       IsOfLines files log.now (IsPrintedOf kind.shown belongs (IsStateText kind.shown kind.view kind.json)) printed
   IsQuestionAnswer (question.Resume state log) printed =

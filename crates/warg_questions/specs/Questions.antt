@@ -8,7 +8,8 @@ use Rattle.warg_audited_log.specs.declared.comparison.Comparison.{Comparison}
 use Rattle.warg_audited_log.specs.declared.comparison.Comparison.TheVariants.{Same, LeftIsPrefix, RightIsPrefix, Fork, Collision}
 use Rattle.warg_audit.specs.LogAnswers.{LogDisplay}
 use Rattle.warg_audit.specs.Printouts.{Printout}
-use Rattle.warg_answers.specs.Texts.{json_text, permissions_text, chain_text, comparison_text, side_text}
+use Rattle.warg_files.specs.Texts.{side_text}
+use Rattle.warg_answers.specs.Texts.{json_text, permissions_text, chain_text, comparison_text}
 use Rattle.warg_answers.specs.Verdicts.{IsLawful, IsNegative, IsViewOf, envelopes_of}
 
 -- how two logs compare, by their heads and the contents of their records

@@ -4,7 +4,7 @@ use Rattle.std.specs.Str.{is_utf8}
 use Rattle.warg_protocol.specs.Json.{JsonError, JsonTextError}
 use Rattle.warg_protocol.specs.Logs.{EnvelopeData, envelope_of, SignatureRelation, HasNoOffence, IsFirstOffence, view_after, read_all, Cause, EnvelopeFault}
 use Rattle.warg_saved.specs.declared.error.JsonTextError.TheVariants.{NotJson}
-use Rattle.warg_audit.specs.Lines.{Spell, IsFirstBad}
+use Rattle.warg_files.specs.Lines.{Spell, IsFirstBad}
 use Rattle.warg_audit.specs.LogAnswers.{LogDisplay, refusal}
 use Rattle.warg_audit.specs.Printouts.{Printout, bad_line}
 use Rattle.warg_questions.specs.StateFaults.{bad_state}

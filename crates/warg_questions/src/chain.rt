@@ -4,18 +4,18 @@ ghost use Rattle.std.specs.Prelude.{◌≡◌, ◌++◌, List, ℕ, IfOk, IfErr,
 ghost use Rattle.std.specs.Option.{option_copied, option_map};
 ghost use Rattle.std.specs.Vec.{vec_items};
 ghost use Rattle.warg_protocol.specs.Logs.{envelopes};
-ghost use Rattle.warg_answers.specs.Answers.{answer_view, Answers, IfStopped, IsUnusable};
+ghost use Rattle.warg_files.specs.Answers.{answer_view, Answers, IfStopped, IsUnusable};
 ghost use Rattle.warg_questions.specs.Questions.{IsChainText, IsChainTold};
-ghost use Rattle.warg_answers.specs.RecordLines.{record_lines};
+ghost use Rattle.warg_files.specs.RecordLines.{record_lines};
 ghost use Rattle.warg_answers.specs.Texts.{chain_text as text_of_chain, link_text, links_text, receiver, signer_at};
 ghost use Rattle.warg_answers.specs.Verdicts.{ForDisplay, IsPrintedOf};
 
 use std::alloc::{AllocError, Global};
-use warg_answers::answer::{Answer, UNUSABLE};
-use warg_answers::input::Input;
 use warg_answers::judged::{Lent, kept};
 use warg_answers::kind::{ToolLog, permission_of};
-use warg_answers::stop::Stop;
+use warg_files::answer::{Answer, UNUSABLE};
+use warg_files::input::Input;
+use warg_files::stop::Stop;
 use warg_protocol::signing::{KeyID, Verifier};
 use warg_protocol::{AuditedLog, Link, ProtoEnvelope};
 

@@ -2,20 +2,21 @@
 
 ghost use Rattle.std.specs.Prelude.{◌≡◌, ◌<◌, List, ℕ, [], length, slice_index_or, IfOk, IfErr};
 ghost use Rattle.warg_protocol.specs.Logs.{contents, envelopes};
-ghost use Rattle.warg_answers.specs.Answers.{answer_view, Answers, IfStopped, IsSideStop};
+ghost use Rattle.warg_files.specs.Answers.{answer_view, Answers, IfStopped, IsSideStop};
 ghost use Rattle.warg_questions.specs.Questions.{IsCompared, IsComparedWith, IsComparisonOf, IsForkWithin};
-ghost use Rattle.warg_answers.specs.RecordLines.{record_lines};
-ghost use Rattle.warg_answers.specs.Texts.{comparison_text, side_text};
+ghost use Rattle.warg_files.specs.RecordLines.{record_lines};
+ghost use Rattle.warg_files.specs.Texts.{side_text};
+ghost use Rattle.warg_answers.specs.Texts.{comparison_text};
 ghost use Rattle.warg_answers.specs.Verdicts.{ForDisplay, IsLawful, IsNegative, envelopes_of};
 ghost use Rattle.warg_audit.specs.Printouts.{Printout};
 ghost use Rattle.warg_audited_log.specs.declared.comparison.Comparison.TheVariants as outcome;
 
 use std::alloc::{AllocError, Global};
-use warg_answers::answer::Answer;
-use warg_answers::input::Input;
 use warg_answers::judged::{Lent, kept};
 use warg_answers::kind::ToolLog;
-use warg_answers::stop::Stop;
+use warg_files::answer::Answer;
+use warg_files::input::Input;
+use warg_files::stop::Stop;
 use warg_protocol::registry::RecordId;
 use warg_protocol::signing::Verifier;
 use warg_protocol::{AuditedLog, Comparison, ProtoEnvelope};

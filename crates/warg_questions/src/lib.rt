@@ -1,14 +1,11 @@
 //! What is answered to a question about a log, from the files that it names: once for both kinds of log.
 #![tactic(auto)]
 
-mod advice;
 mod chain;
 mod compare;
 mod permissions;
 mod questions;
-mod reason;
 mod resume;
-mod show;
 mod state;
 
 pub use questions::question_answer;

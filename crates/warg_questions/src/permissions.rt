@@ -1,18 +1,19 @@
 //! `permissions`: what a key holds.
 
 ghost use Rattle.std.specs.Prelude.{◌≡◌, ◌++◌, [], if◌then◌else◌, filter, map, string_bytes, IfOk, OnOk};
-ghost use Rattle.warg_answers.specs.Answers.{answer_view, Answers};
+ghost use Rattle.warg_files.specs.Answers.{answer_view, Answers};
 ghost use Rattle.warg_questions.specs.Questions.{IsPermissionsText};
-ghost use Rattle.warg_answers.specs.RecordLines.{record_lines};
-ghost use Rattle.warg_answers.specs.Texts.{all_lines, line, permissions_text};
+ghost use Rattle.warg_files.specs.RecordLines.{record_lines};
+ghost use Rattle.warg_files.specs.Texts.{all_lines, line};
+ghost use Rattle.warg_answers.specs.Texts.{permissions_text};
 ghost use Rattle.warg_answers.specs.Verdicts.{ForDisplay, IsPrintedOf};
 
 use std::alloc::{AllocError, Global};
-use warg_answers::answer::Answer;
-use warg_answers::input::Input;
 use warg_answers::judged::judged;
 use warg_answers::kind::ToolLog;
-use warg_answers::stop::Stop;
+use warg_files::answer::Answer;
+use warg_files::input::Input;
+use warg_files::stop::Stop;
 use warg_protocol::signing::{KeyID, Verifier};
 
 // Appends the permission's line, if the key holds it.

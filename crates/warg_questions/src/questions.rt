@@ -1,13 +1,11 @@
 //! What is asked of logs of one kind, from the files that are named.
 
-ghost use Rattle.warg_answers.specs.Answers.{Answers};
-ghost use Rattle.warg_answers.specs.Explanations.{Explains};
+ghost use Rattle.warg_files.specs.Answers.{Answers};
 ghost use Rattle.warg_questions.specs.Questions.{IsChainText, IsCompared, IsPermissionsText, IsStateText};
-ghost use Rattle.warg_answers.specs.RecordLines.{record_lines};
+ghost use Rattle.warg_files.specs.RecordLines.{record_lines};
 ghost use Rattle.warg_questions.specs.QuestionAnswers.{IsQuestionAnswer};
-ghost use Rattle.warg_answers.specs.Unusable.{IsOfFile, IsOfLines, IsOfWord};
+ghost use Rattle.warg_files.specs.Unusable.{IsOfFile, IsOfLines, IsOfWord};
 ghost use Rattle.warg_questions.specs.Resumption.{IsResumed};
-ghost use Rattle.warg_questions.specs.ShownLogs.{IsShown};
 ghost use Rattle.warg_answers.specs.Verdicts.{ForDisplay, IsPrintedOf};
 ghost use Rattle.std.specs.Prelude.{◌≡◌};
 
@@ -15,35 +13,14 @@ use crate::chain::{chain_answer, wanted_permission};
 use crate::compare::compare_answer;
 use crate::permissions::permissions_answer;
 use crate::resume::resume_answer;
-use crate::show::show_answer;
 use crate::state::state_answer;
 use std::alloc::Global;
-use warg_answers::answer::Answer;
-use warg_answers::input::{Input, Store, read_input};
 use warg_answers::kind::ToolLog;
-use warg_answers::stop::Stop;
+use warg_files::answer::Answer;
+use warg_files::input::{Input, Store, read_input};
+use warg_files::stop::Stop;
 use warg_protocol::signing::Verifier;
 use warg_words::Question;
-
-fn show_of_file<L: ToolLog, V: Verifier, S: Store>(
-    alloc: Global,
-    verifier: &V,
-    path: &str,
-    store: &mut S,
-) -> Result<Answer, Stop>
-    ensures answered { ForDisplay L.view L.kind L.Record.read L.Record.fault_of L.offence_of
-        L.name_of L.lines_of (λ log.
-        Answers (IsOfLines (S.files store.old) path.now
-        (IsShown log (V.belongs verifier.now) L.says_words L.shows
-        (Explains L.sentence_of L.Record.fault_of L.offence_of L.Record.read L.Record.meaning
-        L.has_first L.record_rules.offence))) result) }
-    ensures kept { S.files store.new ≡ S.files store.old }
-{
-    match read_input(alloc, store, path) {
-        Ok(input) => show_answer::<L, V>(alloc, verifier, input),
-        Err(stop) => Err(stop),
-    }
-}
 
 fn state_of_file<L: ToolLog, V: Verifier, S: Store>(
     alloc: Global,
@@ -232,14 +209,11 @@ pub fn question_answer<L: ToolLog, V: Verifier, S: Store>(
           text_of = L.text_of;
           effects =
               L.effects;
-        }) L.says_words L.shows
-        (Explains L.sentence_of L.Record.fault_of L.offence_of L.Record.read L.Record.meaning
-        L.has_first L.record_rules.offence)
+        })
         (V.belongs verifier.now) (S.files store.old) question.now) result) }
     ensures kept { S.files store.new ≡ S.files store.old }
 {
     match question {
-        Question::Show { log } => show_of_file::<L, V, S>(alloc, verifier, log, store),
         Question::State { log } => state_of_file::<L, V, S>(alloc, verifier, log, store),
         Question::Resume { state, log } => {
             resumed_from_files::<L, V, S>(alloc, verifier, state, log, store)

@@ -2,24 +2,24 @@
 
 ghost use Rattle.std.specs.Prelude.{◌≡◌, ℕ, List, map, Ok, IfOk, IfErr};
 ghost use Rattle.std.specs.Vec.{vec_items};
-ghost use Rattle.warg_audit.specs.Lines.{strings_of};
+ghost use Rattle.warg_files.specs.Lines.{strings_of};
 ghost use Rattle.warg_protocol.specs.Json.{JsonTextError as OfJsonTextError};
 ghost use Rattle.warg_saved.specs.JsonText.{ReturnsOfText};
 ghost use Rattle.warg_saved.specs.declared.error.JsonTextError.TheVariants as text;
-ghost use Rattle.warg_answers.specs.Answers.{answer_view, Answers, IfStopped};
+ghost use Rattle.warg_files.specs.Answers.{answer_view, Answers, IfStopped};
 ghost use Rattle.warg_questions.specs.Resumption.{IsGoneOn, IsResumed, read_state};
-ghost use Rattle.warg_answers.specs.RecordLines.{record_lines};
+ghost use Rattle.warg_files.specs.RecordLines.{record_lines};
 ghost use Rattle.warg_questions.specs.StateFaults.{bad_state, case_name, state_fault_name, value_name};
 ghost use Rattle.warg_answers.specs.Verdicts.{ForDisplay};
 
 use crate::state::json_answer;
 use std::alloc::{AllocError, Global};
 use std::str;
-use warg_answers::answer::{Answer, UNUSABLE};
-use warg_answers::input::{Input, sentence};
 use warg_answers::judged::{file_strings, refused};
 use warg_answers::kind::ToolLog;
-use warg_answers::stop::Stop;
+use warg_files::answer::{Answer, UNUSABLE};
+use warg_files::input::{Input, sentence};
+use warg_files::stop::Stop;
 use warg_protocol::signing::Verifier;
 use warg_protocol::{Incoherence, JsonError, JsonTextError, run_from};
 

@@ -1,18 +1,18 @@
 //! `state`: the state that a log adds up to, as JSON.
 
-ghost use Rattle.warg_answers.specs.Answers.{Answers};
+ghost use Rattle.warg_files.specs.Answers.{Answers};
 ghost use Rattle.warg_questions.specs.Questions.{IsStateText};
-ghost use Rattle.warg_answers.specs.RecordLines.{record_lines};
+ghost use Rattle.warg_files.specs.RecordLines.{record_lines};
 ghost use Rattle.warg_answers.specs.Texts.{json_text};
 ghost use Rattle.warg_answers.specs.Verdicts.{ForDisplay, IsPrintedOf};
 ghost use Rattle.std.specs.Prelude.{◌≡◌};
 
 use std::alloc::Global;
-use warg_answers::answer::Answer;
-use warg_answers::input::Input;
 use warg_answers::judged::judged;
 use warg_answers::kind::ToolLog;
-use warg_answers::stop::Stop;
+use warg_files::answer::Answer;
+use warg_files::input::Input;
+use warg_files::stop::Stop;
 use warg_protocol::JsonError;
 use warg_protocol::signing::Verifier;
 

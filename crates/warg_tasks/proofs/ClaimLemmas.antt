@@ -3,18 +3,18 @@ use Rattle.std.proofs.Common.{◌≡◌, ◌+◌, ◌<◌, ℕ, suc, List, [], �
 use Rattle.std.proofs.Math.Seq.{take-suc}
 use Rattle.std.proofs.lemmas.List.{map-append}
 use Rattle.warg_protocol.specs.Logs.{EnvelopeData, Kind}
-use Rattle.warg_audit.specs.Lines.{strings_of}
+use Rattle.warg_files.specs.Lines.{strings_of}
 use Rattle.warg_audit.specs.Printouts.{Printout, bad_line}
-use Rattle.warg_audit.specs.declared.lines.LineError.TheVariants.{Bad}
-use Rattle.warg_audit.proofs.StringLemmas as lines
+use Rattle.warg_files.specs.declared.lines.LineError.TheVariants.{Bad}
+use Rattle.warg_files.proofs.StringLemmas as lines
 use Rattle.warg_claims.specs.Claimed.{AreClaims}
 use Rattle.warg_verified.specs.Claims.{ClaimData, claim_text}
-use Rattle.warg_answers.specs.Answers.{Answers, IfStopped}
+use Rattle.warg_files.specs.Answers.{Answers, IfStopped}
 use Rattle.warg_tasks.specs.ClaimTexts.{IsClaimList, IsClaimsAnswer, first_bad, listed}
-use Rattle.warg_answers.specs.declared.answer.Answer.{Answer}
-use Rattle.warg_answers.specs.declared.stop.Stop.{Stop}
-use Rattle.warg_answers.proofs.AnswerLemmas.{Answers-to, IfStopped-to}
-use Rattle.warg_answers.specs.Texts.{all_lines, line}
+use Rattle.warg_files.specs.declared.answer.Answer.{Answer}
+use Rattle.warg_files.specs.declared.stop.Stop.{Stop}
+use Rattle.warg_files.proofs.AnswerLemmas.{Answers-to, IfStopped-to}
+use Rattle.warg_files.specs.Texts.{all_lines, line}
 
 all_lines-append : (texts : List (List ℕ)) (text : List ℕ) → all_lines (texts ++ text ∷ []) ≡ all_lines texts ++ (text ++ 10 ∷ [])
 all_lines-append [] text = append_nil_line text

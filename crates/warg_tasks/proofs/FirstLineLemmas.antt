@@ -8,9 +8,9 @@ use Rattle.warg_protocol.specs.Records.{RecordId}
 use Rattle.warg_audit.specs.LogAnswers.{LogDisplay, IsAuditAnswer, accepted_line, accepted_start, head_text, view_of}
 use Rattle.warg_audit.specs.Printouts.{Printout}
 use Rattle.warg_protocol.specs.Logs.{SignatureRelation}
-use Rattle.warg_answers.specs.Answers.{Answers, IfStopped, answer_view}
+use Rattle.warg_files.specs.Answers.{Answers, IfStopped, answer_view}
 use Rattle.warg_answers.specs.Verdicts.{IsLawful}
-use Rattle.warg_answers.specs.declared.stop.Stop.{Stop}
+use Rattle.warg_files.specs.declared.stop.Stop.{Stop}
 use Rattle.warg_answers.proofs.JudgedLemmas.{IfStopped-weaker, lawful_audited, verdict_shown}
 use Rattle.warg_tasks.specs.Audits.{BeginsAs, first_of}
 

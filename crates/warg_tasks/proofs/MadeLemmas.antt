@@ -8,14 +8,14 @@ use Rattle.warg_make.specs.NextRecords.{IsMakeError}
 use Rattle.warg_make.specs.declared.error.EntryFault.{EntryFault}
 use Rattle.warg_make.specs.declared.error.MakeError.{MakeError}
 use Rattle.warg_make.specs.declared.error.MakeError.TheVariants.{OutOfMemory}
-use Rattle.warg_answers.specs.Files.{Files, ReadsLog}
-use Rattle.warg_answers.specs.Answers.{Answers, IfStopped, IsUnusable}
+use Rattle.warg_files.specs.Files.{Files, ReadsLog}
+use Rattle.warg_files.specs.Answers.{Answers, IfStopped, IsUnusable}
 use Rattle.warg_tasks.specs.MadeRecords.{IsMade, IsMadeAfter, IsMadeOf, IsMadeText, no_file, of_log, unsaid}
 use Rattle.warg_answers.specs.Verdicts.{IsLawful, IsPrintedOf, IsViewOf, lawful}
-use Rattle.warg_answers.specs.declared.answer.Answer.{Answer}
-use Rattle.warg_answers.specs.declared.stop.Stop.{Stop}
-use Rattle.warg_answers.specs.declared.stop.Stop.TheVariants as stop
-use Rattle.warg_answers.proofs.AnswerLemmas.{Answers-to, IfStopped-to}
+use Rattle.warg_files.specs.declared.answer.Answer.{Answer}
+use Rattle.warg_files.specs.declared.stop.Stop.{Stop}
+use Rattle.warg_files.specs.declared.stop.Stop.TheVariants as stop
+use Rattle.warg_files.proofs.AnswerLemmas.{Answers-to, IfStopped-to}
 
 module _ {T : Type 0} (Says : List ℕ → T → Type 0) (Lacks : List ℕ → EntryFault → Type 0) (content : Option RecordId → Time → List T → List ℕ) (prefix : List ℕ) where
   -- words that say no record

@@ -9,21 +9,21 @@ use Rattle.std.specs.declared.alloc.AllocError.{AllocError}
 use Rattle.warg_protocol.specs.Logs.{SignatureRelation}
 use Rattle.warg_audit.specs.Printouts.{Printout}
 use Rattle.warg_log_type.specs.declared.LogType.{LogType}
-use Rattle.warg_answers.specs.Files.{Files, Lacks, Reads}
-use Rattle.warg_answers.specs.Answers.{answer_view, Answers, IsSettled}
+use Rattle.warg_files.specs.Files.{Files, Lacks, Reads}
+use Rattle.warg_files.specs.Answers.{answer_view, Answers, IsSettled}
 use Rattle.warg_tasks.specs.ManyAudits.{audit_line, is_path, IsVerdictOn, audited, unread, IsWith, IsWithAll, IsWithNamed, IsWithWords}
-use Rattle.warg_answers.specs.ReadFaults.{unread_text}
-use Rattle.warg_answers.specs.RecordLines.{record_lines, texts}
+use Rattle.warg_files.specs.ReadFaults.{unread_text}
+use Rattle.warg_files.specs.RecordLines.{record_lines, texts}
 use Rattle.warg_tasks.specs.Audits.{BeginsAs, IsAuditOf, first_of}
 use Rattle.warg_tasks.specs.JsonLines.{json_path_object}
 use Rattle.warg_tasks.proofs.FirstLineLemmas.{begins_as_itself}
-use Rattle.warg_answers.specs.declared.answer.Answer.{Answer}
-use Rattle.warg_answers.specs.declared.input.ReadFault.{ReadFault}
-use Rattle.warg_answers.specs.declared.input.ReadFault.TheVariants.{Missing}
-use Rattle.warg_answers.specs.declared.stop.Stop.{Stop}
-use Rattle.warg_answers.proofs.AnswerLemmas.{Answers-to}
-use Rattle.warg_answers.proofs.UnusableLemmas.{settled_is}
-use Rattle.warg_answers.proofs.RecordLineLemmas.{taken-suc}
+use Rattle.warg_files.specs.declared.answer.Answer.{Answer}
+use Rattle.warg_files.specs.declared.input.ReadFault.{ReadFault}
+use Rattle.warg_files.specs.declared.input.ReadFault.TheVariants.{Missing}
+use Rattle.warg_files.specs.declared.stop.Stop.{Stop}
+use Rattle.warg_files.proofs.AnswerLemmas.{Answers-to}
+use Rattle.warg_files.proofs.UnusableLemmas.{settled_is}
+use Rattle.warg_files.proofs.RecordLineLemmas.{taken-suc}
 
 -- P of the answer of a command, by its end or before it
 settled_answers : (P : Printout → Type 0) (outcome : Result Answer Stop) (settled : Result Answer AllocError)

@@ -3,13 +3,13 @@ use Rattle.std.proofs.Common.{◌≡◌, ◌⊎◌, inl, inr, ℕ, List, Option,
 use Rattle.warg_protocol.specs.Logs.{SignatureRelation}
 use Rattle.warg_audit.specs.LogAnswers.{LogDisplay}
 use Rattle.warg_audit.specs.Printouts.{Printout}
-use Rattle.warg_answers.specs.Files.{Files, Reads, ReadsLog}
+use Rattle.warg_files.specs.Files.{Files, Reads, ReadsLog}
 use Rattle.warg_tasks.specs.Additions.{IsAllOrNone}
-use Rattle.warg_answers.specs.Answers.{answer_view, Answers, IfStopped, IsUnusable}
+use Rattle.warg_files.specs.Answers.{answer_view, Answers, IfStopped, IsUnusable}
 use Rattle.warg_tasks.specs.Tasks.{IsAddedTo, no_lines, of_lines, IsAppended, no_log, to_log}
-use Rattle.warg_answers.specs.declared.answer.Answer.{Answer}
-use Rattle.warg_answers.specs.declared.stop.Stop.{Stop}
-use Rattle.warg_answers.proofs.AnswerLemmas.{Answers-to, IfStopped-to}
+use Rattle.warg_files.specs.declared.answer.Answer.{Answer}
+use Rattle.warg_files.specs.declared.stop.Stop.{Stop}
+use Rattle.warg_files.proofs.AnswerLemmas.{Answers-to, IfStopped-to}
 
 -- files are as they were, or go with an answer of which P holds
 pub append_leaves : (P : Printout → Type 0) (old new : Option Files) (result : Result Answer Stop) → Answers P result

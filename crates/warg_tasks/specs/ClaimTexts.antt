@@ -1,10 +1,10 @@
 -- What is listed of the claims of a log.
 use Rattle.std.specs.Prelude.{◌≡◌, ℕ, List, length, map, take, Result}
-use Rattle.warg_audit.specs.Lines.{IsFirstBad, Spell}
+use Rattle.warg_files.specs.Lines.{IsFirstBad, Spell}
 use Rattle.warg_audit.specs.Printouts.{Printout, bad_line}
 use Rattle.warg_claims.specs.Claimed.{AreClaims}
 use Rattle.warg_protocol.specs.Logs.{EnvelopeData, Kind}
-use Rattle.warg_answers.specs.Texts.{all_lines}
+use Rattle.warg_files.specs.Texts.{all_lines}
 use Rattle.warg_verified.specs.Claims.{ClaimData, claim_text}
 
 -- what is printed are the claims of the first of the strings, a line each; of all, where the status is 0

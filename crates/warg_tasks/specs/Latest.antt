@@ -5,7 +5,7 @@ use Rattle.warg_protocol.specs.Package.{ReleaseView, content_of, IsGreatest, sho
 use Rattle.warg_audit.specs.Printouts.{Printout}
 use Rattle.semver.specs.declared.Comparator.{Comparator}
 use Rattle.warg_audit.specs.LogTypes.{package_log}
-use Rattle.warg_answers.specs.Texts.{yes, no}
+use Rattle.warg_files.specs.Texts.{yes, no}
 use Rattle.warg_answers.specs.Verdicts.{envelopes_of}
 
 -- a release's version and its content

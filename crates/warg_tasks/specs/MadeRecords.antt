@@ -10,10 +10,10 @@ use Rattle.warg_make.specs.NextRecords.{IsMakeError, IsNextEnvelope}
 use Rattle.warg_make.specs.declared.error.EntryFault.{EntryFault}
 use Rattle.warg_make.specs.declared.error.MakeError.{MakeError}
 use Rattle.warg_make.specs.declared.error.MakeError.TheVariants.{OutOfMemory}
-use Rattle.warg_answers.specs.Files.{Files, ReadsLog}
-use Rattle.warg_answers.specs.RecordLines.{record_lines}
-use Rattle.warg_answers.specs.Texts.{line, yes}
-use Rattle.warg_answers.specs.Answers.{IsUnusable}
+use Rattle.warg_files.specs.Files.{Files, ReadsLog}
+use Rattle.warg_files.specs.RecordLines.{record_lines}
+use Rattle.warg_files.specs.Texts.{line, yes}
+use Rattle.warg_files.specs.Answers.{IsUnusable}
 use Rattle.warg_answers.specs.Verdicts.{IsPrintedOf, envelopes_of}
 
 -- by which entries words say, what is wrong with others, and how a record of a kind of log is written and signed

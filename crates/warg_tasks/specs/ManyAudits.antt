@@ -4,14 +4,14 @@ use Rattle.std.specs.Str.Lines.{lines}
 use Rattle.warg_protocol.specs.Logs.{SignatureRelation}
 use Rattle.warg_audit.specs.Printouts.{Printout}
 use Rattle.warg_log_type.specs.declared.LogType.{LogType}
-use Rattle.warg_answers.specs.Files.{Files, Lacks, Reads}
+use Rattle.warg_files.specs.Files.{Files, Lacks, Reads}
 use Rattle.warg_tasks.specs.JsonLines.{json_path_object}
-use Rattle.warg_answers.specs.ReadFaults.{unread_text}
-use Rattle.warg_answers.specs.RecordLines.{record_lines}
-use Rattle.warg_answers.specs.Unusable.{IfUsable}
+use Rattle.warg_files.specs.ReadFaults.{unread_text}
+use Rattle.warg_files.specs.RecordLines.{record_lines}
+use Rattle.warg_files.specs.Unusable.{IfUsable}
 use Rattle.warg_tasks.specs.Audits.{IsAuditOf, first_of}
-use Rattle.warg_answers.specs.declared.input.ReadFault.{ReadFault}
-use Rattle.warg_answers.specs.declared.input.ReadFault.TheVariants.{Missing}
+use Rattle.warg_files.specs.declared.input.ReadFault.{ReadFault}
+use Rattle.warg_files.specs.declared.input.ReadFault.TheVariants.{Missing}
 
 -- the line of one log of many, as text or in JSON: its path, and the first line of its verdict
 abbrev pub audit_line : Bool → List ℕ → Printout → List ℕ

@@ -11,13 +11,13 @@ use Rattle.warg_audit.specs.Printouts.{Printout}
 use Rattle.warg_make.specs.Entries.{LacksOperatorEntry, LacksPackageEntry, SaysOperatorEntry, SaysPackageEntry}
 use Rattle.warg_make.specs.NextRecords.{operator_content, operator_prefix, package_content, package_prefix}
 use Rattle.warg_make.specs.declared.error.EntryFault.{EntryFault}
-use Rattle.warg_answers.specs.Files.{Files, Reads, ReadsLog}
+use Rattle.warg_files.specs.Files.{Files, Reads, ReadsLog}
 use Rattle.warg_tasks.specs.Additions.{IsAllOrNone}
 use Rattle.warg_tasks.specs.ClaimTexts.{IsClaimsAnswer}
 use Rattle.warg_tasks.specs.MadeRecords.{IsMade}
-use Rattle.warg_answers.specs.RecordLines.{texts}
-use Rattle.warg_answers.specs.Unusable.{IsOfLines}
-use Rattle.warg_answers.specs.Answers.{IsUnusable}
+use Rattle.warg_files.specs.RecordLines.{texts}
+use Rattle.warg_files.specs.Unusable.{IsOfLines}
+use Rattle.warg_files.specs.Answers.{IsUnusable}
 use Rattle.warg_words.specs.declared.task.Task.{Task}
 use Rattle.warg_words.specs.declared.task.Task.TheVariants as task
 

@@ -3,19 +3,20 @@
 ghost use Rattle.std.specs.Prelude.{◌≡◌};
 ghost use Rattle.warg_audit.specs.Answers.{IsIdAnswer};
 ghost use Rattle.warg_audit.specs.LogAnswers.{IsAuditAnswer, accepted_line};
-ghost use Rattle.warg_answers.specs.Answers.{Answers};
-ghost use Rattle.warg_answers.specs.RecordLines.{record_lines};
+ghost use Rattle.warg_files.specs.Answers.{Answers};
+ghost use Rattle.warg_files.specs.RecordLines.{record_lines};
 ghost use Rattle.warg_answers.specs.Verdicts.{ForDisplay};
 ghost use Rattle.warg_tasks.specs.Audits.{BeginsAs, IsAuditOf};
 
 use std::alloc::Global;
-use warg_answers::answer::Answer;
-use warg_answers::input::Input;
 use warg_answers::judged::judged;
 use warg_answers::kind::ToolLog;
-use warg_answers::lines::record_text;
-use warg_answers::stop::Stop;
+use warg_answers::reply::answer_of_reply;
 use warg_audit::{LogType, accepted_first_line, accepted_reply, id_reply};
+use warg_files::answer::Answer;
+use warg_files::input::Input;
+use warg_files::record_lines::record_text;
+use warg_files::stop::Stop;
 use warg_protocol::signing::Verifier;
 use warg_protocol::{operator, package};
 
@@ -25,7 +26,7 @@ pub fn id_answer(alloc: Global, kind: LogType, input: Input<'_>) -> Result<Answe
 {
     let (text, _) = record_text(alloc, input.bytes)?;
     let reply = id_reply(alloc, kind, text.as_slice())?;
-    Ok(Answer::of_reply(alloc, &reply)?)
+    Ok(answer_of_reply(alloc, &reply)?)
 }
 
 // The verdict on a lawful log.
@@ -34,7 +35,7 @@ pub(crate) fn accepted<L: ToolLog>(alloc: Global, state: &L, count: usize) -> Re
         (L.lines_of state.now)) result }
 {
     let reply = accepted_reply(alloc, state, count)?;
-    Ok(Answer::of_reply(alloc, &reply)?)
+    Ok(answer_of_reply(alloc, &reply)?)
 }
 
 fn verdict<L: ToolLog, V: Verifier>(

@@ -4,18 +4,18 @@ ghost use Rattle.std.specs.Prelude.{◌≡◌, ◌++◌, IfOk, OnOk, map, string
 ghost use Rattle.std.specs.Vec.{vec_items};
 ghost use Rattle.warg_verified.specs.Claims.{claim_text};
 ghost use Rattle.warg_protocol.specs.Logs.{envelope_of};
-ghost use Rattle.warg_answers.specs.Answers.{Answers};
+ghost use Rattle.warg_files.specs.Answers.{Answers};
 ghost use Rattle.warg_tasks.specs.ClaimTexts.{IsClaimList, IsClaimsAnswer};
-ghost use Rattle.warg_answers.specs.RecordLines.{record_lines};
-ghost use Rattle.warg_answers.specs.Texts.{all_lines, line};
+ghost use Rattle.warg_files.specs.RecordLines.{record_lines};
+ghost use Rattle.warg_files.specs.Texts.{all_lines, line};
 
 use std::alloc::{AllocError, Global};
-use warg_answers::answer::Answer;
-use warg_answers::input::Input;
 use warg_answers::judged::{file_strings, refusal_sentence};
 use warg_answers::kind::ToolLog;
-use warg_answers::stop::Stop;
 use warg_claims::{LogClaims, claims};
+use warg_files::answer::Answer;
+use warg_files::input::Input;
+use warg_files::stop::Stop;
 use warg_host::Hosted;
 use warg_protocol::{ParseEnvelopeError, RunCause, RunError};
 use warg_verified::Claim;

@@ -4,12 +4,12 @@ ghost use Rattle.std.specs.Prelude.{◌≡◌, IfOk, string_bytes};
 ghost use Rattle.serde_json.specs.Data.{string};
 ghost use Rattle.serde_json.specs.Written.{compact_text};
 ghost use Rattle.std.specs.Str.Lines.{lines};
-ghost use Rattle.warg_answers.specs.Answers.{answer_view};
+ghost use Rattle.warg_files.specs.Answers.{answer_view};
 ghost use Rattle.warg_tasks.specs.JsonLines.{holds_state, IsInJson, IsJsonText, json_object, json_path_object, line_object, line_objects, message_object};
 
 use serde_json::Value;
 use std::alloc::{AllocError, Global};
-use warg_answers::answer::Answer;
+use warg_files::answer::Answer;
 
 // The text as a string of JSON.
 fn quoted(alloc: Global, text: &str) -> Result<String, AllocError>

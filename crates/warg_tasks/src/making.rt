@@ -2,19 +2,19 @@
 
 ghost use Rattle.hex.specs.Hex.{encode_lower};
 ghost use Rattle.std.specs.Prelude.{◌≡◌, IfOk};
-ghost use Rattle.warg_answers.specs.Answers.{answer_view, Answers, IfStopped, IsUnusable};
+ghost use Rattle.warg_files.specs.Answers.{answer_view, Answers, IfStopped, IsUnusable};
 ghost use Rattle.warg_make.specs.declared.error.MakeError.TheVariants.{OutOfMemory};
 ghost use Rattle.warg_tasks.specs.MadeRecords.{IsMadeOf, IsMadeText};
-ghost use Rattle.warg_answers.specs.RecordLines.{texts};
-ghost use Rattle.warg_answers.specs.Texts.{line, yes};
+ghost use Rattle.warg_files.specs.RecordLines.{texts};
+ghost use Rattle.warg_files.specs.Texts.{line, yes};
 ghost use Rattle.warg_answers.specs.Verdicts.{ForDisplay};
 
 use std::alloc::{AllocError, Global};
-use warg_answers::answer::Answer;
-use warg_answers::input::Input;
 use warg_answers::judged::judged;
 use warg_answers::kind::ToolLog;
-use warg_answers::stop::{Stop, unusable};
+use warg_files::answer::Answer;
+use warg_files::input::Input;
+use warg_files::stop::{Stop, unusable};
 use warg_make::{MakeError, Worded, make};
 use warg_protocol::signing::Verifier;
 use warg_words::Draft;

@@ -2,19 +2,19 @@
 
 ghost use Rattle.std.specs.Prelude.{◌≡◌, [], ◌∷◌, filter, IfOk, IfErr, OnOk, string_bytes};
 ghost use Rattle.std.specs.Str.Lines.{lines};
-ghost use Rattle.warg_answers.specs.Answers.{answer_view, Answers, IfStopped, IsUnusable};
+ghost use Rattle.warg_files.specs.Answers.{answer_view, Answers, IfStopped, IsUnusable};
 ghost use Rattle.warg_tasks.specs.Audits.{BeginsAs, first_of};
 ghost use Rattle.warg_tasks.specs.ManyAudits.{audit_line, is_path, IsManyAnswer, IsVerdictOn, IsWith, IsWithAll, IsWithListed, IsWithNamed};
-ghost use Rattle.warg_answers.specs.RecordLines.{texts};
+ghost use Rattle.warg_files.specs.RecordLines.{texts};
 
 use crate::audit::first_of_audit;
 use crate::json::path_object;
 use std::alloc::{AllocError, Global};
 use std::str;
-use warg_answers::answer::Answer;
-use warg_answers::input::{Input, ReadFault, Store, file_stop, read_input};
-use warg_answers::stop::{Stop, settled};
 use warg_audit::LogType;
+use warg_files::answer::Answer;
+use warg_files::input::{Input, ReadFault, Store, file_stop, read_input};
+use warg_files::stop::{Stop, settled};
 use warg_protocol::signing::Verifier;
 
 // The first line of the verdict on one log of many, or why it can't be read.

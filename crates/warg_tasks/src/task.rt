@@ -2,22 +2,22 @@
 
 ghost use Rattle.std.specs.Prelude.{◌≡◌, OnErr};
 ghost use Rattle.warg_protocol.specs.Logs.{envelope_of};
-ghost use Rattle.warg_answers.specs.Answers.{Answers};
+ghost use Rattle.warg_files.specs.Answers.{Answers};
 ghost use Rattle.warg_tasks.specs.ClaimTexts.{IsClaimsAnswer};
 ghost use Rattle.warg_tasks.specs.MadeRecords.{IsMade};
-ghost use Rattle.warg_answers.specs.RecordLines.{texts};
+ghost use Rattle.warg_files.specs.RecordLines.{texts};
 ghost use Rattle.warg_tasks.specs.Tasks.{IsAddedTo, IsAppended, IsTaskAnswer, Leaves};
-ghost use Rattle.warg_answers.specs.Unusable.{IsOfLines};
+ghost use Rattle.warg_files.specs.Unusable.{IsOfLines};
 ghost use Rattle.warg_answers.specs.Verdicts.{ForDisplay};
 
 use crate::append::append_answer;
 use crate::claim_lines::claims_answer;
 use crate::making::make_answer;
 use std::alloc::Global;
-use warg_answers::answer::Answer;
-use warg_answers::input::{Input, Store, read_input, read_log};
 use warg_answers::kind::ToolLog;
-use warg_answers::stop::Stop;
+use warg_files::answer::Answer;
+use warg_files::input::{Input, Store, read_input, read_log};
+use warg_files::stop::Stop;
 use warg_host::Hosted;
 use warg_make::Worded;
 use warg_protocol::signing::Verifier;

@@ -1,7 +1,7 @@
 -- Words that are answered by themselves.
 use Rattle.std.specs.Prelude.{◌≡◌, ◌⊎◌}
 use Rattle.warg_audit.specs.Printouts.{Printout}
-use Rattle.warg_answers.specs.Answers.{answer_view, IsUnusable}
+use Rattle.warg_files.specs.Answers.{answer_view, IsUnusable}
 use Rattle.warg_tool.specs.declared.words.Parsed.{Parsed}
 use Rattle.warg_tool.specs.declared.words.Parsed.TheVariants as parsed
 

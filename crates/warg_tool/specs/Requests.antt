@@ -19,25 +19,33 @@ use Rattle.warg_log_type.specs.declared.LogType.TheVariants as log_type
 use Rattle.warg_audit.specs.Printouts.{Printout}
 use Rattle.warg_verified.specs.Claims.{ClaimData, is_claimed}
 use Rattle.warg_verified.specs.Texts.{IsReadFrom}
-use Rattle.warg_answers.specs.Files.{Files, Reads}
+use Rattle.warg_files.specs.Files.{Files, Reads}
 use Rattle.warg_tasks.specs.JsonLines.{IsInJson}
 use Rattle.warg_tasks.specs.ManyAudits.{IsManyAnswer}
 use Rattle.warg_checkpoints.specs.ProofTexts.{IsProofAnswer}
 use Rattle.warg_checkpoints.specs.Proofs.{IsStatementVerdict}
 use Rattle.warg_tasks.specs.Latest.{IsLatestOf}
 use Rattle.warg_questions.specs.QuestionAnswers.{IsQuestionAnswer}
-use Rattle.warg_answers.specs.RecordLines.{texts}
+use Rattle.warg_files.specs.RecordLines.{texts}
 use Rattle.warg_answers.specs.Explanations.{explains_operator, explains_package}
 use Rattle.warg_answers.specs.ShownWords.{says_operator_words, says_package_words, shows_namespaces, shows_releases}
+use Rattle.warg_show.specs.ShownLogs.{IsShown}
 use Rattle.warg_tasks.specs.Tasks.{DoneLeaves, IsDoneAnswer}
-use Rattle.warg_answers.specs.Unusable.{IfUsable, IsOfLines, IsOfWord}
-use Rattle.warg_answers.specs.Answers.{IsUnusable}
+use Rattle.warg_files.specs.Unusable.{IfUsable, IsOfLines, IsOfWord}
+use Rattle.warg_files.specs.Answers.{IsUnusable}
 use Rattle.warg_tasks.specs.Audits.{IsAuditOf}
 use Rattle.warg_answers.specs.Verdicts.{IsPrintedOf}
 use Rattle.warg_words.specs.declared.request.Invocation.{Invocation}
 use Rattle.warg_words.specs.declared.request.Question.{Question}
 use Rattle.warg_words.specs.declared.request.Request.{Request}
 use Rattle.warg_words.specs.declared.request.Request.TheVariants as request
+
+-- what is printed of the log of a kind in words
+abbrev pub IsShownAnswer : LogType → SignatureRelation → Option Files → List ℕ → Printout → Type 0
+IsShownAnswer log_type.Package belongs files path printed =
+    IsOfLines files path (IsShown package_log belongs says_package_words shows_releases explains_package) printed
+IsShownAnswer log_type.Operator belongs files path printed =
+    IsOfLines files path (IsShown operator_log belongs says_operator_words shows_namespaces explains_operator) printed
 
 -- what is answered to a question on logs of a kind
 abbrev pub IsAskedAnswer : LogType → SignatureRelation → Option Files → Question → Printout → Type 0
@@ -52,7 +60,7 @@ IsAskedAnswer log_type.Package belongs files question printed =
       order = package_permission.Release ∷ package_permission.Yank ∷ [];
       text_of = packages.permission_text;
       effects = packages.effects;
-    }) says_package_words shows_releases explains_package belongs files question printed
+    }) belongs files question printed
 IsAskedAnswer log_type.Operator belongs files question printed =
     IsQuestionAnswer (record {
       shown = operator_log;
@@ -64,7 +72,7 @@ IsAskedAnswer log_type.Operator belongs files question printed =
       order = operator_permission.Commit ∷ operator_permission.DefineNamespace ∷ operator_permission.ImportNamespace ∷ [];
       text_of = operators.permission_text;
       effects = operators.effects;
-    }) says_operator_words shows_namespaces explains_operator belongs files question printed
+    }) belongs files question printed
 
 -- the greatest release of the log in a file that meets the requirement that a word says
 abbrev pub IsLatestAnswer : SignatureRelation → Option Files → List ℕ → List ℕ → Printout → Type 0
@@ -77,6 +85,7 @@ abbrev pub IsRequestAnswer : Bool → SignatureRelation → Option Files → Opt
 IsRequestAnswer json belongs old new (request.Id kind path) printed = IsOfLines old path.now (IsIdAnswer kind) printed
 IsRequestAnswer json belongs old new (request.Audit kind path) printed = IsOfLines old path.now (IsAuditOf kind belongs) printed
 IsRequestAnswer json belongs old new (request.Audits kind paths) printed = IsManyAnswer json kind belongs old (texts paths.items) printed
+IsRequestAnswer json belongs old new (request.Show kind path) printed = IsShownAnswer kind belongs old path.now printed
 IsRequestAnswer json belongs old new (request.Latest requirement path) printed = IsLatestAnswer belongs old requirement.now path.now printed
 IsRequestAnswer json belongs old new (request.Prove wanted path) printed = IsProofAnswer old wanted path.now printed
 IsRequestAnswer json belongs old new (request.Verify statement) printed = IfUsable (IsStatementVerdict old statement) printed
@@ -88,6 +97,7 @@ abbrev pub RequestLeaves : SignatureRelation → Option Files → Option Files �
 RequestLeaves belongs old new (request.Id kind path) = new ≡ old
 RequestLeaves belongs old new (request.Audit kind path) = new ≡ old
 RequestLeaves belongs old new (request.Audits kind paths) = new ≡ old
+RequestLeaves belongs old new (request.Show kind path) = new ≡ old
 RequestLeaves belongs old new (request.Latest requirement path) = new ≡ old
 RequestLeaves belongs old new (request.Prove wanted path) = new ≡ old
 RequestLeaves belongs old new (request.Verify statement) = new ≡ old
@@ -99,6 +109,7 @@ abbrev pub is_many : Request → Bool
 is_many (request.Id kind path) = false
 is_many (request.Audit kind path) = false
 is_many (request.Audits kind paths) = true
+is_many (request.Show kind path) = false
 is_many (request.Latest requirement path) = false
 is_many (request.Prove wanted path) = false
 is_many (request.Verify statement) = false

@@ -3,27 +3,46 @@
 ghost use Rattle.std.specs.Prelude.{◌≡◌, IfOk};
 ghost use Rattle.warg_audit.specs.Answers.{IsIdAnswer};
 ghost use Rattle.warg_audit.specs.LogTypes.{package_log};
-ghost use Rattle.warg_answers.specs.Answers.{answer_view, Answers};
+ghost use Rattle.warg_files.specs.Answers.{answer_view, Answers};
 ghost use Rattle.warg_tasks.specs.Latest.{IsLatestOf};
-ghost use Rattle.warg_tool.specs.Requests.{is_many, IsAskedAnswer, IsGiven, IsLatestAnswer, IsRequestAnswer, IsResponse, RequestLeaves};
+ghost use Rattle.warg_tool.specs.Requests.{is_many, IsAskedAnswer, IsGiven, IsLatestAnswer, IsRequestAnswer, IsResponse, IsShownAnswer, RequestLeaves};
 ghost use Rattle.warg_tasks.specs.Tasks.{DoneLeaves, IsDoneAnswer};
-ghost use Rattle.warg_answers.specs.Unusable.{IsOfLines};
+ghost use Rattle.warg_files.specs.Unusable.{IsOfLines};
 ghost use Rattle.warg_tasks.specs.Audits.{IsAuditOf};
 ghost use Rattle.warg_answers.specs.Verdicts.{IsPrintedOf};
 
 use std::alloc::{AllocError, Global};
-use warg_answers::answer::Answer;
-use warg_answers::input::{Store, read_input};
-use warg_answers::stop::{Stop, settled};
 use warg_audit::LogType;
 use warg_checkpoints::{prove_answer, verify_answer};
+use warg_files::answer::Answer;
+use warg_files::input::{Store, read_input};
+use warg_files::stop::{Stop, settled};
 use warg_protocol::signing::Verifier;
 use warg_protocol::{VersionReq, operator, package};
 use warg_questions::question_answer;
+use warg_show::show_of_file;
 use warg_tasks::{
     audit_answer, audits_answer, id_answer, json_answer, latest_answer, requirement_of, task_answer,
 };
 use warg_words::{Invocation, Question, Request, Task};
+
+// The log of a kind in words.
+fn shown_answer<V: Verifier, S: Store>(
+    alloc: Global,
+    verifier: &V,
+    kind: LogType,
+    log: &str,
+    store: &mut S,
+) -> Result<Answer, Stop>
+    ensures answered { Answers (IsShownAnswer kind (V.belongs verifier.now) (S.files store.old)
+        log.now) result }
+    ensures kept { S.files store.new ≡ S.files store.old }
+{
+    match kind {
+        LogType::Package => show_of_file::<package::LogState, V, S>(alloc, verifier, log, store),
+        LogType::Operator => show_of_file::<operator::LogState, V, S>(alloc, verifier, log, store),
+    }
+}
 
 // The answer to what is asked of logs of a kind.
 fn asked_answer<V: Verifier, S: Store>(
@@ -156,6 +175,7 @@ fn request_answer<V: Verifier, S: Store>(
         Request::Audits { kind, logs } => {
             audits_answer(alloc, verifier, *kind, store, logs.as_slice(), is_json)
         }
+        Request::Show { kind, log } => shown_answer(alloc, verifier, *kind, log, store),
         Request::Latest { requirement, log } => {
             latest_of_file(alloc, verifier, requirement, log, store)
         }
@@ -191,6 +211,7 @@ fn is_many(request: &Request<'_>) -> bool
         Request::Audits { .. } => true,
         Request::Id { .. }
         | Request::Audit { .. }
+        | Request::Show { .. }
         | Request::Latest { .. }
         | Request::Prove { .. }
         | Request::Verify { .. }

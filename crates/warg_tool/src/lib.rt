@@ -7,8 +7,8 @@ mod words;
 
 pub use commands::respond;
 pub use verified::invocation_answer;
-pub use warg_answers::answer::Answer;
-pub use warg_answers::input::{ReadFault, Store};
 pub use warg_audit::LogType;
+pub use warg_files::answer::Answer;
+pub use warg_files::input::{ReadFault, Store};
 pub use warg_words::{Draft, Invocation, LeafIds, Question, Request, Statement, Task, Wanted};
 pub use words::{Parsed, parse_words};

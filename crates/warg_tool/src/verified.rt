@@ -3,15 +3,15 @@
 ghost use Rattle.std.specs.Prelude.{◌≡◌, IfOk, IfErr};
 ghost use Rattle.std.specs.Str.Lines.{lines};
 ghost use Rattle.warg_verified.specs.Texts.{IsReadFrom};
-ghost use Rattle.warg_answers.specs.Answers.{answer_view, IfStopped, IsUnusable};
+ghost use Rattle.warg_files.specs.Answers.{answer_view, IfStopped, IsUnusable};
 ghost use Rattle.warg_tool.specs.Requests.{AreClaimsIn, InvocationLeaves, IsGivenAs, IsInvocationAnswer};
 
 use crate::commands::{given, respond};
 use std::alloc::{AllocError, Global};
 use std::str;
-use warg_answers::answer::Answer;
-use warg_answers::input::{Input, Store, file_stop, line_sentence, read_input};
-use warg_answers::stop::{Stop, unusable};
+use warg_files::answer::Answer;
+use warg_files::input::{Input, Store, file_stop, line_sentence, read_input};
+use warg_files::stop::{Stop, unusable};
 use warg_protocol::toy::ToyVerifier;
 use warg_verified::{ClaimParseError, Verified, VerifiedParseError};
 use warg_words::Invocation;

@@ -4,7 +4,7 @@ ghost use Rattle.std.specs.Prelude.{IfOk};
 ghost use Rattle.warg_tool.specs.AtOnce.{IfAnsweredAtOnce, IsAnsweredAtOnce};
 
 use std::alloc::{AllocError, Global};
-use warg_answers::answer::{Answer, UNUSABLE};
+use warg_files::answer::{Answer, UNUSABLE};
 use warg_words::{Invocation, Said};
 
 /// What the words say: a request, or what is answered at once, as help.

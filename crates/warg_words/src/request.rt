@@ -7,11 +7,6 @@ use warg_log_type::LogType;
 /// What is asked of logs of one kind, with the paths of the files. `-` is standard input.
 #[derive(Clone, Copy, Debug, PartialEq, Eq)]
 pub enum Question<'a> {
-    /// The log in words.
-    Show {
-        /// The log.
-        log: &'a str,
-    },
     /// The state that the log adds up to, as JSON.
     State {
         /// The log.
@@ -72,6 +67,13 @@ pub enum Request<'a> {
         kind: LogType,
         /// Their paths.
         logs: Vec<&'a str>,
+    },
+    /// The log in words, and why a record is refused.
+    Show {
+        /// Its kind.
+        kind: LogType,
+        /// The log.
+        log: &'a str,
     },
     /// The greatest release of a package that meets a requirement.
     Latest {

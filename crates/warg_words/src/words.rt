@@ -69,7 +69,6 @@ fn audit<'a>(alloc: Global, matches: &ArgMatches<'a>) -> Result<Request<'a>, All
 fn question<'a>(command: &str, matches: &ArgMatches<'a>) -> Option<Question<'a>> {
     let log = value(matches, "LOG");
     match command {
-        "show" => Some(Question::Show { log }),
         "state" => Some(Question::State { log }),
         "resume" => Some(Question::Resume {
             state: value(matches, "STATE"),
@@ -112,6 +111,10 @@ fn request<'a>(
             log: value(matches, "LOG"),
         })),
         "audit" => Ok(Some(audit(alloc, matches)?)),
+        "show" => Ok(Some(Request::Show {
+            kind: kind(matches),
+            log: value(matches, "LOG"),
+        })),
         "prove" => Ok(prove_request(matches)),
         "verify" => Ok(verify_request(matches)),
         "latest" => Ok(Some(Request::Latest {

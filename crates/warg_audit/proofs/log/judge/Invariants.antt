@@ -1,6 +1,6 @@
 use Rattle.std.proofs.Common.{◌+◌, ◌≤◌, length}
 use Rattle.warg_protocol.specs.Logs.{envelope_of}
-use Rattle.warg_audit.specs.Lines.{lines_of}
+use Rattle.warg_files.specs.Lines.{lines_of}
 use Rattle.warg_audit.proofs.JudgeLemmas.{IsJudgedTo}
 use Rattle.warg_audit.proofs.log.judge.Given as goal
 

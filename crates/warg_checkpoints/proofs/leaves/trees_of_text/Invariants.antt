@@ -1,6 +1,6 @@
 use Rattle.std.proofs.Common.{length}
-use Rattle.warg_audit.specs.Lines.{lines_of}
-use Rattle.warg_protocol.specs.RegistryMaps.{leaves_of}
+use Rattle.warg_files.specs.Lines.{lines_of}
+use Rattle.warg_transparency.specs.MapTree.{leaves_of}
 use Rattle.warg_checkpoints.proofs.RegistryLemmas.{IsReadTo}
 use Rattle.warg_checkpoints.proofs.leaves.trees_of_text.Given as goal
 

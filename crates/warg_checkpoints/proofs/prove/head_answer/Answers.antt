@@ -1,4 +1,4 @@
-use Rattle.warg_protocol.specs.RegistryMaps.{leaves_of}
+use Rattle.warg_transparency.specs.MapTree.{leaves_of}
 use Rattle.warg_checkpoints.proofs.ProofTextLemmas.{both_ok}
 use Rattle.warg_checkpoints.proofs.prove.head_answer.Goals as goal
 

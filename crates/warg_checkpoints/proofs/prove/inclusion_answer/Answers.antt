@@ -1,5 +1,5 @@
 use Rattle.std.proofs.Common.{sym}
-use Rattle.warg_answers.specs.Answers.{answer_view}
+use Rattle.warg_files.specs.Answers.{answer_view}
 use Rattle.warg_checkpoints.specs.RegistryLeaves.{entries_of}
 use Rattle.warg_checkpoints.proofs.ProofTextLemmas.{both_ok, inclusion_text}
 use Rattle.warg_checkpoints.proofs.prove.inclusion_answer.Goals as goal

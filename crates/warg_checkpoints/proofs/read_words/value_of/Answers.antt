@@ -1,5 +1,5 @@
 use Rattle.std.proofs.Common.{Err}
-use Rattle.warg_answers.proofs.UnusableLemmas.{always_stopped}
+use Rattle.warg_files.proofs.UnusableLemmas.{always_stopped}
 use Rattle.warg_checkpoints.proofs.read_words.value_of.Goals as goal
 
 pub returns-clause-refused : goal.returns-clause-refused

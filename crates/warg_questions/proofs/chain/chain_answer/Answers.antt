@@ -1,8 +1,8 @@
 use Rattle.std.proofs.Common.{List, ℕ, ◌∙◌, subst}
 use Rattle.warg_protocol.specs.Logs.{EnvelopeData, envelopes}
-use Rattle.warg_answers.specs.Answers.{answer_view}
+use Rattle.warg_files.specs.Answers.{answer_view}
 use Rattle.warg_answers.proofs.JudgedLemmas.{stopped_prints}
-use Rattle.warg_answers.specs.RecordLines.{record_lines}
+use Rattle.warg_files.specs.RecordLines.{record_lines}
 use Rattle.warg_answers.specs.Verdicts.{lawful}
 use Rattle.warg_questions.specs.Questions.{IsChainTold}
 use Rattle.warg_questions.proofs.chain.chain_answer.Goals as goal

@@ -1,4 +1,4 @@
-use Rattle.warg_answers.specs.Answers.{answer_view}
+use Rattle.warg_files.specs.Answers.{answer_view}
 use Rattle.warg_questions.proofs.CompareLemmas.{fork_is_within, told_of_kept}
 use Rattle.warg_questions.proofs.compare.compared.Goals as goal
 

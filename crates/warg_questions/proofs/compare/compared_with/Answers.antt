@@ -1,4 +1,4 @@
-use Rattle.warg_answers.proofs.AnswerLemmas.{Answers-to}
+use Rattle.warg_files.proofs.AnswerLemmas.{Answers-to}
 use Rattle.warg_questions.proofs.CompareLemmas.{both_are_compared, right_is_compared}
 use Rattle.warg_questions.proofs.compare.compared_with.Goals as goal
 

@@ -1,6 +1,6 @@
 use Rattle.std.proofs.Common.{◌∙◌, ap}
 use Rattle.warg_answers.proofs.JudgedLemmas.{stopped_prints}
-use Rattle.warg_answers.specs.RecordLines.{record_lines}
+use Rattle.warg_files.specs.RecordLines.{record_lines}
 use Rattle.warg_answers.specs.Texts.{permissions_text}
 use Rattle.warg_answers.specs.Verdicts.{lawful}
 use Rattle.warg_questions.proofs.permissions.permissions_answer.Goals as goal

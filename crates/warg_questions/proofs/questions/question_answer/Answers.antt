@@ -1,9 +1,5 @@
 use Rattle.warg_questions.proofs.questions.question_answer.Goals as goal
 
-pub returns-in-Show-clause-answered : goal.returns-in-Show-clause-answered
-returns-in-Show-clause-answered g c = λ fault_name offence_name shown reports.
-    rw c.in-Show.is (c.show_of_file.ensures.answered fault_name offence_name shown reports)
-
 pub returns-in-State-clause-answered : goal.returns-in-State-clause-answered
 returns-in-State-clause-answered g c = λ fault_name offence_name shown reports.
     rw c.in-State.is (c.state_of_file.ensures.answered fault_name offence_name shown reports)

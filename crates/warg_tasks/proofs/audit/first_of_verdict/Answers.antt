@@ -1,5 +1,5 @@
-use Rattle.warg_answers.specs.Answers.{answer_view}
-use Rattle.warg_answers.specs.RecordLines.{record_lines}
+use Rattle.warg_files.specs.Answers.{answer_view}
+use Rattle.warg_files.specs.RecordLines.{record_lines}
 use Rattle.warg_answers.proofs.JudgedLemmas.{stopped_audited}
 use Rattle.warg_audit.specs.LogAnswers.{IsAuditAnswer}
 use Rattle.warg_tasks.proofs.FirstLineLemmas.{lawful_begins, stopped_begins}

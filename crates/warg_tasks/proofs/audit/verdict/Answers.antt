@@ -1,5 +1,5 @@
 use Rattle.warg_answers.proofs.JudgedLemmas.{stopped_audited, verdict_audited}
-use Rattle.warg_answers.specs.RecordLines.{record_lines}
+use Rattle.warg_files.specs.RecordLines.{record_lines}
 use Rattle.warg_tasks.proofs.audit.verdict.Goals as goal
 
 pub returns-in-Ok : goal.returns-in-Ok

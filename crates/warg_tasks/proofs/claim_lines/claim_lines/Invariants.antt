@@ -1,5 +1,5 @@
 use Rattle.std.proofs.Common.{◌≡◌, map, string_bytes, take}
-use Rattle.warg_answers.specs.Texts.{all_lines}
+use Rattle.warg_files.specs.Texts.{all_lines}
 use Rattle.warg_verified.specs.Claims.{claim_text}
 use Rattle.warg_tasks.proofs.claim_lines.claim_lines.Given as goal
 

@@ -1,5 +1,5 @@
-use Rattle.warg_answers.specs.Answers.{answer_view}
-use Rattle.warg_answers.proofs.AnswerLemmas.{Answers-to}
+use Rattle.warg_files.specs.Answers.{answer_view}
+use Rattle.warg_files.proofs.AnswerLemmas.{Answers-to}
 use Rattle.warg_tasks.proofs.ClaimLemmas.{claim_list, cut_list}
 use Rattle.warg_tasks.proofs.claim_lines.list_answer.Goals as goal
 

@@ -2,9 +2,9 @@ use Rattle.std.proofs.Common.{refl, subst}
 use Rattle.warg_audit.specs.LogTypes.{package_log}
 use Rattle.warg_protocol.specs.Package.{View}
 use Rattle.warg_answers.proofs.JudgedLemmas.{stopped_prints}
-use Rattle.warg_answers.specs.Answers.{answer_view}
+use Rattle.warg_files.specs.Answers.{answer_view}
 use Rattle.warg_tasks.specs.Latest.{IsLatestText}
-use Rattle.warg_answers.specs.RecordLines.{record_lines}
+use Rattle.warg_files.specs.RecordLines.{record_lines}
 use Rattle.warg_answers.specs.Verdicts.{lawful}
 use Rattle.warg_tasks.proofs.latest.latest_answer.Goals as goal
 

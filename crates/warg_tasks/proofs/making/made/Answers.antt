@@ -1,7 +1,7 @@
 use Rattle.std.proofs.Common.{◌∙◌, ap, ℕ, List}
 use Rattle.hex.specs.Hex.{encode_lower}
 use Rattle.warg_tasks.specs.MadeRecords.{made}
-use Rattle.warg_answers.specs.Texts.{line, yes}
+use Rattle.warg_files.specs.Texts.{line, yes}
 use Rattle.warg_tasks.proofs.MadeLemmas.{none_made}
 use Rattle.warg_tasks.proofs.making.made.Goals as goal
 

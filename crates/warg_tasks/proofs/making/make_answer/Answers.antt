@@ -1,6 +1,6 @@
 use Rattle.warg_answers.proofs.JudgedLemmas.{stopped_prints}
 use Rattle.warg_tasks.proofs.MadeLemmas.{made_after}
-use Rattle.warg_answers.specs.RecordLines.{record_lines}
+use Rattle.warg_files.specs.RecordLines.{record_lines}
 use Rattle.warg_tasks.proofs.making.make_answer.Goals as goal
 
 pub returns-in-Ok : goal.returns-in-Ok

@@ -1,5 +1,5 @@
 use Rattle.std.proofs.lemmas.Result.{IfOk-weaker}
-use Rattle.warg_answers.specs.Answers.{answer_view}
+use Rattle.warg_files.specs.Answers.{answer_view}
 use Rattle.warg_tasks.proofs.ManyAuditLemmas.{verdict_read, verdict_unread}
 use Rattle.warg_tasks.proofs.many_audits.answer_of_one.Goals as goal
 

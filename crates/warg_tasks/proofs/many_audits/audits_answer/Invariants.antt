@@ -1,7 +1,7 @@
 use Rattle.std.proofs.Common.{◌≡◌, [], take}
-use Rattle.warg_answers.specs.Answers.{answer_view}
+use Rattle.warg_files.specs.Answers.{answer_view}
 use Rattle.warg_tasks.specs.ManyAudits.{IsWithWords}
-use Rattle.warg_answers.specs.RecordLines.{texts}
+use Rattle.warg_files.specs.RecordLines.{texts}
 use Rattle.warg_tasks.proofs.many_audits.audits_answer.Given as goal
 
 -- the lines of the words so far, and no file is changed

@@ -1,4 +1,4 @@
-use Rattle.warg_answers.proofs.UnusableLemmas.{word_read, word_unread}
+use Rattle.warg_files.proofs.UnusableLemmas.{word_read, word_unread}
 use Rattle.warg_tool.proofs.commands.latest_of_file.Goals as goal
 
 pub returns-in-Ok-clause-answered : goal.returns-in-Ok-clause-answered

@@ -18,6 +18,12 @@ returns-in-Audits-clause-answered g c = rw c.in-Audits.is (rw c.as_slice.ensures
 pub returns-in-Audits-clause-files : goal.returns-in-Audits-clause-files
 returns-in-Audits-clause-files g c = rw c.in-Audits.is c.audits_answer.ensures.kept
 
+pub returns-in-Show-clause-answered : goal.returns-in-Show-clause-answered
+returns-in-Show-clause-answered g c = rw c.in-Show.is c.shown_answer.ensures.answered
+
+pub returns-in-Show-clause-files : goal.returns-in-Show-clause-files
+returns-in-Show-clause-files g c = rw c.in-Show.is c.shown_answer.ensures.kept
+
 pub returns-in-Latest-clause-answered : goal.returns-in-Latest-clause-answered
 returns-in-Latest-clause-answered g c = rw c.in-Latest.is c.latest_of_file.ensures.answered
 

@@ -1,8 +1,8 @@
 use Rattle.std.proofs.Common.{◌∙◌, sym}
 use Rattle.std.proofs.lemmas.Result.{IfOk-weaker}
-use Rattle.warg_answers.specs.Answers.{answer_view}
+use Rattle.warg_files.specs.Answers.{answer_view}
 use Rattle.warg_tool.specs.Requests.{IsRequestAnswer}
-use Rattle.warg_answers.proofs.UnusableLemmas.{settled_is}
+use Rattle.warg_files.proofs.UnusableLemmas.{settled_is}
 use Rattle.warg_tool.proofs.RequestLemmas.{given_many, given_one}
 use Rattle.warg_tool.proofs.commands.respond.Goals as goal
 

@@ -1,4 +1,4 @@
-use Rattle.warg_protocol.specs.RegistryMaps.{leaves_of}
+use Rattle.warg_transparency.specs.MapTree.{leaves_of}
 use Rattle.warg_checkpoints.proofs.RegistryLemmas.{empty_registry}
 use Rattle.warg_checkpoints.proofs.leaves.Trees.new.Goals as goal
 

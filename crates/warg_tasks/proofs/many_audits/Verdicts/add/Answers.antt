@@ -1,5 +1,5 @@
 use Rattle.std.proofs.Common.{◌∙◌, string_bytes}
-use Rattle.warg_answers.specs.Answers.{answer_view}
+use Rattle.warg_files.specs.Answers.{answer_view}
 use Rattle.warg_tasks.proofs.ManyAuditLemmas.{with_line}
 use Rattle.warg_tasks.proofs.many_audits.Verdicts.add.Goals as goal
 

@@ -1,7 +1,7 @@
 use Rattle.std.proofs.Common.{ℕ, List, filter, rules, subst, ◌∙◌}
 use Rattle.std.proofs.lemmas.Iterator.Consumers.{YieldsList-end}
 use Rattle.std.proofs.lemmas.Iterator.Splits.{YieldsList-from_lines}
-use Rattle.warg_answers.specs.Answers.{answer_view}
+use Rattle.warg_files.specs.Answers.{answer_view}
 use Rattle.warg_tasks.specs.ManyAudits.{is_path, IsWithAll}
 use Rattle.warg_tasks.proofs.ManyAuditLemmas.{listed_more}
 use Rattle.warg_tasks.proofs.many_audits.Verdicts.add_all.Goals as goal

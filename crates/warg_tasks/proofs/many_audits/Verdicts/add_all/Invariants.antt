@@ -1,5 +1,5 @@
 use Rattle.std.proofs.Common.{◌≡◌, filter, map}
-use Rattle.warg_answers.specs.Answers.{answer_view}
+use Rattle.warg_files.specs.Answers.{answer_view}
 use Rattle.warg_tasks.specs.ManyAudits.{is_path, IsWithAll}
 use Rattle.warg_tasks.proofs.many_audits.Verdicts.add_all.Given as goal
 

@@ -1,5 +1,5 @@
 use Rattle.std.proofs.Common.{sym}
-use Rattle.warg_answers.specs.Answers.{answer_view}
+use Rattle.warg_files.specs.Answers.{answer_view}
 use Rattle.warg_tasks.proofs.ManyAuditLemmas.{no_line, on_ok_to, one_line}
 use Rattle.warg_tasks.proofs.many_audits.Verdicts.add_line.Goals as goal
 

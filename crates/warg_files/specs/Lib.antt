@@ -1,0 +1,9 @@
+pub mod Printouts
+pub mod Lines
+pub mod RecordLines
+pub mod Texts
+pub mod Files
+pub mod Answers
+pub mod Unusable
+pub mod ReadFaults
+pub mod Sentences

@@ -1,0 +1,2 @@
+pub mod ReasonLemmas
+pub mod ShownLemmas

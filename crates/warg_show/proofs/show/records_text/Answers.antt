@@ -1,0 +1,24 @@
+use Rattle.std.proofs.Common.{◌≡◌, [], ap, ◌++◌, ◌∙◌, rules, string_bytes}
+use Rattle.std.specs.Fmt.{decimal}
+use Rattle.std.specs.Prelude.{codes}
+use Rattle.warg_show.proofs.ShownLemmas.{every_record, no_record, record_more}
+use Rattle.warg_show.proofs.show.records_text.Goals as goal
+
+pub loop-place-init : goal.loop-place-init
+loop-place-init g c =
+    let none : string_bytes c.new-text.result ≡ [] = search rules in
+    no_record g.L.ToolLog.words_of c.args.records.now _ none
+
+pub loop-place-preserved : goal.loop-place-preserved
+loop-place-preserved g c =
+    let place = c.loop-place.place in
+    record_more g.L.ToolLog.words_of c.args.records.now place _ (string_bytes c.loop-place.text)
+    (string_bytes c.in_ok-said.said) (string_bytes c.in_ok-line.line) _ c.loop-place-test.true c.index-records-place.is
+    c.loop-place.invariant c.in_ok-said.ensures
+    (c.in_ok-line.ensures ∙ ap (λ line. decimal place ++ (codes " " ++ line)) c.as_str.ensures.value)
+    (c.in_ok-push_str.ensures.bytes ∙ ap (λ line. string_bytes c.loop-place.text ++ line) c.as_str-in-loop-place.ensures.value)
+
+pub returns : goal.returns
+returns g c =
+    every_record g.L.ToolLog.words_of c.args.records.now c.loop-place.place _ c.loop-place-test.false
+    c.loop-place.invariant

@@ -1,0 +1,8 @@
+//! A log in words, and why a record is refused: once for both kinds of log.
+#![tactic(auto)]
+
+mod advice;
+mod reason;
+mod show;
+
+pub use show::show_of_file;
