@@ -1,5 +1,6 @@
 -- Records that are cut short.
-use Rattle.std.proofs.Common.{◌≡◌, ℕ, List, map, take, sym, ap, ◌∙◌, Option, Some, None, Result, Ok, Err, IfOk}
+use Rattle.std.proofs.Common.{◌≡◌, ℕ, zero, suc, List, [], ◌∷◌, map, take, sym, ap, subst, ◌∙◌, Option, Some, None, Result, Ok, Err, IfOk}
+use Rattle.std.specs.List.{AllByRecursion}
 use Rattle.std.proofs.lemmas.List.{take-map}
 use Rattle.std.specs.Prelude.{IfSome}
 use Rattle.warg_protocol.specs.Records.{EntryData, RecordData, RecordId}
@@ -21,3 +22,15 @@ pub cut_short : {E P O : Type 0} (entry_data : E → EntryData P O) (prev : Opti
 cut_short {E} {P} {O} entry_data prev version time items kept count is =
     ap (λ (entries : List (EntryData P O)). record { prev = prev; version = version; time = time; entries = entries })
     (ap (map entry_data) is ∙ sym (take-map entry_data count items))
+
+-- what holds of each item holds of each of the first
+each_taken : {X : Type 0} (P : X → Type 0) (count : ℕ) (items : List X) → AllByRecursion P items → AllByRecursion P (take count items)
+each_taken P zero items each = tt
+each_taken P (suc n) [] each = tt
+each_taken P (suc n) (x ∷ items) each = (each.0, each_taken P n items each.1)
+
+-- the same of the entries of a record that says the first of another's
+pub each_entry_kept : {P O : Type 0} (Q : EntryData P O → Type 0) (cut whole : RecordData P O) (count : ℕ) → cut ≡ first_entries count whole
+    → AllByRecursion Q whole.entries → AllByRecursion Q cut.entries
+each_entry_kept {P} {O} Q cut whole count is each =
+    subst (λ (r : RecordData P O). AllByRecursion Q r.entries) (sym is) (each_taken Q count whole.entries each)

@@ -1,3 +1,4 @@
 pub mod FirstEntryLemmas
 pub mod JudgedLemmas
 pub mod ShownWordLemmas
+pub mod ResealedLemmas

@@ -1,5 +1,5 @@
 -- The words in which times, records, keys, releases and namespaces are shown.
-use Rattle.std.specs.Prelude.{◌≡◌, ℕ, ℤ, pos, ◌+ℤ◌, ◌*ℤ◌, List, [], ◌∷◌, ◌++◌, codes, map, unwrap_or, Result, Ok}
+use Rattle.std.specs.Prelude.{◌≡◌, ℕ, pos, ◌+ℤ◌, ◌*ℤ◌, List, [], ◌∷◌, ◌++◌, codes, map, unwrap_or, Result, Ok}
 use Rattle.std.specs.List.{IsDistinct}
 use Rattle.std.specs.Map.{keys_of}
 use Rattle.std.specs.Str.{bytes_eq}
@@ -28,7 +28,7 @@ IsShownAt time shown = civil_nanos shown ≡ time.seconds *ℤ pos 1_000_000_000
 
 -- a time as RFC 3339 has it, in UTC; where the calendar does not reach, its seconds and nanoseconds since 1970
 pub data IsTimeText (time : Time) (text : List ℕ) : Type 0 where
-  in_utc : (shown : DateTime) → IsShownAt time shown → text ≡ iso_datetime_text shown ++ codes "Z" → IsTimeText time text
+  in_utc : IsTimestampParts time.seconds (pos time.nanos) → (shown : DateTime) → IsShownAt time shown → text ≡ iso_datetime_text shown ++ codes "Z" → IsTimeText time text
   beyond : (IsTimestampParts time.seconds (pos time.nanos) → ⊥) → text ≡ shown_time time → IsTimeText time text
 
 -- ---- records

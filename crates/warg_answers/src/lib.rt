@@ -7,4 +7,5 @@ mod operator_log;
 mod package_log;
 pub mod reply;
 mod resealed;
+pub mod unread;
 mod wording;

@@ -1,10 +1,12 @@
 -- Why a record is refused.
-use Rattle.std.proofs.Common.{◌≡◌, ◌<◌, ◌+◌, ℕ, Bool, true, false, List, refl, sym, ap, ◌∙◌, subst, arith, Option, Some, None, Result, Ok, Err, IfOk}
-use Rattle.std.specs.Prelude.{is_some, ◌↔◌}
+use Rattle.std.proofs.Common.{◌≡◌, ◌+◌, ℕ, Bool, true, false, List, refl, sym, ◌∙◌, subst, Option, Some, None, Result}
+use Rattle.std.specs.Prelude.{is_some, IsErr, ◌↔◌}
 use Rattle.std.specs.Option.{option_map}
 use Rattle.warg_envelope.specs.ErrorTexts.{error_text as fault_text}
 use Rattle.warg_protocol.specs.Errors.{DecodeError, ParseEnvelopeError}
-use Rattle.warg_protocol.specs.Logs.{Cause, DecodedEnvelope, EnvelopeFault, SignatureRelation, Unlawful, cause_named_by, envelope_fault_of}
+use Rattle.warg_protocol.specs.Logs.{Cause, DecodedEnvelope, EnvelopeFault, SignatureRelation, Unlawful, Unread, cause_named_by, envelope_fault_of}
+use Rattle.warg_envelope.specs.Faults.{NamesFault}
+use Rattle.warg_protocol.specs.ParseEnvelopeErrors as error
 use Rattle.warg_protocol.specs.RunCauses.{Parse, Validation}
 use Rattle.warg_validator.specs.OutcomeOffences.{NamesOffence}
 use Rattle.warg_answers.specs.Explanations.{Explains, HoldsFirst, IsEntryAtFault, IsEntryOf, IsEntryOfString, IsPassedWith, IsRefusedWith, all_belong}
@@ -43,16 +45,32 @@ pub entry_found : {C View Offence : Type 0} (IsFirst : ℕ → C → C → Type 
 entry_found IsFirst offence_in view whole o passed refused next before with_it =
     record { before = before; with_it = subst (λ (n : ℕ). IsRefusedWith IsFirst offence_in view whole o n) next with_it }
 
+-- bytes whose envelope can't be read are none, if memory was there
+pub unread_err : {X F : Type 0} (fault_of : DecodeError → Option F) (said : Result X (EnvelopeFault F)) (e : ParseEnvelopeError)
+    → (e ≡ error.OutOfMemory → ⊥) → NamesFault said (envelope_fault_of fault_of e) → IsErr said
+unread_err fault_of said (error.ProtobufEnvelope w) there names = rw names refl
+unread_err fault_of said (error.Contents d) there names = rw names refl
+unread_err fault_of said (error.KeyID h) there names = rw names refl
+unread_err fault_of said (error.Signature s) there names = rw names refl
+unread_err fault_of said error.OutOfMemory there names = absurd (there refl)
+
 -- ---- both
 
 module _ {E C M F View Offence : Type 0} (sentence_of : E → List ℕ) (fault_of_error : DecodeError → Option F) (offence_of : E → Option Offence)
     (read : List ℕ → Result M F) (meaning : C → M) (count_of : C → ℕ) (IsFirst : ℕ → C → C → Type 0) (offence_in : SignatureRelation → View → DecodedEnvelope C → Option Offence)
     (view : View) (string : List ℕ) (cause : Cause (EnvelopeFault F) Offence) (text : List ℕ) where
+  none_told : (named : Option (EnvelopeFault F)) → option_map Unread named ≡ Some cause
+      → IsEntryOf sentence_of fault_of_error offence_of read meaning count_of IsFirst offence_in view string cause None
+  none_told None names = cc
+  none_told (Some fault) names =
+      let same : cause ≡ Unread fault = cc in
+      rw same refl
+
   pub fault_explained : (fault : ParseEnvelopeError) → cause_named_by (envelope_fault_of fault_of_error) offence_of (Parse fault) ≡ Some cause
       → text ≡ fault_text fault → Explains sentence_of fault_of_error offence_of read meaning count_of IsFirst offence_in view string cause text None
   fault_explained fault names is = record {
     sentence = record { error = Parse fault; names = names; is = is };
-    place = refl;
+    place = none_told (envelope_fault_of fault_of_error fault) names;
   }
 
   place_told : (error : E) (named : Option Offence) → offence_of error ≡ named → option_map Unlawful named ≡ Some cause → (entry : Option ℕ)

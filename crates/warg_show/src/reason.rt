@@ -7,8 +7,9 @@ ghost use Rattle.warg_show.specs.Reasons.{IsTold, Tells};
 
 use std::alloc::{AllocError, Global};
 use warg_answers::kind::ToolLog;
+use warg_answers::unread::unless_out_of_memory;
 use warg_protocol::signing::{PublicKey, Signature, SignatureError, Verifier};
-use warg_protocol::{ParseEnvelopeError, ProtoEnvelope, RunCause};
+use warg_protocol::{ProtoEnvelope, RunCause};
 
 /// Why a record is refused.
 #[derive(Debug, Drop)]
@@ -121,8 +122,10 @@ fn entry_in<L: ToolLog>(
 {
     match ProtoEnvelope::<L::Record>::from_protobuf(alloc, string) {
         Ok(envelope) => entry_at_fault(alloc, state, &envelope, offence),
-        Err(ParseEnvelopeError::OutOfMemory) => Err(AllocError),
-        Err(_) => Ok(None),
+        Err(error) => {
+            unless_out_of_memory(&error)?;
+            Ok(None)
+        }
     }
 }
 

@@ -1,12 +1,14 @@
-use Rattle.warg_answers.specs.Explanations.{IsEntryAtFault, IsEntryOfString}
-use Rattle.warg_show.proofs.ReasonLemmas.{found_to}
+use Rattle.std.proofs.Common.{refl}
+use Rattle.std.proofs.lemmas.Result.{IfOk-weaker}
+use Rattle.warg_answers.specs.Explanations.{of_no_record, of_record}
+use Rattle.warg_show.proofs.ReasonLemmas.{unread_err}
 use Rattle.warg_show.proofs.reason.entry_in.Goals as goal
 
 pub returns-in-Ok : goal.returns-in-Ok
 returns-in-Ok g c = λ o h.
-    let view = g.L.Validator.view c.args.state.now in
     let opened = c.in-Ok.ensures.opened in
-    found_to (IsEntryAtFault g.L.ToolLog.has_first g.L.Validator.record_rules.offence view c.in-Ok.envelope o)
-    (IsEntryOfString g.L.Record.Record.read g.L.Record.Record.meaning g.L.ToolLog.has_first g.L.Validator.record_rules.offence view c.args.string.now o)
-    (λ place it. record { whole = c.in-Ok.envelope; is_read = opened.0; honest = opened.1; entry = it })
-    c.entry_at_fault.result (c.entry_at_fault.ensures o h)
+    IfOk-weaker c.entry_at_fault.result _ _ (λ entry told. of_record c.in-Ok.envelope opened.0 opened.1 told) (c.entry_at_fault.ensures o h opened.1)
+
+pub returns-in_ok-unless_out_of_memory-in-Err : goal.returns-in_ok-unless_out_of_memory-in-Err
+returns-in_ok-unless_out_of_memory-in-Err g c = λ o h.
+    of_no_record (unread_err g.L.Record.Record.fault_of _ c.in-Err.error c.in_ok-unless_out_of_memory-in-Err.ensures c.in-Err.ensures.opened) refl

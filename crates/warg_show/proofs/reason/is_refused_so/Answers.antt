@@ -2,8 +2,8 @@ use Rattle.std.proofs.lemmas.Bool.{false≢true}
 use Rattle.warg_show.proofs.ReasonLemmas.{lawful_passed, refused_told}
 use Rattle.warg_show.proofs.reason.is_refused_so.Goals as goal
 
-pub returns-in-None : goal.returns-in-None
-returns-in-None g c = λ o h honest. absurd (false≢true (rw c.in-None.is at (c.in_ok-shorter.ensures.found honest)))
+pub returns-in_default : goal.returns-in_default
+returns-in_default g c = λ o h honest. absurd (false≢true (rw c.in_default.is at (c.in_ok-shorter.ensures.found honest)))
 
 pub returns-in-Ok : goal.returns-in-Ok
 returns-in-Ok g c = λ o h honest.

@@ -1,4 +1,4 @@
-use Rattle.std.proofs.Common.{◌∙◌, sym}
+use Rattle.std.proofs.Common.{sym}
 use Rattle.std.proofs.lemmas.Result.{IfOk-weaker}
 use Rattle.warg_files.specs.Answers.{answer_view}
 use Rattle.warg_tool.specs.Requests.{IsRequestAnswer}
