@@ -2,7 +2,7 @@
 use Rattle.std.specs.Prelude.{◌≡◌, ℕ, zero, suc, Bool, List, Option, Some, None, Result, Ok, Err}
 use Rattle.warg_envelope.specs.Envelopes.{envelope_of, envelope_fault_of}
 use Rattle.warg_envelope.specs.Faults.{fault_of}
-use Rattle.warg_log.specs.AuthorityData.{AuthorityData}
+use Rattle.warg_key_maps.specs.AuthorityData.{AuthorityData}
 use Rattle.warg_log.specs.States.{State}
 use Rattle.warg_host.specs.declared.told.Told.{Told}
 use Rattle.warg_operator_log.specs.Namespaces.{Namespace}

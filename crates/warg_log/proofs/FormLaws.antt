@@ -18,7 +18,8 @@ use Rattle.warg_records.specs.declared.record_id.RecordId.{RecordId}
 use Rattle.warg_validator.specs.Kinds.{SignatureRelation, KindLaws, AllLawful, IsAccepted, view_after}
 use Rattle.warg_validator.specs.Walks as walk
 use Rattle.warg_validator.proofs.KindWalks.{accepted-lawful}
-use Rattle.warg_log.specs.SignedEntries.{AccessView, empty_access, after}
+use Rattle.warg_key_maps.specs.AuthorityData.{AccessView, empty_access}
+use Rattle.warg_log.specs.SignedEntries.{after}
 use Rattle.warg_log.specs.Forms.{TimesNeverFall, FirstAloneHasNoPrev, is_init, inits, OneInitFirst, EntriesHaveKeys, HasForm}
 use Rattle.warg_log.specs.History.{PlacedEvent, placed_in, record_history, history_of}
 use Rattle.warg_log.specs.Rules.{SignedRecord, Event, Rules, StateView, View, LogOffence, signed_entry_of, record_events, head_of, state_view_after, start, entry_offence, entry_fault, events_offence, unsigned_offence, record_offence, after_record, IsCoherent}

@@ -7,14 +7,16 @@ use Rattle.std.proofs.lemmas.List.Elements.{filter_map-append}
 use Rattle.std.proofs.lemmas.List.Concat.{flat_map-append, flat_map-cons}
 use Rattle.warg_validator.specs.Walks.{view_after, AllLawful, IsStepwise}
 use Rattle.warg_crypto.specs.NamedBytes.{NamedBytes}
-use Rattle.warg_log.specs.SignedEntries.{SignedEntry, after, empty_access, signed_entry_on, enters, signed_entry_key, signed_entry_algorithm}
+use Rattle.warg_key_maps.specs.AuthorityData.{empty_access}
+use Rattle.warg_log.specs.SignedEntries.{SignedEntry, after, signed_entry_on, enters, signed_entry_key, signed_entry_algorithm}
 use Rattle.warg_records.specs.RecordData.{EntryData}
 use Rattle.warg_log.specs.Rules.{SignedRecord, Event, View, StateView, LogOffence, Rules, signed_entry_in, signed_entry_of, own_of, events_of, record_events, head_of, state_view_after, start, entry_offence, entry_fault, events_offence, unsigned_offence, record_offence, after_record}
 use Rattle.warg_log.specs.Offences.{required_offence, not_begun}
 use Rattle.warg_log.specs.RecordOffences.{link_offence, version_offence, time_offence}
 use Rattle.warg_log.specs.History.{PlacedEvent, placed_in, record_history, history_of, entry_on, entry_enters, entry_key, entry_algorithm, access_view_of, own_events, view_of, own_after, own_offence}
 use Rattle.warg_log.proofs.Firsts.{or_first, or_second, unmapped}
-use Rattle.warg_log.proofs.SignedEntryLaws.{same_access_view, after-append, map-join}
+use Rattle.warg_key_maps.proofs.AccessLaws.{same_access_view}
+use Rattle.warg_log.proofs.SignedEntryLaws.{after-append, map-join}
 use Rattle.warg_records.specs.declared.record_id.RecordId.{RecordId}
 use Rattle.warg_time.specs.Times.{Time}
 
@@ -100,7 +102,7 @@ module _ {P O : Type 0} (id_of : List ℕ → RecordId) where
   said_is f g d same h = ap (λ l. unwrap_or (last_or None l) d) (filter_map-of (λ e. e.event) f h ∙ filter_map-then signed_entry_of g f same (map (λ e. e.event) h))
 
   pub access-view-listed : (same : P → P → Bool) (h : List (PlacedEvent (EntryData P O))) → access_view_of same h ≡ after same empty_access (signed_entries_in h)
-  access-view-listed same h = same_access_view same _ _
+  access-view-listed same h = same_access_view _ _
       (said_is (λ e. entry_algorithm e.entry) signed_entry_algorithm None (λ e. algorithm_is e.signer e.entry) h)
       (λ k p. said_is (λ e. entry_on same k p e.signer e.entry) (signed_entry_on same k p) false (λ e. on_is same k p e.signer e.entry) h)
       (λ k. any-of (λ e. e.event) (λ e. entry_enters k e.signer e.entry) h ∙ any-then signed_entry_of (enters k) (λ e. entry_enters k e.signer e.entry) (λ e. enters_is k e.signer e.entry) (map (λ e. e.event) h))

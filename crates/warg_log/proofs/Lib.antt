@@ -1,11 +1,6 @@
 pub mod Firsts
 pub mod SignedEntryLaws
-pub mod AuthorityDataLemmas
-pub mod MapLaws
-pub mod Missing
-pub mod RightsLemmas
 pub mod Steps
-pub mod KeyLemmas
 pub mod HistoryLaws
 pub mod Coherence
 pub mod EquivalentStates

@@ -9,11 +9,11 @@ use Rattle.warg_crypto.specs.Signed.{signed_message}
 use Rattle.warg_crypto.specs.declared.signing.error.SignatureError.TheVariants.{Refused}
 use Rattle.warg_records.specs.RecordData.{EntryData, SharedEntry, Init, GrantFlat, RevokeFlat}
 use Rattle.warg_records.specs.declared.record_id.RecordId.{RecordId}
-use Rattle.warg_log.specs.SignedEntries.{AccessView}
+use Rattle.warg_key_maps.specs.AuthorityData.{AccessView}
 use Rattle.warg_log.specs.Rules.{Rules, LogOffence, StateView, View, SignedRecord, Event, state_view_after, record_events, entry_fault, entry_offence, events_offence, unsigned_offence, record_offence}
 use Rattle.warg_log.specs.Offences.{Offence, unless, not_begun, empty_grant, required_offence, first_unauthorized, shared_entry_offence, InitialRecordDoesNotInit, KeyIDNotRecognized, UnauthorizedAction, PermissionNotFoundToRevoke, WrongSignature}
 use Rattle.warg_log.specs.RecordOffences.{link_offence, version_offence, time_offence, same_id}
-use Rattle.warg_log.specs.Rights.{first_missing}
+use Rattle.warg_key_maps.specs.Rights.{first_missing}
 use Rattle.warg_log.specs.PossibleOffences.{is_possible_offence, IsPossible}
 use Rattle.warg_log.specs.declared.head.Head.{Head}
 

@@ -7,9 +7,11 @@ use Rattle.std.specs.Option.{option_eq}
 use Rattle.std.specs.Str.{bytes_eq}
 use Rattle.warg_crypto.specs.NamedBytes.{same_named_bytes}
 use Rattle.warg_crypto.specs.SameLaws.{same_named_bytes_equiv}
-use Rattle.warg_log.specs.AuthorityData.{AuthorityData}
-use Rattle.warg_log.specs.Equal.{same_algorithm, same_head, same_maps, same_sets, same_states}
-use Rattle.warg_log.specs.EqualLaws.{head_equiv, maps_from_get, sets_equiv}
+use Rattle.warg_key_maps.specs.AuthorityData.{AuthorityData}
+use Rattle.warg_key_maps.specs.Equal.{same_algorithm, same_maps, same_sets}
+use Rattle.warg_log.specs.Equal.{same_head, same_states}
+use Rattle.warg_key_maps.specs.EqualLaws.{maps_from_get, sets_equiv}
+use Rattle.warg_log.specs.EqualLaws.{head_equiv}
 use Rattle.warg_log.specs.States.{State}
 
 both : (a b : Bool) → a ≡ true → b ≡ true → (a && b) ≡ true

@@ -5,13 +5,14 @@ use Rattle.std.specs.Option.{option_map, option_or}
 use Rattle.indexmap.specs.IndexMap.{IndexMap}
 use Rattle.warg_crypto.specs.NamedBytes.{NamedBytes, fingerprint_of}
 use Rattle.warg_permissions.specs.Permissions.{lists}
-use Rattle.warg_log.specs.Rights.{value_over, held_over, has_entry_over, first_missing}
+use Rattle.warg_key_maps.specs.Rights.{value_over, held_over, has_entry_over, first_missing}
 use Rattle.warg_records.specs.RecordData.{SharedEntry, Init, GrantFlat, RevokeFlat}
 use Rattle.warg_log.specs.SignedEntries.{after}
-use Rattle.warg_log.specs.AuthorityData.{AuthorityData, access_view_over, authority_data}
+use Rattle.warg_key_maps.specs.AuthorityData.{AuthorityData, access_view_over, authority_data}
 use Rattle.warg_log.specs.Offences.{Offence, PermissionNotFoundToRevoke}
-use Rattle.warg_log.proofs.SignedEntryLaws.{same_access_view, latest-one, or-none}
-use Rattle.warg_log.proofs.AuthorityDataLemmas.{stands-over}
+use Rattle.warg_key_maps.proofs.AccessLaws.{same_access_view}
+use Rattle.warg_log.proofs.SignedEntryLaws.{latest-one, or-none}
+use Rattle.warg_key_maps.proofs.AuthorityDataLemmas.{stands-over}
 use Rattle.warg_crypto.specs.declared.hash.HashAlgorithm.{HashAlgorithm}
 
 or-false : (a b : Bool) → (a || b) ≡ (a || (b || false))
@@ -29,16 +30,16 @@ module _ {P Z X : Type 0} (same : P → P → Bool) (algorithm algorithm' : Opti
   from_maps named new_is entry step = sym (stands-over same algorithm named base new base_keys new_keys c e base_is new_is) ∙ step
       ∙ ap (λ s. after same s (record { signer = signer; entry = entry } ∷ [])) (stands-over same algorithm algorithm' base old base_keys old_keys c d base_is old_is)
 
-  pub grant-step : authority_data algorithm' new new_keys ≡ e → (key key' : NamedBytes) (id id' : List ℕ) (permissions : List P) → id ≡ fingerprint_of key → id' ≡ id → key' ≡ key
-      → ((k : List ℕ) → value_over base_keys.entries new_keys.entries k ≡ (if bytes_eq id' k then Some key' else value_over base_keys.entries old_keys.entries k))
-      → ((k : List ℕ) (p : P) → held_over same base new k p ≡ (if bytes_eq id k && lists same permissions p then true else held_over same base old k p))
-      → ((k : List ℕ) → has_entry_over base new k ≡ (has_entry_over base old k || bytes_eq id k))
+  pub grant-step : authority_data algorithm' new new_keys ≡ e → (key : NamedBytes) (permissions : List P)
+      → ((k : List ℕ) → value_over base_keys.entries new_keys.entries k ≡ (if bytes_eq (fingerprint_of key) k then Some key else value_over base_keys.entries old_keys.entries k))
+      → ((k : List ℕ) (p : P) → held_over same base new k p ≡ (if bytes_eq (fingerprint_of key) k && lists same permissions p then true else held_over same base old k p))
+      → ((k : List ℕ) → has_entry_over base new k ≡ (has_entry_over base old k || bytes_eq (fingerprint_of key) k))
       → access_view_over same c e ≡ after same (access_view_over same c d) (record { signer = signer; entry = GrantFlat key permissions } ∷ [])
-  grant-step new_is key key' id id' permissions printed copied alike keyed gave entered =
-      from_maps algorithm' new_is (GrantFlat key permissions) (same_access_view same _ _ refl
-      (λ k p. rw (gave k p, printed) (sym (latest-one (bytes_eq (fingerprint_of key) k && lists same permissions p) true (held_over same base old k p))))
-      (λ k. rw (entered k, printed) (or-false (has_entry_over base old k) (bytes_eq (fingerprint_of key) k)))
-      (λ k. rw (keyed k, copied, printed, alike) (sym (latest-one (bytes_eq (fingerprint_of key) k) (Some key) (value_over base_keys.entries old_keys.entries k)))))
+  grant-step new_is key permissions keyed gave entered =
+      from_maps algorithm' new_is (GrantFlat key permissions) (same_access_view _ _ refl
+      (λ k p. rw (gave k p) (sym (latest-one (bytes_eq (fingerprint_of key) k && lists same permissions p) true (held_over same base old k p))))
+      (λ k. rw (entered k) (or-false (has_entry_over base old k) (bytes_eq (fingerprint_of key) k)))
+      (λ k. rw (keyed k) (sym (latest-one (bytes_eq (fingerprint_of key) k) (Some key) (value_over base_keys.entries old_keys.entries k)))))
 
   pub init-step : (named : HashAlgorithm) → authority_data (Some named) new new_keys ≡ e → (key : NamedBytes) (id : List ℕ) → id ≡ fingerprint_of key
       → ((k : List ℕ) → value_over base_keys.entries new_keys.entries k ≡ (if bytes_eq id k then Some key else value_over base_keys.entries old_keys.entries k))
@@ -46,7 +47,7 @@ module _ {P Z X : Type 0} (same : P → P → Bool) (algorithm algorithm' : Opti
       → ((k : List ℕ) → has_entry_over base new k ≡ (has_entry_over base old k || bytes_eq signer k))
       → access_view_over same c e ≡ after same (access_view_over same c d) (record { signer = signer; entry = Init named key } ∷ [])
   init-step named new_is key id printed keyed gave entered =
-      from_maps (Some named) new_is (Init named key) (same_access_view same _ _ refl
+      from_maps (Some named) new_is (Init named key) (same_access_view _ _ refl
       (λ k p. rw (gave k p) (sym (latest-one (bytes_eq signer k) true (held_over same base old k p))))
       (λ k. rw (entered k) (or-false (has_entry_over base old k) (bytes_eq signer k)))
       (λ k. rw (keyed k, printed) (sym (latest-one (bytes_eq (fingerprint_of key) k) (Some key) (value_over base_keys.entries old_keys.entries k)))))
@@ -56,7 +57,7 @@ module _ {P Z X : Type 0} (same : P → P → Bool) (algorithm algorithm' : Opti
       → ((k : List ℕ) → has_entry_over base new k ≡ has_entry_over base old k)
       → access_view_over same c e ≡ after same (access_view_over same c d) (record { signer = signer; entry = RevokeFlat id permissions } ∷ [])
   revoke-step new_is id permissions kept took stayed =
-      from_maps algorithm' new_is (RevokeFlat id permissions) (same_access_view same _ _ refl
+      from_maps algorithm' new_is (RevokeFlat id permissions) (same_access_view _ _ refl
       (λ k p. rw (took k p) (sym (latest-one (bytes_eq id k && lists same permissions p) false (held_over same base old k p))))
       (λ k. rw (stayed k) (or-none (has_entry_over base old k)))
       (λ k. ap (λ (m : IndexMap (List ℕ) NamedBytes X). value_over base_keys.entries m.entries k) (sym kept)))

@@ -1,9 +1,4 @@
 pub mod SignedEntries
-pub mod Rights
-pub mod AuthorityData
-pub mod Keys
-pub mod KeyEntries
-pub mod Changes
 pub mod Offences
 pub mod RecordOffences
 pub mod Rules

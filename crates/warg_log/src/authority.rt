@@ -3,27 +3,21 @@ ghost use Rattle.std.specs.Prelude.{◌≡◌, OnOk, OnErr, IfOk, IfSome, is_som
 ghost use Rattle.std.specs.Cmp.{partial_equiv_from_equiv};
 ghost use Rattle.std.specs.Option.{option_copied, option_eq};
 ghost use Rattle.indexmap.specs.IndexSet.{contains};
-ghost use Rattle.warg_crypto.specs.NamedBytes.{same_named_bytes};
-ghost use Rattle.warg_log.specs.SignedEntries.{empty_access};
-ghost use Rattle.warg_log.specs.AuthorityData.{AuthorityData, rights_at, access_view, access_view_over};
-ghost use Rattle.warg_log.specs.Equal.{same_authority_data, same_maps, same_sets, same_algorithm};
-ghost use Rattle.warg_log.specs.EqualLaws.{authority_data_equiv};
-ghost use Rattle.warg_log.specs.Keys.{AreKeysOf, authority_keys};
+ghost use Rattle.warg_key_maps.specs.AuthorityData.{AuthorityData, empty_access, rights_at, access_view, access_view_over};
+ghost use Rattle.warg_key_maps.specs.Equal.{same_authority_data, same_algorithm};
+ghost use Rattle.warg_key_maps.specs.EqualLaws.{authority_data_equiv};
+ghost use Rattle.warg_key_maps.specs.Keys.{AreKeysOf, authority_keys};
 
-mod maps;
 mod saved;
 
-pub(crate) use crate::authority::maps::Maps;
-use crate::keys::Keys;
 use crate::own_state::OwnState;
-use crate::permission_set::PermissionSet;
-use crate::rights;
-use indexmap::{IndexMap, IndexSet};
+use indexmap::IndexSet;
 use std::alloc::{AllocError, Global};
 use std::fmt;
 use std::marker::Model;
 use warg_crypto::hash::HashAlgorithm;
 use warg_crypto::signing::{KeyID, PublicKey};
+use warg_key_maps::{Keys, Maps, PermissionSet, rights};
 use warg_permissions::LogPermission;
 
 /// Who may do what in a log, and whose key is which.
@@ -35,7 +29,7 @@ pub struct Authority<P: LogPermission> {
 }
 
 impl<P: LogPermission> Model for Authority<P> {
-    ghost use Rattle.warg_log.specs.AuthorityData.{AuthorityData, authority_data};
+    ghost use Rattle.warg_key_maps.specs.AuthorityData.{AuthorityData, authority_data};
 
     ghost Value = { AuthorityData P };
 
@@ -91,10 +85,7 @@ impl<P: LogPermission> Authority<P> {
         ensures list { result ≡ authority_keys self.now }
         ensures keys { AreKeysOf P.eq (access_view P.eq self.now) result }
     {
-        Keys {
-            keys: self.maps.keys.iter(),
-            rights: &self.maps.permissions,
-        }
+        self.maps.listed_keys()
     }
 
     /// The id as the keys here hold it, or the one given where none has it.
@@ -168,9 +159,7 @@ impl<P: LogPermission> PartialEq for Authority<P> {
     ghost laws = { partial_equiv_from_equiv (authority_data_equiv P.Eq.laws) };
 
     fn eq(&self, other: &Authority<P>) -> bool {
-        same_algorithms(&self.algorithm, &other.algorithm)
-            && same_rights(&self.maps.permissions, &other.maps.permissions)
-            && same_registered(&self.maps.keys, &other.maps.keys)
+        same_algorithms(&self.algorithm, &other.algorithm) && self.maps.is_same(&other.maps)
     }
 }
 
@@ -181,23 +170,6 @@ impl<P: LogPermission> Eq for Authority<P> {
 /// Whether the two name the same algorithm.
 fn same_algorithms(a: &Option<HashAlgorithm>, b: &Option<HashAlgorithm>) -> bool
     ensures { result ≡ option_eq same_algorithm a.now b.now }
-{
-    *a == *b
-}
-
-/// Whether the two have the same entries, with the same permissions.
-fn same_rights<P: LogPermission>(
-    a: &IndexMap<KeyID, PermissionSet<P>>,
-    b: &IndexMap<KeyID, PermissionSet<P>>,
-) -> bool
-    ensures { result ≡ same_maps (same_sets P.eq) a.now.entries b.now.entries }
-{
-    *a == *b
-}
-
-/// Whether the two have the same keys.
-fn same_registered(a: &IndexMap<KeyID, PublicKey>, b: &IndexMap<KeyID, PublicKey>) -> bool
-    ensures { result ≡ same_maps same_named_bytes a.now.entries b.now.entries }
 {
     *a == *b
 }

@@ -1,25 +1,24 @@
 //! What a record's entries ask of an authority. They are judged by it with the changes that the entries before them
 //! make laid over it; what they change is noted among these changes. `before` is what the signer held before them, so
 //! that it is looked up once a record.
-ghost use Rattle.std.specs.Prelude.{◌≡◌, ◌||◌, ℕ, List, [], ◌∷◌, OnOk, is_some, not, true, if◌then◌else◌};
+ghost use Rattle.std.specs.Prelude.{◌≡◌, ◌||◌, [], ◌∷◌, OnOk, IfOk, is_some, not};
 ghost use Rattle.std.specs.Str.{bytes_eq};
 ghost use Rattle.std.specs.Option.{option_copied};
 ghost use Rattle.warg_crypto.specs.NamedBytes.{fingerprint_of};
 ghost use Rattle.warg_records.specs.RecordData.{Init, GrantFlat, RevokeFlat};
 ghost use Rattle.warg_log.specs.SignedEntries.{after};
-ghost use Rattle.warg_log.specs.AuthorityData.{rights_at, access_view_over};
+ghost use Rattle.warg_key_maps.specs.AuthorityData.{rights_at, access_view_over};
 ghost use Rattle.warg_validator.specs.OutcomeOffences.{ReturnsOffence};
-ghost use Rattle.warg_log.specs.Rights.{is_listed, held_over, has_entry_over};
+ghost use Rattle.warg_key_maps.specs.Rights.{is_listed};
 ghost use Rattle.warg_log.specs.Offences.{offence_of, first_unauthorized, permission_offence, required_offence, not_begun, unless, KeyIDNotRecognized, empty_grant, init_offence, grant_offence, revoke_offence};
 
-use crate::authority::{Authority, Maps};
+use crate::authority::Authority;
 use crate::own_state::Origin;
-use crate::permission_set::PermissionSet;
 use crate::refusal::Refusal;
-use crate::rights;
-use std::alloc::{AllocError, Global};
+use std::alloc::Global;
 use warg_crypto::hash::HashAlgorithm;
 use warg_crypto::signing::{KeyID, PublicKey};
+use warg_key_maps::{PermissionSet, rights};
 use warg_permissions::LogPermission;
 
 /// Refuses an Init whose signer has to own its key, and does not.
@@ -36,24 +35,21 @@ fn check_owner<P>(by_own_key: bool, signer: &KeyID, key_id: &KeyID) -> Result<()
     Ok(())
 }
 
-/// Gives the key all permissions of the kind, among the changes.
-fn give_all<P: LogPermission>(
+/// The id of the key of an Init, whose signer has to own it or not.
+fn id_of_owner<P>(
     alloc: Global,
-    maps: &Maps<P>,
-    changes: &mut Maps<P>,
-    key_id: &KeyID,
-) -> Result<(), AllocError>
-    ensures holds { OnOk result ((k : List ℕ) (p : P) →
-        held_over P.eq maps.now.permissions changes.new.permissions k p
-        ≡ (if bytes_eq key_id.now k then true else held_over P.eq maps.now.permissions
-        changes.old.permissions k p)) }
-    ensures entries { OnOk result ((k : List ℕ) →
-        has_entry_over maps.now.permissions changes.new.permissions k ≡
-        (has_entry_over maps.now.permissions changes.old.permissions k || bytes_eq key_id.now k)) }
-    ensures keys { changes.new.keys ≡ changes.old.keys }
+    by_own_key: bool,
+    signer: &KeyID,
+    key: &PublicKey,
+) -> Result<KeyID, Refusal<P>>
+    ensures judges { ReturnsOffence offence_of
+        (unless (not by_own_key || bytes_eq signer.now (fingerprint_of key.now))
+        (KeyIDNotRecognized signer.now)) result }
+    ensures id { IfOk result (λ id. id ≡ fingerprint_of key.now) }
 {
-    let all = P::all(alloc)?;
-    maps.give(alloc, changes, key_id.clone()?, &all)
+    let key_id = key.fingerprint(alloc)?.share()?;
+    check_owner(by_own_key, signer, &key_id)?;
+    Ok(key_id)
 }
 
 impl<P: LogPermission> Authority<P> {
@@ -202,11 +198,10 @@ impl<P: LogPermission> Authority<P> {
         if self.is_begun(changes) {
             return Err(Refusal::InitialEntryAfterBeginning);
         }
-        let key_id = key.fingerprint(self.alloc)?.share()?;
-        check_owner(by_own_key, signer, &key_id)?;
+        let key_id = id_of_owner(self.alloc, by_own_key, signer, key)?;
         changes.algorithm = Some(hash_algorithm);
-        give_all(self.alloc, &self.maps, &mut changes.maps, signer)?;
-        Ok(changes.maps.register(key_id, key)?)
+        let noted = &mut changes.maps;
+        Ok(self.maps.begin(self.alloc, noted, signer, key_id, key)?)
     }
 
     /// Refuses a grant of no permission to the key, but in a record of version 0.
@@ -250,12 +245,8 @@ impl<P: LogPermission> Authority<P> {
         self.check_begun(changes)?;
         self.check_grant(origin.version, key, permissions)?;
         self.check_permissions(changes, origin.signer, before, permissions)?;
-        let key_id = key.fingerprint(self.alloc)?.share()?;
-        changes.maps.register(key_id.clone()?, key)?;
-        Ok(
-            self.maps
-                .give(self.alloc, &mut changes.maps, key_id, permissions)?,
-        )
+        let noted = &mut changes.maps;
+        Ok(self.maps.grant(self.alloc, noted, key, permissions)?)
     }
 
     /// Checks a RevokeFlat and notes what it changes.

@@ -8,7 +8,7 @@ ghost use Rattle.warg_validator.specs.Effects as effects;
 ghost use Rattle.warg_validator.specs.Effects.{GivesWhatIsHeld};
 ghost use Rattle.warg_validator.specs.Kinds.{SignatureRelation, KindLaws, view_after, IsAccepted};
 ghost use Rattle.warg_log.specs.Admissions.{NoKeyBringsItselfIn};
-ghost use Rattle.warg_log.specs.AuthorityData.{AuthorityData};
+ghost use Rattle.warg_key_maps.specs.AuthorityData.{AuthorityData};
 ghost use Rattle.warg_log.specs.Equal.{IsEquivalent, same_states};
 ghost use Rattle.warg_log.specs.Forms.{HasForm};
 ghost use Rattle.warg_log.specs.History.{PlacedEvent, Holds, holds, entry_on};

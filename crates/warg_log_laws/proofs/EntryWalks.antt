@@ -19,7 +19,8 @@ use Rattle.warg_log.specs.KindOfRules.{kind_of, signed_record_of}
 use Rattle.warg_log.specs.Offences.{required_offence, not_begun, empty_grant, UnauthorizedAction}
 use Rattle.warg_log.specs.Rules.{SignedRecord, Event, Rules, StateView, View, LogOffence, signed_entry_of, own_of, record_events, state_view_after, entry_fault, events_offence}
 use Rattle.warg_log.specs.Rules as rule
-use Rattle.warg_log.specs.SignedEntries.{after, empty_access}
+use Rattle.warg_key_maps.specs.AuthorityData.{empty_access}
+use Rattle.warg_log.specs.SignedEntries.{after}
 use Rattle.warg_log.proofs.AcceptedOwnEvents.{accepted-own_events, own_events-listed}
 use Rattle.warg_log.proofs.Firsts.{or_first, or_second, unmapped}
 use Rattle.warg_log.proofs.FormLaws.{lawful}

@@ -12,7 +12,7 @@ use Rattle.warg_saved.specs.CanonicalLaws.{none_canonical, option_canonical, pai
 use Rattle.warg_saved.specs.Maps.{put_pairs}
 use Rattle.warg_saved.specs.MapNames.{text_name}
 use Rattle.warg_saved.specs.SavedPermissions.{permissions_json}
-use Rattle.warg_log.specs.AuthorityData.{AuthorityData}
+use Rattle.warg_key_maps.specs.AuthorityData.{AuthorityData}
 use Rattle.warg_log.specs.HeadJson.{head_json}
 use Rattle.warg_log.specs.States.{State}
 use Rattle.warg_log.specs.declared.head.Head.{Head}

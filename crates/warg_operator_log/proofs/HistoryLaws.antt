@@ -11,7 +11,7 @@ use Rattle.warg_validator.specs.Kinds.{SignatureRelation, IsAccepted, StandsFor}
 use Rattle.warg_validator.specs.OutcomeRuns.{IsRun, IfStarted, cause_named_by}
 use Rattle.warg_validator.specs.Strings.{read_all}
 use Rattle.warg_validator.proofs.RunLaws.{run-then}
-use Rattle.warg_log.specs.AuthorityData.{AuthorityData}
+use Rattle.warg_key_maps.specs.AuthorityData.{AuthorityData}
 use Rattle.warg_log.specs.States.{State}
 use Rattle.warg_operator_log.specs.Namespaces.{Namespace}
 use Rattle.warg_operator_log.specs.State.{View, view_of, offence_of}

@@ -9,7 +9,7 @@ use Rattle.warg_permissions.specs.declared.operator.Permission.{Permission}
 use Rattle.warg_saved.specs.Maps.{put_pairs}
 use Rattle.warg_saved.specs.MapNames.{text_name}
 use Rattle.warg_saved.specs.SavedPermissions.{permissions_json}
-use Rattle.warg_log.specs.AuthorityData.{AuthorityData}
+use Rattle.warg_key_maps.specs.AuthorityData.{AuthorityData}
 use Rattle.warg_log.specs.HeadJson.{head_json}
 use Rattle.warg_log.specs.States.{State}
 use Rattle.warg_operator_log.specs.NamespaceJson.{saved_namespace_json}

@@ -23,7 +23,7 @@ ghost use Rattle.warg_validator.specs.OutcomeRuns.{IsRun, IfStarted, cause_named
 ghost use Rattle.warg_validator.specs.Strings.{read_all};
 ghost use Rattle.warg_validator.specs.declared.replay.RunError.{RunError};
 ghost use Rattle.warg_log.specs.Admissions.{NoKeyBringsItselfIn};
-ghost use Rattle.warg_log.specs.AuthorityData.{AuthorityData};
+ghost use Rattle.warg_key_maps.specs.AuthorityData.{AuthorityData};
 ghost use Rattle.warg_log.specs.Forms.{HasForm};
 ghost use Rattle.warg_log.specs.States.{State};
 ghost use Rattle.warg_operator_log.specs.StateHistory.{TellsHistory, OneEntryEach, records_of, history};

@@ -7,7 +7,7 @@ use Rattle.warg_permissions.specs.declared.package.Permission.{Permission}
 use Rattle.warg_saved.specs.Backs.{AreBack}
 use Rattle.warg_saved.specs.MapNames.{text_name, text_named, version_name, version_named}
 use Rattle.warg_saved.specs.SavedPermissions.{permissions_in, permissions_json}
-use Rattle.warg_log.specs.AuthorityData.{AuthorityData}
+use Rattle.warg_key_maps.specs.AuthorityData.{AuthorityData}
 use Rattle.warg_log.specs.Equal.{same_states}
 use Rattle.warg_log.specs.HeadJson.{head_in, head_json}
 use Rattle.warg_log.specs.Rules.{IsCoherent}

@@ -7,7 +7,7 @@ pub use Rattle.warg_log.specs.PossibleOffences.{IsPossible}
 pub use Rattle.warg_log.specs.History.{Holds, PlacedEvent, holds, entry_on}
 pub use Rattle.warg_log.specs.Listings.{IsGift}
 -- what a state keeps, and the view of it
-pub use Rattle.warg_log.specs.AuthorityData.{AuthorityData}
+pub use Rattle.warg_key_maps.specs.AuthorityData.{AuthorityData}
 pub use Rattle.warg_log.specs.States.{State, view_of_state}
 pub use Rattle.warg_log.specs.Equal.{same_states}
 -- what a call answers where something is wrong

@@ -1,13 +1,13 @@
 //! An authority as its maps.
 ghost use Rattle.std.specs.Prelude.{◌≡◌};
-ghost use Rattle.warg_log.specs.AuthorityData.{authority_data};
+ghost use Rattle.warg_key_maps.specs.AuthorityData.{authority_data};
 
-use crate::authority::{Authority, Maps};
-use crate::permission_set::PermissionSet;
+use crate::authority::Authority;
 use indexmap::IndexMap;
 use std::alloc::Global;
 use warg_crypto::hash::HashAlgorithm;
 use warg_crypto::signing::{KeyID, PublicKey};
+use warg_key_maps::{Maps, PermissionSet};
 use warg_permissions::LogPermission;
 
 impl<P: LogPermission> Authority<P> {

@@ -9,7 +9,7 @@ ghost use Rattle.warg_permissions.specs.declared.operator.Permission.{Permission
 ghost use Rattle.warg_saved.specs.Fit.{RefusesCase, RefusesCaseOrNoMemory, first_case, is_nil, keys_case, rights_case, unless_case, version_case};
 ghost use Rattle.warg_saved.specs.JsonText.{ReturnsOfText, TextReadsBack, in_text};
 ghost use Rattle.warg_saved.specs.Texts.{IsReadAs, text_of};
-ghost use Rattle.warg_log.specs.AuthorityData.{AuthorityData};
+ghost use Rattle.warg_key_maps.specs.AuthorityData.{AuthorityData};
 ghost use Rattle.warg_log.specs.States.{State};
 ghost use Rattle.warg_operator_log.specs.NamespaceMap.{namespace_view};
 ghost use Rattle.warg_operator_log.specs.Namespaces.{Namespace};

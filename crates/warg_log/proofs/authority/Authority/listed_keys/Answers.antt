@@ -1,8 +1,9 @@
-use Rattle.warg_log.specs.AuthorityData.{authority_data}
-use Rattle.warg_log.proofs.KeyLemmas.{listed}
+use Rattle.warg_key_maps.specs.AuthorityData.{access_view}
+use Rattle.warg_key_maps.specs.Keys.{AreKeysOf}
+use Rattle.std.proofs.Common.{subst}
 use Rattle.warg_log.proofs.authority.Authority.listed_keys.Goals as goal
 
 pub returns-clause-keys : goal.returns-clause-keys
 returns-clause-keys g c =
-    let inside = authority_data c.self.inside.algorithm c.self.inside.maps.permissions c.self.inside.maps.keys in
-    rw (← c.self.view_is, c.iter.ensures.rest) (listed g.P.PartialEq.eq inside c.iter.ensures.unique)
+    let same = g.P.PartialEq.eq in
+    subst (λ held. AreKeysOf same (access_view same held) c.listed_keys.result) c.self.view_is (c.listed_keys.ensures.keys c.self.inside.algorithm)

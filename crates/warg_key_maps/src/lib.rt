@@ -1,0 +1,14 @@
+//! The permissions and the keys of a log by key id, and changes laid over them. What entries are, and who may make one, is not
+//! known here.
+#![tactic(auto)]
+
+mod keys;
+mod map_changes;
+mod maps;
+mod permission_set;
+pub mod rights;
+
+pub use keys::{KeyEntry, Keys};
+pub use map_changes::put_all;
+pub use maps::Maps;
+pub use permission_set::PermissionSet;
