@@ -1,6 +1,7 @@
 -- Envelopes that were written and read again.
 use Rattle.std.proofs.Common.{◌≡◌, ℕ, true, List, Option, Result, Ok, refl, ap, ◌∙◌}
 use Rattle.std.proofs.lemmas.Slice.Eq.{bytes_eq-Decides}
+use Rattle.std.specs.Prelude.{IsErr}
 use Rattle.std.specs.Str.{bytes_eq}
 use Rattle.warg_crypto.specs.NamedBytes.{named_bytes_text}
 use Rattle.warg_crypto.specs.Keys.{signature_of}
@@ -11,14 +12,14 @@ use Rattle.warg_protocol.specs.Logs.{DecodedEnvelope, EnvelopeData, EnvelopeFaul
 use Rattle.warg_protocol.specs.Messages.{IsEnvelope}
 use Rattle.warg_protocol.specs.ParseEnvelopeErrors as error
 
--- of bytes that are an envelope no error tells but that memory ran out
-pub told_none : {X F : Type 0} (fault_of : DecodeError → Option F) (said : Result X (EnvelopeFault F)) (x : X) → said ≡ Ok x
-    → (e : ParseEnvelopeError) → NamesFault said (envelope_fault_of fault_of e) → e ≡ error.OutOfMemory
-told_none fault_of said x is (error.ProtobufEnvelope w) names = cc
-told_none fault_of said x is (error.Contents d) names = cc
-told_none fault_of said x is (error.KeyID h) names = cc
-told_none fault_of said x is (error.Signature s) names = cc
-told_none fault_of said x is error.OutOfMemory names = refl
+-- bytes whose envelope can't be read are none, if memory was there
+pub unread_err : {X F : Type 0} (fault_of : DecodeError → Option F) (said : Result X (EnvelopeFault F)) (e : ParseEnvelopeError)
+    → (e ≡ error.OutOfMemory → ⊥) → NamesFault said (envelope_fault_of fault_of e) → IsErr said
+unread_err fault_of said (error.ProtobufEnvelope w) there names = rw names refl
+unread_err fault_of said (error.Contents d) there names = rw names refl
+unread_err fault_of said (error.KeyID h) there names = rw names refl
+unread_err fault_of said (error.Signature s) there names = rw names refl
+unread_err fault_of said error.OutOfMemory there names = absurd (there refl)
 
 -- equal texts are found to be equal
 pub same_text : (a b : List ℕ) → a ≡ b → bytes_eq a b ≡ true

@@ -45,15 +45,6 @@ pub entry_found : {C View Offence : Type 0} (IsFirst : ℕ → C → C → Type 
 entry_found IsFirst offence_in view whole o passed refused next before with_it =
     record { before = before; with_it = subst (λ (n : ℕ). IsRefusedWith IsFirst offence_in view whole o n) next with_it }
 
--- bytes whose envelope can't be read are none, if memory was there
-pub unread_err : {X F : Type 0} (fault_of : DecodeError → Option F) (said : Result X (EnvelopeFault F)) (e : ParseEnvelopeError)
-    → (e ≡ error.OutOfMemory → ⊥) → NamesFault said (envelope_fault_of fault_of e) → IsErr said
-unread_err fault_of said (error.ProtobufEnvelope w) there names = rw names refl
-unread_err fault_of said (error.Contents d) there names = rw names refl
-unread_err fault_of said (error.KeyID h) there names = rw names refl
-unread_err fault_of said (error.Signature s) there names = rw names refl
-unread_err fault_of said error.OutOfMemory there names = absurd (there refl)
-
 -- ---- both
 
 module _ {E C M F View Offence : Type 0} (sentence_of : E → List ℕ) (fault_of_error : DecodeError → Option F) (offence_of : E → Option Offence)

@@ -1,6 +1,6 @@
 use Rattle.std.proofs.Common.{◌∙◌, sym, ap}
 use Rattle.warg_protocol.specs.Logs.{EnvelopeData}
-use Rattle.warg_answers.proofs.ResealedLemmas.{reads_back, same_envelope, same_meaning, same_text, told_none}
+use Rattle.warg_answers.proofs.ResealedLemmas.{reads_back, same_envelope, same_meaning, same_text, unread_err}
 use Rattle.warg_answers.proofs.resealed.resealed.Goals as goal
 use Rattle.warg_answers.proofs.resealed.resealed.Goals.{else-eq-via-then-eq+else-eq-2, else-eq-via-else-eq}
 
@@ -13,8 +13,8 @@ returns-in-Err-clause-found g c = λ says law.
     } in
     let back = reads_back g.R.Record.read g.R.Record.meaning c.envelopes_read_back.ensures c.args.said.now e c.in_ok-bytes.bytes.items says
     c.in_ok-bytes.ensures c.signature_reads_back.ensures in
-    absurd (c.in_ok-unless_out_of_memory-in-Err.ensures
-    (told_none g.R.Record.fault_of _ e back c.in-Err.error (rw c.as_slice.ensures.value at c.in-Err.ensures.opened)))
+    rw back at (unread_err g.R.Record.fault_of _ c.in-Err.error c.in_ok-unless_out_of_memory-in-Err.ensures.passed
+    (rw c.as_slice.ensures.value at c.in-Err.ensures.opened))
 
 pub returns-clause-found : goal.returns-clause-found
 returns-clause-found g c = λ says law.

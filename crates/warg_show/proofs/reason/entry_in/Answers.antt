@@ -1,7 +1,7 @@
 use Rattle.std.proofs.Common.{refl}
 use Rattle.std.proofs.lemmas.Result.{IfOk-weaker}
+use Rattle.warg_answers.proofs.ResealedLemmas.{unread_err}
 use Rattle.warg_answers.specs.Explanations.{of_no_record, of_record}
-use Rattle.warg_show.proofs.ReasonLemmas.{unread_err}
 use Rattle.warg_show.proofs.reason.entry_in.Goals as goal
 
 pub returns-in-Ok : goal.returns-in-Ok
@@ -11,4 +11,4 @@ returns-in-Ok g c = λ o h.
 
 pub returns-in_ok-unless_out_of_memory-in-Err : goal.returns-in_ok-unless_out_of_memory-in-Err
 returns-in_ok-unless_out_of_memory-in-Err g c = λ o h.
-    of_no_record (unread_err g.L.Record.Record.fault_of _ c.in-Err.error c.in_ok-unless_out_of_memory-in-Err.ensures c.in-Err.ensures.opened) refl
+    of_no_record (unread_err g.L.Record.Record.fault_of _ c.in-Err.error c.in_ok-unless_out_of_memory-in-Err.ensures.passed c.in-Err.ensures.opened) refl
