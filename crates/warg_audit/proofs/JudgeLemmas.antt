@@ -5,7 +5,12 @@ use Rattle.std.proofs.lemmas.List.{take-append-le}
 use Rattle.std.proofs.lemmas.List.Elements.{filter_map-append}
 use Rattle.std.proofs.lemmas.Option.{slice_get_within}
 use Rattle.std.specs.List.{slice_get}
-use Rattle.warg_protocol.specs.Logs.{EnvelopeData, SignatureRelation, Kind, Cause, read_all, HasNoOffence, IsFirstOffence, IsRefusal, IsRun, IfNamed, RunCause, RunError}
+use Rattle.warg_envelope.specs.EnvelopeData.{EnvelopeData}
+use Rattle.warg_validator.specs.Kinds.{SignatureRelation, Kind}
+use Rattle.warg_validator.specs.Strings.{Cause, read_all}
+use Rattle.warg_validator.specs.OutcomeRuns.{HasNoOffence, IsFirstOffence, IsRefusal, IsRun, IfNamed}
+use Rattle.warg_validator.specs.declared.replay.RunCause.{RunCause}
+use Rattle.warg_validator.specs.declared.replay.RunError.{RunError}
 use Rattle.warg_files.specs.Lines.{string_of}
 use Rattle.warg_files.proofs.StringLemmas.{IsReadTo, none_read, one_read}
 

@@ -1,10 +1,13 @@
 -- Names of faults, whichever type says them.
 use Rattle.std.proofs.Common.{◌≡◌, ◌≢◌, ℕ, List, ◌++◌, codes, refl, sym, ap, ◌∙◌, Option, Some, None, unwrap_or}
 use Rattle.std.specs.Option.{option_map}
-use Rattle.warg_protocol.specs.Errors.{DecodeError, ParseEnvelopeError}
-use Rattle.warg_protocol.specs.Logs.{contents_fault_of, envelope_fault_of, Unread, Unlawful}
-use Rattle.warg_protocol.specs.Records.{record_fault_name, envelope_fault_name, error_name, fault_of}
-use Rattle.warg_protocol.specs.ParseEnvelopeErrors as error
+use Rattle.warg_envelope.specs.declared.coding.DecodeError.{DecodeError}
+use Rattle.warg_envelope.specs.declared.proto_envelope.error.ParseEnvelopeError.{ParseEnvelopeError}
+use Rattle.warg_envelope.specs.Envelopes.{contents_fault_of, envelope_fault_of}
+use Rattle.warg_validator.specs.Strings.{Unread, Unlawful}
+use Rattle.warg_envelope.specs.FaultNames.{record_fault_name, envelope_fault_name, error_name}
+use Rattle.warg_envelope.specs.Faults.{fault_of}
+use Rattle.warg_envelope.specs.declared.proto_envelope.error.ParseEnvelopeError.TheVariants as error
 use Rattle.warg_audit.specs.LogAnswers.{cause_name}
 
 -- an error that says a fault has its name

@@ -1,8 +1,11 @@
 -- The lines of a log have one answer, and so have words and bytes.
 use Rattle.std.proofs.Common.{◌≡◌, ℕ, Bool, true, false, cond, nat_lt, List, length, refl, sym, ◌∙◌, ◌↔◌, ap, Option, Some, None, Result, Ok, Err}
 use Rattle.std.proofs.lemmas.Bool.{ltb-true, ltb-false, lt-ltb, le-ltb}
-use Rattle.warg_protocol.specs.Logs.{EnvelopeFault, envelope_of, SignatureRelation, IsFoundBy, first_offence_from, Cause}
-use Rattle.warg_protocol.specs.Records.{toy_belongs}
+use Rattle.warg_envelope.specs.Envelopes.{EnvelopeFault, envelope_of}
+use Rattle.warg_validator.specs.Kinds.{SignatureRelation}
+use Rattle.warg_validator.specs.OutcomeRuns.{IsFoundBy, first_offence_from}
+use Rattle.warg_validator.specs.Strings.{Cause}
+use Rattle.warg_crypto.specs.Signed.{toy_belongs}
 use Rattle.warg_log_type.specs.declared.LogType.{LogType}
 use Rattle.warg_log_type.specs.declared.LogType.TheVariants.{Package, Operator}
 use Rattle.warg_audit.specs.declared.command.Command.{Command}

@@ -1,10 +1,13 @@
 -- What the program answers to its words and the bytes of its input.
 use Rattle.std.specs.Prelude.{◌≡◌, ℕ, ◌<◌, ◌≤◌, nat_lt, if◌then◌else◌, List, [], ◌∷◌, length, Option, Some, None, Result, Ok, Err, IsErr}
 use Rattle.hex.specs.declared.error.FromHexError.{FromHexError}
-use Rattle.warg_protocol.specs.Messages.{envelope_table, EnvelopeValue, IsEnvelope, envelope_of, HasFault}
-use Rattle.warg_protocol.specs.Errors.{WireError}
-use Rattle.warg_protocol.specs.Records.{error_name, package_record_id_of, operator_record_id_of, RecordId}
-use Rattle.warg_protocol.specs.ParseEnvelopeErrors.{ProtobufEnvelope}
+use Rattle.warg_protobuf.specs.Envelope.{envelope_table, EnvelopeValue, IsEnvelope, envelope_of}
+use Rattle.warg_protobuf.specs.Table.{HasFault}
+use Rattle.warg_protobuf.specs.declared.error.WireError.{WireError}
+use Rattle.warg_envelope.specs.FaultNames.{error_name}
+use Rattle.warg_records.specs.RecordIds.{package_record_id_of, operator_record_id_of}
+use Rattle.warg_records.specs.declared.record_id.RecordId.{RecordId}
+use Rattle.warg_envelope.specs.declared.proto_envelope.error.ParseEnvelopeError.TheVariants.{ProtobufEnvelope}
 use Rattle.warg_log_type.specs.declared.LogType.{LogType}
 use Rattle.warg_log_type.specs.declared.LogType.TheVariants.{Package, Operator}
 use Rattle.warg_audit.specs.declared.command.Command.{Command}

@@ -1,7 +1,8 @@
 -- What may be printed.
 use Rattle.std.specs.Prelude.{ℕ, List, ◌++◌, codes}
 use Rattle.std.specs.Fmt.{decimal}
-use Rattle.warg_protocol.specs.Records.{hash_text, RecordId}
+use Rattle.warg_crypto.specs.HashText.{hash_text}
+use Rattle.warg_records.specs.declared.record_id.RecordId.{RecordId}
 pub use Rattle.warg_files.specs.Printouts.{Printout}
 
 -- what is printed where the words ask for nothing that the program knows

@@ -1,8 +1,10 @@
 -- The lines that are printed of releases.
 use Rattle.std.specs.Prelude.{ℕ, List, [], ◌∷◌, ◌++◌, codes}
-use Rattle.warg_protocol.specs.Records.{parts_text, hash_text}
-use Rattle.warg_protocol.specs.Package.{ReleaseView, ReleaseState}
-use Rattle.warg_protocol.specs.ReleaseStates.{Released, Yanked}
+use Rattle.semver.specs.Identifiers.{parts_text}
+use Rattle.warg_crypto.specs.HashText.{hash_text}
+use Rattle.warg_package_log.specs.Releases.{ReleaseView}
+use Rattle.warg_package_log.specs.declared.release.ReleaseState.{ReleaseState}
+use Rattle.warg_package_log.specs.declared.release.ReleaseState.TheVariants.{Released, Yanked}
 
 -- what a line says of a release's state: released, with its content's hash, or yanked
 abbrev pub release_state_text : ReleaseState → List ℕ

@@ -7,9 +7,8 @@ ghost use Rattle.warg_log_type.specs.declared.LogType.{LogType};
 ghost use Rattle.warg_audit.specs.Printouts.{Printout};
 ghost use Rattle.warg_files.specs.Lines.{AreLines, lines_of};
 
-use warg_protocol::laws::messages::decoding_computes;
-use warg_protocol::laws::runs::first_offence;
-use warg_protocol::{operator, package};
+use warg_protobuf::laws::decoding_computes;
+use warg_validator::laws::first_offence;
 
 /// Each text has lines, and no other ones.
 pub fn one_list_of_lines()
@@ -35,8 +34,8 @@ pub fn one_log_answer()
     ensures only { (log_type : LogType) (lines : List (List ℕ)) (printed : Printout) →
         IsLogTypeAnswer log_type lines printed → printed ≡ log_type_answer log_type lines }
 {
-    first_offence::<package::LogState>();
-    first_offence::<operator::LogState>();
+    first_offence::<warg_package_log::LogState>();
+    first_offence::<warg_operator_log::LogState>();
 }
 
 /// Words and bytes have an answer, and no other one: a text, printed whole, and a status.

@@ -4,11 +4,12 @@ ghost use Rattle.std.specs.Prelude.{[]};
 
 use crate::report::Report;
 use std::alloc::{AllocError, Global};
-use warg_protocol::operator::{LogState, ValidationError};
+use warg_operator_log::{LogState, ValidationError};
 
 impl Report for LogState {
     ghost use Rattle.std.specs.Option.{option_map};
-    ghost use Rattle.warg_protocol.specs.Operator.{offence_of, offence_name};
+    ghost use Rattle.warg_operator_log.specs.State.{offence_of};
+    ghost use Rattle.warg_operator_log.specs.OffenceNames.{offence_name};
 
     ghost name_of = { λ e. option_map offence_name (offence_of e) };
 

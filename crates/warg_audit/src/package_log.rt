@@ -1,12 +1,12 @@
 //! What is reported of package logs.
 
 ghost use Rattle.std.specs.Prelude.{◌≡◌, ◌++◌, OnOk, string_bytes};
-ghost use Rattle.warg_protocol.specs.Package.{release_view};
+ghost use Rattle.warg_package_log.specs.ReleaseMap.{release_view};
 ghost use Rattle.warg_audit.specs.ReleaseLines.{release_line, release_state_text};
 
 use crate::report::Report;
 use std::alloc::{AllocError, Global};
-use warg_protocol::package::{LogState, Release, ReleaseState, ValidationError};
+use warg_package_log::{LogState, Release, ReleaseState, ValidationError};
 
 // Appends what became of a release.
 fn append_state(state: &ReleaseState, text: &mut String) -> Result<(), AllocError>
@@ -36,7 +36,8 @@ fn append_line(alloc: Global, release: &Release, text: &mut String) -> Result<()
 
 impl Report for LogState {
     ghost use Rattle.std.specs.Option.{option_map};
-    ghost use Rattle.warg_protocol.specs.Package.{view_of, offence_of, offence_name};
+    ghost use Rattle.warg_package_log.specs.State.{view_of, offence_of};
+    ghost use Rattle.warg_package_log.specs.OffenceNames.{offence_name};
     ghost use Rattle.warg_audit.specs.ReleaseLines.{release_lines};
 
     ghost name_of = { λ e. option_map offence_name (offence_of e) };

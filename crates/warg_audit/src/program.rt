@@ -19,9 +19,10 @@ use crate::reading::{InputError, read_all};
 use crate::reply::Reply;
 use std::alloc::{AllocError, Global};
 use std::io::{Read, Write};
+use warg_crypto::toy::ToyVerifier;
 use warg_log_type::LogType;
-use warg_protocol::toy::ToyVerifier;
-use warg_protocol::{operator, package};
+use warg_operator_log::LogState as OperatorLog;
+use warg_package_log::LogState as PackageLog;
 
 /// What is printed for words that ask for nothing.
 pub const USAGE: &str = "usage: warg_audit [id] package|operator\n";
@@ -35,12 +36,8 @@ fn log_type_reply(alloc: Global, log_type: LogType, text: Vec<u8>) -> Result<Rep
         (lines_of text.items) (printed_of reply)) }
 {
     match log_type {
-        LogType::Package => log_reply::<package::LogState, ToyVerifier>(alloc, &ToyVerifier, text),
-        LogType::Operator => log_reply::<operator::LogState, ToyVerifier>(
-            alloc,
-            &ToyVerifier,
-            text,
-        ),
+        LogType::Package => log_reply::<PackageLog, ToyVerifier>(alloc, &ToyVerifier, text),
+        LogType::Operator => log_reply::<OperatorLog, ToyVerifier>(alloc, &ToyVerifier, text),
     }
 }
 

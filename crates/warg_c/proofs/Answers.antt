@@ -2,8 +2,8 @@
 use Rattle.std.proofs.Common.{◌≡◌, ◌≤◌, ℕ, List, Bool, Option, Some, Result, Ok, Err, sym, ◌∙◌, ap, subst}
 use Rattle.std.specs.Prelude.{OnOk, OnErr, IfErr}
 use Rattle.warg_validator.specs.Kinds.{SignatureRelation}
-use Rattle.warg_host.specs.Telling.{Holds}
-use Rattle.warg_host.specs.declared.told.Told.{Told}
+use Rattle.warg_validator.specs.Telling.{Holds}
+use Rattle.warg_validator.specs.declared.host.told.Told.{Told}
 use Rattle.warg_c.specs.declared.failure.Failure.{Failure}
 use Rattle.warg_c.specs.declared.failure.Failure.TheVariants.{NotOpen, OutOfMemory, TooSmall, NoEnvelope, Refused, Absent, BadArgument}
 use Rattle.warg_c.specs.declared.held.Held.{Held}

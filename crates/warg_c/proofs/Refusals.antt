@@ -8,9 +8,9 @@ use Rattle.warg_validator.specs.Kinds.{Kind}
 use Rattle.warg_validator.specs.OutcomeRuns.{IfNamed}
 use Rattle.warg_validator.specs.Strings.{Cause, Unread, Unlawful}
 use Rattle.warg_validator.specs.declared.replay.RunCause.{RunCause}
-use Rattle.warg_host.specs.Telling.{Asks}
-use Rattle.warg_host.specs.declared.question.Question.{Question}
-use Rattle.warg_host.specs.declared.told.Told.{Told}
+use Rattle.warg_validator.specs.Telling.{Asks}
+use Rattle.warg_validator.specs.declared.host.question.Question.{Question}
+use Rattle.warg_validator.specs.declared.host.told.Told.{Told}
 use Rattle.warg_c.specs.declared.failure.Failure.{Failure}
 use Rattle.warg_c.specs.declared.failure.Failure.TheVariants.{TooSmall}
 use Rattle.warg_c.specs.declared.question.Asked.{Asked}

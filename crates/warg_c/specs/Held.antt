@@ -4,7 +4,7 @@ use Rattle.warg_envelope.specs.Envelopes.{envelope_of, envelope_fault_of}
 use Rattle.warg_envelope.specs.Faults.{fault_of}
 use Rattle.warg_key_maps.specs.AuthorityData.{AuthorityData}
 use Rattle.warg_log.specs.States.{State}
-use Rattle.warg_host.specs.declared.told.Told.{Told}
+use Rattle.warg_validator.specs.declared.host.told.Told.{Told}
 use Rattle.warg_operator_log.specs.Namespaces.{Namespace}
 use Rattle.warg_operator_log.specs.ErrorTexts as operator_texts
 use Rattle.warg_operator_log.specs.OffenceNames as operator_names

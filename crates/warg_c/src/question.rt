@@ -10,7 +10,7 @@ use crate::failure::Failure;
 use std::alloc::{AllocError, Global};
 use warg_crypto::laws::{public_key_reads_back, signature_reads_back};
 use warg_crypto::signing::{KeyParseError, PublicKey, Signature, SignatureParseError};
-use warg_host::{Question, Told};
+use warg_validator::host::{Question, Told};
 
 /// How many bytes are the key's text, the message and the signature's text.
 #[repr(C)]

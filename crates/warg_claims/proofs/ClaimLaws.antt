@@ -11,7 +11,7 @@ use Rattle.warg_validator.specs.OutcomeRuns.{HasNoOffence, IfNamed, IsFirstOffen
 use Rattle.warg_validator.proofs.OutcomeLaws.{IfNamed-map}
 use Rattle.warg_validator.specs.Strings.{Cause, Unlawful, cause_of, ok, read_all}
 use Rattle.warg_claims.specs.Claimed.{AreClaims, AsksClaim, HoldsOf, IsRefusedAnyway, IsTaken, RefusesAnyway, any_signature, seen_before}
-use Rattle.warg_host.specs.Telling.{IsNext}
+use Rattle.warg_validator.specs.Telling.{IsNext}
 use Rattle.warg_claims.proofs.Places.{at-push, slice_get-take}
 use Rattle.warg_verified.specs.Claims.{ClaimData}
 

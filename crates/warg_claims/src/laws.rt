@@ -8,8 +8,8 @@ ghost use Rattle.warg_validator.specs.Strings.{Cause};
 ghost use Rattle.warg_claims.specs.Claimed.{AreClaims, HoldsOf, IsRefusedAnyway};
 ghost use Rattle.warg_verified.specs.Claims.{ClaimData, is_claimed};
 
-use warg_host::Hosted;
 use warg_validator::Validator;
+use warg_validator::host::Hosted;
 
 /// A log of which each string has its claim is accepted exactly under the relations that hold of all its claims.
 pub fn claims_decide<L: Hosted>()

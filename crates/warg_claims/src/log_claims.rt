@@ -9,8 +9,8 @@ ghost use Rattle.warg_validator.specs.declared.replay.RunCause.TheVariants.{Pars
 
 use std::alloc::Global;
 use warg_envelope::ParseEnvelopeError;
-use warg_host::{Hosted, Question, Told, append, ask};
 use warg_validator::RunCause;
+use warg_validator::host::{Hosted, Question, Told, append, ask};
 use warg_verified::Claim;
 
 /// The claims of a log's records, in order: the triple of which a host has to say whether it belongs together.

@@ -5,7 +5,6 @@
 pub use warg_audited_log::laws as audited_logs;
 pub use warg_crypto::laws as crypto;
 pub use warg_envelope::laws as envelopes;
-pub use warg_host::laws as hosts;
 pub use warg_json::laws as json_values;
 pub use warg_log::laws as logs;
 pub use warg_operator_log::laws as operator;
@@ -17,4 +16,5 @@ pub use warg_registry::laws as registry;
 pub use warg_saved::laws as saved;
 pub use warg_time::laws as times;
 pub use warg_transparency::laws as transparency;
+pub use warg_validator::host::laws as hosts;
 pub use warg_validator::laws as runs;

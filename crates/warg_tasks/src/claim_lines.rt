@@ -16,8 +16,8 @@ use warg_claims::{LogClaims, claims};
 use warg_files::answer::Answer;
 use warg_files::input::Input;
 use warg_files::stop::Stop;
-use warg_host::Hosted;
 use warg_protocol::{ParseEnvelopeError, RunCause, RunError};
+use warg_validator::host::Hosted;
 use warg_verified::Claim;
 
 // Appends the line of a claim.

@@ -18,9 +18,9 @@ use warg_answers::kind::ToolLog;
 use warg_files::answer::Answer;
 use warg_files::input::{Input, Store, read_input, read_log};
 use warg_files::stop::Stop;
-use warg_host::Hosted;
 use warg_make::Worded;
 use warg_protocol::signing::Verifier;
+use warg_validator::host::Hosted;
 use warg_words::{Draft, Task};
 
 // The claims of the log in a file.

@@ -5,3 +5,4 @@ pub mod KindWalks
 pub mod OutcomeLaws
 pub mod LogLaws
 pub mod RunLaws
+pub mod Tellings

@@ -5,4 +5,5 @@ pub mod Kinds
 pub mod Messages
 pub mod OutcomeRuns
 pub mod Strings
+pub mod Telling
 pub mod Walks

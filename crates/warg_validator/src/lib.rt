@@ -2,6 +2,7 @@
 #![tactic(auto)]
 
 mod effect;
+pub mod host;
 pub mod laws;
 mod message;
 mod replay;

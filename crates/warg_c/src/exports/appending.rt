@@ -1,6 +1,6 @@
 //! Asking what has to be verified, and appending by what the caller says.
 ghost use Rattle.std.specs.Prelude.{◌≡◌, ◌≢◌, ◌≤◌, IfOk, IfErr, OnOk, OnErr, length, take};
-ghost use Rattle.warg_host.specs.Telling.{Holds};
+ghost use Rattle.warg_validator.specs.Telling.{Holds};
 ghost use Rattle.warg_validator.specs.Kinds.{SignatureRelation};
 ghost use Rattle.warg_c.specs.Held.{ask_tells, ask_fails, append_does, append_moves, append_fails, append_refuses};
 ghost use Rattle.warg_c.specs.Questions.{HoldsOf};
@@ -16,7 +16,7 @@ use crate::held::Held;
 use crate::question::Asked;
 use crate::spelled::answer_for;
 use std::alloc::Global;
-use warg_host::Told;
+use warg_validator::host::Told;
 
 fn ask_held(
     alloc: Global,

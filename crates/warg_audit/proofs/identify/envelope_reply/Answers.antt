@@ -1,5 +1,5 @@
 use Rattle.std.proofs.Common.{ap, ◌∙◌, refl, ℕ, List}
-use Rattle.warg_protocol.specs.Messages.{borrowed_envelope}
+use Rattle.warg_protobuf.specs.Envelope.{borrowed_envelope}
 use Rattle.warg_audit.specs.Answers.{is_read, has_fault}
 use Rattle.std.proofs.lemmas.Result.{IfOk-weaker}
 use Rattle.warg_audit.proofs.identify.envelope_reply.Goals as goal

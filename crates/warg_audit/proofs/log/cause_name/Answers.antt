@@ -1,5 +1,6 @@
 use Rattle.std.proofs.Common.{◌∙◌}
-use Rattle.warg_protocol.specs.Records.{record_fault_name, fault_of}
+use Rattle.warg_envelope.specs.FaultNames.{record_fault_name}
+use Rattle.warg_envelope.specs.Faults.{fault_of}
 use Rattle.warg_audit.proofs.NameLemmas.{parse_named, offence_named}
 use Rattle.warg_audit.proofs.log.cause_name.Goals as goal
 

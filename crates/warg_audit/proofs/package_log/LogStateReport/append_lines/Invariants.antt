@@ -1,5 +1,5 @@
 use Rattle.std.proofs.Common.{◌≡◌, ◌++◌, string_bytes}
-use Rattle.warg_protocol.specs.Package.{view_of}
+use Rattle.warg_package_log.specs.State.{view_of}
 use Rattle.warg_audit.specs.ReleaseLines.{release_lines}
 use Rattle.warg_audit.proofs.package_log.LogStateReport.append_lines.Given as goal
 

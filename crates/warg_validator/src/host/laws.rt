@@ -2,10 +2,10 @@
 ghost use Rattle.std.specs.Prelude.{◌≡◌, ◌↔◌, List, None};
 ghost use Rattle.warg_envelope.specs.EnvelopeData.{EnvelopeData};
 ghost use Rattle.warg_validator.specs.Kinds.{SignatureRelation, AcceptsNoMore, IsAccepted};
-ghost use Rattle.warg_host.specs.Telling.{told_belongs, Holds, Answers, HoldsOfAsked};
-ghost use Rattle.warg_host.specs.declared.told.Told.{Told};
+ghost use Rattle.warg_validator.specs.Telling.{told_belongs, Holds, Answers, HoldsOfAsked};
+ghost use Rattle.warg_validator.specs.declared.host.told.Told.{Told};
 
-use crate::hosted::Hosted;
+use crate::host::hosted::Hosted;
 
 /// A log that is accepted under some relation is accepted under another exactly if that holds of all that its records ask.
 pub fn accepted_as_asked<L: Hosted>()
