@@ -14,7 +14,7 @@ GONE = r"`goal\.[^`]*`: module .* has no |record .* has no field |no name that r
 OPEN = r"^note: (src/\S+?):(\d+):\d+: it is not proved (.*)"
 FALSE = "the facts known there allow values at which this goal is false"
 # What a function says that was not tried, since another was not proved.
-WAITS = r"which (is|are) not proved|\Acould not tell"
+WAITS = r"which (is|are) not proved|it waits for the proof of|\Acould not tell"
 
 
 class Answer(NamedTuple):
