@@ -6,7 +6,7 @@ use Rattle.std.proofs.lemmas.List.Elements.{filter_map-append}
 use Rattle.std.proofs.lemmas.Option.{slice_get_within}
 use Rattle.std.specs.List.{slice_get}
 use Rattle.warg_envelope.specs.EnvelopeData.{EnvelopeData}
-use Rattle.warg_validator.specs.Kinds.{SignatureRelation, Kind}
+use Rattle.warg_records.specs.Kinds.{SignatureRelation, Kind}
 use Rattle.warg_validator.specs.Strings.{Cause, read_all}
 use Rattle.warg_validator.specs.OutcomeRuns.{HasNoOffence, IsFirstOffence, IsRefusal, IsRun, IfNamed}
 use Rattle.warg_validator.specs.declared.replay.RunCause.{RunCause}

@@ -2,7 +2,7 @@
 use Rattle.std.proofs.Common.{◌≡◌, ℕ, Bool, true, false, cond, nat_lt, List, length, refl, sym, ◌∙◌, ◌↔◌, ap, Option, Some, None, Result, Ok, Err}
 use Rattle.std.proofs.lemmas.Bool.{ltb-true, ltb-false, lt-ltb, le-ltb}
 use Rattle.warg_envelope.specs.Envelopes.{EnvelopeFault, envelope_of}
-use Rattle.warg_validator.specs.Kinds.{SignatureRelation}
+use Rattle.warg_records.specs.Kinds.{SignatureRelation}
 use Rattle.warg_validator.specs.OutcomeRuns.{IsFoundBy, first_offence_from}
 use Rattle.warg_validator.specs.Strings.{Cause}
 use Rattle.warg_crypto.specs.Signed.{toy_belongs}

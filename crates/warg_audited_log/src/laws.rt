@@ -2,8 +2,8 @@
 ghost use Rattle.std.specs.Prelude.{◌≡◌, ◌↔◌, ◌⊎◌, ◌<◌, ◌+◌, ◌++◌, ℕ, List, [], length, take, Option, Some, slice_index_or, true, false};
 ghost use Rattle.warg_envelope.specs.EnvelopeData.{EnvelopeData};
 ghost use Rattle.warg_records.specs.declared.record_id.RecordId.{RecordId};
-ghost use Rattle.warg_validator.specs.Effects.{holds};
-ghost use Rattle.warg_validator.specs.Kinds.{SignatureRelation, IsAccepted};
+ghost use Rattle.warg_records.specs.Effects.{holds};
+ghost use Rattle.warg_records.specs.Kinds.{SignatureRelation, IsAccepted};
 ghost use Rattle.warg_audited_log.specs.Chains.{Entry, entries_of, held_by, IsHeld};
 ghost use Rattle.warg_audited_log.specs.Comparisons.{IsComparison};
 ghost use Rattle.warg_audited_log.specs.Extinction.{StaysExtinct};

@@ -1,7 +1,7 @@
 -- The caller's word for a question.
 use Rattle.std.proofs.Common.{◌≡◌, ◌≤◌, ℕ, List, Bool, Option, Some, Result, Ok, Err, sym, ◌∙◌, ap, subst}
 use Rattle.std.specs.Prelude.{OnOk, OnErr, IfErr}
-use Rattle.warg_validator.specs.Kinds.{SignatureRelation}
+use Rattle.warg_records.specs.Kinds.{SignatureRelation}
 use Rattle.warg_validator.specs.Telling.{Holds}
 use Rattle.warg_validator.specs.declared.host.told.Told.{Told}
 use Rattle.warg_c.specs.declared.failure.Failure.{Failure}

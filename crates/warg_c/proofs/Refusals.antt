@@ -4,12 +4,12 @@ use Rattle.std.specs.Prelude.{OnOk, IfErr}
 use Rattle.std.specs.Option.{option_map}
 use Rattle.warg_envelope.specs.EnvelopeData.{EnvelopeData}
 use Rattle.warg_envelope.specs.Faults.{NamesFault}
-use Rattle.warg_validator.specs.Kinds.{Kind}
+use Rattle.warg_records.specs.Kinds.{Kind}
 use Rattle.warg_validator.specs.OutcomeRuns.{IfNamed}
 use Rattle.warg_validator.specs.Strings.{Cause, Unread, Unlawful}
 use Rattle.warg_validator.specs.declared.replay.RunCause.{RunCause}
 use Rattle.warg_validator.specs.Telling.{Asks}
-use Rattle.warg_validator.specs.declared.host.question.Question.{Question}
+use Rattle.warg_records.specs.declared.question.Question.{Question}
 use Rattle.warg_validator.specs.declared.host.told.Told.{Told}
 use Rattle.warg_c.specs.declared.failure.Failure.{Failure}
 use Rattle.warg_c.specs.declared.failure.Failure.TheVariants.{TooSmall}

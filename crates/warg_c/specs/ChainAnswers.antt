@@ -7,7 +7,7 @@ use Rattle.warg_operator_log.specs.StateLaws as operator_laws
 use Rattle.warg_package_log.specs.StateLaws as package_laws
 use Rattle.warg_permissions.specs.OperatorPermissions as operator_permission
 use Rattle.warg_permissions.specs.PackagePermissions as package_permission
-use Rattle.warg_validator.specs.Effects.{Effects}
+use Rattle.warg_records.specs.Effects.{Effects}
 use Rattle.warg_c.specs.declared.exports.chains.Link.{Link}
 use Rattle.warg_c.specs.declared.held.Held.{Held}
 use Rattle.warg_c.specs.declared.held.Held.TheVariants.{Package, Operator}

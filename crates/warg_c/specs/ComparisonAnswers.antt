@@ -8,7 +8,7 @@ use Rattle.warg_operator_log.specs.State as operators
 use Rattle.warg_operator_log.specs.StateLaws as operator_laws
 use Rattle.warg_package_log.specs.State as packages
 use Rattle.warg_package_log.specs.StateLaws as package_laws
-use Rattle.warg_validator.specs.Kinds.{Kind}
+use Rattle.warg_records.specs.Kinds.{Kind}
 use Rattle.warg_c.specs.declared.exports.comparing.Comparison.{Comparison}
 use Rattle.warg_c.specs.declared.held.Held.{Held}
 use Rattle.warg_c.specs.declared.held.Held.TheVariants.{Package, Operator}

@@ -21,7 +21,7 @@ use Rattle.warg_records.specs.OperatorEntries as operator_records
 use Rattle.warg_records.specs.OperatorReading.{operator_record_of}
 use Rattle.warg_records.specs.PackageEntries as package_records
 use Rattle.warg_records.specs.PackageReading.{package_record_of}
-use Rattle.warg_validator.specs.Kinds.{SignatureRelation}
+use Rattle.warg_records.specs.Kinds.{SignatureRelation}
 use Rattle.warg_validator.specs.OutcomeRuns.{cause_named_by}
 use Rattle.warg_c.specs.declared.failure.Failure.{Failure}
 use Rattle.warg_c.specs.declared.failure.Failure.TheVariants.{NotOpen, OutOfMemory, TooSmall, NoEnvelope, Refused, Absent, BadArgument}

@@ -13,7 +13,7 @@ use Rattle.warg_package_log.specs.State as packages
 use Rattle.warg_package_log.specs.StateLaws as package_laws
 use Rattle.warg_records.specs.OperatorReading.{operator_record_of}
 use Rattle.warg_records.specs.PackageReading.{package_record_of}
-use Rattle.warg_validator.specs.Kinds.{Kind}
+use Rattle.warg_records.specs.Kinds.{Kind}
 use Rattle.warg_validator.specs.OutcomeRuns.{cause_named_by}
 use Rattle.warg_validator.specs.Strings.{Cause, Unread}
 use Rattle.warg_validator.specs.declared.replay.RunCause.{RunCause}

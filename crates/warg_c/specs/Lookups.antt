@@ -12,7 +12,7 @@ use Rattle.warg_package_log.specs.State as packages
 use Rattle.warg_package_log.specs.StateLaws as package_laws
 use Rattle.warg_protobuf.specs.Envelope.{envelope_bytes}
 use Rattle.warg_records.specs.declared.record_id.RecordId.{RecordId}
-use Rattle.warg_validator.specs.Kinds.{Kind}
+use Rattle.warg_records.specs.Kinds.{Kind}
 use Rattle.warg_c.specs.declared.exports.records.KeptLengths.{KeptLengths}
 use Rattle.warg_c.specs.declared.held.Held.{Held}
 use Rattle.warg_c.specs.declared.held.Held.TheVariants.{Package, Operator}

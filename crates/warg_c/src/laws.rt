@@ -3,7 +3,7 @@ ghost use Rattle.std.specs.Prelude.{List, Option, Some};
 ghost use Rattle.warg_c.specs.Held.{IsNew};
 ghost use Rattle.warg_c.specs.Runs.{Call, IsRun, HoldsOfAll, appends_all, is_log_of, envelopes_taken};
 ghost use Rattle.warg_c.specs.declared.held.Held.{Held};
-ghost use Rattle.warg_validator.specs.Kinds.{SignatureRelation};
+ghost use Rattle.warg_records.specs.Kinds.{SignatureRelation};
 
 /// A run of `warg_append`, under every relation that holds of all that the caller said yes to.
 pub fn runs()

@@ -6,7 +6,7 @@ use Rattle.std.specs.Option.{option_map}
 use Rattle.std.proofs.lemmas.List.{length-take-le, length_push, take-append-le, take-take, take_all, take_at}
 use Rattle.std.proofs.lemmas.Option.{slice_get_cases, slice_get_past, slice_get_within}
 use Rattle.warg_envelope.specs.EnvelopeData.{EnvelopeData}
-use Rattle.warg_validator.specs.Kinds.{IsAccepted, AcceptsNoMore, Kind, KindLaws, SignatureRelation, StandsFor}
+use Rattle.warg_records.specs.Kinds.{IsAccepted, AcceptsNoMore, Kind, KindLaws, SignatureRelation, StandsFor}
 use Rattle.warg_validator.specs.OutcomeRuns.{HasNoOffence, IfNamed, IsFirstOffence, cause_next}
 use Rattle.warg_validator.proofs.OutcomeLaws.{IfNamed-map}
 use Rattle.warg_validator.specs.Strings.{Cause, Unlawful, cause_of, ok, read_all}

@@ -2,7 +2,7 @@
 ghost use Rattle.std.specs.Prelude.{◌≡◌, ◌↔◌, ℕ, List, Contains, length, take, true};
 ghost use Rattle.warg_envelope.specs.Envelopes.{EnvelopeFault, envelope_of};
 ghost use Rattle.warg_envelope.specs.EnvelopeData.{EnvelopeData};
-ghost use Rattle.warg_validator.specs.Kinds.{SignatureRelation, IsAccepted, StandsFor};
+ghost use Rattle.warg_records.specs.Kinds.{SignatureRelation, IsAccepted, StandsFor};
 ghost use Rattle.warg_validator.specs.OutcomeRuns.{HasNoOffence, IsFirstOffence};
 ghost use Rattle.warg_validator.specs.Strings.{Cause};
 ghost use Rattle.warg_claims.specs.Claimed.{AreClaims, HoldsOf, IsRefusedAnyway};

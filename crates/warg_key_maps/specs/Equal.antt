@@ -3,14 +3,10 @@ use Rattle.std.specs.Prelude.{ℕ, List, Bool, ◌&&◌, true}
 use Rattle.std.specs.Option.{option_eq}
 use Rattle.std.specs.Str.{bytes_eq}
 use Rattle.std.specs.HashMap.{entries_eq}
-use Rattle.std.specs.List.{list_all, list_any}
 use Rattle.warg_crypto.specs.NamedBytes.{same_named_bytes}
 use Rattle.warg_crypto.specs.declared.hash.HashAlgorithm.{HashAlgorithm}
+use Rattle.warg_permissions.specs.PermissionSets.{same_sets}
 use Rattle.warg_key_maps.specs.AuthorityData.{AuthorityData}
-
--- each has each permission of the other
-abbrev pub same_sets : {P : Type 0} → (P → P → Bool) → List P → List P → Bool
-same_sets same ps qs = list_all (λ p. list_any (same p) qs) ps && list_all (λ q. list_any (same q) ps) qs
 
 -- whether, at each key of either, the two have values that are alike
 abbrev pub same_maps : {X : Type 0} → (X → X → Bool) → List (List ℕ × X) → List (List ℕ × X) → Bool

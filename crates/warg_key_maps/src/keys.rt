@@ -8,7 +8,6 @@ ghost use Rattle.std.specs.Option.{option_map};
 ghost use Rattle.std.specs.Str.{bytes_eq};
 ghost use Rattle.warg_key_maps.specs.KeyEntries.{key_data};
 
-use crate::permission_set::PermissionSet;
 use indexmap::map::Iter;
 use indexmap::{IndexMap, IndexSet};
 use std::alloc::AllocError;
@@ -16,7 +15,7 @@ use std::fmt;
 use std::iter::FusedIterator;
 use std::marker::Model;
 use warg_crypto::signing::{KeyID, PublicKey};
-use warg_permissions::LogPermission;
+use warg_permissions::{LogPermission, PermissionSet};
 
 /// A key of a log.
 #[derive(Clone, Copy, Debug)]

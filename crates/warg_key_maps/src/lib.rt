@@ -5,10 +5,9 @@
 mod keys;
 mod map_changes;
 mod maps;
-mod permission_set;
 pub mod rights;
+mod sharing;
 
 pub use keys::{KeyEntry, Keys};
 pub use map_changes::put_all;
 pub use maps::Maps;
-pub use permission_set::PermissionSet;

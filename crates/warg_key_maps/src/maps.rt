@@ -4,21 +4,21 @@ ghost use Rattle.std.specs.Str.{bytes_eq};
 ghost use Rattle.indexmap.specs.IndexMap.{get};
 ghost use Rattle.warg_crypto.specs.NamedBytes.{NamedBytes, fingerprint_of, same_named_bytes};
 ghost use Rattle.warg_permissions.specs.Permissions.{lists};
+ghost use Rattle.warg_permissions.specs.PermissionSets.{same_sets};
 ghost use Rattle.warg_crypto.specs.declared.hash.HashAlgorithm.{HashAlgorithm};
 ghost use Rattle.warg_key_maps.specs.AuthorityData.{access_view, authority_data};
 ghost use Rattle.warg_key_maps.specs.Changes.{HasRoomFor};
-ghost use Rattle.warg_key_maps.specs.Equal.{same_maps, same_sets};
+ghost use Rattle.warg_key_maps.specs.Equal.{same_maps};
 ghost use Rattle.warg_key_maps.specs.Keys.{AreKeysOf, with_rights};
 ghost use Rattle.warg_key_maps.specs.Rights.{value_over, held_over, has_entry_over, first_missing};
 
 use crate::keys::Keys;
 use crate::map_changes::{lay_over, make_room};
-use crate::permission_set::PermissionSet;
 use crate::rights::{self, Standing};
 use indexmap::IndexMap;
 use std::alloc::{AllocError, Global};
 use warg_crypto::signing::{KeyID, PublicKey};
-use warg_permissions::LogPermission;
+use warg_permissions::{LogPermission, PermissionSet};
 
 /// The maps of an authority, or of changes of one: by key id, the permissions and the keys.
 #[derive(Drop)]

@@ -8,11 +8,11 @@ ghost use Rattle.indexmap.specs.IndexSet.{contains};
 ghost use Rattle.warg_permissions.specs.Permissions.{lists};
 ghost use Rattle.warg_key_maps.specs.Rights.{is_listed, holds_in, value_over, held_over, has_entry_over, first_missing};
 
-use crate::permission_set::{PermissionSet, find_shared, share};
+use crate::sharing::{find_shared, share};
 use indexmap::{IndexMap, IndexSet};
 use std::alloc::{AllocError, Global};
 use warg_crypto::signing::KeyID;
-use warg_permissions::LogPermission;
+use warg_permissions::{LogPermission, PermissionSet};
 
 /// The permissions that stand before a record, by key id, and the sets that keys share.
 #[derive(Clone, Copy)]

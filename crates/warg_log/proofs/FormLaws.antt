@@ -15,9 +15,9 @@ use Rattle.warg_time.specs.TimesLaws.{time_cmp_total}
 use Rattle.warg_envelope.specs.EnvelopeData.{EnvelopeData}
 use Rattle.warg_records.specs.RecordData.{Init, GrantFlat, RevokeFlat, EntryData, RecordData}
 use Rattle.warg_records.specs.declared.record_id.RecordId.{RecordId}
-use Rattle.warg_validator.specs.Kinds.{SignatureRelation, KindLaws, AllLawful, IsAccepted, view_after}
-use Rattle.warg_validator.specs.Walks as walk
-use Rattle.warg_validator.proofs.KindWalks.{accepted-lawful}
+use Rattle.warg_records.specs.Kinds.{SignatureRelation, KindLaws, AllLawful, IsAccepted, view_after}
+use Rattle.warg_records.specs.Walks as walk
+use Rattle.warg_records.proofs.KindWalks.{accepted-lawful}
 use Rattle.warg_key_maps.specs.AuthorityData.{AccessView, empty_access}
 use Rattle.warg_log.specs.SignedEntries.{after}
 use Rattle.warg_log.specs.Forms.{TimesNeverFall, FirstAloneHasNoPrev, is_init, inits, OneInitFirst, EntriesHaveKeys, HasForm}

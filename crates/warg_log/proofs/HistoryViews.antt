@@ -5,7 +5,7 @@ use Rattle.std.specs.List.{filter_map, last_or, list_any, cons_option, flat_map,
 use Rattle.std.specs.Option.{option_map, option_and_then}
 use Rattle.std.proofs.lemmas.List.Elements.{filter_map-append}
 use Rattle.std.proofs.lemmas.List.Concat.{flat_map-append, flat_map-cons}
-use Rattle.warg_validator.specs.Walks.{view_after, AllLawful, IsStepwise}
+use Rattle.warg_records.specs.Walks.{view_after, AllLawful, IsStepwise}
 use Rattle.warg_crypto.specs.NamedBytes.{NamedBytes}
 use Rattle.warg_key_maps.specs.AuthorityData.{empty_access}
 use Rattle.warg_log.specs.SignedEntries.{SignedEntry, after, signed_entry_on, enters, signed_entry_key, signed_entry_algorithm}

@@ -17,8 +17,8 @@ use std::fmt;
 use std::marker::Model;
 use warg_crypto::hash::HashAlgorithm;
 use warg_crypto::signing::{KeyID, PublicKey};
-use warg_key_maps::{Keys, Maps, PermissionSet, rights};
-use warg_permissions::LogPermission;
+use warg_key_maps::{Keys, Maps, rights};
+use warg_permissions::{LogPermission, PermissionSet};
 
 /// Who may do what in a log, and whose key is which.
 #[derive(Drop)]

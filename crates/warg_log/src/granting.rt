@@ -8,7 +8,7 @@ ghost use Rattle.warg_crypto.specs.NamedBytes.{fingerprint_of};
 ghost use Rattle.warg_records.specs.RecordData.{Init, GrantFlat, RevokeFlat};
 ghost use Rattle.warg_log.specs.SignedEntries.{after};
 ghost use Rattle.warg_key_maps.specs.AuthorityData.{rights_at, access_view_over};
-ghost use Rattle.warg_validator.specs.OutcomeOffences.{ReturnsOffence};
+ghost use Rattle.warg_records.specs.OutcomeOffences.{ReturnsOffence};
 ghost use Rattle.warg_key_maps.specs.Rights.{is_listed};
 ghost use Rattle.warg_log.specs.Offences.{offence_of, first_unauthorized, permission_offence, required_offence, not_begun, unless, KeyIDNotRecognized, empty_grant, init_offence, grant_offence, revoke_offence};
 
@@ -18,8 +18,8 @@ use crate::refusal::Refusal;
 use std::alloc::Global;
 use warg_crypto::hash::HashAlgorithm;
 use warg_crypto::signing::{KeyID, PublicKey};
-use warg_key_maps::{PermissionSet, rights};
-use warg_permissions::LogPermission;
+use warg_key_maps::rights;
+use warg_permissions::{LogPermission, PermissionSet};
 
 /// Refuses an Init whose signer has to own its key, and does not.
 fn check_owner<P>(by_own_key: bool, signer: &KeyID, key_id: &KeyID) -> Result<(), Refusal<P>>

@@ -3,10 +3,10 @@ ghost use Rattle.std.specs.Prelude.{◌≡◌, ◌↔◌, ℕ, List, Result, tru
 ghost use Rattle.warg_envelope.specs.Faults.{RecordFault};
 ghost use Rattle.warg_envelope.specs.EnvelopeData.{EnvelopeData};
 ghost use Rattle.warg_records.specs.RecordData.{EntryData, RecordData};
-ghost use Rattle.warg_validator.specs.declared.effect.Effect.TheVariants.{Gives};
-ghost use Rattle.warg_validator.specs.Effects as effects;
-ghost use Rattle.warg_validator.specs.Effects.{GivesWhatIsHeld};
-ghost use Rattle.warg_validator.specs.Kinds.{SignatureRelation, KindLaws, view_after, IsAccepted};
+ghost use Rattle.warg_records.specs.declared.effect.Effect.TheVariants.{Gives};
+ghost use Rattle.warg_records.specs.Effects as effects;
+ghost use Rattle.warg_records.specs.Effects.{GivesWhatIsHeld};
+ghost use Rattle.warg_records.specs.Kinds.{SignatureRelation, KindLaws, view_after, IsAccepted};
 ghost use Rattle.warg_log.specs.Admissions.{NoKeyBringsItselfIn};
 ghost use Rattle.warg_key_maps.specs.AuthorityData.{AuthorityData};
 ghost use Rattle.warg_log.specs.Equal.{IsEquivalent, same_states};

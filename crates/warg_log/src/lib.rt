@@ -11,12 +11,10 @@ mod head;
 pub mod laws;
 mod log;
 mod own_state;
-mod persistent;
 mod refusal;
 
 pub use head::{Head, head_member, head_version, put_head, put_head_text};
 pub use log::Log;
 pub use own_state::{EntryRef, Origin, OwnState, RecordRef};
-pub use persistent::PersistentState;
 pub use refusal::Refusal;
-pub use warg_key_maps::{KeyEntry, Keys, PermissionSet};
+pub use warg_key_maps::{KeyEntry, Keys};

@@ -11,9 +11,9 @@ use Rattle.warg_permissions.specs.Permissions.{lists}
 use Rattle.warg_envelope.specs.EnvelopeData.{EnvelopeData}
 use Rattle.warg_records.specs.RecordData.{EntryData, Init, GrantFlat, RevokeFlat, RecordData}
 use Rattle.warg_records.specs.declared.record_id.RecordId.{RecordId}
-use Rattle.warg_validator.specs.Kinds.{SignatureRelation, Kind, IsAccepted}
-use Rattle.warg_validator.specs.Walks as walk
-use Rattle.warg_validator.proofs.WalkLaws as walks
+use Rattle.warg_records.specs.Kinds.{SignatureRelation, Kind, IsAccepted}
+use Rattle.warg_records.specs.Walks as walk
+use Rattle.warg_records.proofs.WalkLaws as walks
 use Rattle.warg_log.specs.History.{PlacedEvent, record_history, history_of, access_view_of, own_events, own_after, own_offence}
 use Rattle.warg_log.specs.KindOfRules.{kind_of, signed_record_of}
 use Rattle.warg_log.specs.Offences.{required_offence, not_begun, empty_grant, UnauthorizedAction}

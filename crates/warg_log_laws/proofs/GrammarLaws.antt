@@ -4,7 +4,7 @@ use Rattle.std.specs.Prelude.{◌↔◌, slice_get}
 use Rattle.std.specs.List.{AllZip, cons_option}
 use Rattle.std.specs.Option.{option_map}
 use Rattle.warg_envelope.specs.EnvelopeData.{EnvelopeData}
-use Rattle.warg_validator.specs.Kinds.{SignatureRelation, Kind, KindLaws}
+use Rattle.warg_records.specs.Kinds.{SignatureRelation, Kind, KindLaws}
 use Rattle.warg_validator.specs.OutcomeRuns.{IfNamed, cause_next, HasNoOffence, IsFirstOffence, IsRun, IfStarted}
 use Rattle.warg_validator.specs.Strings.{Cause, Unread, Unlawful, ok, read_all, cause_of}
 use Rattle.warg_validator.specs.declared.replay.RunCause.{RunCause}

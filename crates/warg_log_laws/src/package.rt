@@ -26,12 +26,12 @@ ghost use Rattle.warg_permissions.specs.declared.package.Permission.{Permission}
 ghost use Rattle.warg_records.specs.PackageEntries.{PackageOwnEntry, record_data};
 ghost use Rattle.warg_records.specs.PackageReading.{package_record_of};
 ghost use Rattle.warg_records.specs.RecordData.{EntryData};
-ghost use Rattle.warg_validator.specs.Effects.{holds, GivesWhatIsHeld, HoldsByEffects};
-ghost use Rattle.warg_validator.specs.Kinds.{SignatureRelation, KindLaws, IsAccepted, StandsFor};
+ghost use Rattle.warg_records.specs.Effects.{holds, GivesWhatIsHeld, HoldsByEffects};
+ghost use Rattle.warg_records.specs.Kinds.{SignatureRelation, KindLaws, IsAccepted, StandsFor};
 ghost use Rattle.warg_validator.specs.OutcomeRuns.{IsRun, IfStarted, cause_next, cause_named_by};
 ghost use Rattle.warg_validator.specs.Strings.{Cause};
-ghost use Rattle.warg_validator.specs.Walks.{IsFound, IsAccepted as AllLawful};
-ghost use Rattle.warg_validator.specs.declared.effect.Effect.TheVariants.{Gives};
+ghost use Rattle.warg_records.specs.Walks.{IsFound, IsAccepted as AllLawful};
+ghost use Rattle.warg_records.specs.declared.effect.Effect.TheVariants.{Gives};
 ghost use Rattle.warg_validator.specs.declared.replay.RunError.{RunError};
 
 pub mod audited;

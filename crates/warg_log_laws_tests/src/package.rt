@@ -19,10 +19,10 @@ ghost use Rattle.warg_registry.specs.declared.checkpoint.Checkpoint.{Checkpoint}
 ghost use Rattle.warg_registry.specs.declared.log_id.LogId.{LogId};
 ghost use Rattle.warg_audited_log.specs.declared.link.Link.{Link as OfLink};
 ghost use Rattle.warg_package_log.specs.declared.error.ValidationError.{ValidationError as OfError};
-ghost use Rattle.warg_validator.specs.Effects as by_effects;
-ghost use Rattle.warg_validator.specs.Effects.{GivesWhatIsHeld, HoldsByEffects};
-ghost use Rattle.warg_validator.specs.Walks.{IsAccepted as AllLawful};
-ghost use Rattle.warg_validator.specs.declared.effect.Effect.TheVariants.{Gives};
+ghost use Rattle.warg_records.specs.Effects as by_effects;
+ghost use Rattle.warg_records.specs.Effects.{GivesWhatIsHeld, HoldsByEffects};
+ghost use Rattle.warg_records.specs.Walks.{IsAccepted as AllLawful};
+ghost use Rattle.warg_records.specs.declared.effect.Effect.TheVariants.{Gives};
 ghost use Rattle.warg_validator.specs.declared.replay.RunError.{RunError};
 
 use std::alloc::AllocError;

@@ -1,7 +1,7 @@
 //! Laws over all operator logs. They have no effect.
 ghost use Rattle.std.specs.Prelude.{◌≡◌, ◌↔◌, ◌≤◌, ℕ, List, ◌++◌, None, Some, true, ◌<◌, length, Result, IfOk, IsOk, All, IfSome};
 ghost use Rattle.warg_envelope.specs.EnvelopeData.{EnvelopeData};
-ghost use Rattle.warg_validator.specs.Kinds.{SignatureRelation, IsAccepted, StandsFor};
+ghost use Rattle.warg_records.specs.Kinds.{SignatureRelation, IsAccepted, StandsFor};
 ghost use Rattle.std.specs.Prelude.{Option};
 ghost use Rattle.warg_log.specs.RecordOffences.{version_offence};
 ghost use Rattle.warg_log.specs.declared.head.Head.{Head};

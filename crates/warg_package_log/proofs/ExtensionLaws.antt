@@ -5,7 +5,7 @@ use Rattle.std.specs.Option.{option_map}
 use Rattle.warg_time.specs.Times.{Time}
 use Rattle.warg_records.specs.PackageEntries.{VersionParts, PackageOwnEntry, Release, Yank}
 use Rattle.warg_records.specs.declared.record_id.RecordId.{RecordId}
-use Rattle.warg_validator.specs.Walks.{view_after, AllLawful}
+use Rattle.warg_records.specs.Walks.{view_after, AllLawful}
 use Rattle.warg_log.specs.SignedEntries.{latest}
 use Rattle.warg_log.specs.Rules.{Event}
 use Rattle.warg_log.proofs.SignedEntryLaws.{latest-one}

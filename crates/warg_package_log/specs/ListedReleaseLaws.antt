@@ -9,8 +9,8 @@ use Rattle.std.proofs.lemmas.List.Elements.{filter_map-append}
 use Rattle.warg_time.specs.Times.{Time}
 use Rattle.warg_records.specs.PackageEntries.{VersionParts, PackageOwnEntry, Release, Yank}
 use Rattle.warg_records.specs.declared.record_id.RecordId.{RecordId}
-use Rattle.warg_validator.specs.Walks.{view_after, AllLawful, IsStepwise}
-use Rattle.warg_validator.proofs.WalkLaws.{lawful-view}
+use Rattle.warg_records.specs.Walks.{view_after, AllLawful, IsStepwise}
+use Rattle.warg_records.proofs.WalkLaws.{lawful-view}
 use Rattle.warg_log.specs.SignedEntries.{latest}
 use Rattle.warg_log.specs.Offences.{unless}
 use Rattle.warg_log.specs.Rules.{Event}

@@ -5,7 +5,7 @@ ghost use Rattle.warg_envelope.specs.Faults.{fault_of};
 ghost use Rattle.warg_envelope.specs.EnvelopeData.{EnvelopeData};
 ghost use Rattle.warg_records.specs.PackageReading.{package_record_of};
 ghost use Rattle.warg_permissions.specs.declared.package.Permission.{Permission};
-ghost use Rattle.warg_validator.specs.Kinds.{SignatureRelation, IsAccepted, StandsFor};
+ghost use Rattle.warg_records.specs.Kinds.{SignatureRelation, IsAccepted, StandsFor};
 ghost use Rattle.warg_validator.specs.OutcomeRuns.{IsRun, IfStarted, cause_named_by};
 ghost use Rattle.warg_validator.specs.Strings.{read_all};
 ghost use Rattle.warg_validator.specs.declared.replay.RunError.{RunError};

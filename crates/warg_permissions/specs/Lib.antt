@@ -2,3 +2,5 @@ pub mod Permissions
 pub mod PackagePermissions
 pub mod OperatorPermissions
 pub mod PermissionJson
+pub mod PermissionSets
+pub mod PermissionSetLaws

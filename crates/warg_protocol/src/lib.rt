@@ -25,10 +25,11 @@ pub use warg_envelope::{
     PublishedProtoEnvelope, PublishedProtoEnvelopeBody, Record, SerdeEnvelope, WireFault,
 };
 pub use warg_json::{Incoherence, JsonError, JsonValue};
-pub use warg_log::PersistentState;
 pub use warg_permissions::{InvalidPermission, PermissionParseError};
 pub use warg_protobuf::{Envelope, EnvelopeView, Message, WireError};
 pub use warg_records::{LogRecord, Version, VersionReq};
 pub use warg_saved::JsonTextError;
 pub use warg_time::{Clock, SystemClock, TimeError, Timestamp};
-pub use warg_validator::{Effect, Named, RunCause, RunError, Validator, run, run_from};
+pub use warg_validator::{
+    Effect, Named, PersistentState, RunCause, RunError, Validator, run, run_from,
+};

@@ -9,3 +9,5 @@ pub mod OfBytes
 pub mod Equalities
 pub mod PackageEqualities
 pub mod OperatorEqualities
+pub mod WalkLaws
+pub mod KindWalks

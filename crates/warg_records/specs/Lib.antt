@@ -15,3 +15,9 @@ pub mod WellFormed
 pub mod OfBytes
 pub mod RecordIdJson
 pub mod ReadableLaws
+pub mod Walks
+pub mod Kinds
+pub mod Effects
+pub mod Enclosed
+pub mod OutcomeOffences
+pub mod Asked

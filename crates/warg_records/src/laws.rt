@@ -14,6 +14,7 @@ ghost use Rattle.warg_records.specs.PackageEntries as in_package;
 ghost use Rattle.warg_records.specs.PackageReading.{package_entry_of, package_record_of};
 ghost use Rattle.warg_records.specs.RecordIds.{id_of_text};
 ghost use Rattle.warg_records.specs.Relations.{HasRecordFault, IsRecord, ReadsRecord};
+ghost use Rattle.warg_records.specs.declared.effect.Effect.{Effect};
 ghost use Rattle.warg_records.specs.declared.log_record.LogRecord.{LogRecord};
 ghost use Rattle.warg_records.specs.declared.operator.model.OperatorEntry.{OperatorEntry};
 ghost use Rattle.warg_records.specs.declared.package.model.PackageEntry.{PackageEntry};
@@ -22,6 +23,7 @@ ghost use Rattle.warg_records.specs.declared.record_id.RecordId.{RecordId};
 mod record_ids;
 mod whole;
 
+use crate::effect::Effect;
 use crate::log_record::LogRecord;
 use crate::operator::OperatorEntry;
 use crate::package::PackageEntry;
@@ -79,8 +81,8 @@ pub fn no_fault_of_memory()
     exactly_one();
 }
 
-/// When `==` is true: of entries and of records exactly where their plain data are identical, of ids of records exactly
-/// where both are.
+/// When `==` is true: of entries and of records exactly where their plain data are identical, of ids of records and of
+/// effects exactly where both are.
 pub fn equality()
     ensures package_entries { (a b : PackageEntry) → (⟦<PackageEntry as PartialEq>⟧.eq a b ≡ true) ↔
         (in_package.entry_data a ≡ in_package.entry_data b) }
@@ -94,4 +96,5 @@ pub fn equality()
         (⟦<LogRecord<OperatorEntry> as PartialEq>⟧.eq a b ≡ true) ↔
         (in_operator.record_data a ≡ in_operator.record_data b) }
     ensures record_ids { (a b : RecordId) → (⟦<RecordId as PartialEq>⟧.eq a b ≡ true) ↔ (a ≡ b) }
+    ensures effects { (a b : Effect) → (⟦<Effect as PartialEq>⟧.eq a b ≡ true) ↔ (a ≡ b) }
 {}

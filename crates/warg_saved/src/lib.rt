@@ -9,6 +9,7 @@ mod map;
 mod members;
 mod name;
 mod owned;
+mod permission_set;
 mod permissions;
 mod read_map;
 mod text;

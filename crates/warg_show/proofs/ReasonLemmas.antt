@@ -8,7 +8,7 @@ use Rattle.warg_protocol.specs.Logs.{Cause, DecodedEnvelope, EnvelopeFault, Sign
 use Rattle.warg_envelope.specs.Faults.{NamesFault}
 use Rattle.warg_protocol.specs.ParseEnvelopeErrors as error
 use Rattle.warg_protocol.specs.RunCauses.{Parse, Validation}
-use Rattle.warg_validator.specs.OutcomeOffences.{NamesOffence}
+use Rattle.warg_records.specs.OutcomeOffences.{NamesOffence}
 use Rattle.warg_answers.specs.Explanations.{Explains, HoldsFirst, IsEntryAtFault, IsEntryOf, IsEntryOfString, IsPassedWith, IsRefusedWith, all_belong}
 use Rattle.warg_show.specs.Reasons.{IsTold, Tells}
 

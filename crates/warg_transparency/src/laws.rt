@@ -11,7 +11,7 @@ ghost use Rattle.warg_registry.specs.PrefixEncodings.{log_leaf_encoding_of};
 ghost use Rattle.warg_registry.specs.declared.leaf.LogLeaf.{LogLeaf};
 ghost use Rattle.warg_registry.specs.declared.leaf.MapLeaf.{MapLeaf};
 ghost use Rattle.warg_registry.specs.declared.log_id.LogId.{LogId};
-ghost use Rattle.warg_validator.specs.Kinds.{SignatureRelation, IsAccepted};
+ghost use Rattle.warg_records.specs.Kinds.{SignatureRelation, IsAccepted};
 ghost use Rattle.warg_audited_log.specs.Heads as records;
 ghost use Rattle.warg_audited_log.specs.Log.{contents};
 ghost use Rattle.warg_merkle.specs.Trees.{HaveCollision, Includes, IsOwn, Side, tree_hash};

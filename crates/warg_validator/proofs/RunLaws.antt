@@ -4,7 +4,7 @@ use Rattle.std.specs.Prelude.{IfOk}
 use Rattle.warg_envelope.specs.EnvelopeData.{EnvelopeData}
 use Rattle.warg_validator.specs.declared.replay.RunCause.{RunCause}
 use Rattle.warg_validator.specs.declared.replay.RunError.{RunError}
-use Rattle.warg_validator.specs.Kinds.{SignatureRelation, Kind, KindLaws, IsAccepted, StandsFor}
+use Rattle.warg_records.specs.Kinds.{SignatureRelation, Kind, KindLaws, IsAccepted, StandsFor}
 use Rattle.warg_validator.specs.OutcomeRuns.{IsRun, IfStarted}
 use Rattle.warg_validator.specs.Strings.{Cause, read_all}
 use Rattle.warg_validator.proofs.LogLaws.{strings-accepted}

@@ -4,7 +4,7 @@ use Rattle.std.specs.List.{cons_option}
 use Rattle.std.specs.Option.{option_map}
 use Rattle.std.proofs.lemmas.List.{append-nil}
 use Rattle.std.proofs.lemmas.List.Elements.{filter_map-append}
-use Rattle.warg_validator.specs.Walks.{AllLawful, IsStepwise}
+use Rattle.warg_records.specs.Walks.{AllLawful, IsStepwise}
 use Rattle.warg_validator.specs.Strings.{Unlawful, ok, read_all, cause_of, after_read}
 
 none_inside : {A B : Type 0} (f : A → B) (o : Option A) → option_map f o ≡ None → o ≡ None

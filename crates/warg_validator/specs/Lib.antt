@@ -1,9 +1,4 @@
-pub mod Effects
-pub mod Enclosed
-pub mod OutcomeOffences
-pub mod Kinds
 pub mod Messages
 pub mod OutcomeRuns
 pub mod Strings
 pub mod Telling
-pub mod Walks

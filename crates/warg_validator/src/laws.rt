@@ -4,14 +4,12 @@ ghost use Rattle.std.specs.List.{slice_get};
 ghost use Rattle.warg_json.specs.Json.{AreReadBack};
 ghost use Rattle.warg_envelope.specs.Envelopes.{EnvelopeFault, envelope_of};
 ghost use Rattle.warg_envelope.specs.EnvelopeData.{EnvelopeData};
-ghost use Rattle.warg_validator.specs.Kinds.{SignatureRelation, accepted_by_either, IsAccepted, StandsFor, last_id};
+ghost use Rattle.warg_records.specs.Kinds.{SignatureRelation, accepted_by_either, IsAccepted, StandsFor, last_id};
 ghost use Rattle.warg_validator.specs.OutcomeRuns.{same_cause, HasNoOffence, IsFirstOffence, IsFoundBy, first_offence_from};
 ghost use Rattle.warg_validator.specs.Strings.{Cause, read_all};
-ghost use Rattle.warg_validator.specs.declared.effect.Effect.{Effect};
 ghost use Rattle.warg_validator.specs.declared.replay.RunCause.{RunCause};
 ghost use Rattle.warg_validator.specs.declared.replay.RunError.{RunError};
 
-use crate::effect::Effect;
 use crate::replay::{RunCause, RunError};
 use crate::validator::Validator;
 use warg_envelope::ParseEnvelopeError;
@@ -108,10 +106,9 @@ pub fn two_verifiers<L: Validator>()
         IsAccepted L.kind (accepted_by_either d b) (es ++ read_all (envelope_of L.Record.read) ss) }
 {}
 
-/// When `==` is true: of effects exactly where they are identical; of refusals exactly where their places and causes
-/// are equal; of causes exactly where both are faults of reading or both refusals of a record, and these are equal.
+/// When `==` is true: of refusals exactly where their places and causes are equal; of causes exactly where both are
+/// faults of reading or both refusals of a record, and these are equal.
 pub fn equality<E: PartialEq>()
-    ensures effects { (a b : Effect) → (⟦<Effect as PartialEq>⟧.eq a b ≡ true) ↔ (a ≡ b) }
     ensures causes { (a b : RunCause E) → ⟦<RunCause<E> as PartialEq>⟧.eq a b
         ≡ same_cause ⟦<ParseEnvelopeError as PartialEq>⟧.eq E.eq a b }
     ensures errors { (a b : RunError E) → ⟦<RunError<E> as PartialEq>⟧.eq a b ≡

@@ -1,7 +1,7 @@
 //! Asking what has to be verified, and appending by what the caller says.
 ghost use Rattle.std.specs.Prelude.{◌≡◌, ◌≢◌, ◌≤◌, IfOk, IfErr, OnOk, OnErr, length, take};
 ghost use Rattle.warg_validator.specs.Telling.{Holds};
-ghost use Rattle.warg_validator.specs.Kinds.{SignatureRelation};
+ghost use Rattle.warg_records.specs.Kinds.{SignatureRelation};
 ghost use Rattle.warg_c.specs.Held.{ask_tells, ask_fails, append_does, append_moves, append_fails, append_refuses};
 ghost use Rattle.warg_c.specs.Questions.{HoldsOf};
 ghost use Rattle.warg_c.specs.Runs.{IsCall};

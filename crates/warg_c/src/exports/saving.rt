@@ -19,10 +19,10 @@ use crate::kept_log::KeptLog;
 use crate::refusal::give_if_room;
 use std::alloc::Global;
 use warg_json::JsonError;
-use warg_log::PersistentState;
 use warg_operator_log::LogState as OperatorState;
 use warg_package_log::LogState as PackageState;
 use warg_saved::JsonTextError;
+use warg_validator::PersistentState;
 
 // A state as a text of JSON.
 fn state_text<L: PersistentState>(alloc: Global, state: &L) -> Result<Vec<u8>, Failure>

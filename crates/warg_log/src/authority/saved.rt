@@ -7,8 +7,8 @@ use indexmap::IndexMap;
 use std::alloc::Global;
 use warg_crypto::hash::HashAlgorithm;
 use warg_crypto::signing::{KeyID, PublicKey};
-use warg_key_maps::{Maps, PermissionSet};
-use warg_permissions::LogPermission;
+use warg_key_maps::Maps;
+use warg_permissions::{LogPermission, PermissionSet};
 
 impl<P: LogPermission> Authority<P> {
     /// The authority of these maps.

@@ -27,7 +27,8 @@ use warg_crypto::hash::HashAlgorithm;
 use warg_crypto::signing::{KeyID, PublicKey};
 use warg_json::members::object_value;
 use warg_json::{Incoherence, JsonError, JsonValue};
-use warg_log::{Head, Log, PermissionSet, head_member, head_version, put_head, put_head_text};
+use warg_log::{Head, Log, head_member, head_version, put_head, put_head_text};
+use warg_permissions::PermissionSet;
 use warg_records::operator::Permission;
 use warg_registry::PackageName;
 use warg_saved::{

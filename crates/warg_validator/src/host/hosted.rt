@@ -1,14 +1,14 @@
 //! Logs that judge all of a record but its signature.
 ghost use Rattle.std.specs.Prelude.{◌≡◌, IfOk, IfErr};
 
-use crate::host::question::Question;
 use crate::validator::Validator;
 use warg_envelope::ProtoEnvelope;
+use warg_records::Question;
 
 /// A state that judges all of a record but its signature, in place.
 pub trait Hosted: Validator {
     ghost use Rattle.warg_envelope.specs.Envelopes.{IsHonest};
-    ghost use Rattle.warg_validator.specs.Telling.{AsksOf, RefusesAlways, AsksWhereLawful};
+    ghost use Rattle.warg_records.specs.Asked.{AsksOf, RefusesAlways, AsksWhereLawful};
 
     /// What is to be verified of a record that may come next, or what is wrong with it, whatever its signature.
     fn ask(&self, envelope: &ProtoEnvelope<Self::Record>) -> Result<Question, Self::Error>

@@ -1,7 +1,7 @@
 //! What answers say of a log, for every kind of log: clauses to call, with no code.
 ghost use Rattle.std.specs.Prelude.{◌≡◌, ◌↔◌, List, None};
 ghost use Rattle.warg_envelope.specs.EnvelopeData.{EnvelopeData};
-ghost use Rattle.warg_validator.specs.Kinds.{SignatureRelation, AcceptsNoMore, IsAccepted};
+ghost use Rattle.warg_records.specs.Kinds.{SignatureRelation, AcceptsNoMore, IsAccepted};
 ghost use Rattle.warg_validator.specs.Telling.{told_belongs, Holds, Answers, HoldsOfAsked};
 ghost use Rattle.warg_validator.specs.declared.host.told.Told.{Told};
 

@@ -1,6 +1,6 @@
 use Rattle.std.proofs.Common.{sym, ap, ◌∙◌}
 use Rattle.std.proofs.lemmas.Slice.Eq.{slice_eq-Decides}
-use Rattle.warg_key_maps.proofs.permission_set.find_set.Goals as goal
+use Rattle.warg_key_maps.proofs.sharing.find_set.Goals as goal
 
 pub returns-then-eq : goal.returns-then-eq
 returns-then-eq g c =

@@ -2,7 +2,7 @@ use Rattle.std.proofs.Common.{subst}
 use Rattle.std.specs.Prelude.{◌≡◌, OnOk, ⊤}
 use Rattle.warg_json.specs.Json.{IsReadBack}
 use Rattle.warg_saved.specs.SavedPermissions.{permissions_in, permissions_json}
-use Rattle.warg_key_maps.proofs.permission_set.saved.PermissionSetSavedValue.can_save.Goals as goal
+use Rattle.warg_saved.proofs.permission_set.PermissionSetSavedValue.can_save.Goals as goal
 
 pub returns-clause-back : goal.returns-clause-back
 returns-clause-back g c =

@@ -3,13 +3,13 @@ ghost use Rattle.std.specs.Prelude.{List, []};
 ghost use Rattle.warg_saved.specs.CanonicalLaws.{texts_canonical};
 ghost use Rattle.warg_saved.specs.SavedPermissions.{permissions_in, permissions_json};
 
-use crate::permission_set::PermissionSet;
+use crate::value::SavedValue;
 use indexmap::IndexSet;
+use json::Writer;
 use serde_json::Value;
 use std::alloc::Global;
 use warg_json::JsonError;
-use warg_permissions::LogPermission;
-use warg_saved::{SavedValue, Writer};
+use warg_permissions::{LogPermission, PermissionSet};
 
 impl<P: LogPermission> SavedValue for PermissionSet<P> {
     ghost Plain = { List P };
