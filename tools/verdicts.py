@@ -13,8 +13,10 @@ KEPT = r"^(?:\./)?proofs/(\S+)\.antt:\d+:\d+: error: (?:`([^`]+)`: )?(.*)"
 GONE = r"`goal\.[^`]*`: module .* has no |record .* has no field |no name that rattle asks for"
 OPEN = r"^note: (src/\S+?):(\d+):\d+: it is not proved (.*)"
 FALSE = "the facts known there allow values at which this goal is false"
-# What a function says that was not tried, since another was not proved.
+# What a function says that was not tried, since another was not proved. One that calls such a function is tried, by that
+# one's contract, and what is open in it is its own.
 WAITS = r"which (is|are) not proved|it waits for the proof of|\Acould not tell"
+UNFOUND = "`search` did not prove"
 
 
 class Answer(NamedTuple):
@@ -55,7 +57,7 @@ class Said:
             return None
         if text == "proved":
             return "GOT THROUGH"
-        if not text or re.search(WAITS, text):
+        if not text or (re.search(WAITS, text) and UNFOUND not in text and not self.is_open(edit)):
             return None
         return self.verdict_by_kept(edit)
 
@@ -71,6 +73,9 @@ class Said:
         """Whether nothing is open in the edit's function but what its kept answers lost, and nothing is shown false."""
         lost = sum(it.is_goal_gone for it in self.kept if it.is_of(edit))
         return not self.is_shown_false(edit) and len([it for it in self.open if is_within(it, edit.span)]) <= lost
+
+    def is_open(self, edit: Edit) -> bool:
+        return any(is_within(it, edit.span) for it in self.open)
 
     def is_shown_false(self, edit: Edit) -> bool:
         return any(is_false for file, line, is_false in self.open if is_within((file, line, is_false), edit.span))
