@@ -77,8 +77,10 @@ class Edit:
 
     @functools.cached_property
     def span(self) -> Span | None:
-        """The one function that holds all lines of the edit, if one does. The edit was made before."""
-        spans = {span_at(file, text.split("\n"), text.count("\n", 0, at)) for file, text, at in self.places}
+        """The one function that holds all lines of the edit but those of its own proof, if one does. The edit was made before."""
+        own = f"proofs/{self.proofs()}/"
+        places = [it for it in self.places if not it[0].startswith(own)]
+        spans = {span_at(file, text.split("\n"), text.count("\n", 0, at)) for file, text, at in places}
         return spans.pop() if len(spans) == 1 else None
 
     def apply(self, folder: str) -> bool:

@@ -57,9 +57,14 @@ class Said:
             return None
         if text == "proved":
             return "GOT THROUGH"
-        if not text or (re.search(WAITS, text) and UNFOUND not in text and not self.is_open(edit)):
+        if not text or self.waits(edit):
             return None
         return self.verdict_by_kept(edit)
+
+    def waits(self, edit: Edit) -> bool:
+        """Whether the edit's function waits for another, with no goal of its own open."""
+        text = self.functions.get(edit.function, "")
+        return re.search(WAITS, text) is not None and UNFOUND not in text and not self.is_open(edit)
 
     def verdict_by_kept(self, edit: Edit) -> str:
         """refused or MISFIT: it is one where the kept proof names what is gone, and nothing else is open than what it lost."""
