@@ -1,0 +1,2 @@
+pub mod CurveFacts
+pub mod Inverses

@@ -1,0 +1,4 @@
+//! The curve P-256 and its group.
+#![tactic(auto)]
+
+pub fn nothing() {}

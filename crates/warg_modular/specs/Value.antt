@@ -1,0 +1,22 @@
+use Rattle.std.specs.Prelude.{◌≡◌, ℕ, ◌+◌, ◌*◌, ◌^◌, ◌<◌, List}
+use Rattle.std.specs.List.{fold}
+use Rattle.warg_modular.specs.declared.words.Words.{Words}
+use Rattle.warg_modular.specs.declared.montgomery.Wide.{Wide}
+
+-- the number that four words hold
+unfoldable pub value : Words → ℕ
+value w = w.l0 + w.l1 * 2 ^ 64 + w.l2 * 2 ^ 128 + w.l3 * 2 ^ 192
+
+-- the number that four words and a word above them hold
+unfoldable pub wide : Wide → ℕ
+wide w = w.l0 + w.l1 * 2 ^ 64 + w.l2 * 2 ^ 128 + w.l3 * 2 ^ 192 + w.top * 2 ^ 256
+
+-- r is (t + a * b + m * p) / 2 ^ 64 for some m of a word
+pub record IsRound (t a b p r : ℕ) : Type 0 where
+  pub factor : ℕ
+  pub fits : factor < 2 ^ 64
+  pub total : r * 2 ^ 64 ≡ t + a * b + factor * p
+
+-- the number that bytes write, the highest first
+unfoldable pub big_endian : List ℕ → ℕ
+big_endian bytes = fold (λ a b. a * 256 + b) 0 bytes

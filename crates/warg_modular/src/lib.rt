@@ -1,0 +1,5 @@
+//! Numbers of four words, and products modulo an odd number by Montgomery's method.
+#![tactic(auto)]
+
+pub mod montgomery;
+pub mod words;

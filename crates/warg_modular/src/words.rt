@@ -1,0 +1,123 @@
+// Numbers below 2 ^ 256 in four words, the lowest first.
+#![tactic(auto, unfolding(crate::specs::Value::value))]
+
+ghost use Rattle.std.specs.Prelude.{◌≡◌, ℕ, ◌+◌, ◌*◌, ◌/◌, ◌%◌, ◌^◌, ◌<◌, ◌↔◌, IsTrue};
+ghost use Rattle.std.specs.Int.{from_bool};
+ghost use Rattle.warg_modular.specs.Value.{value, big_endian};
+
+#[derive(Clone, Copy)]
+pub struct Words {
+    pub l0: u64,
+    pub l1: u64,
+    pub l2: u64,
+    pub l3: u64,
+}
+
+// The sum, and whether it passed 2 ^ 256.
+#[inline(always)]
+pub fn add(a: Words, b: Words) -> (Words, bool)
+    ensures total { value result.0 + from_bool result.1 * 2 ^ 256 ≡ value a + value b }
+    ensures below { value result.0 < 2 ^ 256 }
+{
+    let (l0, c0) = a.l0.carrying_add(b.l0, false);
+    let (l1, c1) = a.l1.carrying_add(b.l1, c0);
+    let (l2, c2) = a.l2.carrying_add(b.l2, c1);
+    let (l3, c3) = a.l3.carrying_add(b.l3, c2);
+    (Words { l0, l1, l2, l3 }, c3)
+}
+
+// The difference, and whether it fell below 0.
+#[inline(always)]
+pub fn sub(a: Words, b: Words) -> (Words, bool)
+    ensures total { value result.0 + value b ≡ value a + from_bool result.1 * 2 ^ 256 }
+    ensures below { (value result.0 < 2 ^ 256) × (value a < 2 ^ 256) × (value b < 2 ^ 256) }
+{
+    let (l0, c0) = a.l0.borrowing_sub(b.l0, false);
+    let (l1, c1) = a.l1.borrowing_sub(b.l1, c0);
+    let (l2, c2) = a.l2.borrowing_sub(b.l2, c1);
+    let (l3, c3) = a.l3.borrowing_sub(b.l3, c2);
+    (Words { l0, l1, l2, l3 }, c3)
+}
+
+#[inline(always)]
+pub fn is_less(a: Words, b: Words) -> bool
+    ensures { IsTrue result ↔ (value a < value b) }
+{
+    let (_, is_below) = sub(a, b);
+    is_below
+}
+
+#[inline(always)]
+pub fn is_zero(a: Words) -> bool
+    ensures { IsTrue result ↔ (value a ≡ 0) }
+{
+    a.l0 == 0 && a.l1 == 0 && a.l2 == 0 && a.l3 == 0
+}
+
+#[inline(always)]
+pub fn is_equal(a: Words, b: Words) -> bool
+    ensures { IsTrue result ↔ (value a ≡ value b) }
+{
+    a.l0 == b.l0 && a.l1 == b.l1 && a.l2 == b.l2 && a.l3 == b.l3
+}
+
+// The word that holds the bit `i`.
+#[inline(always)]
+pub fn word_of(a: Words, i: u32) -> u64 {
+    if i < 64 {
+        a.l0
+    } else if i < 128 {
+        a.l1
+    } else if i < 192 {
+        a.l2
+    } else {
+        a.l3
+    }
+}
+
+// The bit `i`.
+#[inline(always)]
+pub fn bit(a: Words, i: u32) -> bool
+    requires { i < 256 }
+    ensures { IsTrue result ↔ ((value a / 2 ^ i) % 2 ≡ 1) }
+{
+    let Words { l0, l1, l2, l3 } = a;
+    if i < 64 {
+        return (l0 >> i) % 2 == 1;
+    }
+    if i < 128 {
+        return (l1 >> (i - 64)) % 2 == 1;
+    }
+    if i < 192 {
+        return (l2 >> (i - 128)) % 2 == 1;
+    }
+    (l3 >> (i - 192)) % 2 == 1
+}
+
+// The number that the bytes write, the highest first, modulo 2 ^ 256.
+pub fn from_be(bytes: &[u8]) -> Words
+    ensures { value result ≡ big_endian bytes.now % 2 ^ 256 }
+{
+    let mut a = Words {
+        l0: 0,
+        l1: 0,
+        l2: 0,
+        l3: 0,
+    };
+    for b in bytes {
+        a = shifted_in(a, *b);
+    }
+    a
+}
+
+// a * 256 + b modulo 2 ^ 256.
+#[inline(always)]
+fn shifted_in(a: Words, b: u8) -> Words
+    ensures { value result ≡ (value a * 256 + b) % 2 ^ 256 }
+{
+    let (l0, c0) = a.l0.carrying_mul_add(256, b as u64, 0);
+    let (l1, c1) = a.l1.carrying_mul_add(256, c0, 0);
+    let (l2, c2) = a.l2.carrying_mul_add(256, c1, 0);
+    let (l3, _) = a.l3.carrying_mul_add(256, c2, 0);
+    Words { l0, l1, l2, l3 }
+}

@@ -1,0 +1,13 @@
+pub mod Field
+pub mod Scalars
+pub mod Standing
+pub mod Doubling
+pub mod Doubled
+pub mod Adding
+pub mod DoubledPoint
+pub mod AddedPoint
+pub mod Multiples
+pub mod Signatures
+pub mod Roots
+pub mod DerFacts
+pub mod Verified

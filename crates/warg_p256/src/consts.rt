@@ -1,0 +1,110 @@
+// The numbers of the curve P-256.
+
+use warg_modular::words::Words;
+
+// The prime of the field.
+pub const P: Words = Words {
+    l0: 0xffffffffffffffff,
+    l1: 0x00000000ffffffff,
+    l2: 0x0000000000000000,
+    l3: 0xffffffff00000001,
+};
+
+// The order of the base point.
+pub const N: Words = Words {
+    l0: 0xf3b9cac2fc632551,
+    l1: 0xbce6faada7179e84,
+    l2: 0xffffffffffffffff,
+    l3: 0xffffffff00000000,
+};
+
+// 2 ^ 512 modulo P.
+pub const R2_P: Words = Words {
+    l0: 0x0000000000000003,
+    l1: 0xfffffffbffffffff,
+    l2: 0xfffffffffffffffe,
+    l3: 0x00000004fffffffd,
+};
+
+// 2 ^ 512 modulo N.
+pub const R2_N: Words = Words {
+    l0: 0x83244c95be79eea2,
+    l1: 0x4699799c49bd6fa6,
+    l2: 0x2845b2392b6bec59,
+    l3: 0x66e12d94f3d95620,
+};
+
+// 2 ^ 256 modulo P: 1 in Montgomery's form.
+pub const ONE_P: Words = Words {
+    l0: 0x0000000000000001,
+    l1: 0xffffffff00000000,
+    l2: 0xffffffffffffffff,
+    l3: 0x00000000fffffffe,
+};
+
+// 2 ^ 256 modulo N.
+pub const ONE_N: Words = Words {
+    l0: 0x0c46353d039cdaaf,
+    l1: 0x4319055258e8617b,
+    l2: 0x0000000000000000,
+    l3: 0x00000000ffffffff,
+};
+
+// The curve's b in Montgomery's form.
+pub const B_M: Words = Words {
+    l0: 0xd89cdf6229c4bddf,
+    l1: 0xacf005cd78843090,
+    l2: 0xe5a220abf7212ed6,
+    l3: 0xdc30061d04874834,
+};
+
+// The base point in Montgomery's form.
+pub const GX_M: Words = Words {
+    l0: 0x79e730d418a9143c,
+    l1: 0x75ba95fc5fedb601,
+    l2: 0x79fb732b77622510,
+    l3: 0x18905f76a53755c6,
+};
+
+// The same, its y.
+pub const GY_M: Words = Words {
+    l0: 0xddf25357ce95560a,
+    l1: 0x8b4ab8e4ba19e45c,
+    l2: 0xd2e88688dd21f325,
+    l3: 0x8571ff1825885d85,
+};
+
+// (P + 1) / 4.
+pub const SQRT_EXP: Words = Words {
+    l0: 0x0000000000000000,
+    l1: 0x0000000040000000,
+    l2: 0x4000000000000000,
+    l3: 0x3fffffffc0000000,
+};
+
+// N - 2.
+pub const N_LESS_2: Words = Words {
+    l0: 0xf3b9cac2fc63254f,
+    l1: 0xbce6faada7179e84,
+    l2: 0xffffffffffffffff,
+    l3: 0xffffffff00000000,
+};
+
+// P - N.
+pub const P_LESS_N: Words = Words {
+    l0: 0x0c46353d039cdaae,
+    l1: 0x4319055358e8617b,
+    l2: 0x0000000000000000,
+    l3: 0x0000000000000000,
+};
+
+pub const INV_P: u64 = 0x1;
+
+pub const INV_N: u64 = 0xccd1c8aaee00bc4f;
+
+pub const ZERO: Words = Words {
+    l0: 0,
+    l1: 0,
+    l2: 0,
+    l3: 0,
+};

@@ -1,0 +1,139 @@
+// The field of the curve: numbers below the prime, in Montgomery's form.
+
+ghost use Rattle.std.specs.Prelude.{◌≡◌, ℕ, ◌+◌, ◌*◌, ◌%◌, ◌^◌, ◌<◌, ◌↔◌, IsTrue};
+ghost use Rattle.warg_modular.specs.Value.{value};
+ghost use Rattle.warg_curve.specs.Field.{prime, plus, minus, times};
+ghost use Rattle.warg_p256.specs.Elements.{number};
+
+use crate::consts::{B_M, GX_M, GY_M, INV_P, ONE_P, P, R2_P};
+use warg_modular::montgomery;
+use warg_modular::words::{Words, bit, is_equal, is_zero};
+
+#[derive(Clone, Copy)]
+pub struct Element {
+    pub words: Words,
+    ghost reduced: { value words < prime },
+}
+
+#[inline(always)]
+pub fn nought() -> Element
+    ensures { number result.words ≡ 0 }
+{
+    Element {
+        words: Words {
+            l0: 0,
+            l1: 0,
+            l2: 0,
+            l3: 0,
+        },
+    }
+}
+
+#[inline(always)]
+pub fn one() -> Element
+    ensures { number result.words ≡ 1 }
+{
+    Element { words: ONE_P }
+}
+
+// The curve's b.
+#[inline(always)]
+pub fn curve_b() -> Element
+    ensures { number result.words ≡ 0x5ac635d8aa3a93e7b3ebbd55769886bc651d06b0cc53b0f63bce3c3e27d2604b }
+{
+    Element { words: B_M }
+}
+
+#[inline(always)]
+pub fn base_x() -> Element
+    ensures { number result.words ≡ 0x6b17d1f2e12c4247f8bce6e563a440f277037d812deb33a0f4a13945d898c296 }
+{
+    Element { words: GX_M }
+}
+
+#[inline(always)]
+pub fn base_y() -> Element
+    ensures { number result.words ≡ 0x4fe342e2fe1a7f9b8ee7eb4a7c0f9e162bce33576b315ececbb6406837bf51f5 }
+{
+    Element { words: GY_M }
+}
+
+pub fn mul(a: Element, b: Element) -> Element
+    ensures { number result.words ≡ times (number a.words) (number b.words) }
+{
+    Element {
+        words: montgomery::mul(a.words, b.words, P, INV_P),
+    }
+}
+
+pub fn square(a: Element) -> Element
+    ensures { number result.words ≡ times (number a.words) (number a.words) }
+{
+    mul(a, a)
+}
+
+#[inline(always)]
+pub fn add(a: Element, b: Element) -> Element
+    ensures { number result.words ≡ plus (number a.words) (number b.words) }
+{
+    Element {
+        words: montgomery::sum(a.words, b.words, P),
+    }
+}
+
+#[inline(always)]
+pub fn sub(a: Element, b: Element) -> Element
+    ensures { number result.words ≡ minus (number a.words) (number b.words) }
+{
+    Element {
+        words: montgomery::difference(a.words, b.words, P),
+    }
+}
+
+pub fn to_form(a: Words) -> Element
+    ensures { number result.words ≡ value a % prime }
+{
+    Element {
+        words: montgomery::mul(a, R2_P, P, INV_P),
+    }
+}
+
+pub fn from_form(a: Element) -> Words
+    ensures { value result ≡ number a.words }
+{
+    let one = Words {
+        l0: 1,
+        l1: 0,
+        l2: 0,
+        l3: 0,
+    };
+    montgomery::mul(a.words, one, P, INV_P)
+}
+
+#[inline(always)]
+pub fn is_nought(a: Element) -> bool
+    ensures { IsTrue result ↔ (number a.words ≡ 0) }
+{
+    is_zero(a.words)
+}
+
+#[inline(always)]
+pub fn are_equal(a: Element, b: Element) -> bool
+    ensures { IsTrue result ↔ (number a.words ≡ number b.words) }
+{
+    is_equal(a.words, b.words)
+}
+
+pub fn pow(a: Element, exponent: Words) -> Element
+    requires { value exponent < 2 ^ 256 }
+    ensures { number result.words ≡ (number a.words ^ value exponent) % prime }
+{
+    let mut r = one();
+    for i in (0..256u32).rev() {
+        r = square(r);
+        if bit(exponent, i) {
+            r = mul(r, a);
+        }
+    }
+    r
+}

@@ -1,0 +1,52 @@
+// The numbers modulo the order of the base point, in Montgomery's form.
+
+ghost use Rattle.std.specs.Prelude.{◌≡◌, ℕ, ◌-◌, ◌*◌, ◌%◌, ◌^◌, ◌<◌};
+ghost use Rattle.warg_modular.specs.Value.{value};
+ghost use Rattle.warg_curve.specs.Order.{order};
+ghost use Rattle.warg_p256.specs.Scalars.{scalar};
+
+use crate::consts::{INV_N, N, N_LESS_2, ONE_N, R2_N};
+use warg_modular::montgomery;
+use warg_modular::words::{Words, bit};
+
+#[derive(Clone, Copy)]
+pub struct Scalar {
+    pub words: Words,
+    ghost reduced: { value words < order },
+}
+
+#[inline(always)]
+pub fn one() -> Scalar
+    ensures { scalar result.words ≡ 1 }
+{
+    Scalar { words: ONE_N }
+}
+
+pub fn mul(a: Words, b: Scalar) -> Scalar
+    ensures form { scalar result.words ≡ (scalar a * scalar b.words) % order }
+    ensures plain { value result.words ≡ (value a * scalar b.words) % order }
+{
+    Scalar {
+        words: montgomery::mul(a, b.words, N, INV_N),
+    }
+}
+
+pub fn to_form(a: Words) -> Scalar
+    ensures { scalar result.words ≡ value a % order }
+{
+    mul(a, Scalar { words: R2_N })
+}
+
+// The inverse of a number in Montgomery's form, in that form, by Fermat's little theorem.
+pub fn inverse(a: Scalar) -> Scalar
+    ensures { scalar result.words ≡ (scalar a.words ^ (order - 2)) % order }
+{
+    let mut r = one();
+    for i in (0..256u32).rev() {
+        r = mul(r.words, r);
+        if bit(N_LESS_2, i) {
+            r = mul(r.words, a);
+        }
+    }
+    r
+}

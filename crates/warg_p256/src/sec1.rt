@@ -1,0 +1,119 @@
+// A point of the curve as SEC1 writes it, compressed or not.
+
+ghost use Rattle.std.specs.Prelude.{◌≡◌, ℕ, ◌+◌, ◌⊎◌, ◌%◌, ◌^◌, ◌<◌, ◌≤◌, IfSome, IfNone};
+ghost use Rattle.std.specs.Int.{from_bool};
+ghost use Rattle.warg_curve.specs.Field.{prime, times};
+ghost use Rattle.warg_p256.specs.Elements.{number};
+ghost use Rattle.warg_modular.specs.Value.{big_endian};
+ghost use Rattle.warg_p256.specs.Sec1.{right_side_of, IsWhole, IsCompressed};
+
+use crate::consts::{P, SQRT_EXP};
+use crate::fp::{
+    Element, add, are_equal, curve_b, from_form, mul, nought, pow, square, sub, to_form,
+};
+use crate::point::Affine;
+use warg_modular::words::{from_be, is_less};
+
+// x ^ 3 - 3 * x + b.
+fn right_side(x: Element) -> Element
+    ensures { number result.words ≡ right_side_of (number x.words) }
+{
+    let cube = mul(square(x), x);
+    add(sub(cube, add(add(x, x), x)), curve_b())
+}
+
+// A number with this square.
+fn root(right: Element) -> Option<Element>
+    ensures some { IfSome result (λ y. times (number y.words) (number y.words) ≡ number right.words) }
+    ensures none { IfNone result ((t : ℕ) → t < prime → times t t ≡ number right.words → ⊥) }
+{
+    let y = pow(right, SQRT_EXP);
+    if are_equal(square(y), right) {
+        return Some(y);
+    }
+    None
+}
+
+// The one of y and -y that is odd, or even.
+fn with_parity(y: Element, is_odd: bool) -> Option<Element>
+    ensures some { IfSome result (λ z. (times (number z.words) (number z.words) ≡ times (number y.words) (number y.words)) × (number z.words % 2 ≡ from_bool is_odd)) }
+    ensures none { IfNone result ((t : ℕ) → t < prime → times t t ≡ times (number y.words) (number y.words) → t % 2 ≡ from_bool is_odd → ⊥) }
+{
+    if is_odd_number(y) == is_odd {
+        return Some(y);
+    }
+    let z = sub(nought(), y);
+    if is_odd_number(z) == is_odd {
+        return Some(z);
+    }
+    None
+}
+
+fn is_odd_number(y: Element) -> bool
+    ensures { number y.words % 2 ≡ from_bool result }
+{
+    from_form(y).l0 % 2 == 1
+}
+
+// The number that the bytes write, where it is below the prime.
+fn coordinate(bytes: &[u8]) -> Option<Element>
+    ensures some { IfSome result (λ x. number x.words ≡ big_endian bytes.now % 2 ^ 256) }
+    ensures none { IfNone result (prime ≤ big_endian bytes.now % 2 ^ 256) }
+{
+    let x = from_be(bytes);
+    if is_less(x, P) {
+        return Some(to_form(x));
+    }
+    None
+}
+
+fn whole(bytes: &[u8]) -> Option<Affine>
+    ensures some { IfSome result (λ p. IsWhole bytes.now (number p.x.words) (number p.y.words)) }
+    ensures none { IfNone result ((x : ℕ) → (y : ℕ) → IsWhole bytes.now x y → ⊥) }
+{
+    if bytes.len() != 65 || bytes[0] != 4 {
+        return None;
+    }
+    let x = coordinate(&bytes[1..33])?;
+    let y = coordinate(&bytes[33..65])?;
+    if !are_equal(square(y), right_side(x)) {
+        return None;
+    }
+    Some(Affine { x, y })
+}
+
+// Whether the y of a compressed point is odd, by its first byte.
+fn parity_of(tag: u8) -> Option<bool>
+    ensures some { IfSome result (λ b. tag ≡ 2 + from_bool b) }
+    ensures none { IfNone result ((n : ℕ) → n < 2 → tag ≡ 2 + n → ⊥) }
+{
+    match tag {
+        2 => Some(false),
+        3 => Some(true),
+        _ => None,
+    }
+}
+
+fn compressed(bytes: &[u8]) -> Option<Affine>
+    ensures some { IfSome result (λ p. IsCompressed bytes.now (number p.x.words) (number p.y.words)) }
+    ensures none { IfNone result ((x : ℕ) → (y : ℕ) → IsCompressed bytes.now x y → ⊥) }
+{
+    if bytes.len() != 33 {
+        return None;
+    }
+    let is_odd = parity_of(bytes[0])?;
+    let x = coordinate(&bytes[1..33])?;
+    let any = root(right_side(x))?;
+    let y = with_parity(any, is_odd)?;
+    Some(Affine { x, y })
+}
+
+pub(crate) fn parse(bytes: &[u8]) -> Option<Affine>
+    ensures some { IfSome result (λ p. IsWhole bytes.now (number p.x.words) (number p.y.words) ⊎ IsCompressed bytes.now (number p.x.words) (number p.y.words)) }
+    ensures none { IfNone result ((x : ℕ) → (y : ℕ) → (IsWhole bytes.now x y ⊎ IsCompressed bytes.now x y) → ⊥) }
+{
+    match whole(bytes) {
+        Some(p) => Some(p),
+        None => compressed(bytes),
+    }
+}

@@ -1,0 +1,11 @@
+pub mod Congruent
+pub mod Pigeons
+pub mod Divisors
+pub mod Powers
+pub mod Pocklington
+pub mod PowerModulo
+pub mod Trials
+pub mod Certificates
+pub mod Chain
+pub mod Products
+pub mod Fermat
