@@ -11,3 +11,4 @@ pub mod Signatures
 pub mod Roots
 pub mod DerFacts
 pub mod Verified
+pub mod Tests

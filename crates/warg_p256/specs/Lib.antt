@@ -4,3 +4,6 @@ pub mod Coordinates
 pub mod Der
 pub mod Sec1
 pub mod Ecdsa
+pub mod Verified
+pub mod Scheme
+pub mod Laws

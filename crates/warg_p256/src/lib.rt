@@ -4,9 +4,12 @@
 mod consts;
 mod der;
 mod fp;
+pub mod laws;
 mod point;
 mod scalar;
 mod sec1;
 mod signature;
+mod verifier;
 
 pub use signature::{verify, verify_by_shamir, verify_by_windows};
+pub use verifier::{ALGORITHM, P256Verifier};

@@ -10,6 +10,7 @@ pub mod host;
 pub mod json;
 pub mod laws;
 pub mod operator;
+pub mod p256;
 pub mod package;
 pub mod registry;
 pub mod transparency;
