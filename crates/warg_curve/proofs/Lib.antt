@@ -1,2 +1,3 @@
 pub mod CurveFacts
 pub mod Inverses
+pub mod Slopes
