@@ -1,3 +1,5 @@
 pub mod CurveFacts
 pub mod Inverses
 pub mod Slopes
+pub mod Relations
+pub mod Lines
