@@ -1,9 +1,9 @@
-use Rattle.std.proofs.Common.{◌≡◌, ℕ, ◌+◌, ◌-◌, ◌*◌, ◌%◌, ◌⊎◌, inl, inr, sym, arith}
+use Rattle.std.proofs.Common.{◌≡◌, ℕ, ◌+◌, ◌-◌, ◌*◌, ◌%◌, ◌⊎◌, inl, inr, ap, sym, ◌∙◌, arith}
 use Rattle.std.proofs.lemmas.Bool.{cases_eq}
 use Rattle.std.proofs.Math.Nat.{mod-lt}
-use Rattle.warg_primes.proofs.Congruent.{Same, same, same_of, back, then, both_times, both_plus}
+use Rattle.warg_primes.proofs.Congruent.{Same, same, same_of, back, then, both_times, both_plus, same_more}
 use Rattle.warg_curve.specs.Field.{prime, minus}
-use Rattle.warg_curve.proofs.CurveFacts.{prime_pos, whole}
+use Rattle.warg_curve.proofs.CurveFacts.{low, low_is, prime_pos, whole}
 use Rattle.warg_curve.proofs.Slopes.{cancel, cancel_factor, minus_more, minus_nonzero}
 
 infixl 60 ◌⊕◌
@@ -33,3 +33,11 @@ product_zero u v a b h = elim (cases_eq (u % prime) (v % prime)) [
       let t : Same prime (a * d) (b * d) = follows (a ⊙ back m ⊕ b ⊙ m ⊕ back h) (omega arith) in
       inr (cancel_factor a b d (mod-lt (u % prime + (prime - v % prime)) prime_pos) (minus_nonzero (u % prime) (v % prime) hu hv (λ e. o (sym e))) t)
 ]
+
+-- low * a is minus a
+pub low_negative : (a : ℕ) → Same prime (low * a + a) 0
+low_negative a =
+    let e : low * a + a ≡ (low + 1) * a = omega arith in
+    let m : (low + 1) * a ≡ prime * a = ap (λ v. v * a) (sym low_is) in
+    let z : prime * a ≡ 0 + prime * a = omega arith in
+    same_more (low * a + a) 0 a (e ∙ m ∙ z)
