@@ -5,3 +5,5 @@ pub mod Relations
 pub mod Lines
 pub mod OnCurve
 pub mod Opposites
+pub mod FourLines
+pub mod Associative
