@@ -1,2 +1,9 @@
 pub mod CurveFacts
 pub mod Inverses
+pub mod Slopes
+pub mod Relations
+pub mod Lines
+pub mod OnCurve
+pub mod Opposites
+pub mod FourLines
+pub mod Associative

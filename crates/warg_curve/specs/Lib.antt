@@ -1,3 +1,4 @@
 pub mod Field
 pub mod Order
 pub mod Curve
+pub mod Group
