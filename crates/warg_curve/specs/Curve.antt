@@ -43,26 +43,11 @@ add (at x1 y1) infinity = at x1 y1
 add (at x1 y1) (at x2 y2) =
     if x1 == x2 then (if y1 == y2 then double (at x1 y1) else infinity) else third (chord_slope x1 y1 x2 y2) x1 y1 x2
 
--- k times p, for k of n bits: twice the multiple by k / 2, and p more where k is odd
-unfoldable pub multiple : ℕ → ℕ → Point → Point
-multiple zero k p = infinity
-multiple (suc n) k p =
-    if k % 2 == 1 then add (double (multiple n (k / 2) p)) p else double (multiple n (k / 2) p)
-
 -- the base point
 unfoldable pub base : Point
 base =
     at 0x6b17d1f2e12c4247f8bce6e563a440f277037d812deb33a0f4a13945d898c296
     0x4fe342e2fe1a7f9b8ee7eb4a7c0f9e162bce33576b315ececbb6406837bf51f5
-
--- the sum of a and, where the bit is 1, p
-unfoldable pub add_if : ℕ → Point → Point → Point
-add_if bit a p = if bit == 1 then add a p else a
-
--- k times the base point and l times q, for k and l of n bits: twice the same of their halves, and the points more where k and l are odd
-unfoldable pub combined : ℕ → ℕ → ℕ → Point → Point
-combined zero k l q = infinity
-combined (suc n) k l q = add_if (l % 2) (add_if (k % 2) (double (combined n (k / 2) (l / 2) q)) base) q
 
 -- each number of the field but 0 has an inverse: the prime is one
 abbrev pub HasInverses : Type 0

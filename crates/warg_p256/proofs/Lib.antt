@@ -6,7 +6,6 @@ pub mod Doubled
 pub mod Adding
 pub mod DoubledPoint
 pub mod AddedPoint
-pub mod Multiples
 pub mod Signatures
 pub mod Roots
 pub mod DerFacts

@@ -11,7 +11,8 @@ use Rattle.warg_modular.proofs.Rounds.{from_bool_le}
 use Rattle.warg_modular.specs.Value.{value}
 use Rattle.warg_curve.specs.Field.{prime, times}
 use Rattle.warg_curve.specs.Order.{order}
-use Rattle.warg_curve.specs.Curve.{Point, infinity, at, inverse, add, multiple, base}
+use Rattle.warg_curve.specs.Curve.{Point, infinity, at, inverse, add, base}
+use Rattle.warg_curve.specs.Group.{multiple}
 use Rattle.warg_p256.specs.Coordinates.{StandsFor}
 use Rattle.warg_p256.specs.Ecdsa.{HasX, IsSignature}
 use Rattle.warg_curve.proofs.CurveFacts.{whole, times_below, one_number, zero_factor}
@@ -133,10 +134,10 @@ one_inverse s w v hw hv ew ev =
 
 pub accepted : (q : Point) (e r s w u v : ℕ) (b : Bool) → 0 < r → r < order → 0 < s → s < order → w < order → (s * w) % order ≡ 1 →
     u ≡ (e * w) % order → v ≡ (r * w) % order →
-    ((b ≡ true → HasX (add (multiple 256 u base) (multiple 256 v q)) r) × (HasX (add (multiple 256 u base) (multiple 256 v q)) r → b ≡ true)) →
+    ((b ≡ true → HasX (add (multiple u base) (multiple v q)) r) × (HasX (add (multiple u base) (multiple v q)) r → b ≡ true)) →
     (b ≡ true → IsSignature q e r s) × (IsSignature q e r s → b ≡ true)
 accepted q e r s w u v b hr1 hr hs1 hs hw ew eu ev h =
-    let P : ℕ → ℕ → Type 0 = λ (m n : ℕ). HasX (add (multiple 256 m base) (multiple 256 n q)) r in (
+    let P : ℕ → ℕ → Type 0 = λ (m n : ℕ). HasX (add (multiple m base) (multiple n q)) r in (
       λ t. record { r_some = hr1; r_below = hr; s_some = hs1; s_below = hs; w = w; w_below = hw; w_is = ew; x_is = subst (λ m. P m ((r * w) % order)) eu (subst (λ n. P u n) ev (h.0 t)) },
       λ g.
           let same_w : g.w ≡ w = one_inverse s g.w w g.w_below hw g.w_is ew in

@@ -9,8 +9,9 @@ use Rattle.sha2.specs.Sha256.{sha256}
 use Rattle.warg_modular.specs.Value.{big_endian}
 use Rattle.warg_curve.specs.Field.{prime, times}
 use Rattle.warg_curve.specs.Order.{order}
-use Rattle.warg_curve.specs.Curve.{Point, infinity, at, add, multiple, base}
-use Rattle.warg_p256.specs.Sec1.{IsWhole, IsCompressed, number_at, right_side_of}
+use Rattle.warg_curve.specs.Curve.{Point, infinity, at, add, base}
+use Rattle.warg_curve.specs.Group.{IsOnCurve, right_side_of, multiple}
+use Rattle.warg_p256.specs.Sec1.{IsWhole, IsCompressed, number_at}
 use Rattle.warg_p256.specs.Der.{IsInteger, IsDer, integer}
 use Rattle.warg_p256.specs.Ecdsa.{HasX, IsSignature, IsVerified}
 use Rattle.warg_p256.specs.Verified.{any_below, is_whole, is_compressed, is_integer, first_contents, second_contents, is_der, has_x, is_signature, is_verified}
@@ -43,15 +44,17 @@ key_decides bytes x y = Decides-or _ _
     (Decides-and _ _ (Decides-eqb (number_at bytes 1) x) (Decides-eqb (times y y) (right_side_of x))))
 
 key_from : (bytes : List ℕ) (x y : ℕ) → x < prime → y < prime → IsWholeAt bytes x y ⊎ IsCompressedAt bytes x y → IsWhole bytes x y ⊎ IsCompressed bytes x y
+unfolding IsOnCurve
 key_from bytes x y hx hy k = elim k [
-  | inl g ↦ inl (record { length_is = g.0; tag_is = g.1.0; x_is = g.1.1.0; y_is = g.1.1.1.0; x_below = hx; y_below = hy; on_curve = g.1.1.1.1 })
-  | inr g ↦ inr (record { length_is = g.0; tag_is = g.1.0; x_is = g.1.1.0; x_below = hx; y_below = hy; on_curve = g.1.1.1 })
+  | inl g ↦ inl (record { length_is = g.0; tag_is = g.1.0; x_is = g.1.1.0; y_is = g.1.1.1.0; on_curve = (hx, hy, g.1.1.1.1) })
+  | inr g ↦ inr (record { length_is = g.0; tag_is = g.1.0; x_is = g.1.1.0; on_curve = (hx, hy, g.1.1.1) })
 ]
 
 key_to : (bytes : List ℕ) (x y : ℕ) → IsWhole bytes x y ⊎ IsCompressed bytes x y → (x < prime) × (y < prime) × (IsWholeAt bytes x y ⊎ IsCompressedAt bytes x y)
+unfolding IsOnCurve
 key_to bytes x y k = elim k [
-  | inl g ↦ (g.x_below, g.y_below, inl (g.length_is, (g.tag_is, (g.x_is, (g.y_is, g.on_curve)))))
-  | inr g ↦ (g.x_below, g.y_below, inr (g.length_is, (g.tag_is, (g.x_is, g.on_curve))))
+  | inl g ↦ (g.on_curve.0, g.on_curve.1, inl (g.length_is, (g.tag_is, (g.x_is, (g.y_is, g.on_curve.2)))))
+  | inr g ↦ (g.on_curve.0, g.on_curve.1, inr (g.length_is, (g.tag_is, (g.x_is, g.on_curve.2))))
 ]
 
 integer_decides : (bytes : List ℕ) (n : ℕ) → Decides (is_integer bytes n)
@@ -105,7 +108,7 @@ has_x_decides (at x y) r = Decides-eqb (x % order) r
 
 -- what the inverse w of s gives
 abbrev IsBy : Point → ℕ → ℕ → ℕ → ℕ → Type 0
-IsBy q e r s w = ((s * w) % order ≡ 1) × HasX (add (multiple 256 ((e * w) % order) base) (multiple 256 ((r * w) % order) q)) r
+IsBy q e r s w = ((s * w) % order ≡ 1) × HasX (add (multiple ((e * w) % order) base) (multiple ((r * w) % order) q)) r
 
 pub is_signature_decides : (q : Point) (e r s : ℕ) → Decides (is_signature q e r s) (IsSignature q e r s)
 is_signature_decides q e r s = Decides-like _
@@ -113,7 +116,7 @@ is_signature_decides q e r s = Decides-like _
     (λ g. (g.r_some, (g.r_below, (g.s_some, (g.s_below, (g.w, g.w_below, (g.w_is, g.x_is)))))))
     (and3 _ _ _ (Decides-ltb 0 r) (Decides-ltb r order) (and3 _ _ _ (Decides-ltb 0 s) (Decides-ltb s order)
     (decides_below order _ (IsBy q e r s) (λ w. Decides-and _ _ (Decides-eqb ((s * w) % order) 1)
-    (has_x_decides (add (multiple 256 ((e * w) % order) base) (multiple 256 ((r * w) % order) q)) r)))))
+    (has_x_decides (add (multiple ((e * w) % order) base) (multiple ((r * w) % order) q)) r)))))
 
 -- the numbers of a signature that belong to a point
 abbrev AreNumbers : List ℕ → List ℕ → ℕ → ℕ → ℕ → ℕ → Type 0

@@ -5,7 +5,8 @@ use Rattle.sha2.specs.Sha256.{sha256}
 use Rattle.warg_modular.specs.Value.{big_endian}
 use Rattle.warg_curve.specs.Field.{prime, times}
 use Rattle.warg_curve.specs.Curve.{at}
-use Rattle.warg_p256.specs.Sec1.{IsWhole, IsCompressed, right_side_of}
+use Rattle.warg_p256.specs.Sec1.{IsWhole, IsCompressed}
+use Rattle.warg_curve.specs.Group.{IsOnCurve, right_side_of}
 use Rattle.warg_p256.specs.Der.{IsDer, integer}
 use Rattle.warg_p256.specs.Ecdsa.{IsSignature, IsVerified}
 use Rattle.warg_p256.proofs.Roots.{two_roots}
@@ -30,6 +31,7 @@ same_root y t hy ht e p = elim (two_roots y t hy ht e) [
 ]
 
 key_once : (bs : List ℕ) (x y u v : ℕ) → IsWhole bs x y ⊎ IsCompressed bs x y → IsWhole bs u v ⊎ IsCompressed bs u v → (x ≡ u) × (y ≡ v)
+unfolding IsOnCurve
 key_once bs x y u v a b = elim a [
   | inl g ↦ elim b [
     | inl h ↦ (sym g.x_is ∙ h.x_is, sym g.y_is ∙ h.y_is)
@@ -39,10 +41,10 @@ key_once bs x y u v a b = elim a [
     | inl h ↦ absurd (let i : length bs ≡ 33 = g.length_is in let j : length bs ≡ 65 = h.length_is in omega arith)
     | inr h ↦
         let ex : x ≡ u = sym g.x_is ∙ h.x_is in
-        let ey : times y y ≡ times v v = g.on_curve ∙ ap right_side_of ex ∙ sym h.on_curve in
+        let ey : times y y ≡ times v v = g.on_curve.2 ∙ ap right_side_of ex ∙ sym h.on_curve.2 in
         let i = g.tag_is in
         let j = h.tag_is in
-        (ex, same_root y v g.y_below h.y_below ey (omega (arith, i, j)))
+        (ex, same_root y v g.on_curve.1 h.on_curve.1 ey (omega (arith, i, j)))
   ]
 ]
 

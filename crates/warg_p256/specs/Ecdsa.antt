@@ -4,7 +4,8 @@ use Rattle.warg_modular.specs.Value.{big_endian}
 use Rattle.warg_p256.specs.Sec1.{IsWhole, IsCompressed}
 use Rattle.warg_p256.specs.Der.{IsDer}
 use Rattle.warg_curve.specs.Order.{order}
-use Rattle.warg_curve.specs.Curve.{Point, infinity, at, add, multiple, base}
+use Rattle.warg_curve.specs.Curve.{Point, infinity, at, add, base}
+use Rattle.warg_curve.specs.Group.{multiple}
 
 -- the point's x, modulo the order, is r
 abbrev pub HasX : Point → ℕ → Type 0
@@ -20,7 +21,7 @@ pub record IsSignature (q : Point) (e r s : ℕ) : Type 0 where
   pub w : ℕ
   pub w_below : w < order
   pub w_is : (s * w) % order ≡ 1
-  pub x_is : HasX (add (multiple 256 ((e * w) % order) base) (multiple 256 ((r * w) % order) q)) r
+  pub x_is : HasX (add (multiple ((e * w) % order) base) (multiple ((r * w) % order) q)) r
 
 -- the signature's bytes are one of the message by the key that the key's bytes write
 pub record IsVerified (key message signature : List ℕ) : Type 0 where

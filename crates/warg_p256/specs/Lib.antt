@@ -1,6 +1,7 @@
 pub mod Elements
 pub mod Scalars
 pub mod Coordinates
+pub mod Rows
 pub mod Der
 pub mod Sec1
 pub mod Ecdsa

@@ -6,8 +6,9 @@ use Rattle.sha2.specs.Sha256.{sha256}
 use Rattle.warg_modular.specs.Value.{big_endian}
 use Rattle.warg_curve.specs.Field.{prime, times}
 use Rattle.warg_curve.specs.Order.{order}
-use Rattle.warg_curve.specs.Curve.{Point, infinity, at, add, multiple, base}
-use Rattle.warg_p256.specs.Sec1.{number_at, right_side_of}
+use Rattle.warg_curve.specs.Curve.{Point, infinity, at, add, base}
+use Rattle.warg_curve.specs.Group.{right_side_of, multiple}
+use Rattle.warg_p256.specs.Sec1.{number_at}
 use Rattle.warg_p256.specs.Der.{integer}
 
 -- whether some number below a bound passes a test
@@ -55,7 +56,7 @@ has_x (at x y) r = x % order == r
 abbrev pub is_signature : Point → ℕ → ℕ → ℕ → Bool
 is_signature q e r s =
     nat_lt 0 r && (nat_lt r order && (nat_lt 0 s && (nat_lt s order
-    && any_below order (λ w. (s * w) % order == 1 && has_x (add (multiple 256 ((e * w) % order) base) (multiple 256 ((r * w) % order) q)) r))))
+    && any_below order (λ w. (s * w) % order == 1 && has_x (add (multiple ((e * w) % order) base) (multiple ((r * w) % order) q)) r))))
 
 -- `IsVerified`, as one answer
 unfoldable pub is_verified : List ℕ → List ℕ → List ℕ → Bool

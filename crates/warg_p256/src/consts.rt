@@ -58,22 +58,6 @@ pub const B_M: Words = Words {
     l3: 0xdc30061d04874834,
 };
 
-// The base point in Montgomery's form.
-pub const GX_M: Words = Words {
-    l0: 0x79e730d418a9143c,
-    l1: 0x75ba95fc5fedb601,
-    l2: 0x79fb732b77622510,
-    l3: 0x18905f76a53755c6,
-};
-
-// The same, its y.
-pub const GY_M: Words = Words {
-    l0: 0xddf25357ce95560a,
-    l1: 0x8b4ab8e4ba19e45c,
-    l2: 0xd2e88688dd21f325,
-    l3: 0x8571ff1825885d85,
-};
-
 // (P + 1) / 4.
 pub const SQRT_EXP: Words = Words {
     l0: 0x0000000000000000,

@@ -3,9 +3,10 @@
 ghost use Rattle.std.specs.Prelude.{◌≡◌, ℕ, ◌+◌, ◌*◌, ◌%◌, ◌^◌, ◌<◌, ◌↔◌, IsTrue};
 ghost use Rattle.warg_modular.specs.Value.{value};
 ghost use Rattle.warg_curve.specs.Field.{prime, plus, minus, times};
+ghost use Rattle.warg_curve.specs.Group.{curve_b};
 ghost use Rattle.warg_p256.specs.Elements.{number};
 
-use crate::consts::{B_M, GX_M, GY_M, INV_P, ONE_P, P, R2_P};
+use crate::consts::{B_M, INV_P, ONE_P, P, R2_P};
 use warg_modular::montgomery;
 use warg_modular::words::{Words, bit, is_equal, is_zero};
 
@@ -39,23 +40,9 @@ pub fn one() -> Element
 // The curve's b.
 #[inline(always)]
 pub fn curve_b() -> Element
-    ensures { number result.words ≡ 0x5ac635d8aa3a93e7b3ebbd55769886bc651d06b0cc53b0f63bce3c3e27d2604b }
+    ensures { number result.words ≡ curve_b }
 {
     Element { words: B_M }
-}
-
-#[inline(always)]
-pub fn base_x() -> Element
-    ensures { number result.words ≡ 0x6b17d1f2e12c4247f8bce6e563a440f277037d812deb33a0f4a13945d898c296 }
-{
-    Element { words: GX_M }
-}
-
-#[inline(always)]
-pub fn base_y() -> Element
-    ensures { number result.words ≡ 0x4fe342e2fe1a7f9b8ee7eb4a7c0f9e162bce33576b315ececbb6406837bf51f5 }
-{
-    Element { words: GY_M }
 }
 
 pub fn mul(a: Element, b: Element) -> Element

@@ -1,6 +1,8 @@
 //! Verification of ECDSA signatures on the curve P-256 with SHA-256.
 #![tactic(auto)]
 
+mod base_table;
+mod combination;
 mod consts;
 mod der;
 mod fp;
@@ -11,5 +13,5 @@ mod sec1;
 mod signature;
 mod verifier;
 
-pub use signature::{verify, verify_by_shamir, verify_by_windows};
+pub use signature::verify;
 pub use verifier::{ALGORITHM, P256Verifier};

@@ -5,7 +5,8 @@ ghost use Rattle.std.specs.Int.{from_bool};
 ghost use Rattle.warg_curve.specs.Field.{prime, times};
 ghost use Rattle.warg_p256.specs.Elements.{number};
 ghost use Rattle.warg_modular.specs.Value.{big_endian};
-ghost use Rattle.warg_p256.specs.Sec1.{right_side_of, IsWhole, IsCompressed};
+ghost use Rattle.warg_curve.specs.Group.{right_side_of};
+ghost use Rattle.warg_p256.specs.Sec1.{IsWhole, IsCompressed};
 
 use crate::consts::{P, SQRT_EXP};
 use crate::fp::{

@@ -5,11 +5,13 @@ ghost use Rattle.warg_modular.specs.Value.{value};
 ghost use Rattle.warg_p256.specs.Elements.{number};
 ghost use Rattle.warg_curve.specs.Order.{order};
 ghost use Rattle.warg_curve.specs.Curve.{Point, at};
+ghost use Rattle.warg_curve.specs.Group.{IsOnCurve};
 ghost use Rattle.warg_p256.specs.Coordinates.{StandsFor};
 ghost use Rattle.warg_p256.specs.Ecdsa.{HasX, IsSignature, IsVerified};
 
 use crate::consts::{N, P_LESS_N};
-use crate::point::{Affine, Jacobian, combination, combination_by_windows, combination_together};
+use crate::combination::combination;
+use crate::point::{Affine, Jacobian};
 use crate::{der, fp, scalar, sec1};
 use sha2::{Digest, Sha256};
 use warg_modular::words::{Words, add, from_be, is_less, is_zero};
@@ -44,6 +46,7 @@ fn is_scalar(a: Words) -> bool
 
 // Whether r and s are a signature of a message with the hash e.
 fn accepts(q: Affine, e: Words, r: Words, s: Words) -> bool
+    requires { IsOnCurve (at (number q.x.words) (number q.y.words)) }
     ensures { IsTrue result ↔ IsSignature (at (number q.x.words) (number q.y.words)) (value e) (value r) (value s) }
 {
     if !is_scalar(r) {
@@ -58,33 +61,8 @@ fn accepts(q: Affine, e: Words, r: Words, s: Words) -> bool
     has_x(combination(u.words, v.words, q), r)
 }
 
-#[derive(Clone, Copy)]
-struct Task {
-    u1: Words,
-    u2: Words,
-    q: Affine,
-    r: Words,
-}
-
-fn make_task(key: &[u8], message: &[u8], signature: &[u8]) -> Option<Task>
-    ensures { IfSome result (λ t. value t.r < order) }
-{
-    let q = sec1::parse(key)?;
-    let signature = der::parse(signature)?;
-    if !is_scalar(signature.r) || !is_scalar(signature.s) {
-        return None;
-    }
-    let hash: [u8; 32] = Sha256::digest(message);
-    let e = from_be(hash.as_slice());
-    let w = scalar::inverse(scalar::to_form(signature.s));
-    Some(Task {
-        u1: scalar::mul(e, w).words,
-        u2: scalar::mul(signature.r, w).words,
-        q,
-        r: signature.r,
-    })
-}
-
+/// Whether the signature is one of the message by the key: ECDSA on P-256 with SHA-256 (FIPS 186-5, 6.4.2). The key is a point of SEC 1, 2.3.3, compressed
+/// or not; the signature is the DER of RFC 3279, 2.2.3. Any bytes are answered, and no memory is taken.
 pub fn verify(key: &[u8], message: &[u8], signature: &[u8]) -> bool
     ensures { IsTrue result ↔ IsVerified key.now message.now signature.now }
 {
@@ -96,18 +74,4 @@ pub fn verify(key: &[u8], message: &[u8], signature: &[u8]) -> bool
     };
     let hash: [u8; 32] = Sha256::digest(message);
     accepts(q, from_be(hash.as_slice()), pair.r, pair.s)
-}
-
-pub fn verify_by_shamir(key: &[u8], message: &[u8], signature: &[u8]) -> bool {
-    match make_task(key, message, signature) {
-        Some(t) => has_x(combination_together(t.u1, t.u2, t.q), t.r),
-        None => false,
-    }
-}
-
-pub fn verify_by_windows(key: &[u8], message: &[u8], signature: &[u8]) -> bool {
-    match make_task(key, message, signature) {
-        Some(t) => has_x(combination_by_windows(t.u1, t.u2, t.q), t.r),
-        None => false,
-    }
 }

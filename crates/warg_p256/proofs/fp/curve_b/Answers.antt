@@ -1,6 +1,7 @@
 use Rattle.std.proofs.Common.{lit<, refl}
 use Rattle.warg_modular.specs.Value.{value}
 use Rattle.warg_curve.specs.Field.{prime}
+use Rattle.warg_curve.specs.Group.{curve_b}
 use Rattle.warg_p256.specs.Elements.{shrink, number}
 use Rattle.warg_p256.proofs.fp.curve_b.Goals as goal
 
@@ -9,5 +10,5 @@ unfolding value prime
 invariant_of-result c = record { reduced = lit< tt }
 
 pub returns : goal.returns
-unfolding number value shrink prime
+unfolding number value shrink prime curve_b
 returns c = refl
