@@ -7,3 +7,4 @@ pub mod OnCurve
 pub mod Opposites
 pub mod FourLines
 pub mod Associative
+pub mod GroupMultiples
