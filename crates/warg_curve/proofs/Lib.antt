@@ -8,3 +8,4 @@ pub mod Opposites
 pub mod FourLines
 pub mod Associative
 pub mod GroupMultiples
+pub mod Chains
