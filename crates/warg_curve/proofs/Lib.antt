@@ -7,3 +7,5 @@ pub mod OnCurve
 pub mod Opposites
 pub mod FourLines
 pub mod Associative
+pub mod GroupMultiples
+pub mod Chains

@@ -2,3 +2,4 @@ pub mod Field
 pub mod Order
 pub mod Curve
 pub mod Group
+pub mod Laws
