@@ -6,6 +6,7 @@ pub mod Doubled
 pub mod Adding
 pub mod DoubledPoint
 pub mod AddedPoint
+pub mod Combinations
 pub mod Signatures
 pub mod Roots
 pub mod DerFacts
