@@ -1,3 +1,5 @@
+pub mod BaseSlopes
+pub mod BaseMultiples
 pub mod CurveFacts
 pub mod Inverses
 pub mod Slopes

@@ -12,3 +12,4 @@ pub mod Roots
 pub mod DerFacts
 pub mod Verified
 pub mod Tests
+pub mod BaseTable

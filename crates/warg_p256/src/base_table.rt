@@ -1,4 +1,5 @@
-// The multiples 1 to 255 of the base point, in Montgomery's form.
+// The multiples 1 to 255 of the base point, in Montgomery's form. `tools/curve_certificates`
+// writes the rows.
 
 ghost use Rattle.std.specs.Prelude.{◌≡◌, ◌<◌};
 ghost use Rattle.warg_p256.specs.Elements.{number};
@@ -9,12 +10,13 @@ use crate::fp::Element;
 use crate::point::Affine;
 use warg_modular::words::Words;
 
+// A multiple's coordinates.
 struct Row {
     x: Words,
     y: Words,
 }
 
-// i * base().
+// i * base(), which row i - 1 has.
 pub(crate) fn base_multiple(i: usize) -> Affine
     requires some { 0 < i }
     requires few { i < 256 }
