@@ -9,3 +9,4 @@ pub mod FourLines
 pub mod Associative
 pub mod GroupMultiples
 pub mod Chains
+pub mod OrderChain
