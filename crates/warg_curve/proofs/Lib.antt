@@ -10,3 +10,4 @@ pub mod Associative
 pub mod GroupMultiples
 pub mod Chains
 pub mod OrderChain
+pub mod BaseOrder
