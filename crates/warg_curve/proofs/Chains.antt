@@ -1,4 +1,4 @@
-use Rattle.std.proofs.Common.{◌≡◌, ◌≢◌, ℕ, suc, ◌*◌, ◌<◌, List, [], ◌∷◌, Bool, true, false, not, eqb, ltb, ◌&&◌, ap, sym, ◌∙◌, refl, subst, eq-eqb}
+use Rattle.std.proofs.Common.{◌≡◌, ◌≢◌, ℕ, suc, ◌*◌, List, [], ◌∷◌, Bool, true, false, not, eqb, ltb, ◌&&◌, ap, sym, ◌∙◌, refl, subst, eq-eqb}
 use Rattle.std.proofs.lemmas.Bool.{eqb-true, ltb-true, false≢true}
 use Rattle.warg_curve.specs.Field.{prime, minus, times}
 use Rattle.warg_curve.specs.Curve.{Point, at, third, double, add}

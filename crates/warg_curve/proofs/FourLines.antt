@@ -27,7 +27,8 @@ apart s c m k x1 y1 x2 y2 x3 y3 x4 y4 x6 y6 ab dc on =
     ]
 
 -- (m + s) (t - s) is x3 - x1
-pub turn : (s c m k t l x1 y1 x2 y2 x3 y3 x4 y4 x5 y5 x6 y6 : ℕ) → Meets s c x1 y1 x2 y2 x4 y4 → Meets m k x4 y4 x3 y3 x6 y6 → Meets t l x2 y2 x3 y3 x5 y5 →
+pub turn : (s c m k t l x1 y1 x2 y2 x3 y3 x4 y4 x5 y5 x6 y6 : ℕ) → Meets s c x1 y1 x2 y2 x4 y4 → Meets m k x4 y4 x3 y3 x6 y6 →
+    Meets t l x2 y2 x3 y3 x5 y5 →
     Satisfies x2 y2 → Satisfies x3 y3 → Same prime ((m + s) * t + x1) ((m + s) * s + x3)
 turn s c m k t l x1 y1 x2 y2 x3 y3 x4 y4 x5 y5 x6 y6 ab dc bc on2 on3 =
     let a : Same prime (x3 * x3 + x1 * x2 + (m + s) * (s * x3 + c)) ((x1 + x2) * x3 + (m + s) * y3) =
@@ -60,7 +61,8 @@ turn s c m k t l x1 y1 x2 y2 x3 y3 x4 y4 x5 y5 x6 y6 ab dc bc on2 on3 =
     ]
 
 -- m + s is u + t
-pub slopes : (s c m k t l u n x1 y1 x2 y2 x3 y3 x4 y4 x5 y5 x6 y6 x7 y7 : ℕ) → Meets s c x1 y1 x2 y2 x4 y4 → Meets m k x4 y4 x3 y3 x6 y6 → Meets t l x2 y2 x3 y3 x5 y5 → Meets u n x1 y1 x5 y5 x7 y7 →
+pub slopes : (s c m k t l u n x1 y1 x2 y2 x3 y3 x4 y4 x5 y5 x6 y6 x7 y7 : ℕ) → Meets s c x1 y1 x2 y2 x4 y4 → Meets m k x4 y4 x3 y3 x6 y6 →
+    Meets t l x2 y2 x3 y3 x5 y5 → Meets u n x1 y1 x5 y5 x7 y7 →
     Satisfies x1 y1 → Satisfies x2 y2 → Satisfies x3 y3 → Satisfies x4 y4 → Same prime (m + s) (u + t)
 slopes s c m k t l u n x1 y1 x2 y2 x3 y3 x4 y4 x5 y5 x6 y6 x7 y7 ab dc bc ae on1 on2 on3 on4 =
     let t1 : Same prime ((m + s) * t + x1) ((m + s) * s + x3) = turn s c m k t l x1 y1 x2 y2 x3 y3 x4 y4 x5 y5 x6 y6 ab dc bc on2 on3 in
@@ -94,13 +96,15 @@ slopes s c m k t l u n x1 y1 x2 y2 x3 y3 x4 y4 x5 y5 x6 y6 x7 y7 ab dc bc ae on1
     ]
 
 -- both ways lead to one point
-pub one_end_x : (s c m k t l u n x1 y1 x2 y2 x3 y3 x4 y4 x5 y5 x6 y6 x7 y7 : ℕ) → Meets s c x1 y1 x2 y2 x4 y4 → Meets m k x4 y4 x3 y3 x6 y6 → Meets t l x2 y2 x3 y3 x5 y5 → Meets u n x1 y1 x5 y5 x7 y7 →
+pub one_end_x : (s c m k t l u n x1 y1 x2 y2 x3 y3 x4 y4 x5 y5 x6 y6 x7 y7 : ℕ) → Meets s c x1 y1 x2 y2 x4 y4 → Meets m k x4 y4 x3 y3 x6 y6 →
+    Meets t l x2 y2 x3 y3 x5 y5 → Meets u n x1 y1 x5 y5 x7 y7 →
     Same prime (m + s) (u + t) → Same prime ((m + s) * t + x1) ((m + s) * s + x3) → Same prime x6 x7
 one_end_x s c m k t l u n x1 y1 x2 y2 x3 y3 x4 y4 x5 y5 x6 y6 x7 y7 ab dc bc ae w t1 =
     follows ((m + s + u) ⊙ back w ⊕ t ⊙ w ⊕ 2 ⊙ back t1 ⊕ ab.squares ⊕ back dc.squares ⊕ back bc.squares ⊕ ae.squares)
     (omega arith)
 
-pub one_end_y : (s c m k t l u n x1 y1 x2 y2 x3 y3 x4 y4 x5 y5 x6 y6 x7 y7 : ℕ) → Meets s c x1 y1 x2 y2 x4 y4 → Meets m k x4 y4 x3 y3 x6 y6 → Meets t l x2 y2 x3 y3 x5 y5 → Meets u n x1 y1 x5 y5 x7 y7 →
+pub one_end_y : (s c m k t l u n x1 y1 x2 y2 x3 y3 x4 y4 x5 y5 x6 y6 x7 y7 : ℕ) → Meets s c x1 y1 x2 y2 x4 y4 → Meets m k x4 y4 x3 y3 x6 y6 →
+    Meets t l x2 y2 x3 y3 x5 y5 → Meets u n x1 y1 x5 y5 x7 y7 →
     Same prime (m + s) (u + t) → Same prime ((m + s) * t + x1) ((m + s) * s + x3) → Same prime x6 x7 → Same prime y6 y7
 one_end_y s c m k t l u n x1 y1 x2 y2 x3 y3 x4 y4 x5 y5 x6 y6 x7 y7 ab dc bc ae w t1 x =
     follows ((x3 + s * s + m * s) ⊙ back w ⊕ (x6 + m * t + s * t) ⊙ w ⊕ (2 * s) ⊙ back t1 ⊕ (t + u) ⊙ t1 ⊕ u ⊙ x ⊕ t ⊙ back ab.squares

@@ -11,3 +11,5 @@ pub mod FourLines
 pub mod Associative
 pub mod GroupMultiples
 pub mod Chains
+pub mod OrderChain
+pub mod BaseOrder

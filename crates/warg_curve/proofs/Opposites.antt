@@ -7,7 +7,8 @@ use Rattle.warg_curve.proofs.CurveFacts.{low, one_number, add_infinity, add_righ
 use Rattle.warg_curve.proofs.Slopes.{minus_more}
 use Rattle.warg_curve.proofs.Relations.{low_negative}
 use Rattle.warg_curve.proofs.Lines.{Meets, swapped, mirrored, turned, never_mirrored, one_slope, one_third_x, one_third_y}
-use Rattle.warg_curve.proofs.OnCurve.{satisfies, x_below, y_below, minus_below, negative_at, negative_infinity, same_point, minus_is_negative, sum_cases, sum_on_curve, add_negative, negative_on_curve}
+use Rattle.warg_curve.proofs.OnCurve.{satisfies, x_below, y_below, minus_below, negative_at, negative_infinity, same_point}
+use Rattle.warg_curve.proofs.OnCurve.{minus_is_negative, sum_cases, sum_on_curve, add_negative, negative_on_curve}
 
 negated : (x y : ℕ) → IsOnCurve (at x y) → Same prime (minus 0 y + y) 0
 negated x y h = minus_more 0 y (y_below x y h)

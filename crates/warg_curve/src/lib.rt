@@ -1,7 +1,12 @@
 //! The curve P-256 and its group. Each function here does nothing: its contract is a law.
 #![tactic(auto)]
 
-ghost use Rattle.warg_curve.specs.Laws.{SumsStay, SumsCommute, SumsAssociate, HasInfinity, HasNegatives, DoublesAreSums, MultiplesAdd, MultiplesNest};
+ghost use Rattle.warg_curve.specs.Curve.{base};
+ghost use Rattle.warg_curve.specs.Group.{IsOnCurve};
+ghost use Rattle.warg_curve.specs.Laws.{SumsStay, SumsCommute, SumsAssociate};
+ghost use Rattle.warg_curve.specs.Laws.{HasInfinity, HasNegatives, DoublesAreSums};
+ghost use Rattle.warg_curve.specs.Laws.{MultiplesAdd, MultiplesNest};
+ghost use Rattle.warg_curve.specs.Laws.{BaseHasOrder, MultiplesOfBaseDiffer};
 
 /// The sum of two points of the curve is a point of the curve.
 pub fn sums_stay()
@@ -33,4 +38,12 @@ pub fn doubles_are_sums()
 pub fn multiples_add()
     ensures sums { MultiplesAdd }
     ensures products { MultiplesNest }
+{}
+
+/// The base point is on the curve. Its multiples are as many points as the order says: two are
+/// one point exactly where their numbers are one modulo the order.
+pub fn base_has_order()
+    ensures on_curve { IsOnCurve base }
+    ensures order { BaseHasOrder }
+    ensures multiples { MultiplesOfBaseDiffer }
 {}
