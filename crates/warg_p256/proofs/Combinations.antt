@@ -7,7 +7,9 @@ use Rattle.warg_curve.proofs.CurveFacts.{add_infinity, add_right}
 use Rattle.warg_curve.proofs.OnCurve.{add_on_curve, multiple_on_curve, base_on_curve}
 use Rattle.warg_curve.proofs.Opposites.{add_commutes}
 use Rattle.warg_curve.proofs.Associative.{add_associates}
-use Rattle.warg_curve.proofs.GroupMultiples.{multiple_zero, multiple_more, multiple_one, multiple_plus, multiple_product, multiple_double, multiple_sum}
+use Rattle.warg_curve.proofs.GroupMultiples.{multiple_zero, multiple_more, multiple_one, multiple_plus, multiple_product, multiple_double, multiple_sum, multiple_infinity, exchanged}
+use Rattle.warg_modular.specs.declared.words.Words.{Words}
+use Rattle.warg_modular.specs.Value.{value}
 use Rattle.warg_p256.specs.declared.point.Jacobian.{Jacobian}
 use Rattle.warg_p256.specs.Rows.{Stands, AreMultiples}
 
@@ -125,7 +127,7 @@ partial_on_curve a q k l i ha hq =
     add_on_curve _ _ (multiple_on_curve _ a ha) (add_on_curve _ _ (multiple_on_curve _ base base_on_curve) (multiple_on_curve _ q hq))
 
 -- a row of the table stands for its multiple
-pub row_stands : (q : Point) (n : ℕ) (js : List Jacobian) (i : ℕ) (d : Jacobian) → AreMultiples q n js → i < length js → Stands (slice_index_or js i d) (multiple (n + i) q)
+row_stands : (q : Point) (n : ℕ) (js : List Jacobian) (i : ℕ) (d : Jacobian) → AreMultiples q n js → i < length js → Stands (slice_index_or js i d) (multiple (n + i) q)
 row_stands q n [] i d t h = absurd (omega arith)
 row_stands q n (j ∷ js) zero d t h = subst (λ m. Stands j (multiple m q)) (let e : n ≡ n + 0 = omega arith in e) t.0
 row_stands q n (j ∷ js) (suc i) d t h = subst (λ m. Stands (slice_index_or js i d) (multiple m q)) (let e : suc n + i ≡ n + suc i = omega arith in e) (row_stands q (suc n) js i d t.1 (omega arith))
@@ -136,3 +138,33 @@ row_doubled q j r k h d s = subst (λ p. Stands r p) (sym (multiple_double k q h
 
 pub row_added : (q : Point) (j r : Jacobian) (k : ℕ) → ((a : Point) → Stands j a → Stands r (add a q)) → Stands j (multiple k q) → Stands r (multiple (suc k) q)
 row_added q j r k d s = subst (λ p. Stands r p) (sym (multiple_more k q)) (d (multiple k q) s)
+
+-- a word more of each number
+pub word_more : (q : Point) (n k l d e : ℕ) → IsOnCurve q →
+    add (multiple n (add (multiple k base) (multiple l q))) (add (multiple d base) (multiple e q)) ≡ add (multiple (n * k + d) base) (multiple (n * l + e) q)
+word_more q n k l d e hq =
+    let kb = multiple_on_curve k base base_on_curve in
+    let lq = multiple_on_curve l q hq in
+    let nk = multiple_on_curve n (multiple k base) kb in
+    let nl = multiple_on_curve n (multiple l q) lq in
+    let db = multiple_on_curve d base base_on_curve in
+    let eq = multiple_on_curve e q hq in
+    ap (λ p. add p (add (multiple d base) (multiple e q))) (multiple_sum n (multiple k base) (multiple l q) kb lq)
+    ∙ exchanged _ _ _ _ nk nl db eq
+    ∙ ap (λ p. add (add p (multiple d base)) (add (multiple n (multiple l q)) (multiple e q))) (sym (multiple_product n k base base_on_curve))
+    ∙ ap (λ p. add p (add (multiple n (multiple l q)) (multiple e q))) (sym (multiple_plus (n * k) d base base_on_curve))
+    ∙ ap (λ p. add (multiple (n * k + d) base) (add p (multiple e q))) (sym (multiple_product n l q hq))
+    ∙ ap (λ p. add (multiple (n * k + d) base) p) (sym (multiple_plus (n * l) e q hq))
+
+-- the first word of each number
+pub word_first : (q : Point) (n d e : ℕ) → add (multiple n infinity) (add (multiple d base) (multiple e q)) ≡ add (multiple d base) (multiple e q)
+word_first q n d e = ap (λ p. add p (add (multiple d base) (multiple e q))) (multiple_infinity n) ∙ add_infinity _
+
+-- a number by its words
+pub by_words : (w : Words) → 2 ^ 64 * (2 ^ 64 * (2 ^ 64 * w.l3 + w.l2) + w.l1) + w.l0 ≡ value w
+unfolding value
+by_words w = omega arith
+
+-- a row of a table that begins with no times
+pub row_is : (q : Point) (js : List Jacobian) (i : ℕ) (d : Jacobian) → AreMultiples q 0 js → i < length js → Stands (slice_index_or js i d) (multiple i q)
+row_is q js i d t h = subst (λ m. Stands (slice_index_or js i d) (multiple m q)) (let e : 0 + i ≡ i = omega arith in e) (row_stands q 0 js i d t h)
