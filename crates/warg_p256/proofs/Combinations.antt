@@ -1,4 +1,4 @@
-use Rattle.std.proofs.Common.{◌≡◌, ℕ, zero, suc, ◌+◌, ◌-◌, ◌*◌, ◌/◌, ◌%◌, ◌^◌, ◌<◌, ◌≤◌, ap, sym, ◌∙◌, refl, subst, List, [], ◌∷◌, length, slice_index_or, arith}
+use Rattle.std.proofs.Common.{◌≡◌, ℕ, zero, suc, ◌+◌, ◌-◌, ◌*◌, ◌/◌, ◌%◌, ◌^◌, ◌<◌, ◌≤◌, ap, sym, ◌∙◌, subst, List, [], ◌∷◌, length, slice_index_or, arith}
 use Rattle.std.proofs.lemmas.Nat.{shr-shr, pow-add}
 use Rattle.std.proofs.Math.Nat.{div-one, div-eq_of_lt, div-add-mod}
 use Rattle.warg_curve.specs.Curve.{Point, infinity, double, add, base}

@@ -9,8 +9,8 @@ ghost use Rattle.warg_curve.specs.Group.{IsOnCurve};
 ghost use Rattle.warg_p256.specs.Coordinates.{StandsFor};
 ghost use Rattle.warg_p256.specs.Ecdsa.{HasX, IsSignature, IsVerified};
 
-use crate::consts::{N, P_LESS_N};
 use crate::combination::combination;
+use crate::consts::{N, P_LESS_N};
 use crate::point::{Affine, Jacobian};
 use crate::{der, fp, scalar, sec1};
 use sha2::{Digest, Sha256};

@@ -1,7 +1,7 @@
 use Rattle.std.proofs.Common.{sym, subst, ap, ◌∙◌}
-use Rattle.warg_curve.specs.Curve.{Point, at, infinity, add, base}
-use Rattle.warg_curve.specs.Group.{IsOnCurve, multiple}
-use Rattle.warg_p256.specs.Rows.{Stands, AreMultiples}
+use Rattle.warg_curve.specs.Curve.{add, base}
+use Rattle.warg_curve.specs.Group.{multiple}
+use Rattle.warg_p256.specs.Rows.{Stands}
 use Rattle.warg_curve.proofs.CurveFacts.{add_right}
 use Rattle.warg_curve.proofs.GroupMultiples.{multiple_zero}
 use Rattle.warg_p256.proofs.combination.add_base.Goals as goal

@@ -1,7 +1,7 @@
-use Rattle.std.proofs.Common.{◌/◌, ◌%◌, subst}
-use Rattle.warg_curve.specs.Curve.{Point, at, infinity, add, base}
+use Rattle.std.proofs.Common.{◌/◌, subst}
+use Rattle.warg_curve.specs.Curve.{Point, add}
 use Rattle.warg_curve.specs.Group.{IsOnCurve, multiple}
-use Rattle.warg_p256.specs.Rows.{Stands, AreMultiples}
+use Rattle.warg_p256.specs.Rows.{Stands}
 use Rattle.warg_curve.proofs.OnCurve.{add_on_curve, multiple_on_curve}
 use Rattle.warg_p256.proofs.Combinations.{two_digits}
 use Rattle.warg_p256.proofs.combination.add_digit.Goals as goal

@@ -1,7 +1,7 @@
 use Rattle.std.proofs.Common.{subst, arith}
-use Rattle.warg_curve.specs.Curve.{Point, at, infinity, add, base}
-use Rattle.warg_curve.specs.Group.{IsOnCurve, multiple}
-use Rattle.warg_p256.specs.Rows.{Stands, AreMultiples}
+use Rattle.warg_curve.specs.Curve.{Point}
+use Rattle.warg_curve.specs.Group.{IsOnCurve}
+use Rattle.warg_p256.specs.Rows.{Stands}
 use Rattle.warg_p256.proofs.Combinations.{partial_sum, partial_first, partial_more, partial_last, partial_on_curve}
 use Rattle.warg_p256.proofs.combination.add_word.Goals as goal
 

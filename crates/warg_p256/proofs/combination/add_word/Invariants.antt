@@ -1,5 +1,5 @@
-use Rattle.warg_curve.specs.Curve.{Point, at, infinity, add, base}
-use Rattle.warg_curve.specs.Group.{IsOnCurve, multiple}
+use Rattle.warg_curve.specs.Curve.{Point}
+use Rattle.warg_curve.specs.Group.{IsOnCurve}
 use Rattle.warg_p256.specs.Rows.{Stands, AreMultiples}
 use Rattle.warg_p256.proofs.Combinations.{partial_sum}
 use Rattle.warg_p256.proofs.combination.add_word.Given as goal

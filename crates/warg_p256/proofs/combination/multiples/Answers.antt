@@ -1,7 +1,7 @@
 use Rattle.std.proofs.Common.{sym, subst}
-use Rattle.warg_curve.specs.Curve.{Point, at, infinity, add, base}
+use Rattle.warg_curve.specs.Curve.{Point, at}
 use Rattle.warg_curve.specs.Group.{IsOnCurve, multiple}
-use Rattle.warg_p256.specs.Rows.{Stands, AreMultiples}
+use Rattle.warg_p256.specs.Rows.{Stands}
 use Rattle.warg_p256.specs.Elements.{number}
 use Rattle.warg_curve.proofs.GroupMultiples.{multiple_zero, multiple_one}
 use Rattle.warg_p256.proofs.Combinations.{row_doubled, row_added}
