@@ -1,7 +1,7 @@
 // Numbers below 2 ^ 256 in four words, the lowest first.
 #![tactic(auto, unfolding(crate::specs::Value::value))]
 
-ghost use Rattle.std.specs.Prelude.{◌≡◌, ℕ, ◌+◌, ◌*◌, ◌/◌, ◌%◌, ◌^◌, ◌<◌, ◌↔◌, IsTrue};
+ghost use Rattle.std.specs.Prelude.{◌≡◌, ℕ, ◌+◌, ◌*◌, ◌/◌, ◌%◌, ◌^◌, ◌<◌, ◌↔◌, IsTrue, IsFalse};
 ghost use Rattle.std.specs.Int.{from_bool};
 ghost use Rattle.warg_modular.specs.Value.{value, big_endian};
 
@@ -13,30 +13,62 @@ pub struct Words {
     pub l3: u64,
 }
 
+// The sum of two words and a carry: its low word, and the carry. As a product with 1 it becomes
+// the processor's own addition with carry.
+#[inline(always)]
+pub fn add_with_carry(a: u64, b: u64, carry: u64) -> (u64, u64)
+    ensures { result.0 + result.1 * 2 ^ 64 ≡ a + b + carry }
+{
+    a.carrying_mul_add(1, carry, b)
+}
+
 // The sum, and whether it passed 2 ^ 256.
 #[inline(always)]
 pub fn add(a: Words, b: Words) -> (Words, bool)
     ensures total { value result.0 + from_bool result.1 * 2 ^ 256 ≡ value a + value b }
     ensures below { value result.0 < 2 ^ 256 }
 {
-    let (l0, c0) = a.l0.carrying_add(b.l0, false);
-    let (l1, c1) = a.l1.carrying_add(b.l1, c0);
-    let (l2, c2) = a.l2.carrying_add(b.l2, c1);
-    let (l3, c3) = a.l3.carrying_add(b.l3, c2);
-    (Words { l0, l1, l2, l3 }, c3)
+    let (l0, c) = add_with_carry(a.l0, b.l0, 0);
+    let (l1, c) = add_with_carry(a.l1, b.l1, c);
+    let (l2, c) = add_with_carry(a.l2, b.l2, c);
+    let (l3, c) = add_with_carry(a.l3, b.l3, c);
+    (Words { l0, l1, l2, l3 }, c != 0)
 }
 
-// The difference, and whether it fell below 0.
+// The difference, and whether it fell below 0: a and the complement of b are added, and 1.
 #[inline(always)]
 pub fn sub(a: Words, b: Words) -> (Words, bool)
     ensures total { value result.0 + value b ≡ value a + from_bool result.1 * 2 ^ 256 }
     ensures below { (value result.0 < 2 ^ 256) × (value a < 2 ^ 256) × (value b < 2 ^ 256) }
 {
-    let (l0, c0) = a.l0.borrowing_sub(b.l0, false);
-    let (l1, c1) = a.l1.borrowing_sub(b.l1, c0);
-    let (l2, c2) = a.l2.borrowing_sub(b.l2, c1);
-    let (l3, c3) = a.l3.borrowing_sub(b.l3, c2);
-    (Words { l0, l1, l2, l3 }, c3)
+    let (l0, c) = add_with_carry(a.l0, !b.l0, 1);
+    let (l1, c) = add_with_carry(a.l1, !b.l1, c);
+    let (l2, c) = add_with_carry(a.l2, !b.l2, c);
+    let (l3, c) = add_with_carry(a.l3, !b.l3, c);
+    (Words { l0, l1, l2, l3 }, c == 0)
+}
+
+// The first where `choice` is true, and else the second, by a move and not by a branch.
+#[inline(always)]
+fn select_word(choice: bool, a: u64, b: u64) -> u64
+    ensures first { IsTrue choice → result ≡ a }
+    ensures second { IsFalse choice → result ≡ b }
+{
+    if choice { a } else { b }
+}
+
+// The same of numbers, word by word.
+#[inline(always)]
+pub fn select(choice: bool, a: Words, b: Words) -> Words
+    ensures first { IsTrue choice → result ≡ a }
+    ensures second { IsFalse choice → result ≡ b }
+{
+    Words {
+        l0: select_word(choice, a.l0, b.l0),
+        l1: select_word(choice, a.l1, b.l1),
+        l2: select_word(choice, a.l2, b.l2),
+        l3: select_word(choice, a.l3, b.l3),
+    }
 }
 
 #[inline(always)]

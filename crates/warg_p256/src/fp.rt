@@ -56,7 +56,9 @@ pub fn mul(a: Element, b: Element) -> Element
 pub fn square(a: Element) -> Element
     ensures { number result.words ≡ times (number a.words) (number a.words) }
 {
-    mul(a, a)
+    Element {
+        words: montgomery::square(a.words, P, INV_P),
+    }
 }
 
 #[inline(always)]

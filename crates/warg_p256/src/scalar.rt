@@ -31,6 +31,14 @@ pub fn mul(a: Words, b: Scalar) -> Scalar
     }
 }
 
+pub fn square(a: Scalar) -> Scalar
+    ensures { scalar result.words ≡ (scalar a.words * scalar a.words) % order }
+{
+    Scalar {
+        words: montgomery::square(a.words, N, INV_N),
+    }
+}
+
 pub fn to_form(a: Words) -> Scalar
     ensures { scalar result.words ≡ value a % order }
 {
@@ -43,7 +51,7 @@ pub fn inverse(a: Scalar) -> Scalar
 {
     let mut r = one();
     for i in (0..256u32).rev() {
-        r = mul(r.words, r);
+        r = square(r);
         if bit(N_LESS_2, i) {
             r = mul(r.words, a);
         }

@@ -1,16 +1,9 @@
-use Rattle.std.proofs.Common.{◌≡◌, ◌+◌, ◌%◌, ap, ◌∙◌, arith}
-use Rattle.std.proofs.Math.Nat.{mod-eq_of_lt}
+use Rattle.std.proofs.Common.{ap}
 use Rattle.warg_modular.specs.Value.{value}
-use Rattle.warg_modular.proofs.Rounds.{mod_once, from_bool_le, from_true, from_false}
+use Rattle.warg_modular.proofs.Rounds.{difference_same}
 use Rattle.warg_modular.proofs.montgomery.difference.Goals as goal
 
-pub returns-then-borrow-clause-below : goal.returns-then-borrow-clause-below
-returns-then-borrow-clause-below c = omega (arith, from_true _ c.if-borrow.true, from_bool_le c.add.result.1)
-
-pub returns-then-borrow-clause-difference : goal.returns-then-borrow-clause-difference
-returns-then-borrow-clause-difference c = mod_once _ _ _ (omega (arith, from_true _ c.if-borrow.true, from_bool_le c.add.result.1)) (omega arith)
-
-pub returns-else-borrow-clause-difference : goal.returns-else-borrow-clause-difference
-returns-else-borrow-clause-difference c =
-    let e : value c.sub-borrow.result.0 + value c.args.b ≡ value c.args.a = omega (arith, from_false _ c.if-borrow.false) in
-    ap (λ v. v % value c.args.p) e ∙ mod-eq_of_lt (omega arith)
+pub returns-clause-difference : goal.returns-clause-difference
+returns-clause-difference c =
+    difference_same c.sub-borrow.result.1 c.add.result.1 _ _ _ _ _ _ c.requires.0 c.requires.1 c.add.ensures.below c.sub-borrow.ensures.total c.add.ensures.total
+    (λ h. ap value (c.select.ensures.first h)) (λ h. ap value (c.select.ensures.second h))

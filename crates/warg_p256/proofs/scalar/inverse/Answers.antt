@@ -8,12 +8,12 @@ loop-i-init c = power_start order _ _ _ 256 c.one-r.ensures order_bits
 
 pub loop-i-preserved : goal.loop-i-preserved
 loop-i-preserved c =
-    power_even order _ _ _ (order - 2) c.loop-i.i c.loop-i.invariant c.mul-r.ensures.form (omega arith)
+    power_even order _ _ _ (order - 2) c.loop-i.i c.loop-i.invariant c.square-r.ensures (omega arith)
     (subst (λ v. (v / 2 ^ (c.loop-i.i - 1)) % 2 ≢ 1) less_two_is (not_set _ _ c.bit.ensures c.if-bit.false))
 
 pub loop-i-preserved-then-bit : goal.loop-i-preserved-then-bit
 loop-i-preserved-then-bit c =
-    power_odd order _ _ _ _ (order - 2) c.loop-i.i c.loop-i.invariant c.mul-r.ensures.form c.mul-r-then-bit.ensures.form (omega arith)
+    power_odd order _ _ _ _ (order - 2) c.loop-i.i c.loop-i.invariant c.square-r.ensures c.mul-r.ensures.form (omega arith)
     (subst (λ v. (v / 2 ^ (c.loop-i.i - 1)) % 2 ≡ 1) less_two_is (c.bit.ensures.0 c.if-bit.true))
 
 pub returns : goal.returns
