@@ -11,10 +11,10 @@ use Rattle.warg_curve.specs.Field.{prime, times}
 use Rattle.warg_curve.specs.Order.{order}
 use Rattle.warg_curve.specs.Curve.{Point, infinity, at, add, base}
 use Rattle.warg_curve.specs.Group.{IsOnCurve, right_side_of, multiple}
-use Rattle.warg_p256.specs.Sec1.{IsWhole, IsCompressed, number_at}
+use Rattle.warg_p256.specs.Sec1.{IsWhole, IsCompressed, IsKey, number_at}
 use Rattle.warg_p256.specs.Der.{IsInteger, IsDer, integer}
 use Rattle.warg_p256.specs.Ecdsa.{HasX, IsSignature, IsVerified}
-use Rattle.warg_p256.specs.Verified.{any_below, is_whole, is_compressed, is_integer, first_contents, second_contents, is_der, has_x, is_signature, is_verified}
+use Rattle.warg_p256.specs.Verified.{any_below, is_whole, is_compressed, is_key, is_integer, first_contents, second_contents, is_der, has_x, is_signature, is_verified}
 
 -- both, of three
 and3 : {P Q R : Type 0} (a b c : Bool) → Decides a P → Decides b Q → Decides c R → Decides (a && (b && c)) (P × (Q × R))
@@ -56,6 +56,14 @@ key_to bytes x y k = elim k [
   | inl g ↦ (g.on_curve.0, g.on_curve.1, inl (g.length_is, (g.tag_is, (g.x_is, (g.y_is, g.on_curve.2)))))
   | inr g ↦ (g.on_curve.0, g.on_curve.1, inr (g.length_is, (g.tag_is, (g.x_is, g.on_curve.2))))
 ]
+
+-- `is_key` is true exactly where `IsKey` holds
+pub is_key_decides : (bytes : List ℕ) (x y : ℕ) → x < prime → y < prime → Decides (is_key bytes x y) (IsKey bytes x y)
+is_key_decides bytes x y hx hy = Decides-like _ (key_from bytes x y hx hy) (λ k. (key_to bytes x y k).2) (key_decides bytes x y)
+
+-- a key is a point of the curve
+pub key_on_curve : (bytes : List ℕ) (x y : ℕ) → IsKey bytes x y → IsOnCurve (at x y)
+key_on_curve bytes x y k = elim k [ inl g ↦ g.on_curve | inr g ↦ g.on_curve ]
 
 integer_decides : (bytes : List ℕ) (n : ℕ) → Decides (is_integer bytes n)
     ((0 < length bytes) × ((length bytes ≤ 33) × (((length bytes < 33) ⊎ (slice_index bytes 0 ≡ 0)) × ((slice_index bytes 0 < 128)

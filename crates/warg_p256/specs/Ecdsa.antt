@@ -1,7 +1,7 @@
-use Rattle.std.specs.Prelude.{◌≡◌, ℕ, ◌*◌, ◌%◌, ◌^◌, ◌<◌, ◌⊎◌, List}
+use Rattle.std.specs.Prelude.{◌≡◌, ℕ, ◌*◌, ◌%◌, ◌^◌, ◌<◌, List}
 use Rattle.sha2.specs.Sha256.{sha256}
 use Rattle.warg_modular.specs.Value.{big_endian}
-use Rattle.warg_p256.specs.Sec1.{IsWhole, IsCompressed}
+use Rattle.warg_p256.specs.Sec1.{IsKey}
 use Rattle.warg_p256.specs.Der.{IsDer}
 use Rattle.warg_curve.specs.Order.{order}
 use Rattle.warg_curve.specs.Curve.{Point, infinity, at, add, base}
@@ -29,6 +29,6 @@ pub record IsVerified (key message signature : List ℕ) : Type 0 where
   pub y : ℕ
   pub r : ℕ
   pub s : ℕ
-  pub key_is : IsWhole key x y ⊎ IsCompressed key x y
+  pub key_is : IsKey key x y
   pub der_is : IsDer signature r s
   pub signature_is : IsSignature (at x y) (big_endian (sha256 message) % 2 ^ 256) r s

@@ -1,5 +1,5 @@
 -- The public keys of SEC 1, 2.3.3 and 2.3.4: points as bytes.
-use Rattle.std.specs.Prelude.{◌≡◌, ℕ, ◌+◌, ◌%◌, ◌^◌, List, length, slice_index, slice_range}
+use Rattle.std.specs.Prelude.{◌≡◌, ℕ, ◌+◌, ◌%◌, ◌^◌, ◌⊎◌, List, length, slice_index, slice_range}
 use Rattle.warg_modular.specs.Value.{big_endian}
 use Rattle.warg_curve.specs.Curve.{at}
 use Rattle.warg_curve.specs.Group.{IsOnCurve}
@@ -22,3 +22,7 @@ pub record IsCompressed (bytes : List ℕ) (x y : ℕ) : Type 0 where
   pub tag_is : slice_index bytes 0 ≡ 2 + y % 2
   pub x_is : number_at bytes 1 ≡ x
   pub on_curve : IsOnCurve (at x y)
+
+-- the bytes are a key: the point whole or compressed
+abbrev pub IsKey : List ℕ → ℕ → ℕ → Type 0
+IsKey bytes x y = IsWhole bytes x y ⊎ IsCompressed bytes x y

@@ -26,6 +26,10 @@ abbrev pub is_compressed : List ℕ → ℕ → ℕ → Bool
 is_compressed bytes x y =
     length bytes == 33 && (slice_index bytes 0 == 2 + y % 2 && (number_at bytes 1 == x && times y y == right_side_of x))
 
+-- `IsKey`
+abbrev pub is_key : List ℕ → ℕ → ℕ → Bool
+is_key bytes x y = is_whole bytes x y || is_compressed bytes x y
+
 -- `IsInteger`
 abbrev pub is_integer : List ℕ → ℕ → Bool
 is_integer bytes n =
@@ -61,5 +65,5 @@ is_signature q e r s =
 -- `IsVerified`, as one answer
 unfoldable pub is_verified : List ℕ → List ℕ → List ℕ → Bool
 is_verified key message signature =
-    any_below prime (λ x. any_below prime (λ y. (is_whole key x y || is_compressed key x y)
+    any_below prime (λ x. any_below prime (λ y. is_key key x y
     && any_below order (λ r. any_below order (λ s. is_der signature r s && is_signature (at x y) (big_endian (sha256 message) % 2 ^ 256) r s))))

@@ -6,6 +6,7 @@ mod combination;
 mod consts;
 mod der;
 mod fp;
+mod known_keys;
 pub mod laws;
 mod point;
 mod scalar;
@@ -13,5 +14,6 @@ mod sec1;
 mod signature;
 mod verifier;
 
+pub use known_keys::KnownKeys;
 pub use signature::verify;
 pub use verifier::{ALGORITHM, P256Verifier};

@@ -1,6 +1,6 @@
 // Whether a signature is one of a message by a key.
 
-ghost use Rattle.std.specs.Prelude.{◌≡◌, ℕ, ◌<◌, ◌↔◌, IsTrue, IfSome};
+ghost use Rattle.std.specs.Prelude.{ℕ, ◌<◌, ◌↔◌, IsTrue, List};
 ghost use Rattle.warg_modular.specs.Value.{value};
 ghost use Rattle.warg_p256.specs.Elements.{number};
 ghost use Rattle.warg_curve.specs.Order.{order};
@@ -8,6 +8,7 @@ ghost use Rattle.warg_curve.specs.Curve.{Point, at};
 ghost use Rattle.warg_curve.specs.Group.{IsOnCurve};
 ghost use Rattle.warg_p256.specs.Coordinates.{StandsFor};
 ghost use Rattle.warg_p256.specs.Ecdsa.{HasX, IsSignature, IsVerified};
+ghost use Rattle.warg_p256.specs.Sec1.{IsKey};
 
 use crate::combination::combination;
 use crate::consts::{N, P_LESS_N};
@@ -66,9 +67,18 @@ fn accepts(q: Affine, e: Words, r: Words, s: Words) -> bool
 pub fn verify(key: &[u8], message: &[u8], signature: &[u8]) -> bool
     ensures { IsTrue result ↔ IsVerified key.now message.now signature.now }
 {
-    let Some(q) = sec1::parse(key) else {
-        return false;
-    };
+    match sec1::parse(key) {
+        Some(q) => verify_by(q, message, signature),
+        None => false,
+    }
+}
+
+/// The same by a key that was read.
+pub(crate) fn verify_by(q: Affine, message: &[u8], signature: &[u8]) -> bool
+    requires { IsOnCurve (at (number q.x.words) (number q.y.words)) }
+    ensures { (key : List ℕ) → IsKey key (number q.x.words) (number q.y.words) →
+        (IsTrue result ↔ IsVerified key message.now signature.now) }
+{
     let Some(pair) = der::parse(signature) else {
         return false;
     };
