@@ -139,6 +139,7 @@ factors_below p m0 m1 m2 m3 h0 h1 h2 h3 =
     let e : m * p ≤ 2 ^ 256 * p = mul-le-mul_right p (omega arith) in
     omega arith
 
+-- the number, by its words
 pub value_is : (w : Words) → value w ≡ w.l0 + w.l1 * 2 ^ 64 + w.l2 * 2 ^ 128 + w.l3 * 2 ^ 192
 unfolding value
 value_is w = refl
@@ -151,6 +152,7 @@ low_word low rest t p m h e z = split low rest t.l0 (t.l1 + t.l2 * 2 ^ 64 + t.l3
     split : (low rest t0 th m p0 ph : ℕ) → low < 2 ^ 64 → low + rest * 2 ^ 64 ≡ (t0 + th * 2 ^ 64) + m * (p0 + ph * 2 ^ 64) → (m * p0 + t0) % 2 ^ 64 ≡ 0 → low ≡ 0
     split low rest t0 th m p0 ph h e z = omega arith
 
+-- without the lowest word, where it is 0
 pub low_gone : (low rest s : ℕ) → low ≡ 0 → low + rest * 2 ^ 64 ≡ s → rest * 2 ^ 64 ≡ s
 low_gone low rest s z e = omega arith
 
@@ -196,9 +198,11 @@ difference_same false carry a b p d more r ha hb hm e f g h =
     let total : r + b ≡ a = omega (arith, e, one) in
     ap (λ v. v % p) total ∙ mod-eq_of_lt ha
 
+-- what is left after four rounds, with the high words, is below twice the modulus
 pub sum_below : (x r p t k : ℕ) → x ≡ r → r * 2 ^ 256 ≡ t + k → t < p * 2 ^ 256 → k ≤ p * 2 ^ 256 → x < 2 * p
 sum_below x r p t k e f h l = omega arith
 
+-- eight words, by their halves
 pub wide_is : (t : Wide) → wide t ≡ value t.low + value t.high * 2 ^ 256
 unfolding wide
 wide_is t = refl

@@ -2,6 +2,7 @@ use Rattle.std.proofs.Common.{◌≡◌, ◌≢◌, ℕ, ◌+◌, ◌-◌, ◌*�
 use Rattle.std.proofs.lemmas.Nat.{mul-mod_second, pow-add, shr-shr}
 use Rattle.std.proofs.Math.Nat.{mod-eq_of_lt, mod-lt, div-one, pow-suc, pow-zero}
 use Rattle.warg_primes.proofs.Congruent.{Same, same, same_of, same_mod, then, both_times}
+use Rattle.warg_primes.proofs.Powers.{same_pow, pow_times}
 use Rattle.warg_modular.proofs.Rounds.{same_scaled}
 use Rattle.warg_p256.proofs.Field.{strip, times_of}
 use Rattle.warg_modular.specs.Value.{value}
@@ -69,17 +70,35 @@ power_odd n r d f a e i s h g pos bit =
     first : (a m : ℕ) → a ^ m * a ≡ a ^ (m + 1)
     first a m = sym (pow-add a m 1 ∙ ap (λ v. a ^ m * v) (pow-suc a 0 ∙ ap (λ v. v * a) (pow-zero a) ∙ (let e : 1 * a ≡ a = omega arith in e)))
 
+-- bits above the highest make the exponent 0
 pub power_start : (n r a e i : ℕ) → r ≡ 1 → e / 2 ^ i ≡ 0 → Same n r (a ^ (e / 2 ^ i))
 power_start n r a e i h z = same_of _ _ (h ∙ sym (ap (λ v. a ^ v) z ∙ pow-zero a))
+
+-- the exponent 1
+pub power_one : (a : ℕ) → a ^ 1 ≡ a
+power_one a = pow-suc a 0 ∙ ap (λ v. v * a) (pow-zero a) ∙ (let e : 1 * a ≡ a = omega arith in e)
+
+-- one squaring more
+pub power_squared : (n r d a i : ℕ) → Same n r (a ^ (2 ^ i)) → d ≡ (r * r) % n → Same n d (a ^ (2 ^ (i + 1)))
+power_squared n r d a i s h =
+    let twice : 2 ^ i + 2 ^ i ≡ 2 ^ (i + 1) = (let e : 2 ^ i + 2 ^ i ≡ 2 ^ i * 2 = omega arith in e) ∙ sym (pow-add 2 i 1) in
+    then (same_mod n d (r * r) h) (then (both_times s s) (same_of _ _ (sym (pow-add a (2 ^ i) (2 ^ i)) ∙ ap (λ v. a ^ v) twice)))
+
+-- the exponents of u ^ m * v
+pub power_joined : (n u v t a i j m : ℕ) → Same n u (a ^ i) → Same n v (a ^ j) → t ≡ (u ^ m * v) % n → Same n t (a ^ (i * m + j))
+power_joined n u v t a i j m s r h =
+    let whole : (a ^ i) ^ m * a ^ j ≡ a ^ (i * m + j) = ap (λ w. w * a ^ j) (sym (pow_times a i m)) ∙ sym (pow-add a (i * m) j) in
+    then (same_mod n t (u ^ m * v) h) (then (both_times (same_pow n u (a ^ i) s m) r) (same_of _ _ whole))
 
 pub power_end : (n r a e i : ℕ) → r < n → i ≤ 0 → Same n r (a ^ (e / 2 ^ i)) → r ≡ (a ^ e) % n
 power_end n r a e i l h s =
     let z : i ≡ 0 = omega arith in
     sym (mod-eq_of_lt l) ∙ s.is ∙ ap (λ v. (a ^ (e / 2 ^ v)) % n) z ∙ ap (λ v. (a ^ v) % n) (div-one e)
 
-pub order_bits : (order - 2) / 2 ^ 256 ≡ 0
+-- the upper half of the exponent
+pub upper_bits : (order - 2) / 2 ^ 128 ≡ 0xffffffff00000000ffffffffffffffff
 unfolding order
-order_bits = refl
+upper_bits = refl
 
 pub scalar_below : (w : Words) → scalar w < order
 unfolding scalar

@@ -45,12 +45,35 @@ pub fn to_form(a: Words) -> Scalar
     mul(a, Scalar { words: R2_N })
 }
 
+// a ^ (2 ^ k) * b, by k squarings.
+fn raised(a: Scalar, k: u32, b: Scalar) -> Scalar
+    ensures { scalar result.words ≡ (scalar a.words ^ (2 ^ k) * scalar b.words) % order }
+{
+    let mut r = a;
+    for _ in 0..k {
+        r = square(r);
+    }
+    mul(r.words, b)
+}
+
+// The power with the upper half of N - 2, which is 32 ones, 32 zeros and 64 ones.
+fn upper_power(a: Scalar) -> Scalar
+    ensures { scalar result.words ≡ (scalar a.words ^ 0xffffffff00000000ffffffffffffffff) % order }
+{
+    let ones2 = raised(a, 1, a);
+    let ones4 = raised(ones2, 2, ones2);
+    let ones8 = raised(ones4, 4, ones4);
+    let ones16 = raised(ones8, 8, ones8);
+    let ones32 = raised(ones16, 16, ones16);
+    raised(raised(ones32, 64, ones32), 32, ones32)
+}
+
 // The inverse of a number in Montgomery's form, in that form, by Fermat's little theorem.
 pub fn inverse(a: Scalar) -> Scalar
     ensures { scalar result.words ≡ (scalar a.words ^ (order - 2)) % order }
 {
-    let mut r = one();
-    for i in (0..256u32).rev() {
+    let mut r = upper_power(a);
+    for i in (0..128u32).rev() {
         r = square(r);
         if bit(N_LESS_2, i) {
             r = mul(r.words, a);

@@ -1,10 +1,15 @@
-use Rattle.std.proofs.Common.{◌≡◌, ◌≢◌, ◌-◌, ◌/◌, ◌%◌, ◌^◌, subst, arith}
+use Rattle.std.proofs.Common.{◌≡◌, ◌≢◌, ℕ, ◌-◌, ◌/◌, ◌%◌, ◌^◌, sym, subst, arith}
+use Rattle.warg_primes.proofs.Congruent.{Same, same_mod}
 use Rattle.warg_curve.specs.Order.{order}
-use Rattle.warg_p256.proofs.Scalars.{power_start, power_even, power_odd, power_end, order_bits, less_two_is, scalar_below, not_set}
+use Rattle.warg_p256.specs.Scalars.{scalar}
+use Rattle.warg_p256.proofs.Scalars.{power_even, power_odd, power_end, upper_bits, less_two_is, scalar_below, not_set}
 use Rattle.warg_p256.proofs.scalar.inverse.Goals as goal
 
 pub loop-i-init : goal.loop-i-init
-loop-i-init c = power_start order _ _ _ 256 c.one-r.ensures order_bits
+loop-i-init c =
+    let r : ℕ = scalar c.upper_power-r.result.words in
+    let a : ℕ = scalar c.args.a.words in
+    subst (λ v. Same order r (a ^ v)) (sym upper_bits) (same_mod order r (a ^ 0xffffffff00000000ffffffffffffffff) c.upper_power-r.ensures)
 
 pub loop-i-preserved : goal.loop-i-preserved
 loop-i-preserved c =
