@@ -1,7 +1,8 @@
-use Rattle.std.proofs.Common.{◌≡◌, ℕ, zero, suc, ◌+◌, ◌-◌, ◌*◌, ◌/◌, ◌%◌, ◌^◌, ◌<◌, ◌≤◌, ap, sym, ◌∙◌, subst, List, [], ◌∷◌, length, slice_index_or, arith}
+use Rattle.std.proofs.Common.{◌≡◌, ℕ, zero, suc, ◌+◌, ◌-◌, ◌*◌, ◌/◌, ◌%◌, ◌^◌, ◌<◌, ◌≤◌, ap, sym, ◌∙◌, refl, subst, List, [], ◌∷◌, length, slice_index_or, arith}
 use Rattle.std.proofs.lemmas.Nat.{shr-shr, pow-add}
 use Rattle.std.proofs.Math.Nat.{div-one, div-eq_of_lt, div-add-mod}
-use Rattle.warg_curve.specs.Curve.{Point, infinity, double, add, base}
+use Rattle.warg_curve.specs.Curve.{Point, infinity, at, double, add, base}
+use Rattle.warg_p256.specs.Elements.{number}
 use Rattle.warg_curve.specs.Group.{IsOnCurve, multiple}
 use Rattle.warg_curve.proofs.CurveFacts.{add_infinity, add_right}
 use Rattle.warg_curve.proofs.OnCurve.{add_on_curve, multiple_on_curve, base_on_curve}
@@ -20,6 +21,14 @@ sixteen_is a h =
     let d2 : double (double a) ≡ multiple 4 a = ap double d1 ∙ sym (multiple_double 2 a h) in
     let d3 : double (double (double a)) ≡ multiple 8 a = ap double d2 ∙ sym (multiple_double 4 a h) in
     ap double d3 ∙ sym (multiple_double 8 a h)
+
+-- only infinity has no third coordinate
+pub only_infinity : (j : Jacobian) (a : Point) → number j.z.words ≡ 0 → Stands j a → a ≡ infinity
+only_infinity j infinity e s = refl
+only_infinity j (at x y) e s = absurd (s.0 e)
+
+pub sixteen_flat : (j : Jacobian) (a : Point) → number j.z.words ≡ 0 → Stands j a → Stands j (multiple 16 a)
+sixteen_flat j a e s = subst (λ p. Stands j p) (only_infinity j a e s ∙ sym (ap (λ p. multiple 16 p) (only_infinity j a e s) ∙ multiple_infinity 16)) s
 
 -- two digits of four bits are one of eight
 pub two_digits : (a q : Point) (n : ℕ) → IsOnCurve a → IsOnCurve q →

@@ -8,6 +8,7 @@ ghost use Rattle.warg_p256.specs.Elements.{number};
 ghost use Rattle.warg_p256.specs.Rows.{Stands, AreMultiples};
 
 use crate::base_table::base_multiple;
+use crate::fp::is_nought;
 use crate::point::{Affine, Jacobian, add_affine, add_jacobian, double, from_affine, infinity};
 use warg_modular::words::Words;
 
@@ -55,6 +56,9 @@ fn multiples(q: Affine) -> [Jacobian; 16]
 fn sixteen_times(p: Jacobian) -> Jacobian
     ensures { (a : Point) → IsOnCurve a → Stands p a → Stands result (multiple 16 a) }
 {
+    if is_nought(p.z) {
+        return p;
+    }
     double(double(double(double(p))))
 }
 
