@@ -11,7 +11,6 @@ use Rattle.warg_protocol.specs.Json.{in_text, text_of}
 use Rattle.warg_protocol.specs.Logs.{SignatureRelation}
 use Rattle.warg_protocol.specs.Operator as operators
 use Rattle.warg_protocol.specs.Package as packages
-use Rattle.warg_protocol.specs.Records.{toy_belongs}
 use Rattle.warg_audit.specs.Answers.{IsIdAnswer}
 use Rattle.warg_audit.specs.LogTypes.{operator_log, package_log}
 use Rattle.warg_log_type.specs.declared.LogType.{LogType}
@@ -35,6 +34,7 @@ use Rattle.warg_files.specs.Unusable.{IfUsable, IsOfLines, IsOfWord}
 use Rattle.warg_files.specs.Answers.{IsUnusable}
 use Rattle.warg_tasks.specs.Audits.{IsAuditOf}
 use Rattle.warg_answers.specs.Verdicts.{IsPrintedOf}
+use Rattle.warg_tool.specs.Schemes.{known_belongs}
 use Rattle.warg_words.specs.declared.request.Invocation.{Invocation}
 use Rattle.warg_words.specs.declared.request.Question.{Question}
 use Rattle.warg_words.specs.declared.request.Request.{Request}
@@ -140,9 +140,9 @@ pub record AreClaimsIn (files : Option Files) (path : List ℕ) (claims : List C
   pub held : Reads files path bytes
   pub said : IsReadFrom (lines bytes) claims
 
--- P of what tells which signatures belong: the toy scheme, or the claims that a file lists; Unread, if that can't be used
+-- P of what tells which signatures belong: the known schemes, or the claims that a file lists; Unread, if that can't be used
 abbrev pub IsUnder : Option Files → Option (Bor (List ℕ)) → Type 0 → (SignatureRelation → Type 0) → Type 0
-IsUnder files None Unread P = P toy_belongs
+IsUnder files None Unread P = P known_belongs
 IsUnder files (Some path) Unread P = Unread ⊎ ((claims : List ClaimData) × AreClaimsIn files path.now claims × P (is_claimed claims))
 
 -- what is answered to an invocation, by what files hold before and after

@@ -2,10 +2,12 @@
 #![tactic(auto)]
 
 mod commands;
+mod schemes;
 mod verified;
 mod words;
 
 pub use commands::respond;
+pub use schemes::KnownSchemes;
 pub use verified::invocation_answer;
 pub use warg_audit::LogType;
 pub use warg_files::answer::Answer;

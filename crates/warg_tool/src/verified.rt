@@ -1,4 +1,4 @@
-//! The verifier of a request: the toy scheme, or what a file says was verified.
+//! The verifier of a request: the known schemes, or what a file says was verified.
 
 ghost use Rattle.std.specs.Prelude.{◌≡◌, IfOk, IfErr};
 ghost use Rattle.std.specs.Str.Lines.{lines};
@@ -7,12 +7,12 @@ ghost use Rattle.warg_files.specs.Answers.{answer_view, IfStopped, IsUnusable};
 ghost use Rattle.warg_tool.specs.Requests.{AreClaimsIn, InvocationLeaves, IsGivenAs, IsInvocationAnswer};
 
 use crate::commands::{given, respond};
+use crate::schemes::KnownSchemes;
 use std::alloc::{AllocError, Global};
 use std::str;
 use warg_files::answer::Answer;
 use warg_files::input::{Input, Store, file_stop, line_sentence, read_input};
 use warg_files::stop::{Stop, unusable};
-use warg_protocol::toy::ToyVerifier;
 use warg_verified::{ClaimParseError, Verified, VerifiedParseError};
 use warg_words::Invocation;
 
@@ -94,7 +94,7 @@ pub fn invocation_answer<S: Store>(
     ensures files { InvocationLeaves (S.files store.old) (S.files store.new) invocation.now }
 {
     match invocation.verified {
-        None => respond(alloc, &ToyVerifier, invocation, store),
+        None => respond(alloc, &KnownSchemes, invocation, store),
         Some(path) => match read_verified(alloc, path, store) {
             Ok(verified) => respond(alloc, &verified, invocation, store),
             Err(stop) => given_end(alloc, invocation, stop),

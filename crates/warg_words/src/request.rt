@@ -119,7 +119,7 @@ pub struct Invocation<'a> {
     pub request: Request<'a>,
     /// Whether the answer is printed as JSON, a line an object.
     pub json: bool,
-    /// The file of the signatures that were verified; none for the toy scheme.
+    /// The file of the signatures that were verified; none where the program verifies them.
     pub verified: Option<&'a str>,
 }
 

@@ -65,7 +65,7 @@ fn verified<'a>(alloc: Global) -> Arg<'a> {
     Arg::new(alloc, "verified")
         .long("verified")
         .value_name("FILE")
-        .help("Takes the signatures that this file lists, in place of the toy scheme's")
+        .help("Takes the signatures that this file lists, and no others")
 }
 
 fn command_of<'a>(alloc: Global, row: &Row, options: Options) -> Result<Command<'a>, AllocError> {
