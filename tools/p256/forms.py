@@ -5,11 +5,14 @@
 The reader here says nothing of the numbers of a signature but that they are written so: that they are between 0 and
 the order, and that they belong to a message, is arithmetic, and other programs say it."""
 
+import functools
+
 from p256.curve import PRIME, Point, is_on_curve, lifted
 
 INTEGER, SEQUENCE = 0x02, 0x30
 
 
+@functools.lru_cache(maxsize=4096)
 def point_of(key: bytes) -> Point | None:
     """The point that a key writes, compressed or not; none where it writes none that is a key."""
     if len(key) == 33 and key[0] in (2, 3):

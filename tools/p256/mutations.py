@@ -98,8 +98,10 @@ class Cases:
 
     def __init__(self, some: random.Random) -> None:
         self.some = some
-        self.signers = [some_signer(some) for _ in range(32)]
-        self.nonces = [(it, point_of_secret(it).x % ORDER) for it in (some.randrange(1, ORDER) for _ in range(64))]
+        self.signers = [some_signer(some) for _ in range(16)]
+        nonces = [some.randrange(1, ORDER) for _ in range(32)]
+        # The inverse of each nonce, and the number r.
+        self.nonces = [(inverse(it), point_of_secret(it).x % ORDER) for it in nonces]
         self.changes: list[Callable[[Case], Case]] = [
             lambda it: it._replace(signature=changed_bytes(some, it.signature)),
             lambda it: it._replace(signature=changed_numbers(some, it.signature)),
@@ -130,8 +132,8 @@ class Cases:
         """A signature that is right."""
         some, signer = self.some, self.some.choice(self.signers)
         message = some.randbytes(some.choice([0, 1, 2, 3, 5, 8, 31, 32, 33, 55, 56, 63, 64, 65, 119, 120, 128, 200]))
-        nonce, r = some.choice(self.nonces)
-        s = (hash_of(message) + r * signer.secret) * inverse(nonce) % ORDER
+        inverted, r = some.choice(self.nonces)
+        s = (hash_of(message) + r * signer.secret) * inverted % ORDER
         return Case(some.choice([signer.compressed, signer.uncompressed]), message, signature_of(r, s))
 
     def any(self) -> Case:

@@ -74,7 +74,8 @@ def is_verified(case: Case) -> bool:
     return key is not None
 
 
-def _side_by_side(one: Callable[[Case], bool], cases: Sequence[Case]) -> list[bool]:
+def side_by_side(one: Callable[[Case], bool], cases: Sequence[Case]) -> list[bool]:
+    """What a verifier says of each case, with as many at once as there are processors."""
     with ThreadPoolExecutor(os.cpu_count()) as workers:
         return list(workers.map(one, cases))
 
@@ -142,7 +143,7 @@ CRYPTOGRAPHY = Program(
 OPENSSL = Program(
     "openssl",
     lambda tasks: [_signed_by_openssl(it) for it in tasks],
-    lambda cases: _side_by_side(is_verified_by_openssl, cases),
+    lambda cases: side_by_side(is_verified_by_openssl, cases),
 )
 JAVA = _of_lines("java", ["java", HERE / "Answers.java"], _java_key)
 GO = _of_lines("go", ["go", "run", HERE / "answers.go"], lambda key: key)
