@@ -53,7 +53,7 @@ PRODUCTS = {
 BUILT = PRODUCTS["warg_audit"].built()["warg_audit"]
 
 
-def words_of(doc):
+def words_of(doc: str | None) -> argparse.ArgumentParser:
     """A parser of a tool's words, whose help is the tool's docstring."""
     return argparse.ArgumentParser(description=doc, formatter_class=argparse.RawDescriptionHelpFormatter)
 

@@ -1,13 +1,18 @@
-"""How keys and signatures of ECDSA P-256 are written, by the standards alone: a key is a point of SEC 1, 2.3.3 and 2.3.4, and no hybrid one;
-a signature is the DER (X.690) of an ECDSA-Sig-Value, SEQUENCE { r INTEGER, s INTEGER } (RFC 3279, 2.2.3).
+"""How keys and signatures of ECDSA P-256 are written, by the standards alone: a key is a point of SEC 1, 2.3.3 and
+2.3.4, and no hybrid one; a signature is the DER (X.690) of an ECDSA-Sig-Value, SEQUENCE { r INTEGER, s INTEGER } (RFC
+3279, 2.2.3).
 
-The reader here says nothing of the numbers of a signature but that they are written so: that they are between 0 and the order, and that they
-belong to a message, is arithmetic, and other programs say it."""
+The reader here says nothing of the numbers of a signature but that they are written so: that they are between 0 and
+the order, and that they belong to a message, is arithmetic, and other programs say it."""
+
+import functools
+
 from p256.curve import PRIME, Point, is_on_curve, lifted
 
 INTEGER, SEQUENCE = 0x02, 0x30
 
 
+@functools.lru_cache(maxsize=4096)
 def point_of(key: bytes) -> Point | None:
     """The point that a key writes, compressed or not; none where it writes none that is a key."""
     if len(key) == 33 and key[0] in (2, 3):
@@ -30,8 +35,8 @@ def uncompressed(point: Point) -> bytes:
 
 
 def _cut(data: bytes, tag: int) -> tuple[bytes, bytes] | None:
-    """The contents of the element that the bytes begin with, and the bytes behind it; none where it has another tag, or another length
-    than the shortest definite one (X.690, 8.1.3 and 10.1)."""
+    """The contents of the element that the bytes begin with, and the bytes behind it; none where it has another tag, or
+    another length than the shortest definite one (X.690, 8.1.3 and 10.1)."""
     if len(data) < 2 or data[0] != tag:
         return None
     length, start = data[1], 2
@@ -45,7 +50,8 @@ def _cut(data: bytes, tag: int) -> tuple[bytes, bytes] | None:
 
 
 def _number(contents: bytes) -> int | None:
-    """The number of an INTEGER, in two's complement; none where a byte is missing, or where the first one could be left out (X.690, 8.3.2)."""
+    """The number of an INTEGER, in two's complement; none where a byte is missing, or where the first one could be left
+    out (X.690, 8.3.2)."""
     if not contents or (len(contents) > 1 and contents[0] == (255 if contents[1] > 127 else 0)):
         return None
     return int.from_bytes(contents, "big", signed=True)

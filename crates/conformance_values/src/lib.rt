@@ -73,6 +73,7 @@ fn of_registry(alloc: Global, topic: &str, words: Words<'_>) -> Result<Option<An
         "toy-key" => signing::toy_key(alloc, words),
         "toy-sign" => signing::toy_sign(alloc, words),
         "toy-verify" => signing::toy_verify(alloc, words),
+        "p256-verify" => signing::p256_verify(alloc, words),
         "sign-checkpoint" => signing::sign_checkpoint(alloc, words),
         "verify-checkpoint" => signing::verify_checkpoint(alloc, words),
         "checkpoint-prefix" => signing::checkpoint_prefix(alloc, words),

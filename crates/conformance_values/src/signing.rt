@@ -1,4 +1,4 @@
-//! Signatures by the toy scheme, whose signers are told by the bytes of their keys' names.
+//! Signatures by the toy scheme, whose signers are told by the bytes of their keys' names, and those of ECDSA P-256.
 
 use crate::worded::{Worded, answer_of, ok_or_fault};
 use conformance_rows::{Answer, Fail, Words};
@@ -73,4 +73,15 @@ pub(crate) fn verify_checkpoint(alloc: Global, words: Words<'_>) -> Result<Answe
 pub(crate) fn checkpoint_prefix(alloc: Global, words: Words<'_>) -> Result<Answer, Fail> {
     words.end()?;
     Answer::value(alloc, &TimestampedCheckpoint::PREFIX)
+}
+
+/// `p256-verify KEY MESSAGE SIGNATURE`: whether the bytes of the signature belong to the message under the bytes of the
+/// key, by ECDSA P-256 with SHA-256.
+pub(crate) fn p256_verify(alloc: Global, mut words: Words<'_>) -> Result<Answer, Fail> {
+    let key = words.next_bytes(alloc)?;
+    let message = words.next_bytes(alloc)?;
+    let signature = words.next_bytes(alloc)?;
+    words.end()?;
+    let belongs = warg_p256::verify(key.as_slice(), message.as_slice(), signature.as_slice());
+    Answer::value(alloc, &if belongs { "yes" } else { "no" })
 }
