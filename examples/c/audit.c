@@ -33,7 +33,7 @@ int main(int argc, char **argv) {
     while (status == WARG_OK && bytes_read_hex(&envelope, stdin)) {
         if (!envelope.len)
             bytes_add_text(&envelope, "");
-        status = append(&log, &envelope, p256_verify, &text);
+        status = append(&log, &envelope, &text);
         place += status == WARG_OK;
     }
     int ended = 1;

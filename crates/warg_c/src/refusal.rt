@@ -12,8 +12,8 @@ use std::fmt;
 use warg_envelope::ParseEnvelopeError;
 use warg_validator::{Named, RunCause, Validator};
 
-// What kind of failure a cause is.
-fn failure_of<L: Validator>(cause: &RunCause<L::Error>) -> Failure
+/// What kind of failure a cause is.
+pub(crate) fn failure_of<L: Validator>(cause: &RunCause<L::Error>) -> Failure
     ensures failure { result ≡ failure_by (cause_named_by (envelope_fault_of L.Record.fault_of)
         L.offence_of cause.now) }
     ensures other { result ≢ TooSmall }
