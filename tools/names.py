@@ -15,7 +15,7 @@ CONSTRUCTORS = {"zero", "suc", "pos", "negsuc", "[]", "∷", "◌∷◌", "true"
 
 
 def is_number(word: str) -> bool:
-    return bool(re.match(r"[0-9][0-9_]*$", word))
+    return bool(re.match(r"(0x[0-9a-f]+|[0-9][0-9_]*)$", word))
 
 
 def is_mark(word: str) -> bool:

@@ -1,6 +1,6 @@
-//! Keys whose points are read once.
+//! The verifier that reads the point of a key once.
 
-ghost use Rattle.std.specs.Prelude.{◌≡◌, ◌≤◌, ◌⊎◌, ◌++◌, ◌∷◌, [], length, Err, IfErr, IfOk, IfSome, OnErr, OnOk, false, true};
+ghost use Rattle.std.specs.Prelude.{◌≡◌, Err, IfErr, IfOk, IfSome, false, true};
 ghost use Rattle.warg_crypto.specs.declared.signing.error.SignatureError.TheVariants.{Refused};
 ghost use Rattle.warg_p256.specs.Elements.{number};
 ghost use Rattle.warg_p256.specs.Scheme.{p256_belongs};
@@ -8,10 +8,10 @@ ghost use Rattle.warg_p256.specs.Verified.{is_key, is_verified};
 
 use crate::point::Affine;
 use crate::sec1;
-use crate::signature::{verify, verify_by};
+use crate::signature::verify_by;
 use crate::verifier::ALGORITHM;
 use std::alloc::{AllocError, Global};
-use std::marker::Model;
+use std::cell::RefCell;
 use warg_crypto::signing::{PublicKey, Signature, SignatureError, Verifier};
 
 /// How many keys are kept.
@@ -25,29 +25,20 @@ struct KnownKey {
     ghost is_read: { is_key bytes.items (number point.x.words) (number point.y.words) ≡ true },
 }
 
-/// Verifies as [`P256Verifier`](crate::P256Verifier) does, and reads the points of some keys once: those that it was told to keep, 32 at most. So
-/// tell it the keys of a log, and not those of strangers.
+/// Verifies as [`P256Verifier`](crate::P256Verifier) does, and keeps the points of the keys to which a signature belonged, 32 at most: so a log's keys
+/// are read once, and what strangers send without a signature of such a key is not kept. Where there is no memory to keep one, it is read again.
 #[derive(Drop)]
 pub struct KnownKeys {
-    keys: Vec<KnownKey>,
-}
-
-impl Model for KnownKeys {
-    ghost use Rattle.std.specs.Prelude.{List, ℕ, map};
-
-    // The bytes of the keys, in the order in which they came.
-    ghost Value = { List (List ℕ) };
-
-    ghost view = { λ k. map (λ key. key.bytes.items) k.keys.items };
+    alloc: Global,
+    keys: RefCell<Vec<KnownKey>>,
 }
 
 impl KnownKeys {
-    /// No keys.
-    pub fn new(alloc: Global) -> KnownKeys
-        ensures { result ≡ [] }
-    {
+    /// A verifier that knows no key yet.
+    pub fn new(alloc: Global) -> KnownKeys {
         KnownKeys {
-            keys: Vec::new(alloc),
+            alloc,
+            keys: RefCell::new(Vec::new(alloc)),
         }
     }
 
@@ -55,29 +46,38 @@ impl KnownKeys {
     fn point_of(&self, bytes: &[u8]) -> Option<Affine>
         ensures { IfSome result (λ p. is_key bytes.now (number p.x.words) (number p.y.words) ≡ true) }
     {
-        for key in &self.keys {
-            if key.bytes.as_slice() == bytes {
-                return Some(key.point);
-            }
-        }
-        None
+        let Ok(keys) = self.keys.try_borrow() else {
+            return None;
+        };
+        find(keys.as_slice(), bytes)
     }
 
-    /// Keeps a key, if its bytes are one, it is not kept yet, and there is room.
-    pub fn keep(&mut self, alloc: Global, key: &PublicKey) -> Result<(), AllocError>
-        ensures kept { OnOk result ((self.new ≡ self.old) ⊎ (self.new ≡ self.old ++ key.now.bytes ∷ [])) }
-        ensures bounded { length self.old ≤ 32 → length self.new ≤ 32 }
-        ensures unchanged { OnErr result (self.new ≡ self.old) }
+    // Keeps a key, if there is room.
+    fn keep(&self, bytes: &[u8], point: Affine) -> Result<(), AllocError>
+        requires { is_key bytes.now (number point.x.words) (number point.y.words) ≡ true }
     {
-        if self.keys.len() >= MOST_KEYS || self.point_of(key.bytes()).is_some() {
-            return Ok(());
-        }
-        let Some(point) = sec1::parse(key.bytes()) else {
+        let Ok(mut keys) = self.keys.try_borrow_mut() else {
             return Ok(());
         };
-        let bytes = Vec::from_slice(alloc, key.bytes())?;
-        self.keys.push(KnownKey { bytes, point })?;
+        if keys.len() < MOST_KEYS {
+            let bytes = Vec::from_slice(self.alloc, bytes)?;
+            keys.push(KnownKey { bytes, point })?;
+        }
         Ok(())
+    }
+
+    // Whether the signature is one of the message by a key that is not kept.
+    fn are_verified_anew(&self, key: &[u8], message: &[u8], signature: &[u8]) -> bool
+        ensures { result ≡ is_verified key.now message.now signature.now }
+    {
+        let Some(point) = sec1::parse(key) else {
+            return false;
+        };
+        if !verify_by(point, message, signature) {
+            return false;
+        }
+        let _ = self.keep(key, point);
+        true
     }
 
     // Whether the signature is one of the message by the key.
@@ -86,15 +86,27 @@ impl KnownKeys {
     {
         match self.point_of(key) {
             Some(point) => verify_by(point, message, signature),
-            None => verify(key, message, signature),
+            None => self.are_verified_anew(key, message, signature),
         }
     }
+}
+
+// The point of a key among those that are kept.
+fn find(keys: &[KnownKey], bytes: &[u8]) -> Option<Affine>
+    ensures { IfSome result (λ p. is_key bytes.now (number p.x.words) (number p.y.words) ≡ true) }
+{
+    for key in keys {
+        if key.bytes.as_slice() == bytes {
+            return Some(key.point);
+        }
+    }
+    None
 }
 
 impl Verifier for KnownKeys {
     ghost belongs = { λ _ key message signature. p256_belongs key message signature };
 
-    /// `Ok` exactly where the signature belongs to the message under the key, else `Refused`: it takes no memory.
+    /// `Ok` exactly where the signature belongs to the message under the key, else `Refused`.
     fn verify(
         &self,
         _alloc: Global,
@@ -105,7 +117,7 @@ impl Verifier for KnownKeys {
         ensures ok { IfOk result (λ _. p256_belongs key.now message.now signature.now ≡ true) }
         ensures refused { result ≡ Err Refused →
             p256_belongs key.now message.now signature.now ≡ false }
-        ensures no_memory { IfErr result (λ e. e ≡ Refused) }
+        ensures memory { IfErr result (λ e. e ≡ Refused) }
     {
         if key.algorithm() == ALGORITHM
             && signature.algorithm() == ALGORITHM

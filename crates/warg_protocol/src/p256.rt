@@ -8,7 +8,7 @@ ghost use Rattle.warg_p256.specs.Scheme.{p256_belongs};
 
 use std::alloc::Global;
 pub use warg_p256::laws;
-pub use warg_p256::{ALGORITHM, P256Verifier, verify};
+pub use warg_p256::{ALGORITHM, KnownKeys, P256Verifier, verify};
 use warg_validator::{RunError, Validator, run};
 
 /// Reads a whole log whose records are signed by `ecdsa-p256` keys. The result is its state, or the first string that is refused, as of
@@ -22,5 +22,5 @@ pub fn run_signed<L: Validator>(
         let strings = map vec_items inputs.now in
         IfStarted (IsRun L.kind p256_belongs read L.kind.view_of L.view named_by ◌≡◌ strings) result }
 {
-    run(alloc, &P256Verifier, inputs)
+    run(alloc, &KnownKeys::new(alloc), inputs)
 }

@@ -13,6 +13,3 @@ returns-in-Some c =
     let p = c.in-Some.point in
     let k = (is_key_decides c.args.key.now _ _ (number_below p.x.words) (number_below p.y.words)).0 c.in-Some.ensures in
     one_answer _ _ (c.verify_by.ensures c.args.key.now k) (is_verified_decides _ _ _)
-
-pub returns-in-None : goal.returns-in-None
-returns-in-None c = one_answer _ _ c.verify.ensures (is_verified_decides _ _ _)
