@@ -1,10 +1,5 @@
-<<<<<<< HEAD
-"""The curve P-256 in whole numbers (SEC 2, 2.4.2; FIPS 186-5): plain affine arithmetic, to make cases with and for nothing
-else. It is slow, and its time tells its numbers."""
-=======
 """The curve P-256 in whole numbers (SEC 2, 2.4.2; FIPS 186-5): plain affine arithmetic, to make cases with and for
 nothing else. It is slow, and its time tells its numbers."""
->>>>>>> daec2cf7e0822f2743ab98aa741e5608e1bae088
 from typing import NamedTuple
 
 PRIME = 2**256 - 2**224 + 2**192 + 2**96 - 1

@@ -8,11 +8,6 @@ from p256.forms import compressed, public_key_info, signature_of, uncompressed
 from p256.programs import Case
 from p256.signers import Group, Signer, inverse, point_of_secret, some_signer
 
-# Private keys whose points have an x, or a y, below 2^256 - p, so that 32 bytes write it a second time, with p more.
-# They were searched for.
-SMALL_X: list[int] = []
-SMALL_Y: list[int] = []
-
 # Other hashes than the one of SHA-256.
 HASHES: dict[str, Callable[[bytes], bytes]] = {
     "cut at its first byte": lambda it: hashlib.sha256(it).digest()[1:],
@@ -150,32 +145,6 @@ def coordinates(some: random.Random) -> Iterator[Group]:
     yield Group("There is no point with this x", [case(tag, it) for it in without for tag in (2, 3)])
 
 
-def small_coordinates(some: random.Random) -> Iterator[Group]:
-    """A coordinate that is written with the prime added to it, under which the signature would be right."""
-    cases = []
-    for secret in [*SMALL_X, *SMALL_Y]:
-        signer, message = Signer(secret), some.randbytes(2)
-        signature = signer.sign(message, some.randrange(1, ORDER))
-        x, y = signer.point
-        keys = [signer.compressed, signer.uncompressed]
-        if x < 2**256 - PRIME:
-            keys += [
-                signer.compressed[:1] + (x + PRIME).to_bytes(32, "big"),
-                bytes([5 - signer.compressed[0]]) + (x + PRIME).to_bytes(32, "big"),
-            ]
-        keys += [
-            b"\x04" + a.to_bytes(32, "big") + b.to_bytes(32, "big")
-            for a in (x, x + PRIME)
-            for b in (y, y + PRIME)
-            if max(a, b) >= PRIME and max(a, b) < 2**256
-        ]
-        cases += [Case(it, message, signature) for it in keys]
-    if cases:
-        yield Group(
-            "A key whose x or y is small: itself, and with the prime added to that number, which is no key", cases
-        )
-
-
 def other_keys(some: random.Random) -> Iterator[Group]:
     """Another key, and another message."""
     signers = [some_signer(some) for _ in range(10)]
@@ -234,7 +203,6 @@ def groups(some: random.Random) -> Iterator[Group]:
     yield from forms(some)
     yield truncations(some)
     yield from coordinates(some)
-    yield from small_coordinates(some)
     yield from other_keys(some)
     yield other_hashes(some)
     yield from bits(some)

@@ -4,8 +4,9 @@ use crate::worded::{Worded, answer_of, ok_or_fault};
 use conformance_rows::{Answer, Fail, Words};
 use std::alloc::Global;
 use warg_crypto::Signable;
-use warg_crypto::signing::{PublicKey, Signature, Signer, Verifier};
+use warg_crypto::signing::{PublicKey, Signature, Signer, Verifier, is_algorithm_name};
 use warg_crypto::toy::{ToySigner, ToyVerifier};
+use warg_p256::{ALGORITHM, KnownKeys, P256Verifier};
 use warg_registry::TimestampedCheckpoint;
 
 // The signer whose key has the bytes of the next word.
@@ -75,6 +76,20 @@ pub(crate) fn checkpoint_prefix(alloc: Global, words: Words<'_>) -> Result<Answe
     Answer::value(alloc, &TimestampedCheckpoint::PREFIX)
 }
 
+// Whether the verifier of keys' and signatures' texts takes the signature, also where it has read the key before.
+fn verifiers_take(
+    alloc: Global,
+    key: &PublicKey,
+    message: &[u8],
+    signature: &Signature,
+) -> Result<(bool, bool), Fail> {
+    let mut known = KnownKeys::new(alloc);
+    known.keep(alloc, key)?;
+    let by_text = P256Verifier.verify(alloc, key, message, signature).is_ok();
+    let by_known = known.verify(alloc, key, message, signature).is_ok();
+    Ok((by_text, by_known))
+}
+
 /// `p256-verify KEY MESSAGE SIGNATURE`: whether the bytes of the signature belong to the message under the bytes of the
 /// key, by ECDSA P-256 with SHA-256.
 pub(crate) fn p256_verify(alloc: Global, mut words: Words<'_>) -> Result<Answer, Fail> {
@@ -83,5 +98,13 @@ pub(crate) fn p256_verify(alloc: Global, mut words: Words<'_>) -> Result<Answer,
     let signature = words.next_bytes(alloc)?;
     words.end()?;
     let belongs = warg_p256::verify(key.as_slice(), message.as_slice(), signature.as_slice());
+    if !is_algorithm_name(ALGORITHM) {
+        return Err(Fail::new("the scheme has no name"));
+    }
+    let key = PublicKey::new(String::from_str(alloc, ALGORITHM)?, key);
+    let signature = Signature::new(String::from_str(alloc, ALGORITHM)?, signature);
+    if verifiers_take(alloc, &key, message.as_slice(), &signature)? != (belongs, belongs) {
+        return Err(Fail::new("the verifiers differ"));
+    }
     Answer::value(alloc, &if belongs { "yes" } else { "no" })
 }
