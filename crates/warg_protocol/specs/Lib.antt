@@ -3,6 +3,7 @@
 pub mod Records
 pub mod Logs
 pub mod History
+pub mod P256
 pub mod Package
 pub mod Operator
 pub mod ReleaseStates
