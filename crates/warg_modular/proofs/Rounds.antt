@@ -1,5 +1,6 @@
-use Rattle.std.proofs.Common.{◌≡◌, ℕ, suc, zero, ◌+◌, ◌*◌, ◌%◌, ◌/◌, ◌<◌, ◌≤◌, ◌^◌, ap, sym, ◌∙◌, refl, Bool, true, false, arith}
+use Rattle.std.proofs.Common.{◌≡◌, ℕ, inl, inr, suc, zero, ◌+◌, ◌*◌, ◌%◌, ◌/◌, ◌<◌, ◌≤◌, ◌^◌, ap, sym, ◌∙◌, refl, Bool, true, false, arith}
 use Rattle.std.specs.Int.{from_bool}
+use Rattle.std.proofs.lemmas.Bool.{cases_eq}
 use Rattle.std.proofs.lemmas.Nat.{mul-mod_first}
 use Rattle.warg_modular.specs.Value.{value, wide}
 use Rattle.warg_modular.specs.declared.words.Words.{Words}
@@ -212,3 +213,25 @@ pub product_below : (a b p t : ℕ) → a < 2 ^ 256 → b < p → t ≡ a * b �
 product_below a b p t ha hb e =
     let ab : a * b ≤ 2 ^ 256 * b = mul-le-mul_right b (omega arith) in
     omega arith
+
+-- a bit times a number, word by word
+pub bit_times : (b l0 l1 l2 l3 : ℕ) → l0 * b + l1 * b * 2 ^ 64 + l2 * b * 2 ^ 128 + l3 * b * 2 ^ 192 ≡ b * (l0 + l1 * 2 ^ 64 + l2 * 2 ^ 128 + l3 * 2 ^ 192)
+bit_times b l0 l1 l2 l3 = omega arith
+
+-- whether a number is odd, its lowest word says
+pub lowest_bit : (w : Words) → value w % 2 ≡ w.l0 % 2
+unfolding value
+lowest_bit w = omega arith
+
+-- half of an even number, or of an odd one and p
+pub halved_same : (a p b t r : ℕ) → a < p → p % 2 ≡ 1 → a % 2 ≡ b → t ≡ a + b * p → r ≡ t / 2 → (r * 2) % p ≡ a
+halved_same a p b t r h o e f g = elim (cases_eq b 0) [
+  | inl z ↦
+      let none : b * p ≡ 0 * p = ap (λ v. v * p) z in
+      let twice : r * 2 ≡ a = omega (arith, none) in
+      ap (λ v. v % p) twice ∙ mod-eq_of_lt h
+  | inr n ↦
+      let one : b ≡ 1 = omega arith in
+      let once : b * p ≡ 1 * p = ap (λ v. v * p) one in
+      mod_once (r * 2) p a (omega (arith, once)) h
+]

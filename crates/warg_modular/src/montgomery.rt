@@ -1,10 +1,10 @@
 // Products modulo an odd number, by Montgomery's method.
 
-ghost use Rattle.std.specs.Prelude.{◌≡◌, ℕ, ◌+◌, ◌*◌, ◌%◌, ◌^◌, ◌<◌};
+ghost use Rattle.std.specs.Prelude.{◌≡◌, ℕ, ◌+◌, ◌*◌, ◌%◌, ◌^◌, ◌<◌, ◌≤◌};
 ghost use Rattle.std.specs.Int.{from_bool};
 ghost use Rattle.warg_modular.specs.Value.{value, wide, squares, IsRound};
 
-use crate::words::{Words, add, add_with_carry, select, sub};
+use crate::words::{Words, add, add_with_carry, half, select, sub};
 
 // A number in eight words, the low four first.
 #[derive(Clone, Copy)]
@@ -179,4 +179,30 @@ pub fn difference(a: Words, b: Words, p: Words) -> Words
     let (d, borrow) = sub(a, b);
     let (more, _) = add(d, p);
     select(borrow, more, d)
+}
+
+// p where the bit is 1, and 0 where it is 0.
+#[inline(always)]
+fn times_bit(p: Words, bit: u64) -> Words
+    requires { bit ≤ 1 }
+    ensures { value result ≡ bit * value p }
+{
+    Words {
+        l0: p.l0 * bit,
+        l1: p.l1 * bit,
+        l2: p.l2 * bit,
+        l3: p.l3 * bit,
+    }
+}
+
+// a / 2 modulo p.
+#[inline(always)]
+pub fn halved(a: Words, p: Words) -> Words
+    requires odd { p.l0 % 2 ≡ 1 }
+    requires below { value a < value p }
+    ensures below { value result < value p }
+    ensures half { (value result * 2) % value p ≡ value a }
+{
+    let (t, top) = add(a, times_bit(p, a.l0 % 2));
+    half(t, top)
 }

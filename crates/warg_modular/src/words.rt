@@ -153,3 +153,32 @@ fn shifted_in(a: Words, b: u8) -> Words
     let (l3, _) = a.l3.carrying_mul_add(256, c2, 0);
     Words { l0, l1, l2, l3 }
 }
+
+// Half of a word, with the lowest bit of the word above it.
+#[inline(always)]
+fn half_word(low: u64, above: u64) -> u64
+    ensures { result ≡ low / 2 + above % 2 * 2 ^ 63 }
+{
+    low / 2 + above % 2 * 0x8000_0000_0000_0000
+}
+
+// Half of a number with a bit above it, rounded down.
+#[inline(always)]
+pub fn half(a: Words, top: bool) -> Words
+    ensures { value result ≡ (value a + from_bool top * 2 ^ 256) / 2 }
+{
+    Words {
+        l0: half_word(a.l0, a.l1),
+        l1: half_word(a.l1, a.l2),
+        l2: half_word(a.l2, a.l3),
+        l3: half_word(a.l3, top as u64),
+    }
+}
+
+// Whether the number is even.
+#[inline(always)]
+pub fn is_even(a: Words) -> bool
+    ensures { IsTrue result ↔ (value a % 2 ≡ 0) }
+{
+    a.l0 % 2 == 0
+}

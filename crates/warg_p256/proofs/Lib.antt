@@ -13,3 +13,4 @@ pub mod DerFacts
 pub mod Verified
 pub mod Tests
 pub mod BaseTable
+pub mod Inverting

@@ -18,7 +18,7 @@ use Rattle.warg_p256.specs.Ecdsa.{HasX, IsSignature}
 use Rattle.warg_curve.proofs.CurveFacts.{whole, times_below, one_number, zero_factor}
 use Rattle.warg_curve.proofs.Inverses.{has_inverses}
 
-order_is_prime : IsPrime order
+pub order_is_prime : IsPrime order
 unfolding order
 order_is_prime = order_256
 

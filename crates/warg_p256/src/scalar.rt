@@ -1,25 +1,18 @@
 // The numbers modulo the order of the base point, in Montgomery's form.
 
-ghost use Rattle.std.specs.Prelude.{◌≡◌, ℕ, ◌-◌, ◌*◌, ◌%◌, ◌^◌, ◌<◌};
+ghost use Rattle.std.specs.Prelude.{◌≡◌, ℕ, ◌+◌, ◌-◌, ◌*◌, ◌%◌, ◌^◌, ◌<◌};
 ghost use Rattle.warg_modular.specs.Value.{value};
 ghost use Rattle.warg_curve.specs.Order.{order};
 ghost use Rattle.warg_p256.specs.Scalars.{scalar};
 
-use crate::consts::{INV_N, N, N_LESS_2, ONE_N, R2_N};
+use crate::consts::{INV_N, N, R2_N, ZERO};
 use warg_modular::montgomery;
-use warg_modular::words::{Words, bit};
+use warg_modular::words::{Words, half, is_even, is_less, is_zero, sub};
 
 #[derive(Clone, Copy)]
 pub struct Scalar {
     pub words: Words,
     ghost reduced: { value words < order },
-}
-
-#[inline(always)]
-pub fn one() -> Scalar
-    ensures { scalar result.words ≡ 1 }
-{
-    Scalar { words: ONE_N }
 }
 
 pub fn mul(a: Words, b: Scalar) -> Scalar
@@ -31,52 +24,72 @@ pub fn mul(a: Words, b: Scalar) -> Scalar
     }
 }
 
-pub fn square(a: Scalar) -> Scalar
-    ensures { scalar result.words ≡ (scalar a.words * scalar a.words) % order }
-{
-    Scalar {
-        words: montgomery::square(a.words, N, INV_N),
-    }
-}
-
 pub fn to_form(a: Words) -> Scalar
     ensures { scalar result.words ≡ value a % order }
 {
     mul(a, Scalar { words: R2_N })
 }
 
-// a ^ (2 ^ k) * b, by k squarings.
-fn raised(a: Scalar, k: u32, b: Scalar) -> Scalar
-    ensures { scalar result.words ≡ (scalar a.words ^ (2 ^ k) * scalar b.words) % order }
+#[inline(always)]
+fn zero() -> Scalar
+    ensures { scalar result.words ≡ 0 }
 {
-    let mut r = a;
-    for _ in 0..k {
-        r = square(r);
+    Scalar { words: ZERO }
+}
+
+// 2 ^ 256, in Montgomery's form.
+#[inline(always)]
+fn radix() -> Scalar
+    ensures { scalar result.words ≡ 2 ^ 256 % order }
+{
+    Scalar { words: R2_N }
+}
+
+#[inline(always)]
+fn difference(a: Scalar, b: Scalar) -> Scalar
+    ensures { (scalar result.words + scalar b.words) % order ≡ scalar a.words }
+{
+    Scalar {
+        words: montgomery::difference(a.words, b.words, N),
     }
-    mul(r.words, b)
 }
 
-// The power with the upper half of N - 2, which is 32 ones, 32 zeros and 64 ones.
-fn upper_power(a: Scalar) -> Scalar
-    ensures { scalar result.words ≡ (scalar a.words ^ 0xffffffff00000000ffffffffffffffff) % order }
+#[inline(always)]
+fn halved(a: Scalar) -> Scalar
+    ensures { (scalar result.words * 2) % order ≡ scalar a.words }
 {
-    let ones2 = raised(a, 1, a);
-    let ones4 = raised(ones2, 2, ones2);
-    let ones8 = raised(ones4, 4, ones4);
-    let ones16 = raised(ones8, 8, ones8);
-    let ones32 = raised(ones16, 16, ones16);
-    raised(raised(ones32, 64, ones32), 32, ones32)
+    Scalar {
+        words: montgomery::halved(a.words, N),
+    }
 }
 
-// The inverse of a number in Montgomery's form, in that form, by Fermat's little theorem.
+// The inverse of a number in Montgomery's form, in that form, and 0 for 0: by Euclid's algorithm in
+// halves, where s * a stays u and r * a stays v.
 pub fn inverse(a: Scalar) -> Scalar
     ensures { scalar result.words ≡ (scalar a.words ^ (order - 2)) % order }
 {
-    let mut r = upper_power(a);
-    for i in (0..128u32).rev() {
-        r = square(r);
-        if bit(N_LESS_2, i) {
-            r = mul(r.words, a);
+    if is_zero(a.words) {
+        return a;
+    }
+    let mut u = a.words;
+    let mut v = N;
+    let mut s = radix();
+    let mut r = zero();
+    while !is_zero(u) {
+        if is_even(u) {
+            u = half(u, false);
+            s = halved(s);
+        } else if is_less(u, v) {
+            let (rest, _) = sub(v, u);
+            let next = halved(difference(r, s));
+            v = u;
+            r = s;
+            u = half(rest, false);
+            s = next;
+        } else {
+            let (rest, _) = sub(u, v);
+            u = half(rest, false);
+            s = halved(difference(s, r));
         }
     }
     r

@@ -1,0 +1,14 @@
+use Rattle.std.proofs.Common.{◌<◌, sym, subst}
+use Rattle.warg_modular.specs.Value.{value}
+use Rattle.warg_p256.proofs.Field.{n_is}
+use Rattle.warg_p256.proofs.Scalars.{scalar_minus}
+use Rattle.warg_p256.proofs.scalar.difference.Goals as goal
+
+pub difference-requires : goal.difference-requires
+difference-requires c = (subst (λ q. value c.args.a.words < q) (sym n_is) c.args.a.reduced, subst (λ q. value c.args.b.words < q) (sym n_is) c.args.b.reduced)
+
+pub invariant_of-result : goal.invariant_of-result
+invariant_of-result c = record { reduced = subst (λ q. value c.difference.result < q) n_is c.difference.ensures.below }
+
+pub returns : goal.returns
+returns c = scalar_minus c.difference.result c.args.a.words c.args.b.words _ n_is c.difference.ensures.difference
