@@ -16,8 +16,8 @@ tangent_as inv x y hy ny =
     let n2 : times 2 y ≢ 0 = zero_factor inv 2 y two_below hy (omega arith) ny in
     then (quotient_times inv (minus (times 3 (times x x)) 3) (times 2 y) (2 * y) (whole (2 * y)) (times_below 2 y) n2) right
 
-doubled_prime : (X Y Z zz yy xyy lo hi product p2 m s2 s mm ss x3 yyyy y2 y4 y8 sx msx y3 yz z3 x y slope : ℕ) →
-    Steps prime X Y Z zz yy xyy lo hi product p2 m s2 s mm ss x3 yyyy y2 y4 y8 sx msx y3 yz z3 →
+doubled_prime : (X Y Z zz yy lo hi product p2 m yy2 yy4 s mm ss x3 t y8 sx msx y3 yz z3 x y slope : ℕ) →
+    Steps prime X Y Z zz yy lo hi product p2 m yy2 yy4 s mm ss x3 t y8 sx msx y3 yz z3 →
     Same prime X (x * (Z * Z)) →
     Same prime Y (y * (Z * (Z * Z))) →
     Same prime (slope * (2 * y)) (3 * (x * x) + low * 3) →
@@ -43,19 +43,19 @@ some_z d Y Z yz z3 y e f hy hZ ny nZ hY h =
     let e2 : 2 * times Y Z ≡ yz + yz = omega (arith, e) in
     two (ap (λ v. v % prime) e2 ∙ sym f ∙ h)
 
-pub stands_doubled : (X Y Z zz yy xyy lo hi product p2 m s2 s mm ss x3 yyyy y2 y4 y8 sx msx y3 yz z3 : ℕ) →
-    Steps prime X Y Z zz yy xyy lo hi product p2 m s2 s mm ss x3 yyyy y2 y4 y8 sx msx y3 yz z3 →
+pub stands_doubled : (X Y Z zz yy lo hi product p2 m yy2 yy4 s mm ss x3 t y8 sx msx y3 yz z3 : ℕ) →
+    Steps prime X Y Z zz yy lo hi product p2 m yy2 yy4 s mm ss x3 t y8 sx msx y3 yz z3 →
     Z < prime → HasInverses → (a : Point) → StandsFor X Y Z a → StandsFor x3 y3 z3 (double a)
-stands_doubled X Y Z zz yy xyy lo hi product p2 m s2 s mm ss x3 yyyy y2 y4 y8 sx msx y3 yz z3 k hZ inv infinity st =
+stands_doubled X Y Z zz yy lo hi product p2 m yy2 yy4 s mm ss x3 t y8 sx msx y3 yz z3 k hZ inv infinity st =
     subst (λ (r : Point). StandsFor x3 y3 z3 r) (sym double_infinity) (no_z Y Z yz z3 k.yz_is k.z3_is (ap (λ v. Y * v) st ∙ mul-zero Y))
-stands_doubled X Y Z zz yy xyy lo hi product p2 m s2 s mm ss x3 yyyy y2 y4 y8 sx msx y3 yz z3 k hZ inv (at x y) st =
+stands_doubled X Y Z zz yy lo hi product p2 m yy2 yy4 s mm ss x3 t y8 sx msx y3 yz z3 k hZ inv (at x y) st =
     elim (cases_eq y 0) [
       | inl h ↦
           let e : Y ≡ 0 = st.4 ∙ ap (λ v. times v (times Z (times Z Z))) h ∙ ap (λ v. v % prime) (zero-mul (times Z (times Z Z))) ∙ zero_mod in
           subst (λ (r : Point). StandsFor x3 y3 z3 r) (sym (double_flat x y h)) (no_z Y Z yz z3 k.yz_is k.z3_is (ap (λ v. v * Z) e ∙ zero-mul Z))
       | inr h ↦
           let slope : ℕ = tangent_slope x y in
-          let both = doubled_prime X Y Z zz yy xyy lo hi product p2 m s2 s mm ss x3 yyyy y2 y4 y8 sx msx y3 yz z3 x y slope k (stands_x X x Z st.3) (stands_y Y y Z st.4) (tangent_as inv x y st.2 h) in
+          let both = doubled_prime X Y Z zz yy lo hi product p2 m yy2 yy4 s mm ss x3 t y8 sx msx y3 yz z3 x y slope k (stands_x X x Z st.3) (stands_y Y y Z st.4) (tangent_as inv x y st.2 h) in
           subst (λ (r : Point). StandsFor x3 y3 z3 r) (sym (double_sloped x y h))
           (stands_third slope x y x x3 y3 z3 st.1 st.2 st.1 (reduced x3 _ k.x3_is) (reduced y3 _ k.y3_is) (some_z inv Y Z yz z3 y k.yz_is k.z3_is st.2 hZ h st.0 st.4) both.0 both.1)
     ]

@@ -137,8 +137,8 @@ euclid_end a b u v s r k z n h =
 positive : (b r : ℕ) → (b * r) % order ≡ 1 → 0 < b
 positive zero r e =
     let g : zero * r ≡ 0 = omega arith in
-    let none : 0 ≡ 1 = sym (ap (λ v. v % order) g ∙ mod-eq_of_lt order_pos) ∙ e in
-    absurd (omega arith)
+    let none : (zero * r) % order ≡ 0 = ap (λ v. v % order) g ∙ mod-eq_of_lt order_pos in
+    absurd (omega (arith, none, e))
 positive (suc b) r e = omega arith
 
 -- by Fermat's little theorem, and as there is but one inverse

@@ -48,16 +48,13 @@ pub(crate) fn double(p: Jacobian) -> Jacobian
 {
     let zz = square(p.z);
     let yy = square(p.y);
-    let xyy = mul(p.x, yy);
+    let yy2 = add(yy, yy);
     let product = mul(sub(p.x, zz), add(p.x, zz));
     let m = add(add(product, product), product);
-    let s2 = add(xyy, xyy);
-    let s = add(s2, s2);
+    let s = mul(p.x, add(yy2, yy2));
     let x = sub(square(m), add(s, s));
-    let yyyy = square(yy);
-    let y2 = add(yyyy, yyyy);
-    let y4 = add(y2, y2);
-    let y = sub(mul(m, sub(s, x)), add(y4, y4));
+    let t = square(yy2);
+    let y = sub(mul(m, sub(s, x)), add(t, t));
     let yz = mul(p.y, p.z);
     Jacobian {
         x,
