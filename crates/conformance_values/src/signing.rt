@@ -76,18 +76,19 @@ pub(crate) fn checkpoint_prefix(alloc: Global, words: Words<'_>) -> Result<Answe
     Answer::value(alloc, &TimestampedCheckpoint::PREFIX)
 }
 
-// Whether the verifier of keys' and signatures' texts takes the signature, also where it has read the key before.
+// Whether the verifier of keys' and signatures' texts takes the signature, and the one that keeps keys, twice: the second
+// time it may have read the key.
 fn verifiers_take(
     alloc: Global,
     key: &PublicKey,
     message: &[u8],
     signature: &Signature,
-) -> Result<(bool, bool), Fail> {
-    let mut known = KnownKeys::new(alloc);
-    known.keep(alloc, key)?;
+) -> (bool, bool, bool) {
+    let known = KnownKeys::new(alloc);
     let by_text = P256Verifier.verify(alloc, key, message, signature).is_ok();
-    let by_known = known.verify(alloc, key, message, signature).is_ok();
-    Ok((by_text, by_known))
+    let first = known.verify(alloc, key, message, signature).is_ok();
+    let again = known.verify(alloc, key, message, signature).is_ok();
+    (by_text, first, again)
 }
 
 /// `p256-verify KEY MESSAGE SIGNATURE`: whether the bytes of the signature belong to the message under the bytes of the
@@ -103,7 +104,8 @@ pub(crate) fn p256_verify(alloc: Global, mut words: Words<'_>) -> Result<Answer,
     }
     let key = PublicKey::new(String::from_str(alloc, ALGORITHM)?, key);
     let signature = Signature::new(String::from_str(alloc, ALGORITHM)?, signature);
-    if verifiers_take(alloc, &key, message.as_slice(), &signature)? != (belongs, belongs) {
+    let taken = verifiers_take(alloc, &key, message.as_slice(), &signature);
+    if taken != (belongs, belongs, belongs) {
         return Err(Fail::new("the verifiers differ"));
     }
     Answer::value(alloc, &if belongs { "yes" } else { "no" })
