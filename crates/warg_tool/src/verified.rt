@@ -94,7 +94,7 @@ pub fn invocation_answer<S: Store>(
     ensures files { InvocationLeaves (S.files store.old) (S.files store.new) invocation.now }
 {
     match invocation.verified {
-        None => respond(alloc, &KnownSchemes, invocation, store),
+        None => respond(alloc, &KnownSchemes::new(alloc), invocation, store),
         Some(path) => match read_verified(alloc, path, store) {
             Ok(verified) => respond(alloc, &verified, invocation, store),
             Err(stop) => given_end(alloc, invocation, stop),
