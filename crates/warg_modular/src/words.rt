@@ -127,7 +127,7 @@ pub fn bit(a: Words, i: u32) -> bool
 }
 
 // The number that the bytes write, the highest first, modulo 2 ^ 256.
-pub fn from_be(bytes: &[u8]) -> Words
+pub fn from_be_bytes(bytes: &[u8]) -> Words
     ensures { value result ≡ big_endian bytes.now % 2 ^ 256 }
 {
     let mut a = Words {

@@ -142,8 +142,8 @@ stands_affine x y z hx hy e =
     let nz : z ≢ 0 = omega arith in
     (nz, hx, hy, sym (times_one x (times z z) hx zz), sym (times_one y (times z (times z z)) hy zzz))
 
-pub not_nought : (b : Bool) (n : ℕ) → ((b ≡ true → n ≡ 0) × (n ≡ 0 → b ≡ true)) → b ≡ false → n ≢ 0
-not_nought b n h f e = let g : b ≡ true = h.1 e in cc
+pub not_zero : (b : Bool) (n : ℕ) → ((b ≡ true → n ≡ 0) × (n ≡ 0 → b ≡ true)) → b ≡ false → n ≢ 0
+not_zero b n h f e = let g : b ≡ true = h.1 e in cc
 
 -- the other point in coordinates of its own: (X2, Y2, V)
 pub record Crossed (p X Y Z X2 Y2 V zz vv t u vvv w zzz s h r : ℕ) : Type 0 where

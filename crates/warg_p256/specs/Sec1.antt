@@ -9,7 +9,7 @@ abbrev pub number_at : List ℕ → ℕ → ℕ
 number_at bytes i = big_endian (slice_range bytes i (i + 32)) % 2 ^ 256
 
 -- 65 bytes: 4, x and y
-pub record IsWhole (bytes : List ℕ) (x y : ℕ) : Type 0 where
+pub record IsUncompressed (bytes : List ℕ) (x y : ℕ) : Type 0 where
   pub length_is : length bytes ≡ 65
   pub tag_is : slice_index bytes 0 ≡ 4
   pub x_is : number_at bytes 1 ≡ x
@@ -25,4 +25,4 @@ pub record IsCompressed (bytes : List ℕ) (x y : ℕ) : Type 0 where
 
 -- the bytes are a key: the point whole or compressed
 abbrev pub IsKey : List ℕ → ℕ → ℕ → Type 0
-IsKey bytes x y = IsWhole bytes x y ⊎ IsCompressed bytes x y
+IsKey bytes x y = IsUncompressed bytes x y ⊎ IsCompressed bytes x y

@@ -16,9 +16,9 @@ unfoldable pub any_below : ℕ → (ℕ → Bool) → Bool
 any_below zero test = false
 any_below (suc n) test = test n || any_below n test
 
--- `IsWhole`
-abbrev pub is_whole : List ℕ → ℕ → ℕ → Bool
-is_whole bytes x y =
+-- `IsUncompressed`
+abbrev pub is_uncompressed : List ℕ → ℕ → ℕ → Bool
+is_uncompressed bytes x y =
     length bytes == 65 && (slice_index bytes 0 == 4 && (number_at bytes 1 == x && (number_at bytes 33 == y && times y y == right_side_of x)))
 
 -- `IsCompressed`
@@ -28,7 +28,7 @@ is_compressed bytes x y =
 
 -- `IsKey`
 abbrev pub is_key : List ℕ → ℕ → ℕ → Bool
-is_key bytes x y = is_whole bytes x y || is_compressed bytes x y
+is_key bytes x y = is_uncompressed bytes x y || is_compressed bytes x y
 
 -- `IsInteger`
 abbrev pub is_integer : List ℕ → ℕ → Bool

@@ -6,7 +6,7 @@ ghost use Rattle.warg_p256.specs.Elements.{number};
 ghost use Rattle.warg_curve.specs.Curve.{at, base};
 ghost use Rattle.warg_curve.specs.Group.{multiple};
 
-use crate::fp::Element;
+use crate::field::Element;
 use crate::point::Affine;
 use warg_modular::words::Words;
 

@@ -4,7 +4,7 @@ ghost use Rattle.std.specs.Prelude.{◌≡◌, ℕ, ◌<◌, ◌++◌, List, [],
 ghost use Rattle.warg_modular.specs.Value.{value};
 ghost use Rattle.warg_p256.specs.Der.{IsInteger, IsDer, integer as integer_text};
 
-use warg_modular::words::{Words, from_be};
+use warg_modular::words::{Words, from_be_bytes};
 
 #[derive(Clone, Copy)]
 pub(crate) struct Signature {
@@ -27,7 +27,7 @@ fn number(contents: &[u8]) -> Option<Words>
     if contents.len() == 33 && contents[0] != 0 {
         return None;
     }
-    Some(from_be(contents))
+    Some(from_be_bytes(contents))
 }
 
 // The contents of the INTEGER that the bytes begin with, and the bytes after it.

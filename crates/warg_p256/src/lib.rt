@@ -3,9 +3,9 @@
 
 mod base_table;
 mod combination;
-mod consts;
+mod constants;
 mod der;
-mod fp;
+mod field;
 mod known_keys;
 pub mod laws;
 mod point;

@@ -6,7 +6,7 @@ ghost use Rattle.warg_p256.specs.Elements.{number};
 ghost use Rattle.warg_curve.specs.Curve.{Point, at, double, add};
 ghost use Rattle.warg_p256.specs.Coordinates.{StandsFor};
 
-use crate::fp::{Element, add, is_nought, mul, nought, one, square, sub};
+use crate::field::{Element, add, is_zero, mul, one, square, sub, zero};
 
 #[derive(Clone, Copy)]
 pub(crate) struct Affine {
@@ -28,7 +28,7 @@ pub(crate) fn infinity() -> Jacobian
     Jacobian {
         x: one(),
         y: one(),
-        z: nought(),
+        z: zero(),
     }
 }
 
@@ -69,7 +69,7 @@ pub(crate) fn double(p: Jacobian) -> Jacobian
 pub(crate) fn add_affine(p: Jacobian, q: Affine) -> Jacobian
     ensures { (a : Point) → StandsFor (number p.x.words) (number p.y.words) (number p.z.words) a → StandsFor (number result.x.words) (number result.y.words) (number result.z.words) (add a (at (number q.x.words) (number q.y.words))) }
 {
-    if is_nought(p.z) {
+    if is_zero(p.z) {
         return from_affine(q);
     }
     let zz = square(p.z);
@@ -77,8 +77,8 @@ pub(crate) fn add_affine(p: Jacobian, q: Affine) -> Jacobian
     let s = mul(q.y, mul(p.z, zz));
     let h = sub(u, p.x);
     let r = sub(s, p.y);
-    if is_nought(h) {
-        if is_nought(r) {
+    if is_zero(h) {
+        if is_zero(r) {
             return double(p);
         }
         return infinity();
@@ -100,10 +100,10 @@ pub(crate) fn add_jacobian(p: Jacobian, q: Jacobian) -> Jacobian
         StandsFor (number q.x.words) (number q.y.words) (number q.z.words) b →
         StandsFor (number result.x.words) (number result.y.words) (number result.z.words) (add a b) }
 {
-    if is_nought(p.z) {
+    if is_zero(p.z) {
         return q;
     }
-    if is_nought(q.z) {
+    if is_zero(q.z) {
         return p;
     }
     let pzz = square(p.z);
@@ -114,8 +114,8 @@ pub(crate) fn add_jacobian(p: Jacobian, q: Jacobian) -> Jacobian
     let s = mul(q.y, mul(p.z, pzz));
     let h = sub(u, t);
     let r = sub(s, w);
-    if is_nought(h) {
-        if is_nought(r) {
+    if is_zero(h) {
+        if is_zero(r) {
             return double(p);
         }
         return infinity();

@@ -5,7 +5,7 @@ ghost use Rattle.warg_modular.specs.Value.{value};
 ghost use Rattle.warg_curve.specs.Order.{order};
 ghost use Rattle.warg_p256.specs.Scalars.{scalar};
 
-use crate::consts::{INV_N, N, N_LESS_2, ONE_N, R2_N};
+use crate::constants::{N, N_INVERSE, N_LESS_2, ONE_N, R2_N};
 use warg_modular::montgomery;
 use warg_modular::words::{Words, bit};
 
@@ -27,7 +27,7 @@ pub fn mul(a: Words, b: Scalar) -> Scalar
     ensures plain { value result.words ≡ (value a * scalar b.words) % order }
 {
     Scalar {
-        words: montgomery::mul(a, b.words, N, INV_N),
+        words: montgomery::mul(a, b.words, N, N_INVERSE),
     }
 }
 
@@ -35,11 +35,11 @@ pub fn square(a: Scalar) -> Scalar
     ensures { scalar result.words ≡ (scalar a.words * scalar a.words) % order }
 {
     Scalar {
-        words: montgomery::square(a.words, N, INV_N),
+        words: montgomery::square(a.words, N, N_INVERSE),
     }
 }
 
-pub fn to_form(a: Words) -> Scalar
+pub fn to_montgomery(a: Words) -> Scalar
     ensures { scalar result.words ≡ value a % order }
 {
     mul(a, Scalar { words: R2_N })

@@ -6,14 +6,14 @@ ghost use Rattle.warg_curve.specs.Field.{prime, times};
 ghost use Rattle.warg_p256.specs.Elements.{number};
 ghost use Rattle.warg_modular.specs.Value.{big_endian};
 ghost use Rattle.warg_curve.specs.Group.{right_side_of};
-ghost use Rattle.warg_p256.specs.Sec1.{IsWhole, IsCompressed};
+ghost use Rattle.warg_p256.specs.Sec1.{IsUncompressed, IsCompressed};
 
-use crate::consts::{P, SQRT_EXP};
-use crate::fp::{
-    Element, add, are_equal, curve_b, from_form, mul, nought, pow, square, sub, to_form,
+use crate::constants::{P, ROOT_EXPONENT};
+use crate::field::{
+    Element, add, curve_b, from_montgomery, is_equal, mul, pow, square, sub, to_montgomery, zero,
 };
 use crate::point::Affine;
-use warg_modular::words::{from_be, is_less};
+use warg_modular::words::{from_be_bytes, is_less};
 
 // x ^ 3 - 3 * x + b.
 fn right_side(x: Element) -> Element
@@ -28,8 +28,8 @@ fn root(right: Element) -> Option<Element>
     ensures some { IfSome result (λ y. times (number y.words) (number y.words) ≡ number right.words) }
     ensures none { IfNone result ((t : ℕ) → t < prime → times t t ≡ number right.words → ⊥) }
 {
-    let y = pow(right, SQRT_EXP);
-    if are_equal(square(y), right) {
+    let y = pow(right, ROOT_EXPONENT);
+    if is_equal(square(y), right) {
         return Some(y);
     }
     None
@@ -43,7 +43,7 @@ fn with_parity(y: Element, is_odd: bool) -> Option<Element>
     if is_odd_number(y) == is_odd {
         return Some(y);
     }
-    let z = sub(nought(), y);
+    let z = sub(zero(), y);
     if is_odd_number(z) == is_odd {
         return Some(z);
     }
@@ -53,7 +53,7 @@ fn with_parity(y: Element, is_odd: bool) -> Option<Element>
 fn is_odd_number(y: Element) -> bool
     ensures { number y.words % 2 ≡ from_bool result }
 {
-    from_form(y).l0 % 2 == 1
+    from_montgomery(y).l0 % 2 == 1
 }
 
 // The number that the bytes write, where it is below the prime.
@@ -61,23 +61,23 @@ fn coordinate(bytes: &[u8]) -> Option<Element>
     ensures some { IfSome result (λ x. number x.words ≡ big_endian bytes.now % 2 ^ 256) }
     ensures none { IfNone result (prime ≤ big_endian bytes.now % 2 ^ 256) }
 {
-    let x = from_be(bytes);
+    let x = from_be_bytes(bytes);
     if is_less(x, P) {
-        return Some(to_form(x));
+        return Some(to_montgomery(x));
     }
     None
 }
 
-fn whole(bytes: &[u8]) -> Option<Affine>
-    ensures some { IfSome result (λ p. IsWhole bytes.now (number p.x.words) (number p.y.words)) }
-    ensures none { IfNone result ((x : ℕ) → (y : ℕ) → IsWhole bytes.now x y → ⊥) }
+fn uncompressed(bytes: &[u8]) -> Option<Affine>
+    ensures some { IfSome result (λ p. IsUncompressed bytes.now (number p.x.words) (number p.y.words)) }
+    ensures none { IfNone result ((x : ℕ) → (y : ℕ) → IsUncompressed bytes.now x y → ⊥) }
 {
     if bytes.len() != 65 || bytes[0] != 4 {
         return None;
     }
     let x = coordinate(&bytes[1..33])?;
     let y = coordinate(&bytes[33..65])?;
-    if !are_equal(square(y), right_side(x)) {
+    if !is_equal(square(y), right_side(x)) {
         return None;
     }
     Some(Affine { x, y })
@@ -110,10 +110,10 @@ fn compressed(bytes: &[u8]) -> Option<Affine>
 }
 
 pub(crate) fn parse(bytes: &[u8]) -> Option<Affine>
-    ensures some { IfSome result (λ p. IsWhole bytes.now (number p.x.words) (number p.y.words) ⊎ IsCompressed bytes.now (number p.x.words) (number p.y.words)) }
-    ensures none { IfNone result ((x : ℕ) → (y : ℕ) → (IsWhole bytes.now x y ⊎ IsCompressed bytes.now x y) → ⊥) }
+    ensures some { IfSome result (λ p. IsUncompressed bytes.now (number p.x.words) (number p.y.words) ⊎ IsCompressed bytes.now (number p.x.words) (number p.y.words)) }
+    ensures none { IfNone result ((x : ℕ) → (y : ℕ) → (IsUncompressed bytes.now x y ⊎ IsCompressed bytes.now x y) → ⊥) }
 {
-    match whole(bytes) {
+    match uncompressed(bytes) {
         Some(p) => Some(p),
         None => compressed(bytes),
     }

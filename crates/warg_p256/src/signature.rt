@@ -11,31 +11,31 @@ ghost use Rattle.warg_p256.specs.Ecdsa.{HasX, IsSignature, IsVerified};
 ghost use Rattle.warg_p256.specs.Sec1.{IsKey};
 
 use crate::combination::combination;
-use crate::consts::{N, P_LESS_N};
+use crate::constants::{N, P_LESS_N};
 use crate::point::{Affine, Jacobian};
-use crate::{der, fp, scalar, sec1};
+use crate::{der, field, scalar, sec1};
 use sha2::{Digest, Sha256};
-use warg_modular::words::{Words, add, from_be, is_less, is_zero};
+use warg_modular::words::{Words, add, from_be_bytes, is_less, is_zero};
 
 // Whether x / z ^ 2 is r modulo the order.
 fn has_x(p: Jacobian, r: Words) -> bool
     requires { value r < order }
     ensures { (a : Point) → StandsFor (number p.x.words) (number p.y.words) (number p.z.words) a → (IsTrue result ↔ HasX a (value r)) }
 {
-    if fp::is_nought(p.z) {
+    if field::is_zero(p.z) {
         return false;
     }
-    let zz = fp::square(p.z);
-    let first = fp::mul(fp::to_form(r), zz);
-    if fp::are_equal(first, p.x) {
+    let zz = field::square(p.z);
+    let first = field::mul(field::to_montgomery(r), zz);
+    if field::is_equal(first, p.x) {
         return true;
     }
     if !is_less(r, P_LESS_N) {
         return false;
     }
     let (more, _) = add(r, N);
-    let second = fp::mul(fp::to_form(more), zz);
-    fp::are_equal(second, p.x)
+    let second = field::mul(field::to_montgomery(more), zz);
+    field::is_equal(second, p.x)
 }
 
 // Whether a number is above 0 and below the order.
@@ -56,7 +56,7 @@ fn accepts(q: Affine, e: Words, r: Words, s: Words) -> bool
     if !is_scalar(s) {
         return false;
     }
-    let w = scalar::inverse(scalar::to_form(s));
+    let w = scalar::inverse(scalar::to_montgomery(s));
     let u = scalar::mul(e, w);
     let v = scalar::mul(r, w);
     has_x(combination(u.words, v.words, q), r)
@@ -83,5 +83,5 @@ pub(crate) fn verify_by(q: Affine, message: &[u8], signature: &[u8]) -> bool
         return false;
     };
     let hash: [u8; 32] = Sha256::digest(message);
-    accepts(q, from_be(hash.as_slice()), pair.r, pair.s)
+    accepts(q, from_be_bytes(hash.as_slice()), pair.r, pair.s)
 }

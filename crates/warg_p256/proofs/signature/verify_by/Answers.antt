@@ -8,4 +8,4 @@ returns-in_default c = λ key k. (λ f. absurd (cc), λ g. absurd (c.in_default.
 
 pub returns : goal.returns
 returns c = λ key k. verified _ _ _ _ _ _ _ _ c.accepts.result k c.in-Some.ensures.some
-    (c.from_be.ensures ∙ ap (λ t. big_endian t % 2 ^ 256) (c.as_slice.ensures ∙ c.digest-hash.ensures)) c.accepts.ensures
+    (c.from_be_bytes.ensures ∙ ap (λ t. big_endian t % 2 ^ 256) (c.as_slice.ensures ∙ c.digest-hash.ensures)) c.accepts.ensures

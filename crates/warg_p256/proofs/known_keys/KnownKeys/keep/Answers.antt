@@ -2,7 +2,7 @@ use Rattle.std.proofs.Common.{◌∙◌, subst, sym}
 use Rattle.std.specs.Prelude.{◌≡◌, true}
 use Rattle.warg_p256.specs.Elements.{number}
 use Rattle.warg_p256.specs.Verified.{is_key}
-use Rattle.warg_p256.proofs.Field.{number_below}
+use Rattle.warg_p256.proofs.FieldElements.{number_below}
 use Rattle.warg_p256.proofs.Tests.{is_key_decides}
 use Rattle.warg_p256.proofs.known_keys.KnownKeys.keep.Goals as goal
 
