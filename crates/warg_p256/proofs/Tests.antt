@@ -1,4 +1,4 @@
-use Rattle.std.proofs.Common.{◌≡◌, ℕ, ◌+◌, ◌*◌, ◌%◌, ◌^◌, ◌<◌, ◌≤◌, ◌⊎◌, inl, inr, Bool, ◌&&◌, ◌||◌, List, [], ◌∷◌, length, drop, ap, sym, ◌∙◌, refl, subst, append-nil, arith}
+use Rattle.std.proofs.Common.{◌≡◌, ℕ, ◌+◌, ◌*◌, ◌%◌, ◌^◌, ◌<◌, ◌≤◌, ◌⊎◌, inl, inr, Bool, ◌&&◌, ◌||◌, List, [], ◌∷◌, length, take, drop, ap, sym, ◌∙◌, refl, subst, append-nil, arith}
 use Rattle.std.specs.Prelude.{slice_index, nat_le}
 use Rattle.std.specs.Bool.{Decides}
 use Rattle.std.proofs.lemmas.Bool.{cases_lt, leb-true, le-leb}
@@ -6,7 +6,7 @@ use Rattle.std.proofs.lemmas.Bool.Decides.{Decides-eqb, Decides-ltb, Decides-and
 use Rattle.std.proofs.lemmas.Slice.Eq.{bytes_eq-Decides}
 use Rattle.std.proofs.Math.Seq.{take-append_seam, drop-append_seam}
 use Rattle.sha2.specs.Sha256.{sha256}
-use Rattle.warg_modular.specs.Value.{big_endian}
+use Rattle.warg_modular.specs.BigEndian.{big_endian}
 use Rattle.warg_curve.specs.Field.{prime, times}
 use Rattle.warg_curve.specs.Order.{order}
 use Rattle.warg_curve.specs.Curve.{Point, infinity, at, add, base}
@@ -14,7 +14,7 @@ use Rattle.warg_curve.specs.Group.{IsOnCurve, right_side_of, multiple}
 use Rattle.warg_p256.specs.Sec1.{IsUncompressed, IsCompressed, IsKey, number_at}
 use Rattle.warg_p256.specs.Der.{IsInteger, IsDer, integer}
 use Rattle.warg_p256.specs.Ecdsa.{HasX, IsSignature, IsVerified}
-use Rattle.warg_p256.specs.Verified.{any_below, is_uncompressed, is_compressed, is_key, is_integer, first_contents, second_contents, is_der, has_x, is_signature, is_verified}
+use Rattle.warg_p256.specs.Verified.{any_below, is_uncompressed, is_compressed, is_key, is_integer, is_der, has_x, is_signature, is_verified}
 
 -- both, of three
 and3 : {P Q R : Type 0} (a b c : Bool) → Decides a P → Decides b Q → Decides c R → Decides (a && (b && c)) (P × (Q × R))
@@ -86,6 +86,14 @@ is_integer_decides bytes n = Decides-like _
     })
     (λ g. (g.some, (g.few, (elim (cases_lt (length bytes) 33) [ inl l ↦ inl l | inr h ↦ inr (g.fits (let f : length bytes ≤ 33 = g.few in omega arith)) ], (g.positive, (g.shortest, g.value_is))))))
     (integer_decides bytes n)
+
+-- the contents of the first of two INTEGERs
+abbrev first_contents : List ℕ → List ℕ
+first_contents bytes = take (slice_index bytes 3) (drop 4 bytes)
+
+-- the contents of the second
+abbrev second_contents : List ℕ → List ℕ
+second_contents bytes = drop 2 (drop (slice_index bytes 3) (drop 4 bytes))
 
 -- where the two INTEGERs stand
 contents_of : (bytes first second : List ℕ) (n : ℕ) → bytes ≡ 48 ∷ n ∷ integer first (integer second []) → (first ≡ first_contents bytes) × (second ≡ second_contents bytes)

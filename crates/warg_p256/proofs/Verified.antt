@@ -2,7 +2,7 @@ use Rattle.std.proofs.Common.{◌≡◌, ℕ, ◌+◌, ◌-◌, ◌%◌, ◌^◌
 use Rattle.std.proofs.lemmas.Bool.{cases_eq}
 use Rattle.std.proofs.Math.Nat.{mod-eq_of_lt, mod_self}
 use Rattle.sha2.specs.Sha256.{sha256}
-use Rattle.warg_modular.specs.Value.{big_endian}
+use Rattle.warg_modular.specs.BigEndian.{big_endian}
 use Rattle.warg_curve.specs.Field.{prime, times}
 use Rattle.warg_curve.specs.Curve.{at}
 use Rattle.warg_p256.specs.Sec1.{IsUncompressed, IsCompressed}

@@ -1,4 +1,4 @@
-// The numbers of the curve P-256 (FIPS 186-5; SEC 2, 2.4.2) and what Montgomery's products take of them.
+// The numbers of the curve P-256 (SEC 2, 2.4.2), and what Montgomery's products take of them.
 
 use warg_modular::words::Words;
 

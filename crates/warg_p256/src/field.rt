@@ -10,12 +10,14 @@ use crate::constants::{B_MONTGOMERY, ONE_P, P, P_INVERSE, R2_P};
 use warg_modular::montgomery;
 use warg_modular::words::{self, Words, bit};
 
+/// A number of the field.
 #[derive(Clone, Copy)]
 pub struct Element {
     pub words: Words,
     ghost reduced: { value words < prime },
 }
 
+/// 0.
 #[inline(always)]
 pub fn zero() -> Element
     ensures { number result.words ≡ 0 }
@@ -30,6 +32,7 @@ pub fn zero() -> Element
     }
 }
 
+/// 1.
 #[inline(always)]
 pub fn one() -> Element
     ensures { number result.words ≡ 1 }
@@ -37,7 +40,7 @@ pub fn one() -> Element
     Element { words: ONE_P }
 }
 
-// The curve's b.
+/// The b of the curve's equation.
 #[inline(always)]
 pub fn curve_b() -> Element
     ensures { number result.words ≡ curve_b }
@@ -47,6 +50,7 @@ pub fn curve_b() -> Element
     }
 }
 
+/// a * b.
 pub fn mul(a: Element, b: Element) -> Element
     ensures { number result.words ≡ times (number a.words) (number b.words) }
 {
@@ -55,6 +59,7 @@ pub fn mul(a: Element, b: Element) -> Element
     }
 }
 
+/// a * a.
 pub fn square(a: Element) -> Element
     ensures { number result.words ≡ times (number a.words) (number a.words) }
 {
@@ -63,6 +68,7 @@ pub fn square(a: Element) -> Element
     }
 }
 
+/// a + b.
 #[inline(always)]
 pub fn add(a: Element, b: Element) -> Element
     ensures { number result.words ≡ plus (number a.words) (number b.words) }
@@ -72,6 +78,7 @@ pub fn add(a: Element, b: Element) -> Element
     }
 }
 
+/// a - b.
 #[inline(always)]
 pub fn sub(a: Element, b: Element) -> Element
     ensures { number result.words ≡ minus (number a.words) (number b.words) }
@@ -81,6 +88,7 @@ pub fn sub(a: Element, b: Element) -> Element
     }
 }
 
+/// The number modulo the prime.
 pub fn to_montgomery(a: Words) -> Element
     ensures { number result.words ≡ value a % prime }
 {
@@ -89,6 +97,7 @@ pub fn to_montgomery(a: Words) -> Element
     }
 }
 
+/// The number as one below the prime.
 pub fn from_montgomery(a: Element) -> Words
     ensures { value result ≡ number a.words }
 {
@@ -101,6 +110,7 @@ pub fn from_montgomery(a: Element) -> Words
     montgomery::mul(a.words, one, P, P_INVERSE)
 }
 
+/// Whether the number is 0.
 #[inline(always)]
 pub fn is_zero(a: Element) -> bool
     ensures { IsTrue result ↔ (number a.words ≡ 0) }
@@ -108,6 +118,7 @@ pub fn is_zero(a: Element) -> bool
     words::is_zero(a.words)
 }
 
+/// Whether the two are one number.
 #[inline(always)]
 pub fn is_equal(a: Element, b: Element) -> bool
     ensures { IsTrue result ↔ (number a.words ≡ number b.words) }
@@ -115,6 +126,7 @@ pub fn is_equal(a: Element, b: Element) -> bool
     words::is_equal(a.words, b.words)
 }
 
+/// The power, by one square a bit and one product a set bit.
 pub fn pow(a: Element, exponent: Words) -> Element
     requires { value exponent < 2 ^ 256 }
     ensures { number result.words ≡ (number a.words ^ value exponent) % prime }

@@ -1,6 +1,7 @@
 //! Keys whose points are read once.
 
-ghost use Rattle.std.specs.Prelude.{◌≡◌, ◌≤◌, ◌⊎◌, ◌++◌, ◌∷◌, [], length, Err, IfErr, IfOk, IfSome, OnErr, OnOk, false, true};
+ghost use Rattle.std.specs.Prelude.{◌≡◌, ◌≤◌, ◌⊎◌, ◌++◌, ◌∷◌, [], length, false, true};
+ghost use Rattle.std.specs.Prelude.{Err, IfErr, IfOk, IfSome, OnErr, OnOk};
 ghost use Rattle.warg_crypto.specs.declared.signing.error.SignatureError.TheVariants.{Refused};
 ghost use Rattle.warg_p256.specs.Elements.{number};
 ghost use Rattle.warg_p256.specs.Scheme.{p256_belongs};
@@ -25,8 +26,8 @@ struct KnownKey {
     ghost is_read: { is_key bytes.items (number point.x.words) (number point.y.words) ≡ true },
 }
 
-/// Verifies as [`P256Verifier`](crate::P256Verifier) does, and reads the points of some keys once: those that it was told to keep, 32 at most. So
-/// tell it the keys of a log, and not those of strangers.
+/// Verifies as [`P256Verifier`](crate::P256Verifier) does, and reads the points of some keys once:
+/// those that it was told to keep, 32 at most. So tell it the keys of a log, and no stranger's.
 #[derive(Drop)]
 pub struct KnownKeys {
     keys: Vec<KnownKey>,
@@ -53,7 +54,8 @@ impl KnownKeys {
 
     // The point of a key that is kept.
     fn point_of(&self, bytes: &[u8]) -> Option<Affine>
-        ensures { IfSome result (λ p. is_key bytes.now (number p.x.words) (number p.y.words) ≡ true) }
+        ensures { IfSome result
+            (λ p. is_key bytes.now (number p.x.words) (number p.y.words) ≡ true) }
     {
         for key in &self.keys {
             if key.bytes.as_slice() == bytes {
@@ -65,7 +67,8 @@ impl KnownKeys {
 
     /// Keeps a key, if its bytes are one, it is not kept yet, and there is room.
     pub fn keep(&mut self, alloc: Global, key: &PublicKey) -> Result<(), AllocError>
-        ensures kept { OnOk result ((self.new ≡ self.old) ⊎ (self.new ≡ self.old ++ key.now.bytes ∷ [])) }
+        ensures kept { OnOk result
+            ((self.new ≡ self.old) ⊎ (self.new ≡ self.old ++ key.now.bytes ∷ [])) }
         ensures bounded { length self.old ≤ 32 → length self.new ≤ 32 }
         ensures unchanged { OnErr result (self.new ≡ self.old) }
     {
@@ -94,7 +97,8 @@ impl KnownKeys {
 impl Verifier for KnownKeys {
     ghost belongs = { λ _ key message signature. p256_belongs key message signature };
 
-    /// `Ok` exactly where the signature belongs to the message under the key, else `Refused`: it takes no memory.
+    /// `Ok` exactly where the signature belongs to the message under the key, else `Refused`. It
+    /// takes no memory.
     fn verify(
         &self,
         _alloc: Global,

@@ -9,12 +9,14 @@ use crate::constants::{N, N_INVERSE, N_LESS_2, ONE_N, R2_N};
 use warg_modular::montgomery;
 use warg_modular::words::{Words, bit};
 
+/// A number below the order.
 #[derive(Clone, Copy)]
 pub struct Scalar {
     pub words: Words,
     ghost reduced: { value words < order },
 }
 
+/// 1.
 #[inline(always)]
 pub fn one() -> Scalar
     ensures { scalar result.words ≡ 1 }
@@ -22,6 +24,7 @@ pub fn one() -> Scalar
     Scalar { words: ONE_N }
 }
 
+/// The product: in Montgomery's form if both are, and the plain one if only `b` is.
 pub fn mul(a: Words, b: Scalar) -> Scalar
     ensures form { scalar result.words ≡ (scalar a * scalar b.words) % order }
     ensures plain { value result.words ≡ (value a * scalar b.words) % order }
@@ -31,6 +34,7 @@ pub fn mul(a: Words, b: Scalar) -> Scalar
     }
 }
 
+/// The square.
 pub fn square(a: Scalar) -> Scalar
     ensures { scalar result.words ≡ (scalar a.words * scalar a.words) % order }
 {
@@ -39,6 +43,7 @@ pub fn square(a: Scalar) -> Scalar
     }
 }
 
+/// The number modulo the order, in Montgomery's form.
 pub fn to_montgomery(a: Words) -> Scalar
     ensures { scalar result.words ≡ value a % order }
 {
@@ -58,7 +63,8 @@ fn raised(a: Scalar, k: u32, b: Scalar) -> Scalar
 
 // The power with the upper half of N - 2, which is 32 ones, 32 zeros and 64 ones.
 fn upper_power(a: Scalar) -> Scalar
-    ensures { scalar result.words ≡ (scalar a.words ^ 0xffffffff00000000ffffffffffffffff) % order }
+    ensures { scalar result.words ≡
+        (scalar a.words ^ 0xffffffff00000000ffffffffffffffff) % order }
 {
     let ones2 = raised(a, 1, a);
     let ones4 = raised(ones2, 2, ones2);
@@ -68,7 +74,7 @@ fn upper_power(a: Scalar) -> Scalar
     raised(raised(ones32, 64, ones32), 32, ones32)
 }
 
-// The inverse of a number in Montgomery's form, in that form, by Fermat's little theorem.
+/// The power with N - 2: by Fermat's little theorem the inverse, where the number is not 0.
 pub fn inverse(a: Scalar) -> Scalar
     ensures { scalar result.words ≡ (scalar a.words ^ (order - 2)) % order }
 {

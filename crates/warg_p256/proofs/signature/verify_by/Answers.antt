@@ -1,5 +1,5 @@
 use Rattle.std.proofs.Common.{◌%◌, ◌^◌, ap, ◌∙◌}
-use Rattle.warg_modular.specs.Value.{big_endian}
+use Rattle.warg_modular.specs.BigEndian.{big_endian}
 use Rattle.warg_p256.proofs.Verified.{verified}
 use Rattle.warg_p256.proofs.signature.verify_by.Goals as goal
 
