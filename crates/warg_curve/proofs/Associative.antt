@@ -1,6 +1,7 @@
 use Rattle.std.proofs.Common.{◌≡◌, ℕ, inl, inr, ap, sym, ◌∙◌}
 use Rattle.warg_curve.specs.Curve.{Point, infinity, at, add}
-use Rattle.warg_curve.specs.Group.{IsOnCurve, negative}
+use Rattle.warg_curve.specs.Group.{IsOnCurve}
+use Rattle.warg_curve.specs.Laws.{negative}
 use Rattle.warg_curve.proofs.CurveFacts.{one_number, add_infinity, add_right}
 use Rattle.warg_curve.proofs.OnCurve.{satisfies, same_point, Sum, sum_cases, sum_on_curve, add_negative, negative_on_curve, add_on_curve}
 use Rattle.warg_curve.proofs.Opposites.{negative_twice, negative_add, add_commutes, add_back, negative_sum}

@@ -6,7 +6,8 @@ use Rattle.warg_primes.proofs.Chain.{order_256}
 use Rattle.warg_curve.specs.Field.{prime}
 use Rattle.warg_curve.specs.Order.{order}
 use Rattle.warg_curve.specs.Curve.{Point, infinity, at, add, base}
-use Rattle.warg_curve.specs.Group.{negative, multiple}
+use Rattle.warg_curve.specs.Group.{multiple}
+use Rattle.warg_curve.specs.Laws.{negative}
 use Rattle.warg_curve.proofs.CurveFacts.{add_infinity}
 use Rattle.warg_curve.proofs.Slopes.{cancel_term}
 use Rattle.warg_curve.proofs.OnCurve.{base_on_curve}

@@ -3,8 +3,13 @@ use Rattle.std.proofs.lemmas.Bool.{cond-true, cond-false, eq-eqb, ne_eqb}
 use Rattle.std.proofs.Math.Nat.{mod-eq_of_lt, mod-lt, mul-zero}
 use Rattle.warg_primes.proofs.Congruent.{Same, same, same_of, same_mod, back, then, both_times, both_plus, minus_is}
 use Rattle.warg_curve.specs.Field.{prime, minus, times}
-use Rattle.warg_curve.specs.Curve.{Point, infinity, at, inverse, quotient, third, tangent_slope, chord_slope, double, add, HasInverses}
+use Rattle.warg_curve.specs.Curve.{Point, infinity, at, inverse, quotient, third, tangent_slope, chord_slope, double, add}
 
+-- each number of the field but 0 has an inverse: the prime is one
+abbrev pub HasInverses : Type 0
+HasInverses = (a : ℕ) → a < prime → a ≢ 0 → times a (inverse a) ≡ 1
+
+-- -1 in the field
 abbrev pub low : ℕ
 low = 0xffffffff00000001000000000000000000000000fffffffffffffffffffffffe
 

@@ -1,6 +1,7 @@
 use Rattle.std.proofs.Common.{◌≡◌, ℕ, zero, suc, ◌+◌, ◌*◌, ap, sym, ◌∙◌, refl, arith}
 use Rattle.warg_curve.specs.Curve.{Point, infinity, double, add}
-use Rattle.warg_curve.specs.Group.{IsOnCurve, negative, multiple}
+use Rattle.warg_curve.specs.Group.{IsOnCurve, multiple}
+use Rattle.warg_curve.specs.Laws.{negative}
 use Rattle.warg_curve.proofs.CurveFacts.{add_infinity, add_right}
 use Rattle.warg_curve.proofs.OnCurve.{negative_infinity, add_on_curve, add_itself, multiple_on_curve}
 use Rattle.warg_curve.proofs.Opposites.{add_commutes, negative_sum}

@@ -5,8 +5,8 @@ use Rattle.warg_primes.proofs.Congruent.{Same, same, back, then, both_times, sam
 use Rattle.warg_primes.proofs.Divisors.{IsPrime}
 use Rattle.warg_primes.proofs.Chain.{prime_256}
 use Rattle.warg_curve.specs.Field.{prime, times}
-use Rattle.warg_curve.specs.Curve.{inverse, inverse_below, HasInverses}
-use Rattle.warg_curve.proofs.CurveFacts.{low, low_is, prime_pos, whole}
+use Rattle.warg_curve.specs.Curve.{inverse, inverse_below}
+use Rattle.warg_curve.proofs.CurveFacts.{HasInverses, low, low_is, prime_pos, whole}
 
 one_below : 1 < prime
 unfolding prime

@@ -4,7 +4,8 @@ use Rattle.std.proofs.Math.Nat.{mod-lt}
 use Rattle.warg_primes.proofs.Congruent.{Same, same, same_of, back, then, both_times, both_plus}
 use Rattle.warg_curve.specs.Field.{prime, plus, minus, times}
 use Rattle.warg_curve.specs.Curve.{Point, infinity, at, third, tangent_slope, chord_slope, double, add, base}
-use Rattle.warg_curve.specs.Group.{curve_b, right_side_of, IsOnCurve, negative, multiple}
+use Rattle.warg_curve.specs.Group.{curve_b, right_side_of, IsOnCurve, multiple}
+use Rattle.warg_curve.specs.Laws.{negative}
 use Rattle.warg_curve.proofs.CurveFacts.{prime_pos, two_below, three_below, whole, one_number, times_below, zero_factor, quotient_times, double_flat, double_sloped, double_infinity, add_infinity, add_right, add_same, add_mirrored, add_chord}
 use Rattle.warg_curve.proofs.Inverses.{has_inverses}
 use Rattle.warg_curve.proofs.Slopes.{cancel_factor, minus_more, minus_nonzero}

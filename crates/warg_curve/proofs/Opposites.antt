@@ -2,7 +2,8 @@ use Rattle.std.proofs.Common.{◌≡◌, ℕ, ◌+◌, ◌*◌, ◌<◌, inl, in
 use Rattle.warg_primes.proofs.Congruent.{Same, same, same_of, then}
 use Rattle.warg_curve.specs.Field.{prime, minus}
 use Rattle.warg_curve.specs.Curve.{Point, infinity, at, add}
-use Rattle.warg_curve.specs.Group.{IsOnCurve, negative}
+use Rattle.warg_curve.specs.Group.{IsOnCurve}
+use Rattle.warg_curve.specs.Laws.{negative}
 use Rattle.warg_curve.proofs.CurveFacts.{low, one_number, add_infinity, add_right}
 use Rattle.warg_curve.proofs.Slopes.{minus_more}
 use Rattle.warg_curve.proofs.Relations.{low_negative}

@@ -1,7 +1,14 @@
+-- The laws of the group of P-256 (SEC 1, 2.2.1), each as a statement.
 use Rattle.std.specs.Prelude.{◌≡◌, ℕ, ◌+◌, ◌*◌, ◌%◌, ◌↔◌}
+use Rattle.warg_curve.specs.Field.{minus}
 use Rattle.warg_curve.specs.Order.{order}
-use Rattle.warg_curve.specs.Curve.{Point, infinity, double, add, base}
-use Rattle.warg_curve.specs.Group.{IsOnCurve, negative, multiple}
+use Rattle.warg_curve.specs.Curve.{Point, infinity, at, double, add, base}
+use Rattle.warg_curve.specs.Group.{IsOnCurve, multiple}
+
+-- the mirror image of a point, the point that added to it gives infinity
+unfoldable pub negative : Point → Point
+negative infinity = infinity
+negative (at x y) = at x (minus 0 y)
 
 -- the sum of two points of the curve is a point of the curve
 abbrev pub SumsStay : Type 0

@@ -1,4 +1,8 @@
-//! The curve P-256 and its group. Each function here does nothing: its contract is a law.
+//! The curve P-256 and its group (SEC 1, 2.2.1; SEC 2, 2.4.2): what a point is, what the sum of two
+//! points is, that the points are a group, and how many the multiples of the base point are.
+//!
+//! It has no code: other crates cite its definitions and proofs. Each function here does nothing,
+//! and its contract is a law.
 #![tactic(auto)]
 
 ghost use Rattle.warg_curve.specs.Curve.{base};

@@ -1,7 +1,8 @@
 use Rattle.std.proofs.Common.{◌≡◌, ℕ, ◌+◌, ◌*◌, ◌%◌, ◌^◌, ◌<◌, List, [], ◌∷◌, take, length, get_or, refl, sym, ◌∙◌, ap}
 use Rattle.std.proofs.lemmas.List.Sums.{fold_more}
 use Rattle.warg_primes.proofs.Congruent.{Same, same, same_mod, both_times, both_plus}
-use Rattle.warg_modular.specs.Value.{value, big_endian}
+use Rattle.warg_modular.specs.BigEndian.{big_endian}
+use Rattle.warg_modular.specs.Value.{value}
 
 big_endian_more : (bs : List ℕ) (i : ℕ) → i < length bs → big_endian (take (i + 1) bs) ≡ big_endian (take i bs) * 256 + get_or bs i 0
 unfolding big_endian

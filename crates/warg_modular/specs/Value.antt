@@ -1,5 +1,5 @@
-use Rattle.std.specs.Prelude.{◌≡◌, ℕ, ◌+◌, ◌*◌, ◌^◌, ◌<◌, List}
-use Rattle.std.specs.List.{fold}
+-- Numbers in words of 64 bits, the lowest first, and the step of a Montgomery product.
+use Rattle.std.specs.Prelude.{◌≡◌, ℕ, ◌+◌, ◌*◌, ◌^◌, ◌<◌}
 use Rattle.warg_modular.specs.declared.words.Words.{Words}
 use Rattle.warg_modular.specs.declared.montgomery.Wide.{Wide}
 
@@ -20,7 +20,3 @@ pub record IsRound (t p r : ℕ) : Type 0 where
   pub factor : ℕ
   pub fits : factor < 2 ^ 64
   pub total : r * 2 ^ 64 ≡ t + factor * p
-
--- the number that bytes write, the highest first
-unfoldable pub big_endian : List ℕ → ℕ
-big_endian bytes = fold (λ a b. a * 256 + b) 0 bytes

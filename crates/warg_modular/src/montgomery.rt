@@ -1,4 +1,4 @@
-// Products modulo an odd number, by Montgomery's method.
+//! Products modulo an odd number `p`, by Montgomery's method. `inverse` is -1 / p modulo 2 ^ 64.
 
 ghost use Rattle.std.specs.Prelude.{◌≡◌, ℕ, ◌+◌, ◌*◌, ◌%◌, ◌^◌, ◌<◌, ◌≤◌};
 ghost use Rattle.std.specs.Int.{from_bool};
@@ -6,7 +6,7 @@ ghost use Rattle.warg_modular.specs.Value.{value, wide, squares, IsRound};
 
 use crate::words::{Words, add, add_with_carry, half, select, sub};
 
-// A number in eight words, the low four first.
+/// A number below 2 ^ 512 in eight words, the low four first.
 #[derive(Clone, Copy)]
 pub struct Wide {
     pub low: Words,
@@ -136,7 +136,7 @@ fn reduce(t: Wide, p: Words, inverse: u64) -> Words
     reduced(s, carry, p)
 }
 
-// a * b / 2 ^ 256 modulo p.
+/// a * b / 2 ^ 256 modulo p. Only one of the two has to be below p.
 #[inline(always)]
 pub fn mul(a: Words, b: Words, p: Words, inverse: u64) -> Words
     requires inverse { (p.l0 * inverse + 1) % 2 ^ 64 ≡ 0 }
@@ -147,7 +147,7 @@ pub fn mul(a: Words, b: Words, p: Words, inverse: u64) -> Words
     reduce(wide_product(a, b), p, inverse)
 }
 
-// a * a / 2 ^ 256 modulo p.
+/// a * a / 2 ^ 256 modulo p.
 #[inline(always)]
 pub fn square(a: Words, p: Words, inverse: u64) -> Words
     requires inverse { (p.l0 * inverse + 1) % 2 ^ 64 ≡ 0 }
@@ -158,7 +158,7 @@ pub fn square(a: Words, p: Words, inverse: u64) -> Words
     reduce(wide_square(a), p, inverse)
 }
 
-// a + b modulo p.
+/// a + b modulo p.
 #[inline(always)]
 pub fn sum(a: Words, b: Words, p: Words) -> Words
     requires { (value a < value p) × (value b < value p) }
@@ -169,7 +169,7 @@ pub fn sum(a: Words, b: Words, p: Words) -> Words
     reduced(s, carry, p)
 }
 
-// a - b modulo p.
+/// a - b modulo p.
 #[inline(always)]
 pub fn difference(a: Words, b: Words, p: Words) -> Words
     requires { (value a < value p) × (value b < value p) }

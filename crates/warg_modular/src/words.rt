@@ -1,10 +1,12 @@
-// Numbers below 2 ^ 256 in four words, the lowest first.
+//! Numbers below 2 ^ 256 in four words, the lowest first.
 #![tactic(auto, unfolding(crate::specs::Value::value))]
 
 ghost use Rattle.std.specs.Prelude.{◌≡◌, ℕ, ◌+◌, ◌*◌, ◌/◌, ◌%◌, ◌^◌, ◌<◌, ◌↔◌, IsTrue, IsFalse};
 ghost use Rattle.std.specs.Int.{from_bool};
-ghost use Rattle.warg_modular.specs.Value.{value, big_endian};
+ghost use Rattle.warg_modular.specs.BigEndian.{big_endian};
+ghost use Rattle.warg_modular.specs.Value.{value};
 
+/// A number below 2 ^ 256.
 #[derive(Clone, Copy)]
 pub struct Words {
     pub l0: u64,
@@ -13,8 +15,8 @@ pub struct Words {
     pub l3: u64,
 }
 
-// The sum of two words and a carry: its low word, and the carry. As a product with 1 it becomes
-// the processor's own addition with carry.
+/// The sum of two words and a carry: its low word, and the carry. As a product with 1 it becomes
+/// the processor's own addition with carry.
 #[inline(always)]
 pub fn add_with_carry(a: u64, b: u64, carry: u64) -> (u64, u64)
     ensures { result.0 + result.1 * 2 ^ 64 ≡ a + b + carry }
@@ -22,7 +24,7 @@ pub fn add_with_carry(a: u64, b: u64, carry: u64) -> (u64, u64)
     a.carrying_mul_add(1, carry, b)
 }
 
-// The sum, and whether it passed 2 ^ 256.
+/// The sum modulo 2 ^ 256, and whether it passed 2 ^ 256.
 #[inline(always)]
 pub fn add(a: Words, b: Words) -> (Words, bool)
     ensures total { value result.0 + from_bool result.1 * 2 ^ 256 ≡ value a + value b }
@@ -35,7 +37,8 @@ pub fn add(a: Words, b: Words) -> (Words, bool)
     (Words { l0, l1, l2, l3 }, c != 0)
 }
 
-// The difference, and whether it fell below 0: a and the complement of b are added, and 1.
+/// The difference modulo 2 ^ 256, and whether it fell below 0: `a` and the complement of `b` are
+/// added, and 1.
 #[inline(always)]
 pub fn sub(a: Words, b: Words) -> (Words, bool)
     ensures total { value result.0 + value b ≡ value a + from_bool result.1 * 2 ^ 256 }
@@ -57,7 +60,7 @@ fn select_word(choice: bool, a: u64, b: u64) -> u64
     if choice { a } else { b }
 }
 
-// The same of numbers, word by word.
+/// The first where `choice` is true, and else the second, without a branch.
 #[inline(always)]
 pub fn select(choice: bool, a: Words, b: Words) -> Words
     ensures first { IsTrue choice → result ≡ a }
@@ -71,6 +74,7 @@ pub fn select(choice: bool, a: Words, b: Words) -> Words
     }
 }
 
+/// Whether the first is below the second.
 #[inline(always)]
 pub fn is_less(a: Words, b: Words) -> bool
     ensures { IsTrue result ↔ (value a < value b) }
@@ -79,6 +83,7 @@ pub fn is_less(a: Words, b: Words) -> bool
     is_below
 }
 
+/// Whether the number is 0.
 #[inline(always)]
 pub fn is_zero(a: Words) -> bool
     ensures { IsTrue result ↔ (value a ≡ 0) }
@@ -86,6 +91,7 @@ pub fn is_zero(a: Words) -> bool
     a.l0 == 0 && a.l1 == 0 && a.l2 == 0 && a.l3 == 0
 }
 
+/// Whether the two are one number.
 #[inline(always)]
 pub fn is_equal(a: Words, b: Words) -> bool
     ensures { IsTrue result ↔ (value a ≡ value b) }
@@ -93,21 +99,7 @@ pub fn is_equal(a: Words, b: Words) -> bool
     a.l0 == b.l0 && a.l1 == b.l1 && a.l2 == b.l2 && a.l3 == b.l3
 }
 
-// The word that holds the bit `i`.
-#[inline(always)]
-pub fn word_of(a: Words, i: u32) -> u64 {
-    if i < 64 {
-        a.l0
-    } else if i < 128 {
-        a.l1
-    } else if i < 192 {
-        a.l2
-    } else {
-        a.l3
-    }
-}
-
-// The bit `i`.
+/// Whether the bit `i` is set, the lowest being 0.
 #[inline(always)]
 pub fn bit(a: Words, i: u32) -> bool
     requires { i < 256 }
@@ -126,8 +118,8 @@ pub fn bit(a: Words, i: u32) -> bool
     (l3 >> (i - 192)) % 2 == 1
 }
 
-// The number that the bytes write, the highest first, modulo 2 ^ 256.
-pub fn from_be(bytes: &[u8]) -> Words
+/// The number that the bytes write, the highest first, modulo 2 ^ 256 (SEC 1, 2.3.8).
+pub fn from_be_bytes(bytes: &[u8]) -> Words
     ensures { value result ≡ big_endian bytes.now % 2 ^ 256 }
 {
     let mut a = Words {

@@ -4,9 +4,9 @@ use Rattle.std.proofs.Math.Nat.{mod-eq_of_lt, zero-mul, mul-one}
 use Rattle.warg_primes.proofs.Congruent.{Same, same, same_of, same_mod, back, then, both_times, both_plus, same_more, minus_is}
 use Rattle.warg_p256.proofs.Adding.{Heads, Tails, head_h, head_r, added}
 use Rattle.warg_curve.specs.Field.{prime, minus, times}
-use Rattle.warg_curve.specs.Curve.{Point, infinity, at, chord_slope, double, add, HasInverses}
+use Rattle.warg_curve.specs.Curve.{Point, infinity, at, chord_slope, double, add}
 use Rattle.warg_p256.specs.Coordinates.{StandsFor}
-use Rattle.warg_curve.proofs.CurveFacts.{low, prime_pos, whole, reduced, minus_as, times_below, low_is, add_right, one_number, zero_factor, quotient_times, add_infinity, add_chord, add_mirrored, add_same}
+use Rattle.warg_curve.proofs.CurveFacts.{HasInverses, low, prime_pos, whole, reduced, minus_as, times_below, low_is, add_right, one_number, zero_factor, quotient_times, add_infinity, add_chord, add_mirrored, add_same}
 use Rattle.warg_p256.proofs.Standing.{stands_third, stands_x, stands_y}
 
 -- `head_h`, `head_r` and `added` at the prime
@@ -142,8 +142,8 @@ stands_affine x y z hx hy e =
     let nz : z ≢ 0 = omega arith in
     (nz, hx, hy, sym (times_one x (times z z) hx zz), sym (times_one y (times z (times z z)) hy zzz))
 
-pub not_nought : (b : Bool) (n : ℕ) → ((b ≡ true → n ≡ 0) × (n ≡ 0 → b ≡ true)) → b ≡ false → n ≢ 0
-not_nought b n h f e = let g : b ≡ true = h.1 e in cc
+pub not_zero : (b : Bool) (n : ℕ) → ((b ≡ true → n ≡ 0) × (n ≡ 0 → b ≡ true)) → b ≡ false → n ≢ 0
+not_zero b n h f e = let g : b ≡ true = h.1 e in cc
 
 -- the other point in coordinates of its own: (X2, Y2, V)
 pub record Crossed (p X Y Z X2 Y2 V zz vv t u vvv w zzz s h r : ℕ) : Type 0 where

@@ -4,9 +4,9 @@ use Rattle.std.proofs.Math.Nat.{mul-zero, zero-mul}
 use Rattle.warg_primes.proofs.Congruent.{Same, same, then, both_times, both_plus}
 use Rattle.warg_p256.proofs.Doubled.{Steps, doubled}
 use Rattle.warg_curve.specs.Field.{prime, minus, times}
-use Rattle.warg_curve.specs.Curve.{Point, infinity, at, tangent_slope, double, HasInverses}
+use Rattle.warg_curve.specs.Curve.{Point, infinity, at, tangent_slope, double}
 use Rattle.warg_p256.specs.Coordinates.{StandsFor}
-use Rattle.warg_curve.proofs.CurveFacts.{low, two_below, three_below, whole, reduced, minus_as, times_below, zero_mod, zero_factor, quotient_times, double_flat, double_sloped, double_infinity}
+use Rattle.warg_curve.proofs.CurveFacts.{HasInverses, low, two_below, three_below, whole, reduced, minus_as, times_below, zero_mod, zero_factor, quotient_times, double_flat, double_sloped, double_infinity}
 use Rattle.warg_p256.proofs.Standing.{stands_third, stands_x, stands_y}
 
 tangent_as : HasInverses → (x y : ℕ) → y < prime → y ≢ 0 → Same prime (tangent_slope x y * (2 * y)) (3 * (x * x) + low * 3)

@@ -1,4 +1,4 @@
-pub mod Field
+pub mod FieldElements
 pub mod Scalars
 pub mod Standing
 pub mod Doubling

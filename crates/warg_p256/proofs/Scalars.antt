@@ -3,7 +3,7 @@ use Rattle.std.proofs.lemmas.Nat.{mul-mod_second, pow-add, shr-shr}
 use Rattle.std.proofs.Math.Nat.{mod-eq_of_lt, mod-lt, div-one, pow-suc, pow-zero}
 use Rattle.warg_primes.proofs.Congruent.{Same, same, same_of, same_mod, back, then, both_times, both_plus}
 use Rattle.warg_modular.proofs.Rounds.{same_scaled}
-use Rattle.warg_p256.proofs.Field.{strip, times_of}
+use Rattle.warg_p256.proofs.FieldElements.{strip, times_of}
 use Rattle.warg_modular.specs.Value.{value}
 use Rattle.warg_curve.specs.Order.{order}
 use Rattle.warg_p256.specs.Scalars.{order_shrink, scalar}
@@ -36,9 +36,9 @@ pub square_number : scalar record { l0 = 9449762124159643298; l1 = 5087230966250
 unfolding scalar value order order_shrink
 square_number = refl
 
-pub scalar_to_form : (r a : Words) → scalar r ≡ (scalar a * scalar record { l0 = 9449762124159643298; l1 = 5087230966250696614; l2 = 2901921493521525849; l3 = 7413256579398063648 }) % order → scalar r ≡ value a % order
+pub scalar_to_montgomery : (r a : Words) → scalar r ≡ (scalar a * scalar record { l0 = 9449762124159643298; l1 = 5087230966250696614; l2 = 2901921493521525849; l3 = 7413256579398063648 }) % order → scalar r ≡ value a % order
 unfolding scalar
-scalar_to_form r a h =
+scalar_to_montgomery r a h =
     let e1 : value a * order_shrink * 2 ^ 256 ≡ value a * (2 ^ 256 * order_shrink) = omega arith in
     let both : Same order (scalar a * scalar record { l0 = 9449762124159643298; l1 = 5087230966250696614; l2 = 2901921493521525849; l3 = 7413256579398063648 }) (value a * order_shrink * 2 ^ 256) = both_times (same_mod order (scalar a) (value a * order_shrink) refl) (same_mod order _ (2 ^ 256) square_number) in
     h ∙ both.is ∙ ap (λ v. v % order) e1 ∙ strip (value a) (2 ^ 256) order_shrink order order_shrinks

@@ -1,4 +1,4 @@
-use Rattle.std.proofs.Common.{◌≡◌, ℕ, ◌+◌, ◌*◌, ◌%◌, ◌^◌, ◌<◌, ◌≤◌, ◌⊎◌, inl, inr, Bool, ◌&&◌, ◌||◌, List, [], ◌∷◌, length, drop, ap, sym, ◌∙◌, refl, subst, append-nil, arith}
+use Rattle.std.proofs.Common.{◌≡◌, ℕ, ◌+◌, ◌*◌, ◌%◌, ◌^◌, ◌<◌, ◌≤◌, ◌⊎◌, inl, inr, Bool, ◌&&◌, ◌||◌, List, [], ◌∷◌, length, take, drop, ap, sym, ◌∙◌, refl, subst, append-nil, arith}
 use Rattle.std.specs.Prelude.{slice_index, nat_le}
 use Rattle.std.specs.Bool.{Decides}
 use Rattle.std.proofs.lemmas.Bool.{cases_lt, leb-true, le-leb}
@@ -6,15 +6,15 @@ use Rattle.std.proofs.lemmas.Bool.Decides.{Decides-eqb, Decides-ltb, Decides-and
 use Rattle.std.proofs.lemmas.Slice.Eq.{bytes_eq-Decides}
 use Rattle.std.proofs.Math.Seq.{take-append_seam, drop-append_seam}
 use Rattle.sha2.specs.Sha256.{sha256}
-use Rattle.warg_modular.specs.Value.{big_endian}
+use Rattle.warg_modular.specs.BigEndian.{big_endian}
 use Rattle.warg_curve.specs.Field.{prime, times}
 use Rattle.warg_curve.specs.Order.{order}
 use Rattle.warg_curve.specs.Curve.{Point, infinity, at, add, base}
 use Rattle.warg_curve.specs.Group.{IsOnCurve, right_side_of, multiple}
-use Rattle.warg_p256.specs.Sec1.{IsWhole, IsCompressed, IsKey, number_at}
+use Rattle.warg_p256.specs.Sec1.{IsUncompressed, IsCompressed, IsKey, number_at}
 use Rattle.warg_p256.specs.Der.{IsInteger, IsDer, integer}
 use Rattle.warg_p256.specs.Ecdsa.{HasX, IsSignature, IsVerified}
-use Rattle.warg_p256.specs.Verified.{any_below, is_whole, is_compressed, is_key, is_integer, first_contents, second_contents, is_der, has_x, is_signature, is_verified}
+use Rattle.warg_p256.specs.Verified.{any_below, is_uncompressed, is_compressed, is_key, is_integer, is_der, has_x, is_signature, is_verified}
 
 -- both, of three
 and3 : {P Q R : Type 0} (a b c : Bool) → Decides a P → Decides b Q → Decides c R → Decides (a && (b && c)) (P × (Q × R))
@@ -29,28 +29,28 @@ unfolding any_below
 decides_below n test P each = Decides-below_or test P (λ m. any_below m test) each refl (λ m. refl) n
 
 -- what a key's bytes say beside that x and y are numbers of the field
-abbrev IsWholeAt : List ℕ → ℕ → ℕ → Type 0
-IsWholeAt bytes x y =
+abbrev IsUncompressedAt : List ℕ → ℕ → ℕ → Type 0
+IsUncompressedAt bytes x y =
     (length bytes ≡ 65) × ((slice_index bytes 0 ≡ 4) × ((number_at bytes 1 ≡ x) × ((number_at bytes 33 ≡ y) × (times y y ≡ right_side_of x))))
 
 abbrev IsCompressedAt : List ℕ → ℕ → ℕ → Type 0
 IsCompressedAt bytes x y = (length bytes ≡ 33) × ((slice_index bytes 0 ≡ 2 + y % 2) × ((number_at bytes 1 ≡ x) × (times y y ≡ right_side_of x)))
 
-key_decides : (bytes : List ℕ) (x y : ℕ) → Decides (is_whole bytes x y || is_compressed bytes x y) (IsWholeAt bytes x y ⊎ IsCompressedAt bytes x y)
+key_decides : (bytes : List ℕ) (x y : ℕ) → Decides (is_uncompressed bytes x y || is_compressed bytes x y) (IsUncompressedAt bytes x y ⊎ IsCompressedAt bytes x y)
 key_decides bytes x y = Decides-or _ _
     (and3 _ _ _ (Decides-eqb (length bytes) 65) (Decides-eqb (slice_index bytes 0) 4)
     (and3 _ _ _ (Decides-eqb (number_at bytes 1) x) (Decides-eqb (number_at bytes 33) y) (Decides-eqb (times y y) (right_side_of x))))
     (and3 _ _ _ (Decides-eqb (length bytes) 33) (Decides-eqb (slice_index bytes 0) (2 + y % 2))
     (Decides-and _ _ (Decides-eqb (number_at bytes 1) x) (Decides-eqb (times y y) (right_side_of x))))
 
-key_from : (bytes : List ℕ) (x y : ℕ) → x < prime → y < prime → IsWholeAt bytes x y ⊎ IsCompressedAt bytes x y → IsWhole bytes x y ⊎ IsCompressed bytes x y
+key_from : (bytes : List ℕ) (x y : ℕ) → x < prime → y < prime → IsUncompressedAt bytes x y ⊎ IsCompressedAt bytes x y → IsUncompressed bytes x y ⊎ IsCompressed bytes x y
 unfolding IsOnCurve
 key_from bytes x y hx hy k = elim k [
   | inl g ↦ inl (record { length_is = g.0; tag_is = g.1.0; x_is = g.1.1.0; y_is = g.1.1.1.0; on_curve = (hx, hy, g.1.1.1.1) })
   | inr g ↦ inr (record { length_is = g.0; tag_is = g.1.0; x_is = g.1.1.0; on_curve = (hx, hy, g.1.1.1) })
 ]
 
-key_to : (bytes : List ℕ) (x y : ℕ) → IsWhole bytes x y ⊎ IsCompressed bytes x y → (x < prime) × (y < prime) × (IsWholeAt bytes x y ⊎ IsCompressedAt bytes x y)
+key_to : (bytes : List ℕ) (x y : ℕ) → IsUncompressed bytes x y ⊎ IsCompressed bytes x y → (x < prime) × (y < prime) × (IsUncompressedAt bytes x y ⊎ IsCompressedAt bytes x y)
 unfolding IsOnCurve
 key_to bytes x y k = elim k [
   | inl g ↦ (g.on_curve.0, g.on_curve.1, inl (g.length_is, (g.tag_is, (g.x_is, (g.y_is, g.on_curve.2)))))
@@ -86,6 +86,14 @@ is_integer_decides bytes n = Decides-like _
     })
     (λ g. (g.some, (g.few, (elim (cases_lt (length bytes) 33) [ inl l ↦ inl l | inr h ↦ inr (g.fits (let f : length bytes ≤ 33 = g.few in omega arith)) ], (g.positive, (g.shortest, g.value_is))))))
     (integer_decides bytes n)
+
+-- the contents of the first of two INTEGERs
+abbrev first_contents : List ℕ → List ℕ
+first_contents bytes = take (slice_index bytes 3) (drop 4 bytes)
+
+-- the contents of the second
+abbrev second_contents : List ℕ → List ℕ
+second_contents bytes = drop 2 (drop (slice_index bytes 3) (drop 4 bytes))
 
 -- where the two INTEGERs stand
 contents_of : (bytes first second : List ℕ) (n : ℕ) → bytes ≡ 48 ∷ n ∷ integer first (integer second []) → (first ≡ first_contents bytes) × (second ≡ second_contents bytes)
@@ -150,6 +158,6 @@ is_verified_decides key message signature = Decides-like _
     (λ g.
     let k = key_to key g.x g.y g.key_is in
     (g.x, k.0, (g.y, k.1, (k.2, (g.r, g.signature_is.r_below, (g.s, g.signature_is.s_below, (g.der_is, g.signature_is)))))))
-    (decides_below prime _ (λ x. (y : ℕ) × (y < prime) × ((IsWholeAt key x y ⊎ IsCompressedAt key x y) × SomeNumbers message signature x y)) (λ x.
-    decides_below prime _ (λ y. (IsWholeAt key x y ⊎ IsCompressedAt key x y) × SomeNumbers message signature x y) (λ y.
+    (decides_below prime _ (λ x. (y : ℕ) × (y < prime) × ((IsUncompressedAt key x y ⊎ IsCompressedAt key x y) × SomeNumbers message signature x y)) (λ x.
+    decides_below prime _ (λ y. (IsUncompressedAt key x y ⊎ IsCompressedAt key x y) × SomeNumbers message signature x y) (λ y.
     Decides-and _ _ (key_decides key x y) (numbers_decide message signature x y))))

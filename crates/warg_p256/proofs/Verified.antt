@@ -2,10 +2,10 @@ use Rattle.std.proofs.Common.{◌≡◌, ℕ, ◌+◌, ◌-◌, ◌%◌, ◌^◌
 use Rattle.std.proofs.lemmas.Bool.{cases_eq}
 use Rattle.std.proofs.Math.Nat.{mod-eq_of_lt, mod_self}
 use Rattle.sha2.specs.Sha256.{sha256}
-use Rattle.warg_modular.specs.Value.{big_endian}
+use Rattle.warg_modular.specs.BigEndian.{big_endian}
 use Rattle.warg_curve.specs.Field.{prime, times}
 use Rattle.warg_curve.specs.Curve.{at}
-use Rattle.warg_p256.specs.Sec1.{IsWhole, IsCompressed}
+use Rattle.warg_p256.specs.Sec1.{IsUncompressed, IsCompressed}
 use Rattle.warg_curve.specs.Group.{IsOnCurve, right_side_of}
 use Rattle.warg_p256.specs.Der.{IsDer, integer}
 use Rattle.warg_p256.specs.Ecdsa.{IsSignature, IsVerified}
@@ -30,7 +30,7 @@ same_root y t hy ht e p = elim (two_roots y t hy ht e) [
   ]
 ]
 
-key_once : (bs : List ℕ) (x y u v : ℕ) → IsWhole bs x y ⊎ IsCompressed bs x y → IsWhole bs u v ⊎ IsCompressed bs u v → (x ≡ u) × (y ≡ v)
+key_once : (bs : List ℕ) (x y u v : ℕ) → IsUncompressed bs x y ⊎ IsCompressed bs x y → IsUncompressed bs u v ⊎ IsCompressed bs u v → (x ≡ u) × (y ≡ v)
 unfolding IsOnCurve
 key_once bs x y u v a b = elim a [
   | inl g ↦ elim b [
@@ -56,7 +56,7 @@ der_once bs r s u v g h =
       sym g.s_is.value_is ∙ ap (λ t. big_endian t % 2 ^ 256) second.0 ∙ h.s_is.value_is,
     )
 
-pub verified : (key message signature : List ℕ) (x y r s e : ℕ) (b : Bool) → IsWhole key x y ⊎ IsCompressed key x y → IsDer signature r s → e ≡ big_endian (sha256 message) % 2 ^ 256 →
+pub verified : (key message signature : List ℕ) (x y r s e : ℕ) (b : Bool) → IsUncompressed key x y ⊎ IsCompressed key x y → IsDer signature r s → e ≡ big_endian (sha256 message) % 2 ^ 256 →
     ((b ≡ true → IsSignature (at x y) e r s) × (IsSignature (at x y) e r s → b ≡ true)) →
     (b ≡ true → IsVerified key message signature) × (IsVerified key message signature → b ≡ true)
 verified key message signature x y r s e b k d h w = (

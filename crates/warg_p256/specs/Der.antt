@@ -1,7 +1,9 @@
-use Rattle.std.specs.Prelude.{◌≡◌, ℕ, ◌+◌, ◌%◌, ◌^◌, ◌<◌, ◌≤◌, ◌⊎◌, List, [], ◌∷◌, ◌++◌, length, slice_index}
-use Rattle.warg_modular.specs.Value.{big_endian}
+-- The DER of a signature (RFC 3279, 2.2.3; INTEGER: X.690, 8.3).
+use Rattle.std.specs.Prelude.{◌≡◌, ℕ, ◌+◌, ◌%◌, ◌^◌, ◌<◌, ◌≤◌, ◌⊎◌}
+use Rattle.std.specs.Prelude.{List, [], ◌∷◌, ◌++◌, length, slice_index}
+use Rattle.warg_modular.specs.BigEndian.{big_endian}
 
--- the contents of an INTEGER of at most 256 bits that is not negative: as few bytes as serve
+-- an INTEGER's contents: a number below 2 ^ 256, not negative, in as few bytes as serve
 pub record IsInteger (bytes : List ℕ) (n : ℕ) : Type 0 where
   pub some : 0 < length bytes
   pub few : length bytes ≤ 33
@@ -10,11 +12,11 @@ pub record IsInteger (bytes : List ℕ) (n : ℕ) : Type 0 where
   pub shortest : (length bytes ≡ 1) ⊎ ((0 < slice_index bytes 0) ⊎ (128 ≤ slice_index bytes 1))
   pub value_is : big_endian bytes % 2 ^ 256 ≡ n
 
--- INTEGER with these contents, and what follows
+-- an INTEGER with these contents: its tag, their length, themselves; and what follows
 abbrev pub integer : List ℕ → List ℕ → List ℕ
 integer contents rest = 2 ∷ length contents ∷ (contents ++ rest)
 
--- SEQUENCE { INTEGER r, INTEGER s }
+-- the bytes are SEQUENCE { INTEGER r, INTEGER s }, with nothing behind
 pub record IsDer (bytes : List ℕ) (r s : ℕ) : Type 0 where
   pub first : List ℕ
   pub second : List ℕ

@@ -1,6 +1,7 @@
+-- Verification of ECDSA on P-256 with SHA-256 (SEC 1, 4.1.4; X9.62; FIPS 186-5, 6.4.2; FIPS 180-4).
 use Rattle.std.specs.Prelude.{◌≡◌, ℕ, ◌*◌, ◌%◌, ◌^◌, ◌<◌, List}
 use Rattle.sha2.specs.Sha256.{sha256}
-use Rattle.warg_modular.specs.Value.{big_endian}
+use Rattle.warg_modular.specs.BigEndian.{big_endian}
 use Rattle.warg_p256.specs.Sec1.{IsKey}
 use Rattle.warg_p256.specs.Der.{IsDer}
 use Rattle.warg_curve.specs.Order.{order}
@@ -12,7 +13,7 @@ abbrev pub HasX : Point → ℕ → Type 0
 HasX infinity r = ⊥
 HasX (at x y) r = x % order ≡ r
 
--- (r, s) is a signature by the key q of a message with the hash e, where w is 1 / s modulo the order
+-- (r, s) is a signature by the key q of a message with the hash e: w is 1 / s modulo the order
 pub record IsSignature (q : Point) (e r s : ℕ) : Type 0 where
   pub r_some : 0 < r
   pub r_below : r < order

@@ -1,3 +1,4 @@
+-- Numbers of the field in Montgomery's form.
 use Rattle.std.specs.Prelude.{ℕ, ◌*◌, ◌%◌}
 use Rattle.warg_modular.specs.declared.words.Words.{Words}
 use Rattle.warg_modular.specs.Value.{value}

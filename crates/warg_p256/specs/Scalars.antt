@@ -1,3 +1,4 @@
+-- Numbers modulo the order in Montgomery's form.
 use Rattle.std.specs.Prelude.{ℕ, ◌*◌, ◌%◌}
 use Rattle.warg_modular.specs.declared.words.Words.{Words}
 use Rattle.warg_modular.specs.Value.{value}

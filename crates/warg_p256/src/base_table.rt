@@ -2,11 +2,11 @@
 // writes the rows.
 
 ghost use Rattle.std.specs.Prelude.{◌≡◌, ◌<◌};
-ghost use Rattle.warg_p256.specs.Elements.{number};
-ghost use Rattle.warg_curve.specs.Curve.{at, base};
+ghost use Rattle.warg_curve.specs.Curve.{base};
 ghost use Rattle.warg_curve.specs.Group.{multiple};
+ghost use Rattle.warg_p256.specs.Rows.{point_of};
 
-use crate::fp::Element;
+use crate::field::Element;
 use crate::point::Affine;
 use warg_modular::words::Words;
 
@@ -16,11 +16,11 @@ struct Row {
     y: Words,
 }
 
-// i * base(), which row i - 1 has.
+// `i` times the base point, which the row `i` - 1 has.
 pub(crate) fn base_multiple(i: usize) -> Affine
     requires some { 0 < i }
     requires few { i < 256 }
-    ensures { at (number result.x.words) (number result.y.words) ≡ multiple i base }
+    ensures { point_of result ≡ multiple i base }
 {
     let row = &ROWS[i - 1];
     Affine {

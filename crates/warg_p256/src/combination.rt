@@ -1,21 +1,21 @@
-//! Sums of multiples: `k` times the base point and `l` times another point, in one loop.
+//! Sums of multiples: `k` times the base point and `l` times another point, in one loop. A byte of
+//! `k` picks a row of the base point's table, and four bits of `l` one of a table of the other's.
 
 ghost use Rattle.std.specs.Prelude.{◌≡◌, ℕ, ◌+◌, ◌*◌, ◌^◌, ◌<◌};
 ghost use Rattle.warg_modular.specs.Value.{value};
-ghost use Rattle.warg_curve.specs.Curve.{Point, at, add, base};
+ghost use Rattle.warg_curve.specs.Curve.{Point, add, base};
 ghost use Rattle.warg_curve.specs.Group.{IsOnCurve, multiple};
-ghost use Rattle.warg_p256.specs.Elements.{number};
-ghost use Rattle.warg_p256.specs.Rows.{Stands, AreMultiples};
+ghost use Rattle.warg_p256.specs.Rows.{point_of, Stands, AreMultiples};
 
 use crate::base_table::base_multiple;
-use crate::fp::is_nought;
+use crate::field::is_zero;
 use crate::point::{Affine, Jacobian, add_affine, add_jacobian, double, from_affine, infinity};
 use warg_modular::words::Words;
 
 // The multiples 0 to 15 of a point.
 fn multiples(q: Affine) -> [Jacobian; 16]
-    requires { IsOnCurve (at (number q.x.words) (number q.y.words)) }
-    ensures { AreMultiples (at (number q.x.words) (number q.y.words)) 0 result }
+    requires { IsOnCurve (point_of q) }
+    ensures { AreMultiples (point_of q) 0 result }
 {
     let m1 = from_affine(q);
     let m2 = double(m1);
@@ -56,7 +56,7 @@ fn multiples(q: Affine) -> [Jacobian; 16]
 fn sixteen_times(p: Jacobian) -> Jacobian
     ensures { (a : Point) → IsOnCurve a → Stands p a → Stands result (multiple 16 a) }
 {
-    if is_nought(p.z) {
+    if is_zero(p.z) {
         return p;
     }
     double(double(double(double(p))))
@@ -95,7 +95,8 @@ fn add_base(p: Jacobian, n: usize) -> Jacobian
     add_affine(p, base_multiple(n))
 }
 
-// 2 ^ 64 times a point, `k` times the base point and `l` times the point of the table, eight bits at a time.
+// 2 ^ 64 times a point, `k` times the base point and `l` times the point of the table, eight bits
+// at a time.
 fn add_word(p: Jacobian, table: &[Jacobian; 16], k: u64, l: u64) -> Jacobian
     ensures { (a q : Point) → IsOnCurve a → IsOnCurve q → Stands p a →
         AreMultiples q 0 table.now →
@@ -111,9 +112,9 @@ fn add_word(p: Jacobian, table: &[Jacobian; 16], k: u64, l: u64) -> Jacobian
 
 /// `k` times the base point and `l` times another point of the curve.
 pub(crate) fn combination(k: Words, l: Words, q: Affine) -> Jacobian
-    requires { IsOnCurve (at (number q.x.words) (number q.y.words)) }
-    ensures { Stands result (add (multiple (value k) base)
-        (multiple (value l) (at (number q.x.words) (number q.y.words)))) }
+    requires { IsOnCurve (point_of q) }
+    ensures { Stands result
+        (add (multiple (value k) base) (multiple (value l) (point_of q))) }
 {
     let table = multiples(q);
     let r = add_word(infinity(), &table, k.l3, l.l3);

@@ -1,11 +1,12 @@
-// The strict DER of a signature: SEQUENCE { INTEGER r, INTEGER s }.
+// The DER of a signature (RFC 3279, 2.2.3): SEQUENCE { INTEGER r, INTEGER s }.
 
 ghost use Rattle.std.specs.Prelude.{◌≡◌, ℕ, ◌<◌, ◌++◌, List, [], ◌∷◌, length, IfSome, IfNone};
 ghost use Rattle.warg_modular.specs.Value.{value};
 ghost use Rattle.warg_p256.specs.Der.{IsInteger, IsDer, integer as integer_text};
 
-use warg_modular::words::{Words, from_be};
+use warg_modular::words::{Words, from_be_bytes};
 
+// The two numbers of a signature.
 #[derive(Clone, Copy)]
 pub(crate) struct Signature {
     pub(crate) r: Words,
@@ -27,13 +28,14 @@ fn number(contents: &[u8]) -> Option<Words>
     if contents.len() == 33 && contents[0] != 0 {
         return None;
     }
-    Some(from_be(contents))
+    Some(from_be_bytes(contents))
 }
 
 // The contents of the INTEGER that the bytes begin with, and the bytes after it.
 fn integer(bytes: &[u8]) -> Option<(&[u8], &[u8])>
     ensures some { IfSome result (λ p. bytes.now ≡ integer_text p.0.now p.1.now) }
-    ensures none { IfNone result ((c : List ℕ) → (d : List ℕ) → length c < 128 → bytes.now ≡ integer_text c d → ⊥) }
+    ensures none { IfNone result ((contents rest : List ℕ) → length contents < 128 →
+        bytes.now ≡ integer_text contents rest → ⊥) }
 {
     if bytes.len() < 2 || bytes[0] != 2 || bytes[1] >= 128 {
         return None;
@@ -45,6 +47,7 @@ fn integer(bytes: &[u8]) -> Option<(&[u8], &[u8])>
     Some((&bytes[2..end], &bytes[end..]))
 }
 
+// The two numbers, if the bytes are their DER and no byte is left.
 pub(crate) fn parse(bytes: &[u8]) -> Option<Signature>
     ensures some { IfSome result (λ g. IsDer bytes.now (value g.r) (value g.s)) }
     ensures none { IfNone result ((r : ℕ) → (s : ℕ) → IsDer bytes.now r s → ⊥) }

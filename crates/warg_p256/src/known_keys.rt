@@ -25,8 +25,9 @@ struct KnownKey {
     ghost is_read: { is_key bytes.items (number point.x.words) (number point.y.words) ≡ true },
 }
 
-/// Verifies as [`P256Verifier`](crate::P256Verifier) does, and keeps the points of the keys to which a signature belonged, 32 at most: so a log's keys
-/// are read once, and what strangers send without a signature of such a key is not kept. Where there is no memory to keep one, it is read again.
+/// Verifies as [`P256Verifier`](crate::P256Verifier) does, and keeps the points of the keys to which
+/// a signature belonged, 32 at most. So the keys of a log are read once, and no stranger's key is
+/// kept that has signed nothing. Where there is no memory to keep a point, it is read again.
 #[derive(Drop)]
 pub struct KnownKeys {
     alloc: Global,
@@ -44,7 +45,8 @@ impl KnownKeys {
 
     // The point of a key that is kept.
     fn point_of(&self, bytes: &[u8]) -> Option<Affine>
-        ensures { IfSome result (λ p. is_key bytes.now (number p.x.words) (number p.y.words) ≡ true) }
+        ensures { IfSome result
+            (λ p. is_key bytes.now (number p.x.words) (number p.y.words) ≡ true) }
     {
         let Ok(keys) = self.keys.try_borrow() else {
             return None;
@@ -93,7 +95,8 @@ impl KnownKeys {
 
 // The point of a key among those that are kept.
 fn find(keys: &[KnownKey], bytes: &[u8]) -> Option<Affine>
-    ensures { IfSome result (λ p. is_key bytes.now (number p.x.words) (number p.y.words) ≡ true) }
+    ensures { IfSome result
+        (λ p. is_key bytes.now (number p.x.words) (number p.y.words) ≡ true) }
 {
     for key in keys {
         if key.bytes.as_slice() == bytes {

@@ -1,19 +1,19 @@
-// The group of the curve, in Jacobian coordinates: (x / z ^ 2, y / z ^ 3), and the point at infinity
-// where z is 0.
+// The group of the curve (SEC 1, 2.2.1) in Jacobian coordinates: (x / z ^ 2, y / z ^ 3), and the
+// point at infinity where z is 0.
 
-ghost use Rattle.std.specs.Prelude.{◌≡◌};
-ghost use Rattle.warg_p256.specs.Elements.{number};
-ghost use Rattle.warg_curve.specs.Curve.{Point, at, double, add};
-ghost use Rattle.warg_p256.specs.Coordinates.{StandsFor};
+ghost use Rattle.warg_curve.specs.Curve.{Point, infinity, double, add};
+ghost use Rattle.warg_p256.specs.Rows.{point_of, Stands};
 
-use crate::fp::{Element, add, is_nought, mul, nought, one, square, sub};
+use crate::field::{Element, add, is_zero, mul, one, square, sub, zero};
 
+// Two numbers of the field: a point but the one at infinity, where they satisfy the equation.
 #[derive(Clone, Copy)]
 pub(crate) struct Affine {
     pub(crate) x: Element,
     pub(crate) y: Element,
 }
 
+// Three numbers of the field that stand for a point.
 #[derive(Clone, Copy)]
 pub(crate) struct Jacobian {
     pub(crate) x: Element,
@@ -21,20 +21,22 @@ pub(crate) struct Jacobian {
     pub(crate) z: Element,
 }
 
+// The point at infinity.
 #[inline(always)]
 pub(crate) fn infinity() -> Jacobian
-    ensures { number result.z.words ≡ 0 }
+    ensures { Stands result infinity }
 {
     Jacobian {
         x: one(),
         y: one(),
-        z: nought(),
+        z: zero(),
     }
 }
 
+// The same point.
 #[inline(always)]
 pub(crate) fn from_affine(p: Affine) -> Jacobian
-    ensures { StandsFor (number result.x.words) (number result.y.words) (number result.z.words) (at (number p.x.words) (number p.y.words)) }
+    ensures { Stands result (point_of p) }
 {
     Jacobian {
         x: p.x,
@@ -43,8 +45,9 @@ pub(crate) fn from_affine(p: Affine) -> Jacobian
     }
 }
 
+// The sum of a point and itself.
 pub(crate) fn double(p: Jacobian) -> Jacobian
-    ensures { (a : Point) → StandsFor (number p.x.words) (number p.y.words) (number p.z.words) a → StandsFor (number result.x.words) (number result.y.words) (number result.z.words) (double a) }
+    ensures { (a : Point) → Stands p a → Stands result (double a) }
 {
     let zz = square(p.z);
     let yy = square(p.y);
@@ -63,10 +66,11 @@ pub(crate) fn double(p: Jacobian) -> Jacobian
     }
 }
 
+// The sum of two points, of which the second has no z.
 pub(crate) fn add_affine(p: Jacobian, q: Affine) -> Jacobian
-    ensures { (a : Point) → StandsFor (number p.x.words) (number p.y.words) (number p.z.words) a → StandsFor (number result.x.words) (number result.y.words) (number result.z.words) (add a (at (number q.x.words) (number q.y.words))) }
+    ensures { (a : Point) → Stands p a → Stands result (add a (point_of q)) }
 {
-    if is_nought(p.z) {
+    if is_zero(p.z) {
         return from_affine(q);
     }
     let zz = square(p.z);
@@ -74,8 +78,8 @@ pub(crate) fn add_affine(p: Jacobian, q: Affine) -> Jacobian
     let s = mul(q.y, mul(p.z, zz));
     let h = sub(u, p.x);
     let r = sub(s, p.y);
-    if is_nought(h) {
-        if is_nought(r) {
+    if is_zero(h) {
+        if is_zero(r) {
             return double(p);
         }
         return infinity();
@@ -92,15 +96,14 @@ pub(crate) fn add_affine(p: Jacobian, q: Affine) -> Jacobian
     }
 }
 
+// The sum of two points.
 pub(crate) fn add_jacobian(p: Jacobian, q: Jacobian) -> Jacobian
-    ensures { (a : Point) → (b : Point) → StandsFor (number p.x.words) (number p.y.words) (number p.z.words) a →
-        StandsFor (number q.x.words) (number q.y.words) (number q.z.words) b →
-        StandsFor (number result.x.words) (number result.y.words) (number result.z.words) (add a b) }
+    ensures { (a b : Point) → Stands p a → Stands q b → Stands result (add a b) }
 {
-    if is_nought(p.z) {
+    if is_zero(p.z) {
         return q;
     }
-    if is_nought(q.z) {
+    if is_zero(q.z) {
         return p;
     }
     let pzz = square(p.z);
@@ -111,8 +114,8 @@ pub(crate) fn add_jacobian(p: Jacobian, q: Jacobian) -> Jacobian
     let s = mul(q.y, mul(p.z, pzz));
     let h = sub(u, t);
     let r = sub(s, w);
-    if is_nought(h) {
-        if is_nought(r) {
+    if is_zero(h) {
+        if is_zero(r) {
             return double(p);
         }
         return infinity();

@@ -5,26 +5,29 @@ ghost use Rattle.warg_modular.specs.Value.{value};
 ghost use Rattle.warg_curve.specs.Order.{order};
 ghost use Rattle.warg_p256.specs.Scalars.{scalar};
 
-use crate::consts::{INV_N, N, R2_N, ZERO};
+use crate::constants::{N, N_INVERSE, R2_N, ZERO};
 use warg_modular::montgomery;
 use warg_modular::words::{Words, half, is_even, is_less, is_zero, sub};
 
+/// A number below the order.
 #[derive(Clone, Copy)]
 pub struct Scalar {
     pub words: Words,
     ghost reduced: { value words < order },
 }
 
+/// The product: in Montgomery's form if both are, and the plain one if only `b` is.
 pub fn mul(a: Words, b: Scalar) -> Scalar
     ensures form { scalar result.words ≡ (scalar a * scalar b.words) % order }
     ensures plain { value result.words ≡ (value a * scalar b.words) % order }
 {
     Scalar {
-        words: montgomery::mul(a, b.words, N, INV_N),
+        words: montgomery::mul(a, b.words, N, N_INVERSE),
     }
 }
 
-pub fn to_form(a: Words) -> Scalar
+/// The number modulo the order, in Montgomery's form.
+pub fn to_montgomery(a: Words) -> Scalar
     ensures { scalar result.words ≡ value a % order }
 {
     mul(a, Scalar { words: R2_N })
@@ -63,8 +66,8 @@ fn halved(a: Scalar) -> Scalar
     }
 }
 
-// The inverse of a number in Montgomery's form, in that form, and 0 for 0: by Euclid's algorithm in
-// halves, where s * a stays u and r * a stays v.
+/// The inverse of a number in Montgomery's form, in that form, and 0 for 0: by Euclid's algorithm in
+/// halves, where s * a stays u and r * a stays v.
 pub fn inverse(a: Scalar) -> Scalar
     ensures { scalar result.words ≡ (scalar a.words ^ (order - 2)) % order }
 {

@@ -12,8 +12,8 @@ use warg_crypto::signing::{PublicKey, Signature, SignatureError, Verifier};
 /// The name of the scheme, in the texts of its keys and signatures.
 pub const ALGORITHM: &str = "ecdsa-p256";
 
-/// The verifier of ECDSA on the curve P-256 with SHA-256 (FIPS 186-5). A key's bytes are a point of SEC 1, 2.3.3,
-/// compressed or not, and a signature's bytes are the DER of RFC 3279, 2.2.3.
+/// The verifier of ECDSA on the curve P-256 with SHA-256 (FIPS 186-5). A key's bytes are a point of
+/// SEC 1, 2.3.3, compressed or not, and a signature's bytes are the DER of RFC 3279, 2.2.3.
 #[derive(Clone, Copy, Debug)]
 pub struct P256Verifier;
 
@@ -27,7 +27,8 @@ fn are_verified(key: &[u8], message: &[u8], signature: &[u8]) -> bool
 impl Verifier for P256Verifier {
     ghost belongs = { λ _ key message signature. p256_belongs key message signature };
 
-    /// `Ok` exactly where the signature belongs to the message under the key, else `Refused`: it takes no memory.
+    /// `Ok` exactly where the signature belongs to the message under the key, else `Refused`. It
+    /// takes no memory.
     fn verify(
         &self,
         _alloc: Global,

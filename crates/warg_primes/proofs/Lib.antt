@@ -1,3 +1,4 @@
+pub mod Factors
 pub mod Congruent
 pub mod Pigeons
 pub mod Divisors

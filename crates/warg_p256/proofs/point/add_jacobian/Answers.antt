@@ -1,19 +1,19 @@
 use Rattle.warg_p256.specs.Elements.{number}
 use Rattle.warg_curve.specs.Field.{prime}
 use Rattle.warg_p256.proofs.Adding.{Tails}
-use Rattle.warg_p256.proofs.Field.{number_below}
-use Rattle.warg_p256.proofs.AddedPoint.{Crossed, crossed_none_left, crossed_none_right, crossed_same, crossed_mirrored, crossed_chord, not_nought}
+use Rattle.warg_p256.proofs.FieldElements.{number_below}
+use Rattle.warg_p256.proofs.AddedPoint.{Crossed, crossed_none_left, crossed_none_right, crossed_same, crossed_mirrored, crossed_chord, not_zero}
 use Rattle.warg_curve.proofs.Inverses.{has_inverses}
 use Rattle.warg_p256.proofs.point.add_jacobian.Goals as goal
 
-pub returns-then-is_nought : goal.returns-then-is_nought
-returns-then-is_nought c = λ a b sa sb. crossed_none_left _ _ _ _ _ _ (c.is_nought.ensures.0 c.if-is_nought.true) a b sa sb
+pub returns-then-is_zero : goal.returns-then-is_zero
+returns-then-is_zero c = λ a b sa sb. crossed_none_left _ _ _ _ _ _ (c.is_zero.ensures.0 c.if-is_zero.true) a b sa sb
 
-pub returns-then-is_nought-2 : goal.returns-then-is_nought-2
-returns-then-is_nought-2 c = λ a b sa sb. crossed_none_right _ _ _ _ _ _ (c.is_nought-2.ensures.0 c.if-is_nought-2.true) a b sa sb
+pub returns-then-is_zero-2 : goal.returns-then-is_zero-2
+returns-then-is_zero-2 c = λ a b sa sb. crossed_none_right _ _ _ _ _ _ (c.is_zero-2.ensures.0 c.if-is_zero-2.true) a b sa sb
 
-pub returns-then-is_nought-4 : goal.returns-then-is_nought-4
-returns-then-is_nought-4 c =
+pub returns-then-is_zero-4 : goal.returns-then-is_zero-4
+returns-then-is_zero-4 c =
     let k : Crossed prime (number c.args.p.x.words) (number c.args.p.y.words) (number c.args.p.z.words) (number c.args.q.x.words) (number c.args.q.y.words) (number c.args.q.z.words)
     (number c.square-pzz.result.words) (number c.square-qzz.result.words) (number c.mul-t.result.words) (number c.mul-u.result.words) (number c.mul.result.words) (number c.mul-w.result.words) (number c.mul-2.result.words) (number c.mul-s.result.words) (number c.sub-h.result.words) (number c.sub-r.result.words) = record {
       zz_is = c.square-pzz.ensures;
@@ -27,10 +27,10 @@ returns-then-is_nought-4 c =
       h_is = c.sub-h.ensures;
       r_is = c.sub-r.ensures;
     } in
-    λ a b sa sb. crossed_same _ _ _ _ _ _ _ _ _ _ _ _ _ _ _ _ k has_inverses (number_below c.args.p.z.words) (number_below c.args.q.z.words) (not_nought _ _ c.is_nought.ensures c.if-is_nought.false) (not_nought _ _ c.is_nought-2.ensures c.if-is_nought-2.false) (c.is_nought-3.ensures.0 c.if-is_nought-3.true) (c.is_nought-then-is_nought-3.ensures.0 c.if-is_nought-4.true) a b sa sb _ _ _ (c.double.ensures a sa)
+    λ a b sa sb. crossed_same _ _ _ _ _ _ _ _ _ _ _ _ _ _ _ _ k has_inverses (number_below c.args.p.z.words) (number_below c.args.q.z.words) (not_zero _ _ c.is_zero.ensures c.if-is_zero.false) (not_zero _ _ c.is_zero-2.ensures c.if-is_zero-2.false) (c.is_zero-3.ensures.0 c.if-is_zero-3.true) (c.is_zero-then-is_zero-3.ensures.0 c.if-is_zero-4.true) a b sa sb _ _ _ (c.double.ensures a sa)
 
-pub returns-then-is_nought-3 : goal.returns-then-is_nought-3
-returns-then-is_nought-3 c =
+pub returns-then-is_zero-3 : goal.returns-then-is_zero-3
+returns-then-is_zero-3 c =
     let k : Crossed prime (number c.args.p.x.words) (number c.args.p.y.words) (number c.args.p.z.words) (number c.args.q.x.words) (number c.args.q.y.words) (number c.args.q.z.words)
     (number c.square-pzz.result.words) (number c.square-qzz.result.words) (number c.mul-t.result.words) (number c.mul-u.result.words) (number c.mul.result.words) (number c.mul-w.result.words) (number c.mul-2.result.words) (number c.mul-s.result.words) (number c.sub-h.result.words) (number c.sub-r.result.words) = record {
       zz_is = c.square-pzz.ensures;
@@ -44,7 +44,7 @@ returns-then-is_nought-3 c =
       h_is = c.sub-h.ensures;
       r_is = c.sub-r.ensures;
     } in
-    λ a b sa sb. crossed_mirrored _ _ _ _ _ _ _ _ _ _ _ _ _ _ _ _ k has_inverses (number_below c.args.p.z.words) (number_below c.args.q.z.words) (not_nought _ _ c.is_nought.ensures c.if-is_nought.false) (not_nought _ _ c.is_nought-2.ensures c.if-is_nought-2.false) (c.is_nought-3.ensures.0 c.if-is_nought-3.true) (not_nought _ _ c.is_nought-then-is_nought-3.ensures c.if-is_nought-4.false) a b sa sb _ _ _ c.infinity.ensures
+    λ a b sa sb. crossed_mirrored _ _ _ _ _ _ _ _ _ _ _ _ _ _ _ _ k has_inverses (number_below c.args.p.z.words) (number_below c.args.q.z.words) (not_zero _ _ c.is_zero.ensures c.if-is_zero.false) (not_zero _ _ c.is_zero-2.ensures c.if-is_zero-2.false) (c.is_zero-3.ensures.0 c.if-is_zero-3.true) (not_zero _ _ c.is_zero-then-is_zero-3.ensures c.if-is_zero-4.false) a b sa sb _ _ _ c.infinity.ensures
 
 pub returns : goal.returns
 returns c =
@@ -76,4 +76,4 @@ returns c =
       y3_is = c.sub-y.ensures;
       z3_is = c.mul-5.ensures;
     } in
-    λ a b sa sb. crossed_chord _ _ _ _ _ _ _ _ _ _ _ _ _ _ _ _ _ _ _ _ _ _ _ _ _ _ _ _ _ k c.mul-zz.ensures t has_inverses (number_below c.args.p.z.words) (number_below c.args.q.z.words) (not_nought _ _ c.is_nought.ensures c.if-is_nought.false) (not_nought _ _ c.is_nought-2.ensures c.if-is_nought-2.false) (not_nought _ _ c.is_nought-3.ensures c.if-is_nought-3.false) a b sa sb
+    λ a b sa sb. crossed_chord _ _ _ _ _ _ _ _ _ _ _ _ _ _ _ _ _ _ _ _ _ _ _ _ _ _ _ _ _ k c.mul-zz.ensures t has_inverses (number_below c.args.p.z.words) (number_below c.args.q.z.words) (not_zero _ _ c.is_zero.ensures c.if-is_zero.false) (not_zero _ _ c.is_zero-2.ensures c.if-is_zero-2.false) (not_zero _ _ c.is_zero-3.ensures c.if-is_zero-3.false) a b sa sb

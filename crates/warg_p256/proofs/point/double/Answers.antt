@@ -1,7 +1,7 @@
 use Rattle.warg_p256.specs.Elements.{number}
 use Rattle.warg_curve.specs.Field.{prime}
 use Rattle.warg_p256.proofs.Doubled.{Steps}
-use Rattle.warg_p256.proofs.Field.{number_below}
+use Rattle.warg_p256.proofs.FieldElements.{number_below}
 use Rattle.warg_p256.proofs.DoubledPoint.{stands_doubled}
 use Rattle.warg_curve.proofs.Inverses.{has_inverses}
 use Rattle.warg_p256.proofs.point.double.Goals as goal

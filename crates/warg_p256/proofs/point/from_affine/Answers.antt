@@ -1,4 +1,4 @@
-use Rattle.warg_p256.proofs.Field.{number_below}
+use Rattle.warg_p256.proofs.FieldElements.{number_below}
 use Rattle.warg_p256.proofs.AddedPoint.{stands_affine}
 use Rattle.warg_p256.proofs.point.from_affine.Goals as goal
 

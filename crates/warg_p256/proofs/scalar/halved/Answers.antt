@@ -1,6 +1,6 @@
 use Rattle.std.proofs.Common.{◌<◌, sym, subst}
 use Rattle.warg_modular.specs.Value.{value}
-use Rattle.warg_p256.proofs.Field.{n_is}
+use Rattle.warg_p256.proofs.FieldElements.{n_is}
 use Rattle.warg_p256.proofs.Scalars.{scalar_half}
 use Rattle.warg_p256.proofs.scalar.halved.Goals as goal
 

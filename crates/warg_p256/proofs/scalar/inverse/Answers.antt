@@ -3,9 +3,9 @@ use Rattle.warg_modular.proofs.Rounds.{from_bool_le}
 use Rattle.warg_modular.specs.Value.{value}
 use Rattle.warg_curve.specs.Order.{order}
 use Rattle.warg_p256.specs.Scalars.{scalar}
-use Rattle.warg_p256.proofs.Field.{n_is}
+use Rattle.warg_p256.proofs.FieldElements.{n_is}
 use Rattle.warg_p256.proofs.Scalars.{scalar_below, scalar_from_zero, radix_times}
-use Rattle.warg_p256.proofs.AddedPoint.{not_nought}
+use Rattle.warg_p256.proofs.AddedPoint.{not_zero}
 use Rattle.warg_p256.proofs.Inverting.{Euclid, euclid_start, euclid_even, euclid_less, euclid_swapped, euclid_end, inverted, zero_inverted, not_less}
 use Rattle.warg_p256.proofs.scalar.inverse.Goals as goal
 
@@ -29,7 +29,7 @@ loop-u-preserved-then-is_even c =
 pub loop-u-preserved-then-is_less : goal.loop-u-preserved-then-is_less
 loop-u-preserved-then-is_less c =
     let k = c.loop-u.invariant in
-    let uneven = not_nought _ _ c.is_even.ensures c.if-is_even.false in
+    let uneven = not_zero _ _ c.is_even.ensures c.if-is_even.false in
     let odd : value c.loop-u.u % 2 ≡ 1 = omega (arith, uneven) in
     let less = c.is_less.ensures.0 c.if-is_less.true in
     let sum : value c.sub.result.0 + value c.loop-u.u ≡ value c.loop-u.v = omega (arith, from_bool_le c.sub.result.1, c.sub.ensures.total, c.sub.ensures.below, less) in
@@ -40,7 +40,7 @@ loop-u-preserved-then-is_less c =
 pub loop-u-preserved : goal.loop-u-preserved
 loop-u-preserved c =
     let k = c.loop-u.invariant in
-    let uneven = not_nought _ _ c.is_even.ensures c.if-is_even.false in
+    let uneven = not_zero _ _ c.is_even.ensures c.if-is_even.false in
     let odd : value c.loop-u.u % 2 ≡ 1 = omega (arith, uneven) in
     let least : value c.loop-u.v ≤ value c.loop-u.u = not_less _ _ _ c.is_less.ensures c.if-is_less.false in
     let sum : value c.sub-else-is_less.result.0 + value c.loop-u.v ≡ value c.loop-u.u =
@@ -52,6 +52,6 @@ loop-u-preserved c =
 pub returns : goal.returns
 returns c =
     let none : value c.loop-u.u ≡ 0 = c.is_zero-in-loop-u.ensures.0 c.loop-u-test.false in
-    let some = not_nought _ _ c.is_zero.ensures c.if-is_zero.false in
+    let some = not_zero _ _ c.is_zero.ensures c.if-is_zero.false in
     inverted (scalar c.args.a.words) (scalar c.loop-u.r.words) (scalar_below c.args.a.words) (scalar_below c.loop-u.r.words)
     (euclid_end _ _ _ _ _ _ c.loop-u.invariant none some c.args.a.reduced)

@@ -1,6 +1,6 @@
 use Rattle.std.proofs.Common.{◌∙◌, ap, sym, arith}
 use Rattle.warg_curve.specs.Group.{IsOnCurve, right_side_of}
-use Rattle.warg_p256.proofs.Field.{number_below}
+use Rattle.warg_p256.proofs.FieldElements.{number_below}
 use Rattle.warg_p256.proofs.sec1.compressed.Goals as goal
 
 pub returns-clause-some : goal.returns-clause-some

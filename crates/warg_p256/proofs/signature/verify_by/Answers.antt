@@ -1,5 +1,5 @@
 use Rattle.std.proofs.Common.{◌%◌, ◌^◌, ap, ◌∙◌}
-use Rattle.warg_modular.specs.Value.{big_endian}
+use Rattle.warg_modular.specs.BigEndian.{big_endian}
 use Rattle.warg_p256.proofs.Verified.{verified}
 use Rattle.warg_p256.proofs.signature.verify_by.Goals as goal
 
@@ -8,4 +8,4 @@ returns-in_default c = λ key k. (λ f. absurd (cc), λ g. absurd (c.in_default.
 
 pub returns : goal.returns
 returns c = λ key k. verified _ _ _ _ _ _ _ _ c.accepts.result k c.in-Some.ensures.some
-    (c.from_be.ensures ∙ ap (λ t. big_endian t % 2 ^ 256) (c.as_slice.ensures ∙ c.digest-hash.ensures)) c.accepts.ensures
+    (c.from_be_bytes.ensures ∙ ap (λ t. big_endian t % 2 ^ 256) (c.as_slice.ensures ∙ c.digest-hash.ensures)) c.accepts.ensures

@@ -1,5 +1,5 @@
 use Rattle.std.specs.Bool.{one_answer}
-use Rattle.warg_p256.proofs.Field.{number_below}
+use Rattle.warg_p256.proofs.FieldElements.{number_below}
 use Rattle.warg_p256.proofs.Tests.{is_verified_decides, is_key_decides, key_on_curve}
 use Rattle.warg_p256.proofs.known_keys.KnownKeys.are_verified.Goals as goal
 

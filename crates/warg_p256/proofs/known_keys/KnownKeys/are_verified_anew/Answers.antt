@@ -1,6 +1,6 @@
 use Rattle.std.proofs.Common.{sym, ◌∙◌}
 use Rattle.std.specs.Bool.{one_answer}
-use Rattle.warg_p256.proofs.Field.{number_below}
+use Rattle.warg_p256.proofs.FieldElements.{number_below}
 use Rattle.warg_p256.proofs.Tests.{is_verified_decides, is_key_decides}
 use Rattle.warg_p256.proofs.known_keys.KnownKeys.are_verified_anew.Goals as goal
 

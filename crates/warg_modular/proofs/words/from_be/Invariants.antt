@@ -1,6 +1,0 @@
-use Rattle.std.proofs.Common.{◌≡◌, ◌%◌, ◌^◌, take}
-use Rattle.warg_modular.specs.Value.{value, big_endian}
-use Rattle.warg_modular.proofs.words.from_be.Given as goal
-
-abbrev pub invariant-loop-b : goal.invariant-loop-b
-invariant-loop-b l = value l.a ≡ big_endian (take l.b-index l.bytes) % 2 ^ 256
