@@ -68,9 +68,10 @@ class Command(unittest.TestCase):
         wanted = [f"{path}: ok 5" for path in paths]
         with processes(2) as executor:
             by_processes = audit_many(paths, Kind.PACKAGE, p256.verify, executor=executor)
-        for verdicts in (audit_many(paths, Kind.PACKAGE, p256.verify, 4), by_processes):
+        by_cryptography = audit_many(paths, Kind.PACKAGE, p256.verify_by_cryptography, 4)
+        for verdicts in (audit_many(paths, Kind.PACKAGE), by_cryptography, by_processes):
             self.assertEqual([str(it).rpartition(" ")[0] for it in verdicts], wanted)
-        self.assertEqual(audit_many([], Kind.PACKAGE, p256.verify), [])
+        self.assertEqual(audit_many([], Kind.PACKAGE), [])
 
     @unittest.skipUnless(EXAMPLES.is_dir(), "there are no examples here")
     def test_examples(self) -> None:
