@@ -48,6 +48,10 @@ class Command(unittest.TestCase):
         status, lines = run("audit", "package", bad, good)
         self.assertEqual((status, len(lines)), (1, 2))
         self.assertRegex(lines[0], r"bad: refused 3 (SignatureError|Signature\.BadBase64): ")
+        other = self._log("other", [toy.envelope("carol").hex()])
+        status, lines = run("audit", "package", other, good)
+        self.assertEqual((status, len(lines)), (1, 2))
+        self.assertRegex(lines[0], r"other: refused 0 UnknownAlgorithm: the library verifies ")
 
     def test_unreadable(self) -> None:
         missing, folder = str(self.folder / "missing"), str(self.folder)
