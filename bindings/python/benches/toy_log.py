@@ -1,4 +1,5 @@
-"""Times the appending of a package log whose records are signed by the toy scheme: `python3 toy_log.py RUNS < LOG`, a line an envelope.
+"""Times the appending of a package log whose records are signed by the toy scheme:
+`python3 toy_log.py RUNS < LOG`, a line an envelope.
 
 Prints the least time of the runs in nanoseconds a record: asking, verifying, appending.
 """

@@ -13,7 +13,7 @@ def publish(log: PackageLog, signer: p256.SigningKey, entries: list[bytes]) -> b
     """Signs a record that goes on from the log, and appends it."""
     contents = records.contents(log.head(), time.time_ns(), entries)
     envelope = records.signed(Kind.PACKAGE, contents, signer.public_key, signer.sign)
-    log.append(envelope, p256.verify)
+    log.append(envelope)
     return envelope
 
 

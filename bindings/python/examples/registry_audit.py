@@ -1,12 +1,12 @@
 """Audits all packages of a registry, side by side, and reads only what is new since the last time.
 
-    python3 registry_audit.py FOLDER                       by the processors of this machine
-    python3 registry_audit.py FOLDER --threads             by threads, where the signature check lets go of the interpreter's lock
-    python3 registry_audit.py FOLDER --dask SCHEDULER      by the workers of a Dask cluster, which have this package and see the same folder
-    python3 registry_audit.py FOLDER --dask local          by two workers on this machine
+    python3 registry_audit.py FOLDER                     by the processors of this machine, a process each
+    python3 registry_audit.py FOLDER --threads           by threads
+    python3 registry_audit.py FOLDER --dask SCHEDULER    by a Dask cluster, whose workers have package and folder
+    python3 registry_audit.py FOLDER --dask local        by two workers on this machine
 
-FOLDER has a file NAME.hex for each package: its envelopes, a line each in hex. Beside it NAME.hex.state keeps the log's state. A line is printed for
-each package that is not accepted, and at the end how many are.
+FOLDER has a file NAME.hex for each package: its envelopes, a line each in hex. Beside it NAME.hex.state keeps the log's
+state. A line is printed for each package that is not accepted, and at the end how many are.
 """
 
 import argparse
@@ -18,7 +18,7 @@ import time
 from collections.abc import Iterator
 from concurrent.futures import Executor, ThreadPoolExecutor
 
-from weoldrin import Kind, NewRecords, audit_new, p256, processes
+from weoldrin import Kind, NewRecords, audit_new, processes
 
 # So many files are one task, so that handing out takes less time than auditing.
 FILES = 100
@@ -26,7 +26,7 @@ FILES = 100
 
 def audit_files(paths: list[str]) -> list[NewRecords]:
     """Audits some packages."""
-    return [audit_new(it, Kind.PACKAGE, p256.verify) for it in paths]
+    return [audit_new(it, Kind.PACKAGE) for it in paths]
 
 
 @contextlib.contextmanager
@@ -35,7 +35,8 @@ def dask_executor(scheduler: str) -> Iterator[Executor]:
     from distributed import Client, LocalCluster
 
     if scheduler == "local":
-        with LocalCluster(n_workers=2, threads_per_worker=1, dashboard_address=None) as cluster, Client(cluster) as client:
+        cluster = LocalCluster(n_workers=2, threads_per_worker=1, dashboard_address=None)
+        with cluster, Client(cluster) as client:
             yield client.get_executor()
     else:
         with Client(scheduler) as client:

@@ -116,7 +116,8 @@ def answers(error: Error, wanted: str, sentences: Sentences, kind: Kind) -> bool
 
 
 class Player:
-    """A script on the way: a log that keeps its records, the state, which may have been saved and read back, and what was put aside."""
+    """A script on the way: a log that keeps its records, the state, which may have been saved and read back, and what
+    was put aside."""
 
     def __init__(self, kind: Kind, sentences: Sentences) -> None:
         self.kind, self.sentences = kind, sentences
@@ -219,8 +220,10 @@ class Player:
                 return
             seen = f"! {error.name}"
         self.rows += 1
-        if question.partition(" ")[0] in ("keys", "namespaces", "permissions") and _unordered(seen) == _unordered(wanted):
-            # The names come from the saved state, which has them by their bytes; permissions come in the order of their kind.
+        look_up = question.partition(" ")[0]
+        if look_up in ("keys", "namespaces", "permissions") and _unordered(seen) == _unordered(wanted):
+            # The names come from the saved state, which has them by their bytes, and permissions in the order of their
+            # kind.
             return
         if seen != wanted:
             self._fail(line, seen)
@@ -285,7 +288,9 @@ def state_answer(log: Log, look_up: str, subject: str) -> str:
             return json_written(json.loads(log.to_json())["permissions"][id_of(subject)])
         case "saved":
             return json_written(json.loads(log.to_json()))
-    return _package_answer(log, look_up, subject) if isinstance(log, PackageLog) else _operator_answer(log, look_up, subject)
+    if isinstance(log, PackageLog):
+        return _package_answer(log, look_up, subject)
+    return _operator_answer(log, look_up, subject)
 
 
 def _head(head: dict[str, Any] | None, subject: str) -> str:

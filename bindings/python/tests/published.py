@@ -29,7 +29,7 @@ def envelopes(count: int, alice: Key, bob: Key) -> list[bytes]:
     with PackageLog() as log:
         for place in range(count):
             made.append(release(log, bob, f"1.{place}.0") if place else beginning(log, alice, bob))
-            log.append(made[-1], p256.verify)
+            log.append(made[-1])
     return made
 
 
@@ -41,5 +41,5 @@ def operator_log(alice: Key) -> OperatorLog:
         records.define_namespace("own"),
         records.import_namespace("other", "registry.example.com"),
     ]
-    log.append(record(log, alice, entries), p256.verify)
+    log.append(record(log, alice, entries))
     return log

@@ -54,7 +54,8 @@ class Sentences:
         return sentence == self.of(topic, case, fields)
 
     def is_told_by_name(self, kind: str, name: str, sentence: str) -> bool:
-        """Whether a sentence is the one of an error of this name, whatever its fields. If no row has it, it may be any."""
+        """Whether a sentence is the one of an error of this name, whatever its fields. If no row has it, it may be
+        any."""
         case = self.case_of_envelope(name)
         cause = (kind, name) if case is None else ("envelope", case)
         if cause not in self._forms:

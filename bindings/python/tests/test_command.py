@@ -48,6 +48,10 @@ class Command(unittest.TestCase):
         status, lines = run("audit", "package", bad, good)
         self.assertEqual((status, len(lines)), (1, 2))
         self.assertRegex(lines[0], r"bad: refused 3 (SignatureError|Signature\.BadBase64): ")
+        other = self._log("other", [toy.envelope("carol").hex()])
+        status, lines = run("audit", "package", other, good)
+        self.assertEqual((status, len(lines)), (1, 2))
+        self.assertRegex(lines[0], r"other: refused 0 UnknownAlgorithm: the library verifies ")
 
     def test_unreadable(self) -> None:
         missing, folder = str(self.folder / "missing"), str(self.folder)
@@ -68,9 +72,10 @@ class Command(unittest.TestCase):
         wanted = [f"{path}: ok 5" for path in paths]
         with processes(2) as executor:
             by_processes = audit_many(paths, Kind.PACKAGE, p256.verify, executor=executor)
-        for verdicts in (audit_many(paths, Kind.PACKAGE, p256.verify, 4), by_processes):
+        by_cryptography = audit_many(paths, Kind.PACKAGE, p256.verify_by_cryptography, 4)
+        for verdicts in (audit_many(paths, Kind.PACKAGE), by_cryptography, by_processes):
             self.assertEqual([str(it).rpartition(" ")[0] for it in verdicts], wanted)
-        self.assertEqual(audit_many([], Kind.PACKAGE, p256.verify), [])
+        self.assertEqual(audit_many([], Kind.PACKAGE), [])
 
     @unittest.skipUnless(EXAMPLES.is_dir(), "there are no examples here")
     def test_examples(self) -> None:

@@ -36,8 +36,8 @@ OTHER_TOPICS = {
     "saved": "a part of a saved state: the library reads whole states",
     "audit": "other words of the program than the two audits and the two ids",
 }
-# The refusals that no log shows: there is one hash algorithm, want of memory has a status of its own, and any other entry of
-# operators than an init asks for a permission first.
+# The refusals that no log shows: there is one hash algorithm, want of memory has a status of its own, and any other
+# entry of operators than an init asks for a permission first.
 NEVER_SHOWN = {
     "package IncorrectHashAlgorithm",
     "package OutOfMemory",

@@ -1,7 +1,9 @@
 """A log of 50 records by keys of P-256, each of which is forged in every way and refused, and then taken."""
 
 import base64
+import functools
 import unittest
+from collections.abc import Callable
 
 from weoldrin import PackageLog, Question, Refused, p256, records
 
@@ -16,19 +18,26 @@ class Forgeries(unittest.TestCase):
         self.log = PackageLog()
         self.addCleanup(self.log.close)
 
-    def _refused(self, name: str, envelope: bytes, question: Question | None = None) -> None:
+    def _refused(self, name: str, append: Callable[[], None]) -> None:
         before = self.log.head(), len(self.log), self.log.to_json()
         with self.assertRaises(Refused) as caught:
-            if question is None:
-                self.log.append(envelope, p256.verify)
-            else:
-                self.log.append_answered(envelope, question, True)
+            append()
         self.assertEqual(caught.exception.name, name)
         self.assertEqual((self.log.head(), len(self.log), self.log.to_json()), before)
 
+    def _forged(self, envelope: bytes) -> None:
+        """It is refused for its signature, by the library's verifier and by another one."""
+        for verify in (None, p256.verify, p256.verify_by_cryptography):
+            self._refused("SignatureError", functools.partial(self.log.append, envelope, verify))
+
+    def _misanswered(self, name: str, envelope: bytes, question: Question) -> None:
+        """It is refused where this question was answered by yes."""
+        self._refused(name, lambda: self.log.append_answered(envelope, question, True))
+
     def _contents(self, place: int, mark: str = "") -> bytes:
         if place == 0:
-            entries = [records.init(self.alice.public_key), records.grant(self.log.KIND, self.bob.public_key, ["release"])]
+            grant = records.grant(self.log.KIND, self.bob.public_key, ["release"])
+            entries = [records.init(self.alice.public_key), grant]
         else:
             entries = [records.release(f"1.{place}.0", records.sha256_text(mark.encode()))]
         return records.contents(self.log.head(), published.START + len(mark), entries)
@@ -42,18 +51,23 @@ class Forgeries(unittest.TestCase):
             envelope = records.envelope(contents, key_id, signature)
             with self.subTest(place=place):
                 # By another key, with another message, with another signature.
-                self._refused("SignatureError", records.envelope(contents, key_id, self.mallory.sign(message)))
-                self._refused("SignatureError", records.envelope(other, key_id, signature))
-                self._refused("SignatureError", records.envelope(contents, key_id, _changed(signature)))
+                self._forged(records.envelope(contents, key_id, self.mallory.sign(message)))
+                self._forged(records.envelope(other, key_id, signature))
+                self._forged(records.envelope(contents, key_id, _changed(signature)))
                 # By the answer to another question: of another record, and of one that was not asked.
-                asked = self.log.ask(records.envelope(other, key_id, signer.sign(records.message(self.log.KIND, other))))
-                self._refused("SignatureError", envelope, asked)
-                self._refused("SignatureError", envelope, Question(self.mallory.public_key, message, signature))
+                signed = signer.sign(records.message(self.log.KIND, other))
+                asked = self.log.ask(records.envelope(other, key_id, signed))
+                self._misanswered("SignatureError", envelope, asked)
+                self._misanswered("SignatureError", envelope, Question(self.mallory.public_key, message, signature))
                 question = self.log.ask(envelope)
                 self.assertEqual(question, (signer.public_key, message, signature))
-                self.log.append_answered(envelope, question, p256.verify(question))
+                if place % 2:
+                    self.log.append(envelope)
+                else:
+                    self.log.append_answered(envelope, question, p256.verify(question))
                 # By an answer that was used.
-                self._refused("RecordHashDoesNotMatch" if place else "NoPreviousHashAfterInit", envelope, question)
+                used = "RecordHashDoesNotMatch" if place else "NoPreviousHashAfterInit"
+                self._misanswered(used, envelope, question)
         self.assertEqual(len(self.log), 50)
 
 
@@ -66,7 +80,7 @@ def _changed(signature: str) -> str:
 
 
 class Texts(unittest.TestCase):
-    """What is read as a key and as a signature."""
+    """What is read as a key and as a signature, by the library and before `cryptography` is asked."""
 
     def setUp(self) -> None:
         self.key = p256.SigningKey.generate()
@@ -74,7 +88,10 @@ class Texts(unittest.TestCase):
         self.signature = self.key.sign(self.message)
 
     def _verified(self, key: str, signature: str) -> bool:
-        return p256.verify(Question(key, self.message, signature))
+        question = Question(key, self.message, signature)
+        answer = p256.verify(question)
+        self.assertEqual(p256.verify_by_cryptography(question), answer)
+        return answer
 
     def test_keys(self) -> None:
         point = base64.b64decode(self.key.public_key.partition(":")[2])

@@ -40,7 +40,7 @@ class Packages(unittest.TestCase):
         self.log = PackageLog()
         self.addCleanup(self.log.close)
         for envelope in self.envelopes:
-            self.log.append(envelope, p256.verify)
+            self.log.append(envelope)
 
     def test_records(self) -> None:
         self.assertEqual(len(self.log), 4)
@@ -61,7 +61,7 @@ class Packages(unittest.TestCase):
         envelope = published.release(self.log, self.bob, "1.9.0")
         # A signature of no text, which a later one overrides, and a field of number 15, which no envelope has.
         strange = b"\x1a\x00" + envelope + b"\x78\x01"
-        self.log.append(strange, p256.verify)
+        self.log.append(strange)
         self.assertEqual(self.log.record(4), (envelope, record_id(Kind.PACKAGE, strange)))
         self.assertEqual(self.log.head(), record_id(Kind.PACKAGE, envelope))
 
@@ -76,7 +76,7 @@ class Packages(unittest.TestCase):
         self.assertIsNone(self.log.latest(">=2"))
         self.assertIsNone(self.log.release("9.0.0"))
         yank = published.record(self.log, self.alice, [records.yank("1.3.0")], published.START + 1)
-        self.log.append(yank, p256.verify)
+        self.log.append(yank)
         yanked = self.log.release("1.3.0")
         assert yanked is not None
         self.assertEqual((yanked.content, yanked.yanked_timestamp), (None, published.START + 1))
@@ -104,8 +104,8 @@ class Packages(unittest.TestCase):
         for left, right in ((resumed, self.log), (self.log, resumed), (resumed, resumed)):
             self.assertRaises(BadArgument, left.compare, right)
         again = published.release(resumed, self.bob, "1.9.0")
-        resumed.append(again, p256.verify)
-        self.log.append(again, p256.verify)
+        resumed.append(again)
+        self.log.append(again)
         self.assertEqual(resumed.head(), self.log.head())
         for text, name in (("[]", "WrongType"), ("{", "NotJson"), ('{"algorithm":"sha256"}', "Incoherent")):
             with self.assertRaises(BadArgument) as caught:
@@ -117,15 +117,15 @@ class Packages(unittest.TestCase):
         self.assertEqual(self.log.compare(self.log), Comparison(Relation.SAME, 0, 0))
         self.assertEqual(self.log.compare(other), Comparison(Relation.RIGHT_IS_PREFIX, 0, 0))
         for envelope in self.envelopes[:2]:
-            other.append(envelope, p256.verify)
+            other.append(envelope)
         self.assertEqual(other.compare(self.log), Comparison(Relation.LEFT_IS_PREFIX, 2, 2))
-        other.append(published.release(other, self.bob, "2.0.0"), p256.verify)
+        other.append(published.release(other, self.bob, "2.0.0"))
         self.assertEqual(other.compare(self.log), Comparison(Relation.FORK, 2, 2))
         self.assertRaises(BadArgument, self.log.compare, published.operator_log(self.alice))
 
     def test_refusals(self) -> None:
         with self.assertRaises(NoEnvelope) as none:
-            self.log.append(b"\x0b", p256.verify)
+            self.log.append(b"\x0b")
         self.assertEqual(none.exception.name, "ProtobufEnvelope.Group")
         self.assertIn("ProtobufEnvelope.Group: ", str(none.exception))
         with self.assertRaises(Refused) as refused:
@@ -142,14 +142,14 @@ class Packages(unittest.TestCase):
         entries = [records.release("9.0.0", records.sha256_text(b""))]
         envelope = records.envelope(records.contents(self.log.head(), published.START, entries), nobody, "toy:")
         calls: list[Callable[[], object]]
-        calls = [lambda: self.log.append(envelope, p256.verify), lambda: self.log.ask(envelope)]
+        calls = [lambda: self.log.append(envelope), lambda: self.log.ask(envelope)]
         for call in calls:
             with self.assertRaises(Refused) as caught:
                 call()
             self.assertEqual(caught.exception.name, "UnauthorizedAction")
             self.assertIn(nobody, caught.exception.sentence)
         version = "1.0.0-" + "a" * 100_000
-        self.log.append(published.release(self.log, self.bob, version), p256.verify)
+        self.log.append(published.release(self.log, self.bob, version))
         self.assertEqual([it.version for it in self.log.releases()][-1], version)
 
 
@@ -180,7 +180,8 @@ class WrongUse(unittest.TestCase):
         log.close()
         log.close()
         calls: list[Callable[[], object]]
-        calls = [log.head, log.__len__, log.to_json, lambda: log.ask(b""), lambda: log.latest("*"), lambda: log.record(0)]
+        calls = [log.head, log.__len__, log.to_json, lambda: log.ask(b""), lambda: log.latest("*")]
+        calls += [lambda: log.record(0), lambda: log.append(b"")]
         calls += [lambda: log.compare(PackageLog()), lambda: PackageLog().compare(log), lambda: log.holds("x", "yank")]
         calls += [lambda: log.append_answered(b"", Question("toy:", b"", "toy:"), True), lambda: log.compare(log)]
         for call in calls:

@@ -9,14 +9,17 @@ from weoldrin import BadArgument, verify_absence, verify_consistency, verify_inc
 from .trees import EMPTY, Leaf, hash_text, id_of, log_root
 
 INCLUSION = (
-    "bML0VncumO1gymhI9p9DawMcQnVTNa2WUrNw14Aq7DELD7yQO/3GX1TnDyNdlyNl+BI5/0o0nLbP5Kt1TH2/cg371IIl6nKYXW5cNRhz0vRw+5C8x4IjFkOBx8eooRUN"
+    "bML0VncumO1gymhI9p9DawMcQnVTNa2WUrNw14Aq7DELD7yQO/3GX1TnDyNdlyNl+BI5/0o0nLbP5Kt1TH2/cg371IIl6nKYXW5cNRhz0vRw"
+    "+5C8x4IjFkOBx8eooRUN"
 )
 CONSISTENCY = (
-    "wvE5Wb/Jqop3nsQ6f2wHydAFG6uJNOVcji8dnUA6//YLD7yQO/3GX1TnDyNdlyNl+BI5/0o0nLbP5Kt1TH2/cg371IIl6nKYXW5cNRhz0vRw+5C8x4IjFkOBx8eooRUN"
+    "wvE5Wb/Jqop3nsQ6f2wHydAFG6uJNOVcji8dnUA6//YLD7yQO/3GX1TnDyNdlyNl+BI5/0o0nLbP5Kt1TH2/cg371IIl6nKYXW5cNRhz0vRw"
+    "+5C8x4IjFkOBx8eooRUN"
 )
 PRESENCE = "//////////////////////////////////////////3A8d/zksmUM6URQFUFx4j90WyBlQhgSMcs1XArvTUtmA=="
 ABSENCE = (
-    "//////////////////////////////////////////kD9Qnw3FPJsRDX8sHizDLkLf83af8CgoV9sRxfkXpx08Dx3/OSyZQzpRFAVQXHiP3RbIGVCGBIxyzVcCu9NS2Y"
+    "//////////////////////////////////////////kD9Qnw3FPJsRDX8sHizDLkLf83af8CgoV9sRxfkXpx08Dx3/OSyZQzpRFAVQXHiP3R"
+    "bIGVCGBIxyzVcCu9NS2Y"
 )
 
 
@@ -55,9 +58,11 @@ class Proofs(unittest.TestCase):
         self._refuses_texts(lambda it: verify_inclusion(log, record, 5, 8, root, it), "BadBase64")
 
     def test_a_length_is_taken_on_trust(self) -> None:
-        """The proof has the same form in a log of 7: a root is worth nothing without the length that is signed with it."""
+        """The proof has the same form in a log of 7: a root is worth nothing without the length that is signed with
+        it."""
         for length, holds in ((6, False), (7, True), (8, True), (9, False)):
-            self.assertEqual(verify_inclusion(id_of("log 2"), id_of("record 5"), 5, length, root_of(8), INCLUSION), holds)
+            seen = verify_inclusion(id_of("log 2"), id_of("record 5"), 5, length, root_of(8), INCLUSION)
+            self.assertEqual(seen, holds)
 
     def test_consistency(self) -> None:
         self.assertTrue(verify_consistency(6, root_of(6), 8, root_of(8), CONSISTENCY))

@@ -1,4 +1,5 @@
-"""The registry of the examples: published to by two processes at once, killed between writes, started again, forged, and audited."""
+"""The registry of the examples: published to by two processes at once, killed between writes, started again, forged,
+and audited."""
 
 import http.client
 import json
@@ -15,7 +16,7 @@ import urllib.parse
 
 from weoldrin import Kind, OperatorLog, PackageLog, p256, record_id, records
 
-from . import published
+from . import published, toy
 
 REGISTRY = pathlib.Path(__file__).resolve().parents[1] / "examples/registry"
 
@@ -99,7 +100,7 @@ class RegistryTest(unittest.TestCase):
         self.assertEqual([it for (it,) in places], list(range(length)))
         with PackageLog() as log:
             for line in served.split():
-                log.append(bytes.fromhex(line), p256.verify)
+                log.append(bytes.fromhex(line))
             self.assertEqual((len(log), json.loads(log.to_json())), (length, json.loads(state)))
 
     def test_two_publishers(self) -> None:
@@ -169,9 +170,13 @@ class RegistryTest(unittest.TestCase):
         ):
             seen, text = asked(url, "POST", path, body)
             self.assertEqual((seen, json.loads(text)["error"]), (status, name))
+        seen, text = asked(url, "POST", "/package/a:toy", toy.envelope("carol"))
+        self.assertEqual((seen, json.loads(text)["error"]), (422, "UnknownAlgorithm"))
+        self.assertEqual(asked(url, "GET", "/package/a:toy/head")[0], 404)
         self.assertEqual(asked(url, "POST", path, None, {"Content-Length": str((1 << 20) + 1)})[0], 413)
-        for wrong in ("/", "//[", "/package/a:b/none", "/other", "/package/A", "/package/a:none/head", "/operator/a/latest"):
-            self.assertEqual(asked(url, "GET", wrong)[0], 404, wrong)
+        wrong = ["/", "//[", "/package/a:b/none", "/other", "/package/A", "/package/a:none/head", "/operator/a/latest"]
+        for it in wrong:
+            self.assertEqual(asked(url, "GET", it)[0], 404, it)
         self.assertEqual(asked(url, "GET", f"{path}/latest?requirement=one")[0], 400)
         self.assertEqual(asked(url, "GET", f"{path}/latest?requirement=%3E9")[0], 404)
         self.assertEqual(asked(url, "GET", f"{path}/head"), (200, head))

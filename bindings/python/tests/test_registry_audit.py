@@ -75,7 +75,7 @@ class RegistryAudit(unittest.TestCase):
         lines = "".join(f"{it.hex()}\n" for it in self.envelopes[:3])
         for length, new in ((len(lines) - 1, 2), (len(lines) - 1, 0), (len(lines), 1), (len(lines), 0)):
             path.write_text(lines[:length], encoding="ascii")
-            self.assertEqual(audit_new(path, Kind.PACKAGE, p256.verify), (str(path), new, None))
+            self.assertEqual(audit_new(path, Kind.PACKAGE), (str(path), new, None))
 
     @unittest.skipUnless(importlib.util.find_spec("distributed"), "Dask is not installed")
     def test_dask(self) -> None:
@@ -91,7 +91,7 @@ class RegistryAudit(unittest.TestCase):
         self._audited()
         with PackageLog() as log:
             for envelope in self.envelopes:
-                log.append(envelope, p256.verify)
+                log.append(envelope)
             self.assertIn(log.head() or "", (self.folder / "p009.hex.state").read_text(encoding="utf-8"))
 
 

@@ -4,7 +4,7 @@ import threading
 import unittest
 from collections.abc import Callable
 
-from weoldrin import Error, NotOpen, PackageLog, Relation, p256
+from weoldrin import Error, NotOpen, PackageLog, Relation, Verify, p256
 
 from . import published
 
@@ -41,7 +41,7 @@ class Threads(unittest.TestCase):
         def work() -> None:
             with PackageLog() as log:
                 for envelope in self.envelopes:
-                    log.append(envelope, p256.verify)
+                    log.append(envelope)
                 heads.append(log.head())
 
         self.assertEqual(in_threads(work), [])
@@ -49,13 +49,18 @@ class Threads(unittest.TestCase):
 
     def test_one_log(self) -> None:
         """Each record is taken by one thread, and refused to all that come too early or too late."""
+        for verify in (None, p256.verify):
+            with self.subTest(verify=verify):
+                self._one_log(verify)
+
+    def _one_log(self, verify: Verify | None) -> None:
         log, taken = PackageLog(), []
 
         def work() -> None:
             for place, envelope in enumerate(self.envelopes):
                 while len(log) <= place:
                     try:
-                        log.append(envelope, p256.verify)
+                        log.append(envelope, verify)
                         taken.append(place)
                     except Error:
                         pass
@@ -68,7 +73,7 @@ class Threads(unittest.TestCase):
         """Each thread has the answer to its own question, and not to another's."""
         log, places = PackageLog(), iter(range(1, 1 + THREADS))
         for envelope in self.envelopes:
-            log.append(envelope, p256.verify)
+            log.append(envelope)
 
         def work() -> None:
             version = f"1.{next(places)}.0"
@@ -82,8 +87,8 @@ class Threads(unittest.TestCase):
         """Two logs are compared from both sides at once, which waits for no other lock for ever."""
         left, right = PackageLog(), PackageLog()
         for envelope in self.envelopes:
-            left.append(envelope, p256.verify)
-            right.append(envelope, p256.verify)
+            left.append(envelope)
+            right.append(envelope)
 
         def work() -> None:
             for _ in range(200):
@@ -94,7 +99,7 @@ class Threads(unittest.TestCase):
 
     def test_closed_meanwhile(self) -> None:
         log = PackageLog()
-        log.append(self.envelopes[0], p256.verify)
+        log.append(self.envelopes[0])
         started = threading.Barrier(THREADS)
 
         def work() -> None:

@@ -1,6 +1,7 @@
 """The rows of conformance/values/transparency*.rows, answer for answer.
 
-No call of the library gives what a registry does, roots and proofs: these rows are played by the definitions in trees.py.
+No call of the library gives what a registry does, roots and proofs: these rows are played by the definitions in
+trees.py.
 """
 
 import pathlib
@@ -19,7 +20,9 @@ FILES = sorted(ROWS.glob("transparency*.rows"))
 # A hash, to which no proof leads.
 ANY = records.sha256_text(b"")
 VERIFY: dict[str, Callable[..., bool]] = {
-    "verify-inclusion": lambda log, record, place, length, *it: verify_inclusion(log, record, int(place), int(length), *it),
+    "verify-inclusion": lambda log, record, place, length, *it: verify_inclusion(
+        log, record, int(place), int(length), *it
+    ),
     "verify-consistency": lambda old, old_root, new, *it: verify_consistency(int(old), old_root, int(new), *it),
     "verify-presence": verify_presence,
     "verify-absence": verify_absence,

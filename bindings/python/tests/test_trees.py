@@ -42,7 +42,8 @@ class Inclusion(unittest.TestCase):
         for other in range(34):
             self.assertEqual(shows_leaf(place, other, size, root, proof), other == place)
             self.assertEqual(other < 33 and shows_leaf(other, place, size, root, proof), other == place)
-            # In a tree of that size; and where the size is another than the root's, if the path has the same form there.
+            # In a tree of that size; and where the size is another than the root's, if the path has the same form
+            # there.
             self.assertEqual(shows_leaf(place, place, other, ROOTS[other], proof), other == size)
             is_alike = place < other and trees.inclusion_form(place, other) == form
             self.assertEqual(shows_leaf(place, place, other, root, proof), is_alike)

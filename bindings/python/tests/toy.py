@@ -1,9 +1,10 @@
-"""The toy signature scheme, which serves tests alone: a key is the bytes of a name, a signature the digest of these and the message."""
+"""The toy signature scheme, which serves tests alone: a key is the bytes of a name, a signature the digest of these and
+the message."""
 
 import base64
 import hashlib
 
-from weoldrin import Question
+from weoldrin import Kind, Question, records
 
 
 def _text(data: bytes) -> str:
@@ -18,6 +19,13 @@ def key_of(name: str) -> str:
 def sign(name: str, message: bytes) -> str:
     """The text of a name's signature of a message."""
     return _text(hashlib.sha256(name.encode() + message).digest())
+
+
+def envelope(name: str) -> bytes:
+    """The envelope of a record that begins a log of a package by the key of a name."""
+    key = key_of(name)
+    contents = records.contents(None, 1_700_000_000_000_000_000, [records.init(key)])
+    return records.signed(Kind.PACKAGE, contents, key, lambda message: sign(name, message))
 
 
 def verify(question: Question) -> bool:

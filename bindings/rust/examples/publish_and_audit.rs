@@ -4,7 +4,7 @@
 use std::error::Error;
 use std::io::stdin;
 use std::time::SystemTime;
-use weoldrin::p256::{key_id, sha256_text, verify_p256, SigningKey};
+use weoldrin::p256::{key_id, sha256_text, SigningKey};
 use weoldrin::records::{Entry, NewRecord};
 use weoldrin::{Package, PackageLog, PackagePermission};
 
@@ -13,7 +13,7 @@ fn publish(log: &mut PackageLog, signer: &SigningKey, entries: Vec<Entry<Package
     let record = NewRecord { prev: log.head()?, version: 1, timestamp: SystemTime::now(), entries };
     let signature = |message: &[u8]| signer.sign(message).unwrap_or_default();
     let envelope = record.signed(&key_id(signer.public_key()), signature);
-    log.append(&envelope, verify_p256)?;
+    log.append_signed(&envelope)?;
     Ok(envelope)
 }
 
@@ -35,7 +35,7 @@ fn published(count: usize) -> Result<Vec<Vec<u8>>, Box<dyn Error>> {
 fn audited(envelopes: &[Vec<u8>]) -> Result<PackageLog, Box<dyn Error>> {
     let mut log = PackageLog::new()?;
     for (place, envelope) in envelopes.iter().enumerate() {
-        log.append(envelope, verify_p256).map_err(|error| format!("refused {place} {error}"))?;
+        log.append_signed(envelope).map_err(|error| format!("refused {place} {error}"))?;
     }
     Ok(log)
 }

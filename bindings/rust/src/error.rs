@@ -28,8 +28,12 @@ pub enum Error {
     OutOfMemory,
     /// The bytes are no envelope of a record of the log's kind.
     NoEnvelope(Reason),
-    /// The record is unlawful.
+    /// The record is unlawful, or its signature does not belong.
     Refused(Reason),
+    /// The key is of another algorithm than the library verifies. Verify the signature by other means, and append by
+    /// [`Log::ask`](crate::Log::ask) and [`Log::append_answered`](crate::Log::append_answered), or by
+    /// [`Log::append`](crate::Log::append).
+    UnknownAlgorithm,
     /// An argument is not of its form, or the log was resumed and has no records. A text that is no saved state, or no proof, has the fault's name.
     BadArgument(Option<Reason>),
 }
@@ -40,7 +44,7 @@ impl Error {
         match self {
             Error::NoEnvelope(reason) | Error::Refused(reason) => Some(reason),
             Error::BadArgument(reason) => reason.as_ref(),
-            Error::OutOfMemory => None,
+            Error::OutOfMemory | Error::UnknownAlgorithm => None,
         }
     }
 
@@ -53,6 +57,7 @@ impl Error {
             raw::OUT_OF_MEMORY => Error::OutOfMemory,
             raw::NO_ENVELOPE => Error::NoEnvelope(reason),
             raw::REFUSED => Error::Refused(reason),
+            raw::UNKNOWN_ALGORITHM => Error::UnknownAlgorithm,
             _ => Error::BadArgument(Some(reason).filter(|it| !it.name.is_empty())),
         }
     }
@@ -60,10 +65,14 @@ impl Error {
 
 impl fmt::Display for Error {
     fn fmt(&self, f: &mut fmt::Formatter<'_>) -> fmt::Result {
-        match self.reason() {
-            Some(reason) => reason.fmt(f),
-            None if *self == Error::OutOfMemory => f.write_str("out of memory"),
-            None => f.write_str("an argument is not of its form, or the log has no such call"),
+        match self {
+            Error::OutOfMemory => f.write_str("out of memory"),
+            Error::NoEnvelope(reason) | Error::Refused(reason) | Error::BadArgument(Some(reason)) => reason.fmt(f),
+            Error::UnknownAlgorithm => f.write_str(
+                "the library verifies keys of ecdsa-p256 alone; verify the signature by other means, and append by \
+                 ask(envelope) and append_answered, or by append(envelope, verify)",
+            ),
+            Error::BadArgument(None) => f.write_str("an argument is not of its form, or the log has no such call"),
         }
     }
 }

@@ -1,13 +1,14 @@
 //! Checks the logs of a [Warg](https://warg.io) package registry by a proved library.
 //!
-//! The library verifies no signature: you do, by any scheme. [`Log::append`] asks whether the signature belongs to the message under
-//! the key, and takes your word for that one question alone. With the feature `openssl` there is [`p256::verify_p256`].
+//! [`Log::append_signed`] takes a record if it is lawful and its signature belongs, which the library verifies: ECDSA P-256. For any
+//! other algorithm [`Log::append`] asks you whether the signature belongs to the message under the key, and takes your word for that
+//! one question alone.
 //!
 //! ```
 //! # #[cfg(feature = "openssl")]
 //! # fn main() -> Result<(), Box<dyn std::error::Error>> {
 //! use std::time::SystemTime;
-//! use weoldrin::p256::{key_id, sha256_text, verify_p256, SigningKey};
+//! use weoldrin::p256::{key_id, sha256_text, SigningKey};
 //! use weoldrin::records::{Entry, NewRecord};
 //! use weoldrin::PackageLog;
 //!
@@ -25,9 +26,11 @@
 //! let envelope = record.signed(&key_id(alice.public_key()), signature);
 //!
 //! let mut log = PackageLog::new()?;
-//! log.append(&envelope, verify_p256)?;
-//! assert_eq!(log.len()?, 1);
+//! log.append_signed(&envelope)?;
 //! assert_eq!(log.latest(">=1")?.map(|it| it.version), Some("1.0.0".to_owned()));
+//! let refused = log.append_signed(&envelope).err();
+//! let name = refused.as_ref().and_then(|it| it.reason()).map(|it| it.name.as_str());
+//! assert_eq!(name, Some("NoPreviousHashAfterInit"));
 //! # Ok(())
 //! # }
 //! # #[cfg(not(feature = "openssl"))]
@@ -40,7 +43,6 @@ mod error;
 mod kind;
 mod log;
 mod operator;
-#[cfg(feature = "openssl")]
 pub mod p256;
 mod package;
 pub mod proofs;
@@ -65,6 +67,21 @@ pub fn record_id<K: Kind>(envelope: &[u8]) -> Result<String, Error> {
     found.map(buffer::text_of).ok_or(Error::BadArgument(None))
 }
 
+/// Whether the signature belongs to the message under the key, by their texts, as they stand in questions. The error is
+/// [`Error::BadArgument`] where the key's text can't be read, [`Error::UnknownAlgorithm`] where its algorithm is not `ecdsa-p256`, and
+/// otherwise [`Error::BadArgument`] where the signature's text can't be read.
+pub fn verify(key: &str, message: &[u8], signature: &str) -> Result<bool, Error> {
+    let status = unsafe {
+        let (key_at, message_at, signature_at) = (key.as_ptr(), message.as_ptr(), signature.as_ptr());
+        raw::warg_verify(key_at, key.len(), message_at, message.len(), signature_at, signature.len())
+    };
+    match status {
+        raw::OK => Ok(true),
+        raw::REFUSED => Ok(false),
+        status => Err(Error::of(status, &[])),
+    }
+}
+
 /// The library's version.
 pub fn library_version() -> Result<String, Error> {
     let found = buffer::filled(0, |text, used| unsafe { raw::warg_version(text.as_mut_ptr(), text.len(), used) })?;
@@ -72,6 +89,6 @@ pub fn library_version() -> Result<String, Error> {
 }
 
 // The README's code is tested as that of the documents.
-#[cfg(all(doctest, feature = "openssl"))]
+#[cfg(doctest)]
 #[doc = include_str!("../README.md")]
 struct Readme;

@@ -107,7 +107,19 @@ impl<K: Kind> Log<K> {
         Ok(())
     }
 
-    /// Appends the record if the signature belongs, as `verify` says, which is asked once at most.
+    /// Appends the record if its signature belongs, which the library verifies: ECDSA P-256. Where all of a record is lawful but
+    /// its signature, and that is by a key of another algorithm, the error is [`Error::UnknownAlgorithm`]: use [`Log::append`]
+    /// then.
+    pub fn append_signed(&mut self, envelope: &[u8]) -> Result<(), Error> {
+        self.said(envelope.len() + SENTENCE, |log, text, used| unsafe {
+            let room = text.len();
+            let to = text.as_mut_ptr();
+            raw::warg_append_signed(log, envelope.as_ptr(), envelope.len(), to, room, used)
+        })?;
+        Ok(())
+    }
+
+    /// Appends the record if its signature belongs, as `verify` says, which is asked once at most.
     pub fn append(&mut self, envelope: &[u8], mut verify: impl FnMut(&Question) -> bool) -> Result<(), Error> {
         let question = self.ask(envelope)?;
         let belongs = verify(&question);

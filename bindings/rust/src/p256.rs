@@ -1,234 +1,26 @@
-//! ECDSA over the curve P-256 with SHA-256, by OpenSSL's libcrypto (feature `openssl`).
+//! ECDSA over the curve P-256 with SHA-256 (FIPS 186-5). The library verifies; OpenSSL's libcrypto signs (feature `openssl`).
 //!
-//! A key's text is `ecdsa-p256:` and the base64 of a SEC1 point, compressed (33 bytes) or not (65 bytes); it is written
-//! compressed. A signature's text is `ecdsa-p256:` and the base64 of a DER `ECDSA-Sig-Value`.
+//! A key's text is `ecdsa-p256:` and the base64 of a point of SEC 1, compressed (33 bytes) or not (65 bytes); it is written
+//! compressed. A signature's text is `ecdsa-p256:` and the base64 of the DER of an `ECDSA-Sig-Value` (RFC 3279).
+use crate::error::Error;
 use crate::question::Question;
-use std::fmt;
-use std::os::raw::{c_char, c_int, c_long, c_void};
-use std::ptr::{null, null_mut};
 
-const ALGORITHM: &str = "ecdsa-p256";
+#[cfg(feature = "openssl")]
+mod openssl;
+#[cfg(feature = "openssl")]
+mod texts;
 
-// The DER of an AlgorithmIdentifier: an elliptic curve's key, of P-256 (RFC 5480).
-const IDENTIFIER: [u8; 21] = [
-    0x30, 0x13, 0x06, 0x07, 0x2a, 0x86, 0x48, 0xce, 0x3d, 0x02, 0x01, 0x06, 0x08, 0x2a, 0x86, 0x48, 0xce, 0x3d, 0x03, 0x01,
-    0x07,
-];
+#[cfg(feature = "openssl")]
+pub use openssl::{key_id, sha256_text, verify_by_openssl, CryptoError, SigningKey};
 
-extern "C" {
-    fn EVP_DecodeBlock(out: *mut u8, text: *const u8, n: c_int) -> c_int;
-    fn EVP_EncodeBlock(out: *mut u8, bytes: *const u8, n: c_int) -> c_int;
-    fn d2i_PUBKEY(key: *mut *mut c_void, der: *mut *const u8, n: c_long) -> *mut c_void;
-    fn i2d_PUBKEY(key: *const c_void, der: *mut *mut u8) -> c_int;
-    fn d2i_AutoPrivateKey(key: *mut *mut c_void, der: *mut *const u8, n: c_long) -> *mut c_void;
-    fn i2d_PrivateKey(key: *const c_void, der: *mut *mut u8) -> c_int;
-    fn EVP_PKEY_Q_keygen(library: *mut c_void, query: *const c_char, of: *const c_char, ...) -> *mut c_void;
-    fn EVP_PKEY_free(key: *mut c_void);
-    fn EVP_MD_CTX_new() -> *mut c_void;
-    fn EVP_MD_CTX_free(context: *mut c_void);
-    fn EVP_sha256() -> *const c_void;
-    fn EVP_Digest(
-        bytes: *const u8,
-        n: usize,
-        out: *mut u8,
-        size: *mut u32,
-        digest: *const c_void,
-        engine: *mut c_void,
-    ) -> c_int;
-    fn EVP_DigestVerifyInit(
-        context: *mut c_void,
-        key_context: *mut *mut c_void,
-        digest: *const c_void,
-        engine: *mut c_void,
-        key: *mut c_void,
-    ) -> c_int;
-    fn EVP_DigestVerify(context: *mut c_void, signature: *const u8, n: usize, message: *const u8, m: usize) -> c_int;
-    fn EVP_DigestSignInit(
-        context: *mut c_void,
-        key_context: *mut *mut c_void,
-        digest: *const c_void,
-        engine: *mut c_void,
-        key: *mut c_void,
-    ) -> c_int;
-    fn EVP_DigestSign(context: *mut c_void, signature: *mut u8, n: *mut usize, message: *const u8, m: usize) -> c_int;
-}
-
-/// Whether the signature belongs to the message under the key. Texts that can't be read belong to nothing.
-pub fn verify_p256(question: &Question) -> bool {
-    let key = bytes_of(question.key()).and_then(|point| Key::of_point(&point));
-    match (key, bytes_of(question.signature())) {
-        (Some(key), Some(signature)) => key.verifies(question.message(), &signature),
-        _ => false,
+/// Whether the signature belongs to the message under the key, by the library. Texts that can't be read, and those of other
+/// algorithms, belong to nothing.
+///
+/// # Panics
+/// Where the library finds no memory.
+pub fn verify(question: &Question) -> bool {
+    match crate::verify(question.key(), question.message(), question.signature()) {
+        Err(Error::OutOfMemory) => panic!("out of memory"),
+        answer => answer == Ok(true),
     }
-}
-
-/// The text of the SHA-256 digest of bytes, as it stands in records.
-pub fn sha256_text(bytes: &[u8]) -> String {
-    let mut digest = [0; 32];
-    // It fails for want of memory alone.
-    let status =
-        unsafe { EVP_Digest(bytes.as_ptr(), bytes.len(), digest.as_mut_ptr(), null_mut(), EVP_sha256(), null_mut()) };
-    assert_eq!(status, 1, "libcrypto could not hash");
-    let digits: String = digest.iter().map(|it| format!("{it:02x}")).collect();
-    format!("sha256:{digits}")
-}
-
-/// The id of a key: the fingerprint of its text.
-pub fn key_id(public_key: &str) -> String {
-    sha256_text(public_key.as_bytes())
-}
-
-/// libcrypto did not do what was asked of it.
-#[derive(Clone, Copy, Debug, PartialEq, Eq)]
-pub struct CryptoError;
-
-impl fmt::Display for CryptoError {
-    fn fmt(&self, f: &mut fmt::Formatter<'_>) -> fmt::Result {
-        f.write_str("libcrypto could not do it")
-    }
-}
-
-impl std::error::Error for CryptoError {}
-
-/// A private key.
-pub struct SigningKey {
-    key: Key,
-    public_key: String,
-}
-
-impl SigningKey {
-    /// A new key.
-    pub fn generate() -> Result<Self, CryptoError> {
-        let (of, curve) = (b"EC\0".as_ptr().cast(), b"P-256\0".as_ptr().cast::<c_char>());
-        Self::of_key(Key(unsafe { EVP_PKEY_Q_keygen(null_mut(), null(), of, curve) }))
-    }
-
-    /// A key that was saved by [`SigningKey::to_der`], or is in another of the forms that OpenSSL reads.
-    pub fn from_der(der: &[u8]) -> Result<Self, CryptoError> {
-        let mut at = der.as_ptr();
-        let length = c_long::try_from(der.len()).map_err(|_| CryptoError)?;
-        Self::of_key(Key(unsafe { d2i_AutoPrivateKey(null_mut(), &mut at, length) }))
-    }
-
-    /// The key as the DER of RFC 5915. Keep it secret.
-    pub fn to_der(&self) -> Result<Vec<u8>, CryptoError> {
-        self.key.written(i2d_PrivateKey)
-    }
-
-    /// The text of the public key.
-    pub fn public_key(&self) -> &str {
-        &self.public_key
-    }
-
-    /// The text of a signature of the message.
-    pub fn sign(&self, message: &[u8]) -> Result<String, CryptoError> {
-        let context = Context(unsafe { EVP_MD_CTX_new() });
-        // The DER of a signature takes at most 72 bytes.
-        let (mut signature, mut length) = (vec![0; 128], 128);
-        let is_signed = !context.0.is_null()
-            && unsafe {
-                EVP_DigestSignInit(context.0, null_mut(), EVP_sha256(), null_mut(), self.key.0) == 1
-                    && EVP_DigestSign(context.0, signature.as_mut_ptr(), &mut length, message.as_ptr(), message.len()) == 1
-            };
-        if !is_signed {
-            return Err(CryptoError);
-        }
-        signature.truncate(length);
-        Ok(text_of(&signature))
-    }
-
-    fn of_key(key: Key) -> Result<Self, CryptoError> {
-        if key.0.is_null() {
-            return Err(CryptoError);
-        }
-        let der = key.written(i2d_PUBKEY)?;
-        // The identifier, and the point in its uncompressed form.
-        let point = der.strip_prefix(&[0x30, 0x59]).and_then(|it| it.strip_prefix(&IDENTIFIER));
-        let point = point.and_then(|it| it.strip_prefix(&[0x03, 0x42, 0x00, 0x04])).ok_or(CryptoError)?;
-        let sign = 2 + (point[63] & 1);
-        let public_key = text_of(&[&[sign], &point[..32]].concat());
-        Ok(SigningKey { key, public_key })
-    }
-}
-
-impl fmt::Debug for SigningKey {
-    fn fmt(&self, f: &mut fmt::Formatter<'_>) -> fmt::Result {
-        f.debug_struct("SigningKey").field("public_key", &self.public_key).finish_non_exhaustive()
-    }
-}
-
-// An EVP_PKEY, or none.
-struct Key(*mut c_void);
-
-// A key is not changed once it is made, and libcrypto counts its uses atomically.
-unsafe impl Send for Key {}
-unsafe impl Sync for Key {}
-
-impl Key {
-    // The key of a SEC1 point, compressed or not.
-    fn of_point(point: &[u8]) -> Option<Key> {
-        if !matches!((point.len(), point.first()), (33, Some(2 | 3)) | (65, Some(4))) {
-            return None;
-        }
-        let length = point.len() as u8;
-        let der = [&[0x30, length + 24], &IDENTIFIER[..], &[0x03, length + 1, 0], point].concat();
-        let mut at = der.as_ptr();
-        let key = Key(unsafe { d2i_PUBKEY(null_mut(), &mut at, der.len() as c_long) });
-        (!key.0.is_null()).then_some(key)
-    }
-
-    fn verifies(&self, message: &[u8], signature: &[u8]) -> bool {
-        let context = Context(unsafe { EVP_MD_CTX_new() });
-        !context.0.is_null()
-            && unsafe {
-                EVP_DigestVerifyInit(context.0, null_mut(), EVP_sha256(), null_mut(), self.0) == 1
-                    && EVP_DigestVerify(context.0, signature.as_ptr(), signature.len(), message.as_ptr(), message.len()) == 1
-            }
-    }
-
-    // What a function of libcrypto writes of the key.
-    fn written(&self, write: unsafe extern "C" fn(*const c_void, *mut *mut u8) -> c_int) -> Result<Vec<u8>, CryptoError> {
-        let length = unsafe { write(self.0, null_mut()) };
-        let mut der = vec![0; usize::try_from(length).map_err(|_| CryptoError)?];
-        let mut at = der.as_mut_ptr();
-        if der.is_empty() || unsafe { write(self.0, &mut at) } != length {
-            return Err(CryptoError);
-        }
-        Ok(der)
-    }
-}
-
-impl Drop for Key {
-    fn drop(&mut self) {
-        unsafe { EVP_PKEY_free(self.0) }
-    }
-}
-
-// An EVP_MD_CTX, or none.
-struct Context(*mut c_void);
-
-impl Drop for Context {
-    fn drop(&mut self) {
-        unsafe { EVP_MD_CTX_free(self.0) }
-    }
-}
-
-// The text of a key or of a signature.
-fn text_of(bytes: &[u8]) -> String {
-    let mut digits = vec![0; (bytes.len() + 2) / 3 * 4 + 1];
-    let length = unsafe { EVP_EncodeBlock(digits.as_mut_ptr(), bytes.as_ptr(), bytes.len() as c_int) };
-    digits.truncate(length.max(0) as usize);
-    format!("{ALGORITHM}:{}", String::from_utf8_lossy(&digits))
-}
-
-// The bytes of the text of a key or of a signature.
-fn bytes_of(text: &str) -> Option<Vec<u8>> {
-    let digits = text.strip_prefix(ALGORITHM)?.strip_prefix(':')?.as_bytes();
-    let mut bytes = vec![0; digits.len()];
-    let length = c_int::try_from(digits.len()).ok()?;
-    let length = unsafe { EVP_DecodeBlock(bytes.as_mut_ptr(), digits.as_ptr(), length) };
-    // The padding counts as zeros there.
-    let padding = digits.iter().rev().take(2).take_while(|&&digit| digit == b'=').count();
-    bytes.truncate(usize::try_from(length).ok()?.checked_sub(padding)?);
-    Some(bytes)
 }

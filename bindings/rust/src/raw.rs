@@ -8,6 +8,7 @@ pub(crate) const NO_ENVELOPE: u32 = 4;
 pub(crate) const REFUSED: u32 = 5;
 pub(crate) const NONE: u32 = 6;
 pub(crate) const BAD_ARGUMENT: u32 = 7;
+pub(crate) const UNKNOWN_ALGORITHM: u32 = 8;
 
 pub(crate) const LOG_TREE: u32 = 0;
 pub(crate) const MAP_TREE: u32 = 1;
@@ -91,6 +92,22 @@ extern "C" {
         text: *mut u8,
         text_len: usize,
         used: *mut usize,
+    ) -> u32;
+    pub(crate) fn warg_append_signed(
+        log: *mut Log,
+        envelope: *const u8,
+        envelope_len: usize,
+        text: *mut u8,
+        text_len: usize,
+        used: *mut usize,
+    ) -> u32;
+    pub(crate) fn warg_verify(
+        key: *const u8,
+        key_len: usize,
+        message: *const u8,
+        message_len: usize,
+        signature: *const u8,
+        signature_len: usize,
     ) -> u32;
     pub(crate) fn warg_head(log: *mut Log, text: *mut u8, text_len: usize, used: *mut usize) -> u32;
     pub(crate) fn warg_length(log: *mut Log, length: *mut usize) -> u32;

@@ -3,22 +3,30 @@
 mod publishing;
 
 use publishing::{entries, key, next, signed};
-use weoldrin::p256::{key_id, verify_p256};
+use weoldrin::p256::{self, key_id};
 use weoldrin::records::{envelope, message};
 use weoldrin::{Error, Package, PackageLog, Question};
 
-/// The record is refused with an error of this name, and the log is as it was.
-fn refused(log: &mut PackageLog, envelope: &[u8], question: Option<&Question>, name: &str) {
+/// Appending is refused with an error of this name, and the log is as it was.
+fn refused(log: &mut PackageLog, name: &str, append: impl Fn(&mut PackageLog) -> Result<(), Error>) {
     let before = (log.head(), log.len(), log.to_json());
-    let answer = match question {
-        Some(question) => log.append_answered(envelope, question, true),
-        None => log.append(envelope, verify_p256),
-    };
-    match answer {
+    match append(log) {
         Err(Error::Refused(reason)) => assert_eq!(reason.name, name),
         other => panic!("{other:?} in place of {name}"),
     }
     assert_eq!((log.head(), log.len(), log.to_json()), before);
+}
+
+/// It is refused for its signature, by the library's verifier and by another one.
+fn forged(log: &mut PackageLog, envelope: &[u8]) {
+    refused(log, "SignatureError", |log| log.append_signed(envelope));
+    refused(log, "SignatureError", |log| log.append(envelope, p256::verify));
+    refused(log, "SignatureError", |log| log.append(envelope, p256::verify_by_openssl));
+}
+
+/// It is refused where this question was answered by yes.
+fn misanswered(log: &mut PackageLog, envelope: &[u8], question: &Question, name: &str) {
+    refused(log, name, |log| log.append_answered(envelope, question, true));
 }
 
 /// The text of a signature with another last digit but the padding.
@@ -42,23 +50,27 @@ fn each_record_is_forged() -> Result<(), Box<dyn std::error::Error>> {
         let signature = signer.sign(&message::<Package>(&contents))?;
         let right = envelope(&contents, &id, &signature);
         // By another key, with another message, with another signature.
-        refused(&mut log, &signed(&record, signer, &mallory), None, "SignatureError");
-        refused(&mut log, &envelope(&other.contents(), &id, &signature), None, "SignatureError");
-        refused(&mut log, &envelope(&contents, &id, &changed(&signature)), None, "SignatureError");
+        forged(&mut log, &signed(&record, signer, &mallory));
+        forged(&mut log, &envelope(&other.contents(), &id, &signature));
+        forged(&mut log, &envelope(&contents, &id, &changed(&signature)));
         // By the answer to another question: of another record, and of one that was not asked.
         let asked = log.ask(&signed(&other, signer, signer))?;
-        assert!(verify_p256(&asked));
-        refused(&mut log, &right, Some(&asked), "SignatureError");
+        assert!(p256::verify(&asked) && p256::verify_by_openssl(&asked));
+        misanswered(&mut log, &right, &asked, "SignatureError");
         let made_up = Question::new(mallory.public_key(), asked.message(), &signature);
-        refused(&mut log, &right, Some(&made_up), "SignatureError");
+        misanswered(&mut log, &right, &made_up, "SignatureError");
         let question = log.ask(&right)?;
         assert_eq!(question.key(), signer.public_key());
         assert_eq!(question.message(), message::<Package>(&contents));
         assert_eq!(question.signature(), signature);
-        log.append_answered(&right, &question, verify_p256(&question))?;
+        if place % 2 == 0 {
+            log.append_signed(&right)?;
+        } else {
+            log.append_answered(&right, &question, p256::verify(&question))?;
+        }
         // By an answer that was used.
         let name = if place == 0 { "NoPreviousHashAfterInit" } else { "RecordHashDoesNotMatch" };
-        refused(&mut log, &right, Some(&question), name);
+        misanswered(&mut log, &right, &question, name);
     }
     assert_eq!(log.len()?, 50);
     Ok(())
@@ -84,11 +96,16 @@ fn a_no_is_a_no() -> Result<(), Box<dyn std::error::Error>> {
 fn texts_of_keys_and_signatures() -> Result<(), Box<dyn std::error::Error>> {
     let (alice, message) = (key(), b"what is signed");
     let signature = alice.sign(message)?;
-    let verified = |key: &str, signature: &str| verify_p256(&Question::new(key, message, signature));
+    let verified = |key: &str, signature: &str| {
+        let question = Question::new(key, message, signature);
+        let answer = p256::verify(&question);
+        assert_eq!(p256::verify_by_openssl(&question), answer, "{question:?}");
+        answer
+    };
     assert!(verified(alice.public_key(), &signature));
-    let saved = weoldrin::p256::SigningKey::from_der(&alice.to_der()?)?;
+    let saved = p256::SigningKey::from_der(&alice.to_der()?)?;
     assert_eq!(saved.public_key(), alice.public_key());
-    assert!(weoldrin::p256::SigningKey::from_der(b"none").is_err());
+    assert!(p256::SigningKey::from_der(b"none").is_err());
     let toy = signature.replace("ecdsa-p256", "toy");
     for wrong in ["", "ecdsa-p256", "ecdsa-p256:", "ecdsa-p256:!", "ecdsa-p256:AA==", toy.as_str(), &changed(&signature)] {
         assert!(!verified(alice.public_key(), wrong), "{wrong}");

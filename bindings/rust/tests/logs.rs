@@ -5,7 +5,7 @@ mod publishing;
 use publishing::{entries, envelopes, key, log_of, next, signed, start};
 use std::thread;
 use std::time::Duration;
-use weoldrin::p256::{key_id, sha256_text, verify_p256};
+use weoldrin::p256::{key_id, sha256_text};
 use weoldrin::records::{envelope, Entry};
 use weoldrin::{
     library_version, record_id, Comparison, Error, Link, NamespaceState, Operator, OperatorLog, OperatorPermission, Package,
@@ -41,7 +41,7 @@ fn records_and_releases() -> Tested {
     assert_eq!(latest.content(), Some(sha256_text(b"1.2.0").as_str()));
     let mut yank = next(&log, vec![Entry::yank("1.3.0")]);
     yank.timestamp += Duration::from_nanos(7);
-    log.append(&signed(&yank, &alice, &alice), verify_p256)?;
+    log.append_signed(&signed(&yank, &alice, &alice))?;
     let yanked = log.release("1.3.0")?.ok_or("a release")?;
     let (by, timestamp) = (key_id(alice.public_key()), yank.timestamp);
     assert_eq!(yanked.state, ReleaseState::Yanked { by, timestamp });
@@ -84,10 +84,10 @@ fn long_chains() -> Tested {
     let release = PackagePermission::Release;
     let mut log = PackageLog::new()?;
     let begin = vec![Entry::init(keys[0].public_key()), Entry::grant(keys[1].public_key(), &[release])];
-    log.append(&signed(&next(&log, begin), &keys[0], &keys[0]), verify_p256)?;
+    log.append_signed(&signed(&next(&log, begin), &keys[0], &keys[0]))?;
     for pair in keys[1..].windows(2) {
         let grant = next(&log, vec![Entry::grant(pair[1].public_key(), &[release])]);
-        log.append(&signed(&grant, &pair[0], &pair[0]), verify_p256)?;
+        log.append_signed(&signed(&grant, &pair[0], &pair[0]))?;
     }
     let chain = log.chain(&key_id(keys[39].public_key()), release)?.ok_or("a chain")?;
     assert_eq!((chain.len(), chain[39]), (40, Link { record: 38, entry: 0 }));
@@ -103,7 +103,7 @@ fn namespaces() -> Tested {
         Entry::define_namespace("own"),
         Entry::import_namespace("other", "registry.example.com"),
     ];
-    log.append(&signed(&next(&log, begin), &alice, &alice), verify_p256)?;
+    log.append_signed(&signed(&next(&log, begin), &alice, &alice))?;
     let registry = "registry.example.com".to_owned();
     assert_eq!(log.namespace_state("own")?, Some(NamespaceState::Defined));
     assert_eq!(log.namespace_state("other")?, Some(NamespaceState::Imported { registry }));
@@ -128,8 +128,8 @@ fn saved_states() -> Tested {
     assert_eq!(log.compare(&resumed).map(|_| 0), bare);
     assert_eq!(resumed.compare(&resumed).map(|_| 0), bare);
     let more = signed(&next(&log, entries(3, &alice, &bob)), &bob, &bob);
-    log.append(&more, verify_p256)?;
-    resumed.append(&more, verify_p256)?;
+    log.append_signed(&more)?;
+    resumed.append_signed(&more)?;
     assert_eq!(resumed.to_json()?, log.to_json()?);
     assert_eq!(name(PackageLog::from_json("[]")), "WrongType");
     assert_eq!(name(OperatorLog::from_json("{")), "NotJson");
@@ -146,7 +146,7 @@ fn comparisons() -> Tested {
     assert_eq!(log.compare(&other)?, Comparison::RightIsPrefix(2));
     assert_eq!(other.compare(&log)?, Comparison::LeftIsPrefix(2));
     let fork = vec![Entry::release("2.0.0", &sha256_text(b""))];
-    other.append(&signed(&next(&other, fork), &bob, &bob), verify_p256)?;
+    other.append_signed(&signed(&next(&other, fork), &bob, &bob))?;
     assert_eq!(other.compare(&log)?, Comparison::Fork(2));
     Ok(())
 }
@@ -172,7 +172,7 @@ fn wrong_uses() -> Tested {
     let contents = next(&log, vec![Entry::release("9.0.0", &sha256_text(b""))]).contents();
     let stranger = envelope(&contents, &nobody, "toy:");
     assert_eq!(name(log.ask(&stranger)), "UnauthorizedAction");
-    let refused = log.append(&stranger, verify_p256).expect_err("a refusal");
+    let refused = log.append_signed(&stranger).expect_err("a refusal");
     assert!(refused.to_string().contains(&nobody));
     assert_eq!(library_version()?.split('.').count(), 3);
     Ok(())
@@ -198,7 +198,7 @@ fn threads() -> Tested {
         let part = part.to_vec();
         log = thread::spawn(move || {
             for envelope in &part {
-                log.append(envelope, verify_p256).expect("a lawful record");
+                log.append_signed(envelope).expect("a lawful record");
             }
             log
         })

@@ -1,7 +1,5 @@
-//! Each row of `conformance/values/p256.rows`.
-#![cfg(feature = "openssl")]
-use weoldrin::p256::verify_p256;
-use weoldrin::Question;
+//! Each row of `conformance/values/p256.rows`, by the library and by libcrypto.
+use weoldrin::{p256, Question};
 
 const ROWS: &str = concat!(env!("CARGO_MANIFEST_DIR"), "/../../conformance/values/p256.rows");
 
@@ -26,8 +24,7 @@ fn text_of(bytes: &[u8]) -> String {
     text
 }
 
-#[test]
-fn rows() {
+fn play(verify: impl Fn(&Question) -> bool) {
     let (mut right, mut refused) = (0, 0);
     let file = std::fs::read_to_string(ROWS).expect("the rows");
     for (place, line) in file.lines().enumerate().filter(|(_, it)| !it.is_empty() && !it.starts_with('#')) {
@@ -37,9 +34,26 @@ fn rows() {
             _ => panic!("line {}: a strange row", place + 1),
         };
         let (key, signature) = (text_of(&bytes_of(key)), text_of(&bytes_of(signature)));
-        let seen = verify_p256(&Question::new(&key, &bytes_of(message), &signature));
+        let seen = verify(&Question::new(&key, &bytes_of(message), &signature));
         assert_eq!(seen, wanted, "line {}: {}", place + 1, line);
         *(if wanted { &mut right } else { &mut refused }) += 1;
     }
     assert!(right > 600 && refused > 1600, "{right} rows are right, {refused} refused");
+}
+
+/// No text of a row is none that can be read.
+#[test]
+fn rows_by_the_library() {
+    play(|it| weoldrin::verify(it.key(), it.message(), it.signature()).expect("an answer"));
+}
+
+#[test]
+fn rows_as_questions() {
+    play(p256::verify);
+}
+
+#[cfg(feature = "openssl")]
+#[test]
+fn rows_by_openssl() {
+    play(p256::verify_by_openssl);
 }

@@ -1,6 +1,6 @@
 """A client of the registry: publishes releases of a package, and fetches logs to audit them.
 
-    python3 client.py publish URL PACKAGE KEY VERSION..   publishes releases; KEY is a file, which is made where there is none
+    python3 client.py publish URL PACKAGE KEY VERSION..   publishes releases; KEY is a file, made where there is none
     python3 client.py fetch URL PACKAGE                   prints the package's envelopes, a line each in hex
 """
 
@@ -119,7 +119,7 @@ def fetch(client: Client, package: str) -> None:
     """Prints a package's envelopes, checked."""
     with PackageLog() as log:
         for envelope in client.records(package):
-            log.append(envelope, p256.verify)
+            log.append(envelope)
             print(envelope.hex())
 
 

@@ -18,7 +18,7 @@ from http import HTTPStatus
 from http.server import BaseHTTPRequestHandler, ThreadingHTTPServer
 
 from store import Store
-from weoldrin import BadArgument, Error, Kind, NoEnvelope, OutOfMemory, Refused, p256
+from weoldrin import BadArgument, Error, Kind, NoEnvelope, OutOfMemory, Refused, UnknownAlgorithm
 
 LIMIT = 1000
 # An envelope's bytes.
@@ -28,6 +28,7 @@ _STATUSES: dict[type[Error], HTTPStatus] = {
     NoEnvelope: HTTPStatus.BAD_REQUEST,
     BadArgument: HTTPStatus.BAD_REQUEST,
     Refused: HTTPStatus.UNPROCESSABLE_ENTITY,
+    UnknownAlgorithm: HTTPStatus.UNPROCESSABLE_ENTITY,
     OutOfMemory: HTTPStatus.SERVICE_UNAVAILABLE,
 }
 
@@ -135,7 +136,7 @@ def main() -> None:
     parser.add_argument("file", type=pathlib.Path)
     parser.add_argument("port", type=int, nargs="?", default=0)
     words = parser.parse_args()
-    with Registry(("127.0.0.1", words.port), Store(words.file, p256.verify)) as server:
+    with Registry(("127.0.0.1", words.port), Store(words.file)) as server:
         host, port = server.server_address[:2]
         print(f"http://{host!s}:{port}", flush=True)
         server.serve_forever()

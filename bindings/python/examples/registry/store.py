@@ -7,7 +7,7 @@ from collections.abc import Iterator
 from contextlib import contextmanager
 from typing import NamedTuple
 
-from weoldrin import Kind, Log, OperatorLog, PackageLog, Release, Verify, record_id
+from weoldrin import Kind, Log, OperatorLog, PackageLog, Release, record_id, verify
 
 _TABLES = """
 CREATE TABLE IF NOT EXISTS logs (
@@ -33,18 +33,18 @@ class Published(NamedTuple):
 class Store:
     """The logs in a file, for many threads and processes at once."""
 
-    def __init__(self, path: pathlib.Path, verify: Verify) -> None:
-        self._path, self._verify, self._threads = path, verify, threading.local()
+    def __init__(self, path: pathlib.Path) -> None:
+        self._path, self._threads = path, threading.local()
         self._file().executescript(_TABLES)
 
     def publish(self, kind: Kind, name: str, envelope: bytes) -> Published:
-        """Appends the record of an envelope to a log, which it begins where there is none. Raises what the log refuses it for.
+        """Appends the record of an envelope to a log, which it begins where there is none. Raises why it is refused.
 
         The signature is verified while nobody waits. If another record came meanwhile, the log refuses this one.
         """
         with self._resumed(kind, name) as (log, _):
             question = log.ask(envelope)
-        belongs = self._verify(question)
+        belongs = verify(*question)
         with self._writing() as file, self._resumed(kind, name) as (log, length):
             log.append_answered(envelope, question, belongs)
             new = Published(length, record_id(kind, envelope))
@@ -58,7 +58,8 @@ class Store:
 
     def names(self, kind: Kind) -> list[str]:
         """The names of all logs of a kind."""
-        return [it for (it,) in self._file().execute("SELECT name FROM logs WHERE kind = ? ORDER BY name", (kind.name,))]
+        rows = self._file().execute("SELECT name FROM logs WHERE kind = ? ORDER BY name", (kind.name,))
+        return [it for (it,) in rows]
 
     def records(self, kind: Kind, name: str, start: int, limit: int) -> list[bytes]:
         """The envelopes of a log from a place on."""
@@ -82,8 +83,8 @@ class Store:
     @contextmanager
     def _resumed(self, kind: Kind, name: str) -> Iterator[tuple[Log, int]]:
         """A log that goes on from its stored state, and how many records it has."""
-        row = self._file().execute("SELECT state, length FROM logs WHERE kind = ? AND name = ?", (kind.name, name)).fetchone()
-        state, length = row or ("{}", 0)
+        query = "SELECT state, length FROM logs WHERE kind = ? AND name = ?"
+        state, length = self._file().execute(query, (kind.name, name)).fetchone() or ("{}", 0)
         with _LOGS[kind].from_json(state) as log:
             yield log, length
 

@@ -1,7 +1,7 @@
-"""Checks the logs of a Warg package registry by a proved library. The signatures are the caller's to verify."""
+"""Checks the logs of a Warg package registry by a proved library, which verifies signatures of ECDSA P-256."""
 
 from .auditing import BadLine, Refusal, Verdict, append_all, audit, audit_many, envelopes_of, processes
-from .errors import BadArgument, Error, NoEnvelope, NotOpen, OutOfMemory, Refused
+from .errors import BadArgument, Error, NoEnvelope, NotOpen, OutOfMemory, Refused, UnknownAlgorithm
 from .incremental import NewRecords, audit_new
 from .logs import (
     Comparison,
@@ -21,6 +21,7 @@ from .logs import (
     record_id,
 )
 from .proofs import verify_absence, verify_consistency, verify_inclusion, verify_presence
+from .signatures import verify
 
 __all__ = [
     "BadArgument",
@@ -43,6 +44,7 @@ __all__ = [
     "Refused",
     "Relation",
     "Release",
+    "UnknownAlgorithm",
     "Verdict",
     "Verify",
     "append_all",
@@ -54,6 +56,7 @@ __all__ = [
     "log_of",
     "processes",
     "record_id",
+    "verify",
     "verify_absence",
     "verify_consistency",
     "verify_inclusion",

@@ -11,12 +11,14 @@ def _parser() -> argparse.ArgumentParser:
     parser = argparse.ArgumentParser(
         prog="python3 -m weoldrin",
         description="Audits logs of a Warg registry. A log is a file with an envelope a line, in hex.",
-        epilog="Status: 0 all accepted, 1 one was refused, 2 a file could not be read, or cryptography is not there.",
+        epilog="Status: 0 all accepted, 1 one was refused, 2 a file could not be read.",
     )
     parser.add_argument("--version", action="version", version=f"weoldrin {library_version()}")
     commands = parser.add_subparsers(dest="command", required=True)
     command = commands.add_parser(
-        "audit", help="the verdict on each log", description="Prints a line a log: its verdict, by ECDSA P-256 signatures."
+        "audit",
+        help="the verdict on each log",
+        description="Prints a line a log: its verdict, by ECDSA P-256 signatures.",
     )
     command.add_argument("kind", choices=["package", "operator"])
     command.add_argument("logs", nargs="+", metavar="LOG")
@@ -27,19 +29,12 @@ def _parser() -> argparse.ArgumentParser:
 def main(words: list[str] | None = None) -> int:
     """Runs the words of a command line, and gives the exit status."""
     asked = _parser().parse_args(words)
-    try:
-        # The package `cryptography` is needed here alone.
-        from . import p256
-    except ModuleNotFoundError as error:
-        print(f"weoldrin: to verify signatures the package cryptography is needed: {error}", file=sys.stderr)
-        return 2
-
     kind, workers = Kind[asked.kind.upper()], max(1, min(asked.workers or 1, len(asked.logs)))
     if workers == 1:
-        verdicts = audit_many(asked.logs, kind, p256.verify, workers)
+        verdicts = audit_many(asked.logs, kind, workers=workers)
     else:
         with processes(workers) as executor:
-            verdicts = audit_many(asked.logs, kind, p256.verify, executor=executor)
+            verdicts = audit_many(asked.logs, kind, executor=executor)
     for verdict in verdicts:
         print(verdict)
     if any(it.fault is not None for it in verdicts):

@@ -6,9 +6,9 @@ import pathlib
 from collections.abc import Callable
 from typing import Any
 
-from .errors import BadArgument, Error, NoEnvelope, NotOpen, OutOfMemory, Refused
+from .errors import BadArgument, Error, NoEnvelope, NotOpen, OutOfMemory, Refused, UnknownAlgorithm
 
-OK, TOO_SMALL, NO_ENVELOPE, REFUSED, NONE, BAD_ARGUMENT = 0, 3, 4, 5, 6, 7
+OK, TOO_SMALL, NO_ENVELOPE, REFUSED, NONE, BAD_ARGUMENT, UNKNOWN_ALGORITHM = 0, 3, 4, 5, 6, 7, 8
 
 # The greatest number that a call takes. `ctypes` passes a greater one on without its upper digits.
 GREATEST = 2**64 - 1
@@ -19,6 +19,7 @@ _RAISED: dict[int, type[Error]] = {
     NO_ENVELOPE: NoEnvelope,
     REFUSED: Refused,
     BAD_ARGUMENT: BadArgument,
+    UNKNOWN_ALGORITHM: UnknownAlgorithm,
 }
 
 
@@ -80,6 +81,8 @@ _CALLS: dict[str, list[Any]] = {
     "close": [_LOG],
     "ask": [_LOG, *_IN, *_OUT, ctypes.POINTER(Asked)],
     "append": [_LOG, *_IN, *_IN, ctypes.POINTER(Asked), ctypes.c_bool, *_OUT],
+    "append_signed": [_LOG, *_IN, *_OUT],
+    "verify": [*_IN, *_IN, *_IN],
     "head": [_LOG, *_OUT],
     "length": [_LOG, _USED],
     "record": [_LOG, _SIZE, *_OUT, ctypes.POINTER(Kept)],
@@ -105,8 +108,8 @@ _CALLS: dict[str, list[Any]] = {
 
 
 class Calls(dict[str, Callable[..., int]]):
-    """All calls, by their names in C without `warg_`, each looked up when it is first made. They let go of the interpreter's lock
-    while they run."""
+    """All calls, by their names in C without `warg_`, each looked up when it is first made. They let go of the
+    interpreter's lock while they run."""
 
     def __init__(self) -> None:
         beside = pathlib.Path(__file__).parent / "libwarg.so"
@@ -131,7 +134,9 @@ class Buffer:
         self._bytes = ctypes.create_string_buffer(4096)
         self._used = ctypes.c_size_t(0)
 
-    def filled(self, call: Callable[..., int], before: tuple[Any, ...], after: tuple[Any, ...] = (), room: int = 0) -> bytes | None:
+    def filled(
+        self, call: Callable[..., int], before: tuple[Any, ...], after: tuple[Any, ...] = (), room: int = 0
+    ) -> bytes | None:
         """What a call writes, whose arguments stand before and after the buffer; none where it says that there is none.
 
         An error's text finds `room`, and at least 4096 bytes.

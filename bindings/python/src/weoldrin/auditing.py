@@ -7,7 +7,7 @@ from collections.abc import Iterable, Iterator
 from concurrent.futures import Executor, ProcessPoolExecutor, ThreadPoolExecutor
 from typing import NamedTuple
 
-from .errors import NoEnvelope, Refused
+from .errors import NoEnvelope, Refused, UnknownAlgorithm
 from .logs import Kind, Log, Verify, log_of
 
 
@@ -56,7 +56,8 @@ class Verdict(NamedTuple):
 
 
 def envelopes_of(lines: Iterable[bytes]) -> Iterator[bytes]:
-    """The envelopes that lines of hex say. A line feed, and a carriage return before it, may end a line. Raises `BadLine`."""
+    """The envelopes that lines of hex say. A line feed, and a carriage return before it, may end a line. Raises
+    `BadLine`."""
     for place, line in enumerate(lines):
         digits = line.removesuffix(b"\n").removesuffix(b"\r")
         # Python's reader takes spaces between the digits.
@@ -68,20 +69,28 @@ def envelopes_of(lines: Iterable[bytes]) -> Iterator[bytes]:
             raise BadLine(place) from None
 
 
-def append_all(log: Log, envelopes: Iterable[bytes], verify: Verify) -> tuple[int, Refusal | None]:
-    """Appends envelopes until one is refused: how many were taken, and the refusal, whose place is counted from the first of them."""
+def append_all(log: Log, envelopes: Iterable[bytes], verify: Verify | None = None) -> tuple[int, Refusal | None]:
+    """Appends envelopes until one is refused: how many were taken, and the refusal, whose place is counted from the
+    first of them.
+
+    Without `verify` the library verifies, and a record whose key is of another algorithm than it knows is refused as
+    `UnknownAlgorithm`.
+    """
     taken = 0
     for envelope in envelopes:
         try:
             log.append(envelope, verify)
-        except (NoEnvelope, Refused) as error:
+        except (NoEnvelope, Refused, UnknownAlgorithm) as error:
             return taken, Refusal(taken, error.name, error.sentence)
         taken += 1
     return taken, None
 
 
-def audit(path: str | os.PathLike[str], kind: Kind, verify: Verify) -> Verdict:
-    """Audits the log in a file. What is wrong with the file is in the verdict; only `OutOfMemory` is raised."""
+def audit(path: str | os.PathLike[str], kind: Kind, verify: Verify | None = None) -> Verdict:
+    """Audits the log in a file, by the library's verifier or by another one.
+
+    What is wrong with the file is in the verdict; only `OutOfMemory` is raised.
+    """
     named = os.fspath(path)
     try:
         # The digits of all lines are tested before any record is judged, as `warg_audit` does.
@@ -99,15 +108,15 @@ def audit(path: str | os.PathLike[str], kind: Kind, verify: Verify) -> Verdict:
 def audit_many(
     paths: Iterable[str | os.PathLike[str]],
     kind: Kind,
-    verify: Verify,
+    verify: Verify | None = None,
     workers: int | None = None,
     executor: Executor | None = None,
 ) -> list[Verdict]:
     """Audits the logs in many files side by side, and gives their verdicts in the order of the files.
 
-    By threads, so many as `workers`, or by an executor of your own. The library lets go of the interpreter's lock while it
-    judges. A `verify` that keeps it, as that of `weoldrin.p256` does, gains little from threads: hand in `processes(workers)`,
-    or the executor of a cluster. `verify` is then a function that stands in a module.
+    By threads, so many as `workers`, or by an executor of your own. The library lets go of the interpreter's lock while
+    it judges and verifies. A `verify` that keeps it, as `p256.verify_by_cryptography` does, gains little from threads:
+    hand in `processes(workers)`, or the executor of a cluster. `verify` is then a function that stands in a module.
     """
     files = list(paths)
     job = functools.partial(audit, kind=kind, verify=verify)
@@ -118,5 +127,6 @@ def audit_many(
 
 
 def processes(workers: int | None = None) -> ProcessPoolExecutor:
-    """Processes for `audit_many`, each with an interpreter of its own; as many as there are processors where no number is given."""
+    """Processes for `audit_many`, each with an interpreter of its own; as many as there are processors where no number
+    is given."""
     return ProcessPoolExecutor(workers)

@@ -22,7 +22,18 @@ class NoEnvelope(Error):
 
 
 class Refused(Error):
-    """The record is unlawful, or the proof does not hold."""
+    """The record is unlawful, or its signature does not belong."""
+
+
+class UnknownAlgorithm(Error):
+    """The key is of another algorithm than the library verifies. The sentence says what to do."""
+
+    def __init__(self, text: str = "") -> None:
+        super().__init__(
+            text
+            or "UnknownAlgorithm: the library verifies keys of ecdsa-p256 alone; verify the signature by other means, "
+            "and append by ask(envelope) and append_answered, or by append(envelope, verify)"
+        )
 
 
 class BadArgument(Error, ValueError):

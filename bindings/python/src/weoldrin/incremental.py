@@ -17,7 +17,7 @@ class NewRecords(NamedTuple):
     records: int
     """How many new records were taken."""
     fault: str | None
-    """Why not all were: the first record that is refused or the first line that is none, by its place in the whole log."""
+    """Why not all were: the first record that is refused or line that is none, by its place in the whole log."""
 
 
 class _Saved(NamedTuple):
@@ -46,11 +46,12 @@ def _resumed(kind: Kind, state: str) -> Log:
     return PackageLog.from_json(state) if kind is Kind.PACKAGE else OperatorLog.from_json(state)
 
 
-def audit_new(path: str | os.PathLike[str], kind: Kind, verify: Verify) -> NewRecords:
-    """Audits the lines of a log's file that came since it was audited last, and keeps the state behind them in PATH.state.
+def audit_new(path: str | os.PathLike[str], kind: Kind, verify: Verify | None = None) -> NewRecords:
+    """Audits the lines of a log's file that came since it was audited last, and keeps the state behind them in
+    PATH.state. Signatures are verified as by `audit`.
 
-    The state is kept only if all new lines were taken. It is as trustworthy as the folder that it lies in. The file has to be the
-    old one with lines added to it; an unfinished last line is left for the next time.
+    The state is kept only if all new lines were taken. It is as trustworthy as the folder that it lies in. The file has
+    to be the old one with lines added to it; an unfinished last line is left for the next time.
     """
     file, kept = pathlib.Path(path), pathlib.Path(f"{os.fspath(path)}.state")
     old = _saved_at(kept)

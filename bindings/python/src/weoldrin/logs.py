@@ -14,7 +14,8 @@ T = TypeVar("T")
 
 
 class Question(NamedTuple):
-    """What has to be verified before a record can be appended: whether the signature belongs to the message under the key."""
+    """What has to be verified before a record can be appended: whether the signature belongs to the message under the
+    key."""
 
     key: str
     """The text of the signer's key: the algorithm's name, a colon, base64."""
@@ -31,8 +32,8 @@ class Record(NamedTuple):
     """A record that a log keeps."""
 
     envelope: bytes
-    """The record's envelope, written anew: it has the contents, the key id and the signature that were appended, and nothing
-    else that stood in those bytes."""
+    """The record's envelope, written anew: it has the contents, the key id and the signature that were appended, and
+    nothing else that stood in those bytes."""
     id: str
 
 
@@ -109,15 +110,17 @@ def _release(text: bytes, lengths: _library.Release) -> Release:
     version, record_id, by, state = parts
     timestamp = lengths.seconds * _NANOS + lengths.nanos
     if lengths.is_yanked:
-        return Release(version, record_id, by, timestamp, None, state, lengths.yanked_seconds * _NANOS + lengths.yanked_nanos)
+        yanked_timestamp = lengths.yanked_seconds * _NANOS + lengths.yanked_nanos
+        return Release(version, record_id, by, timestamp, None, state, yanked_timestamp)
     return Release(version, record_id, by, timestamp, state, None, None)
 
 
 class Log:
-    """A log of either kind; make a `PackageLog` or an `OperatorLog`. It may be used by many threads: its calls wait for each other.
+    """A log of either kind; make a `PackageLog` or an `OperatorLog`. It may be used by many threads: its calls wait for
+    each other.
 
-    Each call raises an `Error` where it was refused, and the log is then as it was. A log that is not closed is closed when it
-    is forgotten.
+    Each call raises an `Error` where it was refused, and the log is then as it was. A log that is not closed is closed
+    when it is forgotten.
     """
 
     KIND: ClassVar[Kind]
@@ -162,8 +165,8 @@ class Log:
     def append_answered(self, envelope: bytes, question: Question, belongs: bool) -> None:
         """Appends the envelope's record by the answer to its question. The answer to any other question is refused.
 
-        An answer is True or False and nothing else: whatever a verifier returns in their place, such as a number or a coroutine,
-        is a `TypeError`, and says nothing of the signature.
+        An answer is True or False and nothing else: whatever a verifier returns in their place, such as a number or a
+        coroutine, is a `TypeError`, and says nothing of the signature.
         """
         if not isinstance(belongs, bool):
             raise TypeError(f"whether a signature belongs is True or False, not {belongs!r}")
@@ -173,11 +176,19 @@ class Log:
         room = len(envelope) + _SENTENCE
         self._said("append", envelope, len(envelope), text, len(text), asked, belongs, room=room)
 
-    def append(self, envelope: bytes, verify: Verify) -> None:
-        """Appends the envelope's record if `verify` says that its signature belongs.
+    def append(self, envelope: bytes, verify: Verify | None = None) -> None:
+        """Appends the envelope's record if its signature belongs. The library verifies it, or `verify` where there is
+        one.
 
-        The log may be used by other threads while `verify` runs. If the record is no longer the next one then, it is refused.
+        The library verifies ECDSA P-256. Where all of a record is lawful but its signature, and that is by a key of
+        another algorithm, `UnknownAlgorithm` is raised: hand in a `verify` then.
+
+        The log may be used by other threads while `verify` runs. If the record is no longer the next one then, it is
+        refused.
         """
+        if verify is None:
+            self._said("append_signed", envelope, len(envelope), room=len(envelope) + _SENTENCE)
+            return
         question = self.ask(envelope)
         self.append_answered(envelope, question, verify(question))
 
@@ -226,7 +237,8 @@ class Log:
         return self._text("key", key_id)
 
     def chain(self, key_id: str, permission: str) -> list[Link] | None:
-        """The entries by which a key id came to hold a permission, from the first one of the log on; none if it does not hold it."""
+        """The entries by which a key id came to hold a permission, from the first one of the log on; none if it does
+        not hold it."""
         key_id_text, permission_text = key_id.encode(), permission.encode()
         used, room = ctypes.c_size_t(0), 16
         while True:
@@ -258,7 +270,8 @@ class Log:
     def to_json(self) -> str:
         """The state as a text of JSON: all that further records are judged by and that is looked up, but no records.
 
-        Raises `BadArgument` with the name `TimeBeforeEpoch` where a time of the state lies before 1970, which its text can't say.
+        Raises `BadArgument` with the name `TimeBeforeEpoch` where a time of the state lies before 1970, which its text
+        can't say.
         """
         text = self._text("save")
         if text is None:
@@ -267,7 +280,8 @@ class Log:
 
     @classmethod
     def from_json(cls, saved: str) -> Self:
-        """A log that goes on from a saved state. It has no records: `len`, `record`, `chain` and `compare` raise `BadArgument`.
+        """A log that goes on from a saved state. It has no records: `len`, `record`, `chain` and `compare` raise
+        `BadArgument`.
 
         Raises `BadArgument`, with the fault's name, where the text is no saved state of this kind.
         """

@@ -1,23 +1,56 @@
-"""ECDSA over the curve P-256 with SHA-256, by the package `cryptography`.
+"""ECDSA over the curve P-256 with SHA-256 (FIPS 186-5). The library verifies; the package `cryptography` signs.
 
-A key's text is `ecdsa-p256:` and the base64 of a SEC1 point, compressed (33 bytes) or not (65 bytes); it is written compressed.
-A signature's text is `ecdsa-p256:` and the base64 of a DER `ECDSA-Sig-Value`.
+A key's text is `ecdsa-p256:` and the base64 of a point of SEC 1, compressed (33 bytes) or not (65 bytes); it is written
+compressed. A signature's text is `ecdsa-p256:` and the base64 of the DER of an `ECDSA-Sig-Value` (RFC 3279).
 """
 
 import base64
-import binascii
-import functools
-from typing import Self
+from typing import TYPE_CHECKING
 
-from cryptography.exceptions import InvalidSignature
-from cryptography.hazmat.primitives import hashes, serialization
-from cryptography.hazmat.primitives.asymmetric import ec
-
+from . import signatures
+from .errors import BadArgument, UnknownAlgorithm
 from .logs import Question
 
 ALGORITHM = "ecdsa-p256"
 
-_SCHEME = ec.ECDSA(hashes.SHA256())
+# A longer text is that of no key and of no signature.
+_LONGEST = 1024
+
+if TYPE_CHECKING:
+    from ._cryptography import SigningKey as SigningKey
+else:
+
+    def __getattr__(name: str) -> object:
+        """`SigningKey`, which needs the package `cryptography`, as verifying does not."""
+        if name != "SigningKey":
+            raise AttributeError(f"module {__name__!r} has no attribute {name!r}")
+        from ._cryptography import SigningKey
+
+        return SigningKey
+
+
+def verify(question: Question) -> bool:
+    """Whether the signature belongs to the message under the key, by the library.
+
+    Texts that can't be read, and those of other algorithms, belong to nothing.
+    """
+    try:
+        return signatures.verify(*question)
+    except (BadArgument, UnknownAlgorithm):
+        return False
+
+
+def verify_by_cryptography(question: Question) -> bool:
+    """The same by the package `cryptography`, which is faster.
+
+    What is read as a key and as a signature is what the library reads, and `cryptography` is asked of nothing else.
+    """
+    from ._cryptography import belongs
+
+    point, signature = _bytes_of(question.key), _bytes_of(question.signature)
+    if point is None or signature is None or not _is_point(point) or not _is_der(signature):
+        return False
+    return belongs(point, question.message, signature)
 
 
 def text_of(data: bytes) -> str:
@@ -26,71 +59,32 @@ def text_of(data: bytes) -> str:
 
 
 def _bytes_of(text: str) -> bytes | None:
-    algorithm, _, digits = text.partition(":")
-    if algorithm != ALGORITHM:
+    """The bytes of the text of a key or of a signature; none where it is no such text."""
+    if len(text) > _LONGEST:
         return None
     try:
-        return base64.b64decode(digits, validate=True)
-    except binascii.Error:
-        return None
-
-
-@functools.lru_cache(maxsize=1024)
-def _key_of(text: str) -> ec.EllipticCurvePublicKey | None:
-    """The key of a text. A log has few signers, so that their points are read once."""
-    point = _bytes_of(text)
-    if point is None or (len(point), point[:1]) not in {(33, b"\x02"), (33, b"\x03"), (65, b"\x04")}:
-        return None
-    try:
-        return ec.EllipticCurvePublicKey.from_encoded_point(ec.SECP256R1(), point)
+        data = base64.b64decode(text.partition(":")[2], validate=True)
     except ValueError:
         return None
+    # There is one text of them, without more padding or other bits behind the last byte.
+    return data if text_of(data) == text else None
 
 
-def verify(question: Question) -> bool:
-    """Whether the signature belongs to the message under the key. Texts that can't be read belong to nothing."""
-    key, signature = _key_of(question.key), _bytes_of(question.signature)
-    if key is None or signature is None:
+def _is_point(data: bytes) -> bool:
+    """Whether the bytes have the form of a point of SEC 1, compressed or not."""
+    return (len(data), data[:1]) in {(33, b"\x02"), (33, b"\x03"), (65, b"\x04")}
+
+
+def _is_integer(data: bytes) -> bool:
+    """Whether the bytes are the contents of an INTEGER of at most 256 bits that is not negative, as few as serve."""
+    if not 1 <= len(data) <= 33 or data[0] >= 128 or (len(data) == 33 and data[0]):
         return False
-    try:
-        key.verify(signature, question.message, _SCHEME)
-    except InvalidSignature:
+    return len(data) == 1 or data[0] > 0 or data[1] >= 128
+
+
+def _is_der(data: bytes) -> bool:
+    """Whether the bytes are the DER (X.690) of a SEQUENCE of two such INTEGERs, with nothing behind it."""
+    if not 8 <= len(data) <= 72 or data[:3] != bytes([0x30, len(data) - 2, 0x02]) or data[3] > len(data) - 6:
         return False
-    return True
-
-
-class SigningKey:
-    """A private key."""
-
-    def __init__(self, key: ec.EllipticCurvePrivateKeyWithSerialization) -> None:
-        if not isinstance(key.curve, ec.SECP256R1):
-            raise ValueError("the key is none of P-256")
-        self._key = key
-        point = key.public_key().public_bytes(serialization.Encoding.X962, serialization.PublicFormat.CompressedPoint)
-        self.public_key = text_of(point)
-        """The text of the public key."""
-
-    @classmethod
-    def generate(cls) -> Self:
-        """A new key."""
-        key = ec.generate_private_key(ec.SECP256R1())
-        assert isinstance(key, ec.EllipticCurvePrivateKeyWithSerialization)
-        return cls(key)
-
-    @classmethod
-    def from_pem(cls, pem: bytes, password: bytes | None = None) -> Self:
-        """A key that was saved as PEM, as `openssl ecparam -genkey -name prime256v1` writes it."""
-        key = serialization.load_pem_private_key(pem, password)
-        if not isinstance(key, ec.EllipticCurvePrivateKeyWithSerialization):
-            raise ValueError("the key is none of P-256")
-        return cls(key)
-
-    def to_pem(self) -> bytes:
-        """The key as PEM (PKCS 8), without a password."""
-        return self._key.private_bytes(
-            serialization.Encoding.PEM, serialization.PrivateFormat.PKCS8, serialization.NoEncryption()
-        )
-
-    def sign(self, message: bytes) -> str:
-        """The text of a signature of the message."""
-        return text_of(self._key.sign(message, _SCHEME))
+    first, rest = data[4 : 4 + data[3]], data[4 + data[3] :]
+    return rest[:2] == bytes([0x02, len(rest) - 2]) and _is_integer(first) and _is_integer(rest[2:])

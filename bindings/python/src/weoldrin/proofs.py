@@ -1,12 +1,13 @@
-"""What a registry proves of its log and its map. Roots are texts of hashes, ids are texts of ids, proofs are texts of base64.
+"""What a registry proves of its log and its map. Roots are texts of hashes, ids are texts of ids, proofs are texts of
+base64.
 
-Each call says whether the proof holds, and raises `BadArgument` where a text is not of its form, or where a place or a length is
-not from 0 to 2**64 - 1. If it is the proof's text, the error's name is the fault: `TooLong`, `BadBase64`, `BadLength` or
-`EmptySibling`.
+Each call says whether the proof holds, and raises `BadArgument` where a text is not of its form, or where a place or a
+length is not from 0 to 2**64 - 1. If it is the proof's text, the error's name is the fault: `TooLong`, `BadBase64`,
+`BadLength` or `EmptySibling`.
 
-What an accepted proof shows is so of every log of that length and root, and of every map of that root, or two strings that differ
-have one hash. No call knows whose root it is, or how long its log is: take a log's length and root, and the map's root, from one
-signed checkpoint.
+What an accepted proof shows is so of every log of that length and root, and of every map of that root, or two strings
+that differ have one hash. No call knows whose root it is, or how long its log is: take a log's length and root, and the
+map's root, from one signed checkpoint.
 """
 
 from ._library import BAD_ARGUMENT, CALLS, GREATEST, REFUSED, Buffer, checked
@@ -35,7 +36,8 @@ def _holds(name: str, tree: int, *arguments: str | int) -> bool:
 
 
 def verify_inclusion(log_id: str, record_id: str, place: int, length: int, root: str, proof: str) -> bool:
-    """Whether the leaf of a log's record stands at a place of the registry's log, which has `length` leaves and this root."""
+    """Whether the leaf of a log's record stands at a place of the registry's log, which has `length` leaves and this
+    root."""
     return _holds("inclusion", _LOG, log_id, record_id, place, length, root, proof)
 
 

@@ -88,8 +88,8 @@ def import_namespace(name: str, registry: str) -> bytes:
 
 
 def contents(prev: str | None, timestamp: int, entries: Iterable[bytes], version: int = 1) -> bytes:
-    """A record's bytes: the id of the record before it, its time in nanoseconds since 1970, its entries, and the version of the
-    protocol."""
+    """A record's bytes: the id of the record before it, its time in nanoseconds since 1970, its entries, and the
+    version of the protocol."""
     seconds, nanos = divmod(timestamp, _NANOS)
     link = b"" if prev is None else _bytes(1, prev.encode())
     time = _bytes(3, _number(1, seconds) + _number(2, nanos))

@@ -1,7 +1,7 @@
 //! Logs that are signed by keys of P-256, for the tests.
 #![allow(dead_code)]
 use std::time::{Duration, SystemTime};
-use weoldrin::p256::{key_id, sha256_text, verify_p256, SigningKey};
+use weoldrin::p256::{key_id, sha256_text, SigningKey};
 use weoldrin::records::{Entry, NewRecord};
 use weoldrin::{Kind, Log, Package, PackageLog, PackagePermission};
 
@@ -41,7 +41,7 @@ pub fn envelopes(count: usize, alice: &SigningKey, bob: &SigningKey) -> Vec<Vec<
     for place in 0..count {
         let signer = if place == 0 { alice } else { bob };
         made.push(signed(&next(&log, entries(place, alice, bob)), signer, signer));
-        log.append(&made[place], verify_p256).expect("a lawful record");
+        log.append_signed(&made[place]).expect("a lawful record");
     }
     made
 }
@@ -50,7 +50,7 @@ pub fn envelopes(count: usize, alice: &SigningKey, bob: &SigningKey) -> Vec<Vec<
 pub fn log_of(envelopes: &[Vec<u8>]) -> PackageLog {
     let mut log = PackageLog::new().expect("a log");
     for envelope in envelopes {
-        log.append(envelope, verify_p256).expect("a lawful record");
+        log.append_signed(envelope).expect("a lawful record");
     }
     log
 }

@@ -1,0 +1,58 @@
+"""ECDSA P-256 by the package `cryptography`, which nothing else imports."""
+
+from typing import Self
+
+from cryptography.exceptions import InvalidSignature
+from cryptography.hazmat.primitives import hashes, serialization
+from cryptography.hazmat.primitives.asymmetric import ec
+
+from . import p256
+
+_SCHEME = ec.ECDSA(hashes.SHA256())
+
+
+def belongs(point: bytes, message: bytes, signature: bytes) -> bool:
+    """Whether the signature belongs to the message under the key of a point."""
+    try:
+        key = ec.EllipticCurvePublicKey.from_encoded_point(ec.SECP256R1(), point)
+        key.verify(signature, message, _SCHEME)
+    except (ValueError, InvalidSignature):
+        return False
+    return True
+
+
+class SigningKey:
+    """A private key."""
+
+    def __init__(self, key: ec.EllipticCurvePrivateKeyWithSerialization) -> None:
+        if not isinstance(key.curve, ec.SECP256R1):
+            raise ValueError("the key is none of P-256")
+        self._key = key
+        point = key.public_key().public_bytes(serialization.Encoding.X962, serialization.PublicFormat.CompressedPoint)
+        self.public_key = p256.text_of(point)
+        """The text of the public key."""
+
+    @classmethod
+    def generate(cls) -> Self:
+        """A new key."""
+        key = ec.generate_private_key(ec.SECP256R1())
+        assert isinstance(key, ec.EllipticCurvePrivateKeyWithSerialization)
+        return cls(key)
+
+    @classmethod
+    def from_pem(cls, pem: bytes, password: bytes | None = None) -> Self:
+        """A key that was saved as PEM, as `openssl ecparam -genkey -name prime256v1` writes it."""
+        key = serialization.load_pem_private_key(pem, password)
+        if not isinstance(key, ec.EllipticCurvePrivateKeyWithSerialization):
+            raise ValueError("the key is none of P-256")
+        return cls(key)
+
+    def to_pem(self) -> bytes:
+        """The key as PEM (PKCS 8), without a password."""
+        return self._key.private_bytes(
+            serialization.Encoding.PEM, serialization.PrivateFormat.PKCS8, serialization.NoEncryption()
+        )
+
+    def sign(self, message: bytes) -> str:
+        """The text of a signature of the message."""
+        return p256.text_of(self._key.sign(message, _SCHEME))
