@@ -1,17 +1,18 @@
--- The caller's word for a question.
+-- What becomes of a handle's log, by the caller's word for a question or by the library's own verification.
 use Rattle.std.proofs.Common.{◌≡◌, ◌≤◌, ℕ, List, Bool, Option, Some, Result, Ok, Err, sym, ◌∙◌, ap, subst}
 use Rattle.std.specs.Prelude.{OnOk, OnErr, IfErr}
-use Rattle.warg_records.specs.Kinds.{SignatureRelation}
+use Rattle.warg_p256.specs.Scheme.{p256_belongs}
+use Rattle.warg_records.specs.Kinds.{SignatureRelation, AcceptsNoMore}
 use Rattle.warg_validator.specs.Telling.{Holds}
 use Rattle.warg_validator.specs.declared.host.told.Told.{Told}
 use Rattle.warg_c.specs.declared.failure.Failure.{Failure}
-use Rattle.warg_c.specs.declared.failure.Failure.TheVariants.{NotOpen, OutOfMemory, TooSmall, NoEnvelope, Refused, Absent, BadArgument}
+use Rattle.warg_c.specs.declared.failure.Failure.TheVariants.{NotOpen, OutOfMemory, TooSmall, NoEnvelope, Refused, Absent, BadArgument, UnknownAlgorithm}
 use Rattle.warg_c.specs.declared.held.Held.{Held}
 use Rattle.warg_c.specs.declared.held.Held.TheVariants.{Package, Operator}
 use Rattle.warg_c.specs.declared.question.Asked.{Asked}
-use Rattle.warg_c.specs.Held.{append_does, append_fails, append_moves, append_refuses}
+use Rattle.warg_c.specs.Held.{append_does, append_fails, append_moves, append_refuses, may_come, signed_moves}
 use Rattle.warg_c.specs.Questions.{Says, HoldsOf}
-use Rattle.warg_c.specs.Runs.{Call, IsCall}
+use Rattle.warg_c.specs.Runs.{Call, IsCall, HoldsOfWord}
 use Rattle.warg_c.specs.Statuses.{status_of, Answers}
 use Rattle.warg_c.proofs.Codes.{answered, no-zero}
 
@@ -32,6 +33,7 @@ fails-told held belongs n question envelope used new t says same NoEnvelope h = 
 fails-told held belongs n question envelope used new t says same Refused h = (t, says, same, h)
 fails-told held belongs n question envelope used new t says same Absent h = (t, says, same, h)
 fails-told held belongs n question envelope used new t says same BadArgument h = absurd (refuses-no-argument held t envelope used new h)
+fails-told held belongs n question envelope used new t says same UnknownAlgorithm h = (t, says, same, h)
 
 pub fails-if : {X : Type 0} (held : Held) (belongs : Bool) (n : Asked) (question envelope : List ℕ) (used : ℕ) (new : List ℕ) (t : Told) → Says n question t.question → t.belongs ≡ belongs → (r : Result X Failure)
     → IfErr r (append_refuses held t envelope used new) → IfErr r (append_fails held belongs n question envelope used new)
@@ -42,26 +44,39 @@ fails-if held belongs n question envelope used new t says same (Err f) h = fails
 pub moves : (b : SignatureRelation) (envelope : List ℕ) (old : Held) (kept : Option Held) (new : Held) → kept ≡ Some new → append_does b envelope old new → append_moves b envelope old kept
 moves b envelope old kept new is does = subst (λ o. append_moves b envelope old o) (sym is) does
 
-does-moves : {X : Type 0} (belongs : Bool) (n : Asked) (question envelope : List ℕ) (old : Held) (kept : Option Held) (new : Held) → kept ≡ Some new → (r : Result X Failure) → OnOk r ((b : SignatureRelation) → HoldsOf b belongs n question → append_does b envelope old new)
-    → OnOk r ((b : SignatureRelation) → HoldsOf b belongs n question → append_moves b envelope old kept)
-does-moves belongs n question envelope old kept new is (Ok x) does = λ b holds. moves b envelope old kept new is (does b holds)
-does-moves belongs n question envelope old kept new is (Err f) does = tt
+-- the same under each relation of which something holds
+does-moves : {X : Type 0} (Fits : SignatureRelation → Type 0) (envelope : List ℕ) (old : Held) (kept : Option Held) (new : Held) → kept ≡ Some new → (r : Result X Failure) → OnOk r ((b : SignatureRelation) → Fits b → append_does b envelope old new)
+    → OnOk r ((b : SignatureRelation) → Fits b → append_moves b envelope old kept)
+does-moves Fits envelope old kept new is (Ok x) does = λ b fits. moves b envelope old kept new is (does b fits)
+does-moves Fits envelope old kept new is (Err f) does = tt
+
+both : {X : Type 0} (P Q : Type 0) (r : Result X Failure) → OnOk r P → OnOk r Q → OnOk r (P × Q)
+both P Q (Ok x) p q = (p, q)
+both P Q (Err f) p q = tt
 
 -- the status of what was asked of a handle's log
-pub ask-answers : (before : Option Held) (held : Held) → Some held ≡ before → (r : Result Unit Failure) (status : ℕ) → status ≡ status_of r → status ≤ 7 → (P : Held → Type 0) (Q : Held → Failure → Type 0) → OnOk r (P held) → IfErr r (Q held) → Answers status before P Q
+pub ask-answers : (before : Option Held) (held : Held) → Some held ≡ before → (r : Result Unit Failure) (status : ℕ) → status ≡ status_of r → status ≤ 8 → (P : Held → Type 0) (Q : Held → Failure → Type 0) → OnOk r (P held) → IfErr r (Q held) → Answers status before P Q
 ask-answers before held was r status e small P Q tells fails = subst (λ o. Answers status o P Q) was (answered (P held) (Q held) r status e small tells fails)
 
 -- the status of what became of a handle's log
-pub append-answers : (before after : Option Held) (old new : Held) → Some old ≡ before → after ≡ Some new → (r : Result Unit Failure) (status : ℕ) → status ≡ status_of r → status ≤ 7 → (belongs : Bool) (n : Asked) (question envelope : List ℕ) (used : ℕ) (out : List ℕ)
+pub append-answers : (before after : Option Held) (old new : Held) → Some old ≡ before → after ≡ Some new → (r : Result Unit Failure) (status : ℕ) → status ≡ status_of r → status ≤ 8 → (belongs : Bool) (n : Asked) (question envelope : List ℕ) (used : ℕ) (out : List ℕ)
     → OnOk r ((b : SignatureRelation) → HoldsOf b belongs n question → append_does b envelope old new) → IfErr r (append_fails old belongs n question envelope used out)
     → Answers status before (λ held. (b : SignatureRelation) → HoldsOf b belongs n question → append_moves b envelope held after) (λ held. append_fails held belongs n question envelope used out)
 append-answers before after old new was is r status e small belongs n question envelope used out does fails =
-    subst (λ o. Answers status o (λ held. (b : SignatureRelation) → HoldsOf b belongs n question → append_moves b envelope held after) (λ held. append_fails held belongs n question envelope used out)) was
-    (answered ((b : SignatureRelation) → HoldsOf b belongs n question → append_moves b envelope old after) (λ f. append_fails old belongs n question envelope used out f) r status e small (does-moves belongs n question envelope old after new is r does) fails)
+    ask-answers before old was r status e small (λ held. (b : SignatureRelation) → HoldsOf b belongs n question → append_moves b envelope held after) (λ held. append_fails held belongs n question envelope used out)
+    (does-moves (λ b. HoldsOf b belongs n question) envelope old after new is r does) fails
+
+-- the same where the library verifies
+pub signed-answers : (before after : Option Held) (old new : Held) → Some old ≡ before → after ≡ Some new → (r : Result Unit Failure) (status : ℕ) → status ≡ status_of r → status ≤ 8 → (envelope : List ℕ) (Q : Held → Failure → Type 0)
+    → OnOk r ((b : SignatureRelation) → AcceptsNoMore p256_belongs b → append_does b envelope old new) → OnOk r (may_come p256_belongs envelope old) → IfErr r (Q old)
+    → Answers status before (λ held. signed_moves envelope held after) Q
+signed-answers before after old new was is r status e small envelope Q does lawful fails =
+    ask-answers before old was r status e small (λ held. signed_moves envelope held after) Q
+    (both (may_come p256_belongs envelope old) ((b : SignatureRelation) → AcceptsNoMore p256_belongs b → append_moves b envelope old after) r lawful (does-moves (λ b. AcceptsNoMore p256_belongs b) envelope old after new is r does)) fails
 
 -- the same as a call in a run
 pub append-call : (before after : Option Held) (old new : Held) → Some old ≡ before → after ≡ Some new → (r : Result Unit Failure) (c : Call) → c.status ≡ status_of r
-    → OnOk r ((b : SignatureRelation) → HoldsOf b c.belongs c.asked c.question → append_does b c.envelope old new) → OnErr r (new ≡ old) → IsCall c before after
+    → OnOk r ((b : SignatureRelation) → HoldsOfWord b c.word → append_does b c.envelope old new) → OnErr r (new ≡ old) → IsCall c before after
 append-call before after old new was is (Ok u) c e does stays = record {
   appended = λ h. (old, sym was, λ b holds. moves b c.envelope old after new is (does b holds));
   unchanged = λ h. absurd (h e);

@@ -3,13 +3,13 @@ use Rattle.std.proofs.Common.{◌≡◌, ◌≤◌, ℕ, ◌==◌, false, Result
 use Rattle.std.specs.Prelude.{OnOk, IfErr, if◌then◌else◌}
 use Rattle.std.proofs.lemmas.Bool.{false≢true}
 use Rattle.warg_c.specs.declared.failure.Failure.{Failure}
-use Rattle.warg_c.specs.declared.failure.Failure.TheVariants.{NotOpen, OutOfMemory, TooSmall, NoEnvelope, Refused, Absent, BadArgument}
+use Rattle.warg_c.specs.declared.failure.Failure.TheVariants.{NotOpen, OutOfMemory, TooSmall, NoEnvelope, Refused, Absent, BadArgument, UnknownAlgorithm}
 use Rattle.warg_c.specs.Statuses.{code_of, status_of, IsStatusOf}
 
 abbrev by_code : ℕ → Failure
 by_code n =
     if n == 1 then NotOpen else if n == 2 then OutOfMemory else if n == 3 then TooSmall
-    else if n == 4 then NoEnvelope else if n == 5 then Refused else if n == 6 then Absent else BadArgument
+    else if n == 4 then NoEnvelope else if n == 5 then Refused else if n == 6 then Absent else if n == 7 then BadArgument else UnknownAlgorithm
 
 decodes : (f : Failure) → by_code (code_of f) ≡ f
 decodes NotOpen = refl
@@ -19,6 +19,7 @@ decodes NoEnvelope = refl
 decodes Refused = refl
 decodes Absent = refl
 decodes BadArgument = refl
+decodes UnknownAlgorithm = refl
 
 is-no-zero : (f : Failure) → (code_of f == 0) ≡ false
 is-no-zero NotOpen = refl
@@ -28,10 +29,11 @@ is-no-zero NoEnvelope = refl
 is-no-zero Refused = refl
 is-no-zero Absent = refl
 is-no-zero BadArgument = refl
+is-no-zero UnknownAlgorithm = refl
 
 pub no-zero : (f : Failure) → code_of f ≡ 0 → ⊥
 no-zero f h = false≢true (sym (is-no-zero f) ∙ ap (λ n. n == 0) h)
 
-pub answered : (P : Type 0) (Q : Failure → Type 0) (r : Result Unit Failure) (n : ℕ) → n ≡ status_of r → n ≤ 7 → OnOk r P → IfErr r Q → IsStatusOf n P Q
+pub answered : (P : Type 0) (Q : Failure → Type 0) (r : Result Unit Failure) (n : ℕ) → n ≡ status_of r → n ≤ 8 → OnOk r P → IfErr r Q → IsStatusOf n P Q
 answered P Q (Ok u) n e small p q = (small, λ _. p, λ f h. absurd (no-zero f (sym h ∙ e)))
 answered P Q (Err g) n e small p q = (small, λ h. absurd (no-zero g (sym e ∙ h)), λ f h. subst Q (sym (decodes g) ∙ ap by_code (sym e ∙ h) ∙ decodes f) q)

@@ -1,21 +1,21 @@
 -- What a refusal tells.
-use Rattle.std.proofs.Common.{◌≡◌, ◌<◌, ℕ, List, length, take, Option, Some, None, Result, Ok, Err, refl, sym, ap, ◌∙◌, subst}
+use Rattle.std.proofs.Common.{◌≡◌, ◌⊎◌, inl, inr, ◌<◌, ℕ, List, length, take, Option, Some, None, Result, Ok, Err, refl, sym, ap, ◌∙◌, subst}
 use Rattle.std.specs.Prelude.{OnOk, IfErr}
 use Rattle.std.specs.Option.{option_map}
 use Rattle.warg_envelope.specs.EnvelopeData.{EnvelopeData}
 use Rattle.warg_envelope.specs.Faults.{NamesFault}
-use Rattle.warg_records.specs.Kinds.{Kind}
+use Rattle.warg_p256.specs.Scheme.{p256_belongs}
+use Rattle.warg_records.specs.Kinds.{SignatureRelation, Kind}
 use Rattle.warg_validator.specs.OutcomeRuns.{IfNamed}
 use Rattle.warg_validator.specs.Strings.{Cause, Unread, Unlawful}
 use Rattle.warg_validator.specs.declared.replay.RunCause.{RunCause}
 use Rattle.warg_validator.specs.Telling.{Asks}
 use Rattle.warg_records.specs.declared.question.Question.{Question}
-use Rattle.warg_validator.specs.declared.host.told.Told.{Told}
 use Rattle.warg_c.specs.declared.failure.Failure.{Failure}
-use Rattle.warg_c.specs.declared.failure.Failure.TheVariants.{TooSmall}
+use Rattle.warg_c.specs.declared.failure.Failure.TheVariants.{NotOpen, OutOfMemory, TooSmall, NoEnvelope, Refused, Absent, BadArgument, UnknownAlgorithm}
 use Rattle.warg_c.specs.declared.question.Asked.{Asked}
 use Rattle.warg_c.specs.Ids.{IdFails}
-use Rattle.warg_c.specs.Logs.{IsAsked, IsWhy, IsWhyBy, AskFails, Refuses}
+use Rattle.warg_c.specs.Logs.{IsAsked, IsWhy, IsWhyBy, AskFails, AsksOther, Refuses, RefusesSigned}
 use Rattle.warg_c.specs.Questions.{Spells}
 use Rattle.warg_c.specs.Texts.{IsErrorText, failure_by}
 
@@ -47,20 +47,42 @@ module _ {View Offence F E : Type 0} (k : Kind View Offence) (read : List ℕ �
   ask-too-small v envelope q asks text n spells (Ok x) used old new is small = tt
   ask-too-small v envelope q asks text n spells (Err f) used old new is small = subst (λ g. AskFails k read named_by SaysBy v envelope n old used new g) (sym small.0) (text, (q, asks, spells), is, small.1)
 
-  append-told : (answer : Told) (v : View) (envelope : List ℕ) (used : ℕ) (new : List ℕ) (c : RunCause E) → IsErrorText (SaysBy c) used new → (t : Option (Cause F Offence)) → named_by c ≡ t → IfNamed t (IsWhyBy k read answer v envelope)
-      → Refuses k read named_by SaysBy answer v envelope used new (failure_by t)
-  append-told answer v envelope used new c text None tells why = tt
-  append-told answer v envelope used new c text (Some (Unread fault)) tells why = (fault, why, record { cause = c; tells = tells; text = text })
-  append-told answer v envelope used new c text (Some (Unlawful offence)) tells why = (offence, why, record { cause = c; tells = tells; text = text })
+  append-told : (b : SignatureRelation) (v : View) (envelope : List ℕ) (used : ℕ) (new : List ℕ) (c : RunCause E) → IsErrorText (SaysBy c) used new → (t : Option (Cause F Offence)) → named_by c ≡ t → IfNamed t (IsWhyBy k read b v envelope)
+      → Refuses k read named_by SaysBy b v envelope used new (failure_by t)
+  append-told b v envelope used new c text None tells why = tt
+  append-told b v envelope used new c text (Some (Unread fault)) tells why = (fault, why, record { cause = c; tells = tells; text = text })
+  append-told b v envelope used new c text (Some (Unlawful offence)) tells why = (offence, why, record { cause = c; tells = tells; text = text })
 
-  -- a cause that is told by an answer is why nothing is appended
-  pub append-refused : (answer : Told) (v : View) (envelope : List ℕ) (used : ℕ) (new : List ℕ) (c : RunCause E) → IsErrorText (SaysBy c) used new → IfNamed (named_by c) (IsWhyBy k read answer v envelope)
-      → Refuses k read named_by SaysBy answer v envelope used new (failure_by (named_by c))
-  append-refused answer v envelope used new c text why = append-told answer v envelope used new c text (named_by c) refl why
+  -- a cause that is told under a relation is why nothing is appended
+  pub append-refused : (b : SignatureRelation) (v : View) (envelope : List ℕ) (used : ℕ) (new : List ℕ) (c : RunCause E) → IsErrorText (SaysBy c) used new → IfNamed (named_by c) (IsWhyBy k read b v envelope)
+      → Refuses k read named_by SaysBy b v envelope used new (failure_by (named_by c))
+  append-refused b v envelope used new c text why = append-told b v envelope used new c text (named_by c) refl why
 
-  pub append-fails : (answer : Told) (v : View) (envelope : List ℕ) (used : ℕ) (new : List ℕ) (c : RunCause E) (f : Failure) → f ≡ failure_by (named_by c) → IsErrorText (SaysBy c) used new → IfNamed (named_by c) (IsWhyBy k read answer v envelope)
-      → Refuses k read named_by SaysBy answer v envelope used new f
-  append-fails answer v envelope used new c f is text why = subst (λ g. Refuses k read named_by SaysBy answer v envelope used new g) (sym is) (append-refused answer v envelope used new c text why)
+  pub append-fails : (b : SignatureRelation) (v : View) (envelope : List ℕ) (used : ℕ) (new : List ℕ) (c : RunCause E) (f : Failure) → f ≡ failure_by (named_by c) → IsErrorText (SaysBy c) used new → IfNamed (named_by c) (IsWhyBy k read b v envelope)
+      → Refuses k read named_by SaysBy b v envelope used new f
+  append-fails b v envelope used new c f is text why = subst (λ g. Refuses k read named_by SaysBy b v envelope used new g) (sym is) (append-refused b v envelope used new c text why)
+
+  signed-told : (v : View) (envelope : List ℕ) (used : ℕ) (new : List ℕ) (f : Failure) → (f ≡ Refused → ¬ AsksOther k read v envelope) → Refuses k read named_by SaysBy p256_belongs v envelope used new f → RefusesSigned k read named_by SaysBy v envelope used new f
+  signed-told v envelope used new NotOpen other h = h
+  signed-told v envelope used new OutOfMemory other h = tt
+  signed-told v envelope used new TooSmall other h = h
+  signed-told v envelope used new NoEnvelope other h = h
+  signed-told v envelope used new Refused other h = (h, other refl)
+  signed-told v envelope used new Absent other h = h
+  signed-told v envelope used new BadArgument other h = h
+  signed-told v envelope used new UnknownAlgorithm other h = absurd h
+
+  module _ (u v : View) (same : u ≡ v) (envelope : List ℕ) where
+    -- the same where the library verifies; what it refuses asks for no other algorithm
+    pub signed-fails : (used : ℕ) (new : List ℕ) (c : RunCause E) (g f : Failure) → g ≡ failure_by (named_by c) → (g ≡ Refused → ¬ AsksOther k read u envelope) → f ≡ failure_by (named_by c) → IsErrorText (SaysBy c) used new → IfNamed (named_by c) (IsWhyBy k read p256_belongs v envelope)
+        → RefusesSigned k read named_by SaysBy v envelope used new f
+    signed-fails used new c g f was own is text why =
+        signed-told v envelope used new f (λ refused asked. own (was ∙ sym is ∙ refused) (subst (λ w. AsksOther k read w envelope) (sym same) asked)) (append-fails p256_belongs v envelope used new c f is text why)
+
+    -- or it asks for one, or there was no memory to see that
+    pub again-fails : (used : ℕ) (new : List ℕ) (f : Failure) → (f ≡ OutOfMemory) ⊎ ((f ≡ UnknownAlgorithm) × AsksOther k read u envelope) → RefusesSigned k read named_by SaysBy v envelope used new f
+    again-fails used new f (inl is) = subst (λ g. RefusesSigned k read named_by SaysBy v envelope used new g) (sym is) tt
+    again-fails used new f (inr (is, asked)) = subst (λ g. RefusesSigned k read named_by SaysBy v envelope used new g) (sym is) (subst (λ w. AsksOther k read w envelope) same asked)
 
   id-told : (envelope old : List ℕ) (used : ℕ) (new : List ℕ) (c : RunCause E) → IsErrorText (SaysBy c) used new → (found : Option F) → named_by c ≡ option_map Unread found → NamesFault (read envelope) found
       → IdFails k read named_by SaysBy envelope old used new (failure_by {Offence = Offence} (option_map Unread found))

@@ -21,16 +21,18 @@ use Rattle.warg_records.specs.OperatorEntries as operator_records
 use Rattle.warg_records.specs.OperatorReading.{operator_record_of}
 use Rattle.warg_records.specs.PackageEntries as package_records
 use Rattle.warg_records.specs.PackageReading.{package_record_of}
-use Rattle.warg_records.specs.Kinds.{SignatureRelation}
+use Rattle.warg_p256.specs.Scheme.{p256_belongs}
+use Rattle.warg_records.specs.Kinds.{SignatureRelation, AcceptsNoMore}
 use Rattle.warg_validator.specs.OutcomeRuns.{cause_named_by}
+use Rattle.warg_validator.specs.Telling.{told_belongs}
 use Rattle.warg_c.specs.declared.failure.Failure.{Failure}
-use Rattle.warg_c.specs.declared.failure.Failure.TheVariants.{NotOpen, OutOfMemory, TooSmall, NoEnvelope, Refused, Absent, BadArgument}
+use Rattle.warg_c.specs.declared.failure.Failure.TheVariants.{NotOpen, OutOfMemory, TooSmall, NoEnvelope, Refused, Absent, BadArgument, UnknownAlgorithm}
 use Rattle.warg_c.specs.declared.held.Kind.{Kind}
 use Rattle.warg_c.specs.declared.held.Kind.TheVariants as kinds
 use Rattle.warg_c.specs.declared.held.Held.{Held}
 use Rattle.warg_c.specs.declared.held.Held.TheVariants.{Package, Operator}
 use Rattle.warg_c.specs.declared.question.Asked.{Asked}
-use Rattle.warg_c.specs.Logs.{log_view, state_of, IsAsked, AskFails, IsFresh, Appends, Refuses}
+use Rattle.warg_c.specs.Logs.{log_view, state_of, IsAsked, AskFails, IsFresh, Appends, MayComeBy, Refuses, RefusesSigned}
 use Rattle.warg_c.specs.Questions.{Says, SaysNone}
 use Rattle.warg_c.specs.Texts.{SaysCause}
 
@@ -90,12 +92,26 @@ abbrev pub append_moves : SignatureRelation → List ℕ → Held → Option Hel
 append_moves b envelope old (Some new) = append_does b envelope old new
 append_moves b envelope old None = ⊥
 
+-- the record of the envelope is lawful as the next one, under the relation
+abbrev pub may_come : SignatureRelation → List ℕ → Held → Type 0
+may_come b envelope (Package log) = MayComeBy package_laws.kind (envelope_of package_record_of) b (log_view package_laws.kind packages.view_of log) envelope
+may_come b envelope (Operator log) = MayComeBy operator_laws.kind (envelope_of operator_record_of) b (log_view operator_laws.kind operators.view_of log) envelope
+
+-- the record is lawful by a signature of `ecdsa-p256`, and it is appended, under whatever relation holds of all such signatures
+abbrev pub signed_moves : List ℕ → Held → Option Held → Type 0
+signed_moves envelope old new = may_come p256_belongs envelope old × ((b : SignatureRelation) → AcceptsNoMore p256_belongs b → append_moves b envelope old new)
+
 -- why nothing is appended by an answer
 abbrev pub append_refuses : Held → Told → List ℕ → ℕ → List ℕ → Failure → Type 0
-append_refuses (Package log) answer = Refuses package_laws.kind (envelope_of package_record_of) (cause_named_by (envelope_fault_of fault_of) packages.offence_of) (SaysCause package_names.error_name (λ e. Some (package_texts.error_text e))) answer (log_view package_laws.kind packages.view_of log)
-append_refuses (Operator log) answer = Refuses operator_laws.kind (envelope_of operator_record_of) (cause_named_by (envelope_fault_of fault_of) operators.offence_of) (SaysCause operator_names.error_name (λ e. Some (operator_texts.error_text e))) answer (log_view operator_laws.kind operators.view_of log)
+append_refuses (Package log) answer = Refuses package_laws.kind (envelope_of package_record_of) (cause_named_by (envelope_fault_of fault_of) packages.offence_of) (SaysCause package_names.error_name (λ e. Some (package_texts.error_text e))) (told_belongs answer) (log_view package_laws.kind packages.view_of log)
+append_refuses (Operator log) answer = Refuses operator_laws.kind (envelope_of operator_record_of) (cause_named_by (envelope_fault_of fault_of) operators.offence_of) (SaysCause operator_names.error_name (λ e. Some (operator_texts.error_text e))) (told_belongs answer) (log_view operator_laws.kind operators.view_of log)
 
--- the same by the caller's word for a question
+-- why nothing is appended where the library verifies
+abbrev pub signed_fails : Held → List ℕ → ℕ → List ℕ → Failure → Type 0
+signed_fails (Package log) = RefusesSigned package_laws.kind (envelope_of package_record_of) (cause_named_by (envelope_fault_of fault_of) packages.offence_of) (SaysCause package_names.error_name (λ e. Some (package_texts.error_text e))) (log_view package_laws.kind packages.view_of log)
+signed_fails (Operator log) = RefusesSigned operator_laws.kind (envelope_of operator_record_of) (cause_named_by (envelope_fault_of fault_of) operators.offence_of) (SaysCause operator_names.error_name (λ e. Some (operator_texts.error_text e))) (log_view operator_laws.kind operators.view_of log)
+
+-- why nothing is appended by the caller's word for a question
 abbrev pub IsRefusedBy : Held → Bool → Asked → List ℕ → List ℕ → ℕ → List ℕ → Failure → Type 0
 IsRefusedBy held belongs n question envelope used new f = (answer : Told) × Says n question answer.question × (answer.belongs ≡ belongs) × append_refuses held answer envelope used new f
 
@@ -108,3 +124,4 @@ append_fails held belongs n question envelope used new TooSmall = IsRefusedBy he
 append_fails held belongs n question envelope used new NoEnvelope = IsRefusedBy held belongs n question envelope used new NoEnvelope
 append_fails held belongs n question envelope used new Refused = IsRefusedBy held belongs n question envelope used new Refused
 append_fails held belongs n question envelope used new Absent = IsRefusedBy held belongs n question envelope used new Absent
+append_fails held belongs n question envelope used new UnknownAlgorithm = IsRefusedBy held belongs n question envelope used new UnknownAlgorithm

@@ -18,7 +18,7 @@ use Rattle.warg_validator.specs.OutcomeRuns.{cause_named_by}
 use Rattle.warg_validator.specs.Strings.{Cause, Unread}
 use Rattle.warg_validator.specs.declared.replay.RunCause.{RunCause}
 use Rattle.warg_c.specs.declared.failure.Failure.{Failure}
-use Rattle.warg_c.specs.declared.failure.Failure.TheVariants.{NotOpen, OutOfMemory, TooSmall, NoEnvelope, Refused, Absent, BadArgument}
+use Rattle.warg_c.specs.declared.failure.Failure.TheVariants.{NotOpen, OutOfMemory, TooSmall, NoEnvelope, Refused, Absent, BadArgument, UnknownAlgorithm}
 use Rattle.warg_c.specs.Logs.{HasErrorText}
 use Rattle.warg_c.specs.Lookups.{IdText}
 use Rattle.warg_c.specs.Texts.{NeedsRoom, SaysCause}
@@ -38,6 +38,7 @@ module _ {View Offence F : Type 0} (k : Kind View Offence) (read : List ℕ → 
     IdFails envelope old used new Refused = ⊥
     IdFails envelope old used new Absent = ⊥
     IdFails envelope old used new BadArgument = ⊥
+    IdFails envelope old used new UnknownAlgorithm = ⊥
 
 abbrev pub id_tells : ℕ → List ℕ → List ℕ → Type 0
 id_tells zero envelope text = IsIdOf package_laws.kind (envelope_of package_record_of) envelope text

@@ -2,6 +2,7 @@ pub mod Kept
 pub mod Statuses
 pub mod Texts
 pub mod Questions
+pub mod Verifying
 pub mod Logs
 pub mod Held
 pub mod Runs

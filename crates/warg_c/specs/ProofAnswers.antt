@@ -12,7 +12,7 @@ use Rattle.warg_sparse_map.specs.Maps.{Leads}
 use Rattle.warg_transparency.specs.Heads.{head_leaf}
 use Rattle.warg_transparency.specs.Texts.{log_proof_of, map_proof_of}
 use Rattle.warg_c.specs.declared.failure.Failure.{Failure}
-use Rattle.warg_c.specs.declared.failure.Failure.TheVariants.{NotOpen, OutOfMemory, TooSmall, NoEnvelope, Refused, Absent, BadArgument}
+use Rattle.warg_c.specs.declared.failure.Failure.TheVariants.{NotOpen, OutOfMemory, TooSmall, NoEnvelope, Refused, Absent, BadArgument, UnknownAlgorithm}
 
 -- a text that is not UTF-8, or reads as nothing
 abbrev pub IsNoText : {X E : Type 0} → (List ℕ → Result X E) → List ℕ → Type 0
@@ -32,6 +32,7 @@ ProofFails Differs IsBad NoEnvelope = ⊥
 ProofFails Differs IsBad Refused = Differs
 ProofFails Differs IsBad Absent = ⊥
 ProofFails Differs IsBad BadArgument = IsBad
+ProofFails Differs IsBad UnknownAlgorithm = ⊥
 
 -- the texts say of a leaf that it stands at the place of a log of that length and root
 pub record IsInclusion (log_id record_id root proof : List ℕ) (Says : LogLeaf → List (List ℕ) → List ℕ → Type 0) : Type 0 where

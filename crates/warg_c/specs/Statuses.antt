@@ -1,7 +1,7 @@
 -- The statuses of outcomes.
 use Rattle.std.specs.Prelude.{◌≡◌, ◌≤◌, ℕ, Option, Some, None, Result, Ok, Err}
 use Rattle.warg_c.specs.declared.failure.Failure.{Failure}
-use Rattle.warg_c.specs.declared.failure.Failure.TheVariants.{NotOpen, OutOfMemory, TooSmall, NoEnvelope, Refused, Absent, BadArgument}
+use Rattle.warg_c.specs.declared.failure.Failure.TheVariants.{NotOpen, OutOfMemory, TooSmall, NoEnvelope, Refused, Absent, BadArgument, UnknownAlgorithm}
 
 abbrev pub code_of : Failure → ℕ
 code_of NotOpen = 1
@@ -11,6 +11,7 @@ code_of NoEnvelope = 4
 code_of Refused = 5
 code_of Absent = 6
 code_of BadArgument = 7
+code_of UnknownAlgorithm = 8
 
 abbrev pub status_of : {T : Type 0} → Result T Failure → ℕ
 status_of (Ok _) = 0
@@ -18,7 +19,7 @@ status_of (Err f) = code_of f
 
 -- a status: P at 0, and Q of the failure at each other
 abbrev pub IsStatusOf : ℕ → Type 0 → (Failure → Type 0) → Type 0
-IsStatusOf n P Q = (n ≤ 7) × (n ≡ 0 → P) × ((f : Failure) → n ≡ code_of f → Q f)
+IsStatusOf n P Q = (n ≤ 8) × (n ≡ 0 → P) × ((f : Failure) → n ≡ code_of f → Q f)
 
 -- the same of what a handle holds; the status is 1 where it holds nothing
 abbrev pub Answers : {H : Type 0} → ℕ → Option H → (H → Type 0) → (H → Failure → Type 0) → Type 0

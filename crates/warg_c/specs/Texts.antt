@@ -6,7 +6,7 @@ use Rattle.warg_validator.specs.Strings.{Cause, Unread, Unlawful}
 use Rattle.warg_validator.specs.declared.replay.RunCause.{RunCause}
 use Rattle.warg_c.specs.Statuses.{code_of}
 use Rattle.warg_c.specs.declared.failure.Failure.{Failure}
-use Rattle.warg_c.specs.declared.failure.Failure.TheVariants.{NotOpen, OutOfMemory, TooSmall, NoEnvelope, Refused, Absent, BadArgument}
+use Rattle.warg_c.specs.declared.failure.Failure.TheVariants.{NotOpen, OutOfMemory, TooSmall, NoEnvelope, Refused, Absent, BadArgument, UnknownAlgorithm}
 
 -- what is said to be used lies within the buffer, unless that is too small
 abbrev pub IsWithin : {T A : Type 0} → Result T Failure → ℕ → List A → Type 0
@@ -64,6 +64,7 @@ TextFails Tells Lacks IsBad used out NoEnvelope = ⊥
 TextFails Tells Lacks IsBad used out Refused = ⊥
 TextFails Tells Lacks IsBad used out Absent = Lacks
 TextFails Tells Lacks IsBad used out BadArgument = IsBad
+TextFails Tells Lacks IsBad used out UnknownAlgorithm = ⊥
 
 -- why a call that gives no text is not done
 abbrev pub CallFails : Type 0 → Type 0 → Failure → Type 0
@@ -74,3 +75,4 @@ CallFails Lacks IsBad NoEnvelope = ⊥
 CallFails Lacks IsBad Refused = ⊥
 CallFails Lacks IsBad Absent = Lacks
 CallFails Lacks IsBad BadArgument = IsBad
+CallFails Lacks IsBad UnknownAlgorithm = ⊥

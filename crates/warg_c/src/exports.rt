@@ -12,4 +12,5 @@ mod proofs;
 mod records;
 mod releases;
 mod saving;
+mod verifying;
 mod version;

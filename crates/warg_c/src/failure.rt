@@ -21,6 +21,8 @@ pub enum Failure {
     Absent,
     /// An argument is not of its form, or the log has no such call.
     BadArgument,
+    /// The key's algorithm is none that is verified here.
+    UnknownAlgorithm,
 }
 
 impl From<AllocError> for Failure {
@@ -37,7 +39,7 @@ impl Failure {
     // The status of the failure.
     fn code(self) -> u32
         ensures code { result ≡ code_of self }
-        ensures status { result ≤ 7 }
+        ensures status { result ≤ 8 }
     {
         match self {
             Failure::NotOpen => 1,
@@ -47,6 +49,7 @@ impl Failure {
             Failure::Refused => 5,
             Failure::Absent => 6,
             Failure::BadArgument => 7,
+            Failure::UnknownAlgorithm => 8,
         }
     }
 }
@@ -54,7 +57,7 @@ impl Failure {
 /// The status of an outcome.
 pub(crate) fn status(outcome: Result<(), Failure>) -> u32
     ensures code { result ≡ status_of outcome }
-    ensures status { result ≤ 7 }
+    ensures status { result ≤ 8 }
 {
     match outcome {
         Ok(()) => 0,

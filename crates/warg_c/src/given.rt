@@ -31,7 +31,7 @@ pub(crate) fn finish<T: Copy>(
     used: &mut usize,
 ) -> u32
     ensures text { IsFinish (λ v. v.items) outcome out.old result used.new out.new }
-    ensures status { result ≤ 7 }
+    ensures status { result ≤ 8 }
     ensures buffer { result ≢ 0 → out.new ≡ out.old }
     ensures used { result ≢ 0 → result ≢ 3 → used.new ≡ 0 }
     ensures within { result ≢ 3 → used.new ≤ length out.new }
@@ -51,7 +51,7 @@ pub(crate) fn finish_with<T: Copy>(
     shown: &mut T,
 ) -> u32
     ensures text { IsFinish (λ p. p.0.items) outcome out.old result used.new out.new }
-    ensures status { result ≤ 7 }
+    ensures status { result ≤ 8 }
     ensures buffer { result ≢ 0 → out.new ≡ out.old }
     ensures used { result ≢ 0 → result ≢ 3 → used.new ≡ 0 }
     ensures within { result ≢ 3 → used.new ≤ length out.new }
@@ -70,7 +70,7 @@ pub(crate) fn finish_with<T: Copy>(
 /// Gives a value that was found, and returns the status.
 pub(crate) fn finish_value<T: Copy>(outcome: Result<T, Failure>, value: &mut T) -> u32
     ensures code { result ≡ status_of outcome }
-    ensures status { result ≤ 7 }
+    ensures status { result ≤ 8 }
     ensures value { IfOk outcome (λ found. value.new ≡ found) }
 {
     match outcome {

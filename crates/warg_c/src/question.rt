@@ -1,15 +1,17 @@
 //! A question and its answer as bytes: the key's text, the message, the signature's text.
-ghost use Rattle.std.specs.Prelude.{◌≡◌, ◌⊎◌, ◌+◌, ◌<◌, ◌≤◌, ◌++◌, IfOk, IfErr, MatchOption, Ok, length, take, drop, string_bytes};
+ghost use Rattle.std.specs.Prelude.{◌≡◌, ◌⊎◌, ◌↔◌, ◌+◌, ◌<◌, ◌≤◌, ◌++◌, IfOk, IfErr, IsTrue, MatchOption, Ok, length, take, drop, string_bytes};
 ghost use Rattle.std.specs.Str.{IsUtf8};
 ghost use Rattle.warg_crypto.specs.Keys.{public_key_of, signature_of};
 ghost use Rattle.warg_crypto.specs.NamedBytes.{NamedBytes, named_bytes_text};
 ghost use Rattle.warg_c.specs.declared.failure.Failure.TheVariants.{BadArgument, OutOfMemory};
 ghost use Rattle.warg_c.specs.Questions.{Says, SaysNone, Spells, key_part, lengths_of, message_part, signature_part};
+ghost use Rattle.warg_c.specs.Verifying.{IsP256Key};
 
 use crate::failure::Failure;
 use std::alloc::{AllocError, Global};
 use warg_crypto::laws::{public_key_reads_back, signature_reads_back};
 use warg_crypto::signing::{KeyParseError, PublicKey, Signature, SignatureParseError};
+use warg_p256::ALGORITHM;
 use warg_validator::host::{Question, Told};
 
 /// How many bytes are the key's text, the message and the signature's text.
@@ -39,8 +41,15 @@ fn parts<'a>(bytes: &'a [u8], lengths: &Asked) -> Option<(&'a [u8], &'a [u8], &'
     Some((key, message, signature))
 }
 
-// The key that a text says.
-fn parse_key(alloc: Global, text: &[u8]) -> Result<PublicKey, Failure>
+/// Whether the key is one of the algorithm that is verified here.
+pub(crate) fn is_p256_key(key: &PublicKey) -> bool
+    ensures { IsTrue result ↔ IsP256Key key.now }
+{
+    key.algorithm() == ALGORITHM
+}
+
+/// The key that a text says.
+pub(crate) fn parse_key(alloc: Global, text: &[u8]) -> Result<PublicKey, Failure>
     ensures ok { IfOk result (λ key. IsUtf8 text.now × (public_key_of text.now ≡ Ok key)) }
     ensures err { IfErr result (λ f. (f ≡ OutOfMemory) ⊎
         ((f ≡ BadArgument) × ((key : NamedBytes) → IsUtf8 text.now →
@@ -56,8 +65,8 @@ fn parse_key(alloc: Global, text: &[u8]) -> Result<PublicKey, Failure>
     }
 }
 
-// The signature that a text says.
-fn parse_signature(alloc: Global, text: &[u8]) -> Result<Signature, Failure>
+/// The signature that a text says.
+pub(crate) fn parse_signature(alloc: Global, text: &[u8]) -> Result<Signature, Failure>
     ensures ok { IfOk result (λ signature. IsUtf8 text.now ×
         (signature_of text.now ≡ Ok signature)) }
     ensures err { IfErr result (λ f. (f ≡ OutOfMemory) ⊎

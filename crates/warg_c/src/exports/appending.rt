@@ -1,15 +1,16 @@
-//! Asking what has to be verified, and appending by what the caller says.
+//! Asking what has to be verified, and appending by what the caller says, or by what the library verifies itself.
 ghost use Rattle.std.specs.Prelude.{◌≡◌, ◌≢◌, ◌≤◌, IfOk, IfErr, OnOk, OnErr, length, take};
 ghost use Rattle.warg_validator.specs.Telling.{Holds};
-ghost use Rattle.warg_records.specs.Kinds.{SignatureRelation};
-ghost use Rattle.warg_c.specs.Held.{ask_tells, ask_fails, append_does, append_moves, append_fails, append_refuses};
+ghost use Rattle.warg_p256.specs.Scheme.{p256_belongs};
+ghost use Rattle.warg_records.specs.Kinds.{SignatureRelation, AcceptsNoMore};
+ghost use Rattle.warg_c.specs.Held.{ask_tells, ask_fails, append_does, append_moves, append_fails, append_refuses, may_come, signed_fails, signed_moves};
 ghost use Rattle.warg_c.specs.Questions.{HoldsOf};
-ghost use Rattle.warg_c.specs.Runs.{IsCall};
+ghost use Rattle.warg_c.specs.Runs.{IsCall, ByCaller, ByLibrary};
 ghost use Rattle.warg_c.specs.Statuses.{Answers};
 ghost use Rattle.warg_c.specs.Texts.{IsQuiet, IsWithin};
 ghost use Rattle.warg_c.specs.declared.failure.Failure.TheVariants.{NoEnvelope, Refused, TooSmall};
 
-use crate::asking::{append_log, ask_log};
+use crate::asking::{append_log, append_signed_to, ask_log};
 use crate::failure::{Failure, status};
 use crate::handle::WargLog;
 use crate::held::Held;
@@ -146,9 +147,7 @@ pub extern "C" fn warg_append(
     // As `laws::runs` takes it, among other such calls.
     ensures call { IsCall (record {
       envelope = envelope.now;
-      question = question.now;
-      asked = asked.now;
-      belongs = belongs;
+      word = ByCaller question.now asked.now belongs;
       status = result;
     }) log.old.owned.kept log.new.owned.kept }
 {
@@ -162,6 +161,62 @@ pub extern "C" fn warg_append(
         belongs,
     };
     let outcome = append_told(alloc, &mut held, envelope, &word, text, used);
+    log.put(held);
+    status(outcome)
+}
+
+// The record of the bytes, appended if its signature is verified.
+fn append_signed_held(
+    alloc: Global,
+    held: &mut Held,
+    envelope: &[u8],
+    text: &mut [u8],
+    used: &mut usize,
+) -> Result<(), Failure>
+    ensures appended { OnOk result ((b : SignatureRelation) → AcceptsNoMore p256_belongs b →
+        append_does b envelope.now held.old held.new) }
+    ensures lawful { OnOk result (may_come p256_belongs envelope.now held.old) }
+    ensures failed { IfErr result (signed_fails held.old envelope.now used.new text.new) }
+    ensures unchanged { OnErr result (held.new ≡ held.old) }
+    ensures within { used.old ≡ 0 → used.new ≤ length text.new }
+    ensures quiet { used.old ≡ 0 → IsQuiet result used.new }
+{
+    match held {
+        Held::Package(log) => append_signed_to(alloc, log, envelope, text, used),
+        Held::Operator(log) => append_signed_to(alloc, log, envelope, text, used),
+    }
+}
+
+/// Appends the record of an envelope if its signature belongs, which the library verifies itself: ECDSA P-256.
+#[unsafe(no_mangle)]
+pub extern "C" fn warg_append_signed(
+    alloc: Global,
+    log: &mut WargLog,
+    envelope: &[u8],
+    text: &mut [u8],
+    used: &mut usize,
+) -> u32
+    // The record is lawful by a signature of `ecdsa-p256`. Whatever relation holds of all such signatures: what was
+    // accepted under it still is, with the record.
+    ensures answer { Answers result log.old.owned.kept
+        (λ held. signed_moves envelope.now held log.new.owned.kept)
+        (λ held. signed_fails held envelope.now used.new text.new) }
+    ensures unchanged { result ≢ 0 → log.new.owned.kept ≡ log.old.owned.kept }
+    ensures used { result ≢ 4 → result ≢ 5 → used.new ≡ 0 }
+    ensures within { used.new ≤ length text.new }
+
+    // As `laws::runs` takes it, among other such calls.
+    ensures call { IsCall (record {
+      envelope = envelope.now;
+      word = ByLibrary;
+      status = result;
+    }) log.old.owned.kept log.new.owned.kept }
+{
+    *used = 0;
+    let Some(mut held) = log.take(alloc) else {
+        return status(Err(Failure::NotOpen));
+    };
+    let outcome = append_signed_held(alloc, &mut held, envelope, text, used);
     log.put(held);
     status(outcome)
 }

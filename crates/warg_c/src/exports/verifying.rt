@@ -1,0 +1,35 @@
+//! Verifying a signature.
+ghost use Rattle.std.specs.Prelude.{true, OnOk, IfErr};
+ghost use Rattle.warg_c.specs.Statuses.{IsStatusOf};
+ghost use Rattle.warg_c.specs.Verifying.{IsJudged, VerifyFails};
+
+use crate::failure::{Failure, status};
+use crate::question::{is_p256_key, parse_key, parse_signature};
+use std::alloc::Global;
+use warg_crypto::signing::Verifier;
+use warg_p256::P256Verifier;
+
+// The key's text is read first, then its algorithm is looked at, and then the signature's text is read.
+fn verify(alloc: Global, key: &[u8], message: &[u8], signature: &[u8]) -> Result<(), Failure>
+    ensures ok { OnOk result (IsJudged key.now message.now signature.now true) }
+    ensures err { IfErr result (VerifyFails key.now message.now signature.now) }
+{
+    let key = parse_key(alloc, key)?;
+    if !is_p256_key(&key) {
+        return Err(Failure::UnknownAlgorithm);
+    }
+    let signature = parse_signature(alloc, signature)?;
+    match P256Verifier.verify(alloc, &key, message, &signature) {
+        Ok(()) => Ok(()),
+        Err(_) => Err(Failure::Refused),
+    }
+}
+
+/// Whether the signature of a text belongs to the message under the key of a text: ECDSA P-256.
+#[unsafe(no_mangle)]
+pub extern "C" fn warg_verify(alloc: Global, key: &[u8], message: &[u8], signature: &[u8]) -> u32
+    ensures { IsStatusOf result (IsJudged key.now message.now signature.now true)
+        (VerifyFails key.now message.now signature.now) }
+{
+    status(verify(alloc, key, message, signature))
+}
