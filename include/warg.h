@@ -2,16 +2,18 @@
  *
  * Link with `pkg-config --cflags --libs warg`, or with libwarg.a or libwarg.so of dist/.
  *
- * The library verifies no signature: the caller does, by any scheme. `warg_ask` judges all of a record but its signature and
- * says what has to be verified; `warg_append` takes the caller's word for it, and the record with it.
- *
  *     struct warg_log log = {0};
- *     struct warg_asked asked = {0};
  *     uint32_t status = warg_open(&log, WARG_PACKAGE);
+ *     status = warg_append_signed(&log, envelope, envelope_len, text, sizeof text, &used);
+ *     warg_close(&log);
+ *
+ * The library verifies ECDSA P-256 itself; any other scheme is the caller's: `warg_ask` judges all of a record but its signature and
+ * says what has to be verified, and `warg_append` takes the caller's word for it, and the record with it.
+ *
+ *     struct warg_asked asked = {0};
  *     status = warg_ask(&log, envelope, envelope_len, bytes, sizeof bytes, &used, &asked);
  *     bool belongs = verify(bytes, &asked);
  *     status = warg_append(&log, envelope, envelope_len, bytes, used, &asked, belongs, text, sizeof text, &used);
- *     warg_close(&log);
  *
  * What the caller owes in every call. The library can't see it, and nothing is promised where it does not hold:
  *   - No pointer is null, also where it leads to no bytes (pass "" there).
@@ -56,13 +58,15 @@ enum warg_status {
     WARG_TOO_SMALL = 3,
     /* The bytes are no envelope of a record of the log's kind. */
     WARG_NO_ENVELOPE = 4,
-    /* The record is unlawful; or the proof does not hold. */
+    /* The record is unlawful; or the proof does not hold; or the signature does not belong. */
     WARG_REFUSED = 5,
     /* There is no such thing. */
     WARG_NONE = 6,
     /* An argument is not of its form, or the log is none that has this call: it is of the other kind, or it was resumed and
      * has no records. */
-    WARG_BAD_ARGUMENT = 7
+    WARG_BAD_ARGUMENT = 7,
+    /* The key's algorithm is none that the library verifies. */
+    WARG_UNKNOWN_ALGORITHM = 8
 };
 
 /* The kinds of logs. */
@@ -179,6 +183,25 @@ uint32_t warg_ask(struct warg_log *log, const uint8_t *envelope, size_t envelope
 uint32_t warg_append(struct warg_log *log, const uint8_t *envelope, size_t envelope_len, const uint8_t *question,
                      size_t question_len, const struct warg_asked *asked, bool belongs, uint8_t *text, size_t text_len,
                      size_t *used);
+
+/* Appends the record of an envelope, whose signature the library verifies itself: ECDSA on the curve P-256 with SHA-256, which keys and
+ * signatures name `ecdsa-p256`. A key is a point of SEC 1, compressed or not, and a signature is the DER of RFC 3279. No question is asked
+ * before; where one was, the envelope need not be read again.
+ *   WARG_OK: the record is the log's last one now, and lawful, and its signature belongs to it under the key of its signer. A log that was
+ *     opened and had this call alone has at any time just the records that were taken, in order, each lawful after those before it.
+ *   WARG_NO_ENVELOPE: as of `warg_ask`. The error's text is in `text`.
+ *   WARG_REFUSED: the record is unlawful after those of the log, or its signature does not belong. The error's text is in `text`.
+ *   WARG_UNKNOWN_ALGORITHM: the record is lawful exactly if its signature belongs, and its key is of another algorithm. The log is as it
+ *     was: `warg_ask` says what has to be verified, and `warg_append` appends by what the caller found. */
+uint32_t warg_append_signed(struct warg_log *log, const uint8_t *envelope, size_t envelope_len, uint8_t *text, size_t text_len,
+                            size_t *used);
+
+/* Whether a signature belongs to a message under a key, by the texts of the key and of the signature, as they stand in questions:
+ * `ecdsa-p256:` and base64. WARG_OK if it does, WARG_REFUSED if it does not. No log is needed.
+ *   WARG_BAD_ARGUMENT: the key's text can't be read; or it is one of `ecdsa-p256`, and the signature's can't be read.
+ *   WARG_UNKNOWN_ALGORITHM: the key's algorithm is not `ecdsa-p256`. The signature's text was not looked at. */
+uint32_t warg_verify(const uint8_t *key, size_t key_len, const uint8_t *message, size_t message_len, const uint8_t *signature,
+                     size_t signature_len);
 
 /* The records of a log */
 
