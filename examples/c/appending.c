@@ -23,7 +23,12 @@ uint32_t ask(struct warg_log *log, const struct bytes *envelope, struct bytes *b
     return status;
 }
 
-uint32_t append(struct warg_log *log, const struct bytes *envelope, verify_question *verify, struct bytes *text) {
+uint32_t append(struct warg_log *log, const struct bytes *envelope, struct bytes *text) {
+    reserve(text, envelope->len + 1024);
+    return warg_append_signed(log, envelope->at, envelope->len, text->at, text->room, &text->len);
+}
+
+uint32_t append_by(struct warg_log *log, const struct bytes *envelope, verify_question *verify, struct bytes *text) {
     struct warg_asked asked = {0};
     struct bytes question = {0};
     uint32_t status = ask(log, envelope, &question, &asked);
@@ -47,7 +52,7 @@ uint32_t head_of(struct warg_log *log, struct bytes *text) {
 }
 
 const char *status_name(uint32_t status) {
-    static const char *const names[] = {"ok",          "not open", "out of memory", "too small",
-                                        "no envelope", "refused",  "none",          "bad argument"};
+    static const char *const names[] = {"ok",      "not open", "out of memory", "too small",        "no envelope",
+                                        "refused", "none",     "bad argument",  "unknown algorithm"};
     return status < sizeof names / sizeof *names ? names[status] : "unknown";
 }

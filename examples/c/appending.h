@@ -1,4 +1,4 @@
-/* Asks, verifies and appends. */
+/* Appends what the library verifies, or asks, verifies and appends. */
 #ifndef APPENDING_H
 #define APPENDING_H
 
@@ -11,8 +11,12 @@ typedef bool verify_question(const uint8_t *question, const struct warg_asked *a
 /* What has to be verified before the record of an envelope can be appended; `bytes` are the question, or the error's text. */
 uint32_t ask(struct warg_log *log, const struct bytes *envelope, struct bytes *bytes, struct warg_asked *asked);
 
-/* Appends the record of an envelope if its signature belongs, as `verify` says. At WARG_NO_ENVELOPE and WARG_REFUSED `text` is the error's text. */
-uint32_t append(struct warg_log *log, const struct bytes *envelope, verify_question *verify, struct bytes *text);
+/* Appends the record of an envelope if its signature belongs, which the library verifies. At WARG_NO_ENVELOPE and WARG_REFUSED `text` is the error's
+ * text. */
+uint32_t append(struct warg_log *log, const struct bytes *envelope, struct bytes *text);
+
+/* The same if its signature belongs as `verify` says, which may be of any scheme. */
+uint32_t append_by(struct warg_log *log, const struct bytes *envelope, verify_question *verify, struct bytes *text);
 
 /* The text of the id of the last record, of no bytes before any. */
 uint32_t head_of(struct warg_log *log, struct bytes *text);

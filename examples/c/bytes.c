@@ -46,11 +46,18 @@ bool bytes_add_from_base64(struct bytes *bytes, const uint8_t *digits, size_t le
     while (padding < 2 && padding < len && digits[len - 1 - padding] == '=')
         padding++;
     /* The padding counts as zeros there. */
-    int got = EVP_DecodeBlock(room_for(bytes, len), digits, (int)len);
+    uint8_t *at = room_for(bytes, len);
+    int got = EVP_DecodeBlock(at, digits, (int)len);
     if (got < (int)padding)
         return false;
-    bytes->len += (size_t)got - padding;
-    return true;
+    size_t read = (size_t)got - padding;
+    struct bytes again = {0};
+    bytes_add_base64(&again, at, read);
+    bool is_same = again.len == len && !memcmp(again.at, digits, len);
+    bytes_free(&again);
+    if (is_same)
+        bytes->len += read;
+    return is_same;
 }
 
 void bytes_free(struct bytes *bytes) {

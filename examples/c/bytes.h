@@ -18,7 +18,7 @@ struct bytes {
 void bytes_add(struct bytes *bytes, const void *at, size_t len);
 void bytes_add_text(struct bytes *bytes, const char *text);
 void bytes_add_base64(struct bytes *bytes, const uint8_t *at, size_t len);
-/* The bytes of base64, which is false where they are none. */
+/* The bytes of base64, and false where it is none, or not as these bytes are written: with spaces around it, or bits behind the last byte. */
 bool bytes_add_from_base64(struct bytes *bytes, const uint8_t *digits, size_t len);
 void bytes_free(struct bytes *bytes);
 

@@ -2,6 +2,7 @@
 
 #include <openssl/core_names.h>
 #include <openssl/ec.h>
+#include <openssl/err.h>
 #include <openssl/params.h>
 #include <string.h>
 
@@ -32,6 +33,23 @@ static EVP_PKEY *key_of(const struct bytes *point) {
     return key;
 }
 
+/* Whether so many bytes are the contents of an INTEGER of at most 256 bits that is not negative, as few bytes as serve. */
+static bool is_integer(const uint8_t *at, size_t len) {
+    if (len < 1 || len > 33 || at[0] >= 128 || (len == 33 && at[0]))
+        return false;
+    return len == 1 || at[0] || at[1] >= 128;
+}
+
+/* Whether the bytes are a SEQUENCE of two such INTEGERs, at most 72 bytes, and nothing stands behind them. */
+static bool is_der(const struct bytes *signature) {
+    const uint8_t *at = signature->at;
+    size_t len = signature->len;
+    if (len < 8 || len > 72 || at[0] != 0x30 || at[1] != len - 2 || at[2] != 2 || at[3] > len - 6)
+        return false;
+    size_t first = at[3], second = len - 6 - first;
+    return at[4 + first] == 2 && at[5 + first] == second && is_integer(at + 4, first) && is_integer(at + 6 + first, second);
+}
+
 static bool verifies(EVP_PKEY *key, const struct bytes *signature, const uint8_t *message, size_t len) {
     EVP_MD_CTX *context = EVP_MD_CTX_new();
     bool belongs = context && EVP_DigestVerifyInit(context, NULL, EVP_sha256(), NULL, key) == 1 &&
@@ -42,14 +60,26 @@ static bool verifies(EVP_PKEY *key, const struct bytes *signature, const uint8_t
 
 bool p256_verify(const uint8_t *question, const struct warg_asked *asked) {
     const uint8_t *message = question + asked->key_len;
+    uint32_t status = warg_verify(question, asked->key_len, message, asked->message_len, message + asked->message_len,
+                                  asked->signature_len);
+    if (status == WARG_OUT_OF_MEMORY)
+        give_up("out of memory");
+    return status == WARG_OK;
+}
+
+bool p256_verify_by_openssl(const uint8_t *question, const struct warg_asked *asked) {
+    const uint8_t *message = question + asked->key_len;
     struct bytes point = {0}, signature = {0};
     bool belongs = false;
+    /* What libcrypto refuses leaves no error behind. */
+    ERR_set_mark();
     if (bytes_of(&point, question, asked->key_len) &&
-        bytes_of(&signature, message + asked->message_len, asked->signature_len)) {
+        bytes_of(&signature, message + asked->message_len, asked->signature_len) && is_der(&signature)) {
         EVP_PKEY *key = key_of(&point);
         belongs = key && verifies(key, &signature, message, asked->message_len);
         EVP_PKEY_free(key);
     }
+    ERR_pop_to_mark();
     bytes_free(&point);
     bytes_free(&signature);
     return belongs;

@@ -18,7 +18,7 @@ int main(int argc, char **argv) {
         status = head_of(&log, &head);
         if (status == WARG_OK) {
             publish(&envelope, place, &head, &alice, &bob);
-            status = append(&log, &envelope, p256_verify, &text);
+            status = append(&log, &envelope, &text);
         }
         if (status == WARG_OK)
             bytes_print_hex(&envelope, stdout);

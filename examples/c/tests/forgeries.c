@@ -1,5 +1,5 @@
 /* A log of 50 records with keys of P-256. Before each is taken it is forged: by another key, with another message, with another signature, and by the answer
- * to another question; and once it is taken, its answer is used again. Each forgery is refused and leaves the log as it was. */
+ * to another question; and once it is taken, its answer is used again. Each forgery is refused, whoever verifies, and leaves the log as it was. */
 #include "../appending.h"
 #include "../p256.h"
 #include "../publishing.h"
@@ -9,12 +9,17 @@ enum { RECORDS = 50 };
 
 static struct warg_log the_log;
 
-/* Appends, which is refused with an error of this name, and leaves the head as it was. */
+/* Appends, by each who verifies, which is refused with an error of this name, and leaves the head as it was. */
 static void refuse(const struct bytes *envelope, const char *name) {
+    verify_question *const verifying[] = {p256_verify, p256_verify_by_openssl};
     struct bytes text = {0}, before = {0}, after = {0};
     CHECK(head_of(&the_log, &before) == WARG_OK);
-    CHECK(append(&the_log, envelope, p256_verify, &text) == WARG_REFUSED);
+    CHECK(append(&the_log, envelope, &text) == WARG_REFUSED);
     CHECK(BEGINS(text.at, text.len, name));
+    for (size_t i = 0; i < sizeof verifying / sizeof *verifying; i++) {
+        CHECK(append_by(&the_log, envelope, verifying[i], &text) == WARG_REFUSED);
+        CHECK(BEGINS(text.at, text.len, name));
+    }
     CHECK(head_of(&the_log, &after) == WARG_OK);
     CHECK(before.len == after.len && !memcmp(before.at, after.at, after.len));
     bytes_free(&text);
@@ -76,7 +81,7 @@ static void forge(size_t place, const struct bytes *envelope, const struct bytes
     refuse(&forged, "SignatureError: ");
     /* The answer to the question of the true record, for this one. */
     CHECK(ask(&the_log, envelope, &question, &asked) == WARG_OK);
-    CHECK(p256_verify(question.at, &asked));
+    CHECK(p256_verify(question.at, &asked) && p256_verify_by_openssl(question.at, &asked));
     refuse_answer(&forged, &question, &asked, "SignatureError: ");
     copy(&forged, envelope);
     change_message(&forged, place);
@@ -99,7 +104,7 @@ int main(void) {
         publish(&envelope, place, &head, &alice, &bob);
         forge(place, &envelope, &head, &alice, &bob);
         CHECK(ask(&the_log, &envelope, &question, &asked) == WARG_OK);
-        CHECK(append(&the_log, &envelope, p256_verify, &text) == WARG_OK);
+        CHECK(append(&the_log, &envelope, &text) == WARG_OK);
         refuse_answer(&envelope, &question, &asked, place ? "RecordHashDoesNotMatch: " : "NoPreviousHashAfterInit: ");
     }
     size_t length = 0;

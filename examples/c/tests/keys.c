@@ -1,6 +1,9 @@
-/* What is read as a key and as a signature of ECDSA P-256: the example of RFC 6979, A.2.5, with SHA-256 and the message `sample`. */
+/* What is read as a key and as a signature of ECDSA P-256, by the library and by libcrypto behind the same reader: the example of RFC 6979, A.2.5, with
+ * SHA-256 and the message `sample`. */
 #include "../p256.h"
 #include "check.h"
+
+#include <openssl/err.h>
 
 #define COMPRESSED "A2D+1LolWp0xyWHrdMY1bWjASbiSO2H6bOZpYi5g8p+2"
 #define UNCOMPRESSED "BGD+1LolWp0xyWHrdMY1bWjASbiSO2H6bOZpYi5g8p+2eQP+EAi4vJmkGunpVii8ZPLxsgwtfp9Rd6PClNRGIpk="
@@ -22,6 +25,14 @@ static const char *const wrong_points[] = {
     "AA==",
     "",
     "!",
+    /* Compressed, of a number that is no coordinate: none there is on the curve, and the prime itself. */
+    "AgAAAAAAAAAAAAAAAAAAAAAAAAAAAAAAAAAAAAAAAAAB",
+    "Av////8AAAABAAAAAAAAAAAAAAAA////////////////",
+    /* In base64 with spaces around it, without its padding, and with bits behind the last byte. */
+    " A2D+1LolWp0xyWHrdMY1bWjASbiSO2H6bOZpYi5g8p+2",
+    "A2D+1LolWp0xyWHrdMY1bWjASbiSO2H6bOZpYi5g8p+2\n",
+    "BGD+1LolWp0xyWHrdMY1bWjASbiSO2H6bOZpYi5g8p+2eQP+EAi4vJmkGunpVii8ZPLxsgwtfp9Rd6PClNRGIpk",
+    "BGD+1LolWp0xyWHrdMY1bWjASbiSO2H6bOZpYi5g8p+2eQP+EAi4vJmkGunpVii8ZPLxsgwtfp9Rd6PClNRGIpl=",
 };
 
 static const char *const wrong_signatures[] = {
@@ -33,6 +44,15 @@ static const char *const wrong_signatures[] = {
     /* Of no bytes, and no base64. */
     "",
     "!",
+    /* Of the numbers 0 and 0, 1 and the order, and below zero. */
+    "MAYCAQACAQA=",
+    "MCYCAQECIQD/////AAAAAP//////////vOb6racXnoTzucrC/GMlUQ==",
+    "MAYCAYECAYE=",
+    /* With a sequence in a sequence, a length that is not said, and a number that reaches beyond the end. */
+    "MAgwBgIBAQIBAQ==",
+    "MIACAQECAQEAAA==",
+    "MAYCAQECfwE=",
+    "MAYCfwECAQE=",
 };
 
 /* Whether the signature belongs to the message under the key, by their texts. */
@@ -48,6 +68,8 @@ static bool belong(const char *algorithm, const char *point, const char *message
     bytes_add_text(&question, signature);
     asked.signature_len = question.len - asked.key_len - asked.message_len;
     bool belongs = p256_verify(question.at, &asked);
+    CHECK(p256_verify_by_openssl(question.at, &asked) == belongs);
+    CHECK(!ERR_peek_error());
     bytes_free(&question);
     return belongs;
 }

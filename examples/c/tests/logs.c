@@ -17,7 +17,7 @@ struct warg_log package_log(size_t records, const struct signer *alice, const st
     CHECK(warg_open(&log, WARG_PACKAGE) == WARG_OK);
     for (size_t place = 0; place < records; place++) {
         next_envelope(&envelope, &log, place, alice, bob);
-        CHECK(append(&log, &envelope, p256_verify, &text) == WARG_OK);
+        CHECK(append(&log, &envelope, &text) == WARG_OK);
     }
     bytes_free(&envelope);
     bytes_free(&text);
@@ -41,8 +41,30 @@ struct warg_log operator_log(const struct signer *alice) {
     struct bytes envelope = {0}, text = {0};
     CHECK(warg_open(&log, WARG_OPERATOR) == WARG_OK);
     operator_envelope(&envelope, alice);
-    CHECK(append(&log, &envelope, p256_verify, &text) == WARG_OK);
+    CHECK(append(&log, &envelope, &text) == WARG_OK);
     bytes_free(&envelope);
     bytes_free(&text);
     return log;
+}
+
+static void sign_by_word(struct bytes *signature, void *key, const struct bytes *message) {
+    (void)key, (void)message;
+    bytes_add_text(signature, "word:AAAA");
+}
+
+struct signer word_signer(void) {
+    struct signer signer = {.sign = sign_by_word};
+    bytes_add_text(&signer.public_key, "word:AAAA");
+    add_sha256_text(&signer.key_id, signer.public_key.at, signer.public_key.len);
+    return signer;
+}
+
+void word_signer_free(struct signer *signer) {
+    bytes_free(&signer->public_key);
+    bytes_free(&signer->key_id);
+}
+
+bool verify_word(const uint8_t *question, const struct warg_asked *asked) {
+    const char *signature = (const char *)question + asked->key_len + asked->message_len;
+    return asked->signature_len == 9 && !memcmp(signature, "word:AAAA", 9);
 }

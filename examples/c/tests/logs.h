@@ -13,6 +13,11 @@ struct warg_log operator_log(const struct signer *alice);
 /* The envelope of that record. */
 void operator_envelope(struct bytes *envelope, const struct signer *alice);
 
+/* A signer of a scheme that the library does not know, and what verifies it; to be freed. */
+struct signer word_signer(void);
+void word_signer_free(struct signer *signer);
+bool verify_word(const uint8_t *question, const struct warg_asked *asked);
+
 /* The envelope that goes on from a log. */
 void next_envelope(struct bytes *envelope, struct warg_log *log, size_t place, const struct signer *alice, const struct signer *bob);
 

@@ -6,9 +6,9 @@
 #include "refusing.h"
 
 static struct warg_log package, operators, other, fresh;
-static struct bytes next, forged, begin, yes, begin_yes;
+static struct bytes next, forged, wrong, third, begin, other_begin, yes, begin_yes;
 static struct warg_asked asked, begin_asked;
-static struct signer alice, bob;
+static struct signer alice, bob, other_alice;
 static uint8_t text[1 << 16], saved[2][1 << 14];
 static size_t saved_len[2], used;
 static struct warg_release release;
@@ -47,6 +47,33 @@ static uint32_t append_other(void) {
 static uint32_t append_begin(void) {
     return warg_append(&fresh, begin.at, begin.len, begin_yes.at, begin_yes.len, &begin_asked, true, text, sizeof text,
                        &used);
+}
+static uint32_t append_signed_wrong(void) {
+    return warg_append_signed(&package, wrong.at, wrong.len, text, sizeof text, &used);
+}
+static uint32_t append_signed_begin(void) {
+    return warg_append_signed(&package, begin.at, begin.len, text, sizeof text, &used);
+}
+static uint32_t append_signed_other(void) {
+    return warg_append_signed(&fresh, other_begin.at, other_begin.len, text, sizeof text, &used);
+}
+static uint32_t append_signed_nonsense(void) {
+    return warg_append_signed(&package, bytes_of("\x0b"), 1, text, sizeof text, &used);
+}
+static uint32_t append_signed_third(void) {
+    return warg_append_signed(&other, third.at, third.len, text, sizeof text, &used);
+}
+/* By the question of the next envelope, with its signature or with what is no text of one. */
+static uint32_t verify(const char *words) {
+    const uint8_t *message = yes.at + asked.key_len, *signature = message + asked.message_len;
+    size_t len = words ? strlen(words) : asked.signature_len;
+    return warg_verify(yes.at, asked.key_len, message, asked.message_len, words ? bytes_of(words) : signature, len);
+}
+static uint32_t verify_next(void) { return verify(NULL); }
+static uint32_t verify_wrong(void) { return verify("ecdsa-p256:AAAA"); }
+static uint32_t verify_nonsense(void) { return verify("ecdsa-p256:A"); }
+static uint32_t verify_other(void) {
+    return warg_verify(other_alice.public_key.at, other_alice.public_key.len, text, 0, text, 0);
 }
 static uint32_t head(void) { return warg_head(&package, text, sizeof text, &used); }
 static uint32_t length(void) { return warg_length(&package, &used); }
@@ -106,6 +133,14 @@ static const struct call looking[] = {
     {"ask, of a refused record", ask_refused, {WARG_REFUSED, WARG_REFUSED}},
     {"append, of a wrong signature", append_no, {WARG_REFUSED, WARG_REFUSED}},
     {"append, by another answer", append_other, {WARG_REFUSED, WARG_REFUSED}},
+    {"append signed, of a wrong signature", append_signed_wrong, {WARG_REFUSED, WARG_REFUSED}},
+    {"append signed, of a refused record", append_signed_begin, {WARG_REFUSED, WARG_REFUSED}},
+    {"append signed, of another algorithm", append_signed_other, {WARG_UNKNOWN_ALGORITHM, WARG_UNKNOWN_ALGORITHM}},
+    {"append signed, of no envelope", append_signed_nonsense, {WARG_NO_ENVELOPE, WARG_NO_ENVELOPE}},
+    {"verify", verify_next, {WARG_OK, WARG_OK}},
+    {"verify, of a wrong signature", verify_wrong, {WARG_REFUSED, WARG_REFUSED}},
+    {"verify, of no signature", verify_nonsense, {WARG_BAD_ARGUMENT, WARG_BAD_ARGUMENT}},
+    {"verify, of another algorithm", verify_other, {WARG_UNKNOWN_ALGORITHM, WARG_UNKNOWN_ALGORITHM}},
     {"head", head, {WARG_OK, WARG_OK}},
     {"length", length, {WARG_OK, WARG_BAD_ARGUMENT}},
     {"record", record, {WARG_OK, WARG_BAD_ARGUMENT}},
@@ -136,6 +171,7 @@ static const struct call changing[] = {
     {"open", open_again, {WARG_OK, WARG_OK}},
     {"open, of operators", open_operators, {WARG_OK, WARG_OK}},
     {"append", append_next, {WARG_OK, WARG_OK}},
+    {"append signed", append_signed_third, {WARG_OK, WARG_OK}},
 };
 
 /* What a log says of itself: its state as a text, its last record's id, how many records it has, and these. */
@@ -227,7 +263,14 @@ static void prepare(bool are_resumed) {
     }
     next_envelope(&next, &package, 4, &alice, &bob);
     next_envelope(&forged, &package, 5, &alice, &bob);
+    wrong.len = 0;
+    bytes_add(&wrong, next.at, next.len);
+    /* A digit near the end of the signature, which is the envelope's last field. */
+    uint8_t *digit = wrong.at + wrong.len - 8;
+    *digit = *digit == 'A' ? 'B' : 'A';
+    next_envelope(&third, &other, 2, &alice, &bob);
     publish(&begin, 0, &none, &alice, &bob);
+    publish(&other_begin, 0, &none, &other_alice, &bob);
     CHECK(ask(&package, &next, &yes, &asked) == WARG_OK);
     CHECK(ask(&fresh, &begin, &begin_yes, &begin_asked) == WARG_OK);
     CHECK(warg_save(&package, saved[0], sizeof saved[0], &saved_len[0]) == WARG_OK);
@@ -236,7 +279,7 @@ static void prepare(bool are_resumed) {
 
 static void finish(void) {
     struct warg_log *logs[] = {&package, &operators, &other, &fresh};
-    struct bytes *all[] = {&next, &forged, &begin, &yes, &begin_yes};
+    struct bytes *all[] = {&next, &forged, &wrong, &third, &begin, &other_begin, &yes, &begin_yes};
     for (size_t i = 0; i < sizeof logs / sizeof *logs; i++) {
         /* Closing asks for no memory. */
         refuse_request(0);
@@ -251,6 +294,7 @@ int main(void) {
     long all = 0;
     alice = p256_signer();
     bob = p256_signer();
+    other_alice = word_signer();
     for (int are_resumed = 0; are_resumed < 2; are_resumed++) {
         puts(are_resumed ? "resumed logs:" : "logs that have their records:");
         prepare(are_resumed);
@@ -260,6 +304,7 @@ int main(void) {
     }
     p256_signer_free(&alice);
     p256_signer_free(&bob);
+    word_signer_free(&other_alice);
     printf("%ld requests refused in all\n", all);
     return 0;
 }

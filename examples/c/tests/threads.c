@@ -23,7 +23,7 @@ static void make_envelopes(void) {
     for (size_t place = 0; place < RECORDS; place++) {
         CHECK(head_of(&log, &last_id) == WARG_OK);
         publish(&envelopes[place], place, &last_id, &alice, &bob);
-        CHECK(append(&log, &envelopes[place], p256_verify, &text) == WARG_OK);
+        CHECK(append(&log, &envelopes[place], &text) == WARG_OK);
     }
     CHECK(head_of(&log, &last_id) == WARG_OK);
     warg_close(&log);
@@ -46,7 +46,7 @@ static void *alone(void *none) {
         struct warg_log log = {0};
         CHECK(warg_open(&log, WARG_PACKAGE) == WARG_OK);
         for (size_t place = 0; place < RECORDS; place++)
-            CHECK(append(&log, &envelopes[place], p256_verify, &text) == WARG_OK);
+            CHECK(append(&log, &envelopes[place], &text) == WARG_OK);
         ends_alike(&log);
         warg_close(&log);
     }
@@ -61,7 +61,7 @@ static void *in_turn(void *none) {
         pthread_mutex_lock(&turn);
         done = next_place == RECORDS;
         if (!done)
-            CHECK(append(&shared, &envelopes[next_place++], p256_verify, &text) == WARG_OK);
+            CHECK(append(&shared, &envelopes[next_place++], &text) == WARG_OK);
         pthread_mutex_unlock(&turn);
     }
     bytes_free(&text);

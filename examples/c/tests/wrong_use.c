@@ -23,6 +23,7 @@ static void expect_all(struct warg_log *log, const struct bytes *envelope, uint3
     struct warg_log other = {0};
     CHECK(warg_ask(log, envelope->at, envelope->len, text, sizeof text, &used, &asked) == status && used == 0);
     CHECK(warg_append(log, envelope->at, envelope->len, text, 0, &asked, true, text + 1, 1, &used) == status && used == 0);
+    CHECK(warg_append_signed(log, envelope->at, envelope->len, text, sizeof text, &used) == status && used == 0);
     CHECK(warg_head(log, text, sizeof text, &used) == status && used == 0);
     CHECK(warg_length(log, &length) == status);
     CHECK(warg_record(log, 0, text, sizeof text, &used, &kept) == status && used == 0);
@@ -60,7 +61,7 @@ static void written_anew(const struct bytes *envelope) {
     bytes_add(&strange, envelope->at, envelope->len);
     bytes_add(&strange, unknown, sizeof unknown);
     CHECK(warg_open(&log, WARG_PACKAGE) == WARG_OK);
-    CHECK(append(&log, &strange, p256_verify, &said) == WARG_OK);
+    CHECK(append(&log, &strange, &said) == WARG_OK);
     CHECK(warg_record(&log, 0, text, sizeof text, &used, &kept) == WARG_OK);
     CHECK(kept.envelope_len == envelope->len && !memcmp(text, envelope->at, envelope->len));
     warg_close(&log);
@@ -78,7 +79,7 @@ static void opened_again(struct warg_log *log, const struct bytes *envelope) {
     CHECK(warg_open(log, WARG_OPERATOR) == WARG_OK);
     CHECK(warg_length(log, &length) == WARG_OK && length == 0);
     CHECK(warg_open(log, WARG_PACKAGE) == WARG_OK);
-    CHECK(append(log, envelope, p256_verify, &said) == WARG_OK);
+    CHECK(append(log, envelope, &said) == WARG_OK);
     CHECK(warg_length(log, &length) == WARG_OK && length == 1);
     bytes_free(&said);
 }
@@ -88,6 +89,9 @@ static void lengths(struct warg_log *log, const struct bytes *envelope) {
     struct bytes question = {0};
     CHECK(warg_ask(log, nothing, 0, text, sizeof text, &used, &asked) == WARG_NO_ENVELOPE);
     CHECK(BEGINS(text, used, "Contents.MissingTime: "));
+    CHECK(warg_append_signed(log, nothing, 0, text, sizeof text, &used) == WARG_NO_ENVELOPE);
+    CHECK(BEGINS(text, used, "Contents.MissingTime: "));
+    CHECK(warg_verify(nothing, 0, nothing, 0, nothing, 0) == WARG_BAD_ARGUMENT);
     CHECK(warg_ask(log, nothing, 0, text, 0, &used, &asked) == WARG_NO_ENVELOPE && used == 0);
     CHECK(ask(log, envelope, &question, &asked) == WARG_OK);
     size_t whole = question.len;
