@@ -1,7 +1,6 @@
 /* Audits a log whose records are signed by ECDSA P-256: `audit package|operator`, an envelope a line in hex on standard input. Prints `ok`, the number
  * of records and the last one's id, and the latest release; or `refused`, the place of the first record that is refused, and why. */
 #include "appending.h"
-#include "p256.h"
 
 #include <string.h>
 

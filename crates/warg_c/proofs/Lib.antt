@@ -2,6 +2,8 @@ pub mod AsBox
 pub mod Steps
 pub mod Words
 pub mod Refusals
+pub mod Others
+pub mod Verifications
 pub mod Sentences
 pub mod Codes
 pub mod Answers

@@ -1,5 +1,5 @@
 -- What a refusal tells.
-use Rattle.std.proofs.Common.{◌≡◌, ◌<◌, ℕ, List, length, take, Option, Some, None, Result, Ok, Err, refl, sym, ap, ◌∙◌, subst}
+use Rattle.std.proofs.Common.{◌≡◌, ◌⊎◌, inl, inr, ◌<◌, ℕ, List, length, take, Option, Some, None, Result, Ok, Err, refl, sym, ap, ◌∙◌, subst}
 use Rattle.std.specs.Prelude.{OnOk, IfErr}
 use Rattle.std.specs.Option.{option_map}
 use Rattle.warg_envelope.specs.EnvelopeData.{EnvelopeData}
@@ -72,10 +72,17 @@ module _ {View Offence F E : Type 0} (k : Kind View Offence) (read : List ℕ �
   signed-told v envelope used new BadArgument other h = h
   signed-told v envelope used new UnknownAlgorithm other h = absurd h
 
-  -- the same where the library verifies; what it refuses asks for no other algorithm
-  pub signed-fails : (v : View) (envelope : List ℕ) (used : ℕ) (new : List ℕ) (c : RunCause E) (f : Failure) → f ≡ failure_by (named_by c) → (f ≡ Refused → ¬ AsksOther k read v envelope) → IsErrorText (SaysBy c) used new → IfNamed (named_by c) (IsWhyBy k read p256_belongs v envelope)
-      → RefusesSigned k read named_by SaysBy v envelope used new f
-  signed-fails v envelope used new c f is other text why = signed-told v envelope used new f other (append-fails p256_belongs v envelope used new c f is text why)
+  module _ (u v : View) (same : u ≡ v) (envelope : List ℕ) where
+    -- the same where the library verifies; what it refuses asks for no other algorithm
+    pub signed-fails : (used : ℕ) (new : List ℕ) (c : RunCause E) (g f : Failure) → g ≡ failure_by (named_by c) → (g ≡ Refused → ¬ AsksOther k read u envelope) → f ≡ failure_by (named_by c) → IsErrorText (SaysBy c) used new → IfNamed (named_by c) (IsWhyBy k read p256_belongs v envelope)
+        → RefusesSigned k read named_by SaysBy v envelope used new f
+    signed-fails used new c g f was own is text why =
+        signed-told v envelope used new f (λ refused asked. own (was ∙ sym is ∙ refused) (subst (λ w. AsksOther k read w envelope) (sym same) asked)) (append-fails p256_belongs v envelope used new c f is text why)
+
+    -- or it asks for one, or there was no memory to see that
+    pub again-fails : (used : ℕ) (new : List ℕ) (f : Failure) → (f ≡ OutOfMemory) ⊎ ((f ≡ UnknownAlgorithm) × AsksOther k read u envelope) → RefusesSigned k read named_by SaysBy v envelope used new f
+    again-fails used new f (inl is) = subst (λ g. RefusesSigned k read named_by SaysBy v envelope used new g) (sym is) tt
+    again-fails used new f (inr (is, asked)) = subst (λ g. RefusesSigned k read named_by SaysBy v envelope used new g) (sym is) (subst (λ w. AsksOther k read w envelope) same asked)
 
   id-told : (envelope old : List ℕ) (used : ℕ) (new : List ℕ) (c : RunCause E) → IsErrorText (SaysBy c) used new → (found : Option F) → named_by c ≡ option_map Unread found → NamesFault (read envelope) found
       → IdFails k read named_by SaysBy envelope old used new (failure_by {Offence = Offence} (option_map Unread found))

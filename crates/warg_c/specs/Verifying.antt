@@ -1,5 +1,5 @@
 -- Signatures that the library verifies itself.
-use Rattle.std.specs.Prelude.{◌≡◌, ◌⊎◌, ℕ, List, Bool, true, false, codes, Ok}
+use Rattle.std.specs.Prelude.{◌≡◌, ◌⊎◌, ℕ, List, Bool, false, codes, Ok}
 use Rattle.std.specs.Str.{IsUtf8}
 use Rattle.warg_crypto.specs.Keys.{public_key_of, signature_of}
 use Rattle.warg_crypto.specs.NamedBytes.{NamedBytes}

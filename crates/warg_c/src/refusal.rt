@@ -1,5 +1,5 @@
 //! The texts of refusals.
-ghost use Rattle.std.specs.Prelude.{◌≡◌, ◌≢◌, ◌⊎◌, ◌++◌, ◌∷◌, ◌≤◌, IfOk, length, take, string_bytes};
+ghost use Rattle.std.specs.Prelude.{◌≡◌, ◌≢◌, ◌⊎◌, ◌++◌, ◌∷◌, ◌≤◌, None, IfErr, IfOk, OnOk, length, take, string_bytes};
 ghost use Rattle.warg_envelope.specs.Envelopes.{envelope_fault_of};
 ghost use Rattle.warg_validator.specs.OutcomeRuns.{cause_named_by};
 ghost use Rattle.warg_c.specs.Texts.{IsErrorLine, IsErrorText, SaysCause, failure_by};
@@ -25,6 +25,18 @@ pub(crate) fn failure_of<L: Validator>(cause: &RunCause<L::Error>) -> Failure
         RunCause::Validation(error) if L::is_out_of_memory(error) => Failure::OutOfMemory,
         RunCause::Validation(_) => Failure::Refused,
     }
+}
+
+/// An error where the cause names nothing, as memory ran out.
+pub(crate) fn check_named<L: Validator>(cause: &RunCause<L::Error>) -> Result<(), Failure>
+    ensures named { OnOk result (cause_named_by (envelope_fault_of L.Record.fault_of)
+        L.offence_of cause.now ≢ None) }
+    ensures err { IfErr result (λ f. f ≡ OutOfMemory) }
+{
+    if failure_of::<L>(cause) == Failure::OutOfMemory {
+        return Err(Failure::OutOfMemory);
+    }
+    Ok(())
 }
 
 /// Writes the text where there is memory and room for it.

@@ -5,7 +5,7 @@ ghost use Rattle.warg_p256.specs.Scheme.{p256_belongs};
 ghost use Rattle.warg_records.specs.Kinds.{SignatureRelation, AcceptsNoMore};
 ghost use Rattle.warg_c.specs.Held.{ask_tells, ask_fails, append_does, append_moves, append_fails, append_refuses, may_come, signed_fails, signed_moves};
 ghost use Rattle.warg_c.specs.Questions.{HoldsOf};
-ghost use Rattle.warg_c.specs.Runs.{IsCall, Told as ByWord, Verified};
+ghost use Rattle.warg_c.specs.Runs.{IsCall, ByCaller, ByLibrary};
 ghost use Rattle.warg_c.specs.Statuses.{Answers};
 ghost use Rattle.warg_c.specs.Texts.{IsQuiet, IsWithin};
 ghost use Rattle.warg_c.specs.declared.failure.Failure.TheVariants.{NoEnvelope, Refused, TooSmall};
@@ -147,7 +147,7 @@ pub extern "C" fn warg_append(
     // As `laws::runs` takes it, among other such calls.
     ensures call { IsCall (record {
       envelope = envelope.now;
-      word = ByWord question.now asked.now belongs;
+      word = ByCaller question.now asked.now belongs;
       status = result;
     }) log.old.owned.kept log.new.owned.kept }
 {
@@ -208,7 +208,7 @@ pub extern "C" fn warg_append_signed(
     // As `laws::runs` takes it, among other such calls.
     ensures call { IsCall (record {
       envelope = envelope.now;
-      word = Verified;
+      word = ByLibrary;
       status = result;
     }) log.old.owned.kept log.new.owned.kept }
 {

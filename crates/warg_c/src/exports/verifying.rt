@@ -27,12 +27,7 @@ fn verify(alloc: Global, key: &[u8], message: &[u8], signature: &[u8]) -> Result
 
 /// Whether the signature of a text belongs to the message under the key of a text: ECDSA P-256.
 #[unsafe(no_mangle)]
-pub extern "C" fn warg_verify(
-    alloc: Global,
-    key: &[u8],
-    message: &[u8],
-    signature: &[u8],
-) -> u32
+pub extern "C" fn warg_verify(alloc: Global, key: &[u8], message: &[u8], signature: &[u8]) -> u32
     ensures { IsStatusOf result (IsJudged key.now message.now signature.now true)
         (VerifyFails key.now message.now signature.now) }
 {

@@ -1,5 +1,5 @@
 use Rattle.std.proofs.Common.{Some, ap, ◌∙◌}
-use Rattle.warg_c.specs.Runs.{Told}
+use Rattle.warg_c.specs.Runs.{ByCaller}
 use Rattle.warg_c.proofs.Answers.{append-answers, append-call}
 use Rattle.warg_c.proofs.exports.appending.warg_append.Goals as goal
 
@@ -11,4 +11,4 @@ returns-clause-answer c =
 pub returns-clause-call : goal.returns-clause-call
 returns-clause-call c =
     append-call c.args.log.now.owned.kept c.put.new.self.owned.kept c.deref_mut.result.now c.append_told-outcome.new.held (ap (λ h. Some h) c.deref_mut.ensures.value ∙ c.in-Some.ensures.taken) c.put.ensures c.append_told-outcome.result
-    (record { envelope = c.args.envelope.now; word = Told c.args.question.now c.args.asked.now c.args.belongs; status = c.status-2.result }) c.status-2.ensures.code c.append_told-outcome.ensures.appended c.append_told-outcome.ensures.unchanged
+    (record { envelope = c.args.envelope.now; word = ByCaller c.args.question.now c.args.asked.now c.args.belongs; status = c.status-2.result }) c.status-2.ensures.code c.append_told-outcome.ensures.appended c.append_told-outcome.ensures.unchanged
