@@ -1,10 +1,11 @@
 //! Keys whose points are read once.
 
-ghost use Rattle.std.specs.Prelude.{◌≡◌, ◌≤◌, ◌⊎◌, ◌++◌, ◌∷◌, [], length, false, true};
-ghost use Rattle.std.specs.Prelude.{Err, IfErr, IfOk, IfSome, OnErr, OnOk};
+ghost use Rattle.std.specs.Prelude.{◌≡◌, ◌<◌, ◌≤◌, ◌⊎◌, ◌++◌, ◌∷◌, [], length, false, true};
+ghost use Rattle.std.specs.Prelude.{ℕ, Contains, Err, IfErr, IfOk, IfSome, OnErr, OnOk};
 ghost use Rattle.warg_crypto.specs.declared.signing.error.SignatureError.TheVariants.{Refused};
 ghost use Rattle.warg_p256.specs.Elements.{number};
 ghost use Rattle.warg_p256.specs.Scheme.{p256_belongs};
+ghost use Rattle.warg_p256.specs.Sec1.{IsKey};
 ghost use Rattle.warg_p256.specs.Verified.{is_key, is_verified};
 
 use crate::point::Affine;
@@ -54,8 +55,9 @@ impl KnownKeys {
 
     // The point of a key that is kept.
     fn point_of(&self, bytes: &[u8]) -> Option<Affine>
-        ensures { IfSome result
+        ensures point { IfSome result
             (λ p. is_key bytes.now (number p.x.words) (number p.y.words) ≡ true) }
+        ensures known { IfSome result (λ _. Contains self.now bytes.now) }
     {
         for key in &self.keys {
             if key.bytes.as_slice() == bytes {
@@ -69,6 +71,8 @@ impl KnownKeys {
     pub fn keep(&mut self, alloc: Global, key: &PublicKey) -> Result<(), AllocError>
         ensures kept { OnOk result
             ((self.new ≡ self.old) ⊎ (self.new ≡ self.old ++ key.now.bytes ∷ [])) }
+        ensures room { OnOk result ((x y : ℕ) → IsKey key.now.bytes x y → length self.old < 32 →
+            Contains self.new key.now.bytes) }
         ensures bounded { length self.old ≤ 32 → length self.new ≤ 32 }
         ensures unchanged { OnErr result (self.new ≡ self.old) }
     {
