@@ -7,16 +7,12 @@ ghost use Rattle.warg_validator.specs.OutcomeRuns.{IsRun, IfStarted, cause_named
 ghost use Rattle.warg_p256.specs.Scheme.{p256_belongs};
 
 use std::alloc::Global;
-pub use warg_p256::laws;
-pub use warg_p256::{ALGORITHM, KnownKeys, P256Verifier, verify};
+pub use warg_p256::{ALGORITHM, KnownKeys, P256Verifier, laws, verify};
 use warg_validator::{RunError, Validator, run};
 
 /// Reads a whole log whose records are signed by `ecdsa-p256` keys. The result is its state, or the first string that is refused, as of
 /// [`run`](crate::run). A signature by another algorithm is refused.
-pub fn run_signed<L: Validator>(
-    alloc: Global,
-    inputs: &[Vec<u8>],
-) -> Result<L, RunError<L::Error>>
+pub fn run_signed<L: Validator>(alloc: Global, inputs: &[Vec<u8>]) -> Result<L, RunError<L::Error>>
     ensures { let read = envelope_of L.Record.read in
         let named_by = cause_named_by (envelope_fault_of L.Record.fault_of) L.offence_of in
         let strings = map vec_items inputs.now in
