@@ -195,7 +195,7 @@ fn times_bit(p: Words, bit: u64) -> Words
     }
 }
 
-// a / 2 modulo p.
+/// a / 2 modulo p.
 #[inline(always)]
 pub fn halved(a: Words, p: Words) -> Words
     requires odd { p.l0 % 2 ≡ 1 }

@@ -154,7 +154,7 @@ fn half_word(low: u64, above: u64) -> u64
     low / 2 + above % 2 * 0x8000_0000_0000_0000
 }
 
-// Half of a number with a bit above it, rounded down.
+/// Half of a number with a bit above it, rounded down.
 #[inline(always)]
 pub fn half(a: Words, top: bool) -> Words
     ensures { value result ≡ (value a + from_bool top * 2 ^ 256) / 2 }
@@ -167,7 +167,7 @@ pub fn half(a: Words, top: bool) -> Words
     }
 }
 
-// Whether the number is even.
+/// Whether the number is even.
 #[inline(always)]
 pub fn is_even(a: Words) -> bool
     ensures { IsTrue result ↔ (value a % 2 ≡ 0) }

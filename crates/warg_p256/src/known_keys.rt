@@ -25,9 +25,9 @@ struct KnownKey {
     ghost is_read: { is_key bytes.items (number point.x.words) (number point.y.words) ≡ true },
 }
 
-/// Verifies as [`P256Verifier`](crate::P256Verifier) does, and keeps the points of the keys to which
-/// a signature belonged, 32 at most. So the keys of a log are read once, and no stranger's key is
-/// kept that has signed nothing. Where there is no memory to keep a point, it is read again.
+/// Verifies as [`P256Verifier`](crate::P256Verifier) does, and keeps the points of the keys that a
+/// signature was verified with, 32 at most. So the keys of a log are read once, and no stranger's
+/// key is kept that has signed nothing. Where there is no memory to keep a point, it is read again.
 #[derive(Drop)]
 pub struct KnownKeys {
     alloc: Global,

@@ -33,6 +33,7 @@ pub fn to_montgomery(a: Words) -> Scalar
     mul(a, Scalar { words: R2_N })
 }
 
+// 0.
 #[inline(always)]
 fn zero() -> Scalar
     ensures { scalar result.words ≡ 0 }
@@ -48,6 +49,7 @@ fn radix() -> Scalar
     Scalar { words: R2_N }
 }
 
+// a - b.
 #[inline(always)]
 fn difference(a: Scalar, b: Scalar) -> Scalar
     ensures { (scalar result.words + scalar b.words) % order ≡ scalar a.words }
@@ -57,6 +59,7 @@ fn difference(a: Scalar, b: Scalar) -> Scalar
     }
 }
 
+// a / 2.
 #[inline(always)]
 fn halved(a: Scalar) -> Scalar
     ensures { (scalar result.words * 2) % order ≡ scalar a.words }
@@ -66,8 +69,8 @@ fn halved(a: Scalar) -> Scalar
     }
 }
 
-/// The inverse of a number in Montgomery's form, in that form, and 0 for 0: by Euclid's algorithm in
-/// halves, where s * a stays u and r * a stays v.
+/// The inverse of a number in Montgomery's form, in that form, and 0 for 0: by Euclid's algorithm
+/// in halves. Modulo the order s * a is u and r * a is v throughout.
 pub fn inverse(a: Scalar) -> Scalar
     ensures { scalar result.words ≡ (scalar a.words ^ (order - 2)) % order }
 {
