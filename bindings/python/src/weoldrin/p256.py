@@ -41,7 +41,7 @@ def verify(question: Question) -> bool:
 
 
 def verify_by_cryptography(question: Question) -> bool:
-    """The same by the package `cryptography`, which is faster.
+    """The same by the package `cryptography`.
 
     What is read as a key and as a signature is what the library reads, and `cryptography` is asked of nothing else.
     """

@@ -1,4 +1,4 @@
-//! ECDSA P-256 by OpenSSL's libcrypto, which makes keys and signs, and verifies where its speed is wanted.
+//! ECDSA P-256 by OpenSSL's libcrypto, which makes keys and signs, and verifies where it is asked to.
 use super::texts::{point_of, signature_of, text_of};
 use crate::question::Question;
 use std::fmt;
@@ -49,8 +49,8 @@ extern "C" {
     fn EVP_DigestSign(context: *mut c_void, signature: *mut u8, n: *mut usize, message: *const u8, m: usize) -> c_int;
 }
 
-/// The same as [`verify`](super::verify) by libcrypto, which is faster. What is read as a key and as a signature is what the
-/// library reads, and libcrypto is asked of nothing else.
+/// The same as [`verify`](super::verify) by libcrypto. What is read as a key and as a signature is what the library reads, and
+/// libcrypto is asked of nothing else.
 pub fn verify_by_openssl(question: &Question) -> bool {
     let _errors = Errors::mark();
     match (point_of(question.key()), signature_of(question.signature())) {
