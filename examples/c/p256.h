@@ -12,7 +12,7 @@
 /* Whether the signature of a question belongs to its message under its key, by the library. Texts that can't be read belong to nothing. */
 bool p256_verify(const uint8_t *question, const struct warg_asked *asked);
 
-/* The same by libcrypto, which is faster. What is read as a key and as a signature is what the library reads, and libcrypto is asked of nothing else. */
+/* The same by libcrypto. What is read as a key and as a signature is what the library reads, and libcrypto is asked of nothing else. */
 bool p256_verify_by_openssl(const uint8_t *question, const struct warg_asked *asked);
 
 /* A new private key, to be freed by EVP_PKEY_free. */
