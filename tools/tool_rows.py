@@ -1,4 +1,4 @@
-"""The rows of conformance/tool.json: what the program warg is asked, in which files, and what it answers."""
+"""The rows of conformance/tool.json: what the program weoldrin is asked, in which files, and what it answers."""
 import json
 import pathlib
 import shutil

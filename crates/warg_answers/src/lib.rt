@@ -1,4 +1,4 @@
-//! What the commands of `warg` share: what a kind of log is asked, how a log is judged, and what is answered.
+//! What the commands of `weoldrin` share: what a kind of log is asked, how a log is judged, and what is answered.
 #![tactic(auto)]
 
 pub mod judged;

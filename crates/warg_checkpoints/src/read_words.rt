@@ -23,7 +23,10 @@ use warg_transparency::{LogProof, MapProof, ProofTextError};
 fn word_stop(alloc: Global, word: &str, kind: &str) -> Stop
     ensures { IfStopped IsUnusable result }
 {
-    unusable(alloc, format!(in alloc; "warg: {word:?} is no {kind}\n"))
+    unusable(
+        alloc,
+        format!(in alloc; "weoldrin: {word:?} is no {kind}\n"),
+    )
 }
 
 /// The value that the word says, of what the kind names.

@@ -9,9 +9,9 @@ shown_path path = if bytes_eq path (codes "-") then codes "standard input" else 
 
 -- the file, and what is wrong with it
 abbrev pub sentence : List ℕ → List ℕ → List ℕ
-sentence path fault = codes "warg: " ++ (shown_path path ++ (codes ": " ++ (fault ++ codes "\n")))
+sentence path fault = codes "weoldrin: " ++ (shown_path path ++ (codes ": " ++ (fault ++ codes "\n")))
 
 -- the same of a line of the file, by its number
 abbrev pub line_sentence : List ℕ → ℕ → List ℕ → List ℕ
 line_sentence path number fault =
-    codes "warg: " ++ (shown_path path ++ (codes ":" ++ (decimal number ++ (codes ": " ++ (fault ++ codes "\n")))))
+    codes "weoldrin: " ++ (shown_path path ++ (codes ":" ++ (decimal number ++ (codes ": " ++ (fault ++ codes "\n")))))

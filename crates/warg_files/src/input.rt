@@ -94,7 +94,7 @@ pub fn sentence(alloc: Global, path: &str, fault: &str) -> Result<String, AllocE
     ensures { IfOk result (λ text. string_bytes text ≡ sentence path.now fault.now) }
 {
     let name = shown_path(path);
-    format!(in alloc; "warg: {name}: {fault}\n")
+    format!(in alloc; "weoldrin: {name}: {fault}\n")
 }
 
 /// A sentence that names the file and a line of it, whose place is counted from 0 and printed from 1.
@@ -109,7 +109,7 @@ pub fn line_sentence(
 {
     let name = shown_path(path);
     let number = place.saturating_add(1);
-    format!(in alloc; "warg: {name}:{number}: {fault}\n")
+    format!(in alloc; "weoldrin: {name}:{number}: {fault}\n")
 }
 
 /// The end of a command for a file that does not hold what it should.

@@ -92,7 +92,7 @@ pub fn wanted_permission<L: ToolLog>(alloc: Global, word: &str) -> Result<L::Per
         Some(permission) => Ok(permission),
         None => {
             let sentence = format!(in alloc;
-                "warg: {word:?} is no permission of this kind of log\n"
+                "weoldrin: {word:?} is no permission of this kind of log\n"
             )?;
             Err(Stop::Answer(Answer::fault(alloc, sentence, UNUSABLE)))
         }

@@ -57,7 +57,7 @@ pub fn requirement_of(alloc: Global, word: &str) -> Result<VersionReq, Stop>
         Ok(wanted) => Ok(wanted),
         Err(error) => Err(unusable(
             alloc,
-            format!(in alloc; "warg: {word:?} is no requirement of versions: {error}\n"),
+            format!(in alloc; "weoldrin: {word:?} is no requirement of versions: {error}\n"),
         )),
     }
 }

@@ -35,7 +35,7 @@ fn make_stop(alloc: Global, error: &MakeError) -> Stop
 {
     match error {
         MakeError::OutOfMemory => Stop::OutOfMemory,
-        error => unusable(alloc, format!(in alloc; "warg: {error}\n")),
+        error => unusable(alloc, format!(in alloc; "weoldrin: {error}\n")),
     }
 }
 

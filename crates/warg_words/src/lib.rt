@@ -1,4 +1,4 @@
-//! The words of the program `warg`: its commands, as its help shows them, and what its words ask for.
+//! The words of the program `weoldrin`: its commands, as its help shows them, and what its words ask for.
 #![tactic(auto)]
 
 mod log_commands;

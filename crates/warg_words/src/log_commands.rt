@@ -31,7 +31,7 @@ pub(crate) const LOG_COMMANDS: &[Row] = &[
     Row {
         name: "id",
         about: "Prints the id of one record",
-        example: "Example: warg id package record.hex",
+        example: "Example: weoldrin id package record.hex",
         words: &[
             KIND,
             Word {
@@ -45,9 +45,9 @@ pub(crate) const LOG_COMMANDS: &[Row] = &[
         name: "audit",
         about: "Prints the verdict on a log, or a line on each of many",
         example: "Examples:
-  warg audit package log.hex
-  warg audit package logs/*.hex
-  warg audit package @paths.txt   (the file has a path on each line)",
+  weoldrin audit package log.hex
+  weoldrin audit package logs/*.hex
+  weoldrin audit package @paths.txt   (the file has a path on each line)",
         words: &[
             KIND,
             Word {
@@ -60,19 +60,19 @@ pub(crate) const LOG_COMMANDS: &[Row] = &[
     Row {
         name: "show",
         about: "Shows a log in words, and why a record is refused",
-        example: "Example: warg show package log.hex",
+        example: "Example: weoldrin show package log.hex",
         words: &[KIND, LOG],
     },
     Row {
         name: "state",
         about: "Prints the state that a log adds up to, as JSON",
-        example: "Example: warg state package log.hex > state.json",
+        example: "Example: weoldrin state package log.hex > state.json",
         words: &[KIND, LOG],
     },
     Row {
         name: "resume",
         about: "Prints the state after more records, from a saved one",
-        example: "Example: warg resume package state.json news.hex",
+        example: "Example: weoldrin resume package state.json news.hex",
         words: &[
             KIND,
             Word {
@@ -90,7 +90,7 @@ pub(crate) const LOG_COMMANDS: &[Row] = &[
     Row {
         name: "latest",
         about: "Prints the greatest release of a package that meets a requirement",
-        example: "Example: warg latest '^1.2' log.hex",
+        example: "Example: weoldrin latest '^1.2' log.hex",
         words: &[
             Word {
                 name: "REQUIREMENT",
@@ -103,13 +103,13 @@ pub(crate) const LOG_COMMANDS: &[Row] = &[
     Row {
         name: "permissions",
         about: "Prints what a key may do",
-        example: "Example: warg permissions package sha256:0a1b.. log.hex",
+        example: "Example: weoldrin permissions package sha256:0a1b.. log.hex",
         words: &[KIND, KEY_ID, LOG],
     },
     Row {
         name: "chain",
         about: "Prints by which entries a key came to hold a permission",
-        example: "Example: warg chain package sha256:0a1b.. yank log.hex",
+        example: "Example: weoldrin chain package sha256:0a1b.. yank log.hex",
         words: &[
             KIND,
             KEY_ID,
@@ -124,7 +124,7 @@ pub(crate) const LOG_COMMANDS: &[Row] = &[
     Row {
         name: "compare",
         about: "Says how two logs compare: the same, a beginning, or a fork",
-        example: "Example: warg compare package mine.hex theirs.hex",
+        example: "Example: weoldrin compare package mine.hex theirs.hex",
         words: &[
             KIND,
             Word {
@@ -142,7 +142,7 @@ pub(crate) const LOG_COMMANDS: &[Row] = &[
     Row {
         name: "claims",
         about: "Lists the signatures that have to be verified of a log",
-        example: "Example: warg claims package log.hex
+        example: "Example: weoldrin claims package log.hex
 
 Verify each line by what you trust, keep the lines that hold, and hand them back
 to any command by --verified FILE. A line is the key's text, the message in hex
@@ -152,7 +152,7 @@ and the signature's text, with a space between.",
     Row {
         name: "make",
         about: "Prints a record that comes next in a log, signed by the toy scheme",
-        example: "Example: warg make package log.hex alice 1700000000.0 'init alice'
+        example: "Example: weoldrin make package log.hex alice 1700000000.0 'init alice'
 
 Entries of a package: 'init NAME', 'grant NAME PERMISSION..',
 'revoke NAME PERMISSION..', 'release VERSION CONTENT', 'yank VERSION'. Of
@@ -183,7 +183,7 @@ anyone can sign by any name, so it is for trying alone.",
     Row {
         name: "append",
         about: "Adds records to a log's file, all or none, and prints the whole log's audit",
-        example: "Example: warg make package log.hex alice 1700000000.0 'init alice' | warg append package log.hex
+        example: "Example: weoldrin make package log.hex alice 1700000000.0 'init alice' | weoldrin append package log.hex
 
 What the audit refuses is not written. A failed write or a kill leaves the old
 file or the new one.",

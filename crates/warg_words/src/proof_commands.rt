@@ -47,19 +47,19 @@ pub(crate) const PROVE: &[Row] = &[
     Row {
         name: "checkpoint",
         about: "Prints the checkpoint, as JSON",
-        example: "Example: warg prove checkpoint leaves.txt > checkpoint.json",
+        example: "Example: weoldrin prove checkpoint leaves.txt > checkpoint.json",
         words: &[LEAVES],
     },
     Row {
         name: "inclusion",
         about: "Proves that a leaf stands at a place",
-        example: "Example: warg prove inclusion 5 leaves.txt > proof.txt",
+        example: "Example: weoldrin prove inclusion 5 leaves.txt > proof.txt",
         words: &[PLACE, LEAVES],
     },
     Row {
         name: "consistency",
         about: "Proves that the log goes on from an older one",
-        example: "Example: warg prove consistency 6 leaves.txt > proof.txt",
+        example: "Example: weoldrin prove consistency 6 leaves.txt > proof.txt",
         words: &[
             Word {
                 name: "LENGTH",
@@ -72,7 +72,7 @@ pub(crate) const PROVE: &[Row] = &[
     Row {
         name: "head",
         about: "Proves what the map says of a log",
-        example: "Example: warg prove head sha256:0a1b.. leaves.txt > proof.txt",
+        example: "Example: weoldrin prove head sha256:0a1b.. leaves.txt > proof.txt",
         words: &[LOG_ID, LEAVES],
     },
 ];
@@ -82,13 +82,13 @@ pub(crate) const VERIFY: &[Row] = &[
     Row {
         name: "inclusion",
         about: "Whether a leaf stands at a place of the log",
-        example: "Example: warg verify inclusion checkpoint.json 5 sha256:0a1b.. sha256:2c3d.. proof.txt",
+        example: "Example: weoldrin verify inclusion checkpoint.json 5 sha256:0a1b.. sha256:2c3d.. proof.txt",
         words: &[CHECKPOINT, PLACE, LOG_ID, RECORD_ID, PROOF],
     },
     Row {
         name: "consistency",
         about: "Whether the log of one checkpoint begins with that of another",
-        example: "Example: warg verify consistency old.json new.json proof.txt",
+        example: "Example: weoldrin verify consistency old.json new.json proof.txt",
         words: &[
             Word {
                 name: "OLD",
@@ -106,13 +106,13 @@ pub(crate) const VERIFY: &[Row] = &[
     Row {
         name: "head",
         about: "Whether a record is the last of a log",
-        example: "Example: warg verify head checkpoint.json sha256:0a1b.. sha256:2c3d.. proof.txt",
+        example: "Example: weoldrin verify head checkpoint.json sha256:0a1b.. sha256:2c3d.. proof.txt",
         words: &[CHECKPOINT, LOG_ID, RECORD_ID, PROOF],
     },
     Row {
         name: "absence",
         about: "Whether a log has no record",
-        example: "Example: warg verify absence checkpoint.json sha256:0a1b.. proof.txt",
+        example: "Example: weoldrin verify absence checkpoint.json sha256:0a1b.. proof.txt",
         words: &[CHECKPOINT, LOG_ID, PROOF],
     },
 ];

@@ -21,7 +21,7 @@ read or write, or out of memory.";
 
 // The program's command line.
 fn program<'a>(alloc: Global) -> Result<Command<'a>, AllocError> {
-    let program = Command::new(alloc, "warg")
+    let program = Command::new(alloc, "weoldrin")
         .version(VERSION)
         .about(ABOUT)
         .after_help(AFTER)
@@ -153,7 +153,7 @@ fn matched<'a>(alloc: Global, matches: &ArgMatches<'a>) -> Result<Said<'a>, Allo
             verified: options.get_str("verified"),
         }));
     }
-    let sentence = String::from_str(alloc, "warg: no such command\n")?;
+    let sentence = String::from_str(alloc, "weoldrin: no such command\n")?;
     Ok(Said::Fault(sentence))
 }
 

@@ -1,0 +1,28 @@
+use Rattle.std.proofs.Common.{sym}
+use Rattle.std.proofs.lemmas.Result.{IfOk-weaker}
+use Rattle.warg_files.specs.Answers.{answer_view}
+use Rattle.weoldrin.specs.Requests.{IsRequestAnswer}
+use Rattle.warg_files.proofs.UnusableLemmas.{settled_is}
+use Rattle.weoldrin.proofs.RequestLemmas.{given_many, given_one}
+use Rattle.weoldrin.proofs.commands.respond.Goals as goal
+
+pub returns-then-is_many-clause-answered : goal.returns-then-is_many-clause-answered
+returns-then-is_many-clause-answered g c =
+    let it = c.args.invocation.now in
+    let belongs = g.V.Verifier.belongs c.args.verifier.now in
+    let P = IsRequestAnswer it.json belongs (g.S.Store.files c.args.store.now) (g.S.Store.files c.request_answer.new.store) it.request in
+    given_many _ it.json it.command.now P (answer_view c.in_ok-answer.answer) (sym c.if-is_many.ensures)
+    (settled_is P c.request_answer.result _ c.in_ok-answer.ensures c.request_answer.ensures.answered)
+
+pub returns-else-is_many-clause-answered : goal.returns-else-is_many-clause-answered
+returns-else-is_many-clause-answered g c =
+    let it = c.args.invocation.now in
+    let belongs = g.V.Verifier.belongs c.args.verifier.now in
+    let P = IsRequestAnswer it.json belongs (g.S.Store.files c.args.store.now) (g.S.Store.files c.request_answer.new.store) it.request in
+    IfOk-weaker c.given.result _ _
+    (λ answer is. given_one _ it.json it.command.now P (answer_view answer) (sym c.if-is_many.ensures) (
+      answer_view c.in_ok-answer.answer,
+      settled_is P c.request_answer.result _ c.in_ok-answer.ensures c.request_answer.ensures.answered,
+      is,
+    ))
+    c.given.ensures

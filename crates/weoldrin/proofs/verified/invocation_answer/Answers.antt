@@ -1,0 +1,25 @@
+use Rattle.std.proofs.Common.{inl, inr}
+use Rattle.std.proofs.lemmas.Result.{IfOk-weaker}
+use Rattle.weoldrin.proofs.verified.invocation_answer.Goals as goal
+
+pub returns-in-None-clause-answered : goal.returns-in-None-clause-answered
+returns-in-None-clause-answered g c = rw c.in-None.is c.respond.ensures.answered
+
+pub returns-in-None-clause-files : goal.returns-in-None-clause-files
+returns-in-None-clause-files g c = rw c.in-None.is c.respond.ensures.files
+
+pub returns-in-Ok-clause-answered : goal.returns-in-Ok-clause-answered
+returns-in-Ok-clause-answered g c =
+    rw c.in-Some.is (IfOk-weaker c.respond-in-Ok.result _ _ (λ answer told. inr (c.in-Ok.verified, c.in-Ok.ensures.ok, told))
+    (rw c.in-Ok.ensures.kept at c.respond-in-Ok.ensures.answered))
+
+pub returns-in-Ok-clause-files : goal.returns-in-Ok-clause-files
+returns-in-Ok-clause-files g c =
+    rw c.in-Some.is (inr (c.in-Ok.verified, c.in-Ok.ensures.ok, rw c.in-Ok.ensures.kept at c.respond-in-Ok.ensures.files))
+
+pub returns-in-Err-clause-answered : goal.returns-in-Err-clause-answered
+returns-in-Err-clause-answered g c =
+    rw c.in-Some.is (IfOk-weaker c.given_end.result _ _ (λ answer told. inl told) (c.given_end.ensures c.in-Err.ensures.stopped))
+
+pub returns-in-Err-clause-files : goal.returns-in-Err-clause-files
+returns-in-Err-clause-files g c = rw c.in-Some.is (inl c.in-Err.ensures.kept)

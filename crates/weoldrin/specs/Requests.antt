@@ -1,0 +1,156 @@
+-- What is answered to requests, by the words that they have and what the files that they name hold.
+use Rattle.std.specs.Prelude.{◌≡◌, ◌⊎◌, ℕ, Bool, true, false, List, [], ◌∷◌, map, Option, Some, None, Ok}
+use Rattle.std.specs.Borrow.{Bor}
+use Rattle.std.specs.Str.Lines.{lines}
+use Rattle.semver.specs.Identifiers.{comparator_view}
+use Rattle.semver.specs.Parse.{req_of}
+use Rattle.semver.specs.declared.Comparator.{Comparator}
+use Rattle.warg_permissions.specs.declared.operator.Permission.TheVariants as operator_permission
+use Rattle.warg_permissions.specs.declared.package.Permission.TheVariants as package_permission
+use Rattle.warg_protocol.specs.Json.{in_text, text_of}
+use Rattle.warg_protocol.specs.Logs.{SignatureRelation}
+use Rattle.warg_protocol.specs.Operator as operators
+use Rattle.warg_protocol.specs.Package as packages
+use Rattle.warg_audit.specs.Answers.{IsIdAnswer}
+use Rattle.warg_audit.specs.LogTypes.{operator_log, package_log}
+use Rattle.warg_log_type.specs.declared.LogType.{LogType}
+use Rattle.warg_log_type.specs.declared.LogType.TheVariants as log_type
+use Rattle.warg_audit.specs.Printouts.{Printout}
+use Rattle.warg_verified.specs.Claims.{ClaimData, is_claimed}
+use Rattle.warg_verified.specs.Texts.{IsReadFrom}
+use Rattle.warg_files.specs.Files.{Files, Reads}
+use Rattle.warg_tasks.specs.JsonLines.{IsInJson}
+use Rattle.warg_tasks.specs.ManyAudits.{IsManyAnswer}
+use Rattle.warg_checkpoints.specs.ProofTexts.{IsProofAnswer}
+use Rattle.warg_checkpoints.specs.Proofs.{IsStatementVerdict}
+use Rattle.warg_tasks.specs.Latest.{IsLatestOf}
+use Rattle.warg_questions.specs.QuestionAnswers.{IsQuestionAnswer}
+use Rattle.warg_files.specs.RecordLines.{texts}
+use Rattle.warg_answers.specs.Explanations.{explains_operator, explains_package}
+use Rattle.warg_answers.specs.ShownWords.{says_operator_words, says_package_words, shows_namespaces, shows_releases}
+use Rattle.warg_show.specs.ShownLogs.{IsShown}
+use Rattle.warg_tasks.specs.Tasks.{DoneLeaves, IsDoneAnswer}
+use Rattle.warg_files.specs.Unusable.{IfUsable, IsOfLines, IsOfWord}
+use Rattle.warg_files.specs.Answers.{IsUnusable}
+use Rattle.warg_tasks.specs.Audits.{IsAuditOf}
+use Rattle.warg_answers.specs.Verdicts.{IsPrintedOf}
+use Rattle.weoldrin.specs.Schemes.{known_belongs}
+use Rattle.warg_words.specs.declared.request.Invocation.{Invocation}
+use Rattle.warg_words.specs.declared.request.Question.{Question}
+use Rattle.warg_words.specs.declared.request.Request.{Request}
+use Rattle.warg_words.specs.declared.request.Request.TheVariants as request
+
+-- what is printed of the log of a kind in words
+abbrev pub IsShownAnswer : LogType → SignatureRelation → Option Files → List ℕ → Printout → Type 0
+IsShownAnswer log_type.Package belongs files path printed =
+    IsOfLines files path (IsShown package_log belongs says_package_words shows_releases explains_package) printed
+IsShownAnswer log_type.Operator belongs files path printed =
+    IsOfLines files path (IsShown operator_log belongs says_operator_words shows_namespaces explains_operator) printed
+
+-- what is answered to a question on logs of a kind
+abbrev pub IsAskedAnswer : LogType → SignatureRelation → Option Files → Question → Printout → Type 0
+IsAskedAnswer log_type.Package belongs files question printed =
+    IsQuestionAnswer (record {
+      shown = package_log;
+      view = packages.view_of;
+      json = λ state. text_of (packages.state_json state);
+      reads = in_text packages.state_in;
+      knows = λ state key. (packages.view_of state).state.authority.has_entry key;
+      held = λ view key permission. view.state.authority.holds key permission;
+      order = package_permission.Release ∷ package_permission.Yank ∷ [];
+      text_of = packages.permission_text;
+      effects = packages.effects;
+    }) belongs files question printed
+IsAskedAnswer log_type.Operator belongs files question printed =
+    IsQuestionAnswer (record {
+      shown = operator_log;
+      view = operators.view_of;
+      json = λ state. text_of (operators.state_json state);
+      reads = in_text operators.state_in;
+      knows = λ state key. (operators.view_of state).state.authority.has_entry key;
+      held = λ view key permission. view.state.authority.holds key permission;
+      order = operator_permission.Commit ∷ operator_permission.DefineNamespace ∷ operator_permission.ImportNamespace ∷ [];
+      text_of = operators.permission_text;
+      effects = operators.effects;
+    }) belongs files question printed
+
+-- the greatest release of the log in a file that meets the requirement that a word says
+abbrev pub IsLatestAnswer : SignatureRelation → Option Files → List ℕ → List ℕ → Printout → Type 0
+IsLatestAnswer belongs files requirement path printed =
+    IsOfWord (λ (wanted : List Comparator). req_of requirement ≡ Ok (map comparator_view wanted))
+    (λ wanted. IsOfLines files path (IsPrintedOf package_log belongs (IsLatestOf wanted))) printed
+
+-- what is answered to a request, by what files hold before and after; verdicts on many logs may be in JSON
+abbrev pub IsRequestAnswer : Bool → SignatureRelation → Option Files → Option Files → Request → Printout → Type 0
+IsRequestAnswer json belongs old new (request.Id kind path) printed = IsOfLines old path.now (IsIdAnswer kind) printed
+IsRequestAnswer json belongs old new (request.Audit kind path) printed = IsOfLines old path.now (IsAuditOf kind belongs) printed
+IsRequestAnswer json belongs old new (request.Audits kind paths) printed = IsManyAnswer json kind belongs old (texts paths.items) printed
+IsRequestAnswer json belongs old new (request.Show kind path) printed = IsShownAnswer kind belongs old path.now printed
+IsRequestAnswer json belongs old new (request.Latest requirement path) printed = IsLatestAnswer belongs old requirement.now path.now printed
+IsRequestAnswer json belongs old new (request.Prove wanted path) printed = IsProofAnswer old wanted path.now printed
+IsRequestAnswer json belongs old new (request.Verify statement) printed = IfUsable (IsStatementVerdict old statement) printed
+IsRequestAnswer json belongs old new (request.Ask kind question) printed = IsAskedAnswer kind belongs old question printed
+IsRequestAnswer json belongs old new (request.Do kind task) printed = IsDoneAnswer kind belongs old new task printed
+
+-- what files hold after a request: what they held, unless records are added
+abbrev pub RequestLeaves : SignatureRelation → Option Files → Option Files → Request → Type 0
+RequestLeaves belongs old new (request.Id kind path) = new ≡ old
+RequestLeaves belongs old new (request.Audit kind path) = new ≡ old
+RequestLeaves belongs old new (request.Audits kind paths) = new ≡ old
+RequestLeaves belongs old new (request.Show kind path) = new ≡ old
+RequestLeaves belongs old new (request.Latest requirement path) = new ≡ old
+RequestLeaves belongs old new (request.Prove wanted path) = new ≡ old
+RequestLeaves belongs old new (request.Verify statement) = new ≡ old
+RequestLeaves belongs old new (request.Ask kind question) = new ≡ old
+RequestLeaves belongs old new (request.Do kind task) = DoneLeaves kind belongs old new task
+
+-- whether the verdicts on many logs are asked for
+abbrev pub is_many : Request → Bool
+is_many (request.Id kind path) = false
+is_many (request.Audit kind path) = false
+is_many (request.Audits kind paths) = true
+is_many (request.Show kind path) = false
+is_many (request.Latest requirement path) = false
+is_many (request.Prove wanted path) = false
+is_many (request.Verify statement) = false
+is_many (request.Ask kind question) = false
+is_many (request.Do kind task) = false
+
+-- what is printed of an answer: itself, or its JSON
+abbrev pub IsGiven : Bool → List ℕ → Printout → Printout → Type 0
+IsGiven false command plain printed = printed ≡ plain
+IsGiven true command plain printed = IsInJson command plain printed
+
+-- the same of an answer of which P holds
+abbrev pub IsGivenAs : Bool → List ℕ → (Printout → Type 0) → Printout → Type 0
+IsGivenAs json command P printed = (plain : Printout) × P plain × IsGiven json command plain printed
+
+-- what is printed to a request of which P holds; verdicts on many logs have an object for each log already
+abbrev pub IsGivenTo : Bool → Bool → List ℕ → (Printout → Type 0) → Printout → Type 0
+IsGivenTo false json command P printed = IsGivenAs json command P printed
+IsGivenTo true json command P printed = P printed
+
+-- what is printed to a request
+abbrev pub IsResponse : Bool → List ℕ → SignatureRelation → Option Files → Option Files → Request → Printout → Type 0
+IsResponse json command belongs old new it printed = IsGivenTo (is_many it) json command (IsRequestAnswer json belongs old new it) printed
+
+-- the claims that the file of a path lists
+pub record AreClaimsIn (files : Option Files) (path : List ℕ) (claims : List ClaimData) : Type 0 where
+  pub bytes : List ℕ
+  pub held : Reads files path bytes
+  pub said : IsReadFrom (lines bytes) claims
+
+-- P of what tells which signatures belong: the known schemes, or the claims that a file lists; Unread, if that can't be used
+abbrev pub IsUnder : Option Files → Option (Bor (List ℕ)) → Type 0 → (SignatureRelation → Type 0) → Type 0
+IsUnder files None Unread P = P known_belongs
+IsUnder files (Some path) Unread P = Unread ⊎ ((claims : List ClaimData) × AreClaimsIn files path.now claims × P (is_claimed claims))
+
+-- what is answered to an invocation, by what files hold before and after
+abbrev pub IsInvocationAnswer : Option Files → Option Files → Invocation → Printout → Type 0
+IsInvocationAnswer old new it printed =
+    IsUnder old it.verified (IsGivenAs it.json it.command.now IsUnusable printed)
+    (λ belongs. IsResponse it.json it.command.now belongs old new it.request printed)
+
+-- what files hold after it
+abbrev pub InvocationLeaves : Option Files → Option Files → Invocation → Type 0
+InvocationLeaves old new it = IsUnder old it.verified (new ≡ old) (λ belongs. RequestLeaves belongs old new it.request)

@@ -1,0 +1,245 @@
+//! The commands: what each answers to the bytes of its files.
+
+ghost use Rattle.std.specs.Prelude.{◌≡◌, IfOk};
+ghost use Rattle.warg_audit.specs.Answers.{IsIdAnswer};
+ghost use Rattle.warg_audit.specs.LogTypes.{package_log};
+ghost use Rattle.warg_files.specs.Answers.{answer_view, Answers};
+ghost use Rattle.warg_tasks.specs.Latest.{IsLatestOf};
+ghost use Rattle.weoldrin.specs.Requests.{is_many, IsAskedAnswer, IsGiven, IsLatestAnswer, IsRequestAnswer, IsResponse, IsShownAnswer, RequestLeaves};
+ghost use Rattle.warg_tasks.specs.Tasks.{DoneLeaves, IsDoneAnswer};
+ghost use Rattle.warg_files.specs.Unusable.{IsOfLines};
+ghost use Rattle.warg_tasks.specs.Audits.{IsAuditOf};
+ghost use Rattle.warg_answers.specs.Verdicts.{IsPrintedOf};
+
+use std::alloc::{AllocError, Global};
+use warg_audit::LogType;
+use warg_checkpoints::{prove_answer, verify_answer};
+use warg_files::answer::Answer;
+use warg_files::input::{Store, read_input};
+use warg_files::stop::{Stop, settled};
+use warg_protocol::signing::Verifier;
+use warg_protocol::{VersionReq, operator, package};
+use warg_questions::question_answer;
+use warg_show::show_of_file;
+use warg_tasks::{
+    audit_answer, audits_answer, id_answer, json_answer, latest_answer, requirement_of, task_answer,
+};
+use warg_words::{Invocation, Question, Request, Task};
+
+// The log of a kind in words.
+fn shown_answer<V: Verifier, S: Store>(
+    alloc: Global,
+    verifier: &V,
+    kind: LogType,
+    log: &str,
+    store: &mut S,
+) -> Result<Answer, Stop>
+    ensures answered { Answers (IsShownAnswer kind (V.belongs verifier.now) (S.files store.old)
+        log.now) result }
+    ensures kept { S.files store.new ≡ S.files store.old }
+{
+    match kind {
+        LogType::Package => show_of_file::<package::LogState, V, S>(alloc, verifier, log, store),
+        LogType::Operator => show_of_file::<operator::LogState, V, S>(alloc, verifier, log, store),
+    }
+}
+
+// The answer to what is asked of logs of a kind.
+fn asked_answer<V: Verifier, S: Store>(
+    alloc: Global,
+    verifier: &V,
+    kind: LogType,
+    question: &Question<'_>,
+    store: &mut S,
+) -> Result<Answer, Stop>
+    ensures answered { Answers (IsAskedAnswer kind (V.belongs verifier.now) (S.files store.old)
+        question.now) result }
+    ensures kept { S.files store.new ≡ S.files store.old }
+{
+    match kind {
+        LogType::Package => {
+            question_answer::<package::LogState, V, S>(alloc, verifier, question, store)
+        }
+        LogType::Operator => {
+            question_answer::<operator::LogState, V, S>(alloc, verifier, question, store)
+        }
+    }
+}
+
+// The answer when a task on a log of a kind is done.
+fn done_answer<V: Verifier, S: Store>(
+    alloc: Global,
+    verifier: &V,
+    kind: LogType,
+    task: &Task<'_>,
+    store: &mut S,
+) -> Result<Answer, Stop>
+    ensures answered { Answers (IsDoneAnswer kind (V.belongs verifier.now) (S.files store.old)
+        (S.files store.new) task.now) result }
+    ensures files { DoneLeaves kind (V.belongs verifier.now) (S.files store.old)
+        (S.files store.new) task.now }
+{
+    match kind {
+        LogType::Package => task_answer::<package::LogState, V, S>(alloc, verifier, task, store),
+        LogType::Operator => task_answer::<operator::LogState, V, S>(alloc, verifier, task, store),
+    }
+}
+
+// The greatest release of the log in a file that meets a requirement.
+fn latest_in_file<V: Verifier, S: Store>(
+    alloc: Global,
+    verifier: &V,
+    wanted: &VersionReq,
+    log: &str,
+    store: &mut S,
+) -> Result<Answer, Stop>
+    ensures answered { Answers (IsOfLines (S.files store.old) log.now
+        (IsPrintedOf package_log (V.belongs verifier.now)
+        (IsLatestOf wanted.now.comparators.items))) result }
+    ensures kept { S.files store.new ≡ S.files store.old }
+{
+    match read_input(alloc, store, log) {
+        Ok(input) => latest_answer(alloc, verifier, wanted, input),
+        Err(stop) => Err(stop),
+    }
+}
+
+// The same by the requirement's word.
+fn latest_of_file<V: Verifier, S: Store>(
+    alloc: Global,
+    verifier: &V,
+    requirement: &str,
+    log: &str,
+    store: &mut S,
+) -> Result<Answer, Stop>
+    ensures answered { Answers (IsLatestAnswer (V.belongs verifier.now) (S.files store.old)
+        requirement.now log.now) result }
+    ensures kept { S.files store.new ≡ S.files store.old }
+{
+    match requirement_of(alloc, requirement) {
+        Ok(wanted) => latest_in_file(alloc, verifier, &wanted, log, store),
+        Err(stop) => Err(stop),
+    }
+}
+
+// The id of the record in a file.
+fn id_of_file<S: Store>(
+    alloc: Global,
+    kind: LogType,
+    log: &str,
+    store: &mut S,
+) -> Result<Answer, Stop>
+    ensures answered { Answers (IsOfLines (S.files store.old) log.now (IsIdAnswer kind)) result }
+    ensures kept { S.files store.new ≡ S.files store.old }
+{
+    match read_input(alloc, store, log) {
+        Ok(input) => id_answer(alloc, kind, input),
+        Err(stop) => Err(stop),
+    }
+}
+
+// The verdict on the log in a file.
+fn audit_of_file<V: Verifier, S: Store>(
+    alloc: Global,
+    verifier: &V,
+    kind: LogType,
+    log: &str,
+    store: &mut S,
+) -> Result<Answer, Stop>
+    ensures answered { Answers (IsOfLines (S.files store.old) log.now
+        (IsAuditOf kind (V.belongs verifier.now))) result }
+    ensures kept { S.files store.new ≡ S.files store.old }
+{
+    match read_input(alloc, store, log) {
+        Ok(input) => audit_answer(alloc, verifier, kind, input),
+        Err(stop) => Err(stop),
+    }
+}
+
+// What a request is answered; verdicts on many logs in JSON, if that is wanted.
+fn request_answer<V: Verifier, S: Store>(
+    alloc: Global,
+    verifier: &V,
+    request: &Request<'_>,
+    is_json: bool,
+    store: &mut S,
+) -> Result<Answer, Stop>
+    ensures answered { Answers (IsRequestAnswer is_json (V.belongs verifier.now)
+        (S.files store.old) (S.files store.new) request.now) result }
+    ensures files { RequestLeaves (V.belongs verifier.now) (S.files store.old)
+        (S.files store.new) request.now }
+{
+    match request {
+        Request::Id { kind, log } => id_of_file(alloc, *kind, log, store),
+        Request::Audit { kind, log } => audit_of_file(alloc, verifier, *kind, log, store),
+        Request::Audits { kind, logs } => {
+            audits_answer(alloc, verifier, *kind, store, logs.as_slice(), is_json)
+        }
+        Request::Show { kind, log } => shown_answer(alloc, verifier, *kind, log, store),
+        Request::Latest { requirement, log } => {
+            latest_of_file(alloc, verifier, requirement, log, store)
+        }
+        Request::Prove { wanted, leaves } => prove_answer(alloc, wanted, leaves, store),
+        Request::Verify { statement } => verify_answer(alloc, statement, store),
+        Request::Ask { kind, question } => asked_answer(alloc, verifier, *kind, question, store),
+        Request::Do { kind, task } => done_answer(alloc, verifier, *kind, task, store),
+    }
+}
+
+/// The answer as the invocation wants it: as it is, or in JSON.
+pub(crate) fn given(
+    alloc: Global,
+    invocation: &Invocation<'_>,
+    answer: Answer,
+) -> Result<Answer, AllocError>
+    ensures { IfOk result (λ it. IsGiven invocation.now.json invocation.now.command.now
+        (answer_view answer)
+        (answer_view it)) }
+{
+    if invocation.json {
+        json_answer(alloc, invocation.command, answer)
+    } else {
+        Ok(answer)
+    }
+}
+
+// Whether verdicts on many logs are asked for: they have an object for each log already.
+fn is_many(request: &Request<'_>) -> bool
+    ensures { result ≡ is_many request.now }
+{
+    match request {
+        Request::Audits { .. } => true,
+        Request::Id { .. }
+        | Request::Audit { .. }
+        | Request::Show { .. }
+        | Request::Latest { .. }
+        | Request::Prove { .. }
+        | Request::Verify { .. }
+        | Request::Ask { .. }
+        | Request::Do { .. } => false,
+    }
+}
+
+/// What the request is answered, from the bytes of the files that it names.
+pub fn respond<V: Verifier, S: Store>(
+    alloc: Global,
+    verifier: &V,
+    invocation: &Invocation<'_>,
+    store: &mut S,
+) -> Result<Answer, AllocError>
+    ensures answered { IfOk result (λ answer. IsResponse invocation.now.json
+        invocation.now.command.now (V.belongs verifier.now) (S.files store.old)
+        (S.files store.new) invocation.now.request (answer_view answer)) }
+
+    // What files hold is changed by records that are added alone, also where memory runs out.
+    ensures files { RequestLeaves (V.belongs verifier.now) (S.files store.old)
+        (S.files store.new) invocation.now.request }
+{
+    let request = &invocation.request;
+    let answer = settled(request_answer(alloc, verifier, request, invocation.json, store))?;
+    if is_many(request) {
+        Ok(answer)
+    } else {
+        given(alloc, invocation, answer)
+    }
+}

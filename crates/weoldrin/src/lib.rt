@@ -1,0 +1,16 @@
+//! The program `weoldrin`: each command as a function of its words and the bytes of its files.
+#![tactic(auto)]
+
+mod commands;
+mod schemes;
+mod verified;
+mod words;
+
+pub use commands::respond;
+pub use schemes::KnownSchemes;
+pub use verified::invocation_answer;
+pub use warg_audit::LogType;
+pub use warg_files::answer::Answer;
+pub use warg_files::input::{ReadFault, Store};
+pub use warg_words::{Draft, Invocation, LeafIds, Question, Request, Statement, Task, Wanted};
+pub use words::{Parsed, parse_words};

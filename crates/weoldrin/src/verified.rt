@@ -1,0 +1,103 @@
+//! The verifier of a request: the known schemes, or what a file says was verified.
+
+ghost use Rattle.std.specs.Prelude.{◌≡◌, IfOk, IfErr};
+ghost use Rattle.std.specs.Str.Lines.{lines};
+ghost use Rattle.warg_verified.specs.Texts.{IsReadFrom};
+ghost use Rattle.warg_files.specs.Answers.{answer_view, IfStopped, IsUnusable};
+ghost use Rattle.weoldrin.specs.Requests.{AreClaimsIn, InvocationLeaves, IsGivenAs, IsInvocationAnswer};
+
+use crate::commands::{given, respond};
+use crate::schemes::KnownSchemes;
+use std::alloc::{AllocError, Global};
+use std::str;
+use warg_files::answer::Answer;
+use warg_files::input::{Input, Store, file_stop, line_sentence, read_input};
+use warg_files::stop::{Stop, unusable};
+use warg_verified::{ClaimParseError, Verified, VerifiedParseError};
+use warg_words::Invocation;
+
+fn claim_sentence(
+    alloc: Global,
+    path: &str,
+    error: VerifiedParseError,
+) -> Result<String, AllocError> {
+    let fault = format!(in alloc; "no claim: {}", error.fault)?;
+    line_sentence(alloc, path, error.line, fault.as_str())
+}
+
+// The end of a command for a line that says no claim.
+fn claim_stop(alloc: Global, path: &str, error: VerifiedParseError) -> Stop
+    ensures { IfStopped IsUnusable result }
+{
+    if error.fault == ClaimParseError::OutOfMemory {
+        return Stop::OutOfMemory;
+    }
+    unusable(alloc, claim_sentence(alloc, path, error))
+}
+
+// The claims that a text lists.
+fn verified_of(alloc: Global, path: &str, text: &str) -> Result<Verified, Stop>
+    ensures ok { IfOk result (IsReadFrom (lines text.now)) }
+    ensures stopped { IfErr result (IfStopped IsUnusable) }
+{
+    match Verified::parse(alloc, text) {
+        Ok(verified) => Ok(verified),
+        Err(error) => Err(claim_stop(alloc, path, error)),
+    }
+}
+
+// The claims that a file lists.
+fn verified_of_file(alloc: Global, input: &Input<'_>) -> Result<Verified, Stop>
+    ensures ok { IfOk result (IsReadFrom (lines input.now.bytes.items)) }
+    ensures stopped { IfErr result (IfStopped IsUnusable) }
+{
+    match str::from_utf8(input.bytes.as_slice()) {
+        Ok(text) => verified_of(alloc, input.path, text),
+        Err(_) => Err(file_stop(alloc, input.path, "it is no UTF-8")),
+    }
+}
+
+// The claims that the file of this path lists.
+fn read_verified<S: Store>(alloc: Global, path: &str, store: &mut S) -> Result<Verified, Stop>
+    ensures ok { IfOk result (AreClaimsIn (S.files store.old) path.now) }
+    ensures stopped { IfErr result (IfStopped IsUnusable) }
+    ensures kept { S.files store.new ≡ S.files store.old }
+{
+    match read_input(alloc, store, path) {
+        Ok(input) => verified_of_file(alloc, &input),
+        Err(stop) => Err(stop),
+    }
+}
+
+// The end of a command that can't use a file, as the invocation wants its answer.
+fn given_end(alloc: Global, invocation: &Invocation<'_>, stop: Stop) -> Result<Answer, AllocError>
+    ensures { IfStopped IsUnusable stop →
+        IfOk result (λ it. IsGivenAs invocation.now.json invocation.now.command.now
+        IsUnusable (answer_view it)) }
+{
+    match stop {
+        Stop::Answer(answer) => given(alloc, invocation, answer),
+        Stop::OutOfMemory => Err(AllocError),
+    }
+}
+
+/// What the invocation is answered, under the verifier that it names, from the bytes of the files that it names.
+pub fn invocation_answer<S: Store>(
+    alloc: Global,
+    invocation: &Invocation<'_>,
+    store: &mut S,
+) -> Result<Answer, AllocError>
+    ensures answered { IfOk result (λ answer. IsInvocationAnswer (S.files store.old)
+        (S.files store.new) invocation.now (answer_view answer)) }
+
+    // What files hold is changed by records that are added alone, also where memory runs out.
+    ensures files { InvocationLeaves (S.files store.old) (S.files store.new) invocation.now }
+{
+    match invocation.verified {
+        None => respond(alloc, &KnownSchemes::new(alloc), invocation, store),
+        Some(path) => match read_verified(alloc, path, store) {
+            Ok(verified) => respond(alloc, &verified, invocation, store),
+            Err(stop) => given_end(alloc, invocation, stop),
+        },
+    }
+}
