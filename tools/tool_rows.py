@@ -1,4 +1,4 @@
-"""The rows of conformance/tool.json: what the program weoldrin is asked, in which files, and what it answers."""
+"""The rows of conformance/tool/: what the program weoldrin is asked, in which files, and what it answers."""
 import json
 import pathlib
 import shutil
@@ -6,7 +6,7 @@ from typing import Any
 
 from common import ROOT
 
-ROWS = ROOT / "conformance/tool.json"
+ROWS = ROOT / "conformance/tool"
 Row = dict[str, Any]
 
 
@@ -48,4 +48,4 @@ def misses(row: Row, folder: pathlib.Path) -> list[str]:
 
 
 def rows_of_tool() -> list[Row]:
-    return json.loads(ROWS.read_text(encoding="utf-8"))
+    return [row for path in sorted(ROWS.glob("*.json")) for row in json.loads(path.read_text(encoding="utf-8"))]
