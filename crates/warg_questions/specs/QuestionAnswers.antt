@@ -37,5 +37,5 @@ module _ {Meaning Fault View Offence S P : Type 0} (kind : Askable Meaning Fault
   IsQuestionAnswer (question.Chain key_id permission log) printed =
       IsOfWord (λ it. kind.text_of it ≡ permission.now)
       (λ it. IsOfLines files log.now (IsPrintedOf kind.shown belongs (IsChainText kind.shown kind.effects key_id.now it))) printed
-  IsQuestionAnswer (question.Compare left right) printed =
-      IsOfLines files left.now (λ here. IsOfLines files right.now (IsCompared kind.shown belongs here)) printed
+  IsQuestionAnswer (question.Compare old new) printed =
+      IsOfLines files old.now (λ here. IsOfLines files new.now (IsCompared kind.shown belongs here)) printed

@@ -226,8 +226,8 @@ pub fn question_answer<L: ToolLog, V: Verifier, S: Store>(
             permission,
             log,
         } => chain_of_word::<L, V, S>(alloc, verifier, key_id, permission, log, store),
-        Question::Compare { left, right } => {
-            compared_files::<L, V, S>(alloc, verifier, left, right, store)
+        Question::Compare { old, new } => {
+            compared_files::<L, V, S>(alloc, verifier, old, new, store)
         }
     }
 }

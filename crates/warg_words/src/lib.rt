@@ -10,7 +10,7 @@ mod task;
 mod version;
 mod words;
 
-pub use request::{Invocation, Question, Request, Said};
+pub use request::{Demands, Invocation, Question, Request, Said};
 pub use statement::{LeafIds, Statement, Wanted};
 pub use task::{Draft, Task};
 pub use words::parse_words;

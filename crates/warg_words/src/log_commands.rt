@@ -128,14 +128,14 @@ pub(crate) const LOG_COMMANDS: &[Row] = &[
         words: &[
             KIND,
             Word {
-                name: "LEFT",
+                name: "OLD",
                 form: Form::Required,
-                help: "One log's file",
+                help: "The older copy's file",
             },
             Word {
-                name: "RIGHT",
+                name: "NEW",
                 form: Form::Required,
-                help: "The other log's file",
+                help: "The newer copy's file",
             },
         ],
     },

@@ -35,13 +35,26 @@ pub enum Question<'a> {
         /// The log.
         log: &'a str,
     },
-    /// How two logs compare.
+    /// How a log compares with an older copy of it.
     Compare {
-        /// One log.
-        left: &'a str,
-        /// The other.
-        right: &'a str,
+        /// The older copy.
+        old: &'a str,
+        /// The newer one.
+        new: &'a str,
     },
+}
+
+/// What a log has to be for a yes, beside lawful.
+#[derive(Clone, Copy, Debug, PartialEq, Eq)]
+pub struct Demands<'a> {
+    /// Whether it may have no records.
+    pub allows_empty: bool,
+    /// The id that its head has to be.
+    pub head: Option<&'a str>,
+    /// How many records it has at least.
+    pub least: Option<u64>,
+    /// The file of an older copy, which it has to go on from.
+    pub older: Option<&'a str>,
 }
 
 /// What is asked.
@@ -60,6 +73,10 @@ pub enum Request<'a> {
         kind: LogType,
         /// The log.
         log: &'a str,
+        /// What it has to be.
+        demands: Demands<'a>,
+        /// Whether its path stands before each line.
+        shows_path: bool,
     },
     /// The verdicts on many logs, a line each. A path that begins with `@` names a file of paths.
     Audits {
@@ -67,6 +84,8 @@ pub enum Request<'a> {
         kind: LogType,
         /// Their paths.
         logs: Vec<&'a str>,
+        /// Whether they may have no records.
+        allows_empty: bool,
     },
     /// The log in words, and why a record is refused.
     Show {
@@ -74,6 +93,10 @@ pub enum Request<'a> {
         kind: LogType,
         /// The log.
         log: &'a str,
+        /// Whether ids are shown whole.
+        full: bool,
+        /// The file of names for keys.
+        names: Option<&'a str>,
     },
     /// The greatest release of a package that meets a requirement.
     Latest {
@@ -121,6 +144,8 @@ pub struct Invocation<'a> {
     pub json: bool,
     /// The file of the signatures that were verified; none where the program verifies them.
     pub verified: Option<&'a str>,
+    /// Whether signatures of the toy scheme, which anyone can forge, are taken too.
+    pub toy: bool,
 }
 
 /// What the words say.

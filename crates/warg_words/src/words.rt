@@ -2,7 +2,7 @@
 
 use crate::log_commands::LOG_COMMANDS;
 use crate::proof_commands::{PROVE, VERIFY, prove_request, verify_request};
-use crate::request::{Invocation, Question, Request, Said};
+use crate::request::{Demands, Invocation, Question, Request, Said};
 use crate::table::{Options, with_commands};
 use crate::task::parse_task;
 use crate::version::VERSION;
@@ -52,15 +52,31 @@ fn kind(matches: &ArgMatches<'_>) -> LogType {
     }
 }
 
+// The verdict on one log, of which nothing more is demanded.
+fn audit_of_one<'a>(kind: LogType, log: &'a str) -> Request<'a> {
+    Request::Audit {
+        kind,
+        log,
+        demands: Demands {
+            allows_empty: true,
+            head: None,
+            least: None,
+            older: None,
+        },
+        shows_path: false,
+    }
+}
+
 // The verdict on one log, or a line on each of many; on standard input where no log is named.
 fn audit<'a>(alloc: Global, matches: &ArgMatches<'a>) -> Result<Request<'a>, AllocError> {
     let kind = kind(matches);
     match matches.get_strs("LOG") {
-        None | Some([]) => Ok(Request::Audit { kind, log: "-" }),
-        Some([log]) if !log.starts_with('@') => Ok(Request::Audit { kind, log: *log }),
+        None | Some([]) => Ok(audit_of_one(kind, "-")),
+        Some([log]) if !log.starts_with('@') => Ok(audit_of_one(kind, log)),
         Some(logs) => Ok(Request::Audits {
             kind,
             logs: logs.to_vec(alloc)?,
+            allows_empty: true,
         }),
     }
 }
@@ -84,8 +100,8 @@ fn question<'a>(command: &str, matches: &ArgMatches<'a>) -> Option<Question<'a>>
             log,
         }),
         "compare" => Some(Question::Compare {
-            left: value(matches, "LEFT"),
-            right: value(matches, "RIGHT"),
+            old: value(matches, "OLD"),
+            new: value(matches, "NEW"),
         }),
         _ => None,
     }
@@ -114,6 +130,8 @@ fn request<'a>(
         "show" => Ok(Some(Request::Show {
             kind: kind(matches),
             log: value(matches, "LOG"),
+            full: false,
+            names: None,
         })),
         "prove" => Ok(prove_request(matches)),
         "verify" => Ok(verify_request(matches)),
@@ -151,6 +169,7 @@ fn matched<'a>(alloc: Global, matches: &ArgMatches<'a>) -> Result<Said<'a>, Allo
             request,
             json: options.get_flag("json"),
             verified: options.get_str("verified"),
+            toy: true,
         }));
     }
     let sentence = String::from_str(alloc, "weoldrin: no such command\n")?;

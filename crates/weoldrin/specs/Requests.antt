@@ -83,9 +83,9 @@ IsLatestAnswer belongs files requirement path printed =
 -- what is answered to a request, by what files hold before and after; verdicts on many logs may be in JSON
 abbrev pub IsRequestAnswer : Bool → SignatureRelation → Option Files → Option Files → Request → Printout → Type 0
 IsRequestAnswer json belongs old new (request.Id kind path) printed = IsOfLines old path.now (IsIdAnswer kind) printed
-IsRequestAnswer json belongs old new (request.Audit kind path) printed = IsOfLines old path.now (IsAuditOf kind belongs) printed
-IsRequestAnswer json belongs old new (request.Audits kind paths) printed = IsManyAnswer json kind belongs old (texts paths.items) printed
-IsRequestAnswer json belongs old new (request.Show kind path) printed = IsShownAnswer kind belongs old path.now printed
+IsRequestAnswer json belongs old new (request.Audit kind path demands shows_path) printed = IsOfLines old path.now (IsAuditOf kind belongs) printed
+IsRequestAnswer json belongs old new (request.Audits kind paths allows_empty) printed = IsManyAnswer json kind belongs old (texts paths.items) printed
+IsRequestAnswer json belongs old new (request.Show kind path full names) printed = IsShownAnswer kind belongs old path.now printed
 IsRequestAnswer json belongs old new (request.Latest requirement path) printed = IsLatestAnswer belongs old requirement.now path.now printed
 IsRequestAnswer json belongs old new (request.Prove wanted path) printed = IsProofAnswer old wanted path.now printed
 IsRequestAnswer json belongs old new (request.Verify statement) printed = IfUsable (IsStatementVerdict old statement) printed
@@ -95,9 +95,9 @@ IsRequestAnswer json belongs old new (request.Do kind task) printed = IsDoneAnsw
 -- what files hold after a request: what they held, unless records are added
 abbrev pub RequestLeaves : SignatureRelation → Option Files → Option Files → Request → Type 0
 RequestLeaves belongs old new (request.Id kind path) = new ≡ old
-RequestLeaves belongs old new (request.Audit kind path) = new ≡ old
-RequestLeaves belongs old new (request.Audits kind paths) = new ≡ old
-RequestLeaves belongs old new (request.Show kind path) = new ≡ old
+RequestLeaves belongs old new (request.Audit kind path demands shows_path) = new ≡ old
+RequestLeaves belongs old new (request.Audits kind paths allows_empty) = new ≡ old
+RequestLeaves belongs old new (request.Show kind path full names) = new ≡ old
 RequestLeaves belongs old new (request.Latest requirement path) = new ≡ old
 RequestLeaves belongs old new (request.Prove wanted path) = new ≡ old
 RequestLeaves belongs old new (request.Verify statement) = new ≡ old
@@ -107,9 +107,9 @@ RequestLeaves belongs old new (request.Do kind task) = DoneLeaves kind belongs o
 -- whether the verdicts on many logs are asked for
 abbrev pub is_many : Request → Bool
 is_many (request.Id kind path) = false
-is_many (request.Audit kind path) = false
-is_many (request.Audits kind paths) = true
-is_many (request.Show kind path) = false
+is_many (request.Audit kind path demands shows_path) = false
+is_many (request.Audits kind paths allows_empty) = true
+is_many (request.Show kind path full names) = false
 is_many (request.Latest requirement path) = false
 is_many (request.Prove wanted path) = false
 is_many (request.Verify statement) = false

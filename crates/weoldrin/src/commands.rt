@@ -171,11 +171,11 @@ fn request_answer<V: Verifier, S: Store>(
 {
     match request {
         Request::Id { kind, log } => id_of_file(alloc, *kind, log, store),
-        Request::Audit { kind, log } => audit_of_file(alloc, verifier, *kind, log, store),
-        Request::Audits { kind, logs } => {
+        Request::Audit { kind, log, .. } => audit_of_file(alloc, verifier, *kind, log, store),
+        Request::Audits { kind, logs, .. } => {
             audits_answer(alloc, verifier, *kind, store, logs.as_slice(), is_json)
         }
-        Request::Show { kind, log } => shown_answer(alloc, verifier, *kind, log, store),
+        Request::Show { kind, log, .. } => shown_answer(alloc, verifier, *kind, log, store),
         Request::Latest { requirement, log } => {
             latest_of_file(alloc, verifier, requirement, log, store)
         }

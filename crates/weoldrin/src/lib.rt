@@ -12,5 +12,7 @@ pub use verified::invocation_answer;
 pub use warg_audit::LogType;
 pub use warg_files::answer::Answer;
 pub use warg_files::input::{ReadFault, Store};
-pub use warg_words::{Draft, Invocation, LeafIds, Question, Request, Statement, Task, Wanted};
+pub use warg_words::{
+    Demands, Draft, Invocation, LeafIds, Question, Request, Statement, Task, Wanted,
+};
 pub use words::{Parsed, parse_words};
