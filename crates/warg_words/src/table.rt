@@ -40,8 +40,8 @@ pub(crate) struct Row {
 pub(crate) enum Options {
     /// Answers in JSON.
     Json,
-    /// These, and signatures that a host has verified.
-    JsonAndVerified,
+    /// These, and which signatures are taken.
+    JsonAndSchemes,
 }
 
 fn arg_of<'a>(alloc: Global, word: &Word) -> Arg<'a> {
@@ -68,13 +68,21 @@ fn verified<'a>(alloc: Global) -> Arg<'a> {
         .help("Takes the signatures that this file lists, and no others")
 }
 
+fn toy<'a>(alloc: Global) -> Result<Arg<'a>, AllocError> {
+    Arg::new(alloc, "toy")
+        .long("toy")
+        .action(ArgAction::SetTrue)
+        .help("Also takes signatures of the toy scheme, which anyone can forge")
+        .conflicts_with("verified")
+}
+
 fn command_of<'a>(alloc: Global, row: &Row, options: Options) -> Result<Command<'a>, AllocError> {
     let mut command = Command::new(alloc, row.name)
         .about(row.about)
         .after_help(row.example)
         .arg(json(alloc))?;
-    if options == Options::JsonAndVerified {
-        command = command.arg(verified(alloc))?;
+    if options == Options::JsonAndSchemes {
+        command = command.arg(verified(alloc))?.arg(toy(alloc)?)?;
     }
     for word in row.words {
         command = command.arg(arg_of(alloc, word))?;

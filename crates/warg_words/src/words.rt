@@ -26,7 +26,7 @@ fn program<'a>(alloc: Global) -> Result<Command<'a>, AllocError> {
         .about(ABOUT)
         .after_help(AFTER)
         .arg_required_else_help(true);
-    let program = with_commands(alloc, program, LOG_COMMANDS, Options::JsonAndVerified)?;
+    let program = with_commands(alloc, program, LOG_COMMANDS, Options::JsonAndSchemes)?;
     let prove = Command::new(alloc, "prove").about(
         "Prints a registry's checkpoint, or a proof under it",
     );
@@ -169,7 +169,7 @@ fn matched<'a>(alloc: Global, matches: &ArgMatches<'a>) -> Result<Said<'a>, Allo
             request,
             json: options.get_flag("json"),
             verified: options.get_str("verified"),
-            toy: true,
+            toy: options.get_flag("toy"),
         }));
     }
     let sentence = String::from_str(alloc, "weoldrin: no such command\n")?;

@@ -34,7 +34,7 @@ use Rattle.warg_files.specs.Unusable.{IfUsable, IsOfLines, IsOfWord}
 use Rattle.warg_files.specs.Answers.{IsUnusable}
 use Rattle.warg_tasks.specs.Audits.{IsAuditOf}
 use Rattle.warg_answers.specs.Verdicts.{IsPrintedOf}
-use Rattle.weoldrin.specs.Schemes.{known_belongs}
+use Rattle.weoldrin.specs.Schemes.{asked_belongs}
 use Rattle.warg_words.specs.declared.request.Invocation.{Invocation}
 use Rattle.warg_words.specs.declared.request.Question.{Question}
 use Rattle.warg_words.specs.declared.request.Request.{Request}
@@ -140,17 +140,17 @@ pub record AreClaimsIn (files : Option Files) (path : List ℕ) (claims : List C
   pub held : Reads files path bytes
   pub said : IsReadFrom (lines bytes) claims
 
--- P of what tells which signatures belong: the known schemes, or the claims that a file lists; Unread, if that can't be used
-abbrev pub IsUnder : Option Files → Option (Bor (List ℕ)) → Type 0 → (SignatureRelation → Type 0) → Type 0
-IsUnder files None Unread P = P known_belongs
-IsUnder files (Some path) Unread P = Unread ⊎ ((claims : List ClaimData) × AreClaimsIn files path.now claims × P (is_claimed claims))
+-- P of what tells which signatures belong: the schemes that are asked for, or the claims that a file lists; Unread, if that can't be used
+abbrev pub IsUnder : Option Files → Bool → Option (Bor (List ℕ)) → Type 0 → (SignatureRelation → Type 0) → Type 0
+IsUnder files toy None Unread P = P (asked_belongs toy)
+IsUnder files toy (Some path) Unread P = Unread ⊎ ((claims : List ClaimData) × AreClaimsIn files path.now claims × P (is_claimed claims))
 
 -- what is answered to an invocation, by what files hold before and after
 abbrev pub IsInvocationAnswer : Option Files → Option Files → Invocation → Printout → Type 0
 IsInvocationAnswer old new it printed =
-    IsUnder old it.verified (IsGivenAs it.json it.command.now IsUnusable printed)
+    IsUnder old it.toy it.verified (IsGivenAs it.json it.command.now IsUnusable printed)
     (λ belongs. IsResponse it.json it.command.now belongs old new it.request printed)
 
 -- what files hold after it
 abbrev pub InvocationLeaves : Option Files → Option Files → Invocation → Type 0
-InvocationLeaves old new it = IsUnder old it.verified (new ≡ old) (λ belongs. RequestLeaves belongs old new it.request)
+InvocationLeaves old new it = IsUnder old it.toy it.verified (new ≡ old) (λ belongs. RequestLeaves belongs old new it.request)

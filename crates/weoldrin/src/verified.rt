@@ -1,10 +1,11 @@
-//! The verifier of a request: the known schemes, or what a file says was verified.
+//! The verifier of a request: the schemes that it asks for, or what a file says was verified.
 
 ghost use Rattle.std.specs.Prelude.{◌≡◌, IfOk, IfErr};
 ghost use Rattle.std.specs.Str.Lines.{lines};
 ghost use Rattle.warg_verified.specs.Texts.{IsReadFrom};
 ghost use Rattle.warg_files.specs.Answers.{answer_view, IfStopped, IsUnusable};
-ghost use Rattle.weoldrin.specs.Requests.{AreClaimsIn, InvocationLeaves, IsGivenAs, IsInvocationAnswer};
+ghost use Rattle.weoldrin.specs.Requests.{AreClaimsIn, InvocationLeaves, IsGivenAs, IsInvocationAnswer, IsResponse, RequestLeaves};
+ghost use Rattle.weoldrin.specs.Schemes.{asked_belongs};
 
 use crate::commands::{given, respond};
 use crate::schemes::KnownSchemes;
@@ -13,6 +14,7 @@ use std::str;
 use warg_files::answer::Answer;
 use warg_files::input::{Input, Store, file_stop, line_sentence, read_input};
 use warg_files::stop::{Stop, unusable};
+use warg_protocol::p256::KnownKeys;
 use warg_verified::{ClaimParseError, Verified, VerifiedParseError};
 use warg_words::Invocation;
 
@@ -81,6 +83,25 @@ fn given_end(alloc: Global, invocation: &Invocation<'_>, stop: Stop) -> Result<A
     }
 }
 
+// What the invocation is answered by the schemes that it asks for.
+fn known_answer<S: Store>(
+    alloc: Global,
+    invocation: &Invocation<'_>,
+    store: &mut S,
+) -> Result<Answer, AllocError>
+    ensures answered { IfOk result (λ answer. IsResponse invocation.now.json
+        invocation.now.command.now (asked_belongs invocation.now.toy) (S.files store.old)
+        (S.files store.new) invocation.now.request (answer_view answer)) }
+    ensures files { RequestLeaves (asked_belongs invocation.now.toy) (S.files store.old)
+        (S.files store.new) invocation.now.request }
+{
+    if invocation.toy {
+        respond(alloc, &KnownSchemes::new(alloc), invocation, store)
+    } else {
+        respond(alloc, &KnownKeys::new(alloc), invocation, store)
+    }
+}
+
 /// What the invocation is answered, under the verifier that it names, from the bytes of the files that it names.
 pub fn invocation_answer<S: Store>(
     alloc: Global,
@@ -94,7 +115,7 @@ pub fn invocation_answer<S: Store>(
     ensures files { InvocationLeaves (S.files store.old) (S.files store.new) invocation.now }
 {
     match invocation.verified {
-        None => respond(alloc, &KnownSchemes::new(alloc), invocation, store),
+        None => known_answer(alloc, invocation, store),
         Some(path) => match read_verified(alloc, path, store) {
             Ok(verified) => respond(alloc, &verified, invocation, store),
             Err(stop) => given_end(alloc, invocation, stop),

@@ -3,10 +3,10 @@ use Rattle.std.proofs.lemmas.Result.{IfOk-weaker}
 use Rattle.weoldrin.proofs.verified.invocation_answer.Goals as goal
 
 pub returns-in-None-clause-answered : goal.returns-in-None-clause-answered
-returns-in-None-clause-answered g c = rw c.in-None.is c.respond.ensures.answered
+returns-in-None-clause-answered g c = rw c.in-None.is c.known_answer.ensures.answered
 
 pub returns-in-None-clause-files : goal.returns-in-None-clause-files
-returns-in-None-clause-files g c = rw c.in-None.is c.respond.ensures.files
+returns-in-None-clause-files g c = rw c.in-None.is c.known_answer.ensures.files
 
 pub returns-in-Ok-clause-answered : goal.returns-in-Ok-clause-answered
 returns-in-Ok-clause-answered g c =
