@@ -1,6 +1,9 @@
-/* Each row of conformance/values/p256.rows, or each Nth: `p256_rows N`. */
+/* Each row of conformance/values/p256.rows, or each Nth: `p256_rows N`, by the library and by libcrypto behind the same reader. An error of
+ * libcrypto that another part of the program has yet to read, as one of a TLS connection, is the only one that stands there afterwards. */
 #include "../p256.h"
 #include "check.h"
+
+#include <openssl/err.h>
 
 #ifndef ROWS
 #define ROWS "conformance/values/p256.rows"
@@ -37,6 +40,7 @@ static bool belongs(const char *key, const char *message, const char *signature)
     asked.message_len = question.len - asked.key_len;
     asked.signature_len = add_text_of(&question, signature);
     bool is_so = p256_verify(question.at, &asked);
+    CHECK(p256_verify_by_openssl(question.at, &asked) == is_so);
     bytes_free(&question);
     return is_so;
 }
@@ -47,6 +51,8 @@ int main(int count, char **words) {
     size_t number = 0, rows = 0, right = 0, wrong = 0;
     FILE *file = fopen(ROWS, "r");
     CHECK(file && step > 0);
+    ERR_raise(ERR_LIB_SSL, 1);
+    unsigned long another = ERR_peek_error();
     while (fgets(line, sizeof line, file)) {
         number++;
         CHECK(strchr(line, '\n'));
@@ -64,6 +70,7 @@ int main(int count, char **words) {
         }
     }
     fclose(file);
+    CHECK(another && ERR_get_error() == another && !ERR_get_error());
     CHECK(!wrong && rows > 2300 && right * (size_t)step > 500);
     printf("%zu rows, %zu of those that were played are right\n", rows, right);
     return 0;
