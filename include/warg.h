@@ -85,6 +85,21 @@ enum warg_tree {
     WARG_MAP_TREE = 1
 };
 
+/* How two logs compare, by the contents of their records. */
+enum warg_comparison_case {
+    /* The contents are equal, record for record. */
+    WARG_SAME = 0,
+    /* The right log begins with all of the left one, and goes on at `left`, which is `right`. */
+    WARG_LEFT_IS_PREFIX = 1,
+    /* The left log begins with all of the right one, and goes on at `left`, which is `right`. */
+    WARG_RIGHT_IS_PREFIX = 2,
+    /* The logs fork: `left`, which is `right`, is the first place where both have a record and the contents differ. */
+    WARG_FORK = 3,
+    /* The heads are one and the contents are not: the record at the place `left` of the left log and that at `right` of the right one
+     * differ, and have one id. */
+    WARG_COLLISION = 4
+};
+
 /* A log, or none: all bytes 0 is none. */
 struct warg_log {
     void *at;
@@ -127,21 +142,7 @@ struct warg_link {
     size_t entry_index;
 };
 
-/* How two logs compare, by the contents of their records. */
-enum warg_comparison_case {
-    /* The contents are equal, record for record. */
-    WARG_SAME = 0,
-    /* The right log begins with all of the left one, and goes on at `left`, which is `right`. */
-    WARG_LEFT_IS_PREFIX = 1,
-    /* The left log begins with all of the right one, and goes on at `left`, which is `right`. */
-    WARG_RIGHT_IS_PREFIX = 2,
-    /* The logs fork: `left`, which is `right`, is the first place where both have a record and the contents differ. */
-    WARG_FORK = 3,
-    /* The heads are one and the contents are not: the record at the place `left` of the left log and that at `right` of the right one differ,
-     * and have one id. */
-    WARG_COLLISION = 4
-};
-
+/* How two logs compare, and where. */
 struct warg_comparison {
     /* One of `enum warg_comparison_case`. */
     uint32_t is;
@@ -149,7 +150,7 @@ struct warg_comparison {
     size_t right;
 };
 
-/* Opening and closing */
+/* Opening and closing. */
 
 /* Begins a log of no records, of one of `enum warg_kind`. A log that was open is closed first.
  *   WARG_OUT_OF_MEMORY, WARG_BAD_ARGUMENT (no such kind): the log is as it was, open if it was open. */
@@ -158,7 +159,7 @@ uint32_t warg_open(struct warg_log *log, uint32_t kind);
 /* Closes a log and gives its memory back: it is none then. A log that is none stays so; closing twice is harmless. */
 void warg_close(struct warg_log *log);
 
-/* Appending */
+/* Appending, by what the caller says of a signature, or by what the library verifies itself. */
 
 /* Says what has to be verified before the record of an envelope can be appended. Changes nothing, but a log that has its records keeps a
  * copy of the envelope until the next append, which then need not read it again.
@@ -196,6 +197,8 @@ uint32_t warg_append(struct warg_log *log, const uint8_t *envelope, size_t envel
 uint32_t warg_append_signed(struct warg_log *log, const uint8_t *envelope, size_t envelope_len, uint8_t *text, size_t text_len,
                             size_t *used);
 
+/* Verifying a signature. */
+
 /* Whether a signature belongs to a message under a key, by the texts of the key and of the signature, as they stand in questions:
  * `ecdsa-p256:` and base64. WARG_OK if it does, WARG_REFUSED if it does not. No log is needed.
  *   WARG_BAD_ARGUMENT: the key's text can't be read; or it is one of `ecdsa-p256`, and the signature's can't be read.
@@ -203,7 +206,7 @@ uint32_t warg_append_signed(struct warg_log *log, const uint8_t *envelope, size_
 uint32_t warg_verify(const uint8_t *key, size_t key_len, const uint8_t *message, size_t message_len, const uint8_t *signature,
                      size_t signature_len);
 
-/* The records of a log */
+/* The records of a log. */
 
 /* The text of the id of the last record.
  *   WARG_NONE: there was no record yet. */
@@ -218,15 +221,16 @@ uint32_t warg_length(struct warg_log *log, size_t *length);
  * that no envelope has. Its record has the same id.
  *   WARG_NONE: the log has no record at this place.
  *   WARG_BAD_ARGUMENT: the log was resumed. */
-uint32_t warg_record(struct warg_log *log, size_t place, uint8_t *bytes, size_t bytes_len, size_t *used,
-                     struct warg_kept *kept);
+uint32_t warg_record(struct warg_log *log, size_t place, uint8_t *bytes, size_t bytes_len, size_t *used, struct warg_kept *kept);
+
+/* The id of an envelope's record. */
 
 /* The text of the id of an envelope's record, of one of `enum warg_kind`. No log is needed, and the record need not be lawful.
  *   WARG_NO_ENVELOPE: the error's text is in `text`.
  *   WARG_BAD_ARGUMENT: no such kind. */
 uint32_t warg_id(uint32_t kind, const uint8_t *envelope, size_t envelope_len, uint8_t *text, size_t text_len, size_t *used);
 
-/* The releases of a package log */
+/* The releases of a package log. */
 
 /* The release that is not yanked, meets the requirement (as ">=1.2, <2"), and has the greatest version.
  *   WARG_NONE: there is none.
@@ -247,7 +251,7 @@ uint32_t warg_release(struct warg_log *log, const uint8_t *version, size_t versi
 uint32_t warg_releases(struct warg_log *log, size_t place, uint8_t *text, size_t text_len, size_t *used,
                        struct warg_release *release);
 
-/* The namespaces of an operator log */
+/* The namespaces of an operator log. */
 
 /* What a namespace is. `is_imported` is 0 where this registry defines it, and `text` is empty; it is 1 where its packages are those of another
  * registry, and `text` is that one's name.
@@ -275,6 +279,8 @@ uint32_t warg_permissions(struct warg_log *log, const uint8_t *key_id, size_t ke
  *   WARG_BAD_ARGUMENT: the key id is no UTF-8. */
 uint32_t warg_key(struct warg_log *log, const uint8_t *key_id, size_t key_id_len, uint8_t *text, size_t text_len, size_t *used);
 
+/* By which entries keys came to hold permissions. */
+
 /* By which entries a key id came to hold a permission, from the log's first entry on. `links_len` is how many links there is room for, and
  * `used` how many there are; at WARG_TOO_SMALL, how many there have to be room for.
  *   WARG_NONE: the key id does not hold the permission.
@@ -282,13 +288,13 @@ uint32_t warg_key(struct warg_log *log, const uint8_t *key_id, size_t key_id_len
 uint32_t warg_chain(struct warg_log *log, const uint8_t *key_id, size_t key_id_len, const uint8_t *permission,
                     size_t permission_len, struct warg_link *links, size_t links_len, size_t *used);
 
-/* Two logs */
+/* Two logs. */
 
 /* Compares the records of two logs. They are two: one log may not be passed twice.
  *   WARG_BAD_ARGUMENT: one is of a package and one of operators, or one was resumed. */
 uint32_t warg_compare(struct warg_log *left, struct warg_log *right, struct warg_comparison *comparison);
 
-/* Saving and going on */
+/* Saving a state, and going on from one. */
 
 /* The state of the log as a text of JSON: all that further records are judged by, and that is looked up, but no records.
  *   WARG_NONE: a time of the state lies before 1970, which its text can't say. */
@@ -299,8 +305,8 @@ uint32_t warg_save(struct warg_log *log, uint8_t *text, size_t text_len, size_t 
  * records were there. Whether the text is what was saved is the caller's to keep.
  *   WARG_BAD_ARGUMENT: no such kind (`used` is 0), or the text is no saved state of this kind: the error's name is in `text`, one of
  *     NotJson, WrongType, Missing, BadText, TimeBeforeEpoch, TimeOutOfRange, Incoherent. The log is as it was. */
-uint32_t warg_resume(struct warg_log *log, uint32_t kind, const uint8_t *saved, size_t saved_len, uint8_t *text,
-                     size_t text_len, size_t *used);
+uint32_t warg_resume(struct warg_log *log, uint32_t kind, const uint8_t *saved, size_t saved_len, uint8_t *text, size_t text_len,
+                     size_t *used);
 
 /* What a registry proves of its log and its map. These are functions of their arguments alone. Roots are texts of hashes (`sha256:` and 64
  * digits of hex), ids are texts of ids, proofs are texts of base64.
@@ -329,8 +335,10 @@ uint32_t warg_verify_presence(const uint8_t *log_id, size_t log_id_len, const ui
 
 /* That the registry's map says nothing of a log.
  *   WARG_OK: no map of this root says anything of the log, or two strings collide. */
-uint32_t warg_verify_absence(const uint8_t *log_id, size_t log_id_len, const uint8_t *root, size_t root_len,
-                             const uint8_t *proof, size_t proof_len);
+uint32_t warg_verify_absence(const uint8_t *log_id, size_t log_id_len, const uint8_t *root, size_t root_len, const uint8_t *proof,
+                             size_t proof_len);
+
+/* What is wrong with the text of a proof. */
 
 /* The name of what is wrong with the text of a proof on one of `enum warg_tree`, so that a caller can say it: TooLong, BadBase64, BadLength
  * or EmptySibling.
@@ -338,7 +346,7 @@ uint32_t warg_verify_absence(const uint8_t *log_id, size_t log_id_len, const uin
  *   WARG_BAD_ARGUMENT: no such tree. */
 uint32_t warg_proof_fault(uint32_t tree, const uint8_t *proof, size_t proof_len, uint8_t *text, size_t text_len, size_t *used);
 
-/* The library */
+/* The library's version. */
 
 /* The library's version, as "1.2.3". */
 uint32_t warg_version(uint8_t *text, size_t text_len, size_t *used);

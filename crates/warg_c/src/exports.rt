@@ -1,4 +1,40 @@
-//! What is exported. Each call returns a status, and at any but 0 leaves its logs as they were.
+//! The logs of a package registry, checked by the proved library. docs/PROOFS.md says what is proved of each call.
+//!
+//! Link with `pkg-config --cflags --libs warg`, or with libwarg.a or libwarg.so of dist/.
+//!
+//!     struct warg_log log = {0};
+//!     uint32_t status = warg_open(&log, WARG_PACKAGE);
+//!     status = warg_append_signed(&log, envelope, envelope_len, text, sizeof text, &used);
+//!     warg_close(&log);
+//!
+//! The library verifies ECDSA P-256 itself; any other scheme is the caller's: `warg_ask` judges all of a record but its signature and
+//! says what has to be verified, and `warg_append` takes the caller's word for it, and the record with it.
+//!
+//!     struct warg_asked asked = {0};
+//!     status = warg_ask(&log, envelope, envelope_len, bytes, sizeof bytes, &used, &asked);
+//!     bool belongs = verify(bytes, &asked);
+//!     status = warg_append(&log, envelope, envelope_len, bytes, used, &asked, belongs, text, sizeof text, &used);
+//!
+//! What the caller owes in every call. The library can't see it, and nothing is promised where it does not hold:
+//!   - No pointer is null, also where it leads to no bytes (pass "" there).
+//!   - Each pointer leads to as many bytes, or links, as its length says, all of them initialised, fewer than 2^63.
+//!   - What a call writes to overlaps nothing else that is passed to it; so two logs of a call are two.
+//!   - A `bool` is 0 or 1.
+//!   - A `struct warg_log` is all 0 bytes, or as the last call left it. It is not copied to be used twice.
+//!   - A log serves one call at a time. It may go to another thread, ordered by a lock, a thread's start or join, or a
+//!     sequentially consistent atomic. Different logs may be used by different threads at once: there is no global state.
+//!
+//! What every call keeps. It returns a status. At any status but WARG_OK all logs stay as they were. Calls that only look also
+//! leave them so at WARG_OK. All texts are UTF-8, with no zero byte behind them.
+//!
+//! Calls that give bytes write them to the start of the caller's buffer, and to `used` how many they are:
+//!   - at WARG_OK, how many bytes were written;
+//!   - at WARG_TOO_SMALL, how many there have to be room for; the buffer stays as it was;
+//!   - at WARG_NO_ENVELOPE and WARG_REFUSED, the length of the error's text, which stands in the buffer: the error's name, a colon,
+//!     a space, and a sentence. At WARG_BAD_ARGUMENT of `warg_resume`, that of the error's name alone. 0 where the buffer had no room
+//!     for it, or there was no memory for a sentence;
+//!   - at any other status 0.
+//! What else a call gives (`asked`, `kept`, `release`, `is_imported`) is written at WARG_OK and at WARG_TOO_SMALL.
 
 mod appending;
 mod chains;

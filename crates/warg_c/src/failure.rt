@@ -7,21 +7,22 @@ use std::alloc::AllocError;
 /// Why a call was not done.
 #[derive(Clone, Copy, Debug, PartialEq, Eq)]
 pub enum Failure {
-    /// The log is none.
+    /// The log is none: it was not opened, or it was closed.
     NotOpen,
-    /// There was no memory.
+    /// There was no memory. The same call may be made again.
     OutOfMemory,
-    /// The caller's buffer is too small.
+    /// The caller's buffer is too small. `used` says how much is needed.
     TooSmall,
-    /// The bytes are no envelope.
+    /// The bytes are no envelope of a record of the log's kind.
     NoEnvelope,
-    /// The record is unlawful, or the proof does not hold.
+    /// The record is unlawful; or the proof does not hold; or the signature does not belong.
     Refused,
     /// There is no such thing.
     Absent,
-    /// An argument is not of its form, or the log has no such call.
+    /// An argument is not of its form, or the log is none that has this call: it is of the other kind, or it was resumed and
+    /// has no records.
     BadArgument,
-    /// The key's algorithm is none that is verified here.
+    /// The key's algorithm is none that the library verifies.
     UnknownAlgorithm,
 }
 

@@ -7,7 +7,7 @@ use crate::owned::Owned;
 use std::alloc::Global;
 use std::mem::replace;
 
-/// A log, or none. It is none where all of its bytes are 0.
+/// A log, or none: all bytes 0 is none.
 #[repr(C)]
 pub struct WargLog {
     pub(crate) owned: Owned,

@@ -10,12 +10,12 @@ use std::alloc::{AllocError, Global};
 use warg_operator_log::LogState as OperatorState;
 use warg_package_log::LogState as PackageState;
 
-/// A kind of log.
+/// The kinds of logs.
 #[derive(Clone, Copy, Debug, PartialEq, Eq)]
 pub enum Kind {
-    /// The log of a package.
+    /// The log of a package: its releases.
     Package,
-    /// The log of a registry's operators.
+    /// The log of a registry's operators: its namespaces.
     Operator,
 }
 

@@ -13,12 +13,12 @@ use warg_records::RecordId;
 use warg_registry::{LogId, LogLeaf};
 use warg_transparency::{LogProof, MapProof, ProofTextError};
 
-/// A tree of a registry, on which a proof is.
+/// The trees of a registry, on which proofs are.
 #[derive(Clone, Copy, Debug, PartialEq, Eq)]
 pub enum Tree {
-    /// The log of all records.
+    /// The log of all records: proofs of inclusion and of consistency.
     Log,
-    /// The map of the heads of logs.
+    /// The map of the heads of logs: proofs of presence and of absence.
     Map,
 }
 

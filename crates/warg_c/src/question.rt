@@ -14,15 +14,12 @@ use warg_crypto::signing::{KeyParseError, PublicKey, Signature, SignatureParseEr
 use warg_p256::ALGORITHM;
 use warg_validator::host::{Question, Told};
 
-/// How many bytes are the key's text, the message and the signature's text.
+/// How many bytes of a question are the key's text, the message, and the signature's text. They stand one behind the other.
 #[repr(C)]
 #[derive(Clone, Copy)]
 pub struct Asked {
-    /// The length of the key's text.
     pub key_len: usize,
-    /// The length of the message.
     pub message_len: usize,
-    /// The length of the signature's text.
     pub signature_len: usize,
 }
 

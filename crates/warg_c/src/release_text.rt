@@ -6,27 +6,22 @@ ghost use Rattle.warg_c.specs.ReleaseAnswers.{IsYank, Shows, state_text};
 use std::alloc::{AllocError, Global};
 use warg_package_log::{Release, ReleaseState};
 
-/// The lengths of a release's texts, and what else it says.
+/// A release. Its texts stand one behind the other: the version, the id of the record that released it, the id of the key that signed that
+/// record, and then the content's digest; or, if it was yanked, the id of the key that signed the yank. Times are those of the records, in
+/// seconds and nanoseconds since 1970; those of the yank are 0 where there is none.
 #[repr(C)]
 #[derive(Clone, Copy)]
 pub struct ShownRelease {
-    /// The length of the version.
     pub version_len: usize,
-    /// The length of the record's id.
     pub record_id_len: usize,
-    /// The length of the id of the key that released it.
     pub key_id_len: usize,
-    /// The length of the content's digest, or of the id of the key that yanked it.
+    /// The length of the digest's text, or of the id of the key that yanked.
     pub state_len: usize,
-    /// The seconds of the release.
     pub seconds: i64,
-    /// The seconds of the yank.
     pub yanked_seconds: i64,
-    /// The nanoseconds of the release.
     pub nanos: u32,
-    /// The nanoseconds of the yank.
     pub yanked_nanos: u32,
-    /// 1 if it was yanked, otherwise 0.
+    /// 1 if the release was yanked, otherwise 0.
     pub is_yanked: u32,
 }
 

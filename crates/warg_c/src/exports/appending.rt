@@ -1,4 +1,4 @@
-//! Asking what has to be verified, and appending by what the caller says, or by what the library verifies itself.
+//! Appending, by what the caller says of a signature, or by what the library verifies itself.
 ghost use Rattle.std.specs.Prelude.{◌≡◌, ◌≢◌, ◌≤◌, IfOk, IfErr, OnOk, OnErr, length, take};
 ghost use Rattle.warg_validator.specs.Telling.{Holds};
 ghost use Rattle.warg_p256.specs.Scheme.{p256_belongs};
@@ -43,7 +43,14 @@ fn ask_held(
     }
 }
 
-/// What has to be verified before the record of an envelope can be appended.
+/// Says what has to be verified before the record of an envelope can be appended. Changes nothing, but a log that has its records keeps a
+/// copy of the envelope until the next append, which then need not read it again.
+///   WARG_OK: the record is lawful exactly if the signature that stands in the question belongs to the message under the key. The question
+///     is in `bytes`: the key's text, the message, the signature's text; `used` and `asked` say how much of it is what.
+///   WARG_TOO_SMALL: as WARG_OK, but there was no room for the question. `asked` is written too.
+///   WARG_NO_ENVELOPE: the bytes are no envelope. The error's text is in `bytes`.
+///   WARG_REFUSED: the record is unlawful, whatever its signature. The error's text is in `bytes`; an envelope's length and 512 more are
+///     room enough for it where key ids are short.
 #[unsafe(no_mangle)]
 pub extern "C" fn warg_ask(
     alloc: Global,
@@ -123,7 +130,15 @@ fn append_told(
     append_held(alloc, held, envelope, &answer, text, used)
 }
 
-/// Appends the record of an envelope. The question is the bytes of `warg_ask`, with what the caller found.
+/// Appends the record of an envelope, by the caller's word for its signature. `question` and `asked` are what `warg_ask` gave for it, and
+/// `belongs` says whether the signature belongs to the message under the key.
+///   WARG_OK: the record is the log's last one now. Where the caller's yeses were right, a log that was opened has at any time just the
+///     records that were taken, in order, each lawful after those before it, and a resumed one goes on by just these.
+///   WARG_NO_ENVELOPE: as of `warg_ask`. The error's text is in `text`.
+///   WARG_REFUSED: the record is unlawful after those of the log; the error's text is in `text`. So is every record whose `belongs` is
+///     false, and one whose question is not the one that is passed (also where another record was appended in between, if that changes
+///     the key): they are refused as wrong signatures.
+///   WARG_BAD_ARGUMENT: the bytes are no question: the lengths reach beyond its end, or the key or the signature can't be read.
 #[unsafe(no_mangle)]
 pub extern "C" fn warg_append(
     alloc: Global,
@@ -187,7 +202,15 @@ fn append_signed_held(
     }
 }
 
-/// Appends the record of an envelope if its signature belongs, which the library verifies itself: ECDSA P-256.
+/// Appends the record of an envelope, whose signature the library verifies itself: ECDSA on the curve P-256 with SHA-256, which keys and
+/// signatures name `ecdsa-p256`. A key is a point of SEC 1, compressed or not, and a signature is the DER of RFC 3279. No question is asked
+/// before; where one was, the envelope need not be read again.
+///   WARG_OK: the record is the log's last one now, and lawful, and its signature belongs to it under the key of its signer. A log that was
+///     opened and had this call alone has at any time just the records that were taken, in order, each lawful after those before it.
+///   WARG_NO_ENVELOPE: as of `warg_ask`. The error's text is in `text`.
+///   WARG_REFUSED: the record is unlawful after those of the log, or its signature does not belong. The error's text is in `text`.
+///   WARG_UNKNOWN_ALGORITHM: the record is lawful exactly if its signature belongs, and its key is of another algorithm. The log is as it
+///     was: `warg_ask` says what has to be verified, and `warg_append` appends by what the caller found.
 #[unsafe(no_mangle)]
 pub extern "C" fn warg_append_signed(
     alloc: Global,

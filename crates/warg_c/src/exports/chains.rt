@@ -17,13 +17,11 @@ use warg_audited_log::Link as LogLink;
 use warg_permissions::LogPermission;
 use warg_validator::Validator;
 
-/// The place of an entry.
+/// The place of an entry, counted from 0: of its record in the log, and of the entry in the record.
 #[repr(C)]
 #[derive(Clone, Copy)]
 pub struct Link {
-    /// The place of the record in the log.
     pub record_index: usize,
-    /// The place of the entry in its record.
     pub entry_index: usize,
 }
 
@@ -93,7 +91,10 @@ fn chain_of(
     }
 }
 
-/// By which entries a key id came to hold a permission.
+/// By which entries a key id came to hold a permission, from the log's first entry on. `links_len` is how many links there is room for, and
+/// `used` how many there are; at WARG_TOO_SMALL, how many there have to be room for.
+///   WARG_NONE: the key id does not hold the permission.
+///   WARG_BAD_ARGUMENT: as of `warg_holds`, or the log was resumed.
 #[unsafe(no_mangle)]
 pub extern "C" fn warg_chain(
     alloc: Global,

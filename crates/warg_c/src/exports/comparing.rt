@@ -1,4 +1,4 @@
-//! Comparing two logs.
+//! Two logs.
 ghost use Rattle.std.specs.Prelude.{◌≡◌, ◌⊎◌, None, Some, IfOk, IfErr};
 ghost use Rattle.warg_c.specs.ComparisonAnswers.{ComparisonIs, compare_tells, compare_answers, compare_bad, shown_of};
 ghost use Rattle.warg_c.specs.Logs.{whole_of};
@@ -14,26 +14,31 @@ use std::alloc::Global;
 use warg_audited_log::Comparison as LogComparison;
 use warg_validator::Validator;
 
-/// How two logs compare.
+/// How two logs compare, and where.
 #[repr(C)]
 #[derive(Clone, Copy)]
 pub struct Comparison {
-    /// 0 same, 1 the left one is a prefix, 2 the right one is, 3 they fork, 4 their heads collide.
+    /// One of `enum warg_comparison_case`.
     pub is: u32,
-    /// The place in the left log.
     pub left: usize,
-    /// The place in the right log.
     pub right: usize,
 }
 
+// How two logs compare, by the contents of their records.
 fn shown(comparison: LogComparison) -> Comparison
     ensures { result ≡ shown_of comparison }
 {
     let (is, left, right) = match comparison {
+        // The contents are equal, record for record.
         LogComparison::Same => (0, 0, 0),
+        // The right log begins with all of the left one, and goes on at `left`, which is `right`.
         LogComparison::LeftIsPrefix { at } => (1, at, at),
+        // The left log begins with all of the right one, and goes on at `left`, which is `right`.
         LogComparison::RightIsPrefix { at } => (2, at, at),
+        // The logs fork: `left`, which is `right`, is the first place where both have a record and the contents differ.
         LogComparison::Fork { at } => (3, at, at),
+        // The heads are one and the contents are not: the record at the place `left` of the left log and that at `right` of the right one
+        // differ, and have one id.
         LogComparison::Collision { left, right } => (4, left, right),
     };
     Comparison { is, left, right }
@@ -79,7 +84,8 @@ fn compare_with(alloc: Global, left: &Held, right: &mut WargLog, comparison: &mu
     finish_value(outcome, comparison)
 }
 
-/// Compares the records of two logs.
+/// Compares the records of two logs. They are two: one log may not be passed twice.
+///   WARG_BAD_ARGUMENT: one is of a package and one of operators, or one was resumed.
 #[unsafe(no_mangle)]
 pub extern "C" fn warg_compare(
     alloc: Global,

@@ -1,4 +1,5 @@
-//! Keys, and what they may do.
+//! Keys, and what they may do. A key id is the fingerprint of a key, and permissions are `release` and `yank` of package logs, and
+//! `commit`, `defineNamespace` and `importNamespace` of operator logs.
 ghost use Rattle.std.specs.Prelude.{◌≡◌, ◌≢◌, ◌≤◌, ◌⊎◌, None, Some, true, false, Bool, IfOk, IfErr, OnOk, take, string_bytes, length};
 ghost use Rattle.std.specs.Option.{option_copied};
 ghost use Rattle.std.specs.Str.{IsUtf8};
@@ -60,7 +61,8 @@ fn holds(alloc: Global, held: &Held, key_id: &[u8], permission: &[u8]) -> Result
     }
 }
 
-/// Whether a key id holds a permission.
+/// Whether a key id holds a permission: WARG_OK if it does, WARG_NONE if it does not.
+///   WARG_BAD_ARGUMENT: the key id is no UTF-8, or logs of this kind have no such permission.
 #[unsafe(no_mangle)]
 pub extern "C" fn warg_holds(
     alloc: Global,
@@ -174,7 +176,9 @@ fn permissions_of(alloc: Global, held: &Held, key_id: &[u8]) -> Result<Vec<u8>, 
     }
 }
 
-/// The permissions of a key id, with a space between two.
+/// The permissions of a key id, with a space between two: no text where it holds none.
+///   WARG_NONE: the log does not know the key id.
+///   WARG_BAD_ARGUMENT: the key id is no UTF-8.
 #[unsafe(no_mangle)]
 pub extern "C" fn warg_permissions(
     alloc: Global,
@@ -227,6 +231,8 @@ fn key_text(alloc: Global, held: &Held, key_id: &[u8]) -> Result<Vec<u8>, Failur
 }
 
 /// The text of the key of a key id.
+///   WARG_NONE: the log does not know the key.
+///   WARG_BAD_ARGUMENT: the key id is no UTF-8.
 #[unsafe(no_mangle)]
 pub extern "C" fn warg_key(
     alloc: Global,

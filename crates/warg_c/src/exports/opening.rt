@@ -24,7 +24,8 @@ fn opened(alloc: Global, kind: u32) -> Result<Box<Held>, Failure>
     }
 }
 
-/// Begins a log of no records. One that was open is closed.
+/// Begins a log of no records, of one of `enum warg_kind`. A log that was open is closed first.
+///   WARG_OUT_OF_MEMORY, WARG_BAD_ARGUMENT (no such kind): the log is as it was, open if it was open.
 #[unsafe(no_mangle)]
 pub extern "C" fn warg_open(alloc: Global, log: &mut WargLog, kind: u32) -> u32
     ensures answer { IsStatusOf result
@@ -41,7 +42,7 @@ pub extern "C" fn warg_open(alloc: Global, log: &mut WargLog, kind: u32) -> u32
     }
 }
 
-/// Closes a log. One that is none stays none.
+/// Closes a log and gives its memory back: it is none then. A log that is none stays so; closing twice is harmless.
 #[unsafe(no_mangle)]
 pub extern "C" fn warg_close(alloc: Global, log: &mut WargLog)
     ensures { log.new.owned.kept ≡ None }

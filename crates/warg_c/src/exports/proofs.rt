@@ -1,4 +1,11 @@
-//! What a registry proves of its log and its map.
+//! What a registry proves of its log and its map. These are functions of their arguments alone. Roots are texts of hashes (`sha256:` and 64
+//! digits of hex), ids are texts of ids, proofs are texts of base64.
+//!   WARG_OK: the proof holds. What that is worth is said of each call: there, two strings collide if they differ and have one hash, and are
+//!     hashed at one place on two ways to the root, the proof's and the log's or the map's own. No call knows whose root it is, nor whether
+//!     a log of this root has this length: so a log's length and root have to be signed together, and the map's root with them.
+//!   WARG_REFUSED: it does not hold.
+//!   WARG_BAD_ARGUMENT: a text is not of its form. `warg_proof_fault` says what is wrong with a proof's.
+//!   WARG_OUT_OF_MEMORY: nothing is said.
 ghost use Rattle.std.specs.Prelude.{OnOk, IfErr};
 ghost use Rattle.warg_c.specs.ProofAnswers.{ShowsConsistency, ShowsInclusion, IsAbsence, IsConsistency, IsInclusion, IsNoAbsence, IsNoConsistency, IsNoInclusion, IsNoPresence, IsPresence, ShowsAbsence, ShowsNoConsistency, ShowsNoInclusion, ShowsNoAbsence, ShowsNoPresence, ShowsPresence, ProofFails};
 ghost use Rattle.warg_c.specs.Statuses.{IsStatusOf};
@@ -41,7 +48,8 @@ fn inclusion(
     }
 }
 
-/// Whether the leaf of a log's record stands at the place of the log of that length and root.
+/// That the leaf of a log's record stands at a place of the registry's log, which has `length` leaves and this root.
+///   WARG_OK: every log of this length and root has the leaf at this place, or two strings collide.
 #[unsafe(no_mangle)]
 pub extern "C" fn warg_verify_inclusion(
     alloc: Global,
@@ -101,7 +109,8 @@ fn consistency(
     }
 }
 
-/// Whether the log of the new length and root begins with that of the old ones.
+/// That the registry's log of `new_length` leaves begins with the one of `old_length` leaves.
+///   WARG_OK: every log of the new length and root begins with one of the old length and root, or two strings collide.
 #[unsafe(no_mangle)]
 pub extern "C" fn warg_verify_consistency(
     alloc: Global,
@@ -146,7 +155,8 @@ fn presence(
     }
 }
 
-/// Whether the map of that root says that the record is the last of the log.
+/// That the registry's map says that a log's last record is this one.
+///   WARG_OK: every map of this root says so, or two strings collide.
 #[unsafe(no_mangle)]
 pub extern "C" fn warg_verify_presence(
     alloc: Global,
@@ -178,7 +188,8 @@ fn absence(alloc: Global, log_id: &[u8], root: &[u8], proof: &[u8]) -> Result<()
     }
 }
 
-/// Whether the map of that root says nothing of the log.
+/// That the registry's map says nothing of a log.
+///   WARG_OK: no map of this root says anything of the log, or two strings collide.
 #[unsafe(no_mangle)]
 pub extern "C" fn warg_verify_absence(
     alloc: Global,

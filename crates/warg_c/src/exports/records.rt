@@ -1,4 +1,4 @@
-//! The records of a log, and their ids.
+//! The records of a log.
 ghost use Rattle.std.specs.Prelude.{◌≡◌, ◌≢◌, ◌≤◌, ◌⊎◌, ◌++◌, None, Some, IfOk, IfErr, OnOk, length, take};
 ghost use Rattle.std.specs.Option.{option_copied};
 ghost use Rattle.warg_c.specs.Lookups.{IdText, LengthIs, IsBeyond, IsRecord, IsRecordAt, head_of, length_tells, has_no_records, record_tells, record_lacks};
@@ -16,13 +16,11 @@ use warg_envelope::ProtoEnvelope;
 use warg_records::RecordId;
 use warg_validator::Validator;
 
-/// How many bytes of a kept record are its envelope and the text of its id.
+/// How many bytes of a kept record are its envelope, and the text of its id behind it.
 #[repr(C)]
 #[derive(Clone, Copy)]
 pub struct KeptLengths {
-    /// The length of the envelope.
     pub envelope_len: usize,
-    /// The length of the id's text.
     pub id_len: usize,
 }
 
@@ -58,6 +56,7 @@ fn head_text(alloc: Global, held: &Held) -> Result<Vec<u8>, Failure>
 }
 
 /// The text of the id of the last record.
+///   WARG_NONE: there was no record yet.
 #[unsafe(no_mangle)]
 pub extern "C" fn warg_head(
     alloc: Global,
@@ -103,6 +102,7 @@ fn length_of(held: &Held) -> Result<usize, Failure>
 }
 
 /// How many records the log has.
+///   WARG_BAD_ARGUMENT: the log was resumed.
 #[unsafe(no_mangle)]
 pub extern "C" fn warg_length(alloc: Global, log: &mut WargLog, length: &mut usize) -> u32
     ensures answer { Answers result log.old.owned.kept (λ held. length_tells held length.new)
@@ -166,7 +166,11 @@ fn record_in(alloc: Global, held: &Held, place: usize) -> Result<(Vec<u8>, KeptL
     }
 }
 
-/// The record at a place: its envelope, and the text of its id.
+/// The record at a place, counted from 0: its envelope, and the text of its id behind it. The envelope is written anew, so it may differ from
+/// the bytes that were appended: it has the contents, the key id and the signature that came, and nothing else that stood there, such as fields
+/// that no envelope has. Its record has the same id.
+///   WARG_NONE: the log has no record at this place.
+///   WARG_BAD_ARGUMENT: the log was resumed.
 #[unsafe(no_mangle)]
 pub extern "C" fn warg_record(
     alloc: Global,

@@ -50,7 +50,8 @@ fn saved_text(alloc: Global, held: &Held) -> Result<Vec<u8>, Failure>
     }
 }
 
-/// The state of the log as a text of JSON.
+/// The state of the log as a text of JSON: all that further records are judged by, and that is looked up, but no records.
+///   WARG_NONE: a time of the state lies before 1970, which its text can't say.
 #[unsafe(no_mangle)]
 pub extern "C" fn warg_save(
     alloc: Global,
@@ -159,7 +160,11 @@ fn resumed(
     }
 }
 
-/// Goes on from a saved state. A log that was open is closed.
+/// Goes on from a saved state of one of `enum warg_kind`. A log that was open is closed first. Of a resumed log nothing is known of its
+/// records, those that are appended to it included: `warg_length`, `warg_record`, `warg_chain` and `warg_compare` are not for it. All else is as if its
+/// records were there. Whether the text is what was saved is the caller's to keep.
+///   WARG_BAD_ARGUMENT: no such kind (`used` is 0), or the text is no saved state of this kind: the error's name is in `text`, one of
+///     NotJson, WrongType, Missing, BadText, TimeBeforeEpoch, TimeOutOfRange, Incoherent. The log is as it was.
 #[unsafe(no_mangle)]
 pub extern "C" fn warg_resume(
     alloc: Global,

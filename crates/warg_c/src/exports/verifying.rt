@@ -25,7 +25,10 @@ fn verify(alloc: Global, key: &[u8], message: &[u8], signature: &[u8]) -> Result
     }
 }
 
-/// Whether the signature of a text belongs to the message under the key of a text: ECDSA P-256.
+/// Whether a signature belongs to a message under a key, by the texts of the key and of the signature, as they stand in questions:
+/// `ecdsa-p256:` and base64. WARG_OK if it does, WARG_REFUSED if it does not. No log is needed.
+///   WARG_BAD_ARGUMENT: the key's text can't be read; or it is one of `ecdsa-p256`, and the signature's can't be read.
+///   WARG_UNKNOWN_ALGORITHM: the key's algorithm is not `ecdsa-p256`. The signature's text was not looked at.
 #[unsafe(no_mangle)]
 pub extern "C" fn warg_verify(alloc: Global, key: &[u8], message: &[u8], signature: &[u8]) -> u32
     ensures { IsStatusOf result (IsJudged key.now message.now signature.now true)

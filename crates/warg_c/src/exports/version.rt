@@ -9,7 +9,7 @@ use crate::given::give;
 // tools/release writes the version anew.
 const VERSION: &str = "0.1.0";
 
-/// The library's version.
+/// The library's version, as "1.2.3".
 #[unsafe(no_mangle)]
 pub extern "C" fn warg_version(text: &mut [u8], used: &mut usize) -> u32
     ensures answer { IsStatusOf result (take used.new text.new ≡ codes "0.1.0")
