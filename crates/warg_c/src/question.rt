@@ -1,5 +1,6 @@
 //! A question and its answer as bytes: the key's text, the message, the signature's text.
-ghost use Rattle.std.specs.Prelude.{◌≡◌, ◌⊎◌, ◌↔◌, ◌+◌, ◌<◌, ◌≤◌, ◌++◌, IfOk, IfErr, IsTrue, MatchOption, Ok, length, take, drop, string_bytes};
+ghost use Rattle.std.specs.Prelude.{◌≡◌, ◌⊎◌, ◌↔◌, ◌+◌, ◌<◌, ◌≤◌, ◌++◌, IfOk, IfErr, IsTrue, MatchOption, Ok};
+ghost use Rattle.std.specs.Prelude.{length, take, drop, string_bytes};
 ghost use Rattle.std.specs.Str.{IsUtf8};
 ghost use Rattle.warg_crypto.specs.Keys.{public_key_of, signature_of};
 ghost use Rattle.warg_crypto.specs.NamedBytes.{NamedBytes, named_bytes_text};

@@ -3,7 +3,8 @@ ghost use Rattle.std.specs.Prelude.{◌≡◌, ◌≢◌, ◌≤◌, IfOk, IfErr
 ghost use Rattle.warg_validator.specs.Telling.{Holds};
 ghost use Rattle.warg_p256.specs.Scheme.{p256_belongs};
 ghost use Rattle.warg_records.specs.Kinds.{SignatureRelation, AcceptsNoMore};
-ghost use Rattle.warg_c.specs.Held.{ask_tells, ask_fails, append_does, append_moves, append_fails, append_refuses, may_come, signed_fails, signed_moves};
+ghost use Rattle.warg_c.specs.Held.{ask_tells, ask_fails, append_does, append_moves, append_fails, append_refuses};
+ghost use Rattle.warg_c.specs.Held.{may_come, signed_fails, signed_moves};
 ghost use Rattle.warg_c.specs.Questions.{HoldsOf};
 ghost use Rattle.warg_c.specs.Runs.{IsCall, ByCaller, ByLibrary};
 ghost use Rattle.warg_c.specs.Statuses.{Answers};

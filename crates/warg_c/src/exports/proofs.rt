@@ -7,7 +7,10 @@
 //!   WARG_BAD_ARGUMENT: a text is not of its form. `warg_proof_fault` says what is wrong with a proof's.
 //!   WARG_OUT_OF_MEMORY: nothing is said.
 ghost use Rattle.std.specs.Prelude.{OnOk, IfErr};
-ghost use Rattle.warg_c.specs.ProofAnswers.{ShowsConsistency, ShowsInclusion, IsAbsence, IsConsistency, IsInclusion, IsNoAbsence, IsNoConsistency, IsNoInclusion, IsNoPresence, IsPresence, ShowsAbsence, ShowsNoConsistency, ShowsNoInclusion, ShowsNoAbsence, ShowsNoPresence, ShowsPresence, ProofFails};
+ghost use Rattle.warg_c.specs.ProofAnswers.{ShowsConsistency, ShowsInclusion, IsAbsence, IsConsistency, IsInclusion};
+ghost use Rattle.warg_c.specs.ProofAnswers.{IsNoAbsence, IsNoConsistency, IsNoInclusion, IsNoPresence, IsPresence};
+ghost use Rattle.warg_c.specs.ProofAnswers.{ShowsAbsence, ShowsNoConsistency, ShowsNoInclusion, ShowsNoAbsence};
+ghost use Rattle.warg_c.specs.ProofAnswers.{ShowsNoPresence, ShowsPresence, ProofFails};
 ghost use Rattle.warg_c.specs.Statuses.{IsStatusOf};
 
 use crate::failure::{Failure, status};

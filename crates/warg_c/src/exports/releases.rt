@@ -5,7 +5,9 @@ ghost use Rattle.warg_package_log.specs.Releases.{ReleaseView};
 ghost use Rattle.semver.specs.Identifiers.{comparator_view, parts_of};
 ghost use Rattle.semver.specs.Parse.{memory_error, req_of, version_parts};
 ghost use Rattle.warg_package_log.specs.ReleaseMap.{release_view};
-ghost use Rattle.warg_c.specs.ReleaseAnswers.{IsAt, IsLatest, IsNoRequirement, IsNoVersion, IsReleaseOf, Shows, latest_bad, latest_lacks, latest_tells, place_bad, place_lacks, place_tells, release_bad, release_lacks, release_tells};
+ghost use Rattle.warg_c.specs.ReleaseAnswers.{IsAt, IsLatest, IsNoRequirement, IsNoVersion, IsReleaseOf, Shows};
+ghost use Rattle.warg_c.specs.ReleaseAnswers.{latest_bad, latest_lacks, latest_tells, place_bad, place_lacks};
+ghost use Rattle.warg_c.specs.ReleaseAnswers.{place_tells, release_bad, release_lacks, release_tells};
 ghost use Rattle.warg_c.specs.Statuses.{Answers};
 ghost use Rattle.warg_c.specs.Texts.{FailsAs, TextFails};
 

@@ -7,7 +7,8 @@ ghost use Rattle.warg_saved.specs.Texts.{text_of};
 ghost use Rattle.warg_saved.specs.declared.error.JsonTextError.TheVariants as json;
 ghost use Rattle.warg_c.specs.declared.failure.Failure.TheVariants.{OutOfMemory, BadArgument};
 ghost use Rattle.warg_c.specs.Held.{IsNoKind, IsOfKind};
-ghost use Rattle.warg_c.specs.Saved.{IsWritten, SaysNoState, fault_name, value_name, reads_back, save_tells, save_lacks, saved_text, resume_gives, resume_gives_number, is_no_saved};
+ghost use Rattle.warg_c.specs.Saved.{IsWritten, SaysNoState, fault_name, value_name, reads_back, save_tells};
+ghost use Rattle.warg_c.specs.Saved.{save_lacks, saved_text, resume_gives, resume_gives_number, is_no_saved};
 ghost use Rattle.warg_c.specs.Statuses.{IsStatusOf, Answers};
 ghost use Rattle.warg_c.specs.Texts.{CallFails, FailsAs, IsNameText, TextFails};
 
