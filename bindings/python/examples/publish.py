@@ -5,8 +5,9 @@ They are signed by new keys of P-256, and checked before they are printed.
 
 import sys
 import time
+from collections.abc import Iterator
 
-from weoldrin import Kind, PackageLog, p256, records
+from weoldrin import Kind, PackageLog, p256, print_lines, records
 
 
 def publish(log: PackageLog, signer: p256.SigningKey, entries: list[bytes]) -> bytes:
@@ -17,16 +18,16 @@ def publish(log: PackageLog, signer: p256.SigningKey, entries: list[bytes]) -> b
     return envelope
 
 
-def main(count: int) -> None:
-    """Alice begins a log and lets bob release; bob then releases a version a record."""
+def published(count: int) -> Iterator[bytes]:
+    """The envelopes of a new log: alice begins it and lets bob release; bob then releases a version a record."""
     alice, bob = p256.SigningKey.generate(), p256.SigningKey.generate()
     with PackageLog() as log:
         beginning = [records.init(alice.public_key), records.grant(Kind.PACKAGE, bob.public_key, ["release"])]
-        print(publish(log, alice, beginning).hex())
+        yield publish(log, alice, beginning)
         for minor in range(1, count):
             content = records.sha256_text(f"content {minor}".encode())
-            print(publish(log, bob, [records.release(f"1.{minor}.0", content)]).hex())
+            yield publish(log, bob, [records.release(f"1.{minor}.0", content)])
 
 
 if __name__ == "__main__":
-    main(int(sys.argv[1]))
+    print_lines(it.hex() for it in published(int(sys.argv[1])))

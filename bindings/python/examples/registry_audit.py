@@ -6,7 +6,11 @@
     python3 registry_audit.py FOLDER --dask local        by two workers on this machine
 
 FOLDER has a file NAME.hex for each package: its envelopes, a line each in hex. Beside it NAME.hex.state keeps the log's
-state. A line is printed for each package that is not accepted, and at the end how many are.
+state, and how much of the file was read, with its digest: a package that was rolled back, written anew, or removed is
+told by that word, and does not keep the others from being audited. A line is printed for each package that is not
+accepted, and at the end how many are.
+
+Status: 0 all are accepted, 1 one is not or there is none, 2 wrong words, 3 what was found could not be written.
 """
 
 import argparse
@@ -18,15 +22,15 @@ import time
 from collections.abc import Iterator
 from concurrent.futures import Executor, ThreadPoolExecutor
 
-from weoldrin import Kind, NewRecords, audit_new, processes
+from weoldrin import Kind, NewRecords, audit_new, print_lines, processes
 
 # So many files are one task, so that handing out takes less time than auditing.
 FILES = 100
 
 
-def audit_files(paths: list[str]) -> list[NewRecords]:
+def audit_files(paths: list[str], allow_empty: bool) -> list[NewRecords]:
     """Audits some packages."""
-    return [audit_new(it, Kind.PACKAGE) for it in paths]
+    return [audit_new(it, Kind.PACKAGE, allow_empty=allow_empty) for it in paths]
 
 
 @contextlib.contextmanager
@@ -35,11 +39,11 @@ def dask_executor(scheduler: str) -> Iterator[Executor]:
     from distributed import Client, LocalCluster
 
     if scheduler == "local":
-        cluster = LocalCluster(n_workers=2, threads_per_worker=1, dashboard_address=None)
-        with cluster, Client(cluster) as client:
+        two = {"n_workers": 2, "threads_per_worker": 1, "dashboard_address": None}
+        with LocalCluster(**two) as cluster, Client(cluster) as client:  # type: ignore[no-untyped-call]
             yield client.get_executor()
     else:
-        with Client(scheduler) as client:
+        with Client(scheduler) as client:  # type: ignore[no-untyped-call]
             yield client.get_executor()
 
 
@@ -50,27 +54,51 @@ def executor_of(words: argparse.Namespace) -> contextlib.AbstractContextManager[
     return ThreadPoolExecutor(words.workers) if words.threads else processes(words.workers)
 
 
-def main() -> int:
-    """Runs the command."""
+def folder_of(word: str) -> pathlib.Path:
+    """A folder, by the word that names it."""
+    folder = pathlib.Path(word).absolute()
+    if not folder.is_dir():
+        raise argparse.ArgumentTypeError(f"{word!r} is no folder")
+    return folder
+
+
+def packages_in(folder: pathlib.Path) -> list[str]:
+    """The files of the packages: those that are there, and those whose state alone is left."""
+    states = (str(it).removesuffix(".state") for it in folder.glob("*.hex.state"))
+    return sorted({*map(str, folder.glob("*.hex")), *states})
+
+
+def parsed() -> argparse.Namespace:
+    """The words of the command."""
     parser = argparse.ArgumentParser(description=__doc__, formatter_class=argparse.RawDescriptionHelpFormatter)
-    parser.add_argument("folder", type=pathlib.Path)
+    parser.add_argument("folder", type=folder_of)
     parser.add_argument("--workers", type=int, default=os.cpu_count())
     parser.add_argument("--threads", action="store_true")
     parser.add_argument("--dask", metavar="SCHEDULER")
-    words = parser.parse_args()
-    paths = sorted(str(it) for it in words.folder.absolute().glob("*.hex"))
+    parser.add_argument("--allow-empty", action="store_true", help="take packages of no records, and a folder of none")
+    return parser.parse_args()
+
+
+def main() -> int:
+    """Runs the command."""
+    words = parsed()
+    paths, allowed = packages_in(words.folder), words.allow_empty
     tasks = [paths[at : at + FILES] for at in range(0, len(paths), FILES)]
     with executor_of(words) as executor:
         start = time.perf_counter()
-        audited = [it for part in executor.map(audit_files, tasks) for it in part]
+        parts = executor.map(audit_files, tasks, [allowed] * len(tasks))
+        audited = [it for part in parts for it in part]
         seconds = time.perf_counter() - start
-    refused = [it for it in audited if it.fault is not None]
-    for it in refused:
-        print(f"{it.path}: {it.fault}")
+    refused = [it for it in audited if not it.accepted]
     new = sum(it.records for it in audited)
-    print(f"{len(audited) - len(refused)} of {len(audited)} packages accepted, {new} new records")
+    last = f"{len(audited) - len(refused)} of {len(audited)} packages accepted, {new} new records"
+    try:
+        print_lines([*map(str, refused), last])
+    except OSError as error:
+        print(f"registry_audit.py: standard output could not be written: {error.strerror}", file=sys.stderr)
+        return 3
     print(f"{seconds:.2f} s", file=sys.stderr)
-    return 1 if refused else 0
+    return 1 if refused or not (audited or allowed) else 0
 
 
 if __name__ == "__main__":

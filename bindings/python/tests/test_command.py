@@ -1,12 +1,14 @@
 """python3 -m weoldrin, and audits of many logs."""
 
+import os
 import pathlib
+import shlex
 import subprocess
 import sys
 import tempfile
 import unittest
 
-from weoldrin import Kind, Refusal, Verdict, audit, audit_many, p256, processes
+from weoldrin import Kind, PackageLog, Refusal, Refused, Verdict, audit, audit_many, p256, processes, records
 
 from . import published, toy
 
@@ -43,8 +45,10 @@ class Command(unittest.TestCase):
         bad = self._log("bad", [it.hex() for it in [*self.envelopes[:3], bytes(forged)]])
         empty = self._log("empty", [])
         status, lines = run("audit", "package", good, empty)
-        self.assertEqual((status, lines[1]), (0, f"{empty}: ok 0 none"))
+        self.assertEqual((status, lines[1]), (1, f"{empty}: empty"))
         self.assertRegex(lines[0], r"good: ok 5 sha256:[0-9a-f]{64}$")
+        self.assertEqual(run("audit", "package", empty), (1, [f"{empty}: empty"]))
+        self.assertEqual(run("audit", "package", good, empty, "--allow-empty"), (0, [lines[0], f"{empty}: ok 0 none"]))
         status, lines = run("audit", "package", bad, good)
         self.assertEqual((status, len(lines)), (1, 2))
         self.assertRegex(lines[0], r"bad: refused 3 (SignatureError|Signature\.BadBase64): ")
@@ -60,6 +64,58 @@ class Command(unittest.TestCase):
         self.assertEqual(status, 2)
         self.assertEqual(lines[2:], [f"{odd}: bad line 1", f"{blank}: bad line 0"])
         self.assertTrue(lines[0].startswith(missing) and lines[1].startswith(folder))
+
+    def test_hostile_texts(self) -> None:
+        """Each log has one line, whatever stands in its path and in its records."""
+        good = self._good("good\n\x1b[2J\u202e\x9b\udcff")
+        with PackageLog() as log:
+            contents = records.contents(None, 5, [records.init("toy:YQ==")])
+            log.append(records.signed(log.KIND, contents, "toy:YQ==", lambda _: "toy:YQ=="), lambda _: True)
+            entries = [records.release("1.0.0", records.sha256_text(b""))]
+            stranger = "x\x1b[1A\r/srv/other: ok 9 sha256:00\nof\u2028\u2066\\\x85"
+            forged = records.envelope(records.contents(log.head(), 5, entries), stranger, "toy:YQ==")
+            with self.assertRaises(Refused) as caught:
+                log.append(forged)
+        self.assertIn(stranger, caught.exception.sentence)
+        shown = "x\\u{1b}[1A\\u{d}/srv/other: ok 9 sha256:00\\u{a}of\\u{2028}\\u{2066}\\\\\\u{85}"
+        self.assertIn(shown, str(caught.exception))
+        first = records.signed(Kind.PACKAGE, contents, "toy:YQ==", lambda _: "toy:YQ==")
+        hostile = self._log("hostile", [first.hex(), forged.hex()])
+        verdict = audit(hostile, Kind.PACKAGE, lambda _: True)
+        assert verdict.refusal is not None
+        self.assertIn(stranger, verdict.refusal.sentence)
+        self.assertIn(shown, str(verdict))
+        self.assertNotIn("\n", str(verdict))
+        begun = self._log("begun", [forged.hex()])
+        status, lines = run("audit", "package", good, begun)
+        self.assertEqual((status, len(lines)), (1, 2))
+        shown = "good\\u{a}\\u{1b}[2J\\u{202e}\\u{9b}\\u{dcff}"
+        self.assertTrue(lines[0].startswith(f"{self.folder}/{shown}: ok 5 "))
+        self.assertEqual(run("audit", "package", f"{good}\n: ok 1 x", "b\n")[0], 2)
+
+    def test_encodings(self) -> None:
+        """A letter that the output's encoding does not have is written by its number."""
+        path = self._good("größe")
+        command = [sys.executable, "-m", "weoldrin", "audit", "package", path]
+        environment = {**os.environ, "PYTHONIOENCODING": "ascii"}
+        done = subprocess.run(command, capture_output=True, text=True, check=False, env=environment)
+        self.assertEqual((done.returncode, done.stderr), (0, ""))
+        self.assertIn("/gr\\xf6\\xdfe: ok 5 ", done.stdout)
+
+    def test_output(self) -> None:
+        """A reader that has gone is no error, and a full disk is one."""
+        paths = [self._good(f"log{place}") for place in range(200)]
+        command = " ".join(map(shlex.quote, [sys.executable, "-m", "weoldrin", "audit", "package", *paths]))
+        for output, wanted in (
+            ("| head -1 >&2", (0, r"log0: ok 5 [^\n]*\n")),
+            ("| true", (0, "")),
+            ("> /dev/full", (3, "weoldrin: standard output could not be written: No space left on device\n")),
+        ):
+            done = subprocess.run(
+                ["bash", "-o", "pipefail", "-c", f"{command} {output}"], capture_output=True, text=True, check=False
+            )
+            self.assertEqual(done.returncode, wanted[0], done.stderr)
+            self.assertRegex(done.stderr.removeprefix(f"{self.folder}/"), f"^{wanted[1]}$")
 
     def test_words(self) -> None:
         self.assertEqual(run("--version")[0], 0)
@@ -83,7 +139,7 @@ class Command(unittest.TestCase):
         for path in sorted(EXAMPLES.glob("[po]*.hex")):
             kind = Kind[path.name.partition("_")[0].upper()]
             wanted = path.with_suffix(".out").read_text(encoding="ascii").split("\n")[0]
-            verdict = audit(path, kind, toy.verify)
+            verdict = audit(path, kind, toy.verify, allow_empty=True)
             if wanted.startswith("bad line"):
                 self.assertFalse(verdict.accepted, path.name)
                 self.assertIsNotNone(verdict.fault, path.name)

@@ -205,7 +205,7 @@ class WrongUse(unittest.TestCase):
         self.assertRaises(BadArgument, log.release, "1.0")
         self.assertRaises(UnicodeEncodeError, log.latest, "\ud800")
         self.assertRaises(BadArgument, log.append_answered, b"", Question("no colon", b"", "toy:"), True)
-        self.assertRaises(ctypes.ArgumentError, log.ask, "text")
+        self.assertRaises(TypeError, log.ask, "text")
         self.assertRaises(BadArgument, log.holds, "x", "commit")
 
     def test_raw(self) -> None:

@@ -112,14 +112,14 @@ class Proofs(unittest.TestCase):
         bits = bytes([0x7F, *[0xFF] * 31])
         self._has_fault("EmptySibling", *absent, base64.b64encode(bits + EMPTY[0]).decode())
         # No proof's fault is named where another text is not of its form.
-        self._has_fault("", verify_absence, "log 2", MAP_ROOT, ABSENCE)
+        self._has_fault("BadText", verify_absence, "log 2", MAP_ROOT, ABSENCE)
 
     def _has_fault(self, name: str, call: Callable[..., bool], *words: str | int) -> None:
         with self.assertRaises(BadArgument) as raised:
             call(*words)
         self.assertEqual(raised.exception.name, name)
 
-    def _refuses_texts(self, call: Callable[[str], bool], name: str = "") -> None:
+    def _refuses_texts(self, call: Callable[[str], bool], name: str = "BadText") -> None:
         for wrong in ("sha256", "sha256:00", "!", "A"):
             self._has_fault(name, call, wrong)
 

@@ -2,12 +2,13 @@
 
 import importlib.util
 import pathlib
+import shlex
 import subprocess
 import sys
 import tempfile
 import unittest
 
-from weoldrin import Kind, PackageLog, audit_new, p256
+from weoldrin import PackageLog, p256
 
 from . import published
 
@@ -69,13 +70,55 @@ class RegistryAudit(unittest.TestCase):
             self._write(f"p00{place}", self.envelopes)
         self.assertEqual(self._audited()[0], 0)
 
-    def test_unfinished_line(self) -> None:
-        """A line that is still being written is left for the next time."""
-        path = self.folder / "p000.hex"
-        lines = "".join(f"{it.hex()}\n" for it in self.envelopes[:3])
-        for length, new in ((len(lines) - 1, 2), (len(lines) - 1, 0), (len(lines), 1), (len(lines), 0)):
-            path.write_text(lines[:length], encoding="ascii")
-            self.assertEqual(audit_new(path, Kind.PACKAGE), (str(path), new, None))
+    def test_faults(self) -> None:
+        """What is wrong with some packages is told of each, and the others are audited."""
+        self._audited()
+        paths = [self.folder / f"p{place:03}.hex" for place in range(6)]
+        paths[0].unlink()
+        paths[1].write_bytes(b"")
+        paths[2].write_bytes(b"garbage\n" * 1000)
+        pathlib.Path(f"{paths[3]}.state").write_bytes(b"{")
+        paths[4].write_bytes(paths[4].read_bytes() + b"0a")
+        paths[5].unlink()
+        paths[5].mkdir()
+        self._write("p006", self.envelopes[:8])
+        self._write("empty", [])
+        self._write("mine\n\x1b[2J.hex: ok 1 sha256:", [])
+        status, lines = self._audited()
+        wanted = [
+            r"empty.hex: empty",
+            r"mine\\u{a}\\u{1b}\[2J.hex: ok 1 sha256:.hex: empty",
+            r"p000.hex: there is no such file",
+            r"p001.hex: rolled back 2 0",
+            r"p002.hex: rewritten 3",
+            r"p003.hex: spoiled state: .*",
+            r"p004.hex: unfinished line 6",
+            r"p005.hex: it can't be read: .*",
+        ]
+        self.assertEqual((status, lines[-1]), (1, "244 of 252 packages accepted, 1 new records"))
+        self.assertEqual(len(lines), len(wanted) + 1)
+        for line, pattern in zip(lines, wanted, strict=False):
+            self.assertRegex(line.removeprefix(f"{self.folder}/"), f"^{pattern}$")
+
+    def test_nothing(self) -> None:
+        """A folder of no packages is no yes."""
+        for path in self.folder.iterdir():
+            path.unlink()
+        self.assertEqual(self._audited(), (1, ["0 of 0 packages accepted, 0 new records"]))
+        self.assertEqual(self._audited("--allow-empty")[0], 0)
+        self._write("empty", [])
+        self.assertEqual(self._audited()[0], 1)
+        self.assertEqual(self._audited("--allow-empty")[0], 0)
+        self.folder /= "none"
+        self.assertEqual(self._audited(), (2, []))
+
+    def test_output(self) -> None:
+        """A reader that has gone is no error, and a full disk is one."""
+        command = f"{shlex.quote(sys.executable)} {shlex.quote(str(PROGRAM))} {shlex.quote(str(self.folder))}"
+        for output, wanted in (("| true", ""), ("> /dev/full", "standard output could not be written")):
+            done = subprocess.run(f"{command} {output}", shell=True, capture_output=True, text=True, check=False)
+            self.assertNotIn("Traceback", done.stderr)
+            self.assertIn(wanted, done.stderr)
 
     @unittest.skipUnless(importlib.util.find_spec("distributed"), "Dask is not installed")
     def test_dask(self) -> None:

@@ -1,7 +1,6 @@
 """What the library verifies by itself: signatures by their texts, and those of the records that it appends."""
 
 import base64
-import ctypes
 import pathlib
 import subprocess
 import sys
@@ -117,9 +116,9 @@ class Texts(unittest.TestCase):
             self.assertFalse(self._belongs(KEY, text), text)
 
     def test_other_types(self) -> None:
-        self.assertRaises(ctypes.ArgumentError, verify, KEY, "sample", SIGNATURE)
-        self.assertRaises(TypeError, verify, KEY, None, SIGNATURE)
-        self.assertRaises(AttributeError, verify, KEY.encode(), b"sample", SIGNATURE)
+        self.assertRaisesRegex(TypeError, "bytes are wanted, not str", verify, KEY, "sample", SIGNATURE)
+        self.assertRaisesRegex(TypeError, "bytes are wanted, not NoneType", verify, KEY, None, SIGNATURE)
+        self.assertRaisesRegex(TypeError, "a text is wanted, not bytes", verify, KEY.encode(), b"sample", SIGNATURE)
 
 
 class Appending(unittest.TestCase):

@@ -11,16 +11,17 @@ import pathlib
 import sys
 import time
 import urllib.parse
+from collections.abc import Iterator
 from typing import Self
 
-from weoldrin import Kind, PackageLog, p256, records
+from weoldrin import Kind, PackageLog, p256, print_lines, printable, records
 
 
 class RegistryError(Exception):
     """The registry refused something. `name` is the refusal's."""
 
     def __init__(self, status: int, name: str, sentence: str) -> None:
-        super().__init__(f"{status} {name}: {sentence}")
+        super().__init__(printable(f"{status} {name}: {sentence}"))
         self.status, self.name = status, name
 
 
@@ -95,8 +96,8 @@ def signed(prev: str | None, key: p256.SigningKey, entries: list[bytes]) -> byte
     return records.signed(Kind.PACKAGE, contents, key.public_key, key.sign)
 
 
-def publish(client: Client, package: str, versions: list[str], key: p256.SigningKey) -> None:
-    """Publishes releases, each on what the package's log then is, and prints the place of each record.
+def publish(client: Client, package: str, versions: list[str], key: p256.SigningKey) -> Iterator[int]:
+    """Publishes releases, each on what the package's log then is, and gives the place of each record.
 
     Begins the package where there is none. If another publisher's record came in between, the record is made anew.
     """
@@ -110,17 +111,17 @@ def publish(client: Client, package: str, versions: list[str], key: p256.Signing
             if error.name not in _OVERTAKEN:
                 raise
             continue
-        print(place, flush=True)
         if head is not None:
             del waiting[0]
+        yield place
 
 
-def fetch(client: Client, package: str) -> None:
-    """Prints a package's envelopes, checked."""
+def fetch(client: Client, package: str) -> Iterator[bytes]:
+    """A package's envelopes, checked."""
     with PackageLog() as log:
         for envelope in client.records(package):
             log.append(envelope)
-            print(envelope.hex())
+            yield envelope
 
 
 def main() -> int:
@@ -137,9 +138,11 @@ def main() -> int:
     words = parser.parse_args()
     with Client(words.url) as client:
         if words.command == "publish":
-            publish(client, words.package, words.versions, key_in(words.key))
+            # All is published, also where nobody reads the places.
+            for place in publish(client, words.package, words.versions, key_in(words.key)):
+                print_lines([str(place)])
         else:
-            fetch(client, words.package)
+            print_lines(it.hex() for it in fetch(client, words.package))
     return 0
 
 

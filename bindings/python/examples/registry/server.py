@@ -59,7 +59,7 @@ class Handler(BaseHTTPRequestHandler):
         try:
             self._reply(HTTPStatus.OK, self._looked_up())
         except Error as error:
-            self._refuse(_STATUSES[type(error)], error.name, error.sentence)
+            self._refuse(_STATUSES.get(type(error), HTTPStatus.INTERNAL_SERVER_ERROR), error.name, error.sentence)
         except NotFound:
             self._refuse(HTTPStatus.NOT_FOUND, "NotFound", "there is no such thing")
 
@@ -79,7 +79,7 @@ class Handler(BaseHTTPRequestHandler):
             new = self.server.store.publish(kind, name, envelope)
             self._reply(HTTPStatus.CREATED, json.dumps({"place": new.place, "id": new.id}))
         except Error as error:
-            self._refuse(_STATUSES[type(error)], error.name, error.sentence)
+            self._refuse(_STATUSES.get(type(error), HTTPStatus.INTERNAL_SERVER_ERROR), error.name, error.sentence)
         except NotFound:
             self._refuse(HTTPStatus.NOT_FOUND, "NotFound", "there is no such thing")
 

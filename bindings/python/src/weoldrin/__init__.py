@@ -1,7 +1,29 @@
 """Checks the logs of a Warg package registry by a proved library, which verifies signatures of ECDSA P-256."""
 
-from .auditing import BadLine, Refusal, Verdict, append_all, audit, audit_many, envelopes_of, processes
-from .errors import BadArgument, Error, NoEnvelope, NotOpen, OutOfMemory, Refused, UnknownAlgorithm
+from .auditing import Refusal, Verdict, append_all, audit, audit_many, envelopes_of, processes
+from .errors import (
+    BadArgument,
+    Busy,
+    Error,
+    Forked,
+    NoEnvelope,
+    NotOpen,
+    OutOfMemory,
+    Refused,
+    UnknownAlgorithm,
+)
+from .faults import (
+    BadLine,
+    Empty,
+    Fault,
+    Missing,
+    RolledBack,
+    Rewritten,
+    SpoiledState,
+    Unfinished,
+    Unreadable,
+    Unsaved,
+)
 from .incremental import NewRecords, audit_new
 from .logs import (
     Comparison,
@@ -16,21 +38,28 @@ from .logs import (
     Relation,
     Release,
     Verify,
+    kind_of,
     library_version,
     log_of,
     record_id,
 )
+from .printing import print_lines, printable
 from .proofs import verify_absence, verify_consistency, verify_inclusion, verify_presence
 from .signatures import verify
 
 __all__ = [
     "BadArgument",
     "BadLine",
+    "Busy",
     "Comparison",
+    "Empty",
     "Error",
+    "Fault",
+    "Forked",
     "Kind",
     "Link",
     "Log",
+    "Missing",
     "Namespace",
     "NewRecords",
     "NoEnvelope",
@@ -44,7 +73,13 @@ __all__ = [
     "Refused",
     "Relation",
     "Release",
+    "Rewritten",
+    "RolledBack",
+    "SpoiledState",
+    "Unfinished",
     "UnknownAlgorithm",
+    "Unreadable",
+    "Unsaved",
     "Verdict",
     "Verify",
     "append_all",
@@ -52,8 +87,11 @@ __all__ = [
     "audit_many",
     "audit_new",
     "envelopes_of",
+    "kind_of",
     "library_version",
     "log_of",
+    "print_lines",
+    "printable",
     "processes",
     "record_id",
     "verify",

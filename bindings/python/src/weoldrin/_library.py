@@ -10,8 +10,24 @@ from .errors import BadArgument, Error, NoEnvelope, NotOpen, OutOfMemory, Refuse
 
 OK, TOO_SMALL, NO_ENVELOPE, REFUSED, NONE, BAD_ARGUMENT, UNKNOWN_ALGORITHM = 0, 3, 4, 5, 6, 7, 8
 
+# What is taken for bytes.
+Bytes = bytes | bytearray | memoryview
+
 # The greatest number that a call takes. `ctypes` passes a greater one on without its upper digits.
 GREATEST = 2**64 - 1
+
+# What is said of a bad argument where the library says nothing of it.
+_MISUSES = {
+    "append": "BadQuestion: the parts are those of no question",
+    "chain": "BadArgument: logs of this kind have no such permission, or the log was resumed and has no records",
+    "compare": "BadArgument: a log of a package and one of operators, or one that was resumed and has no records",
+    "holds": "UnknownPermission: logs of this kind have no such permission",
+    "latest": "BadRequirement: the text is no requirement of versions, such as >=1.2, <2",
+    "length": "Resumed: the log was resumed and has no records",
+    "record": "Resumed: the log was resumed and has no records",
+    "release": "BadVersion: the text is no version, such as 1.2.0",
+    "verify": "BadText: the text of the key or of the signature can't be read",
+}
 
 _RAISED: dict[int, type[Error]] = {
     1: NotOpen,
@@ -135,12 +151,14 @@ class Buffer:
         self._used = ctypes.c_size_t(0)
 
     def filled(
-        self, call: Callable[..., int], before: tuple[Any, ...], after: tuple[Any, ...] = (), room: int = 0
+        self, name: str, before: tuple[Any, ...], after: tuple[Any, ...] = (), room: int = 0
     ) -> bytes | None:
-        """What a call writes, whose arguments stand before and after the buffer; none where it says that there is none.
+        """What a call of this name writes, whose arguments stand before and after the buffer; none where it says that
+        there is none.
 
         An error's text finds `room`, and at least 4096 bytes.
         """
+        call = CALLS[name]
         if len(self._bytes) < room:
             self._grow(room)
         status = call(*before, self._bytes, len(self._bytes), self._used, *after)
@@ -151,14 +169,38 @@ class Buffer:
             return ctypes.string_at(self._bytes, self._used.value)
         if status == NONE:
             return None
-        raise _RAISED[status](ctypes.string_at(self._bytes, self._used.value).decode())
+        raise _raised(name, status, ctypes.string_at(self._bytes, self._used.value).decode())
 
     def _grow(self, size: int) -> None:
         self._bytes = ctypes.create_string_buffer(size)
 
 
-def checked(status: int) -> bool:
+def checked(name: str, status: int) -> bool:
     """Whether a call that writes no text was done, and not answered by "none"."""
     if status in (OK, NONE):
         return status == OK
-    raise _RAISED[status]()
+    raise _raised(name, status)
+
+
+def _raised(name: str, status: int, text: str = "") -> Error:
+    """What a call of this name is refused for, with what the library says of it."""
+    if status == BAD_ARGUMENT and not text:
+        text = _MISUSES.get(name, "")
+    return _RAISED[status](text)
+
+
+def bytes_of(data: Bytes) -> bytes:
+    """The bytes that are there, whatever a class of its own says of their number."""
+    if type(data) is bytes:
+        return data
+    try:
+        return memoryview(data).tobytes()
+    except TypeError:
+        raise TypeError(f"bytes are wanted, not {type(data).__name__}") from None
+
+
+def text_bytes(text: str, errors: str = "strict") -> bytes:
+    """The bytes of a text in UTF-8, whatever a class of its own says of them."""
+    if not isinstance(text, str):
+        raise TypeError(f"a text is wanted, not {type(text).__name__}")
+    return str.encode(text, errors=errors)

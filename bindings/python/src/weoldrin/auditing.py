@@ -1,25 +1,17 @@
-"""Audits logs that lie in files: an envelope a line, in hex, as `warg_audit` reads them."""
+"""Audits logs that lie in files: an envelope a line, in hex, as the tool reads them."""
 
+import binascii
 import functools
 import os
-import pathlib
 from collections.abc import Iterable, Iterator
 from concurrent.futures import Executor, ProcessPoolExecutor, ThreadPoolExecutor
 from typing import NamedTuple
 
+from ._files import RecordLine, record_lines
 from .errors import NoEnvelope, Refused, UnknownAlgorithm
-from .logs import Kind, Log, Verify, log_of
-
-
-class BadLine(ValueError):
-    """A line of a file is not hex. `line` is counted from 0."""
-
-    def __init__(self, line: int) -> None:
-        super().__init__(line)
-        self.line = line
-
-    def __str__(self) -> str:
-        return f"bad line {self.line}"
+from .faults import BadLine, Empty, Fault, Missing, Unreadable
+from .logs import Kind, Log, Verify, kind_of, log_of
+from .printing import printable
 
 
 class Refusal(NamedTuple):
@@ -28,6 +20,9 @@ class Refusal(NamedTuple):
     place: int
     name: str
     sentence: str
+
+    def __str__(self) -> str:
+        return printable(f"refused {self.place} {self.name}: {self.sentence}")
 
 
 class Verdict(NamedTuple):
@@ -39,8 +34,8 @@ class Verdict(NamedTuple):
     head: str | None
     """The id of the last of them."""
     refusal: Refusal | None
-    fault: str | None
-    """Why the file could not be read."""
+    fault: Fault | None
+    """What is wrong with the file itself."""
 
     @property
     def accepted(self) -> bool:
@@ -48,25 +43,24 @@ class Verdict(NamedTuple):
         return self.refusal is None and self.fault is None
 
     def __str__(self) -> str:
-        if self.fault is not None:
-            return f"{self.path}: {self.fault}"
-        if self.refusal is not None:
-            return f"{self.path}: refused {self.refusal.place} {self.refusal.name}: {self.refusal.sentence}"
-        return f"{self.path}: ok {self.records} {self.head or 'none'}"
+        """A line, as it is printed, whatever stands in the path and in the record that is refused."""
+        told = self.fault or self.refusal or f"ok {self.records} {self.head or 'none'}"
+        return f"{printable(self.path)}: {told}"
+
+
+def envelope_of(place: int, line: RecordLine) -> bytes:
+    """The envelope that a line says in hex, whose place among those of records is told where it says none."""
+    try:
+        return binascii.unhexlify(line.digits)
+    except ValueError:
+        raise BadLine(place, line.number) from None
 
 
 def envelopes_of(lines: Iterable[bytes]) -> Iterator[bytes]:
-    """The envelopes that lines of hex say. A line feed, and a carriage return before it, may end a line. Raises
-    `BadLine`."""
-    for place, line in enumerate(lines):
-        digits = line.removesuffix(b"\n").removesuffix(b"\r")
-        # Python's reader takes spaces between the digits.
-        if not digits.isalnum() and digits:
-            raise BadLine(place)
-        try:
-            yield bytes.fromhex(digits.decode("ascii"))
-        except ValueError:
-            raise BadLine(place) from None
+    """The envelopes that lines of hex say, as the tool reads a log. Each ends with a line feed, which the last may
+    lack, and a carriage return before that is dropped. Lines that begin with `#` are passed over, and so is the last
+    of the others if it is blank. Raises `BadLine`."""
+    return (envelope_of(place, line) for place, line in enumerate(record_lines(lines)))
 
 
 def append_all(log: Log, envelopes: Iterable[bytes], verify: Verify | None = None) -> tuple[int, Refusal | None]:
@@ -86,40 +80,61 @@ def append_all(log: Log, envelopes: Iterable[bytes], verify: Verify | None = Non
     return taken, None
 
 
-def audit(path: str | os.PathLike[str], kind: Kind, verify: Verify | None = None) -> Verdict:
-    """Audits the log in a file, by the library's verifier or by another one.
+def fault_of(error: OSError | ValueError | MemoryError) -> Fault:
+    """What the failure of a read says of its file."""
+    if isinstance(error, FileNotFoundError):
+        return Missing()
+    if isinstance(error, MemoryError):
+        return Unreadable("there is no memory for it")
+    return Unreadable((isinstance(error, OSError) and error.strerror) or str(error))
 
-    What is wrong with the file is in the verdict; only `OutOfMemory` is raised.
+
+def audit(
+    path: str | os.PathLike[str], kind: Kind | str, verify: Verify | None = None, *, allow_empty: bool = False
+) -> Verdict:
+    """Audits the log in a file, by the library's verifier or by another one. A log of no records is the fault `Empty`,
+    unless that is allowed.
+
+    What is wrong with the file is in the verdict. Raised are `ValueError` where the kind is none, and what `verify`
+    raises.
     """
-    named = os.fspath(path)
+    named, kind = os.fspath(path), kind_of(kind)
     try:
         # The digits of all lines are tested before any record is judged, as `warg_audit` does.
-        with pathlib.Path(path).open("rb") as lines:
+        with open(named, "rb") as lines:
             envelopes = list(envelopes_of(lines))
-    except OSError as error:
-        return Verdict(named, 0, None, None, error.strerror or str(error))
-    except BadLine as error:
-        return Verdict(named, 0, None, None, str(error))
-    with log_of(kind) as log:
-        taken, refusal = append_all(log, envelopes, verify)
-        return Verdict(named, taken, log.head(), refusal, None)
+    except Fault as fault:
+        return Verdict(named, 0, None, None, fault)
+    except (OSError, ValueError, MemoryError) as error:
+        return Verdict(named, 0, None, None, fault_of(error))
+    if not envelopes and not allow_empty:
+        return Verdict(named, 0, None, None, Empty())
+    try:
+        with log_of(kind) as log:
+            taken, refusal = append_all(log, envelopes, verify)
+            return Verdict(named, taken, log.head(), refusal, None)
+    except MemoryError as error:
+        return Verdict(named, 0, None, None, fault_of(error))
 
 
 def audit_many(
     paths: Iterable[str | os.PathLike[str]],
-    kind: Kind,
+    kind: Kind | str,
     verify: Verify | None = None,
     workers: int | None = None,
     executor: Executor | None = None,
+    *,
+    allow_empty: bool = False,
 ) -> list[Verdict]:
-    """Audits the logs in many files side by side, and gives their verdicts in the order of the files.
+    """Audits the logs in many files side by side, and gives their verdicts in the order of the files. What is wrong
+    with one of them is in its own verdict.
 
     By threads, so many as `workers`, or by an executor of your own. The library lets go of the interpreter's lock while
     it judges and verifies. A `verify` that keeps it, as `p256.verify_by_cryptography` does, gains little from threads:
     hand in `processes(workers)`, or the executor of a cluster. `verify` is then a function that stands in a module.
     """
     files = list(paths)
-    job = functools.partial(audit, kind=kind, verify=verify)
+    job = functools.partial(audit, kind=kind_of(kind), verify=verify, allow_empty=allow_empty)
     if executor is not None:
         return list(executor.map(job, files, chunksize=max(1, min(64, len(files) // 64))))
     with ThreadPoolExecutor(workers) as threads:

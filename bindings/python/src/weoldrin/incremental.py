@@ -1,13 +1,22 @@
-"""Audits what is new in a log's file since the last time, by the log's saved state."""
+"""Audits what is new in a log's file since the last time, by the log's saved state, and finds that what was read before
+is no longer what it was."""
 
+import contextlib
+import hashlib
 import json
 import os
-import pathlib
-import tempfile
+from collections.abc import Iterable
 from typing import NamedTuple
 
-from .auditing import BadLine, append_all, envelopes_of
-from .logs import Kind, Log, OperatorLog, PackageLog, Verify
+from ._files import RecordLine, held_beside, lines_of, open_regular, record_lines, replace
+from .auditing import Refusal, append_all, envelope_of, fault_of
+from .errors import BadArgument
+from .faults import Empty, Fault, RolledBack, Rewritten, SpoiledState, Unfinished, Unsaved
+from .logs import Kind, Log, Verify, class_of, kind_of
+from .printing import printable
+
+# So many digits of a digest are kept of each line, to tell a rollback from a rewriting.
+_MARK = 16
 
 
 class NewRecords(NamedTuple):
@@ -16,56 +25,179 @@ class NewRecords(NamedTuple):
     path: str
     records: int
     """How many new records were taken."""
-    fault: str | None
-    """Why not all were: the first record that is refused or line that is none, by its place in the whole log."""
+    length: int
+    """How many records of the log were taken in all, the new ones among them."""
+    head: str | None
+    """The id of the last of them."""
+    refusal: Refusal | None
+    """The first record that is refused, by its place in the whole log."""
+    fault: Fault | None
+    """What else is wrong with the file, or with its state."""
+
+    @property
+    def accepted(self) -> bool:
+        """Whether the file goes on from what was read, and each record of it is lawful."""
+        return self.refusal is None and self.fault is None
+
+    def __str__(self) -> str:
+        """A line, as it is printed, whatever stands in the path and in the record that is refused."""
+        told = self.fault or self.refusal or f"ok {self.length} {self.head or 'none'}"
+        return f"{printable(self.path)}: {told}"
 
 
-class _Saved(NamedTuple):
-    """The state of a log, and the bytes and the records of its file that it stands for."""
+class _Read(NamedTuple):
+    """What was read of a file: the state of its log, and what of the file it stands for."""
 
+    kind: str
     bytes: int
+    """Up to the end of the last line that stands for a record."""
     records: int
-    state: str
+    sha256: str
+    """The digest of those bytes."""
+    marks: str
+    """The first digits of the digest of the file up to the end of each line."""
+    state: str | None
+    """The log's state; none where a time in it lies before 1970, which it can't say."""
 
 
-def _saved_at(path: pathlib.Path) -> _Saved:
-    """The state that was saved in a file; the new one where there is no such file."""
-    if not path.exists():
-        return _Saved(0, 0, "{}")
-    return _Saved(*json.loads(path.read_text(encoding="utf-8")))
+class _Digest:
+    """The SHA-256 of a file up to a place, and a mark of it behind each further line."""
+
+    def __init__(self, text: bytes) -> None:
+        self._digest = hashlib.sha256(text)
+
+    def sha256(self) -> str:
+        """The digits of the digest."""
+        return self._digest.hexdigest()
+
+    def marks(self, lines: Iterable[bytes]) -> str:
+        """Goes on by lines, and gives a mark of each."""
+        found = []
+        for line in lines:
+            self._digest.update(line)
+            found.append(self.sha256()[:_MARK])
+        return "".join(found)
 
 
-def _save(saved: _Saved, path: pathlib.Path) -> None:
-    """Saves a state in one step: a file that was there stays whole until then."""
-    with tempfile.NamedTemporaryFile("w", dir=path.parent, delete=False, encoding="utf-8") as file:
-        json.dump(saved, file)
-    os.replace(file.name, path)
+def _read_at(path: str, kind: Kind) -> _Read:
+    """What was kept in a file; nothing where there is no such file."""
+    try:
+        with open(path, encoding="ascii") as file:
+            read = _Read(**json.load(file))
+    except FileNotFoundError:
+        return _Read(kind.name, 0, 0, _Digest(b"").sha256(), "", "{}")
+    except OSError as error:
+        raise SpoiledState(error.strerror or str(error)) from None
+    except (ValueError, TypeError, RecursionError):
+        raise SpoiledState("it is none that was kept here") from None
+    if [type(it) for it in read[:-1]] != [str, int, int, str, str] or not isinstance(read.state, str | None):
+        raise SpoiledState("it is none that was kept here")
+    if read.kind != kind.name:
+        raise SpoiledState(f"it is not that of a log of {kind.name.lower()} records")
+    return read
 
 
-def _resumed(kind: Kind, state: str) -> Log:
-    return PackageLog.from_json(state) if kind is Kind.PACKAGE else OperatorLog.from_json(state)
+def _text_of(path: str) -> bytes:
+    """What a regular file holds."""
+    try:
+        with open(path, "rb", opener=open_regular) as file:
+            return file.read()
+    except (OSError, ValueError) as error:
+        raise fault_of(error) from None
 
 
-def audit_new(path: str | os.PathLike[str], kind: Kind, verify: Verify | None = None) -> NewRecords:
-    """Audits the lines of a log's file that came since it was audited last, and keeps the state behind them in
-    PATH.state. Signatures are verified as by `audit`.
+def _check_begins(text: bytes, read: _Read) -> None:
+    """Raises `RolledBack` or `Rewritten` where a file does not begin with what was read of it."""
+    if len(text) >= read.bytes and _Digest(text[: read.bytes]).sha256() == read.sha256:
+        return
+    whole = lines_of(text[: text.rfind(b"\n") + 1])
+    if len(text) < read.bytes and read.marks.startswith(_Digest(b"").marks(whole)):
+        raise RolledBack(read.records, sum(1 for _ in record_lines(whole)))
+    raise Rewritten(read.records)
 
-    The state is kept only if all new lines were taken. It is as trustworthy as the folder that it lies in. The file has
-    to be the old one with lines added to it; an unfinished last line is left for the next time.
-    """
-    file, kept = pathlib.Path(path), pathlib.Path(f"{os.fspath(path)}.state")
-    old = _saved_at(kept)
-    with file.open("rb") as lines, _resumed(kind, old.state) as log:
-        lines.seek(old.bytes)
-        new = lines.read()
-        new = new[: new.rfind(b"\n") + 1]
+
+def _resumed(kind: Kind, read: _Read, old: list[RecordLine], verify: Verify | None) -> Log:
+    """The log of what was read. One whose state could not be kept is audited from its first record."""
+    if (old[-1].end if old else 0, len(old)) != (read.bytes, read.records):
+        raise SpoiledState("it is not that of this file")
+    if read.state is not None:
         try:
-            taken, refusal = append_all(log, envelopes_of(new.splitlines(keepends=True)), verify)
-        except BadLine as error:
-            return NewRecords(os.fspath(path), 0, f"bad line {old.records + error.line}")
+            return class_of(kind).from_json(read.state)
+        except ValueError as error:
+            raise SpoiledState(str(error)) from None
+    log = class_of(kind)()
+    if append_all(log, (envelope_of(*it) for it in enumerate(old)), verify)[1] is not None:
+        raise SpoiledState("it is not that of this file")
+    return log
+
+
+def _state_of(log: Log) -> str | None:
+    """The state of a log, where its times can be said."""
+    try:
+        return log.to_json()
+    except BadArgument:
+        return None
+
+
+def _held(path: str, held: contextlib.ExitStack) -> int:
+    """The file beside that of the state of a log, which is held until the end."""
+    try:
+        return held.enter_context(held_beside(f"{path}.state"))
+    except (FileNotFoundError, ValueError) as error:
+        raise fault_of(error) from None
+    except OSError as error:
+        raise Unsaved(error.strerror) from None
+
+
+def _audited(path: str, kind: Kind, verify: Verify | None, allows_empty: bool, beside: int) -> NewRecords:
+    """Audits the new lines of a file, whose state is written by way of a file that is held beside it."""
+    read, text = _read_at(f"{path}.state", kind), _text_of(path)
+    _check_begins(text, read)
+    lines = lines_of(text[: text.rfind(b"\n") + 1])
+    found = list(record_lines(lines))
+    old, new = found[: read.records], found[read.records :]
+    with _resumed(kind, read, old, verify) as log:
+        envelopes = [envelope_of(place, line) for place, line in enumerate(new, read.records)]
+        taken, refusal = append_all(log, envelopes, verify)
+        length, head = read.records + taken, log.head()
         if refusal is not None:
-            told = f"refused {old.records + refusal.place} {refusal.name}: {refusal.sentence}"
-            return NewRecords(os.fspath(path), taken, told)
+            moved = refusal._replace(place=read.records + refusal.place)
+            return NewRecords(path, taken, length, head, moved, None)
+        fault: Fault | None = None if length or allows_empty else Empty()
+        if not text.endswith(b"\n") and text:
+            fault = Unfinished(len(lines) + 1)
         if new:
-            _save(_Saved(old.bytes + len(new), old.records + taken, log.to_json()), kept)
-    return NewRecords(os.fspath(path), taken, None)
+            digest = _Digest(text[: read.bytes])
+            marks = digest.marks(lines[old[-1].number if old else 0 : new[-1].number])
+            kept = _Read(kind.name, new[-1].end, length, digest.sha256(), read.marks + marks, _state_of(log))
+            try:
+                replace(f"{path}.state", beside, json.dumps(kept._asdict()).encode())
+            except OSError as error:
+                fault = Unsaved(error.strerror or str(error))
+    return NewRecords(path, taken, length, head, None, fault)
+
+
+def audit_new(
+    path: str | os.PathLike[str], kind: Kind | str, verify: Verify | None = None, *, allow_empty: bool = False
+) -> NewRecords:
+    """Audits the lines of a log's file that came since it was audited last, and keeps in PATH.state how much of the
+    file was read, its digest, and the log's state behind it. Signatures are verified as by `audit`.
+
+    A file that no longer begins with what was read is the fault `RolledBack`, where it is shorter and holds nothing
+    else, or `Rewritten`. What is kept changes only if all new lines were taken. It is as trustworthy as the folder
+    that it lies in, and one audit of a file waits for another. An unfinished last line is the fault `Unfinished`, and
+    is left for the next time; what came before it is kept. A log of no records is the fault `Empty`, unless that is
+    allowed.
+
+    Whatever is wrong with the file or its state is in what is given. Raised are `ValueError` where the kind is none,
+    and what `verify` raises.
+    """
+    named, kind = os.fspath(path), kind_of(kind)
+    try:
+        with contextlib.ExitStack() as held:
+            found = _audited(named, kind, verify, allow_empty, _held(named, held))
+        return found
+    except Fault as fault:
+        return NewRecords(named, 0, 0, None, None, fault)
+    except MemoryError as error:
+        return NewRecords(named, 0, 0, None, None, fault_of(error))

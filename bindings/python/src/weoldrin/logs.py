@@ -2,13 +2,14 @@
 
 import ctypes
 import enum
+import os
 import threading
 from collections.abc import Callable, Iterator
 from typing import Any, ClassVar, NamedTuple, Self, TypeVar
 
 from . import _library
-from ._library import CALLS, Buffer, checked
-from .errors import BadArgument
+from ._library import CALLS, Buffer, Bytes, bytes_of, checked, text_bytes
+from .errors import BadArgument, Busy, Forked
 
 T = TypeVar("T")
 
@@ -96,6 +97,16 @@ class Kind(enum.Enum):
     OPERATOR = 1
 
 
+def kind_of(kind: Kind | str) -> Kind:
+    """A kind of logs: one of `Kind`, or its word, "package" or "operator". Raises `ValueError` for anything else."""
+    if isinstance(kind, Kind):
+        return kind
+    for it in Kind:
+        if kind == it.name.lower():
+            return it
+    raise ValueError(f'a log is of Kind.PACKAGE or Kind.OPERATOR, or "package" or "operator", and not of {kind!r}')
+
+
 _NANOS = 1_000_000_000
 # An error's text has so many bytes beside what it quotes of an envelope, and fewer.
 _SENTENCE = 1024
@@ -120,21 +131,27 @@ class Log:
     each other.
 
     Each call raises an `Error` where it was refused, and the log is then as it was. A log that is not closed is closed
-    when it is forgotten.
+    when it is forgotten. A handler of a signal that uses a log whose call it interrupted gets `Busy`, and a process
+    that `fork` made gets `Forked` from each log that was made before.
     """
 
     KIND: ClassVar[Kind]
 
-    __slots__ = ("_buffer", "_lock", "_log", "__weakref__")
+    __slots__ = ("_buffer", "_is_called", "_lock", "_log", "_process", "__weakref__")
 
     def __init__(self) -> None:
-        self._log, self._buffer, self._lock = _library.Log(), Buffer(), threading.Lock()
-        checked(CALLS["open"](self._log, self.KIND.value))
+        self._log, self._buffer, self._process = _library.Log(), Buffer(), os.getpid()
+        # A thread passes its own lock again, so that a handler of a signal that interrupts a call is told and not kept.
+        self._lock, self._is_called = threading.RLock(), False
+        checked("open", CALLS["open"](self._log, self.KIND.value))
 
     def close(self) -> None:
-        """Gives the log's memory back. Closing twice is harmless; any other call then raises `NotOpen`."""
-        with self._lock:
-            CALLS["close"](self._log)
+        """Gives the log's memory back. Closing twice is harmless; any other call then raises `NotOpen`.
+
+        In another process than the one that made the log it does nothing.
+        """
+        if os.getpid() == self._process:
+            self._alone(CALLS["close"], self._log)
 
     def __enter__(self) -> Self:
         return self
@@ -143,7 +160,7 @@ class Log:
         self.close()
 
     def __del__(self) -> None:
-        if hasattr(self, "_lock"):
+        if hasattr(self, "_is_called"):
             self.close()
 
     def __reduce__(self) -> Any:
@@ -151,18 +168,18 @@ class Log:
 
     # Appending
 
-    def ask(self, envelope: bytes) -> Question:
+    def ask(self, envelope: Bytes) -> Question:
         """What has to be verified before the envelope's record can be appended. Changes nothing.
 
         The record is lawful exactly if the signature belongs. Raises `Refused` where no signature could help.
         """
-        asked = _library.Asked()
+        envelope, asked = bytes_of(envelope), _library.Asked()
         text = self._said("ask", envelope, len(envelope), after=(asked,), room=len(envelope) + _SENTENCE)
         assert text is not None
         end = asked.key_len + asked.message_len
         return Question(text[: asked.key_len].decode(), text[asked.key_len : end], text[end:].decode())
 
-    def append_answered(self, envelope: bytes, question: Question, belongs: bool) -> None:
+    def append_answered(self, envelope: Bytes, question: Question, belongs: bool) -> None:
         """Appends the envelope's record by the answer to its question. The answer to any other question is refused.
 
         An answer is True or False and nothing else: whatever a verifier returns in their place, such as a number or a
@@ -170,13 +187,13 @@ class Log:
         """
         if not isinstance(belongs, bool):
             raise TypeError(f"whether a signature belongs is True or False, not {belongs!r}")
-        key, signature = question.key.encode(), question.signature.encode()
-        asked = _library.Asked(len(key), len(question.message), len(signature))
-        text = key + question.message + signature
+        parts = text_bytes(question.key), bytes_of(question.message), text_bytes(question.signature)
+        asked, text = _library.Asked(*map(len, parts)), b"".join(parts)
+        envelope = bytes_of(envelope)
         room = len(envelope) + _SENTENCE
         self._said("append", envelope, len(envelope), text, len(text), asked, belongs, room=room)
 
-    def append(self, envelope: bytes, verify: Verify | None = None) -> None:
+    def append(self, envelope: Bytes, verify: Verify | None = None) -> None:
         """Appends the envelope's record if its signature belongs. The library verifies it, or `verify` where there is
         one.
 
@@ -186,6 +203,7 @@ class Log:
         The log may be used by other threads while `verify` runs. If the record is no longer the next one then, it is
         refused.
         """
+        envelope = bytes_of(envelope)
         if verify is None:
             self._said("append_signed", envelope, len(envelope), room=len(envelope) + _SENTENCE)
             return
@@ -224,7 +242,7 @@ class Log:
 
     def holds(self, key_id: str, permission: str) -> bool:
         """Whether a key id holds a permission. Raises `BadArgument` where logs of this kind have none of that name."""
-        key_id_text, permission_text = key_id.encode(), permission.encode()
+        key_id_text, permission_text = text_bytes(key_id), text_bytes(permission)
         return self._done("holds", key_id_text, len(key_id_text), permission_text, len(permission_text))
 
     def permissions(self, key_id: str) -> list[str] | None:
@@ -239,18 +257,16 @@ class Log:
     def chain(self, key_id: str, permission: str) -> list[Link] | None:
         """The entries by which a key id came to hold a permission, from the first one of the log on; none if it does
         not hold it."""
-        key_id_text, permission_text = key_id.encode(), permission.encode()
+        key_id_text, permission_text = text_bytes(key_id), text_bytes(permission)
+        words = key_id_text, len(key_id_text), permission_text, len(permission_text)
         used, room = ctypes.c_size_t(0), 16
         while True:
             links = (_library.Link * room)()
-            with self._lock:
-                status = CALLS["chain"](
-                    self._log, key_id_text, len(key_id_text), permission_text, len(permission_text), links, room, used
-                )
+            status = self._alone(CALLS["chain"], self._log, *words, links, room, used)
             if status != _library.TOO_SMALL:
                 break
             room = used.value
-        if not checked(status):
+        if not checked("chain", status):
             return None
         return [Link(it.record_index, it.entry_index) for it in links[: used.value]]
 
@@ -263,8 +279,7 @@ class Log:
             return Comparison(Relation.SAME, 0, 0)
         found = _library.Comparison()
         first, second = sorted((self, other), key=id)
-        with first._lock, second._lock:
-            checked(CALLS["compare"](self._log, other._log, found))
+        checked("compare", first._alone(lambda: second._alone(CALLS["compare"], self._log, other._log, found)))
         return Comparison(Relation(found.case), found.left, found.right)
 
     def to_json(self) -> str:
@@ -285,24 +300,35 @@ class Log:
 
         Raises `BadArgument`, with the fault's name, where the text is no saved state of this kind.
         """
-        log, text = cls(), saved.encode()
+        log, text = cls(), text_bytes(saved)
         log._said("resume", cls.KIND.value, text, len(text))
         return log
 
     # Calls of the library: one at a time
 
-    def _said(self, name: str, *before: Any, after: tuple[Any, ...] = (), room: int = 0) -> bytes | None:
+    def _alone(self, call: Callable[..., T], *arguments: Any) -> T:
+        """Makes a call while no other one is made of this log."""
+        if os.getpid() != self._process:
+            raise Forked
         with self._lock:
-            return self._buffer.filled(CALLS[name], (self._log, *before), after, room)
+            if self._is_called:
+                raise Busy
+            self._is_called = True
+            try:
+                return call(*arguments)
+            finally:
+                self._is_called = False
+
+    def _said(self, name: str, *before: Any, after: tuple[Any, ...] = (), room: int = 0) -> bytes | None:
+        return self._alone(self._buffer.filled, name, (self._log, *before), after, room)
 
     def _text(self, name: str, *words: str) -> str | None:
-        texts = [it.encode() for it in words]
+        texts = [text_bytes(it) for it in words]
         said = self._said(name, *(part for it in texts for part in (it, len(it))))
         return None if said is None else said.decode()
 
     def _done(self, name: str, *arguments: Any) -> bool:
-        with self._lock:
-            return checked(CALLS[name](self._log, *arguments))
+        return checked(name, self._alone(CALLS[name], self._log, *arguments))
 
 
 class PackageLog(Log):
@@ -330,7 +356,7 @@ class PackageLog(Log):
         return None if text is None else _release(text, found)
 
     def _found(self, name: str, word: str) -> Release | None:
-        found, text = _library.Release(), word.encode()
+        found, text = _library.Release(), text_bytes(word)
         said = self._said(name, text, len(text), after=(found,))
         return None if said is None else _release(said, found)
 
@@ -344,28 +370,34 @@ class OperatorLog(Log):
 
     def namespace_state(self, name: str) -> Namespace | None:
         """What a namespace is; none if the log has none of that name."""
-        is_imported, text = ctypes.c_uint32(0), name.encode()
+        is_imported, text = ctypes.c_uint32(0), text_bytes(name)
         said = self._said("namespace", text, len(text), after=(is_imported,))
         if said is None:
             return None
         return Namespace(said.decode() if is_imported.value else None)
 
 
-def log_of(kind: Kind) -> PackageLog | OperatorLog:
+def class_of(kind: Kind | str) -> type[PackageLog] | type[OperatorLog]:
+    """The class of the logs of a kind."""
+    return PackageLog if kind_of(kind) is Kind.PACKAGE else OperatorLog
+
+
+def log_of(kind: Kind | str) -> PackageLog | OperatorLog:
     """A log of no records, of a kind."""
-    return PackageLog() if kind is Kind.PACKAGE else OperatorLog()
+    return class_of(kind)()
 
 
-def record_id(kind: Kind, envelope: bytes) -> str:
+def record_id(kind: Kind | str, envelope: Bytes) -> str:
     """The id of an envelope's record. The record need not be lawful. Raises `NoEnvelope`."""
-    text = Buffer().filled(CALLS["id"], (kind.value, envelope, len(envelope)))
+    envelope = bytes_of(envelope)
+    text = Buffer().filled("id", (kind_of(kind).value, envelope, len(envelope)))
     assert text is not None
     return text.decode()
 
 
 def library_version() -> str:
     """The library's version."""
-    text = Buffer().filled(CALLS["version"], ())
+    text = Buffer().filled("version", ())
     assert text is not None
     return text.decode()
 

@@ -10,7 +10,7 @@ that differ have one hash. No call knows whose root it is, or how long its log i
 map's root, from one signed checkpoint.
 """
 
-from ._library import BAD_ARGUMENT, CALLS, GREATEST, REFUSED, Buffer, checked
+from ._library import BAD_ARGUMENT, CALLS, GREATEST, REFUSED, Buffer, checked, text_bytes
 from .errors import BadArgument
 
 # The trees on which proofs are.
@@ -22,7 +22,7 @@ def _holds(name: str, tree: int, *arguments: str | int) -> bool:
     passed: list[bytes | int] = []
     for it in arguments:
         if isinstance(it, str):
-            text = it.encode()
+            text = text_bytes(it)
             passed += [text, len(text)]
         elif 0 <= it <= GREATEST:
             passed.append(it)
@@ -30,9 +30,9 @@ def _holds(name: str, tree: int, *arguments: str | int) -> bool:
             raise BadArgument(f"OutOfRange: {it} is not from 0 to {GREATEST}")
     status = CALLS[f"verify_{name}"](*passed)
     if status == BAD_ARGUMENT:
-        fault = Buffer().filled(CALLS["proof_fault"], (tree, *passed[-2:]))
-        raise BadArgument(fault.decode() if fault else "")
-    return False if status == REFUSED else checked(status)
+        fault = Buffer().filled("proof_fault", (tree, *passed[-2:]))
+        raise BadArgument(fault.decode() if fault else "BadText: a root or an id is not the text of one")
+    return False if status == REFUSED else checked(name, status)
 
 
 def verify_inclusion(log_id: str, record_id: str, place: int, length: int, root: str, proof: str) -> bool:

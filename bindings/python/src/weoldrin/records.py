@@ -6,7 +6,7 @@ Nothing is judged here: a log does that when the envelope is appended.
 import hashlib
 from collections.abc import Callable, Iterable
 
-from .logs import Kind
+from .logs import Kind, kind_of
 
 _PREFIX = {Kind.PACKAGE: b"WARG-PACKAGE-RECORD-SIGNATURE-V0:", Kind.OPERATOR: b"WARG-OPERATOR-RECORD-SIGNATURE-V0:"}
 _PERMISSIONS = {
@@ -47,8 +47,13 @@ def _text(field: int, value: str) -> bytes:
     return _bytes(field, value.encode()) if value else b""
 
 
-def _permissions(kind: Kind, names: Iterable[str]) -> bytes:
-    numbers = b"".join(_varint(_PERMISSIONS[kind][name]) for name in names)
+def _permissions(kind: Kind | str, names: str | Iterable[str]) -> bytes:
+    known = _PERMISSIONS[kind_of(kind)]
+    words = names.split() if isinstance(names, str) else list(names)
+    for word in words:
+        if word not in known:
+            raise ValueError(f"the permissions of a log of this kind are {', '.join(known)}, and not {word!r}")
+    numbers = b"".join(_varint(known[it]) for it in words)
     return _bytes(2, numbers) if numbers else b""
 
 
@@ -57,13 +62,16 @@ def init(public_key: str) -> bytes:
     return _bytes(1, _text(1, public_key) + _text(2, "sha256"))
 
 
-def grant(kind: Kind, public_key: str, permissions: Iterable[str]) -> bytes:
-    """The entry that gives permissions to a key."""
+def grant(kind: Kind | str, public_key: str, permissions: str | Iterable[str]) -> bytes:
+    """The entry that gives permissions to a key: their names, or a text of them with spaces between.
+
+    Raises `ValueError` where logs of this kind have no such permission, and says which they have.
+    """
     return _bytes(2, _text(1, public_key) + _permissions(kind, permissions))
 
 
-def revoke(kind: Kind, key_id: str, permissions: Iterable[str]) -> bytes:
-    """The entry that takes permissions from a key id."""
+def revoke(kind: Kind | str, key_id: str, permissions: str | Iterable[str]) -> bytes:
+    """The entry that takes permissions from a key id, which are named as for `grant`."""
     return _bytes(3, _text(1, key_id) + _permissions(kind, permissions))
 
 
@@ -96,9 +104,9 @@ def contents(prev: str | None, timestamp: int, entries: Iterable[bytes], version
     return link + _number(2, version) + time + b"".join(_bytes(4, entry) for entry in entries)
 
 
-def message(kind: Kind, contents: bytes) -> bytes:
+def message(kind: Kind | str, contents: bytes) -> bytes:
     """What a record's signature signs."""
-    return _PREFIX[kind] + contents
+    return _PREFIX[kind_of(kind)] + contents
 
 
 def envelope(contents: bytes, key_id: str, signature: str) -> bytes:
@@ -106,6 +114,6 @@ def envelope(contents: bytes, key_id: str, signature: str) -> bytes:
     return _bytes(1, contents) + _text(2, key_id) + _text(3, signature)
 
 
-def signed(kind: Kind, contents: bytes, public_key: str, sign: Callable[[bytes], str]) -> bytes:
+def signed(kind: Kind | str, contents: bytes, public_key: str, sign: Callable[[bytes], str]) -> bytes:
     """The envelope of a record, signed by a key: `sign` gives the text of a signature of a message."""
     return envelope(contents, key_id(public_key), sign(message(kind, contents)))

@@ -1,0 +1,45 @@
+"""Prints what strangers wrote: nothing of it reaches a terminal, or a reader of lines, as more than a sign."""
+
+import io
+import os
+import re
+import sys
+from collections.abc import Iterable
+
+# The last two numbers of each plane are given to no character for good.
+_LAST = "".join(chr(plane + it) for plane in range(0, 0x110000, 0x10000) for it in (0xFFFE, 0xFFFF))
+# Control characters, separators of lines, marks of direction and of the byte order, and what is no character.
+_HIDDEN = "\x00-\x1f\x7f-\x9f\u061c\u200e\u200f\u2028-\u202e\u2066-\u2069\ufeff\ud800-\udfff\ufdd0-\ufdef" + _LAST
+_ESCAPED = re.compile(rf"[\\{_HIDDEN}]")
+
+
+def printable(text: str) -> str:
+    """A text as it is printed: `\\u{1b}` in place of a control character, a separator of lines, a mark of direction or
+    a number that is no character, and two backslashes for one. Two texts that are printed alike are one."""
+    return _ESCAPED.sub(lambda it: "\\\\" if it[0] == "\\" else f"\\u{{{ord(it[0]):x}}}", text)
+
+
+def print_lines(lines: Iterable[str]) -> None:
+    """Prints lines to standard output. Where its reader has closed it, the rest is left out in silence.
+
+    A letter that its encoding does not have is written by its number. Raises `OSError` where a line can't be written
+    for another reason.
+    """
+    if isinstance(sys.stdout, io.TextIOWrapper):
+        sys.stdout.reconfigure(errors="backslashreplace")
+    try:
+        for line in lines:
+            print(line)
+        sys.stdout.flush()
+    except BrokenPipeError:
+        _drop_output()
+    except OSError:
+        _drop_output()
+        raise
+
+
+def _drop_output() -> None:
+    """Has what standard output still holds go nowhere, so that the interpreter does not fail of it at its end."""
+    nowhere = os.open(os.devnull, os.O_WRONLY)
+    os.dup2(nowhere, sys.stdout.fileno())
+    os.close(nowhere)
