@@ -1,8 +1,10 @@
 //! Why a call did nothing.
+use crate::printable::printable;
 use crate::raw;
 use std::fmt;
 
-/// What the library says of an error: its name, and a sentence.
+/// What the library says of an error: its name, and a sentence. Both are as the library has them, which quotes strangers' texts, such as
+/// key ids, to the letter; `Display` is what can be [`printed`](crate::printable) of them, on one line.
 #[derive(Clone, Debug, PartialEq, Eq)]
 pub struct Reason {
     /// The error's name, as `SignatureError` or `ProtobufEnvelope.Truncated`.
@@ -14,9 +16,9 @@ pub struct Reason {
 impl fmt::Display for Reason {
     fn fmt(&self, f: &mut fmt::Formatter<'_>) -> fmt::Result {
         if self.sentence.is_empty() {
-            return f.write_str(&self.name);
+            return printable(&self.name).fmt(f);
         }
-        write!(f, "{}: {}", self.name, self.sentence)
+        write!(f, "{}: {}", printable(&self.name), printable(&self.sentence))
     }
 }
 
@@ -34,7 +36,8 @@ pub enum Error {
     /// [`Log::ask`](crate::Log::ask) and [`Log::append_answered`](crate::Log::append_answered), or by
     /// [`Log::append`](crate::Log::append).
     UnknownAlgorithm,
-    /// An argument is not of its form, or the log was resumed and has no records. A text that is no saved state, or no proof, has the fault's name.
+    /// An argument is not of its form, or the log was resumed and has no records. What the library says of it is there, such as the
+    /// name of the fault of a text that is no saved state, or no proof.
     BadArgument(Option<Reason>),
 }
 

@@ -22,8 +22,7 @@
 //!         Entry::release("1.0.0", &sha256_text(b"what is released")),
 //!     ],
 //! };
-//! let signature = |message: &[u8]| alice.sign(message).unwrap_or_default();
-//! let envelope = record.signed(&key_id(alice.public_key()), signature);
+//! let envelope = record.signed(&key_id(alice.public_key()), |message| alice.sign(message))?;
 //!
 //! let mut log = PackageLog::new()?;
 //! log.append_signed(&envelope)?;
@@ -36,7 +35,7 @@
 //! # #[cfg(not(feature = "openssl"))]
 //! # fn main() {}
 //! ```
-#![warn(missing_docs)]
+#![warn(missing_docs, clippy::undocumented_unsafe_blocks)]
 
 mod buffer;
 mod error;
@@ -45,6 +44,7 @@ mod log;
 mod operator;
 pub mod p256;
 mod package;
+mod printable;
 pub mod proofs;
 mod question;
 mod raw;
@@ -55,11 +55,13 @@ pub use kind::{Kind, Operator, OperatorPermission, Package, PackagePermission, P
 pub use log::{Comparison, Link, Log, Record};
 pub use operator::{NamespaceState, OperatorLog};
 pub use package::{PackageLog, Release, ReleaseState, Releases};
+pub use printable::{printable, Printable};
 pub use question::Question;
 
 /// The text of the id of an envelope's record. The record need not be lawful; the error is [`Error::NoEnvelope`] where the bytes are
 /// no envelope.
 pub fn record_id<K: Kind>(envelope: &[u8]) -> Result<String, Error> {
+    // SAFETY: each pointer goes with the length of its slice (`raw`).
     let found = buffer::filled(envelope.len() + buffer::SENTENCE, |text, used| unsafe {
         let (at, len) = (envelope.as_ptr(), envelope.len());
         raw::warg_id(K::NUMBER, at, len, text.as_mut_ptr(), text.len(), used)
@@ -71,6 +73,7 @@ pub fn record_id<K: Kind>(envelope: &[u8]) -> Result<String, Error> {
 /// [`Error::BadArgument`] where the key's text can't be read, [`Error::UnknownAlgorithm`] where its algorithm is not `ecdsa-p256`, and
 /// otherwise [`Error::BadArgument`] where the signature's text can't be read.
 pub fn verify(key: &str, message: &[u8], signature: &str) -> Result<bool, Error> {
+    // SAFETY: each pointer goes with the length of its slice (`raw`).
     let status = unsafe {
         let (key_at, message_at, signature_at) = (key.as_ptr(), message.as_ptr(), signature.as_ptr());
         raw::warg_verify(key_at, key.len(), message_at, message.len(), signature_at, signature.len())
@@ -84,6 +87,7 @@ pub fn verify(key: &str, message: &[u8], signature: &str) -> Result<bool, Error>
 
 /// The library's version.
 pub fn library_version() -> Result<String, Error> {
+    // SAFETY: each pointer goes with the length of its slice (`raw`).
     let found = buffer::filled(0, |text, used| unsafe { raw::warg_version(text.as_mut_ptr(), text.len(), used) })?;
     found.map(buffer::text_of).ok_or(Error::BadArgument(None))
 }

@@ -23,7 +23,7 @@ pub struct Log<K: Kind> {
     kind: PhantomData<K>,
 }
 
-// What the handle owns is proved to cross threads. It is not `Sync`, so that one call at a time is made.
+// SAFETY: what the handle owns is proved to cross threads. It is not `Sync`, so that one call at a time is made.
 unsafe impl<K: Kind> Send for Log<K> {}
 
 /// A record that a log keeps.
@@ -69,6 +69,7 @@ impl<K: Kind> Log<K> {
     /// A log of no records. The error is [`Error::OutOfMemory`].
     pub fn new() -> Result<Self, Error> {
         let log = Log { raw: UnsafeCell::new(raw::Log { at: ptr::null_mut(), is_open: false }), kind: PhantomData };
+        // SAFETY: no other call has the log, and each pointer goes with the length of its slice (`raw`).
         log.done(|raw| unsafe { raw::warg_open(raw, K::NUMBER) })?;
         Ok(log)
     }
@@ -77,6 +78,7 @@ impl<K: Kind> Log<K> {
     /// [`Error::Refused`] where no signature could help, and [`Error::NoEnvelope`] where the bytes are none.
     pub fn ask(&self, envelope: &[u8]) -> Result<Question, Error> {
         let mut asked = raw::Asked::default();
+        // SAFETY: no other call has the log, and each pointer goes with the length of its slice (`raw`).
         let found = self.said(envelope.len() + SENTENCE, |log, bytes, used| unsafe {
             let room = bytes.len();
             let to = bytes.as_mut_ptr();
@@ -90,6 +92,7 @@ impl<K: Kind> Log<K> {
     pub fn append_answered(&mut self, envelope: &[u8], question: &Question, belongs: bool) -> Result<(), Error> {
         let asked = &question.asked;
         let question = question.bytes.as_slice();
+        // SAFETY: no other call has the log, and each pointer goes with the length of its slice (`raw`).
         self.said(envelope.len() + SENTENCE, |log, text, used| unsafe {
             raw::warg_append(
                 log,
@@ -111,6 +114,7 @@ impl<K: Kind> Log<K> {
     /// its signature, and that is by a key of another algorithm, the error is [`Error::UnknownAlgorithm`]: use [`Log::append`]
     /// then.
     pub fn append_signed(&mut self, envelope: &[u8]) -> Result<(), Error> {
+        // SAFETY: no other call has the log, and each pointer goes with the length of its slice (`raw`).
         self.said(envelope.len() + SENTENCE, |log, text, used| unsafe {
             let room = text.len();
             let to = text.as_mut_ptr();
@@ -128,12 +132,14 @@ impl<K: Kind> Log<K> {
 
     /// The text of the id of the last record.
     pub fn head(&self) -> Result<Option<String>, Error> {
+        // SAFETY: no other call has the log, and each pointer goes with the length of its slice (`raw`).
         self.text(|log, text, used| unsafe { raw::warg_head(log, text.as_mut_ptr(), text.len(), used) })
     }
 
     /// How many records there are. The error is [`Error::BadArgument`] for a resumed log.
     pub fn len(&self) -> Result<usize, Error> {
         let mut length = 0;
+        // SAFETY: no other call has the log, and each pointer goes with the length of its slice (`raw`).
         self.done(|log| unsafe { raw::warg_length(log, &mut length) })?;
         Ok(length)
     }
@@ -146,6 +152,7 @@ impl<K: Kind> Log<K> {
     /// The record at a place, from 0. The error is [`Error::BadArgument`] for a resumed log.
     pub fn record(&self, place: usize) -> Result<Option<Record>, Error> {
         let mut kept = raw::Kept::default();
+        // SAFETY: no other call has the log, and each pointer goes with the length of its slice (`raw`).
         let found = self.said(0, |log, bytes, used| unsafe {
             raw::warg_record(log, place, bytes.as_mut_ptr(), bytes.len(), used, &mut kept)
         })?;
@@ -158,6 +165,7 @@ impl<K: Kind> Log<K> {
     /// Whether a key id holds a permission.
     pub fn holds(&self, key_id: &str, permission: K::Permission) -> Result<bool, Error> {
         let permission = permission.as_str();
+        // SAFETY: no other call has the log, and each pointer goes with the length of its slice (`raw`).
         self.done(|log| unsafe {
             raw::warg_holds(log, key_id.as_ptr(), key_id.len(), permission.as_ptr(), permission.len())
         })
@@ -166,6 +174,7 @@ impl<K: Kind> Log<K> {
     /// The permissions that a key id holds; none if no record spoke of it.
     #[doc(alias = "key_permissions")]
     pub fn permissions(&self, key_id: &str) -> Result<Option<Vec<K::Permission>>, Error> {
+        // SAFETY: no other call has the log, and each pointer goes with the length of its slice (`raw`).
         let found = self.text(|log, text, used| unsafe {
             let room = text.len();
             raw::warg_permissions(log, key_id.as_ptr(), key_id.len(), text.as_mut_ptr(), room, used)
@@ -175,6 +184,7 @@ impl<K: Kind> Log<K> {
 
     /// The text of the key of a key id.
     pub fn public_key(&self, key_id: &str) -> Result<Option<String>, Error> {
+        // SAFETY: no other call has the log, and each pointer goes with the length of its slice (`raw`).
         self.text(|log, text, used| unsafe {
             raw::warg_key(log, key_id.as_ptr(), key_id.len(), text.as_mut_ptr(), text.len(), used)
         })
@@ -188,6 +198,7 @@ impl<K: Kind> Log<K> {
         let mut links = vec![raw::Link::default(); 16];
         loop {
             let mut used = 0;
+            // SAFETY: no other call has the log, and each pointer goes with the length of its slice (`raw`).
             let status = unsafe {
                 raw::warg_chain(
                     self.raw.get(),
@@ -221,6 +232,7 @@ impl<K: Kind> Log<K> {
             return Ok(Comparison::Same);
         }
         let mut found = raw::Comparison::default();
+        // SAFETY: no other call has the log, and each pointer goes with the length of its slice (`raw`).
         self.done(|log| unsafe { raw::warg_compare(log, other.raw.get(), &mut found) })?;
         Ok(match found.case {
             0 => Comparison::Same,
@@ -234,6 +246,7 @@ impl<K: Kind> Log<K> {
     /// The state as a text of JSON: all that further records are judged by and that is looked up, but no records. The error is
     /// [`Error::BadArgument`] where a time of the state lies before 1970, which its text can't say.
     pub fn to_json(&self) -> Result<String, Error> {
+        // SAFETY: no other call has the log, and each pointer goes with the length of its slice (`raw`).
         let found = self.text(|log, text, used| unsafe { raw::warg_save(log, text.as_mut_ptr(), text.len(), used) })?;
         found.ok_or_else(|| Error::of(raw::BAD_ARGUMENT, b"TimeBeforeEpoch: a time of the state lies before 1970"))
     }
@@ -242,6 +255,7 @@ impl<K: Kind> Log<K> {
     /// is what was saved is yours to keep.
     pub fn from_json(saved: &str) -> Result<Self, Error> {
         let log = Self::new()?;
+        // SAFETY: no other call has the log, and each pointer goes with the length of its slice (`raw`).
         log.said(0, |raw, text, used| unsafe {
             let room = text.len();
             let to = text.as_mut_ptr();
@@ -279,6 +293,7 @@ impl<K: Kind> Log<K> {
 
 impl<K: Kind> Drop for Log<K> {
     fn drop(&mut self) {
+        // SAFETY: the handle is owned, and this is its last use.
         unsafe { raw::warg_close(self.raw.get()) }
     }
 }

@@ -24,6 +24,7 @@ impl OperatorLog {
     /// What a namespace is; none if the log has none of that name.
     pub fn namespace_state(&self, name: &str) -> Result<Option<NamespaceState>, Error> {
         let mut is_imported = 0;
+        // SAFETY: no other call has the log, and each pointer goes with the length of its slice (`raw`).
         let found = self.said(0, |log, text, used| unsafe {
             let room = text.len();
             let to = text.as_mut_ptr();

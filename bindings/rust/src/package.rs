@@ -74,9 +74,11 @@ impl Release {
     }
 }
 
+// A time before 1970 is reached in two steps: the earliest is 2^63 seconds away, which Rust 1.63 takes for too many.
 fn time(seconds: i64, nanos: u32) -> SystemTime {
-    let whole = Duration::from_secs(seconds.unsigned_abs());
-    let start = if seconds < 0 { SystemTime::UNIX_EPOCH - whole } else { SystemTime::UNIX_EPOCH + whole };
+    let half = seconds.unsigned_abs() / 2;
+    let (half, rest) = (Duration::from_secs(half), Duration::from_secs(seconds.unsigned_abs() - half));
+    let start = if seconds < 0 { SystemTime::UNIX_EPOCH - half - rest } else { SystemTime::UNIX_EPOCH + half + rest };
     start + Duration::new(0, nanos)
 }
 
@@ -85,6 +87,7 @@ impl PackageLog {
     /// [`Error::BadArgument`] where the text is no requirement.
     #[doc(alias = "find_latest_release")]
     pub fn latest(&self, requirement: &str) -> Result<Option<Release>, Error> {
+        // SAFETY: no other call has the log, and each pointer goes with the length of its slice (`raw`).
         self.found(|log, text, used, release| unsafe {
             let (at, len) = (requirement.as_ptr(), requirement.len());
             raw::warg_latest(log, at, len, text.as_mut_ptr(), text.len(), used, release)
@@ -93,6 +96,7 @@ impl PackageLog {
 
     /// The release of a version, yanked or not. The error is [`Error::BadArgument`] where the text is no version.
     pub fn release(&self, version: &str) -> Result<Option<Release>, Error> {
+        // SAFETY: no other call has the log, and each pointer goes with the length of its slice (`raw`).
         self.found(|log, text, used, release| unsafe {
             let (at, len) = (version.as_ptr(), version.len());
             raw::warg_release(log, at, len, text.as_mut_ptr(), text.len(), used, release)
@@ -127,6 +131,7 @@ impl Iterator for Releases<'_> {
 
     fn next(&mut self) -> Option<Self::Item> {
         let place = self.place;
+        // SAFETY: no other call has the log, and each pointer goes with the length of its slice (`raw`).
         let found = self.log.found(|log, text, used, release| unsafe {
             raw::warg_releases(log, place, text.as_mut_ptr(), text.len(), used, release)
         });

@@ -19,6 +19,7 @@ pub fn verify_inclusion(
     root: &str,
     proof: &str,
 ) -> Result<bool, Error> {
+    // SAFETY: each pointer goes with the length of its slice (`raw`).
     let status = unsafe {
         raw::warg_verify_inclusion(
             log_id.as_ptr(),
@@ -44,6 +45,7 @@ pub fn verify_consistency(
     new_root: &str,
     proof: &str,
 ) -> Result<bool, Error> {
+    // SAFETY: each pointer goes with the length of its slice (`raw`).
     let status = unsafe {
         raw::warg_verify_consistency(
             old_length,
@@ -61,6 +63,7 @@ pub fn verify_consistency(
 
 /// Whether the registry's map says that a log's last record is this one.
 pub fn verify_presence(log_id: &str, record_id: &str, root: &str, proof: &str) -> Result<bool, Error> {
+    // SAFETY: each pointer goes with the length of its slice (`raw`).
     let status = unsafe {
         raw::warg_verify_presence(
             log_id.as_ptr(),
@@ -78,6 +81,7 @@ pub fn verify_presence(log_id: &str, record_id: &str, root: &str, proof: &str) -
 
 /// Whether the registry's map says nothing of a log.
 pub fn verify_absence(log_id: &str, root: &str, proof: &str) -> Result<bool, Error> {
+    // SAFETY: each pointer goes with the length of its slice (`raw`).
     let status = unsafe {
         raw::warg_verify_absence(log_id.as_ptr(), log_id.len(), root.as_ptr(), root.len(), proof.as_ptr(), proof.len())
     };
@@ -95,6 +99,7 @@ fn said(status: u32, tree: u32, proof: &str) -> Result<bool, Error> {
 
 // What is wrong with the text as that of a proof on the tree, if anything is.
 fn fault_of(tree: u32, proof: &str) -> Result<Option<Reason>, Error> {
+    // SAFETY: each pointer goes with the length of its slice (`raw`).
     let name = buffer::filled(0, |text, used| unsafe {
         raw::warg_proof_fault(tree, proof.as_ptr(), proof.len(), text.as_mut_ptr(), text.len(), used)
     })?;

@@ -1,4 +1,11 @@
-//! The library's calls, as `include/warg.h` declares them.
+//! The library's calls, as `include/warg.h` declares them, and what is owed to each:
+//!
+//! - Each pointer leads to as many initialised bytes, or links, as the length behind it says. Here both are those of one slice, or the
+//!   pointer is that of a reference to a structure.
+//! - What a call writes to overlaps nothing else that it has. Here that is borrowed alone, as `&mut`; a log is behind an `UnsafeCell`
+//!   of its own, and two of one call are two.
+//! - A log is all zeros, or as the last call left it, and serves one call at a time. A [`Log`](crate::Log) owns its handle and is not
+//!   `Sync`, and no call is made within another.
 use std::ffi::c_void;
 
 pub(crate) const OK: u32 = 0;

@@ -3,7 +3,7 @@
 //! Nothing is judged here: a log does that when the envelope is appended.
 use crate::kind::{Kind, Operator, Package, Permission};
 use std::marker::PhantomData;
-use std::time::{Duration, SystemTime};
+use std::time::SystemTime;
 
 /// An entry of a record, of a kind of log.
 #[derive(Clone, Debug)]
@@ -83,10 +83,12 @@ impl<K: Kind> NewRecord<K> {
         self.entries.iter().fold(head, |record, entry| record.bytes(4, &entry.bytes)).0
     }
 
-    /// The envelope of the record, signed under a key id: `sign` gives the text of the signature of a message.
-    pub fn signed(&self, key_id: &str, sign: impl FnOnce(&[u8]) -> String) -> Vec<u8> {
+    /// The envelope of the record, signed under a key id: `sign` gives the text of the signature of a message. Where it fails, so does
+    /// this, with its error.
+    pub fn signed<E>(&self, key_id: &str, sign: impl FnOnce(&[u8]) -> Result<String, E>) -> Result<Vec<u8>, E> {
         let contents = self.contents();
-        envelope(&contents, key_id, &sign(&message::<K>(&contents)))
+        let signature = sign(&message::<K>(&contents))?;
+        Ok(envelope(&contents, key_id, &signature))
     }
 }
 
@@ -105,8 +107,13 @@ fn parts(time: SystemTime) -> (i64, u32) {
     match time.duration_since(SystemTime::UNIX_EPOCH) {
         Ok(since) => (since.as_secs() as i64, since.subsec_nanos()),
         Err(error) => {
-            let before = error.duration() + Duration::from_nanos(999_999_999);
-            (-(before.as_secs() as i64), 999_999_999 - before.subsec_nanos())
+            let before = error.duration();
+            let (whole, part) = (before.as_secs() as i64, before.subsec_nanos());
+            // The earliest time is 2^63 seconds before, which is its own opposite.
+            match part {
+                0 => (whole.wrapping_neg(), 0),
+                _ => (-whole - 1, 1_000_000_000 - part),
+            }
         }
     }
 }

@@ -19,6 +19,7 @@ extern "C" {
     fn d2i_AutoPrivateKey(key: *mut *mut c_void, der: *mut *const u8, n: c_long) -> *mut c_void;
     fn i2d_PrivateKey(key: *const c_void, der: *mut *mut u8) -> c_int;
     fn EVP_PKEY_Q_keygen(library: *mut c_void, query: *const c_char, of: *const c_char, ...) -> *mut c_void;
+    fn EVP_PKEY_set_utf8_string_param(key: *mut c_void, name: *const c_char, value: *const c_char) -> c_int;
     fn EVP_PKEY_free(key: *mut c_void);
     fn EVP_MD_CTX_new() -> *mut c_void;
     fn EVP_MD_CTX_free(context: *mut c_void);
@@ -50,7 +51,7 @@ extern "C" {
 }
 
 /// The same as [`verify`](super::verify) by libcrypto. What is read as a key and as a signature is what the library reads, and
-/// libcrypto is asked of nothing else.
+/// libcrypto is asked of nothing else. Its queue of errors is left as it was.
 pub fn verify_by_openssl(question: &Question) -> bool {
     let _errors = Errors::mark();
     match (point_of(question.key()), signature_of(question.signature())) {
@@ -64,9 +65,10 @@ pub fn verify_by_openssl(question: &Question) -> bool {
 /// The text of the SHA-256 digest of bytes, as it stands in records.
 pub fn sha256_text(bytes: &[u8]) -> String {
     let mut digest = [0; 32];
-    // It fails for want of memory alone.
+    // SAFETY: the bytes go with their number, and a digest of SHA-256 has 32. The null pointers ask for nothing.
     let status =
         unsafe { EVP_Digest(bytes.as_ptr(), bytes.len(), digest.as_mut_ptr(), null_mut(), EVP_sha256(), null_mut()) };
+    // It fails for want of memory alone.
     assert_eq!(status, 1, "libcrypto could not hash");
     let digits: String = digest.iter().map(|it| format!("{it:02x}")).collect();
     format!("sha256:{digits}")
@@ -77,13 +79,25 @@ pub fn key_id(public_key: &str) -> String {
     sha256_text(public_key.as_bytes())
 }
 
-/// libcrypto did not do what was asked of it.
+/// Why libcrypto did not do what was asked of it.
 #[derive(Clone, Copy, Debug, PartialEq, Eq)]
-pub struct CryptoError;
+#[non_exhaustive]
+pub enum CryptoError {
+    /// The bytes are the DER of no private key, or there are others behind it.
+    NotAKey,
+    /// The key is not one of the curve P-256.
+    OtherKey,
+    /// It failed, as for want of memory or of random numbers.
+    Failed,
+}
 
 impl fmt::Display for CryptoError {
     fn fmt(&self, f: &mut fmt::Formatter<'_>) -> fmt::Result {
-        f.write_str("libcrypto could not do it")
+        f.write_str(match self {
+            CryptoError::NotAKey => "the bytes are the DER of no private key",
+            CryptoError::OtherKey => "the key is not one of the curve P-256",
+            CryptoError::Failed => "libcrypto failed",
+        })
     }
 }
 
@@ -98,20 +112,34 @@ pub struct SigningKey {
 impl SigningKey {
     /// A new key.
     pub fn generate() -> Result<Self, CryptoError> {
+        let _errors = Errors::mark();
         let (of, curve) = (b"EC\0".as_ptr().cast(), b"P-256\0".as_ptr().cast::<c_char>());
-        Self::of_key(Key(unsafe { EVP_PKEY_Q_keygen(null_mut(), null(), of, curve) }))
+        // SAFETY: the words end with a zero byte, and a key of "EC" takes one more, its curve.
+        let key = Key(unsafe { EVP_PKEY_Q_keygen(null_mut(), null(), of, curve) });
+        if key.0.is_null() {
+            return Err(CryptoError::Failed);
+        }
+        Self::of_key(key)
     }
 
-    /// A key that was saved by [`SigningKey::to_der`], or is in another of the forms that OpenSSL reads.
+    /// A key that was saved by [`SigningKey::to_der`], or by OpenSSL: the DER of RFC 5915 or of PKCS#8, with the point in any of the
+    /// forms of SEC 1 or left out, and the curve by its name or by its parameters. The errors are [`CryptoError::NotAKey`], also where
+    /// a byte stands behind the key, and [`CryptoError::OtherKey`].
     pub fn from_der(der: &[u8]) -> Result<Self, CryptoError> {
         let _errors = Errors::mark();
         let mut at = der.as_ptr();
-        let length = c_long::try_from(der.len()).map_err(|_| CryptoError)?;
-        Self::of_key(Key(unsafe { d2i_AutoPrivateKey(null_mut(), &mut at, length) }))
+        let length = c_long::try_from(der.len()).map_err(|_| CryptoError::NotAKey)?;
+        // SAFETY: the bytes go with their number, and `at` is set to one of them or to their end.
+        let key = Key(unsafe { d2i_AutoPrivateKey(null_mut(), &mut at, length) });
+        if key.0.is_null() || at != der.as_ptr_range().end {
+            return Err(CryptoError::NotAKey);
+        }
+        Self::of_key(key)
     }
 
-    /// The key as the DER of RFC 5915. Keep it secret.
+    /// The key as the DER of RFC 5915, with the name of the curve. Keep it secret.
     pub fn to_der(&self) -> Result<Vec<u8>, CryptoError> {
+        let _errors = Errors::mark();
         self.key.written(i2d_PrivateKey)
     }
 
@@ -122,29 +150,32 @@ impl SigningKey {
 
     /// The text of a signature of the message.
     pub fn sign(&self, message: &[u8]) -> Result<String, CryptoError> {
-        let context = Context(unsafe { EVP_MD_CTX_new() });
+        let _errors = Errors::mark();
+        let context = Context::new().ok_or(CryptoError::Failed)?;
         // The DER of a signature takes at most 72 bytes.
         let (mut signature, mut length) = (vec![0; 128], 128);
-        let is_signed = !context.0.is_null()
-            && unsafe {
-                EVP_DigestSignInit(context.0, null_mut(), EVP_sha256(), null_mut(), self.key.0) == 1
-                    && EVP_DigestSign(context.0, signature.as_mut_ptr(), &mut length, message.as_ptr(), message.len()) == 1
-            };
+        // SAFETY: the context and the key are there, the message goes with its number of bytes, and so does the signature's room.
+        let is_signed = unsafe {
+            EVP_DigestSignInit(context.0, null_mut(), EVP_sha256(), null_mut(), self.key.0) == 1
+                && EVP_DigestSign(context.0, signature.as_mut_ptr(), &mut length, message.as_ptr(), message.len()) == 1
+        };
         if !is_signed {
-            return Err(CryptoError);
+            return Err(CryptoError::Failed);
         }
         signature.truncate(length);
         Ok(text_of(&signature))
     }
 
+    // The key is written in one form from now on, whatever the one that it was read in.
     fn of_key(key: Key) -> Result<Self, CryptoError> {
-        if key.0.is_null() {
-            return Err(CryptoError);
+        let is_written_so = key.set(b"encoding\0", b"named_curve\0") && key.set(b"point-format\0", b"uncompressed\0");
+        if !is_written_so {
+            return Err(CryptoError::OtherKey);
         }
         let der = key.written(i2d_PUBKEY)?;
         // The identifier, and the point in its uncompressed form.
         let point = der.strip_prefix(&[0x30, 0x59]).and_then(|it| it.strip_prefix(&IDENTIFIER));
-        let point = point.and_then(|it| it.strip_prefix(&[0x03, 0x42, 0x00, 0x04])).ok_or(CryptoError)?;
+        let point = point.and_then(|it| it.strip_prefix(&[0x03, 0x42, 0x00, 0x04])).ok_or(CryptoError::OtherKey)?;
         let sign = 2 + (point[63] & 1);
         let public_key = text_of(&[&[sign], &point[..32]].concat());
         Ok(SigningKey { key, public_key })
@@ -160,8 +191,9 @@ impl fmt::Debug for SigningKey {
 // An EVP_PKEY, or none.
 struct Key(*mut c_void);
 
-// A key is not changed once it is made, and libcrypto counts its uses atomically.
+// SAFETY: a key is not changed once it is made, and libcrypto counts its uses atomically.
 unsafe impl Send for Key {}
+// SAFETY: so too.
 unsafe impl Sync for Key {}
 
 impl Key {
@@ -170,26 +202,35 @@ impl Key {
         let length = point.len() as u8;
         let der = [&[0x30, length + 24], &IDENTIFIER[..], &[0x03, length + 1, 0], point].concat();
         let mut at = der.as_ptr();
+        // SAFETY: the bytes go with their number.
         let key = Key(unsafe { d2i_PUBKEY(null_mut(), &mut at, der.len() as c_long) });
         (!key.0.is_null()).then_some(key)
     }
 
+    // Sets a parameter of a key that is there, and whether it has one of that name and value. Both end with a zero byte.
+    fn set(&self, name: &[u8], value: &[u8]) -> bool {
+        debug_assert!(name.ends_with(&[0]) && value.ends_with(&[0]));
+        // SAFETY: the key is there and used by no one else yet, and the texts end with a zero byte.
+        unsafe { EVP_PKEY_set_utf8_string_param(self.0, name.as_ptr().cast(), value.as_ptr().cast()) == 1 }
+    }
+
     fn verifies(&self, message: &[u8], signature: &[u8]) -> bool {
-        let context = Context(unsafe { EVP_MD_CTX_new() });
-        !context.0.is_null()
-            && unsafe {
-                EVP_DigestVerifyInit(context.0, null_mut(), EVP_sha256(), null_mut(), self.0) == 1
-                    && EVP_DigestVerify(context.0, signature.as_ptr(), signature.len(), message.as_ptr(), message.len()) == 1
-            }
+        // SAFETY: the context and the key are there, and the bytes of the signature and of the message go with their numbers.
+        Context::new().map_or(false, |context| unsafe {
+            EVP_DigestVerifyInit(context.0, null_mut(), EVP_sha256(), null_mut(), self.0) == 1
+                && EVP_DigestVerify(context.0, signature.as_ptr(), signature.len(), message.as_ptr(), message.len()) == 1
+        })
     }
 
     // What a function of libcrypto writes of the key.
     fn written(&self, write: unsafe extern "C" fn(*const c_void, *mut *mut u8) -> c_int) -> Result<Vec<u8>, CryptoError> {
+        // SAFETY: the key is there, and no room to write to asks for the number of bytes.
         let length = unsafe { write(self.0, null_mut()) };
-        let mut der = vec![0; usize::try_from(length).map_err(|_| CryptoError)?];
+        let mut der = vec![0; usize::try_from(length).map_err(|_| CryptoError::Failed)?];
         let mut at = der.as_mut_ptr();
+        // SAFETY: there is room for the bytes that the same call said.
         if der.is_empty() || unsafe { write(self.0, &mut at) } != length {
-            return Err(CryptoError);
+            return Err(CryptoError::Failed);
         }
         Ok(der)
     }
@@ -197,16 +238,18 @@ impl Key {
 
 impl Drop for Key {
     fn drop(&mut self) {
+        // SAFETY: the key is owned, or none, which is let go of too.
         unsafe { EVP_PKEY_free(self.0) }
     }
 }
 
-// What is refused leaves no error in the thread's queue: those behind the mark go when this is dropped.
+// What fails leaves no error in the thread's queue: those behind the mark go when this is dropped.
 struct Errors;
 
 impl Errors {
     fn mark() -> Self {
         // It fails where the queue is empty, and all of it goes then.
+        // SAFETY: it needs nothing.
         unsafe { ERR_set_mark() };
         Errors
     }
@@ -214,15 +257,26 @@ impl Errors {
 
 impl Drop for Errors {
     fn drop(&mut self) {
+        // SAFETY: it needs nothing.
         unsafe { ERR_pop_to_mark() };
     }
 }
 
-// An EVP_MD_CTX, or none.
+// An EVP_MD_CTX.
 struct Context(*mut c_void);
+
+impl Context {
+    // A new one, if there is memory.
+    fn new() -> Option<Context> {
+        // SAFETY: it needs nothing.
+        let context = unsafe { EVP_MD_CTX_new() };
+        (!context.is_null()).then_some(Context(context))
+    }
+}
 
 impl Drop for Context {
     fn drop(&mut self) {
+        // SAFETY: the context is owned, and this is its last use.
         unsafe { EVP_MD_CTX_free(self.0) }
     }
 }

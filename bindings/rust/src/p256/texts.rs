@@ -14,6 +14,7 @@ extern "C" {
 // The text of a key or of a signature.
 pub(super) fn text_of(bytes: &[u8]) -> String {
     let mut digits = vec![0; (bytes.len() + 2) / 3 * 4 + 1];
+    // SAFETY: there is room for four digits of each three bytes, and for the zero byte behind them.
     let length = unsafe { EVP_EncodeBlock(digits.as_mut_ptr(), bytes.as_ptr(), bytes.len() as c_int) };
     digits.truncate(length.max(0) as usize);
     format!("{ALGORITHM}:{}", String::from_utf8_lossy(&digits))
@@ -26,6 +27,7 @@ fn bytes_of(text: &str) -> Option<Vec<u8>> {
     }
     let digits = text.strip_prefix(ALGORITHM)?.strip_prefix(':')?.as_bytes();
     let mut bytes = vec![0; digits.len()];
+    // SAFETY: each four digits say three bytes, so there is room for them.
     let length = unsafe { EVP_DecodeBlock(bytes.as_mut_ptr(), digits.as_ptr(), digits.len() as c_int) };
     // The padding counts as zeros there.
     let padding = digits.iter().rev().take(2).take_while(|&&digit| digit == b'=').count();

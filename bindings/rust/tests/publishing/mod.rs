@@ -20,7 +20,7 @@ pub fn next<K: Kind>(log: &Log<K>, entries: Vec<Entry<K>>) -> NewRecord<K> {
 
 /// The envelope of a record, in the name of a signer's key, signed by a key.
 pub fn signed<K: Kind>(record: &NewRecord<K>, named: &SigningKey, key: &SigningKey) -> Vec<u8> {
-    record.signed(&key_id(named.public_key()), |message| key.sign(message).expect("a signature"))
+    record.signed(&key_id(named.public_key()), |message| key.sign(message)).expect("a signature")
 }
 
 /// The entries of the record at a place: alice begins the log and lets bob release, who then releases a version a record.
