@@ -1,11 +1,13 @@
 """The rows of conformance/logs that speak of whole logs, states, chains and comparisons, answer for answer."""
 
+import binascii
 import io
 import itertools
 import json
 import pathlib
 import unittest
 from collections import Counter
+from collections.abc import Iterator
 
 from weoldrin import (
     BadArgument,
@@ -17,7 +19,6 @@ from weoldrin import (
     PackageLog,
     Refusal,
     append_all,
-    envelopes_of,
     log_of,
     record_id,
 )
@@ -142,7 +143,7 @@ class Conformance(unittest.TestCase):
                         self._fail(name, block, seen)
 
     def _program(self, name: str, block: Block, words: list[str]) -> None:
-        """What the program `warg_audit` prints, which reads the same files."""
+        """What the program `warg_audit` prints."""
         parts: dict[str, str] = {}
         for line in block.lines:
             if not line.text.startswith("? "):
@@ -168,10 +169,19 @@ class Conformance(unittest.TestCase):
                 self._fail(name, block, f"{line.number}: {status} {printed} {refusal}")
 
 
+def strings_of(given: bytes) -> Iterator[bytes]:
+    """What the lines say that `warg_audit` reads, which passes over none, unlike the tool and the package."""
+    for place, line in enumerate(io.BytesIO(given)):
+        try:
+            yield binascii.unhexlify(line.removesuffix(b"\n").removesuffix(b"\r"))
+        except ValueError:
+            raise BadLine(place, place + 1) from None
+
+
 def audited(kind: Kind, given: bytes) -> tuple[int, str, Refusal | None]:
     """The status and the text of an audit of lines, and why a record is refused."""
     try:
-        envelopes = list(envelopes_of(io.BytesIO(given)))
+        envelopes = list(strings_of(given))
     except BadLine as error:
         return 2, f"{error}\n", None
     with log_of(kind) as log:
@@ -186,7 +196,7 @@ def audited(kind: Kind, given: bytes) -> tuple[int, str, Refusal | None]:
 def identified(kind: Kind, given: bytes) -> tuple[int, str, Refusal | None]:
     """The same of the id of the one record that there is a line of."""
     try:
-        envelopes = list(itertools.islice(envelopes_of(io.BytesIO(given)), 2))
+        envelopes = list(itertools.islice(strings_of(given), 2))
     except BadLine as error:
         return 2, f"{error}\n", None
     if len(envelopes) != 1:
