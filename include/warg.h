@@ -25,16 +25,19 @@
  *     sequentially consistent atomic. Different logs may be used by different threads at once: there is no global state.
  *
  * What every call keeps. It returns a status. At any status but WARG_OK all logs stay as they were. Calls that only look also
- * leave them so at WARG_OK. All texts are UTF-8, with no zero byte behind them.
+ * leave them so at WARG_OK. All texts are UTF-8, with no zero byte behind them. WARG_OUT_OF_MEMORY is an answer of calls that take memory
+ * alone, and only where they came to take some: `warg_length`, `warg_compare`, `warg_version` and `warg_status_name` never do.
  *
- * Calls that give bytes write them to the start of the caller's buffer, and to `used` how many they are:
+ * Calls that give bytes write them to the start of the caller's buffer, and to `used` how many they are. What stands behind them stays as it
+ * was:
  *   - at WARG_OK, how many bytes were written;
  *   - at WARG_TOO_SMALL, how many there have to be room for; the buffer stays as it was;
- *   - at WARG_NO_ENVELOPE and WARG_REFUSED, the length of the error's text, which stands in the buffer: the error's name, a colon,
- *     a space, and a sentence. At WARG_BAD_ARGUMENT of `warg_resume`, that of the error's name alone. 0 where the buffer had no room
- *     for it, or there was no memory for a sentence;
- *   - at any other status 0.
- * What else a call gives (`asked`, `kept`, `release`, `is_imported`) is written at WARG_OK and at WARG_TOO_SMALL. */
+ *   - at WARG_NO_ENVELOPE, WARG_REFUSED and WARG_BAD_ARGUMENT, the length of the error's text, which stands in the buffer: the error's name,
+ *     a colon, a space, and a sentence; or 0 where the buffer had no room for it. Where there was no memory for the sentence of a
+ *     WARG_NO_ENVELOPE or a WARG_REFUSED, the text is the name alone;
+ *   - at any other status 0, and the buffer stays as it was. `warg_status_name` gives the name of each status.
+ * What else a call gives (`asked`, `kept`, `release`, `is_imported`) is written at WARG_OK and at WARG_TOO_SMALL, and `length` and
+ * `comparison` at WARG_OK. At any other status it stays as it was. */
 #ifndef WARG_H
 #define WARG_H
 
@@ -180,7 +183,8 @@ uint32_t warg_ask(struct warg_log *log, const uint8_t *envelope, size_t envelope
  *   WARG_REFUSED: the record is unlawful after those of the log; the error's text is in `text`. So is every record whose `belongs` is
  *     false, and one whose question is not the one that is passed (also where another record was appended in between, if that changes
  *     the key): they are refused as wrong signatures.
- *   WARG_BAD_ARGUMENT: the bytes are no question: the lengths reach beyond its end, or the key or the signature can't be read. */
+ *   WARG_BAD_ARGUMENT (BadQuestion): the bytes are no question: the lengths reach beyond its end, or the key or the signature can't be
+ *     read. */
 uint32_t warg_append(struct warg_log *log, const uint8_t *envelope, size_t envelope_len, const uint8_t *question,
                      size_t question_len, const struct warg_asked *asked, bool belongs, uint8_t *text, size_t text_len,
                      size_t *used);
@@ -220,34 +224,34 @@ uint32_t warg_length(struct warg_log *log, size_t *length);
  * the bytes that were appended: it has the contents, the key id and the signature that came, and nothing else that stood there, such as fields
  * that no envelope has. Its record has the same id.
  *   WARG_NONE: the log has no record at this place.
- *   WARG_BAD_ARGUMENT: the log was resumed. */
+ *   WARG_BAD_ARGUMENT (Resumed): the log was resumed. */
 uint32_t warg_record(struct warg_log *log, size_t place, uint8_t *bytes, size_t bytes_len, size_t *used, struct warg_kept *kept);
 
 /* The id of an envelope's record. */
 
 /* The text of the id of an envelope's record, of one of `enum warg_kind`. No log is needed, and the record need not be lawful.
  *   WARG_NO_ENVELOPE: the error's text is in `text`.
- *   WARG_BAD_ARGUMENT: no such kind. */
+ *   WARG_BAD_ARGUMENT (NoKind): no such kind. */
 uint32_t warg_id(uint32_t kind, const uint8_t *envelope, size_t envelope_len, uint8_t *text, size_t text_len, size_t *used);
 
 /* The releases of a package log. */
 
 /* The release that is not yanked, meets the requirement (as ">=1.2, <2"), and has the greatest version.
  *   WARG_NONE: there is none.
- *   WARG_BAD_ARGUMENT: the text is no requirement, or the log is one of operators. */
+ *   WARG_BAD_ARGUMENT: the text is no requirement (BadRequirement), or the log is one of operators (WrongKind). */
 uint32_t warg_latest(struct warg_log *log, const uint8_t *requirement, size_t requirement_len, uint8_t *text, size_t text_len,
                      size_t *used, struct warg_release *release);
 
 /* The release of a version, yanked or not.
  *   WARG_NONE: the version was not released.
- *   WARG_BAD_ARGUMENT: the text is no version, or the log is one of operators. */
+ *   WARG_BAD_ARGUMENT: the text is no version (BadVersion), or the log is one of operators (WrongKind). */
 uint32_t warg_release(struct warg_log *log, const uint8_t *version, size_t version_len, uint8_t *text, size_t text_len,
                       size_t *used, struct warg_release *release);
 
 /* The release at a place, counted from 0, in the order in which they were released; those of a resumed log come first, by the bytes of their
  * versions.
  *   WARG_NONE: there are not so many releases.
- *   WARG_BAD_ARGUMENT: the log is one of operators. */
+ *   WARG_BAD_ARGUMENT (WrongKind): the log is one of operators. */
 uint32_t warg_releases(struct warg_log *log, size_t place, uint8_t *text, size_t text_len, size_t *used,
                        struct warg_release *release);
 
@@ -256,7 +260,7 @@ uint32_t warg_releases(struct warg_log *log, size_t place, uint8_t *text, size_t
 /* What a namespace is. `is_imported` is 0 where this registry defines it, and `text` is empty; it is 1 where its packages are those of another
  * registry, and `text` is that one's name.
  *   WARG_NONE: the log has no such namespace.
- *   WARG_BAD_ARGUMENT: the name is no UTF-8, or the log is one of a package. */
+ *   WARG_BAD_ARGUMENT: the name is no UTF-8 (NotUtf8), or the log is one of a package (WrongKind). */
 uint32_t warg_namespace(struct warg_log *log, const uint8_t *name, size_t name_len, uint8_t *text, size_t text_len, size_t *used,
                         uint32_t *is_imported);
 
@@ -270,13 +274,13 @@ uint32_t warg_holds(struct warg_log *log, const uint8_t *key_id, size_t key_id_l
 
 /* The permissions of a key id, with a space between two: no text where it holds none.
  *   WARG_NONE: the log does not know the key id.
- *   WARG_BAD_ARGUMENT: the key id is no UTF-8. */
+ *   WARG_BAD_ARGUMENT (NotUtf8): the key id is no UTF-8. */
 uint32_t warg_permissions(struct warg_log *log, const uint8_t *key_id, size_t key_id_len, uint8_t *text, size_t text_len,
                           size_t *used);
 
 /* The text of the key of a key id.
  *   WARG_NONE: the log does not know the key.
- *   WARG_BAD_ARGUMENT: the key id is no UTF-8. */
+ *   WARG_BAD_ARGUMENT (NotUtf8): the key id is no UTF-8. */
 uint32_t warg_key(struct warg_log *log, const uint8_t *key_id, size_t key_id_len, uint8_t *text, size_t text_len, size_t *used);
 
 /* By which entries keys came to hold permissions. */
@@ -303,8 +307,8 @@ uint32_t warg_save(struct warg_log *log, uint8_t *text, size_t text_len, size_t 
 /* Goes on from a saved state of one of `enum warg_kind`. A log that was open is closed first. Of a resumed log nothing is known of its
  * records, those that are appended to it included: `warg_length`, `warg_record`, `warg_chain` and `warg_compare` are not for it. All else is as if its
  * records were there. Whether the text is what was saved is the caller's to keep.
- *   WARG_BAD_ARGUMENT: no such kind (`used` is 0), or the text is no saved state of this kind: the error's name is in `text`, one of
- *     NotJson, WrongType, Missing, BadText, TimeBeforeEpoch, TimeOutOfRange, Incoherent. The log is as it was. */
+ *   WARG_BAD_ARGUMENT: no such kind (NoKind), or the text is no saved state of this kind (NotJson, WrongType, Missing, BadText,
+ *     TimeBeforeEpoch, TimeOutOfRange, Incoherent). The log is as it was. */
 uint32_t warg_resume(struct warg_log *log, uint32_t kind, const uint8_t *saved, size_t saved_len, uint8_t *text, size_t text_len,
                      size_t *used);
 
@@ -315,7 +319,7 @@ uint32_t warg_resume(struct warg_log *log, uint32_t kind, const uint8_t *saved, 
  *     a log of this root has this length: so a log's length and root have to be signed together, and the map's root with them.
  *   WARG_REFUSED: it does not hold.
  *   WARG_BAD_ARGUMENT: a text is not of its form. `warg_proof_fault` says what is wrong with a proof's.
- *   WARG_OUT_OF_MEMORY: nothing is said. */
+ *   WARG_OUT_OF_MEMORY: nothing is said. The texts of the hashes are of their form. */
 
 /* That the leaf of a log's record stands at a place of the registry's log, which has `length` leaves and this root.
  *   WARG_OK: every log of this length and root has the leaf at this place, or two strings collide. */
@@ -343,8 +347,14 @@ uint32_t warg_verify_absence(const uint8_t *log_id, size_t log_id_len, const uin
 /* The name of what is wrong with the text of a proof on one of `enum warg_tree`, so that a caller can say it: TooLong, BadBase64, BadLength
  * or EmptySibling.
  *   WARG_NONE: nothing is wrong: it is the text of a proof, whatever that shows.
- *   WARG_BAD_ARGUMENT: no such tree. */
+ *   WARG_BAD_ARGUMENT (NoTree): no such tree. */
 uint32_t warg_proof_fault(uint32_t tree, const uint8_t *proof, size_t proof_len, uint8_t *text, size_t text_len, size_t *used);
+
+/* The names of statuses. */
+
+/* The name of one of `enum warg_status`: Ok, NotOpen, OutOfMemory, TooSmall, NoEnvelope, Refused, None, BadArgument or UnknownAlgorithm.
+ *   WARG_NONE: the number is no status. */
+uint32_t warg_status_name(uint32_t number, uint8_t *text, size_t text_len, size_t *used);
 
 /* The library's version. */
 

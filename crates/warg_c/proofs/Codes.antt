@@ -31,6 +31,10 @@ is-no-zero Absent = refl
 is-no-zero BadArgument = refl
 is-no-zero UnknownAlgorithm = refl
 
+-- failures of one status are the same
+pub same-code : (f g : Failure) → code_of f ≡ code_of g → f ≡ g
+same-code f g h = sym (decodes f) ∙ ap by_code h ∙ decodes g
+
 pub no-zero : (f : Failure) → code_of f ≡ 0 → ⊥
 no-zero f h = false≢true (sym (is-no-zero f) ∙ ap (λ n. n == 0) h)
 

@@ -12,3 +12,4 @@ pub mod Places
 pub mod Appending
 pub mod RunLemmas
 pub mod ProofOutcomes
+pub mod TextAnswers

@@ -1,5 +1,5 @@
 -- What a refusal tells.
-use Rattle.std.proofs.Common.{◌≡◌, ◌⊎◌, inl, inr, ◌<◌, ℕ, List, length, take, Option, Some, None, Result, Ok, Err, refl, sym, ap, ◌∙◌, subst}
+use Rattle.std.proofs.Common.{◌≡◌, ◌≢◌, ◌⊎◌, inl, inr, ◌<◌, ℕ, List, length, take, Option, Some, None, Result, Ok, Err, refl, sym, ap, ◌∙◌, subst}
 use Rattle.std.specs.Prelude.{OnOk, IfErr}
 use Rattle.std.specs.Option.{option_map}
 use Rattle.warg_envelope.specs.EnvelopeData.{EnvelopeData}
@@ -19,22 +19,29 @@ use Rattle.warg_c.specs.Logs.{IsAsked, IsWhy, IsWhyBy, AskFails, AsksOther, Refu
 use Rattle.warg_c.specs.Questions.{Spells}
 use Rattle.warg_c.specs.Texts.{IsErrorText, failure_by}
 
+-- what is named is no lack of memory
+no-envelope-is-other : NoEnvelope ≡ OutOfMemory → ⊥
+no-envelope-is-other h = cc
+
+refused-is-other : Refused ≡ OutOfMemory → ⊥
+refused-is-other h = cc
+
 module _ {View Offence F E : Type 0} (k : Kind View Offence) (read : List ℕ → Result EnvelopeData F) (named_by : RunCause E → Option (Cause F Offence)) (SaysBy : RunCause E → List ℕ → Type 0) where
-  ask-told : (v : View) (envelope : List ℕ) (n : Asked) (old : List ℕ) (used : ℕ) (new : List ℕ) (c : RunCause E) → IsErrorText (SaysBy c) used new → (t : Option (Cause F Offence)) → named_by c ≡ t → IfNamed t (IsWhy k read v envelope)
+  ask-told : (v : View) (envelope : List ℕ) (n : Asked) (old : List ℕ) (used : ℕ) (new : List ℕ) (c : RunCause E) (t : Option (Cause F Offence)) → (failure_by t ≢ OutOfMemory → IsErrorText (SaysBy c) used new) → named_by c ≡ t → IfNamed t (IsWhy k read v envelope)
       → AskFails k read named_by SaysBy v envelope n old used new (failure_by t)
-  ask-told v envelope n old used new c text None tells why = tt
-  ask-told v envelope n old used new c text (Some (Unread fault)) tells why = (fault, why, record { cause = c; tells = tells; text = text })
-  ask-told v envelope n old used new c text (Some (Unlawful offence)) tells why = (offence, why, record { cause = c; tells = tells; text = text })
+  ask-told v envelope n old used new c None text tells why = tt
+  ask-told v envelope n old used new c (Some (Unread fault)) text tells why = (fault, why, record { cause = c; tells = tells; text = text no-envelope-is-other })
+  ask-told v envelope n old used new c (Some (Unlawful offence)) text tells why = (offence, why, record { cause = c; tells = tells; text = text refused-is-other })
 
   -- a cause that is told of an envelope is why nothing is asked
-  pub ask-refused : (v : View) (envelope : List ℕ) (n : Asked) (old : List ℕ) (used : ℕ) (new : List ℕ) (c : RunCause E) → IsErrorText (SaysBy c) used new → IfNamed (named_by c) (IsWhy k read v envelope)
+  pub ask-refused : (v : View) (envelope : List ℕ) (n : Asked) (old : List ℕ) (used : ℕ) (new : List ℕ) (c : RunCause E) → (failure_by (named_by c) ≢ OutOfMemory → IsErrorText (SaysBy c) used new) → IfNamed (named_by c) (IsWhy k read v envelope)
       → AskFails k read named_by SaysBy v envelope n old used new (failure_by (named_by c))
-  ask-refused v envelope n old used new c text why = ask-told v envelope n old used new c text (named_by c) refl why
+  ask-refused v envelope n old used new c text why = ask-told v envelope n old used new c (named_by c) text refl why
 
   -- the same by the failure that was named
-  pub ask-fails : (v : View) (envelope : List ℕ) (n : Asked) (old : List ℕ) (used : ℕ) (new : List ℕ) (c : RunCause E) (f : Failure) → f ≡ failure_by (named_by c) → IsErrorText (SaysBy c) used new → IfNamed (named_by c) (IsWhy k read v envelope)
+  pub ask-fails : (v : View) (envelope : List ℕ) (n : Asked) (old : List ℕ) (used : ℕ) (new : List ℕ) (c : RunCause E) (f : Failure) → f ≡ failure_by (named_by c) → (f ≢ OutOfMemory → IsErrorText (SaysBy c) used new) → IfNamed (named_by c) (IsWhy k read v envelope)
       → AskFails k read named_by SaysBy v envelope n old used new f
-  ask-fails v envelope n old used new c f is text why = subst (λ g. AskFails k read named_by SaysBy v envelope n old used new g) (sym is) (ask-refused v envelope n old used new c text why)
+  ask-fails v envelope n old used new c f is text why = subst (λ g. AskFails k read named_by SaysBy v envelope n old used new g) (sym is) (ask-refused v envelope n old used new c (λ other. text (λ h. other (sym is ∙ h))) why)
 
   -- a question that was found is given, or there is no room for it
   pub ask-given : {X : Type 0} (v : View) (envelope : List ℕ) (q : Question) → Asks k (read envelope) v q → (text : List ℕ) (n : Asked) → Spells n text q → (r : Result X Failure) (used : ℕ) (old new : List ℕ) → used ≡ length text
@@ -47,20 +54,20 @@ module _ {View Offence F E : Type 0} (k : Kind View Offence) (read : List ℕ �
   ask-too-small v envelope q asks text n spells (Ok x) used old new is small = tt
   ask-too-small v envelope q asks text n spells (Err f) used old new is small = subst (λ g. AskFails k read named_by SaysBy v envelope n old used new g) (sym small.0) (text, (q, asks, spells), is, small.1)
 
-  append-told : (b : SignatureRelation) (v : View) (envelope : List ℕ) (used : ℕ) (new : List ℕ) (c : RunCause E) → IsErrorText (SaysBy c) used new → (t : Option (Cause F Offence)) → named_by c ≡ t → IfNamed t (IsWhyBy k read b v envelope)
+  append-told : (b : SignatureRelation) (v : View) (envelope : List ℕ) (used : ℕ) (new : List ℕ) (c : RunCause E) (t : Option (Cause F Offence)) → (failure_by t ≢ OutOfMemory → IsErrorText (SaysBy c) used new) → named_by c ≡ t → IfNamed t (IsWhyBy k read b v envelope)
       → Refuses k read named_by SaysBy b v envelope used new (failure_by t)
-  append-told b v envelope used new c text None tells why = tt
-  append-told b v envelope used new c text (Some (Unread fault)) tells why = (fault, why, record { cause = c; tells = tells; text = text })
-  append-told b v envelope used new c text (Some (Unlawful offence)) tells why = (offence, why, record { cause = c; tells = tells; text = text })
+  append-told b v envelope used new c None text tells why = tt
+  append-told b v envelope used new c (Some (Unread fault)) text tells why = (fault, why, record { cause = c; tells = tells; text = text no-envelope-is-other })
+  append-told b v envelope used new c (Some (Unlawful offence)) text tells why = (offence, why, record { cause = c; tells = tells; text = text refused-is-other })
 
   -- a cause that is told under a relation is why nothing is appended
-  pub append-refused : (b : SignatureRelation) (v : View) (envelope : List ℕ) (used : ℕ) (new : List ℕ) (c : RunCause E) → IsErrorText (SaysBy c) used new → IfNamed (named_by c) (IsWhyBy k read b v envelope)
+  pub append-refused : (b : SignatureRelation) (v : View) (envelope : List ℕ) (used : ℕ) (new : List ℕ) (c : RunCause E) → (failure_by (named_by c) ≢ OutOfMemory → IsErrorText (SaysBy c) used new) → IfNamed (named_by c) (IsWhyBy k read b v envelope)
       → Refuses k read named_by SaysBy b v envelope used new (failure_by (named_by c))
-  append-refused b v envelope used new c text why = append-told b v envelope used new c text (named_by c) refl why
+  append-refused b v envelope used new c text why = append-told b v envelope used new c (named_by c) text refl why
 
-  pub append-fails : (b : SignatureRelation) (v : View) (envelope : List ℕ) (used : ℕ) (new : List ℕ) (c : RunCause E) (f : Failure) → f ≡ failure_by (named_by c) → IsErrorText (SaysBy c) used new → IfNamed (named_by c) (IsWhyBy k read b v envelope)
+  pub append-fails : (b : SignatureRelation) (v : View) (envelope : List ℕ) (used : ℕ) (new : List ℕ) (c : RunCause E) (f : Failure) → f ≡ failure_by (named_by c) → (f ≢ OutOfMemory → IsErrorText (SaysBy c) used new) → IfNamed (named_by c) (IsWhyBy k read b v envelope)
       → Refuses k read named_by SaysBy b v envelope used new f
-  append-fails b v envelope used new c f is text why = subst (λ g. Refuses k read named_by SaysBy b v envelope used new g) (sym is) (append-refused b v envelope used new c text why)
+  append-fails b v envelope used new c f is text why = subst (λ g. Refuses k read named_by SaysBy b v envelope used new g) (sym is) (append-refused b v envelope used new c (λ other. text (λ h. other (sym is ∙ h))) why)
 
   signed-told : (v : View) (envelope : List ℕ) (used : ℕ) (new : List ℕ) (f : Failure) → (f ≡ Refused → ¬ AsksOther k read v envelope) → Refuses k read named_by SaysBy p256_belongs v envelope used new f → RefusesSigned k read named_by SaysBy v envelope used new f
   signed-told v envelope used new NotOpen other h = h
@@ -74,7 +81,7 @@ module _ {View Offence F E : Type 0} (k : Kind View Offence) (read : List ℕ �
 
   module _ (u v : View) (same : u ≡ v) (envelope : List ℕ) where
     -- the same where the library verifies; what it refuses asks for no other algorithm
-    pub signed-fails : (used : ℕ) (new : List ℕ) (c : RunCause E) (g f : Failure) → g ≡ failure_by (named_by c) → (g ≡ Refused → ¬ AsksOther k read u envelope) → f ≡ failure_by (named_by c) → IsErrorText (SaysBy c) used new → IfNamed (named_by c) (IsWhyBy k read p256_belongs v envelope)
+    pub signed-fails : (used : ℕ) (new : List ℕ) (c : RunCause E) (g f : Failure) → g ≡ failure_by (named_by c) → (g ≡ Refused → ¬ AsksOther k read u envelope) → f ≡ failure_by (named_by c) → (f ≢ OutOfMemory → IsErrorText (SaysBy c) used new) → IfNamed (named_by c) (IsWhyBy k read p256_belongs v envelope)
         → RefusesSigned k read named_by SaysBy v envelope used new f
     signed-fails used new c g f was own is text why =
         signed-told v envelope used new f (λ refused asked. own (was ∙ sym is ∙ refused) (subst (λ w. AsksOther k read w envelope) (sym same) asked)) (append-fails p256_belongs v envelope used new c f is text why)
@@ -84,13 +91,13 @@ module _ {View Offence F E : Type 0} (k : Kind View Offence) (read : List ℕ �
     again-fails used new f (inl is) = subst (λ g. RefusesSigned k read named_by SaysBy v envelope used new g) (sym is) tt
     again-fails used new f (inr (is, asked)) = subst (λ g. RefusesSigned k read named_by SaysBy v envelope used new g) (sym is) (subst (λ w. AsksOther k read w envelope) same asked)
 
-  id-told : (envelope old : List ℕ) (used : ℕ) (new : List ℕ) (c : RunCause E) → IsErrorText (SaysBy c) used new → (found : Option F) → named_by c ≡ option_map Unread found → NamesFault (read envelope) found
+  id-told : (envelope old : List ℕ) (used : ℕ) (new : List ℕ) (c : RunCause E) (found : Option F) → (failure_by {Offence = Offence} (option_map Unread found) ≢ OutOfMemory → IsErrorText (SaysBy c) used new) → named_by c ≡ option_map Unread found → NamesFault (read envelope) found
       → IdFails k read named_by SaysBy envelope old used new (failure_by {Offence = Offence} (option_map Unread found))
-  id-told envelope old used new c text None told tells = tt
-  id-told envelope old used new c text (Some fault) told tells = (fault, tells, record { cause = c; tells = told; text = text })
+  id-told envelope old used new c None text told tells = tt
+  id-told envelope old used new c (Some fault) text told tells = (fault, tells, record { cause = c; tells = told; text = text no-envelope-is-other })
 
   -- bytes that are no envelope have no id
-  pub id-fails : (envelope old : List ℕ) (used : ℕ) (new : List ℕ) (c : RunCause E) (f : Failure) → f ≡ failure_by (named_by c) → IsErrorText (SaysBy c) used new → (found : Option F) → named_by c ≡ option_map Unread found → NamesFault (read envelope) found
+  pub id-fails : (envelope old : List ℕ) (used : ℕ) (new : List ℕ) (c : RunCause E) (f : Failure) → f ≡ failure_by (named_by c) → (f ≢ OutOfMemory → IsErrorText (SaysBy c) used new) → (found : Option F) → named_by c ≡ option_map Unread found → NamesFault (read envelope) found
       → IdFails k read named_by SaysBy envelope old used new f
   id-fails envelope old used new c f is text found told tells =
-      subst (λ g. IdFails k read named_by SaysBy envelope old used new g) (sym (is ∙ ap (λ t. failure_by t) told)) (id-told envelope old used new c text found told tells)
+      subst (λ g. IdFails k read named_by SaysBy envelope old used new g) (sym (is ∙ ap (λ t. failure_by t) told)) (id-told envelope old used new c found (λ other. text (λ h. other (sym (is ∙ ap (λ t. failure_by t) told) ∙ h))) told tells)

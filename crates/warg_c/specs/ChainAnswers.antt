@@ -1,5 +1,5 @@
 -- By which entries keys came to hold permissions.
-use Rattle.std.specs.Prelude.{◌≡◌, ◌⊎◌, List, ℕ, map, Option, Some, None}
+use Rattle.std.specs.Prelude.{◌≡◌, ◌⊎◌, List, ℕ, map, Option, Some, None, IsSome}
 use Rattle.warg_audited_log.specs.Chains.{IsChainAnswer}
 use Rattle.warg_audited_log.specs.Log.{StateAndRecords, envelopes}
 use Rattle.warg_audited_log.specs.declared.link.Link as whole
@@ -32,6 +32,11 @@ module _ {S C P : Type 0} (f : Effects P) (named : List ℕ → Option P) where
 abbrev pub chain_tells : Held → List ℕ → List ℕ → List Link → Type 0
 chain_tells (Package log) = ChainIs package_laws.effects package_permission.permission_in (whole_of log)
 chain_tells (Operator log) = ChainIs operator_laws.effects operator_permission.permission_in (whole_of log)
+
+-- the log has records, and logs of the kind have a permission of this name
+abbrev pub chain_takes : Held → List ℕ → Type 0
+chain_takes (Package log) text = IsSome (whole_of log) × IsSome (package_permission.permission_in text)
+chain_takes (Operator log) text = IsSome (whole_of log) × IsSome (operator_permission.permission_in text)
 
 abbrev pub chain_lacks : Held → List ℕ → List ℕ → Type 0
 chain_lacks (Package log) = NoChain package_laws.effects package_permission.permission_in (whole_of log)

@@ -47,4 +47,4 @@ compare_bad (Operator l) (Package r) = Unit {0}
 -- the answer to what two handles hold; the status is 1 where one holds nothing
 abbrev pub compare_answers : ℕ → Option Held → Option Held → Comparison → Type 0
 compare_answers n None right comparison = n ≡ 1
-compare_answers n (Some l) right comparison = Answers n right (λ held. compare_tells l held comparison) (λ held. CallFails ⊥ (compare_bad l held))
+compare_answers n (Some l) right comparison = Answers n right (λ held. compare_tells l held comparison) (λ held. CallFails ⊥ ⊥ (compare_bad l held))

@@ -33,8 +33,10 @@ use Rattle.warg_c.specs.declared.held.Held.{Held}
 use Rattle.warg_c.specs.declared.held.Held.TheVariants.{Package, Operator}
 use Rattle.warg_c.specs.declared.question.Asked.{Asked}
 use Rattle.warg_c.specs.Logs.{log_view, state_of, IsAsked, AskFails, IsFresh, Appends, MayComeBy, Refuses, RefusesSigned}
+use Rattle.warg_c.specs.Misuses.{misuse_text}
 use Rattle.warg_c.specs.Questions.{Says, SaysNone}
-use Rattle.warg_c.specs.Texts.{SaysCause}
+use Rattle.warg_c.specs.Texts.{IsGiven, SaysCause}
+use Rattle.warg_c.specs.declared.misuse.Misuse.TheVariants.{BadQuestion}
 
 -- the kind that a number names
 abbrev pub kind_numbered : ℕ → Result Kind Failure
@@ -115,10 +117,10 @@ signed_fails (Operator log) = RefusesSigned operator_laws.kind (envelope_of oper
 abbrev pub IsRefusedBy : Held → Bool → Asked → List ℕ → List ℕ → ℕ → List ℕ → Failure → Type 0
 IsRefusedBy held belongs n question envelope used new f = (answer : Told) × Says n question answer.question × (answer.belongs ≡ belongs) × append_refuses held answer envelope used new f
 
--- why nothing is appended; the bytes may say no question
+-- why nothing is appended; the bytes may say no question, and then that is told
 abbrev pub append_fails : Held → Bool → Asked → List ℕ → List ℕ → ℕ → List ℕ → Failure → Type 0
 append_fails held belongs n question envelope used new OutOfMemory = Unit {0}
-append_fails held belongs n question envelope used new BadArgument = SaysNone n question
+append_fails held belongs n question envelope used new BadArgument = SaysNone n question × IsGiven (misuse_text BadQuestion) used new
 append_fails held belongs n question envelope used new NotOpen = IsRefusedBy held belongs n question envelope used new NotOpen
 append_fails held belongs n question envelope used new TooSmall = IsRefusedBy held belongs n question envelope used new TooSmall
 append_fails held belongs n question envelope used new NoEnvelope = IsRefusedBy held belongs n question envelope used new NoEnvelope

@@ -21,7 +21,9 @@ use Rattle.warg_c.specs.declared.failure.Failure.{Failure}
 use Rattle.warg_c.specs.declared.failure.Failure.TheVariants.{NotOpen, OutOfMemory, TooSmall, NoEnvelope, Refused, Absent, BadArgument, UnknownAlgorithm}
 use Rattle.warg_c.specs.Logs.{HasErrorText}
 use Rattle.warg_c.specs.Lookups.{IdText}
-use Rattle.warg_c.specs.Texts.{NeedsRoom, SaysCause}
+use Rattle.warg_c.specs.Misuses.{misuse_text}
+use Rattle.warg_c.specs.Texts.{IsGiven, NeedsRoom, SaysCause}
+use Rattle.warg_c.specs.declared.misuse.Misuse.TheVariants.{NoKind}
 
 module _ {View Offence F : Type 0} (k : Kind View Offence) (read : List ℕ → Result EnvelopeData F) where
   -- the text is that of the id of the record of these bytes
@@ -48,4 +50,4 @@ id_tells (suc (suc n)) envelope text = ⊥
 abbrev pub id_fails : ℕ → List ℕ → List ℕ → ℕ → List ℕ → Failure → Type 0
 id_fails zero envelope old used new f = IdFails package_laws.kind (envelope_of package_record_of) (cause_named_by (envelope_fault_of fault_of) packages.offence_of) (SaysCause package_names.error_name (λ e. Some (package_texts.error_text e))) envelope old used new f
 id_fails (suc zero) envelope old used new f = IdFails operator_laws.kind (envelope_of operator_record_of) (cause_named_by (envelope_fault_of fault_of) operators.offence_of) (SaysCause operator_names.error_name (λ e. Some (operator_texts.error_text e))) envelope old used new f
-id_fails (suc (suc n)) envelope old used new f = f ≡ BadArgument
+id_fails (suc (suc n)) envelope old used new f = (f ≡ BadArgument) × IsGiven (misuse_text NoKind) used new

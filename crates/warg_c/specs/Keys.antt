@@ -1,5 +1,5 @@
 -- Keys, and what they may do.
-use Rattle.std.specs.Prelude.{◌≡◌, ℕ, Bool, false, List, [], ◌∷◌, ◌++◌, codes, length, ◌==◌, if◌then◌else◌, Option, Some, None}
+use Rattle.std.specs.Prelude.{◌≡◌, ℕ, Bool, false, List, [], ◌∷◌, ◌++◌, codes, length, ◌==◌, if◌then◌else◌, Option, Some, None, IsSome}
 use Rattle.std.specs.Option.{option_map}
 use Rattle.std.specs.Str.{IsUtf8}
 use Rattle.warg_crypto.specs.NamedBytes.{NamedBytes, named_bytes_text}
@@ -29,6 +29,11 @@ holds_tells (Operator log) = HoldsIs operator_permission.permission_in (λ key p
 abbrev pub holds_bad : Held → List ℕ → List ℕ → Type 0
 holds_bad (Package log) = IsNoPermission package_permission.permission_in
 holds_bad (Operator log) = IsNoPermission operator_permission.permission_in
+
+-- logs of the kind have a permission of this name
+abbrev pub is_permission : Held → List ℕ → Type 0
+is_permission (Package log) text = IsSome (package_permission.permission_in text)
+is_permission (Operator log) text = IsSome (operator_permission.permission_in text)
 
 -- the text with a name more, if it is held
 abbrev pub with_name : List ℕ → Bool → List ℕ → List ℕ

@@ -1,6 +1,7 @@
 pub mod Kept
 pub mod Statuses
 pub mod Texts
+pub mod Misuses
 pub mod Questions
 pub mod Verifying
 pub mod Logs

@@ -1,5 +1,5 @@
 -- What is looked up in a log: its head, its records.
-use Rattle.std.specs.Prelude.{◌≡◌, ℕ, List, ◌++◌, length, Option, Some, None}
+use Rattle.std.specs.Prelude.{◌≡◌, ℕ, List, ◌++◌, length, Option, Some, None, IsSome}
 use Rattle.std.specs.List.{slice_get}
 use Rattle.std.specs.Option.{option_map}
 use Rattle.warg_audited_log.specs.Log.{StateAndRecords}
@@ -61,6 +61,11 @@ length_tells (Operator log) n = LengthIs (whole_of log) n
 abbrev pub has_no_records : Held → Type 0
 has_no_records (Package log) = whole_of log ≡ None
 has_no_records (Operator log) = whole_of log ≡ None
+
+-- the log has records
+abbrev pub record_takes : Held → Type 0
+record_takes (Package log) = IsSome (whole_of log)
+record_takes (Operator log) = IsSome (whole_of log)
 
 abbrev pub record_tells : Held → ℕ → KeptLengths → List ℕ → Type 0
 record_tells (Package log) place n bytes = IsRecordAt package_laws.kind (whole_of log) place n bytes

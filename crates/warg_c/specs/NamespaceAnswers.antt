@@ -1,5 +1,5 @@
 -- Namespaces as bytes.
-use Rattle.std.specs.Prelude.{◌≡◌, ℕ, List, [], Option, Some, None}
+use Rattle.std.specs.Prelude.{◌≡◌, ℕ, List, [], Option, Some, None, IsSome}
 use Rattle.std.specs.Str.{IsUtf8}
 use Rattle.warg_operator_log.specs.Namespaces.{Namespace, Defined, Imported}
 use Rattle.warg_operator_log.specs.State.{view_of}
@@ -16,6 +16,11 @@ NamespaceIs None n text = ⊥
 abbrev pub namespace_tells : Held → List ℕ → ℕ → List ℕ → Type 0
 namespace_tells (Package log) name n text = ⊥
 namespace_tells (Operator log) name n text = NamespaceIs ((view_of (state_of log)).state.own_state name) n text
+
+-- the log has such a namespace
+abbrev pub namespace_takes : Held → List ℕ → Type 0
+namespace_takes (Package log) name = ⊥
+namespace_takes (Operator log) name = IsSome ((view_of (state_of log)).state.own_state name)
 
 abbrev pub namespace_lacks : Held → List ℕ → Type 0
 namespace_lacks (Package log) name = ⊥

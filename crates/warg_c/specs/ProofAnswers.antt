@@ -1,5 +1,5 @@
 -- What a registry proves of its log and its map, by the texts of a call.
-use Rattle.std.specs.Prelude.{◌≡◌, ◌≢◌, ◌⊎◌, ℕ, List, Some, None, Result, Ok}
+use Rattle.std.specs.Prelude.{◌≡◌, ◌≢◌, ◌⊎◌, ℕ, List, Some, None, Result, Ok, IsOk}
 use Rattle.std.specs.Str.{IsUtf8}
 use Rattle.sha2.specs.Sha256.{sha256}
 use Rattle.warg_crypto.specs.HashText.{hash_of}
@@ -23,16 +23,24 @@ pub record AreLeafTexts (log_text record_text : List ℕ) (leaf : LogLeaf) : Typ
   pub log_id : hash_of log_text ≡ Ok leaf.log_id.hash
   pub record_id : hash_of record_text ≡ Ok leaf.record_id.hash
 
--- why nothing is proved: no memory, the proof differs, or a text is not of its form
-abbrev pub ProofFails : Type 0 → Type 0 → Failure → Type 0
-ProofFails Differs IsBad NotOpen = ⊥
-ProofFails Differs IsBad OutOfMemory = Unit {0}
-ProofFails Differs IsBad TooSmall = ⊥
-ProofFails Differs IsBad NoEnvelope = ⊥
-ProofFails Differs IsBad Refused = Differs
-ProofFails Differs IsBad Absent = ⊥
-ProofFails Differs IsBad BadArgument = IsBad
-ProofFails Differs IsBad UnknownAlgorithm = ⊥
+-- why nothing is proved: no memory, where some is taken, the proof differs, or a text is not of its form
+abbrev pub ProofFails : Type 0 → Type 0 → Type 0 → Failure → Type 0
+ProofFails Takes Differs IsBad NotOpen = ⊥
+ProofFails Takes Differs IsBad OutOfMemory = Takes
+ProofFails Takes Differs IsBad TooSmall = ⊥
+ProofFails Takes Differs IsBad NoEnvelope = ⊥
+ProofFails Takes Differs IsBad Refused = Differs
+ProofFails Takes Differs IsBad Absent = ⊥
+ProofFails Takes Differs IsBad BadArgument = IsBad
+ProofFails Takes Differs IsBad UnknownAlgorithm = ⊥
+
+-- the texts are of hashes, so that a proof's text is read
+abbrev pub AreHashes : (log_id record_id root : List ℕ) → Type 0
+AreHashes log_id record_id root = IsOk (hash_of log_id) × IsOk (hash_of record_id) × IsOk (hash_of root)
+
+-- the same of two
+abbrev pub AreTwoHashes : (first second : List ℕ) → Type 0
+AreTwoHashes first second = IsOk (hash_of first) × IsOk (hash_of second)
 
 -- the texts say of a leaf that it stands at the place of a log of that length and root
 pub record IsInclusion (log_id record_id root proof : List ℕ) (Says : LogLeaf → List (List ℕ) → List ℕ → Type 0) : Type 0 where

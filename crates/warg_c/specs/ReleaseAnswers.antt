@@ -1,5 +1,5 @@
 -- Releases as bytes, and which of them are looked up.
-use Rattle.std.specs.Prelude.{◌≡◌, ℕ, List, ◌++◌, length, map, pos, Option, Some, None, Ok}
+use Rattle.std.specs.Prelude.{◌≡◌, ℕ, List, ◌++◌, length, map, pos, Option, Some, None, IsSome, Ok}
 use Rattle.std.specs.List.{slice_get}
 use Rattle.std.specs.Str.{IsUtf8}
 use Rattle.semver.specs.Identifiers.{comparator_view, parts_text}
@@ -62,6 +62,11 @@ module _ (releases : List ReleaseView) where
 abbrev pub IsAt : ℕ → List ReleaseView → Option ReleaseView → Type 0
 IsAt place releases found = slice_get releases place ≡ found
 
+-- the log is one of a package
+abbrev pub is_package : Held → Type 0
+is_package (Package log) = Unit {0}
+is_package (Operator log) = ⊥
+
 -- the latest release that a requirement asks for is shown
 abbrev pub latest_tells : Held → List ℕ → ShownRelease → List ℕ → Type 0
 latest_tells (Package log) requirement n text = (r : ReleaseView) × IsLatest (state_of log).own_state requirement (Some r) × Shows r n text
@@ -94,6 +99,11 @@ release_bad (Operator log) version = Unit {0}
 abbrev pub place_tells : Held → ℕ → ShownRelease → List ℕ → Type 0
 place_tells (Package log) place n text = (r : ReleaseView) × IsAt place (state_of log).own_state (Some r) × Shows r n text
 place_tells (Operator log) place n text = ⊥
+
+-- there is a release at the place
+abbrev pub place_takes : Held → ℕ → Type 0
+place_takes (Package log) place = IsSome (slice_get (state_of log).own_state place)
+place_takes (Operator log) place = ⊥
 
 abbrev pub place_lacks : Held → ℕ → Type 0
 place_lacks (Package log) place = IsAt place (state_of log).own_state None

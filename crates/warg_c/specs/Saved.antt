@@ -20,7 +20,9 @@ use Rattle.warg_c.specs.declared.held.Kind.TheVariants as kinds
 use Rattle.warg_c.specs.declared.kept_log.KeptLog.TheVariants.{Whole, Resumed}
 use Rattle.warg_c.specs.Held.{IsNoKind, IsOfNumber, kind_numbered}
 use Rattle.warg_c.specs.Logs.{state_of}
-use Rattle.warg_c.specs.Texts.{FailsAs, IsNameText}
+use Rattle.warg_c.specs.Misuses.{misuse_text}
+use Rattle.warg_c.specs.Texts.{Always, FailsAs, IsGiven}
+use Rattle.warg_c.specs.declared.misuse.Misuse.TheVariants.{NoKind}
 
 -- the state's JSON as a text, or why it has none
 abbrev pub saved_text : Held → Result (List ℕ) JsonError
@@ -36,7 +38,7 @@ save_lacks held = (e : JsonError) × (saved_text held ≡ Err e)
 -- what is wanted is written, or there is none
 abbrev pub IsWritten : {V : Type 0} → (V → List ℕ) → Result (List ℕ) JsonError → Result V Failure → Type 0
 IsWritten items want (Ok v) = want ≡ Ok (items v)
-IsWritten items want (Err f) = FailsAs ((e : JsonError) × (want ≡ Err e)) ⊥ f
+IsWritten items want (Err f) = FailsAs Always ((e : JsonError) × (want ≡ Err e)) ⊥ f
 
 -- the text is read as an equal state; of a package log where the texts of its versions read back, as those of every accepted log do
 abbrev pub reads_back : Held → List ℕ → Type 0
@@ -63,22 +65,22 @@ pub record IsSavedFault (kind : Kind) (bytes : List ℕ) (e : JsonTextError) : T
   pub of_text : IsUtf8 bytes → SaysNoState kind bytes e
   pub of_others : (IsUtf8 bytes → ⊥) → e ≡ json.NotJson
 
--- the name of why JSON says no state
-abbrev pub value_name : JsonError → List ℕ
-value_name value.WrongType = codes "WrongType"
-value_name value.Missing = codes "Missing"
-value_name value.BadText = codes "BadText"
-value_name value.TimeBeforeEpoch = codes "TimeBeforeEpoch"
-value_name value.TimeOutOfRange = codes "TimeOutOfRange"
-value_name (value.Incoherent why) = codes "Incoherent"
-value_name value.OutOfMemory = codes "OutOfMemory"
+-- what is told of JSON that says no state: a name, a colon, a space and a sentence
+abbrev pub value_text : JsonError → List ℕ
+value_text value.WrongType = codes "WrongType: a value is of another type"
+value_text value.Missing = codes "Missing: a member is missing"
+value_text value.BadText = codes "BadText: a text is not of its form"
+value_text value.TimeBeforeEpoch = codes "TimeBeforeEpoch: a time lies before 1970"
+value_text value.TimeOutOfRange = codes "TimeOutOfRange: a time is out of range"
+value_text (value.Incoherent why) = codes "Incoherent: the state is that of no log"
+value_text value.OutOfMemory = codes "OutOfMemory: there was no memory"
 
--- the name of why a text says none
-abbrev pub fault_name : JsonTextError → List ℕ
-fault_name json.NotJson = codes "NotJson"
-fault_name (json.Value e) = value_name e
-fault_name json.OutOfMemory = codes "OutOfMemory"
+-- the same of a text that says none
+abbrev pub fault_text : JsonTextError → List ℕ
+fault_text json.NotJson = codes "NotJson: the text is no JSON"
+fault_text (json.Value e) = value_text e
+fault_text json.OutOfMemory = codes "OutOfMemory: there was no memory"
 
--- the number names no kind; or the bytes say no state of it, and the fault's name is told
+-- the number names no kind; or the bytes say no state of it; and that is told
 abbrev pub is_no_saved : ℕ → List ℕ → ℕ → List ℕ → Type 0
-is_no_saved n bytes used out = (IsNoKind n × (used ≡ 0)) ⊎ ((kind : Kind) × (e : JsonTextError) × (kind_numbered n ≡ Ok kind) × IsSavedFault kind bytes e × IsNameText (fault_name e) used out)
+is_no_saved n bytes used out = (IsNoKind n × IsGiven (misuse_text NoKind) used out) ⊎ ((kind : Kind) × (e : JsonTextError) × (kind_numbered n ≡ Ok kind) × IsSavedFault kind bytes e × IsGiven (fault_text e) used out)

@@ -24,17 +24,21 @@ pub record IsErrorLine (name : List ℕ) (printed : Option (List ℕ)) (text : L
   pub line : text ≡ name ++ 58 ∷ 32 ∷ sentence
   pub known : IfSome printed (λ said. sentence ≡ said)
 
+-- such a line, or the name alone: there was no memory for the line
+abbrev pub IsNameOrLine : List ℕ → Option (List ℕ) → List ℕ → Type 0
+IsNameOrLine name printed text = (text ≡ name) ⊎ IsErrorLine name printed text
+
 -- the text of a cause: its name, and what is printed of it
 abbrev pub SaysCause : {E : Type 0} → (E → List ℕ) → (E → Option (List ℕ)) → RunCause E → List ℕ → Type 0
-SaysCause name_of output cause text = IsErrorLine (cause_name name_of cause) (cause_text (λ e. Some (error_text e)) output cause) text
+SaysCause name_of output cause text = IsNameOrLine (cause_name name_of cause) (cause_text (λ e. Some (error_text e)) output cause) text
 
--- no text, or one that says this
+-- the text is given, or the buffer is too small for it, and then none is used
+abbrev pub IsGiven : List ℕ → ℕ → List ℕ → Type 0
+IsGiven told used out = ((used ≡ length told) × (take used out ≡ told)) ⊎ ((used ≡ 0) × (length out < length told))
+
+-- a text that says this is given
 abbrev pub IsErrorText : (List ℕ → Type 0) → ℕ → List ℕ → Type 0
-IsErrorText Says used out = (used ≡ 0) ⊎ Says (take used out)
-
--- no text, or the name alone
-abbrev pub IsNameText : List ℕ → ℕ → List ℕ → Type 0
-IsNameText name used out = (used ≡ 0) ⊎ (take used out ≡ name)
+IsErrorText Says used out = (told : List ℕ) × Says told × IsGiven told used out
 
 -- what kind of failure a cause is; none is named where memory ran out
 abbrev pub failure_by : {F Offence : Type 0} → Option (Cause F Offence) → Failure
@@ -51,28 +55,32 @@ abbrev pub IsFinish : {V A : Type 0} → (V → List A) → Result V Failure →
 IsFinish items (Ok v) old n used new = (used ≡ length (items v)) × (((n ≡ 0) × (take (length (items v)) new ≡ items v)) ⊎ ((n ≡ 3) × (length old < length (items v))))
 IsFinish items (Err f) old n used new = n ≡ code_of f
 
--- why nothing was found: no memory, there is no such thing, or an argument is not of its form
-abbrev pub FailsAs : Type 0 → Type 0 → Failure → Type 0
-FailsAs Lacks IsBad f = (f ≡ OutOfMemory) ⊎ (((f ≡ Absent) × Lacks) ⊎ ((f ≡ BadArgument) × IsBad))
+-- memory may run out whatever the arguments are
+abbrev pub Always : Type 0
+Always = Unit {0}
 
--- why a text is not given: the buffer is too small, there is none, or an argument is not of its form
-abbrev pub TextFails : {A : Type 0} → (List A → Type 0) → Type 0 → Type 0 → ℕ → List A → Failure → Type 0
-TextFails Tells Lacks IsBad used out NotOpen = ⊥
-TextFails Tells Lacks IsBad used out OutOfMemory = Unit {0}
-TextFails Tells Lacks IsBad used out TooSmall = NeedsRoom Tells used out
-TextFails Tells Lacks IsBad used out NoEnvelope = ⊥
-TextFails Tells Lacks IsBad used out Refused = ⊥
-TextFails Tells Lacks IsBad used out Absent = Lacks
-TextFails Tells Lacks IsBad used out BadArgument = IsBad
-TextFails Tells Lacks IsBad used out UnknownAlgorithm = ⊥
+-- why nothing was found: no memory, where some is taken, there is no such thing, or an argument is not of its form
+abbrev pub FailsAs : Type 0 → Type 0 → Type 0 → Failure → Type 0
+FailsAs Takes Lacks IsBad f = ((f ≡ OutOfMemory) × Takes) ⊎ (((f ≡ Absent) × Lacks) ⊎ ((f ≡ BadArgument) × IsBad))
+
+-- why a text is not given: the buffer is too small, or why nothing was found
+abbrev pub TextFails : {A : Type 0} → Type 0 → (List A → Type 0) → Type 0 → Type 0 → ℕ → List A → Failure → Type 0
+TextFails Takes Tells Lacks IsBad used out NotOpen = ⊥
+TextFails Takes Tells Lacks IsBad used out OutOfMemory = Takes
+TextFails Takes Tells Lacks IsBad used out TooSmall = NeedsRoom Tells used out
+TextFails Takes Tells Lacks IsBad used out NoEnvelope = ⊥
+TextFails Takes Tells Lacks IsBad used out Refused = ⊥
+TextFails Takes Tells Lacks IsBad used out Absent = Lacks
+TextFails Takes Tells Lacks IsBad used out BadArgument = IsBad
+TextFails Takes Tells Lacks IsBad used out UnknownAlgorithm = ⊥
 
 -- why a call that gives no text is not done
-abbrev pub CallFails : Type 0 → Type 0 → Failure → Type 0
-CallFails Lacks IsBad NotOpen = ⊥
-CallFails Lacks IsBad OutOfMemory = Unit {0}
-CallFails Lacks IsBad TooSmall = ⊥
-CallFails Lacks IsBad NoEnvelope = ⊥
-CallFails Lacks IsBad Refused = ⊥
-CallFails Lacks IsBad Absent = Lacks
-CallFails Lacks IsBad BadArgument = IsBad
-CallFails Lacks IsBad UnknownAlgorithm = ⊥
+abbrev pub CallFails : Type 0 → Type 0 → Type 0 → Failure → Type 0
+CallFails Takes Lacks IsBad NotOpen = ⊥
+CallFails Takes Lacks IsBad OutOfMemory = Takes
+CallFails Takes Lacks IsBad TooSmall = ⊥
+CallFails Takes Lacks IsBad NoEnvelope = ⊥
+CallFails Takes Lacks IsBad Refused = ⊥
+CallFails Takes Lacks IsBad Absent = Lacks
+CallFails Takes Lacks IsBad BadArgument = IsBad
+CallFails Takes Lacks IsBad UnknownAlgorithm = ⊥

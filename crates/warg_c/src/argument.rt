@@ -11,7 +11,7 @@ use warg_permissions::LogPermission;
 /// The key id of a text.
 pub(crate) fn key_id_of(alloc: Global, text: &[u8]) -> Result<KeyID, Failure>
     ensures ok { IfOk result (λ id. id ≡ text.now) }
-    ensures err { IfErr result (FailsAs ⊥ (IsUtf8 text.now → ⊥)) }
+    ensures err { IfErr result (FailsAs (IsUtf8 text.now) ⊥ (IsUtf8 text.now → ⊥)) }
 {
     let Ok(text) = str::from_utf8(text) else {
         return Err(Failure::BadArgument);
@@ -25,7 +25,8 @@ pub(crate) fn key_id_of(alloc: Global, text: &[u8]) -> Result<KeyID, Failure>
 /// The permission of a text.
 pub(crate) fn permission_of<P: LogPermission>(text: &[u8]) -> Result<P, Failure>
     ensures ok { IfOk result (λ p. P.permission_named text.now ≡ Some p) }
-    ensures err { IfErr result (FailsAs ⊥ (IsUtf8 text.now → P.permission_named text.now ≡ None)) }
+    ensures err { IfErr result (FailsAs ⊥ ⊥
+        (IsUtf8 text.now → P.permission_named text.now ≡ None)) }
 {
     let Ok(text) = str::from_utf8(text) else {
         return Err(Failure::BadArgument);

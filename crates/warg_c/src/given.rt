@@ -1,10 +1,12 @@
 //! What calls give.
-ghost use Rattle.std.specs.Prelude.{◌≡◌, ◌≢◌, ◌<◌, ◌≤◌, IfOk, IfErr, OnOk, OnErr, length, take};
+ghost use Rattle.std.specs.Prelude.{◌≡◌, ◌≢◌, ◌<◌, ◌≤◌, Err, IfOk, IfErr, OnOk, OnErr, length, take, drop};
+ghost use Rattle.warg_c.specs.Misuses.{misuse_text};
 ghost use Rattle.warg_c.specs.Statuses.{status_of};
-ghost use Rattle.warg_c.specs.Texts.{IsFinish, IsWithin};
-ghost use Rattle.warg_c.specs.declared.failure.Failure.TheVariants.{TooSmall};
+ghost use Rattle.warg_c.specs.Texts.{IsFinish, IsGiven, IsWithin};
+ghost use Rattle.warg_c.specs.declared.failure.Failure.TheVariants.{BadArgument, TooSmall};
 
 use crate::failure::{Failure, status};
+use crate::misuse::Misuse;
 
 /// Copies the items to the start of the buffer, if there is room, and says how many they are.
 pub(crate) fn give<T: Copy>(items: &[T], out: &mut [T], used: &mut usize) -> Result<(), Failure>
@@ -13,6 +15,7 @@ pub(crate) fn give<T: Copy>(items: &[T], out: &mut [T], used: &mut usize) -> Res
     ensures given { OnOk result (take (length items.now) out.new ≡ items.now) }
     ensures too_small { IfErr result (λ f. (f ≡ TooSmall) × (length out.old < length items.now)) }
     ensures unchanged { OnErr result (out.new ≡ out.old) }
+    ensures behind { drop used.new out.new ≡ drop used.new out.old }
     ensures within { IsWithin result used.new out.new }
 {
     let len = items.len();
@@ -22,6 +25,18 @@ pub(crate) fn give<T: Copy>(items: &[T], out: &mut [T], used: &mut usize) -> Res
     }
     out[..len].copy_from_slice(items);
     Ok(())
+}
+
+/// Writes the text where there is room for it.
+pub(crate) fn give_if_room(told: &str, text: &mut [u8], used: &mut usize)
+    ensures text { IsGiven told.now used.new text.new }
+    ensures length { length text.new ≡ length text.old }
+    ensures behind { drop used.new text.new ≡ drop used.new text.old }
+    ensures within { used.new ≤ length text.new }
+{
+    if give(told.as_bytes(), text, used).is_err() {
+        *used = 0;
+    }
 }
 
 /// Gives the items that were found, and returns the status.
@@ -34,6 +49,7 @@ pub(crate) fn finish<T: Copy>(
     ensures status { result ≤ 8 }
     ensures buffer { result ≢ 0 → out.new ≡ out.old }
     ensures used { result ≢ 0 → result ≢ 3 → used.new ≡ 0 }
+    ensures behind { drop used.new out.new ≡ drop used.new out.old }
     ensures within { result ≢ 3 → used.new ≤ length out.new }
 {
     *used = 0;
@@ -43,27 +59,53 @@ pub(crate) fn finish<T: Copy>(
     }
 }
 
+/// The same of a text. Of a bad argument it tells what is wrong.
+pub(crate) fn finish_text(
+    outcome: Result<Vec<u8>, Failure>,
+    wrong: Misuse,
+    out: &mut [u8],
+    used: &mut usize,
+) -> u32
+    ensures text { IsFinish (λ v. v.items) outcome out.old result used.new out.new }
+    ensures told { outcome ≡ Err BadArgument → IsGiven (misuse_text wrong) used.new out.new }
+    ensures status { result ≤ 8 }
+    ensures buffer { result ≢ 0 → result ≢ 7 → out.new ≡ out.old }
+    ensures used { result ≢ 0 → result ≢ 3 → result ≢ 7 → used.new ≡ 0 }
+    ensures behind { drop used.new out.new ≡ drop used.new out.old }
+    ensures within { result ≢ 3 → used.new ≤ length out.new }
+{
+    if let Err(Failure::BadArgument) = outcome {
+        give_if_room(wrong.text(), out, used);
+        return status(Err(Failure::BadArgument));
+    }
+    finish(outcome, out, used)
+}
+
 /// The same with what else was found.
 pub(crate) fn finish_with<T: Copy>(
     outcome: Result<(Vec<u8>, T), Failure>,
+    wrong: Misuse,
     out: &mut [u8],
     used: &mut usize,
     shown: &mut T,
 ) -> u32
     ensures text { IsFinish (λ p. p.0.items) outcome out.old result used.new out.new }
+    ensures told { outcome ≡ Err BadArgument → IsGiven (misuse_text wrong) used.new out.new }
     ensures status { result ≤ 8 }
-    ensures buffer { result ≢ 0 → out.new ≡ out.old }
-    ensures used { result ≢ 0 → result ≢ 3 → used.new ≡ 0 }
+    ensures buffer { result ≢ 0 → result ≢ 7 → out.new ≡ out.old }
+    ensures used { result ≢ 0 → result ≢ 3 → result ≢ 7 → used.new ≡ 0 }
+    ensures behind { drop used.new out.new ≡ drop used.new out.old }
     ensures within { result ≢ 3 → used.new ≤ length out.new }
     ensures shown { IfOk outcome (λ p. shown.new ≡ p.1) }
+    ensures kept { OnErr outcome (shown.new ≡ shown.old) }
+    ensures unshown { result ≢ 0 → result ≢ 3 → shown.new ≡ shown.old }
 {
-    *used = 0;
     match outcome {
         Ok((bytes, found)) => {
             *shown = found;
             status(give(bytes.as_slice(), out, used))
         }
-        Err(failure) => status(Err(failure)),
+        Err(failure) => finish_text(Err(failure), wrong, out, used),
     }
 }
 
@@ -72,6 +114,7 @@ pub(crate) fn finish_value<T: Copy>(outcome: Result<T, Failure>, value: &mut T) 
     ensures code { result ≡ status_of outcome }
     ensures status { result ≤ 8 }
     ensures value { IfOk outcome (λ found. value.new ≡ found) }
+    ensures kept { result ≢ 0 → value.new ≡ value.old }
 {
     match outcome {
         Ok(found) => {

@@ -1,10 +1,12 @@
 //! What a handle holds.
 ghost use Rattle.std.specs.Prelude.{◌≡◌, Some, None, IfOk, IfErr};
 ghost use Rattle.warg_c.specs.Held.{IsNew, IsOfKind, kind_numbered, package_of, operator_of};
+ghost use Rattle.warg_c.specs.Misuses.{operator_misuse, package_misuse};
 ghost use Rattle.warg_c.specs.declared.failure.Failure.TheVariants.{BadArgument};
 
 use crate::failure::Failure;
 use crate::kept_log::KeptLog;
+use crate::misuse::Misuse;
 use crate::spelled::Spelled;
 use std::alloc::{AllocError, Global};
 use warg_operator_log::LogState as OperatorState;
@@ -66,6 +68,26 @@ impl Held {
         match self {
             Held::Package(log) => log.take_spelled(),
             Held::Operator(log) => log.take_spelled(),
+        }
+    }
+
+    /// What is wrong where a call for package logs has a bad argument: this, or the log is of the other kind.
+    pub(crate) fn package_misuse(&self, wrong: Misuse) -> Misuse
+        ensures { result ≡ package_misuse self.now wrong }
+    {
+        match self {
+            Held::Package(_) => wrong,
+            Held::Operator(_) => Misuse::WrongKind,
+        }
+    }
+
+    /// The same of a call for logs of operators.
+    pub(crate) fn operator_misuse(&self, wrong: Misuse) -> Misuse
+        ensures { result ≡ operator_misuse self.now wrong }
+    {
+        match self {
+            Held::Package(_) => Misuse::WrongKind,
+            Held::Operator(_) => wrong,
         }
     }
 

@@ -11,6 +11,7 @@ mod handle;
 mod held;
 mod kept_log;
 pub mod laws;
+mod misuse;
 mod owned;
 mod parts;
 mod proof_text;

@@ -4,7 +4,7 @@ ghost use Rattle.warg_crypto.specs.HashText.{hash_of};
 ghost use Rattle.warg_transparency.specs.Texts.{log_proof_of, map_proof_of};
 ghost use Rattle.warg_c.specs.ProofAnswers.{AreLeafTexts, IsNoText};
 ghost use Rattle.warg_c.specs.ProofFaults.{tree_numbered};
-ghost use Rattle.warg_c.specs.Texts.{FailsAs};
+ghost use Rattle.warg_c.specs.Texts.{Always, FailsAs};
 
 use crate::failure::Failure;
 use std::alloc::Global;
@@ -38,7 +38,7 @@ impl Tree {
 /// The hash of a text.
 pub(crate) fn hash_in(text: &[u8]) -> Result<AnyHash, Failure>
     ensures ok { IfOk result (λ hash. hash_of text.now ≡ Ok hash) }
-    ensures err { IfErr result (FailsAs ⊥ (IsNoText hash_of text.now)) }
+    ensures err { IfErr result (FailsAs ⊥ ⊥ (IsNoText hash_of text.now)) }
 {
     let Ok(text) = str::from_utf8(text) else {
         return Err(Failure::BadArgument);
@@ -52,7 +52,7 @@ pub(crate) fn hash_in(text: &[u8]) -> Result<AnyHash, Failure>
 /// The leaf of a record of a log, by the texts of their ids.
 pub(crate) fn leaf_in(log_id: &[u8], record_id: &[u8]) -> Result<LogLeaf, Failure>
     ensures ok { IfOk result (AreLeafTexts log_id.now record_id.now) }
-    ensures err { IfErr result (FailsAs ⊥ (IsNoText hash_of log_id.now ⊎
+    ensures err { IfErr result (FailsAs ⊥ ⊥ (IsNoText hash_of log_id.now ⊎
         IsNoText hash_of record_id.now)) }
 {
     let log = hash_in(log_id)?;
@@ -66,7 +66,7 @@ pub(crate) fn leaf_in(log_id: &[u8], record_id: &[u8]) -> Result<LogLeaf, Failur
 /// The proof on a log of a text.
 pub(crate) fn log_proof_in(alloc: Global, text: &[u8]) -> Result<LogProof, Failure>
     ensures ok { IfOk result (λ proof. log_proof_of text.now ≡ Ok proof) }
-    ensures err { IfErr result (FailsAs ⊥ (IsNoText log_proof_of text.now)) }
+    ensures err { IfErr result (FailsAs Always ⊥ (IsNoText log_proof_of text.now)) }
 {
     let Ok(text) = str::from_utf8(text) else {
         return Err(Failure::BadArgument);
@@ -81,7 +81,7 @@ pub(crate) fn log_proof_in(alloc: Global, text: &[u8]) -> Result<LogProof, Failu
 /// The proof on a map of a text.
 pub(crate) fn map_proof_in(alloc: Global, text: &[u8]) -> Result<MapProof, Failure>
     ensures ok { IfOk result (λ proof. map_proof_of text.now ≡ Ok proof) }
-    ensures err { IfErr result (FailsAs ⊥ (IsNoText map_proof_of text.now)) }
+    ensures err { IfErr result (FailsAs Always ⊥ (IsNoText map_proof_of text.now)) }
 {
     let Ok(text) = str::from_utf8(text) else {
         return Err(Failure::BadArgument);

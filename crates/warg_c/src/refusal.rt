@@ -1,12 +1,12 @@
 //! The texts of refusals.
-ghost use Rattle.std.specs.Prelude.{◌≡◌, ◌≢◌, ◌⊎◌, ◌++◌, ◌∷◌, ◌≤◌, None, IfErr, IfOk, OnOk, length, take, string_bytes};
+ghost use Rattle.std.specs.Prelude.{◌≡◌, ◌≢◌, ◌⊎◌, ◌++◌, ◌∷◌, ◌≤◌, None, IfErr, IfOk, OnOk, length, drop, string_bytes};
 ghost use Rattle.warg_envelope.specs.Envelopes.{envelope_fault_of};
 ghost use Rattle.warg_validator.specs.OutcomeRuns.{cause_named_by};
-ghost use Rattle.warg_c.specs.Texts.{IsErrorLine, IsErrorText, SaysCause, failure_by};
+ghost use Rattle.warg_c.specs.Texts.{IsErrorLine, IsErrorText, IsNameOrLine, SaysCause, failure_by};
 ghost use Rattle.warg_c.specs.declared.failure.Failure.TheVariants.{NoEnvelope, OutOfMemory, Refused, TooSmall};
 
 use crate::failure::Failure;
-use crate::given::give;
+use crate::given::give_if_room;
 use std::alloc::{AllocError, Global};
 use std::fmt;
 use warg_envelope::ParseEnvelopeError;
@@ -39,17 +39,6 @@ pub(crate) fn check_named<L: Validator>(cause: &RunCause<L::Error>) -> Result<()
     Ok(())
 }
 
-/// Writes the text where there is memory and room for it.
-pub(crate) fn give_if_room(told: &str, text: &mut [u8], used: &mut usize)
-    ensures text { (used.new ≡ 0) ⊎ (take used.new text.new ≡ told.now) }
-    ensures length { length text.new ≡ length text.old }
-    ensures within { used.new ≤ length text.new }
-{
-    if give(told.as_bytes(), text, used).is_err() {
-        *used = 0;
-    }
-}
-
 // The name, a colon, a space, and the sentence.
 fn line_of(alloc: Global, name: &str, sentence: &str) -> Result<String, AllocError>
     ensures { IfOk result (λ told. string_bytes told ≡ name.now ++ 58 ∷ 32 ∷ sentence.now) }
@@ -68,7 +57,7 @@ fn sentence_of<E: fmt::Display>(alloc: Global, name: &str, error: &E) -> Result<
     line_of(alloc, name, sentence.as_str())
 }
 
-// Writes the text of an error where there is memory and room for it.
+// Writes the text of an error where there is room for it. Where there is no memory for the sentence, it is the name alone.
 fn tell_text<E: fmt::Display>(
     alloc: Global,
     name: &str,
@@ -76,18 +65,18 @@ fn tell_text<E: fmt::Display>(
     text: &mut [u8],
     used: &mut usize,
 )
-    ensures text { IsErrorText (IsErrorLine name.now (E.output error.now)) used.new text.new }
+    ensures text { IsErrorText (IsNameOrLine name.now (E.output error.now)) used.new text.new }
     ensures length { length text.new ≡ length text.old }
+    ensures behind { drop used.new text.new ≡ drop used.new text.old }
     ensures within { used.new ≤ length text.new }
 {
-    *used = 0;
-    let Ok(told) = sentence_of(alloc, name, error) else {
-        return;
-    };
-    give_if_room(told.as_str(), text, used);
+    match sentence_of(alloc, name, error) {
+        Ok(told) => give_if_room(told.as_str(), text, used),
+        Err(_) => give_if_room(name, text, used),
+    }
 }
 
-/// Says why a record is refused, as a failure and, where there is memory and room for it, as a text.
+/// Says why a record is refused, as a failure and, where there is room for it, as a text.
 pub(crate) fn refuse<L: Validator>(
     alloc: Global,
     cause: &RunCause<L::Error>,
@@ -99,10 +88,11 @@ where
     ensures failure { result ≡ failure_by (cause_named_by (envelope_fault_of L.Record.fault_of)
         L.offence_of cause.now) }
     ensures other { result ≢ TooSmall }
-    ensures text { IsErrorText (SaysCause L.Error.name_of L.Error.output cause.now)
-        used.new text.new }
+    ensures text { result ≢ OutOfMemory →
+        IsErrorText (SaysCause L.Error.name_of L.Error.output cause.now) used.new text.new }
     ensures quiet { result ≢ NoEnvelope → result ≢ Refused → used.new ≡ 0 }
     ensures length { length text.new ≡ length text.old }
+    ensures behind { drop used.new text.new ≡ drop used.new text.old }
     ensures within { used.new ≤ length text.new }
 {
     let failure = failure_of::<L>(cause);

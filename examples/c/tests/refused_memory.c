@@ -117,6 +117,14 @@ static uint32_t resume_nonsense(void) {
     return warg_resume(&fresh, WARG_PACKAGE, bytes_of("{\"head\":1}"), 10, text, sizeof text, &used);
 }
 static uint32_t version(void) { return warg_version(text, sizeof text, &used); }
+static uint32_t name_of_status(void) { return warg_status_name(WARG_NONE, text, sizeof text, &used); }
+static uint32_t open_no_kind(void) { return warg_open(&fresh, 2); }
+static uint32_t no_release_there(void) { return warg_releases(&package, 99, text, sizeof text, &used, &release); }
+static uint32_t no_permission(void) { return warg_holds(&package, alice.key_id.at, alice.key_id.len, bytes_of("commit"), 6); }
+static uint32_t no_hash(void) {
+    const uint8_t *hash = bytes_of("sha256:00"), *proof = bytes_of("AAAA");
+    return warg_verify_inclusion(hash, 9, hash, 9, 0, 1, hash, 9, proof, 4);
+}
 
 /* A call, and its status with memory: on a log that has its records, and on a resumed one. */
 struct call {
@@ -142,7 +150,6 @@ static const struct call looking[] = {
     {"verify, of no signature", verify_nonsense, {WARG_BAD_ARGUMENT, WARG_BAD_ARGUMENT}},
     {"verify, of another algorithm", verify_other, {WARG_UNKNOWN_ALGORITHM, WARG_UNKNOWN_ALGORITHM}},
     {"head", head, {WARG_OK, WARG_OK}},
-    {"length", length, {WARG_OK, WARG_BAD_ARGUMENT}},
     {"record", record, {WARG_OK, WARG_BAD_ARGUMENT}},
     {"id", id, {WARG_OK, WARG_OK}},
     {"id, of an operator's", operator_id, {WARG_OK, WARG_OK}},
@@ -156,11 +163,21 @@ static const struct call looking[] = {
     {"permissions, of operators", operator_permissions, {WARG_OK, WARG_OK}},
     {"key", key, {WARG_OK, WARG_OK}},
     {"chain", chain, {WARG_OK, WARG_BAD_ARGUMENT}},
-    {"compare", compare, {WARG_OK, WARG_BAD_ARGUMENT}},
     {"save", save, {WARG_OK, WARG_OK}},
     {"save, of operators", save_operators, {WARG_OK, WARG_OK}},
     {"resume, of no state", resume_nonsense, {WARG_BAD_ARGUMENT, WARG_BAD_ARGUMENT}},
+};
+
+/* Those that only look, and ask for no memory. */
+static const struct call taking_none[] = {
+    {"length", length, {WARG_OK, WARG_BAD_ARGUMENT}},
+    {"compare", compare, {WARG_OK, WARG_BAD_ARGUMENT}},
     {"version", version, {WARG_OK, WARG_OK}},
+    {"status name", name_of_status, {WARG_OK, WARG_OK}},
+    {"open, of no kind", open_no_kind, {WARG_BAD_ARGUMENT, WARG_BAD_ARGUMENT}},
+    {"releases, where there is none", no_release_there, {WARG_NONE, WARG_NONE}},
+    {"holds, of no permission", no_permission, {WARG_BAD_ARGUMENT, WARG_BAD_ARGUMENT}},
+    {"verify inclusion, of no hash", no_hash, {WARG_BAD_ARGUMENT, WARG_BAD_ARGUMENT}},
 };
 
 /* Those that change a log. */
@@ -300,6 +317,7 @@ int main(void) {
     for (int are_resumed = 0; are_resumed < 2; are_resumed++) {
         puts(are_resumed ? "resumed logs:" : "logs that have their records:");
         prepare(are_resumed);
+        CHECK(!refuse_all(taking_none, sizeof taking_none / sizeof *taking_none, false, are_resumed));
         all += refuse_all(looking, sizeof looking / sizeof *looking, false, are_resumed);
         all += refuse_all(changing, sizeof changing / sizeof *changing, true, are_resumed);
         finish();

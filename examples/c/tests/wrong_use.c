@@ -111,9 +111,11 @@ static void lengths(struct warg_log *log, const struct bytes *envelope) {
                                       sizeof text, &used);
         /* A key that is cut short may still be a key, and is then another question's. */
         CHECK(status == (i == 7 ? status : WARG_BAD_ARGUMENT) && status != WARG_OK);
+        CHECK(status != WARG_BAD_ARGUMENT || BEGINS(text, used, "BadQuestion: "));
     }
     CHECK(warg_append(log, envelope->at, envelope->len, nothing, 0, &asked, true, text, sizeof text, &used) ==
           WARG_BAD_ARGUMENT);
+    CHECK(warg_append(log, envelope->at, envelope->len, nothing, 0, &asked, true, text, 5, &used) == WARG_BAD_ARGUMENT && !used);
     question.at[0] = 0xff;
     CHECK(warg_append(log, envelope->at, envelope->len, question.at, whole, &asked, true, text, sizeof text, &used) ==
           WARG_BAD_ARGUMENT);
@@ -142,10 +144,13 @@ static void texts(struct warg_log *log, const struct signer *alice) {
     const struct bytes *id = &alice->key_id;
     struct warg_link links[4];
     CHECK(warg_latest(log, bad, 2, text, sizeof text, &used, &release) == WARG_BAD_ARGUMENT);
+    CHECK(BEGINS(text, used, "BadRequirement: "));
     CHECK(warg_latest(log, bytes_of("one"), 3, text, sizeof text, &used, &release) == WARG_BAD_ARGUMENT);
+    CHECK(BEGINS(text, used, "BadRequirement: "));
     CHECK(warg_latest(log, bytes_of(">9"), 2, text, sizeof text, &used, &release) == WARG_NONE);
     CHECK(warg_release(log, bad, 2, text, sizeof text, &used, &release) == WARG_BAD_ARGUMENT);
     CHECK(warg_release(log, bytes_of("1"), 1, text, sizeof text, &used, &release) == WARG_BAD_ARGUMENT);
+    CHECK(BEGINS(text, used, "BadVersion: "));
     CHECK(warg_release(log, bytes_of("9.0.0"), 5, text, sizeof text, &used, &release) == WARG_NONE);
     CHECK(warg_releases(log, SIZE_MAX, text, sizeof text, &used, &release) == WARG_NONE);
     CHECK(warg_holds(log, bad, 2, bytes_of("yank"), 4) == WARG_BAD_ARGUMENT);
@@ -154,17 +159,49 @@ static void texts(struct warg_log *log, const struct signer *alice) {
     CHECK(warg_holds(log, id->at, id->len, bytes_of("yank"), 4) == WARG_OK);
     CHECK(warg_holds(log, nothing, 0, bytes_of("yank"), 4) == WARG_NONE);
     CHECK(warg_permissions(log, bad, 2, text, sizeof text, &used) == WARG_BAD_ARGUMENT);
+    CHECK(BEGINS(text, used, "NotUtf8: "));
     CHECK(warg_permissions(log, nothing, 0, text, sizeof text, &used) == WARG_NONE);
     CHECK(warg_key(log, bad, 2, text, sizeof text, &used) == WARG_BAD_ARGUMENT);
+    CHECK(BEGINS(text, used, "NotUtf8: "));
     CHECK(warg_key(log, nothing, 0, text, sizeof text, &used) == WARG_NONE);
     CHECK(warg_chain(log, bad, 2, bytes_of("yank"), 4, links, 4, &used) == WARG_BAD_ARGUMENT);
     CHECK(warg_chain(log, id->at, id->len, nothing, 0, links, 4, &used) == WARG_BAD_ARGUMENT);
     CHECK(warg_id(7, nothing, 0, text, sizeof text, &used) == WARG_BAD_ARGUMENT);
+    CHECK(BEGINS(text, used, "NoKind: "));
     CHECK(warg_id(WARG_PACKAGE, bad, 2, text, sizeof text, &used) == WARG_NO_ENVELOPE && used > 0);
-    CHECK(warg_resume(log, 2, bytes_of("{}"), 2, text, sizeof text, &used) == WARG_BAD_ARGUMENT && used == 0);
+    CHECK(warg_resume(log, 2, bytes_of("{}"), 2, text, sizeof text, &used) == WARG_BAD_ARGUMENT);
+    CHECK(BEGINS(text, used, "NoKind: "));
     CHECK(warg_resume(log, WARG_PACKAGE, bad, 2, text, sizeof text, &used) == WARG_BAD_ARGUMENT && used > 0);
     CHECK(warg_resume(log, WARG_PACKAGE, bytes_of("[]"), 2, text, sizeof text, &used) == WARG_BAD_ARGUMENT);
-    CHECK(used == 9 && BEGINS(text, used, "WrongType"));
+    CHECK(BEGINS(text, used, "WrongType: "));
+    CHECK(warg_resume(log, WARG_PACKAGE, bytes_of("[]"), 2, text, used - 1, &used) == WARG_BAD_ARGUMENT && !used);
+}
+
+/* The name of each status, and of none that is not one. */
+static void names(void) {
+    static const char *const wanted[] = {"Ok", "NotOpen", "OutOfMemory", "TooSmall", "NoEnvelope", "Refused", "None", "BadArgument", "UnknownAlgorithm"};
+    for (uint32_t i = 0; i < sizeof wanted / sizeof *wanted; i++) {
+        size_t len = strlen(wanted[i]);
+        CHECK(warg_status_name(i, text, sizeof text, &used) == WARG_OK && used == len && BEGINS(text, used, wanted[i]));
+        CHECK(warg_status_name(i, text, len - 1, &used) == WARG_TOO_SMALL && used == len);
+    }
+    CHECK(warg_status_name(9, text, sizeof text, &used) == WARG_NONE && !used);
+    CHECK(warg_status_name(UINT32_MAX, text, sizeof text, &used) == WARG_NONE && !used);
+}
+
+/* What stands behind a text stays, and so does what a call gives besides where it gives nothing. */
+static void untouched(struct warg_log *log) {
+    struct warg_release was;
+    memset(&release, 7, sizeof release);
+    memcpy(&was, &release, sizeof was);
+    memset(text, 9, sizeof text);
+    CHECK(warg_latest(log, bytes_of(">=x"), 3, text, sizeof text, &used, &release) == WARG_BAD_ARGUMENT && used);
+    for (size_t i = used; i < sizeof text; i++)
+        CHECK(text[i] == 9);
+    memset(text, 9, sizeof text);
+    CHECK(warg_latest(log, bytes_of(">9"), 2, text, sizeof text, &used, &release) == WARG_NONE && !used && text[0] == 9);
+    CHECK(!memcmp(&was, &release, sizeof was));
+    CHECK(warg_version(text, sizeof text, &used) == WARG_OK && text[used] == 9);
 }
 
 /* Calls of the other kind, and of a log that was resumed. */
@@ -177,15 +214,20 @@ static void other_logs(struct warg_log *package, const struct signer *alice) {
     size_t length = 0;
     uint8_t saved[8192] = {0};
     CHECK(warg_latest(&operators, bytes_of("*"), 1, text, sizeof text, &used, &release) == WARG_BAD_ARGUMENT);
+    CHECK(BEGINS(text, used, "WrongKind: "));
     CHECK(warg_release(&operators, bytes_of("1.0.0"), 5, text, sizeof text, &used, &release) == WARG_BAD_ARGUMENT);
+    CHECK(BEGINS(text, used, "WrongKind: "));
     CHECK(warg_releases(&operators, 0, text, sizeof text, &used, &release) == WARG_BAD_ARGUMENT);
+    CHECK(BEGINS(text, used, "WrongKind: "));
     CHECK(warg_namespace(package, bytes_of("own"), 3, text, sizeof text, &used, &is_imported) == WARG_BAD_ARGUMENT);
+    CHECK(BEGINS(text, used, "WrongKind: "));
     CHECK(warg_namespace(&operators, bytes_of("own"), 3, text, sizeof text, &used, &is_imported) == WARG_OK);
     CHECK(is_imported == 0 && used == 0);
     CHECK(warg_namespace(&operators, bytes_of("other"), 5, text, sizeof text, &used, &is_imported) == WARG_OK);
     CHECK(is_imported == 1 && used == 20 && BEGINS(text, used, "registry.example.com"));
     CHECK(warg_namespace(&operators, bytes_of("none"), 4, text, sizeof text, &used, &is_imported) == WARG_NONE);
     CHECK(warg_namespace(&operators, bytes_of("\xff"), 1, text, sizeof text, &used, &is_imported) == WARG_BAD_ARGUMENT);
+    CHECK(BEGINS(text, used, "NotUtf8: "));
     CHECK(warg_compare(package, &operators, &comparison) == WARG_BAD_ARGUMENT);
     CHECK(warg_save(package, saved, sizeof saved, &length) == WARG_OK);
     CHECK(warg_resume(&resumed, WARG_PACKAGE, saved, length, text, sizeof text, &used) == WARG_OK);
@@ -193,6 +235,7 @@ static void other_logs(struct warg_log *package, const struct signer *alice) {
     CHECK(warg_compare(&resumed, package, &comparison) == WARG_BAD_ARGUMENT);
     CHECK(warg_length(&resumed, &length) == WARG_BAD_ARGUMENT);
     CHECK(warg_record(&resumed, 0, text, sizeof text, &used, &kept) == WARG_BAD_ARGUMENT);
+    CHECK(BEGINS(text, used, "Resumed: "));
     CHECK(warg_chain(&resumed, id->at, id->len, bytes_of("yank"), 4, links, 4, &used) == WARG_BAD_ARGUMENT);
     CHECK(warg_holds(&resumed, id->at, id->len, bytes_of("yank"), 4) == WARG_OK);
     CHECK(warg_record(package, 3, text, sizeof text, &used, &kept) == WARG_NONE);
@@ -213,6 +256,8 @@ int main(void) {
     small_buffers(&log, &next);
     texts(&log, &alice);
     other_logs(&log, &alice);
+    names();
+    untouched(&log);
     written_anew(&first);
     CHECK(head_of(&log, &after) == WARG_OK);
     CHECK(before.len == after.len && !memcmp(before.at, after.at, after.len));

@@ -1,5 +1,5 @@
 //! Appending, by what the caller says of a signature, or by what the library verifies itself.
-ghost use Rattle.std.specs.Prelude.{◌≡◌, ◌≢◌, ◌≤◌, IfOk, IfErr, OnOk, OnErr, length, take};
+ghost use Rattle.std.specs.Prelude.{◌≡◌, ◌≢◌, ◌≤◌, IfOk, IfErr, OnOk, OnErr, length, take, drop};
 ghost use Rattle.warg_validator.specs.Telling.{Holds};
 ghost use Rattle.warg_p256.specs.Scheme.{p256_belongs};
 ghost use Rattle.warg_records.specs.Kinds.{SignatureRelation, AcceptsNoMore};
@@ -9,12 +9,14 @@ ghost use Rattle.warg_c.specs.Questions.{HoldsOf};
 ghost use Rattle.warg_c.specs.Runs.{IsCall, ByCaller, ByLibrary};
 ghost use Rattle.warg_c.specs.Statuses.{Answers};
 ghost use Rattle.warg_c.specs.Texts.{IsQuiet, IsWithin};
-ghost use Rattle.warg_c.specs.declared.failure.Failure.TheVariants.{NoEnvelope, Refused, TooSmall};
+ghost use Rattle.warg_c.specs.declared.failure.Failure.TheVariants.{BadArgument, NoEnvelope, Refused, TooSmall};
 
 use crate::asking::{append_log, append_signed_to, ask_log};
 use crate::failure::{Failure, status};
+use crate::given::give_if_room;
 use crate::handle::WargLog;
 use crate::held::Held;
+use crate::misuse::Misuse;
 use crate::question::Asked;
 use crate::spelled::answer_for;
 use std::alloc::Global;
@@ -33,6 +35,8 @@ fn ask_held(
     ensures failed { IfErr result (ask_fails held.old envelope.now asked.new
         bytes.old used.new bytes.new) }
     ensures buffer { IfErr result (λ f. f ≡ TooSmall → bytes.new ≡ bytes.old) }
+    ensures behind { used.old ≡ 0 → drop used.new bytes.new ≡ drop used.new bytes.old }
+    ensures kept { IfErr result (λ f. f ≢ TooSmall → asked.new ≡ asked.old) }
     ensures unchanged { held.new ≡ held.old }
     ensures within { used.old ≡ 0 → IsWithin result used.new bytes.new }
     ensures quiet { used.old ≡ 0 → IfErr result (λ f. f ≢ TooSmall → f ≢ NoEnvelope →
@@ -66,6 +70,8 @@ pub extern "C" fn warg_ask(
         (λ held. ask_fails held envelope.now asked.new bytes.old used.new bytes.new) }
     ensures unchanged { log.new.owned.kept ≡ log.old.owned.kept }
     ensures buffer { result ≡ 3 → bytes.new ≡ bytes.old }
+    ensures behind { drop used.new bytes.new ≡ drop used.new bytes.old }
+    ensures kept { result ≢ 0 → result ≢ 3 → asked.new ≡ asked.old }
     ensures used { result ≢ 0 → result ≢ 3 → result ≢ 4 → result ≢ 5 → used.new ≡ 0 }
     ensures within { result ≢ 3 → used.new ≤ length bytes.new }
 {
@@ -91,6 +97,7 @@ fn append_held(
     ensures failed { IfErr result (append_refuses held.old answer.now
         envelope.now used.new text.new) }
     ensures unchanged { OnErr result (held.new ≡ held.old) }
+    ensures behind { used.old ≡ 0 → drop used.new text.new ≡ drop used.new text.old }
     ensures within { used.old ≡ 0 → used.new ≤ length text.new }
     ensures quiet { used.old ≡ 0 → IsQuiet result used.new }
 {
@@ -123,12 +130,21 @@ fn append_told(
     ensures failed { IfErr result (append_fails held.old word.now.belongs word.now.asked.now
         word.now.question.now envelope.now used.new text.new) }
     ensures unchanged { OnErr result (held.new ≡ held.old) }
+    ensures behind { used.old ≡ 0 → drop used.new text.new ≡ drop used.new text.old }
     ensures within { used.old ≡ 0 → used.new ≤ length text.new }
-    ensures quiet { used.old ≡ 0 → IsQuiet result used.new }
+    ensures quiet { used.old ≡ 0 → OnOk result (used.new ≡ 0) ×
+        IfErr result (λ f. f ≢ NoEnvelope → f ≢ Refused → f ≢ BadArgument → used.new ≡ 0) }
 {
     let kept = held.take_spelled();
-    let answer = answer_for(alloc, kept, word.question, word.asked, word.belongs)?;
-    append_held(alloc, held, envelope, &answer, text, used)
+    match answer_for(alloc, kept, word.question, word.asked, word.belongs) {
+        Ok(answer) => append_held(alloc, held, envelope, &answer, text, used),
+        Err(failure) => {
+            if failure == Failure::BadArgument {
+                give_if_room(Misuse::BadQuestion.text(), text, used);
+            }
+            Err(failure)
+        }
+    }
 }
 
 /// Appends the record of an envelope, by the caller's word for its signature. `question` and `asked` are what `warg_ask` gave for it, and
@@ -139,7 +155,8 @@ fn append_told(
 ///   WARG_REFUSED: the record is unlawful after those of the log; the error's text is in `text`. So is every record whose `belongs` is
 ///     false, and one whose question is not the one that is passed (also where another record was appended in between, if that changes
 ///     the key): they are refused as wrong signatures.
-///   WARG_BAD_ARGUMENT: the bytes are no question: the lengths reach beyond its end, or the key or the signature can't be read.
+///   WARG_BAD_ARGUMENT (BadQuestion): the bytes are no question: the lengths reach beyond its end, or the key or the signature can't be
+///     read.
 #[unsafe(no_mangle)]
 pub extern "C" fn warg_append(
     alloc: Global,
@@ -157,7 +174,8 @@ pub extern "C" fn warg_append(
         append_moves b envelope.now held log.new.owned.kept)
         (λ held. append_fails held belongs asked.now question.now envelope.now used.new text.new) }
     ensures unchanged { result ≢ 0 → log.new.owned.kept ≡ log.old.owned.kept }
-    ensures used { result ≢ 4 → result ≢ 5 → used.new ≡ 0 }
+    ensures used { result ≢ 4 → result ≢ 5 → result ≢ 7 → used.new ≡ 0 }
+    ensures behind { drop used.new text.new ≡ drop used.new text.old }
     ensures within { used.new ≤ length text.new }
 
     // As `laws::runs` takes it, among other such calls.
@@ -194,6 +212,7 @@ fn append_signed_held(
     ensures lawful { OnOk result (may_come p256_belongs envelope.now held.old) }
     ensures failed { IfErr result (signed_fails held.old envelope.now used.new text.new) }
     ensures unchanged { OnErr result (held.new ≡ held.old) }
+    ensures behind { used.old ≡ 0 → drop used.new text.new ≡ drop used.new text.old }
     ensures within { used.old ≡ 0 → used.new ≤ length text.new }
     ensures quiet { used.old ≡ 0 → IsQuiet result used.new }
 {
@@ -227,6 +246,7 @@ pub extern "C" fn warg_append_signed(
         (λ held. signed_fails held envelope.now used.new text.new) }
     ensures unchanged { result ≢ 0 → log.new.owned.kept ≡ log.old.owned.kept }
     ensures used { result ≢ 4 → result ≢ 5 → used.new ≡ 0 }
+    ensures behind { drop used.new text.new ≡ drop used.new text.old }
     ensures within { used.new ≤ length text.new }
 
     // As `laws::runs` takes it, among other such calls.

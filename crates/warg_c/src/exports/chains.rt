@@ -1,6 +1,7 @@
 //! By which entries keys came to hold permissions.
-ghost use Rattle.std.specs.Prelude.{◌≡◌, ◌≢◌, ◌≤◌, ◌⊎◌, None, IfErr, IfOk, map, length, take};
-ghost use Rattle.warg_c.specs.ChainAnswers.{ChainIs, NoChain, chain_bad, chain_lacks, chain_tells, shown_link};
+ghost use Rattle.std.specs.Prelude.{◌≡◌, ◌≢◌, ◌≤◌, ◌⊎◌, None, IfErr, IfOk, IsSome, map, length, take, drop};
+ghost use Rattle.warg_c.specs.ChainAnswers.{ChainIs, NoChain, chain_bad, chain_lacks, chain_takes};
+ghost use Rattle.warg_c.specs.ChainAnswers.{chain_tells, shown_link};
 ghost use Rattle.warg_c.specs.Keys.{IsNoPermission};
 ghost use Rattle.warg_c.specs.Logs.{whole_of};
 ghost use Rattle.warg_c.specs.Statuses.{Answers};
@@ -54,6 +55,7 @@ where
         (whole_of log.now)
         key_id.now permission.now v.items) }
     ensures err { IfErr result (FailsAs
+        (IsSome (whole_of log.now) × IsSome (L.Permission.permission_named permission.now))
         (NoChain L.effects L.Permission.permission_named (whole_of log.now) key_id.now
         permission.now)
         ((whole_of log.now ≡ None) ⊎ IsNoPermission L.Permission.permission_named key_id.now
@@ -62,8 +64,8 @@ where
     let Some(log) = log.whole() else {
         return Err(Failure::BadArgument);
     };
-    let key_id = key_id_of(alloc, key_id)?;
     let permission = permission_of::<L::Permission>(permission)?;
+    let key_id = key_id_of(alloc, key_id)?;
     let found = match log.permission_chain(&key_id, permission) {
         Ok(Some(found)) => found,
         Ok(None) => return Err(Failure::Absent),
@@ -82,7 +84,8 @@ fn chain_of(
     permission: &[u8],
 ) -> Result<Vec<Link>, Failure>
     ensures ok { IfOk result (λ v. chain_tells held.now key_id.now permission.now v.items) }
-    ensures err { IfErr result (FailsAs (chain_lacks held.now key_id.now permission.now)
+    ensures err { IfErr result (FailsAs (chain_takes held.now permission.now)
+        (chain_lacks held.now key_id.now permission.now)
         (chain_bad held.now key_id.now permission.now)) }
 {
     match held {
@@ -106,12 +109,13 @@ pub extern "C" fn warg_chain(
 ) -> u32
     ensures answer { Answers result log.old.owned.kept
         (λ held. chain_tells held key_id.now permission.now (take used.new links.new))
-        (λ held. TextFails (chain_tells held key_id.now permission.now)
+        (λ held. TextFails (chain_takes held permission.now) (chain_tells held key_id.now permission.now)
         (chain_lacks held key_id.now permission.now)
         (chain_bad held key_id.now permission.now) used.new links.old) }
     ensures unchanged { log.new.owned.kept ≡ log.old.owned.kept }
     ensures buffer { result ≢ 0 → links.new ≡ links.old }
     ensures used { result ≢ 0 → result ≢ 3 → used.new ≡ 0 }
+    ensures behind { drop used.new links.new ≡ drop used.new links.old }
     ensures within { result ≢ 3 → used.new ≤ length links.new }
 {
     *used = 0;

@@ -1,5 +1,5 @@
 //! Two logs.
-ghost use Rattle.std.specs.Prelude.{◌≡◌, ◌⊎◌, None, Some, IfOk, IfErr};
+ghost use Rattle.std.specs.Prelude.{◌≡◌, ◌≢◌, ◌⊎◌, None, Some, IfOk, IfErr};
 ghost use Rattle.warg_c.specs.ComparisonAnswers.{ComparisonIs, compare_tells, compare_answers, compare_bad, shown_of};
 ghost use Rattle.warg_c.specs.Logs.{whole_of};
 ghost use Rattle.warg_c.specs.Statuses.{Answers};
@@ -46,7 +46,7 @@ fn shown(comparison: LogComparison) -> Comparison
 
 fn compare_logs<L: Validator>(left: &KeptLog<L>, right: &KeptLog<L>) -> Result<Comparison, Failure>
     ensures ok { IfOk result (ComparisonIs L.kind L.view (whole_of left.now) (whole_of right.now)) }
-    ensures err { IfErr result (FailsAs ⊥ ((whole_of left.now ≡ None) ⊎
+    ensures err { IfErr result (FailsAs ⊥ ⊥ ((whole_of left.now ≡ None) ⊎
         (whole_of right.now ≡ None))) }
 {
     let Some(left) = left.whole() else {
@@ -60,7 +60,7 @@ fn compare_logs<L: Validator>(left: &KeptLog<L>, right: &KeptLog<L>) -> Result<C
 
 fn compare_held(left: &Held, right: &Held) -> Result<Comparison, Failure>
     ensures ok { IfOk result (compare_tells left.now right.now) }
-    ensures err { IfErr result (FailsAs ⊥ (compare_bad left.now right.now)) }
+    ensures err { IfErr result (FailsAs ⊥ ⊥ (compare_bad left.now right.now)) }
 {
     match (left, right) {
         (Held::Package(left), Held::Package(right)) => compare_logs(left, right),
@@ -73,7 +73,8 @@ fn compare_held(left: &Held, right: &Held) -> Result<Comparison, Failure>
 fn compare_with(alloc: Global, left: &Held, right: &mut WargLog, comparison: &mut Comparison) -> u32
     ensures answer { Answers result right.old.owned.kept
         (λ held. compare_tells left.now held comparison.new)
-        (λ held. CallFails ⊥ (compare_bad left.now held)) }
+        (λ held. CallFails ⊥ ⊥ (compare_bad left.now held)) }
+    ensures kept { result ≢ 0 → comparison.new ≡ comparison.old }
     ensures unchanged { right.new.owned.kept ≡ right.old.owned.kept }
 {
     let Some(held) = right.take(alloc) else {
@@ -95,6 +96,7 @@ pub extern "C" fn warg_compare(
 ) -> u32
     ensures answer { compare_answers result left.old.owned.kept
         right.old.owned.kept comparison.new }
+    ensures kept { result ≢ 0 → comparison.new ≡ comparison.old }
     ensures unchanged { (left.new.owned.kept ≡ left.old.owned.kept) ×
         (right.new.owned.kept ≡ right.old.owned.kept) }
 {

@@ -1,24 +1,27 @@
 //! Keys, and what they may do. A key id is the fingerprint of a key, and permissions are `release` and `yank` of package logs, and
 //! `commit`, `defineNamespace` and `importNamespace` of operator logs.
-ghost use Rattle.std.specs.Prelude.{◌≡◌, ◌≢◌, ◌≤◌, ◌⊎◌, None, Some, true, false, Bool, IfOk, IfErr, OnOk};
-ghost use Rattle.std.specs.Prelude.{take, string_bytes, length};
+ghost use Rattle.std.specs.Prelude.{◌≡◌, ◌≢◌, ◌≤◌, ◌⊎◌, None, Some, true, false, Bool, IfOk, IfErr};
+ghost use Rattle.std.specs.Prelude.{IsSome, OnOk, take, drop, length};
 ghost use Rattle.std.specs.Option.{option_copied};
 ghost use Rattle.std.specs.Str.{IsUtf8};
-ghost use Rattle.warg_c.specs.Keys.{HoldsIs, IsNoPermission, KeyText, with_name, holds_tells, holds_bad, key_of};
-ghost use Rattle.warg_c.specs.Keys.{PackageText, OperatorText, permissions_tell, permissions_lack};
-ghost use Rattle.warg_c.specs.Keys.{package_permissions, operator_permissions};
+ghost use Rattle.warg_c.specs.Keys.{HoldsIs, IsNoPermission, KeyText, with_name, holds_tells, holds_bad};
+ghost use Rattle.warg_c.specs.Keys.{is_permission, key_of, PackageText, OperatorText, permissions_tell};
+ghost use Rattle.warg_c.specs.Keys.{permissions_lack, package_permissions, operator_permissions};
 ghost use Rattle.warg_operator_log.specs.State as operators;
 ghost use Rattle.warg_package_log.specs.State as packages;
 ghost use Rattle.warg_c.specs.Logs.{state_of};
 ghost use Rattle.warg_c.specs.Statuses.{Answers};
-ghost use Rattle.warg_c.specs.Texts.{CallFails, FailsAs, TextFails};
+ghost use Rattle.warg_c.specs.Misuses.{misuse_text};
+ghost use Rattle.warg_c.specs.Texts.{Always, CallFails, FailsAs, IsGiven, TextFails};
+ghost use Rattle.warg_c.specs.declared.misuse.Misuse.TheVariants.{NotUtf8};
 
 use crate::argument::{key_id_of, permission_of};
 use crate::failure::{Failure, status};
-use crate::given::finish;
+use crate::given::finish_text;
 use crate::handle::WargLog;
 use crate::held::Held;
 use crate::kept_log::KeptLog;
+use crate::misuse::Misuse;
 use std::alloc::{AllocError, Global};
 use warg_crypto::signing::{KeyID, PublicKey};
 use warg_operator_log::LogState as OperatorState;
@@ -39,13 +42,13 @@ where
     ensures ok { OnOk result (HoldsIs L.Permission.permission_named
         (L.holds (L.view (state_of log.now)))
         key_id.now permission.now true) }
-    ensures err { IfErr result (FailsAs
+    ensures err { IfErr result (FailsAs (IsSome (L.Permission.permission_named permission.now))
         (HoldsIs L.Permission.permission_named (L.holds (L.view (state_of log.now)))
         key_id.now permission.now false)
         (IsNoPermission L.Permission.permission_named key_id.now permission.now)) }
 {
-    let key_id = key_id_of(alloc, key_id)?;
     let permission = permission_of::<L::Permission>(permission)?;
+    let key_id = key_id_of(alloc, key_id)?;
     if log.state().holds(&key_id, permission) {
         Ok(())
     } else {
@@ -55,7 +58,8 @@ where
 
 fn holds(alloc: Global, held: &Held, key_id: &[u8], permission: &[u8]) -> Result<(), Failure>
     ensures ok { OnOk result (holds_tells held.now key_id.now permission.now true) }
-    ensures err { IfErr result (FailsAs (holds_tells held.now key_id.now permission.now false)
+    ensures err { IfErr result (FailsAs (is_permission held.now permission.now)
+        (holds_tells held.now key_id.now permission.now false)
         (holds_bad held.now key_id.now permission.now)) }
 {
     match held {
@@ -75,7 +79,8 @@ pub extern "C" fn warg_holds(
 ) -> u32
     ensures answer { Answers result log.old.owned.kept
         (λ held. holds_tells held key_id.now permission.now true)
-        (λ held. CallFails (holds_tells held key_id.now permission.now false)
+        (λ held. CallFails (is_permission held permission.now)
+        (holds_tells held key_id.now permission.now false)
         (holds_bad held key_id.now permission.now)) }
     ensures unchanged { log.new.owned.kept ≡ log.old.owned.kept }
 {
@@ -131,7 +136,7 @@ fn package_permissions(
     key_id: &KeyID,
 ) -> Result<Vec<u8>, Failure>
     ensures ok { IfOk result (λ v. PackageText (packages.view_of state.now) key_id.now v.items) }
-    ensures err { IfErr result (FailsAs
+    ensures err { IfErr result (FailsAs Always
         ((packages.view_of state.now).state.authority.has_entry key_id.now ≡ false) ⊥) }
 {
     let Some(_set) = state.key_permissions(key_id) else {
@@ -152,7 +157,7 @@ fn operator_permissions(
     key_id: &KeyID,
 ) -> Result<Vec<u8>, Failure>
     ensures ok { IfOk result (λ v. OperatorText (operators.view_of state.now) key_id.now v.items) }
-    ensures err { IfErr result (FailsAs
+    ensures err { IfErr result (FailsAs Always
         ((operators.view_of state.now).state.authority.has_entry key_id.now ≡ false) ⊥) }
 {
     let Some(_set) = state.key_permissions(key_id) else {
@@ -169,7 +174,7 @@ fn operator_permissions(
 
 fn permissions_of(alloc: Global, held: &Held, key_id: &[u8]) -> Result<Vec<u8>, Failure>
     ensures ok { IfOk result (λ v. permissions_tell held.now key_id.now v.items) }
-    ensures err { IfErr result (FailsAs (permissions_lack held.now key_id.now)
+    ensures err { IfErr result (FailsAs Always (permissions_lack held.now key_id.now)
         (IsUtf8 key_id.now → ⊥)) }
 {
     let key_id = key_id_of(alloc, key_id)?;
@@ -181,7 +186,7 @@ fn permissions_of(alloc: Global, held: &Held, key_id: &[u8]) -> Result<Vec<u8>, 
 
 /// The permissions of a key id, with a space between two: no text where it holds none.
 ///   WARG_NONE: the log does not know the key id.
-///   WARG_BAD_ARGUMENT: the key id is no UTF-8.
+///   WARG_BAD_ARGUMENT (NotUtf8): the key id is no UTF-8.
 #[unsafe(no_mangle)]
 pub extern "C" fn warg_permissions(
     alloc: Global,
@@ -192,11 +197,14 @@ pub extern "C" fn warg_permissions(
 ) -> u32
     ensures answer { Answers result log.old.owned.kept
         (λ held. permissions_tell held key_id.now (take used.new text.new))
-        (λ held. TextFails (permissions_tell held key_id.now) (permissions_lack held key_id.now)
-        (IsUtf8 key_id.now → ⊥) used.new text.old) }
+        (λ held. TextFails Always (permissions_tell held key_id.now)
+        (permissions_lack held key_id.now)
+        ((IsUtf8 key_id.now → ⊥) × IsGiven (misuse_text NotUtf8) used.new text.new)
+        used.new text.old) }
     ensures unchanged { log.new.owned.kept ≡ log.old.owned.kept }
-    ensures buffer { result ≢ 0 → text.new ≡ text.old }
-    ensures used { result ≢ 0 → result ≢ 3 → used.new ≡ 0 }
+    ensures buffer { result ≢ 0 → result ≢ 7 → text.new ≡ text.old }
+    ensures used { result ≢ 0 → result ≢ 3 → result ≢ 7 → used.new ≡ 0 }
+    ensures behind { drop used.new text.new ≡ drop used.new text.old }
     ensures within { result ≢ 3 → used.new ≤ length text.new }
 {
     *used = 0;
@@ -205,7 +213,7 @@ pub extern "C" fn warg_permissions(
     };
     let outcome = permissions_of(alloc, &held, key_id);
     log.put(held);
-    finish(outcome, text, used)
+    finish_text(outcome, Misuse::NotUtf8, text, used)
 }
 
 // The key of an id.
@@ -220,7 +228,7 @@ fn key_of<'a>(held: &'a Held, key_id: &KeyID) -> Option<&'a PublicKey>
 
 fn key_text(alloc: Global, held: &Held, key_id: &[u8]) -> Result<Vec<u8>, Failure>
     ensures ok { IfOk result (λ v. KeyText (key_of held.now key_id.now) v.items) }
-    ensures err { IfErr result (FailsAs (key_of held.now key_id.now ≡ None)
+    ensures err { IfErr result (FailsAs Always (key_of held.now key_id.now ≡ None)
         (IsUtf8 key_id.now → ⊥)) }
 {
     let key_id = key_id_of(alloc, key_id)?;
@@ -235,7 +243,7 @@ fn key_text(alloc: Global, held: &Held, key_id: &[u8]) -> Result<Vec<u8>, Failur
 
 /// The text of the key of a key id.
 ///   WARG_NONE: the log does not know the key.
-///   WARG_BAD_ARGUMENT: the key id is no UTF-8.
+///   WARG_BAD_ARGUMENT (NotUtf8): the key id is no UTF-8.
 #[unsafe(no_mangle)]
 pub extern "C" fn warg_key(
     alloc: Global,
@@ -246,11 +254,14 @@ pub extern "C" fn warg_key(
 ) -> u32
     ensures answer { Answers result log.old.owned.kept
         (λ held. KeyText (key_of held key_id.now) (take used.new text.new))
-        (λ held. TextFails (KeyText (key_of held key_id.now))
-        (key_of held key_id.now ≡ None) (IsUtf8 key_id.now → ⊥) used.new text.old) }
+        (λ held. TextFails Always (KeyText (key_of held key_id.now))
+        (key_of held key_id.now ≡ None)
+        ((IsUtf8 key_id.now → ⊥) × IsGiven (misuse_text NotUtf8) used.new text.new)
+        used.new text.old) }
     ensures unchanged { log.new.owned.kept ≡ log.old.owned.kept }
-    ensures buffer { result ≢ 0 → text.new ≡ text.old }
-    ensures used { result ≢ 0 → result ≢ 3 → used.new ≡ 0 }
+    ensures buffer { result ≢ 0 → result ≢ 7 → text.new ≡ text.old }
+    ensures used { result ≢ 0 → result ≢ 3 → result ≢ 7 → used.new ≡ 0 }
+    ensures behind { drop used.new text.new ≡ drop used.new text.old }
     ensures within { result ≢ 3 → used.new ≤ length text.new }
 {
     *used = 0;
@@ -259,5 +270,5 @@ pub extern "C" fn warg_key(
     };
     let outcome = key_text(alloc, &held, key_id);
     log.put(held);
-    finish(outcome, text, used)
+    finish_text(outcome, Misuse::NotUtf8, text, used)
 }

@@ -1,17 +1,21 @@
 //! The namespaces of an operator log.
-ghost use Rattle.std.specs.Prelude.{◌≡◌, ◌≢◌, ◌≤◌, ◌⊎◌, None, Some, IfOk, IfErr, length, take};
+ghost use Rattle.std.specs.Prelude.{◌≡◌, ◌≢◌, ◌≤◌, ◌⊎◌, None, Some, IfOk, IfErr, IsSome, length, take, drop};
 ghost use Rattle.std.specs.Option.{option_copied, option_map};
 ghost use Rattle.std.specs.Str.{IsUtf8};
 ghost use Rattle.warg_operator_log.specs.NamespaceMap.{namespace_view};
 ghost use Rattle.warg_operator_log.specs.State.{view_of};
-ghost use Rattle.warg_c.specs.NamespaceAnswers.{NamespaceIs, namespace_tells, namespace_lacks, namespace_bad};
+ghost use Rattle.warg_c.specs.Misuses.{misuse_text, operator_misuse};
+ghost use Rattle.warg_c.specs.NamespaceAnswers.{NamespaceIs, namespace_takes, namespace_tells};
+ghost use Rattle.warg_c.specs.NamespaceAnswers.{namespace_lacks, namespace_bad};
 ghost use Rattle.warg_c.specs.Statuses.{Answers};
-ghost use Rattle.warg_c.specs.Texts.{FailsAs, TextFails};
+ghost use Rattle.warg_c.specs.Texts.{FailsAs, IsGiven, TextFails};
+ghost use Rattle.warg_c.specs.declared.misuse.Misuse.TheVariants.{NotUtf8};
 
 use crate::failure::{Failure, status};
 use crate::given::finish_with;
 use crate::handle::WargLog;
 use crate::held::Held;
+use crate::misuse::Misuse;
 use std::alloc::{AllocError, Global};
 use warg_operator_log::{LogState, NamespaceState};
 
@@ -31,7 +35,9 @@ fn spell_namespace(alloc: Global, state: &NamespaceState) -> Result<(Vec<u8>, u3
 fn namespace_in(alloc: Global, state: &LogState, name: &[u8]) -> Result<(Vec<u8>, u32), Failure>
     ensures ok { IfOk result (λ p. NamespaceIs ((view_of state.now).state.own_state name.now) p.1
         p.0.items) }
-    ensures err { IfErr result (FailsAs ((view_of state.now).state.own_state name.now ≡ None)
+    ensures err { IfErr result (FailsAs
+        (IsSome ((view_of state.now).state.own_state name.now))
+        ((view_of state.now).state.own_state name.now ≡ None)
         (IsUtf8 name.now → ⊥)) }
 {
     let Ok(name) = str::from_utf8(name) else {
@@ -48,7 +54,8 @@ fn namespace_in(alloc: Global, state: &LogState, name: &[u8]) -> Result<(Vec<u8>
 
 fn namespace_of(alloc: Global, held: &Held, name: &[u8]) -> Result<(Vec<u8>, u32), Failure>
     ensures ok { IfOk result (λ p. namespace_tells held.now name.now p.1 p.0.items) }
-    ensures err { IfErr result (FailsAs (namespace_lacks held.now name.now)
+    ensures err { IfErr result (FailsAs (namespace_takes held.now name.now)
+        (namespace_lacks held.now name.now)
         (namespace_bad held.now name.now)) }
 {
     match held {
@@ -60,7 +67,7 @@ fn namespace_of(alloc: Global, held: &Held, name: &[u8]) -> Result<(Vec<u8>, u32
 /// What a namespace is. `is_imported` is 0 where this registry defines it, and `text` is empty; it is 1 where its packages are those of another
 /// registry, and `text` is that one's name.
 ///   WARG_NONE: the log has no such namespace.
-///   WARG_BAD_ARGUMENT: the name is no UTF-8, or the log is one of a package.
+///   WARG_BAD_ARGUMENT: the name is no UTF-8 (NotUtf8), or the log is one of a package (WrongKind).
 #[unsafe(no_mangle)]
 pub extern "C" fn warg_namespace(
     alloc: Global,
@@ -72,11 +79,16 @@ pub extern "C" fn warg_namespace(
 ) -> u32
     ensures answer { Answers result log.old.owned.kept
         (λ held. namespace_tells held name.now is_imported.new (take used.new text.new))
-        (λ held. TextFails (namespace_tells held name.now is_imported.new)
-        (namespace_lacks held name.now) (namespace_bad held name.now) used.new text.old) }
+        (λ held. TextFails (namespace_takes held name.now)
+        (namespace_tells held name.now is_imported.new)
+        (namespace_lacks held name.now) (namespace_bad held name.now ×
+        IsGiven (misuse_text (operator_misuse held NotUtf8)) used.new text.new)
+        used.new text.old) }
     ensures unchanged { log.new.owned.kept ≡ log.old.owned.kept }
-    ensures buffer { result ≢ 0 → text.new ≡ text.old }
-    ensures used { result ≢ 0 → result ≢ 3 → used.new ≡ 0 }
+    ensures buffer { result ≢ 0 → result ≢ 7 → text.new ≡ text.old }
+    ensures used { result ≢ 0 → result ≢ 3 → result ≢ 7 → used.new ≡ 0 }
+    ensures behind { drop used.new text.new ≡ drop used.new text.old }
+    ensures kept { result ≢ 0 → result ≢ 3 → is_imported.new ≡ is_imported.old }
     ensures within { result ≢ 3 → used.new ≤ length text.new }
 {
     *used = 0;
@@ -84,6 +96,7 @@ pub extern "C" fn warg_namespace(
         return status(Err(Failure::NotOpen));
     };
     let outcome = namespace_of(alloc, &held, name);
+    let wrong = held.operator_misuse(Misuse::NotUtf8);
     log.put(held);
-    finish_with(outcome, text, used, is_imported)
+    finish_with(outcome, wrong, text, used, is_imported)
 }

@@ -1,6 +1,6 @@
 //! Opening and closing.
-ghost use Rattle.std.specs.Prelude.{◌≡◌, ◌≢◌, ◌⊎◌, None, Some, IfOk, IfErr, IsSomeAnd};
-ghost use Rattle.warg_c.specs.Held.{IsNew, IsOfNumber, IsNoKind};
+ghost use Rattle.std.specs.Prelude.{◌≡◌, ◌≢◌, ◌⊎◌, None, Some, IfOk, IfErr, IsOk, IsSomeAnd};
+ghost use Rattle.warg_c.specs.Held.{IsNew, IsOfNumber, IsNoKind, kind_numbered};
 ghost use Rattle.warg_c.specs.Statuses.{IsStatusOf};
 ghost use Rattle.warg_c.specs.Texts.{CallFails, FailsAs};
 
@@ -12,7 +12,7 @@ use std::alloc::Global;
 // A log of no records, of the kind that the number names.
 fn opened(alloc: Global, kind: u32) -> Result<Box<Held>, Failure>
     ensures ok { IfOk result (λ b. IsNew b.value × IsOfNumber kind b.value) }
-    ensures err { IfErr result (FailsAs ⊥ (IsNoKind kind)) }
+    ensures err { IfErr result (FailsAs (IsOk (kind_numbered kind)) ⊥ (IsNoKind kind)) }
 {
     let kind = Kind::numbered(kind)?;
     let Ok(held) = Held::new(alloc, kind) else {
@@ -30,7 +30,7 @@ fn opened(alloc: Global, kind: u32) -> Result<Box<Held>, Failure>
 pub extern "C" fn warg_open(alloc: Global, log: &mut WargLog, kind: u32) -> u32
     ensures answer { IsStatusOf result
         (IsSomeAnd log.new.owned.kept (λ held. IsNew held × IsOfNumber kind held))
-        (CallFails ⊥ (IsNoKind kind)) }
+        (CallFails (IsOk (kind_numbered kind)) ⊥ (IsNoKind kind)) }
     ensures unchanged { result ≢ 0 → log.new.owned.kept ≡ log.old.owned.kept }
 {
     match opened(alloc, kind) {

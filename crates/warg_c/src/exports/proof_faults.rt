@@ -1,12 +1,16 @@
 //! What is wrong with the text of a proof.
-ghost use Rattle.std.specs.Prelude.{◌≡◌, ◌≢◌, ◌≤◌, Err, IfOk, IfErr, IsOk, length, take};
+ghost use Rattle.std.specs.Prelude.{◌≡◌, ◌≢◌, ◌≤◌, Err, IfOk, IfErr, IsOk, length, take, drop};
 ghost use Rattle.warg_transparency.specs.Texts.{log_proof_of, map_proof_of};
-ghost use Rattle.warg_c.specs.ProofFaults.{FaultLacks, FaultTells, IsFaultOf, IsNoTree, proof_fault_name, proof_on};
+ghost use Rattle.warg_c.specs.Misuses.{misuse_text};
+ghost use Rattle.warg_c.specs.ProofFaults.{FaultLacks, FaultTells, IsFaultOf, IsNoTree, proof_fault_name};
+ghost use Rattle.warg_c.specs.ProofFaults.{proof_on, tree_numbered};
 ghost use Rattle.warg_c.specs.Statuses.{IsStatusOf};
-ghost use Rattle.warg_c.specs.Texts.{FailsAs, TextFails};
+ghost use Rattle.warg_c.specs.Texts.{Always, FailsAs, IsGiven, TextFails};
+ghost use Rattle.warg_c.specs.declared.misuse.Misuse.TheVariants.{NoTree};
 
 use crate::failure::Failure;
-use crate::given::finish;
+use crate::given::finish_text;
+use crate::misuse::Misuse;
 use crate::proof_text::Tree;
 use std::alloc::Global;
 use warg_transparency::{LogProof, MapProof, ProofTextError};
@@ -14,7 +18,7 @@ use warg_transparency::{LogProof, MapProof, ProofTextError};
 // Why a text is no proof on a log.
 fn log_fault(alloc: Global, text: &str) -> Result<ProofTextError, Failure>
     ensures ok { IfOk result (λ e. log_proof_of text.now ≡ Err e) }
-    ensures err { IfErr result (FailsAs (IsOk (log_proof_of text.now)) ⊥) }
+    ensures err { IfErr result (FailsAs Always (IsOk (log_proof_of text.now)) ⊥) }
 {
     match LogProof::parse(alloc, text) {
         Ok(_) => Err(Failure::Absent),
@@ -26,7 +30,7 @@ fn log_fault(alloc: Global, text: &str) -> Result<ProofTextError, Failure>
 // Why a text is no proof on a map.
 fn map_fault(alloc: Global, text: &str) -> Result<ProofTextError, Failure>
     ensures ok { IfOk result (λ e. map_proof_of text.now ≡ Err e) }
-    ensures err { IfErr result (FailsAs (IsOk (map_proof_of text.now)) ⊥) }
+    ensures err { IfErr result (FailsAs Always (IsOk (map_proof_of text.now)) ⊥) }
 {
     match MapProof::parse(alloc, text) {
         Ok(_) => Err(Failure::Absent),
@@ -38,7 +42,7 @@ fn map_fault(alloc: Global, text: &str) -> Result<ProofTextError, Failure>
 // Why bytes are no text of a proof on the tree.
 fn fault_in(alloc: Global, tree: Tree, proof: &[u8]) -> Result<ProofTextError, Failure>
     ensures ok { IfOk result (IsFaultOf tree proof.now) }
-    ensures err { IfErr result (FailsAs (IsOk (proof_on tree proof.now)) ⊥) }
+    ensures err { IfErr result (FailsAs Always (IsOk (proof_on tree proof.now)) ⊥) }
 {
     let Ok(text) = str::from_utf8(proof) else {
         return Ok(ProofTextError::BadBase64);
@@ -63,7 +67,8 @@ fn fault_name(fault: ProofTextError) -> &'static str
 
 fn fault_text(alloc: Global, number: u32, proof: &[u8]) -> Result<Vec<u8>, Failure>
     ensures ok { IfOk result (λ v. FaultTells number proof.now v.items) }
-    ensures err { IfErr result (FailsAs (FaultLacks number proof.now) (IsNoTree number)) }
+    ensures err { IfErr result (FailsAs (IsOk (tree_numbered number)) (FaultLacks number proof.now)
+        (IsNoTree number)) }
 {
     let tree = Tree::numbered(number)?;
     let fault = fault_in(alloc, tree, proof)?;
@@ -74,7 +79,7 @@ fn fault_text(alloc: Global, number: u32, proof: &[u8]) -> Result<Vec<u8>, Failu
 /// The name of what is wrong with the text of a proof on one of `enum warg_tree`, so that a caller can say it: TooLong, BadBase64, BadLength
 /// or EmptySibling.
 ///   WARG_NONE: nothing is wrong: it is the text of a proof, whatever that shows.
-///   WARG_BAD_ARGUMENT: no such tree.
+///   WARG_BAD_ARGUMENT (NoTree): no such tree.
 #[unsafe(no_mangle)]
 pub extern "C" fn warg_proof_fault(
     alloc: Global,
@@ -84,12 +89,14 @@ pub extern "C" fn warg_proof_fault(
     used: &mut usize,
 ) -> u32
     ensures answer { IsStatusOf result (FaultTells tree proof.now (take used.new text.new))
-        (TextFails (FaultTells tree proof.now) (FaultLacks tree proof.now) (IsNoTree tree)
-        used.new text.old) }
-    ensures buffer { result ≢ 0 → text.new ≡ text.old }
-    ensures used { result ≢ 0 → result ≢ 3 → used.new ≡ 0 }
+        (TextFails (IsOk (tree_numbered tree)) (FaultTells tree proof.now)
+        (FaultLacks tree proof.now)
+        (IsNoTree tree × IsGiven (misuse_text NoTree) used.new text.new) used.new text.old) }
+    ensures buffer { result ≢ 0 → result ≢ 7 → text.new ≡ text.old }
+    ensures used { result ≢ 0 → result ≢ 3 → result ≢ 7 → used.new ≡ 0 }
+    ensures behind { drop used.new text.new ≡ drop used.new text.old }
     ensures within { result ≢ 3 → used.new ≤ length text.new }
 {
     let outcome = fault_text(alloc, tree, proof);
-    finish(outcome, text, used)
+    finish_text(outcome, Misuse::NoTree, text, used)
 }

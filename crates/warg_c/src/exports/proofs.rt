@@ -5,12 +5,13 @@
 //!     a log of this root has this length: so a log's length and root have to be signed together, and the map's root with them.
 //!   WARG_REFUSED: it does not hold.
 //!   WARG_BAD_ARGUMENT: a text is not of its form. `warg_proof_fault` says what is wrong with a proof's.
-//!   WARG_OUT_OF_MEMORY: nothing is said.
+//!   WARG_OUT_OF_MEMORY: nothing is said. The texts of the hashes are of their form.
 ghost use Rattle.std.specs.Prelude.{OnOk, IfErr};
-ghost use Rattle.warg_c.specs.ProofAnswers.{ShowsConsistency, ShowsInclusion, IsAbsence, IsConsistency, IsInclusion};
-ghost use Rattle.warg_c.specs.ProofAnswers.{IsNoAbsence, IsNoConsistency, IsNoInclusion, IsNoPresence, IsPresence};
-ghost use Rattle.warg_c.specs.ProofAnswers.{ShowsAbsence, ShowsNoConsistency, ShowsNoInclusion, ShowsNoAbsence};
-ghost use Rattle.warg_c.specs.ProofAnswers.{ShowsNoPresence, ShowsPresence, ProofFails};
+ghost use Rattle.warg_c.specs.ProofAnswers.{AreHashes, AreTwoHashes, ShowsConsistency, ShowsInclusion, IsAbsence};
+ghost use Rattle.warg_c.specs.ProofAnswers.{IsConsistency, IsInclusion, IsNoAbsence, IsNoConsistency, IsNoInclusion};
+ghost use Rattle.warg_c.specs.ProofAnswers.{IsNoPresence, IsPresence, ShowsAbsence, ShowsNoConsistency};
+ghost use Rattle.warg_c.specs.ProofAnswers.{ShowsNoInclusion, ShowsNoAbsence, ShowsNoPresence, ShowsPresence};
+ghost use Rattle.warg_c.specs.ProofAnswers.{ProofFails};
 ghost use Rattle.warg_c.specs.Statuses.{IsStatusOf};
 
 use crate::failure::{Failure, status};
@@ -37,6 +38,7 @@ fn inclusion(
     ensures ok { OnOk result (IsInclusion log_id.now record_id.now root.now proof.now
         (ShowsInclusion place.index place.length)) }
     ensures err { IfErr result (ProofFails
+        (AreHashes log_id.now record_id.now root.now)
         (IsInclusion log_id.now record_id.now root.now proof.now
         (ShowsNoInclusion place.index place.length))
         (IsNoInclusion log_id.now record_id.now root.now proof.now)) }
@@ -65,7 +67,8 @@ pub extern "C" fn warg_verify_inclusion(
 ) -> u32
     ensures { IsStatusOf result (IsInclusion log_id.now record_id.now root.now proof.now
         (ShowsInclusion place length))
-        (ProofFails (IsInclusion log_id.now record_id.now root.now proof.now
+        (ProofFails (AreHashes log_id.now record_id.now root.now)
+        (IsInclusion log_id.now record_id.now root.now proof.now
         (ShowsNoInclusion place length))
         (IsNoInclusion log_id.now record_id.now root.now proof.now)) }
 {
@@ -86,7 +89,7 @@ fn consistency(
 ) -> Result<(), Failure>
     ensures ok { OnOk result (IsConsistency old_root.now new_root.now proof.now
         (ShowsConsistency old_length new_length)) }
-    ensures err { IfErr result (ProofFails
+    ensures err { IfErr result (ProofFails (AreTwoHashes old_root.now new_root.now)
         (IsConsistency old_root.now new_root.now proof.now
         (ShowsNoConsistency old_length new_length))
         (IsNoConsistency old_root.now new_root.now proof.now)) }
@@ -125,7 +128,8 @@ pub extern "C" fn warg_verify_consistency(
 ) -> u32
     ensures { IsStatusOf result (IsConsistency old_root.now new_root.now proof.now
         (ShowsConsistency old_length new_length))
-        (ProofFails (IsConsistency old_root.now new_root.now proof.now
+        (ProofFails (AreTwoHashes old_root.now new_root.now)
+        (IsConsistency old_root.now new_root.now proof.now
         (ShowsNoConsistency old_length new_length))
         (IsNoConsistency old_root.now new_root.now proof.now)) }
 {
@@ -142,6 +146,7 @@ fn presence(
     ensures ok { OnOk result (IsPresence log_id.now record_id.now root.now proof.now
         ShowsPresence) }
     ensures err { IfErr result (ProofFails
+        (AreHashes log_id.now record_id.now root.now)
         (IsPresence log_id.now record_id.now root.now proof.now ShowsNoPresence)
         (IsNoPresence log_id.now record_id.now root.now proof.now)) }
 {
@@ -170,7 +175,8 @@ pub extern "C" fn warg_verify_presence(
 ) -> u32
     ensures { IsStatusOf result (IsPresence log_id.now record_id.now root.now proof.now
         ShowsPresence)
-        (ProofFails (IsPresence log_id.now record_id.now root.now proof.now ShowsNoPresence)
+        (ProofFails (AreHashes log_id.now record_id.now root.now)
+        (IsPresence log_id.now record_id.now root.now proof.now ShowsNoPresence)
         (IsNoPresence log_id.now record_id.now root.now proof.now)) }
 {
     status(presence(alloc, log_id, record_id, root, proof))
@@ -178,7 +184,8 @@ pub extern "C" fn warg_verify_presence(
 
 fn absence(alloc: Global, log_id: &[u8], root: &[u8], proof: &[u8]) -> Result<(), Failure>
     ensures ok { OnOk result (IsAbsence log_id.now root.now proof.now ShowsAbsence) }
-    ensures err { IfErr result (ProofFails (IsAbsence log_id.now root.now proof.now ShowsNoAbsence)
+    ensures err { IfErr result (ProofFails (AreTwoHashes log_id.now root.now)
+        (IsAbsence log_id.now root.now proof.now ShowsNoAbsence)
         (IsNoAbsence log_id.now root.now proof.now)) }
 {
     let log = hash_in(log_id)?;
@@ -201,7 +208,8 @@ pub extern "C" fn warg_verify_absence(
     proof: &[u8],
 ) -> u32
     ensures { IsStatusOf result (IsAbsence log_id.now root.now proof.now ShowsAbsence)
-        (ProofFails (IsAbsence log_id.now root.now proof.now ShowsNoAbsence)
+        (ProofFails (AreTwoHashes log_id.now root.now)
+        (IsAbsence log_id.now root.now proof.now ShowsNoAbsence)
         (IsNoAbsence log_id.now root.now proof.now)) }
 {
     status(absence(alloc, log_id, root, proof))

@@ -1,17 +1,20 @@
 //! The records of a log.
-ghost use Rattle.std.specs.Prelude.{◌≡◌, ◌≢◌, ◌≤◌, ◌⊎◌, ◌++◌, None, Some, IfOk, IfErr, OnOk, length, take};
+ghost use Rattle.std.specs.Prelude.{◌≡◌, ◌≢◌, ◌≤◌, ◌⊎◌, ◌++◌, None, Some, IfOk, IfErr, IsSome, length, take, drop};
 ghost use Rattle.std.specs.Option.{option_copied};
 ghost use Rattle.warg_c.specs.Lookups.{IdText, LengthIs, IsBeyond, IsRecord, IsRecordAt, head_of, length_tells};
-ghost use Rattle.warg_c.specs.Lookups.{has_no_records, record_tells, record_lacks};
+ghost use Rattle.warg_c.specs.Lookups.{has_no_records, record_takes, record_tells, record_lacks};
 ghost use Rattle.warg_c.specs.Logs.{whole_of};
 ghost use Rattle.warg_c.specs.Statuses.{Answers};
-ghost use Rattle.warg_c.specs.Texts.{TextFails, CallFails, FailsAs};
+ghost use Rattle.warg_c.specs.Misuses.{misuse_text};
+ghost use Rattle.warg_c.specs.Texts.{Always, CallFails, FailsAs, IsGiven, TextFails};
+ghost use Rattle.warg_c.specs.declared.misuse.Misuse.TheVariants.{Resumed};
 
 use crate::failure::{Failure, status};
 use crate::given::{finish, finish_value, finish_with};
 use crate::handle::WargLog;
 use crate::held::Held;
 use crate::kept_log::KeptLog;
+use crate::misuse::Misuse;
 use std::alloc::{AllocError, Global};
 use warg_envelope::ProtoEnvelope;
 use warg_records::RecordId;
@@ -28,7 +31,7 @@ pub struct KeptLengths {
 // The text of an id.
 pub(crate) fn id_text(alloc: Global, id: &RecordId) -> Result<Vec<u8>, Failure>
     ensures ok { IfOk result (λ v. IdText (Some id.now) v.items) }
-    ensures err { IfErr result (FailsAs ⊥ ⊥) }
+    ensures err { IfErr result (FailsAs Always ⊥ ⊥) }
 {
     match id.to_string(alloc) {
         Ok(text) => Ok(text.into_bytes()),
@@ -48,7 +51,7 @@ fn head_of(held: &Held) -> Option<&RecordId>
 
 fn head_text(alloc: Global, held: &Held) -> Result<Vec<u8>, Failure>
     ensures ok { IfOk result (λ v. IdText (head_of held.now) v.items) }
-    ensures err { IfErr result (FailsAs (head_of held.now ≡ None) ⊥) }
+    ensures err { IfErr result (FailsAs (IsSome (head_of held.now)) (head_of held.now ≡ None) ⊥) }
 {
     match head_of(held) {
         Some(id) => id_text(alloc, id),
@@ -67,10 +70,12 @@ pub extern "C" fn warg_head(
 ) -> u32
     ensures answer { Answers result log.old.owned.kept
         (λ held. IdText (head_of held) (take used.new text.new))
-        (λ held. TextFails (IdText (head_of held)) (head_of held ≡ None) ⊥ used.new text.old) }
+        (λ held. TextFails (IsSome (head_of held)) (IdText (head_of held)) (head_of held ≡ None) ⊥
+        used.new text.old) }
     ensures unchanged { log.new.owned.kept ≡ log.old.owned.kept }
     ensures buffer { result ≢ 0 → text.new ≡ text.old }
     ensures used { result ≢ 0 → result ≢ 3 → used.new ≡ 0 }
+    ensures behind { drop used.new text.new ≡ drop used.new text.old }
     ensures within { result ≢ 3 → used.new ≤ length text.new }
 {
     *used = 0;
@@ -84,7 +89,7 @@ pub extern "C" fn warg_head(
 
 fn length_of_log<L: Validator>(log: &KeptLog<L>) -> Result<usize, Failure>
     ensures ok { IfOk result (λ n. LengthIs (whole_of log.now) n) }
-    ensures err { IfErr result (FailsAs ⊥ (whole_of log.now ≡ None)) }
+    ensures err { IfErr result (FailsAs ⊥ ⊥ (whole_of log.now ≡ None)) }
 {
     match log.whole() {
         Some(log) => Ok(log.len()),
@@ -94,7 +99,7 @@ fn length_of_log<L: Validator>(log: &KeptLog<L>) -> Result<usize, Failure>
 
 fn length_of(held: &Held) -> Result<usize, Failure>
     ensures ok { IfOk result (length_tells held.now) }
-    ensures err { IfErr result (FailsAs ⊥ (has_no_records held.now)) }
+    ensures err { IfErr result (FailsAs ⊥ ⊥ (has_no_records held.now)) }
 {
     match held {
         Held::Package(log) => length_of_log(log),
@@ -107,8 +112,9 @@ fn length_of(held: &Held) -> Result<usize, Failure>
 #[unsafe(no_mangle)]
 pub extern "C" fn warg_length(alloc: Global, log: &mut WargLog, length: &mut usize) -> u32
     ensures answer { Answers result log.old.owned.kept (λ held. length_tells held length.new)
-        (λ held. CallFails ⊥ (has_no_records held)) }
+        (λ held. CallFails ⊥ ⊥ (has_no_records held)) }
     ensures unchanged { log.new.owned.kept ≡ log.old.owned.kept }
+    ensures kept { result ≢ 0 → length.new ≡ length.old }
 {
     let Some(held) = log.take(alloc) else {
         return status(Err(Failure::NotOpen));
@@ -142,7 +148,7 @@ fn record_of<L: Validator>(
     place: usize,
 ) -> Result<(Vec<u8>, KeptLengths), Failure>
     ensures ok { IfOk result (λ p. IsRecordAt L.kind (whole_of log.now) place p.1 p.0.items) }
-    ensures err { IfErr result (FailsAs (IsBeyond (whole_of log.now) place)
+    ensures err { IfErr result (FailsAs (IsSome (whole_of log.now)) (IsBeyond (whole_of log.now) place)
         (whole_of log.now ≡ None)) }
 {
     let Some(log) = log.whole() else {
@@ -159,7 +165,8 @@ fn record_of<L: Validator>(
 
 fn record_in(alloc: Global, held: &Held, place: usize) -> Result<(Vec<u8>, KeptLengths), Failure>
     ensures ok { IfOk result (λ p. record_tells held.now place p.1 p.0.items) }
-    ensures err { IfErr result (FailsAs (record_lacks held.now place) (has_no_records held.now)) }
+    ensures err { IfErr result (FailsAs (record_takes held.now) (record_lacks held.now place)
+        (has_no_records held.now)) }
 {
     match held {
         Held::Package(log) => record_of(alloc, log, place),
@@ -171,7 +178,7 @@ fn record_in(alloc: Global, held: &Held, place: usize) -> Result<(Vec<u8>, KeptL
 /// the bytes that were appended: it has the contents, the key id and the signature that came, and nothing else that stood there, such as fields
 /// that no envelope has. Its record has the same id.
 ///   WARG_NONE: the log has no record at this place.
-///   WARG_BAD_ARGUMENT: the log was resumed.
+///   WARG_BAD_ARGUMENT (Resumed): the log was resumed.
 #[unsafe(no_mangle)]
 pub extern "C" fn warg_record(
     alloc: Global,
@@ -183,11 +190,15 @@ pub extern "C" fn warg_record(
 ) -> u32
     ensures answer { Answers result log.old.owned.kept
         (λ held. record_tells held place kept.new (take used.new bytes.new))
-        (λ held. TextFails (record_tells held place kept.new) (record_lacks held place)
-        (has_no_records held) used.new bytes.old) }
+        (λ held. TextFails (record_takes held) (record_tells held place kept.new)
+        (record_lacks held place)
+        (has_no_records held × IsGiven (misuse_text Resumed) used.new bytes.new)
+        used.new bytes.old) }
     ensures unchanged { log.new.owned.kept ≡ log.old.owned.kept }
-    ensures buffer { result ≢ 0 → bytes.new ≡ bytes.old }
-    ensures used { result ≢ 0 → result ≢ 3 → used.new ≡ 0 }
+    ensures buffer { result ≢ 0 → result ≢ 7 → bytes.new ≡ bytes.old }
+    ensures used { result ≢ 0 → result ≢ 3 → result ≢ 7 → used.new ≡ 0 }
+    ensures behind { drop used.new bytes.new ≡ drop used.new bytes.old }
+    ensures unshown { result ≢ 0 → result ≢ 3 → kept.new ≡ kept.old }
     ensures within { result ≢ 3 → used.new ≤ length bytes.new }
 {
     *used = 0;
@@ -196,5 +207,5 @@ pub extern "C" fn warg_record(
     };
     let outcome = record_in(alloc, &held, place);
     log.put(held);
-    finish_with(outcome, bytes, used, kept)
+    finish_with(outcome, Misuse::Resumed, bytes, used, kept)
 }

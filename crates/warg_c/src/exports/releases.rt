@@ -1,20 +1,25 @@
 //! The releases of a package log.
-ghost use Rattle.std.specs.Prelude.{◌≡◌, ◌≢◌, ◌≤◌, ◌⊎◌, Ok, Some, None, ◌↔◌, IsTrue, IfOk, IfErr, map, length, take};
+ghost use Rattle.std.specs.Prelude.{◌≡◌, ◌≢◌, ◌≤◌, ◌⊎◌, Ok, Some, None, ◌↔◌, IsTrue, IfOk, IfErr};
+ghost use Rattle.std.specs.Prelude.{IsSome, map, length, take, drop};
 ghost use Rattle.std.specs.Option.{option_copied, option_map};
 ghost use Rattle.warg_package_log.specs.Releases.{ReleaseView};
 ghost use Rattle.semver.specs.Identifiers.{comparator_view, parts_of};
 ghost use Rattle.semver.specs.Parse.{memory_error, req_of, version_parts};
 ghost use Rattle.warg_package_log.specs.ReleaseMap.{release_view};
 ghost use Rattle.warg_c.specs.ReleaseAnswers.{IsAt, IsLatest, IsNoRequirement, IsNoVersion, IsReleaseOf, Shows};
-ghost use Rattle.warg_c.specs.ReleaseAnswers.{latest_bad, latest_lacks, latest_tells, place_bad, place_lacks};
-ghost use Rattle.warg_c.specs.ReleaseAnswers.{place_tells, release_bad, release_lacks, release_tells};
+ghost use Rattle.warg_c.specs.ReleaseAnswers.{is_package, latest_bad, latest_lacks, latest_tells, place_bad};
+ghost use Rattle.warg_c.specs.ReleaseAnswers.{place_lacks, place_takes, place_tells, release_bad, release_lacks};
+ghost use Rattle.warg_c.specs.ReleaseAnswers.{release_tells};
+ghost use Rattle.warg_c.specs.Misuses.{misuse_text, package_misuse};
 ghost use Rattle.warg_c.specs.Statuses.{Answers};
-ghost use Rattle.warg_c.specs.Texts.{FailsAs, TextFails};
+ghost use Rattle.warg_c.specs.Texts.{Always, FailsAs, IsGiven, TextFails};
+ghost use Rattle.warg_c.specs.declared.misuse.Misuse.TheVariants.{BadRequirement, BadVersion, WrongKind};
 
 use crate::failure::{Failure, status};
 use crate::given::finish_with;
 use crate::handle::WargLog;
 use crate::held::Held;
+use crate::misuse::Misuse;
 use crate::release_text::{ShownRelease, spell_release};
 use semver::{Error as VersionError, Version, VersionReq};
 use std::alloc::{AllocError, Global};
@@ -30,7 +35,7 @@ fn is_memory(error: &VersionError) -> bool
 // The requirement that a text says.
 fn parse_requirement(alloc: Global, text: &[u8]) -> Result<VersionReq, Failure>
     ensures ok { IfOk result (λ r. req_of text.now ≡ Ok (map comparator_view r.comparators.items)) }
-    ensures err { IfErr result (FailsAs ⊥ (IsNoRequirement text.now)) }
+    ensures err { IfErr result (FailsAs Always ⊥ (IsNoRequirement text.now)) }
 {
     let Ok(text) = str::from_utf8(text) else {
         return Err(Failure::BadArgument);
@@ -45,7 +50,7 @@ fn parse_requirement(alloc: Global, text: &[u8]) -> Result<VersionReq, Failure>
 // The version that a text says.
 fn parse_version(alloc: Global, text: &[u8]) -> Result<Version, Failure>
     ensures ok { IfOk result (λ v. version_parts text.now ≡ Ok (parts_of v)) }
-    ensures err { IfErr result (FailsAs ⊥ (IsNoVersion text.now)) }
+    ensures err { IfErr result (FailsAs Always ⊥ (IsNoVersion text.now)) }
 {
     let Ok(text) = str::from_utf8(text) else {
         return Err(Failure::BadArgument);
@@ -62,6 +67,7 @@ fn shown(alloc: Global, release: Option<&Release>) -> Result<(Vec<u8>, ShownRele
     ensures ok { IfOk result (λ p. (r : ReleaseView) ×
         (option_map release_view (option_copied release.entry) ≡ Some r) × Shows r p.1 p.0.items) }
     ensures err { IfErr result (FailsAs
+        (IsSome (option_map release_view (option_copied release.entry)))
         (option_map release_view (option_copied release.entry) ≡ None) ⊥) }
 {
     let Some(release) = release else {
@@ -80,7 +86,8 @@ fn latest_in(
 ) -> Result<(Vec<u8>, ShownRelease), Failure>
     ensures ok { IfOk result (λ p. (r : ReleaseView) ×
         IsLatest state.now.own_state requirement.now (Some r) × Shows r p.1 p.0.items) }
-    ensures err { IfErr result (FailsAs (IsLatest state.now.own_state requirement.now None)
+    ensures err { IfErr result (FailsAs Always
+        (IsLatest state.now.own_state requirement.now None)
         (IsNoRequirement requirement.now)) }
 {
     let requirement = parse_requirement(alloc, requirement)?;
@@ -93,7 +100,7 @@ fn latest_of(
     requirement: &[u8],
 ) -> Result<(Vec<u8>, ShownRelease), Failure>
     ensures ok { IfOk result (λ p. latest_tells held.now requirement.now p.1 p.0.items) }
-    ensures err { IfErr result (FailsAs (latest_lacks held.now requirement.now)
+    ensures err { IfErr result (FailsAs (is_package held.now) (latest_lacks held.now requirement.now)
         (latest_bad held.now requirement.now)) }
 {
     match held {
@@ -104,7 +111,7 @@ fn latest_of(
 
 /// The release that is not yanked, meets the requirement (as ">=1.2, <2"), and has the greatest version.
 ///   WARG_NONE: there is none.
-///   WARG_BAD_ARGUMENT: the text is no requirement, or the log is one of operators.
+///   WARG_BAD_ARGUMENT: the text is no requirement (BadRequirement), or the log is one of operators (WrongKind).
 #[unsafe(no_mangle)]
 pub extern "C" fn warg_latest(
     alloc: Global,
@@ -116,12 +123,15 @@ pub extern "C" fn warg_latest(
 ) -> u32
     ensures answer { Answers result log.old.owned.kept
         (λ held. latest_tells held requirement.now release.new (take used.new text.new))
-        (λ held. TextFails (latest_tells held requirement.now release.new)
-        (latest_lacks held requirement.now)
-        (latest_bad held requirement.now) used.new text.old) }
+        (λ held. TextFails (is_package held) (latest_tells held requirement.now release.new)
+        (latest_lacks held requirement.now) (latest_bad held requirement.now ×
+        IsGiven (misuse_text (package_misuse held BadRequirement)) used.new text.new)
+        used.new text.old) }
     ensures unchanged { log.new.owned.kept ≡ log.old.owned.kept }
-    ensures buffer { result ≢ 0 → text.new ≡ text.old }
-    ensures used { result ≢ 0 → result ≢ 3 → used.new ≡ 0 }
+    ensures buffer { result ≢ 0 → result ≢ 7 → text.new ≡ text.old }
+    ensures used { result ≢ 0 → result ≢ 3 → result ≢ 7 → used.new ≡ 0 }
+    ensures behind { drop used.new text.new ≡ drop used.new text.old }
+    ensures kept { result ≢ 0 → result ≢ 3 → release.new ≡ release.old }
     ensures within { result ≢ 3 → used.new ≤ length text.new }
 {
     *used = 0;
@@ -129,8 +139,9 @@ pub extern "C" fn warg_latest(
         return status(Err(Failure::NotOpen));
     };
     let outcome = latest_of(alloc, &held, requirement);
+    let wrong = held.package_misuse(Misuse::BadRequirement);
     log.put(held);
-    finish_with(outcome, text, used, release)
+    finish_with(outcome, wrong, text, used, release)
 }
 
 fn release_in(
@@ -140,7 +151,8 @@ fn release_in(
 ) -> Result<(Vec<u8>, ShownRelease), Failure>
     ensures ok { IfOk result (λ p. (r : ReleaseView) ×
         IsReleaseOf state.now.own_state version.now (Some r) × Shows r p.1 p.0.items) }
-    ensures err { IfErr result (FailsAs (IsReleaseOf state.now.own_state version.now None)
+    ensures err { IfErr result (FailsAs Always
+        (IsReleaseOf state.now.own_state version.now None)
         (IsNoVersion version.now)) }
 {
     let version = parse_version(alloc, version)?;
@@ -153,7 +165,7 @@ fn release_of(
     version: &[u8],
 ) -> Result<(Vec<u8>, ShownRelease), Failure>
     ensures ok { IfOk result (λ p. release_tells held.now version.now p.1 p.0.items) }
-    ensures err { IfErr result (FailsAs (release_lacks held.now version.now)
+    ensures err { IfErr result (FailsAs (is_package held.now) (release_lacks held.now version.now)
         (release_bad held.now version.now)) }
 {
     match held {
@@ -164,7 +176,7 @@ fn release_of(
 
 /// The release of a version, yanked or not.
 ///   WARG_NONE: the version was not released.
-///   WARG_BAD_ARGUMENT: the text is no version, or the log is one of operators.
+///   WARG_BAD_ARGUMENT: the text is no version (BadVersion), or the log is one of operators (WrongKind).
 #[unsafe(no_mangle)]
 pub extern "C" fn warg_release(
     alloc: Global,
@@ -176,12 +188,15 @@ pub extern "C" fn warg_release(
 ) -> u32
     ensures answer { Answers result log.old.owned.kept
         (λ held. release_tells held version.now release.new (take used.new text.new))
-        (λ held. TextFails (release_tells held version.now release.new)
-        (release_lacks held version.now)
-        (release_bad held version.now) used.new text.old) }
+        (λ held. TextFails (is_package held) (release_tells held version.now release.new)
+        (release_lacks held version.now) (release_bad held version.now ×
+        IsGiven (misuse_text (package_misuse held BadVersion)) used.new text.new)
+        used.new text.old) }
     ensures unchanged { log.new.owned.kept ≡ log.old.owned.kept }
-    ensures buffer { result ≢ 0 → text.new ≡ text.old }
-    ensures used { result ≢ 0 → result ≢ 3 → used.new ≡ 0 }
+    ensures buffer { result ≢ 0 → result ≢ 7 → text.new ≡ text.old }
+    ensures used { result ≢ 0 → result ≢ 3 → result ≢ 7 → used.new ≡ 0 }
+    ensures behind { drop used.new text.new ≡ drop used.new text.old }
+    ensures kept { result ≢ 0 → result ≢ 3 → release.new ≡ release.old }
     ensures within { result ≢ 3 → used.new ≤ length text.new }
 {
     *used = 0;
@@ -189,8 +204,9 @@ pub extern "C" fn warg_release(
         return status(Err(Failure::NotOpen));
     };
     let outcome = release_of(alloc, &held, version);
+    let wrong = held.package_misuse(Misuse::BadVersion);
     log.put(held);
-    finish_with(outcome, text, used, release)
+    finish_with(outcome, wrong, text, used, release)
 }
 
 // The release at a place.
@@ -202,7 +218,8 @@ fn place_in(state: &LogState, place: usize) -> Option<&Release>
 
 fn release_at(alloc: Global, held: &Held, place: usize) -> Result<(Vec<u8>, ShownRelease), Failure>
     ensures ok { IfOk result (λ p. place_tells held.now place p.1 p.0.items) }
-    ensures err { IfErr result (FailsAs (place_lacks held.now place) (place_bad held.now)) }
+    ensures err { IfErr result (FailsAs (place_takes held.now place) (place_lacks held.now place)
+        (place_bad held.now)) }
 {
     match held {
         Held::Package(log) => shown(alloc, place_in(log.state(), place)),
@@ -213,7 +230,7 @@ fn release_at(alloc: Global, held: &Held, place: usize) -> Result<(Vec<u8>, Show
 /// The release at a place, counted from 0, in the order in which they were released; those of a resumed log come first, by the bytes of their
 /// versions.
 ///   WARG_NONE: there are not so many releases.
-///   WARG_BAD_ARGUMENT: the log is one of operators.
+///   WARG_BAD_ARGUMENT (WrongKind): the log is one of operators.
 #[unsafe(no_mangle)]
 pub extern "C" fn warg_releases(
     alloc: Global,
@@ -225,11 +242,15 @@ pub extern "C" fn warg_releases(
 ) -> u32
     ensures answer { Answers result log.old.owned.kept
         (λ held. place_tells held place release.new (take used.new text.new))
-        (λ held. TextFails (place_tells held place release.new) (place_lacks held place)
-        (place_bad held) used.new text.old) }
+        (λ held. TextFails (place_takes held place) (place_tells held place release.new)
+        (place_lacks held place)
+        (place_bad held × IsGiven (misuse_text WrongKind) used.new text.new)
+        used.new text.old) }
     ensures unchanged { log.new.owned.kept ≡ log.old.owned.kept }
-    ensures buffer { result ≢ 0 → text.new ≡ text.old }
-    ensures used { result ≢ 0 → result ≢ 3 → used.new ≡ 0 }
+    ensures buffer { result ≢ 0 → result ≢ 7 → text.new ≡ text.old }
+    ensures used { result ≢ 0 → result ≢ 3 → result ≢ 7 → used.new ≡ 0 }
+    ensures behind { drop used.new text.new ≡ drop used.new text.old }
+    ensures kept { result ≢ 0 → result ≢ 3 → release.new ≡ release.old }
     ensures within { result ≢ 3 → used.new ≤ length text.new }
 {
     *used = 0;
@@ -238,5 +259,5 @@ pub extern "C" fn warg_releases(
     };
     let outcome = release_at(alloc, &held, place);
     log.put(held);
-    finish_with(outcome, text, used, release)
+    finish_with(outcome, Misuse::WrongKind, text, used, release)
 }

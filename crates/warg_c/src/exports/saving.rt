@@ -1,23 +1,23 @@
 //! Saving a state, and going on from one.
-ghost use Rattle.std.specs.Prelude.{◌≡◌, ◌≢◌, ◌≤◌, ◌⊎◌, Err, IfOk, IfErr, IsSomeAnd, length, take};
+ghost use Rattle.std.specs.Prelude.{◌≡◌, ◌≢◌, ◌≤◌, ◌⊎◌, Err, IfOk, IfErr, IsOk, IsSomeAnd, length, take, drop};
 ghost use Rattle.std.specs.Str.{IsUtf8};
 ghost use Rattle.warg_json.specs.Json.{AreReadBack};
 ghost use Rattle.warg_saved.specs.JsonText.{TextReadsBack};
 ghost use Rattle.warg_saved.specs.Texts.{text_of};
 ghost use Rattle.warg_saved.specs.declared.error.JsonTextError.TheVariants as json;
 ghost use Rattle.warg_c.specs.declared.failure.Failure.TheVariants.{OutOfMemory, BadArgument};
-ghost use Rattle.warg_c.specs.Held.{IsNoKind, IsOfKind};
-ghost use Rattle.warg_c.specs.Saved.{IsWritten, SaysNoState, fault_name, value_name, reads_back, save_tells};
+ghost use Rattle.warg_c.specs.Held.{IsNoKind, IsOfKind, kind_numbered};
+ghost use Rattle.warg_c.specs.Saved.{IsWritten, SaysNoState, fault_text, value_text, reads_back, save_tells};
 ghost use Rattle.warg_c.specs.Saved.{save_lacks, saved_text, resume_gives, resume_gives_number, is_no_saved};
 ghost use Rattle.warg_c.specs.Statuses.{IsStatusOf, Answers};
-ghost use Rattle.warg_c.specs.Texts.{CallFails, FailsAs, IsNameText, TextFails};
+ghost use Rattle.warg_c.specs.Texts.{Always, CallFails, FailsAs, IsGiven, TextFails};
 
 use crate::failure::{Failure, status};
-use crate::given::finish;
+use crate::given::{finish, give_if_room};
 use crate::handle::WargLog;
 use crate::held::{Held, Kind};
 use crate::kept_log::KeptLog;
-use crate::refusal::give_if_room;
+use crate::misuse::Misuse;
 use std::alloc::Global;
 use warg_json::JsonError;
 use warg_operator_log::LogState as OperatorState;
@@ -62,12 +62,13 @@ pub extern "C" fn warg_save(
 ) -> u32
     ensures answer { Answers result log.old.owned.kept
         (λ held. save_tells held (take used.new text.new))
-        (λ held. TextFails (save_tells held) (save_lacks held) ⊥ used.new text.old) }
+        (λ held. TextFails Always (save_tells held) (save_lacks held) ⊥ used.new text.old) }
     ensures unchanged { log.new.owned.kept ≡ log.old.owned.kept }
     ensures back { result ≡ 0 →
         IsSomeAnd log.old.owned.kept (λ held. reads_back held (take used.new text.new)) }
     ensures buffer { result ≢ 0 → text.new ≡ text.old }
     ensures used { result ≢ 0 → result ≢ 3 → used.new ≡ 0 }
+    ensures behind { drop used.new text.new ≡ drop used.new text.old }
     ensures within { result ≢ 3 → used.new ≤ length text.new }
 {
     *used = 0;
@@ -79,42 +80,44 @@ pub extern "C" fn warg_save(
     finish(outcome, text, used)
 }
 
-fn value_name(fault: JsonError) -> &'static str
-    ensures { result.now ≡ value_name fault }
+// What is wrong with the JSON of a saved state.
+fn value_text(fault: JsonError) -> &'static str
+    ensures { result.now ≡ value_text fault }
 {
     match fault {
-        JsonError::WrongType => "WrongType",
-        JsonError::Missing => "Missing",
-        JsonError::BadText => "BadText",
-        JsonError::TimeBeforeEpoch => "TimeBeforeEpoch",
-        JsonError::TimeOutOfRange => "TimeOutOfRange",
-        JsonError::Incoherent(_) => "Incoherent",
-        JsonError::OutOfMemory => "OutOfMemory",
+        JsonError::WrongType => "WrongType: a value is of another type",
+        JsonError::Missing => "Missing: a member is missing",
+        JsonError::BadText => "BadText: a text is not of its form",
+        JsonError::TimeBeforeEpoch => "TimeBeforeEpoch: a time lies before 1970",
+        JsonError::TimeOutOfRange => "TimeOutOfRange: a time is out of range",
+        JsonError::Incoherent(_) => "Incoherent: the state is that of no log",
+        JsonError::OutOfMemory => "OutOfMemory: there was no memory",
     }
 }
 
-// The name of what is wrong with a saved text.
-fn fault_name(fault: JsonTextError) -> &'static str
-    ensures { result.now ≡ fault_name fault }
+// What is wrong with a saved text.
+fn fault_text(fault: JsonTextError) -> &'static str
+    ensures { result.now ≡ fault_text fault }
 {
     match fault {
-        JsonTextError::NotJson => "NotJson",
-        JsonTextError::Value(fault) => value_name(fault),
-        JsonTextError::OutOfMemory => "OutOfMemory",
+        JsonTextError::NotJson => "NotJson: the text is no JSON",
+        JsonTextError::Value(fault) => value_text(fault),
+        JsonTextError::OutOfMemory => "OutOfMemory: there was no memory",
     }
 }
 
 // Says why a text is no saved state, where there is room for it.
 fn refuse_saved(error: JsonTextError, text: &mut [u8], used: &mut usize) -> Failure
     ensures failure { (result ≡ OutOfMemory) ⊎ ((result ≡ BadArgument) ×
-        (error ≢ json.OutOfMemory) × IsNameText (fault_name error) used.new text.new) }
+        (error ≢ json.OutOfMemory) × IsGiven (fault_text error) used.new text.new) }
+    ensures behind { used.old ≡ 0 → drop used.new text.new ≡ drop used.new text.old }
     ensures within { used.old ≡ 0 → used.new ≤ length text.new }
     ensures quiet { used.old ≡ 0 → result ≢ BadArgument → used.new ≡ 0 }
 {
     if let JsonTextError::OutOfMemory | JsonTextError::Value(JsonError::OutOfMemory) = error {
         return Failure::OutOfMemory;
     }
-    give_if_room(fault_name(error), text, used);
+    give_if_room(fault_text(error), text, used);
     Failure::BadArgument
 }
 
@@ -143,12 +146,17 @@ fn resumed(
     used: &mut usize,
 ) -> Result<Box<Held>, Failure>
     ensures ok { IfOk result (λ b. resume_gives_number kind saved.now b.value) }
-    ensures err { IfErr result (FailsAs ⊥ (is_no_saved kind saved.now used.new text.new)) }
+    ensures err { IfErr result (FailsAs (IsOk (kind_numbered kind)) ⊥
+        (is_no_saved kind saved.now used.new text.new)) }
+    ensures behind { drop used.new text.new ≡ drop used.new text.old }
     ensures within { used.new ≤ length text.new }
     ensures quiet { (used.new ≡ 0) ⊎ (result ≡ Err BadArgument) }
 {
     *used = 0;
-    let kind = Kind::numbered(kind)?;
+    let Ok(kind) = Kind::numbered(kind) else {
+        give_if_room(Misuse::NoKind.text(), text, used);
+        return Err(Failure::BadArgument);
+    };
     let Ok(saved) = str::from_utf8(saved) else {
         return Err(refuse_saved(JsonTextError::NotJson, text, used));
     };
@@ -164,8 +172,8 @@ fn resumed(
 /// Goes on from a saved state of one of `enum warg_kind`. A log that was open is closed first. Of a resumed log nothing is known of its
 /// records, those that are appended to it included: `warg_length`, `warg_record`, `warg_chain` and `warg_compare` are not for it. All else is as if its
 /// records were there. Whether the text is what was saved is the caller's to keep.
-///   WARG_BAD_ARGUMENT: no such kind (`used` is 0), or the text is no saved state of this kind: the error's name is in `text`, one of
-///     NotJson, WrongType, Missing, BadText, TimeBeforeEpoch, TimeOutOfRange, Incoherent. The log is as it was.
+///   WARG_BAD_ARGUMENT: no such kind (NoKind), or the text is no saved state of this kind (NotJson, WrongType, Missing, BadText,
+///     TimeBeforeEpoch, TimeOutOfRange, Incoherent). The log is as it was.
 #[unsafe(no_mangle)]
 pub extern "C" fn warg_resume(
     alloc: Global,
@@ -177,9 +185,11 @@ pub extern "C" fn warg_resume(
 ) -> u32
     ensures answer { IsStatusOf result (IsSomeAnd log.new.owned.kept
         (resume_gives_number kind saved.now))
-        (CallFails ⊥ (is_no_saved kind saved.now used.new text.new)) }
+        (CallFails (IsOk (kind_numbered kind)) ⊥
+        (is_no_saved kind saved.now used.new text.new)) }
     ensures unchanged { result ≢ 0 → log.new.owned.kept ≡ log.old.owned.kept }
     ensures used { result ≢ 7 → used.new ≡ 0 }
+    ensures behind { drop used.new text.new ≡ drop used.new text.old }
     ensures within { used.new ≤ length text.new }
 {
     match resumed(alloc, kind, saved, text, used) {

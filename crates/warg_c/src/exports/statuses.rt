@@ -1,0 +1,45 @@
+//! The names of statuses.
+ghost use Rattle.std.specs.Prelude.{◌≡◌, ◌≢◌, ◌≤◌, None, Some, IfOk, IfErr, length, take, drop};
+ghost use Rattle.warg_c.specs.Statuses.{IsStatusOf, status_name};
+ghost use Rattle.warg_c.specs.Texts.{FailsAs, TextFails};
+
+use crate::failure::{Failure, status};
+use crate::given::give;
+
+// The name of a status, if the number is one.
+fn name_of(number: u32) -> Result<&'static str, Failure>
+    ensures ok { IfOk result (λ name. status_name number ≡ Some name.now) }
+    ensures err { IfErr result (FailsAs ⊥ (status_name number ≡ None) ⊥) }
+{
+    match number {
+        0 => Ok("Ok"),
+        1 => Ok("NotOpen"),
+        2 => Ok("OutOfMemory"),
+        3 => Ok("TooSmall"),
+        4 => Ok("NoEnvelope"),
+        5 => Ok("Refused"),
+        6 => Ok("None"),
+        7 => Ok("BadArgument"),
+        8 => Ok("UnknownAlgorithm"),
+        _ => Err(Failure::Absent),
+    }
+}
+
+/// The name of one of `enum warg_status`: Ok, NotOpen, OutOfMemory, TooSmall, NoEnvelope, Refused, None, BadArgument or UnknownAlgorithm.
+///   WARG_NONE: the number is no status.
+#[unsafe(no_mangle)]
+pub extern "C" fn warg_status_name(number: u32, text: &mut [u8], used: &mut usize) -> u32
+    ensures answer { IsStatusOf result (status_name number ≡ Some (take used.new text.new))
+        (TextFails ⊥ (λ name. status_name number ≡ Some name) (status_name number ≡ None) ⊥
+        used.new text.old) }
+    ensures buffer { result ≢ 0 → text.new ≡ text.old }
+    ensures used { result ≢ 0 → result ≢ 3 → used.new ≡ 0 }
+    ensures behind { drop used.new text.new ≡ drop used.new text.old }
+    ensures within { result ≢ 3 → used.new ≤ length text.new }
+{
+    *used = 0;
+    match name_of(number) {
+        Ok(name) => status(give(name.as_bytes(), text, used)),
+        Err(failure) => status(Err(failure)),
+    }
+}
