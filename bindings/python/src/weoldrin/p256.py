@@ -8,6 +8,7 @@ import base64
 from typing import TYPE_CHECKING
 
 from . import signatures
+from ._library import bytes_of
 from .errors import BadArgument, UnknownAlgorithm
 from .logs import Question
 
@@ -50,7 +51,7 @@ def verify_by_cryptography(question: Question) -> bool:
     point, signature = _bytes_of(question.key), _bytes_of(question.signature)
     if point is None or signature is None or not _is_point(point) or not _is_der(signature):
         return False
-    return belongs(point, question.message, signature)
+    return belongs(point, bytes_of(question.message), signature)
 
 
 def text_of(data: bytes) -> str:
