@@ -10,12 +10,12 @@ returns-in-None-clause-files g c = rw c.in-None.is c.known_answer.ensures.files
 
 pub returns-in-Ok-clause-answered : goal.returns-in-Ok-clause-answered
 returns-in-Ok-clause-answered g c =
-    rw c.in-Some.is (IfOk-weaker c.respond-in-Ok.result _ _ (λ answer told. inr (c.in-Ok.verified, c.in-Ok.ensures.ok, told))
-    (rw c.in-Ok.ensures.kept at c.respond-in-Ok.ensures.answered))
+    rw c.in-Some.is (IfOk-weaker c.respond.result _ _ (λ answer told. inr (c.in-Ok.verified, c.in-Ok.ensures.ok, told))
+    (rw c.in-Ok.ensures.kept at c.respond.ensures.answered))
 
 pub returns-in-Ok-clause-files : goal.returns-in-Ok-clause-files
 returns-in-Ok-clause-files g c =
-    rw c.in-Some.is (inr (c.in-Ok.verified, c.in-Ok.ensures.ok, rw c.in-Ok.ensures.kept at c.respond-in-Ok.ensures.files))
+    rw c.in-Some.is (inr (c.in-Ok.verified, c.in-Ok.ensures.ok, rw c.in-Ok.ensures.kept at c.respond.ensures.files))
 
 pub returns-in-Err-clause-answered : goal.returns-in-Err-clause-answered
 returns-in-Err-clause-answered g c =
