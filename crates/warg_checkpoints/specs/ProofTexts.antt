@@ -55,7 +55,7 @@ Asks (wanted.Inclusion place) it = AsksInclusion place.now it
 Asks (wanted.Consistency older) it = AsksConsistency older.now it
 Asks (wanted.Head log_id) it = AsksHead log_id.now it
 
--- the words say nothing, so nothing is printed, and the status tells it
+-- the words say nothing, so nothing is printed, and the status is 2
 pub record IsUnsaid {A : Type 0} (Says : A → Type 0) (printed : Printout) : Type 0 where
   pub nothing : (value : A) → Says value → ⊥
   pub unusable : IsUnusable printed
@@ -65,7 +65,7 @@ pub data IsByWords {A : Type 0} (Says : A → Type 0) (P : A → Printout → Ty
   unsaid : IsUnsaid Says printed → IsByWords Says P printed
   by_value : (value : A) → Says value → P value printed → IsByWords Says P printed
 
--- the answer by the leaves that lines say; where a line says none, nothing is printed, and the status tells it
+-- the answer by the leaves that lines say; where a line says none, nothing is printed, and the status is 2
 pub data IsByLeaves (P : List LogLeaf → Printout → Type 0) (lines : List (List ℕ)) (printed : Printout) : Type 0 where
   no_leaf : HasNoLeaf lines → IsUnusable printed → IsByLeaves P lines printed
   of_leaves : (leaves : List LogLeaf) → SayLeaves lines leaves → P leaves printed → IsByLeaves P lines printed

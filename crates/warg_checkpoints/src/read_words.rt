@@ -3,7 +3,7 @@
 ghost use Rattle.std.specs.Prelude.{◌≡◌, Ok, Err, Some, IfOk, IfErr};
 ghost use Rattle.std.specs.Str.{trim_end};
 ghost use Rattle.warg_transparency.specs.Texts.{log_proof_of, map_proof_of};
-ghost use Rattle.warg_files.specs.Answers.{IfStopped, IsUnusable};
+ghost use Rattle.warg_files.specs.Answers.{IfStopped, IsUnanswered, IsUnusable};
 ghost use Rattle.serde_json.specs.Data.{Data};
 ghost use Rattle.serde_json.specs.Read.{read};
 ghost use Rattle.serde_json.specs.View.{view};
@@ -84,13 +84,17 @@ fn checkpoint_of_file(alloc: Global, input: &Input<'_>) -> Result<Checkpoint, St
 }
 
 /// The checkpoint in the file of this path.
+#[tactic(auto, using(
+    warg_files::proofs::UnusableLemmas::unanswered,
+    warg_files::proofs::UnusableLemmas::unread_end
+))]
 pub(crate) fn read_checkpoint<S: Store>(
     alloc: Global,
     path: &str,
     store: &mut S,
 ) -> Result<Checkpoint, Stop>
     ensures ok { IfOk result (IsCheckpointIn (S.files store.old) path.now) }
-    ensures stopped { IfErr result (IfStopped IsUnusable) }
+    ensures stopped { IfErr result (IfStopped IsUnanswered) }
     ensures kept { S.files store.new ≡ S.files store.old }
 {
     match read_input(alloc, store, path) {
@@ -146,13 +150,17 @@ fn log_proof_of_file(alloc: Global, input: &Input<'_>) -> Result<LogProof, Stop>
 }
 
 /// The proof on a log in the file of this path.
+#[tactic(auto, using(
+    warg_files::proofs::UnusableLemmas::unanswered,
+    warg_files::proofs::UnusableLemmas::unread_end
+))]
 pub(crate) fn read_log_proof<S: Store>(
     alloc: Global,
     path: &str,
     store: &mut S,
 ) -> Result<LogProof, Stop>
     ensures ok { IfOk result (IsLogProofIn (S.files store.old) path.now) }
-    ensures stopped { IfErr result (IfStopped IsUnusable) }
+    ensures stopped { IfErr result (IfStopped IsUnanswered) }
     ensures kept { S.files store.new ≡ S.files store.old }
 {
     match read_input(alloc, store, path) {
@@ -184,13 +192,17 @@ fn map_proof_of_file(alloc: Global, input: &Input<'_>) -> Result<MapProof, Stop>
 }
 
 /// The proof on a map in the file of this path.
+#[tactic(auto, using(
+    warg_files::proofs::UnusableLemmas::unanswered,
+    warg_files::proofs::UnusableLemmas::unread_end
+))]
 pub(crate) fn read_map_proof<S: Store>(
     alloc: Global,
     path: &str,
     store: &mut S,
 ) -> Result<MapProof, Stop>
     ensures ok { IfOk result (IsMapProofIn (S.files store.old) path.now) }
-    ensures stopped { IfErr result (IfStopped IsUnusable) }
+    ensures stopped { IfErr result (IfStopped IsUnanswered) }
     ensures kept { S.files store.new ≡ S.files store.old }
 {
     match read_input(alloc, store, path) {

@@ -1,9 +1,12 @@
 -- The ends of commands as their answers, and answers by words and files.
-use Rattle.std.proofs.Common.{◌≡◌, ◌≢◌, inl, refl, ℕ, List, [], Option, Result, Ok, Err}
+use Rattle.std.proofs.Common.{◌≡◌, inl, inr, ℕ, List, Option, Result, Ok, Err}
 use Rattle.std.proofs.lemmas.Bool.{false≢true}
 use Rattle.warg_files.specs.Printouts.{Printout}
 use Rattle.warg_files.specs.Files.{Files, Reads}
-use Rattle.warg_files.specs.Answers.{answer_view, Answers, IfStopped, IsSettled, IsUnusable}
+use Rattle.warg_files.specs.Answers.{answer_view, Answers, IfStopped, IsSettled, IsUnanswered, IsUnusable}
+use Rattle.warg_files.specs.ReadFaults.{IsUnread, IsUnreadFor}
+use Rattle.warg_files.specs.declared.input.ReadFault.{ReadFault}
+use Rattle.warg_files.specs.declared.input.ReadFault.TheVariants as fault
 use Rattle.warg_files.specs.Unusable.{IfUsable, IsOfFile, unread, read, IsOfWord, no_word, word}
 use Rattle.warg_files.specs.declared.answer.Answer.{Answer}
 use Rattle.warg_files.specs.declared.stop.Stop.{Stop}
@@ -29,11 +32,27 @@ settled_is P (Err end) answer e h = settled_by_end P end answer e h
 
 -- ---- words and files that can't be used
 
-pub unusable_is : (printed : Printout) (status : ℕ) → printed ≡ record { text = []; status = status } → status ≢ 0 → IsUnusable printed
-unusable_is printed status e h = rw e (refl, h)
+pub unanswered : (end : Stop) → IfStopped IsUnusable end → IfStopped IsUnanswered end
+unanswered end h = IfStopped-to IsUnusable IsUnanswered (λ printed is. inl is) end h
+
+by_fault : (why : ReadFault) (printed : Printout) → IsUnreadFor why printed → IsUnanswered printed
+by_fault fault.Missing printed is = inl is
+by_fault fault.Folder printed is = inl is
+by_fault fault.Closed printed is = inl is
+by_fault fault.TooLong printed is = inl is
+by_fault fault.Failed printed is = inr is
+by_fault fault.OutOfMemory printed is = inr is
+
+pub unread_end : (files : Option Files) (path : List ℕ) (end : Stop) → IfStopped (IsUnread files path) end
+    → IfStopped IsUnanswered end
+unread_end files path end h =
+    IfStopped-to (IsUnread files path) IsUnanswered (λ printed it. by_fault it.why printed it.is) end h
+
+pub unanswered_end : (P : Printout → Type 0) (end : Stop) → IfStopped IsUnanswered end → IfStopped (IfUsable P) end
+unanswered_end P end h = IfStopped-to IsUnanswered (IfUsable P) (λ printed is. inl is) end h
 
 pub unusable_end : (P : Printout → Type 0) (end : Stop) → IfStopped IsUnusable end → IfStopped (IfUsable P) end
-unusable_end P end h = IfStopped-to IsUnusable (IfUsable P) (λ printed is. inl is) end h
+unusable_end P end h = unanswered_end P end (unanswered end h)
 
 -- ---- files
 
@@ -42,8 +61,8 @@ module _ (files : Option Files) (path : List ℕ) (P : List ℕ → Printout →
       → Answers (IsOfFile files path P) result
   file_read bytes result held h = Answers-to (P bytes) (IsOfFile files path P) (λ printed is. read bytes held is) result h
 
-  pub file_unread : (end : Stop) → IfStopped IsUnusable end → IfStopped (IsOfFile files path P) end
-  file_unread end h = IfStopped-to IsUnusable (IsOfFile files path P) (λ printed is. unread is) end h
+  pub file_unread : (end : Stop) → IfStopped (IsUnread files path) end → IfStopped (IsOfFile files path P) end
+  file_unread end h = IfStopped-to (IsUnread files path) (IsOfFile files path P) (λ printed is. unread is) end h
 
 -- ---- words
 

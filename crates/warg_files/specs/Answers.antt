@@ -1,11 +1,11 @@
 -- What a command answers, as plain data, and the end of a command before its own answer.
-use Rattle.std.specs.Prelude.{◌≡◌, ℕ, List, Result, Ok, Err, IsErr, string_bytes, ◌≢◌, []}
+use Rattle.std.specs.Prelude.{◌≡◌, ◌⊎◌, ℕ, List, Result, Ok, Err, IsErr, string_bytes}
 use Rattle.std.specs.declared.alloc.AllocError.{AllocError}
 use Rattle.warg_files.specs.Printouts.{Printout}
 use Rattle.warg_files.specs.declared.answer.Answer.{Answer}
 use Rattle.warg_files.specs.declared.stop.Stop.{Stop}
 use Rattle.warg_files.specs.declared.stop.Stop.TheVariants as stop
-use Rattle.warg_files.specs.Texts.{side_text}
+use Rattle.warg_files.specs.Texts.{side_text, silent}
 
 -- what an answer prints on standard output, and its status
 abbrev pub answer_view : Answer → Printout
@@ -32,6 +32,14 @@ IsSettled (Ok answer) settled = settled ≡ Ok answer
 IsSettled (Err (stop.Answer answer)) settled = settled ≡ Ok answer
 IsSettled (Err stop.OutOfMemory) settled = IsErr settled
 
--- nothing is printed of words or files that can't be used, and the status tells it
+-- nothing is printed, for words or files that can't be used
 abbrev pub IsUnusable : Printout → Type 0
-IsUnusable printed = (printed.text ≡ []) × (printed.status ≢ 0)
+IsUnusable printed = printed ≡ silent 2
+
+-- nothing is printed, for a read or a write that failed
+abbrev pub IsFailed : Printout → Type 0
+IsFailed printed = printed ≡ silent 3
+
+-- nothing is printed, for either
+abbrev pub IsUnanswered : Printout → Type 0
+IsUnanswered printed = IsUnusable printed ⊎ IsFailed printed

@@ -9,6 +9,10 @@ yes text = record { text = text; status = 0 }
 abbrev pub no : List ℕ → Printout
 no text = record { text = text; status = 1 }
 
+-- no text, with a status
+abbrev pub silent : ℕ → Printout
+silent status = record { text = []; status = status }
+
 -- a text on a line
 abbrev pub line : List ℕ → List ℕ
 line text = text ++ codes "\n"

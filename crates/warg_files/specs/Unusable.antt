@@ -2,12 +2,13 @@
 use Rattle.std.specs.Prelude.{◌⊎◌, ℕ, List, Option}
 use Rattle.warg_files.specs.Printouts.{Printout}
 use Rattle.warg_files.specs.Files.{Files, Reads}
-use Rattle.warg_files.specs.Answers.{IsUnusable}
+use Rattle.warg_files.specs.Answers.{IsUnanswered, IsUnusable}
+use Rattle.warg_files.specs.ReadFaults.{IsUnread}
 use Rattle.warg_files.specs.RecordLines.{record_lines}
 
--- P, unless the words or the files can't be used
+-- P, unless the words or the files can't be used, or a read fails
 abbrev pub IfUsable : (Printout → Type 0) → Printout → Type 0
-IfUsable P printed = IsUnusable printed ⊎ P printed
+IfUsable P printed = IsUnanswered printed ⊎ P printed
 
 -- the answer by what a word says, unless it says nothing
 pub data IsOfWord {A : Type 0} (Says : A → Type 0) (P : A → Printout → Type 0) (printed : Printout) : Type 0 where
@@ -17,7 +18,7 @@ pub data IsOfWord {A : Type 0} (Says : A → Type 0) (P : A → Printout → Typ
 module _ (files : Option Files) (path : List ℕ) where
   -- the answer by what the file of the path holds, unless it can't be read
   pub data IsOfFile (P : List ℕ → Printout → Type 0) (printed : Printout) : Type 0 where
-    unread : IsUnusable printed → IsOfFile P printed
+    unread : IsUnread files path printed → IsOfFile P printed
     read : (bytes : List ℕ) → Reads files path bytes → P bytes printed → IsOfFile P printed
 
   -- the answer by the lines of records in it

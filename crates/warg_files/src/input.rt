@@ -1,9 +1,9 @@
 //! Files, by their paths and bytes.
 
-ghost use Rattle.std.specs.Prelude.{◌≡◌, ◌≢◌, ◌⊎◌, [], Option, IfOk, IfErr, OnOk, OnErr, ◌+◌, ◌-◌, ◌^◌, min, string_bytes};
+ghost use Rattle.std.specs.Prelude.{◌≡◌, Option, IfOk, IfErr, OnOk, OnErr, ◌+◌, ◌-◌, ◌^◌, min, string_bytes};
 ghost use Rattle.warg_files.specs.Files.{Files, Lacks, Puts, Reads, ReadsLog};
 ghost use Rattle.warg_files.specs.Answers.{IfStopped, IsUnusable};
-ghost use Rattle.warg_files.specs.ReadFaults.{unread_text};
+ghost use Rattle.warg_files.specs.ReadFaults.{IsLogUnread, IsUnread, IsUnreadFor, unread_text};
 ghost use Rattle.warg_files.specs.Sentences.{line_sentence, sentence, shown_path};
 ghost use Rattle.warg_files.specs.declared.input.ReadFault.TheVariants.{Missing};
 
@@ -31,8 +31,7 @@ pub enum ReadFault {
 impl ReadFault {
     /// The status of an answer for want of the file: 2 where the file is at fault, 3 for trouble.
     pub fn status(self) -> u8
-        ensures bad { result ≢ 0 }
-        ensures is { result ≡ (unread_text self).status }
+        ensures { result ≡ (unread_text self).status }
     {
         match self {
             ReadFault::Missing | ReadFault::Folder | ReadFault::Closed | ReadFault::TooLong => 2,
@@ -121,7 +120,7 @@ pub fn file_stop(alloc: Global, path: &str, fault: &str) -> Stop
 
 // What is answered where the file of this path can't be read.
 fn unread(alloc: Global, path: &str, fault: ReadFault) -> Stop
-    ensures { IfStopped (λ printed. (printed.text ≡ []) × (printed.status ≢ 0)) result }
+    ensures { IfStopped (IsUnreadFor fault) result }
 {
     if fault == ReadFault::OutOfMemory {
         return Stop::OutOfMemory;
@@ -140,8 +139,7 @@ pub fn read_input<'a, S: Store>(
 ) -> Result<Input<'a>, Stop>
     ensures path { IfOk result (λ input. input.path.now ≡ path.now) }
     ensures bytes { IfOk result (λ input. Reads (S.files store.old) path.now input.bytes.items) }
-    ensures stopped { IfErr result
-        (IfStopped (λ printed. (printed.text ≡ []) × (printed.status ≢ 0))) }
+    ensures stopped { IfErr result (IfStopped (IsUnread (S.files store.old) path.now)) }
     ensures kept { S.files store.new ≡ S.files store.old }
 {
     match store.read(path) {
@@ -159,8 +157,7 @@ pub fn read_log<'a, S: Store>(
     ensures path { IfOk result (λ input. input.path.now ≡ path.now) }
     ensures bytes { IfOk result (λ input.
         ReadsLog (S.files store.old) path.now input.bytes.items) }
-    ensures stopped { IfErr result
-        (IfStopped (λ printed. (printed.text ≡ []) × (printed.status ≢ 0))) }
+    ensures stopped { IfErr result (IfStopped IsLogUnread) }
     ensures kept { S.files store.new ≡ S.files store.old }
 {
     match store.read(path) {

@@ -10,6 +10,7 @@ use Rattle.warg_make.specs.declared.error.MakeError.{MakeError}
 use Rattle.warg_make.specs.declared.error.MakeError.TheVariants.{OutOfMemory}
 use Rattle.warg_files.specs.Files.{Files, ReadsLog}
 use Rattle.warg_files.specs.Answers.{Answers, IfStopped, IsUnusable}
+use Rattle.warg_files.specs.ReadFaults.{IsLogUnread}
 use Rattle.warg_tasks.specs.MadeRecords.{IsMade, IsMadeAfter, IsMadeOf, IsMadeText, no_file, of_log, unsaid}
 use Rattle.warg_answers.specs.Verdicts.{IsLawful, IsPrintedOf, IsViewOf, lawful}
 use Rattle.warg_files.specs.declared.answer.Answer.{Answer}
@@ -45,7 +46,7 @@ module _ {T : Type 0} (Says : List ℕ → T → Type 0) (Lacks : List ℕ → E
           Answers-to (IsMadeOf Says Lacks content prefix log belongs name time words file)
           (IsMade Says Lacks content prefix log belongs name time words old path) (λ printed it. of_log file held it) result h
 
-      pub made_unread : (end : Stop) → IfStopped IsUnusable end
+      pub made_unread : (end : Stop) → IfStopped IsLogUnread end
           → IfStopped (IsMade Says Lacks content prefix log belongs name time words old path) end
       made_unread end h =
-          IfStopped-to IsUnusable (IsMade Says Lacks content prefix log belongs name time words old path) (λ printed it. no_file it) end h
+          IfStopped-to IsLogUnread (IsMade Says Lacks content prefix log belongs name time words old path) (λ printed it. no_file it) end h

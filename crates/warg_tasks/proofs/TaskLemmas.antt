@@ -5,7 +5,8 @@ use Rattle.warg_audit.specs.LogAnswers.{LogDisplay}
 use Rattle.warg_audit.specs.Printouts.{Printout}
 use Rattle.warg_files.specs.Files.{Files, Reads, ReadsLog}
 use Rattle.warg_tasks.specs.Additions.{IsAllOrNone}
-use Rattle.warg_files.specs.Answers.{answer_view, Answers, IfStopped, IsUnusable}
+use Rattle.warg_files.specs.Answers.{answer_view, Answers, IfStopped}
+use Rattle.warg_files.specs.ReadFaults.{IsLogUnread, IsUnread}
 use Rattle.warg_tasks.specs.Tasks.{IsAddedTo, no_lines, of_lines, IsAppended, no_log, to_log}
 use Rattle.warg_files.specs.declared.answer.Answer.{Answer}
 use Rattle.warg_files.specs.declared.stop.Stop.{Stop}
@@ -25,10 +26,10 @@ module _ {Meaning Fault View Offence : Type 0} (log : LogDisplay Meaning Fault V
       Answers-to (IsAllOrNone log belongs path file added old new) (IsAddedTo log belongs old new path file lines)
       (λ printed it. of_lines added held it) result h
 
-  pub lines_unread : (file : List ℕ) (end : Stop) → new ≡ old → IfStopped IsUnusable end
+  pub lines_unread : (file : List ℕ) (end : Stop) → new ≡ old → IfStopped (IsUnread old lines) end
       → IfStopped (IsAddedTo log belongs old new path file lines) end
   lines_unread file end kept h =
-      IfStopped-to IsUnusable (IsAddedTo log belongs old new path file lines) (λ printed it. no_lines it kept) end h
+      IfStopped-to (IsUnread old lines) (IsAddedTo log belongs old new path file lines) (λ printed it. no_lines it kept) end h
 
   pub log_read : (file : List ℕ) (result : Result Answer Stop) → ReadsLog old path file
       → Answers (IsAddedTo log belongs old new path file lines) result → Answers (IsAppended log belongs old new path lines) result
@@ -36,6 +37,6 @@ module _ {Meaning Fault View Offence : Type 0} (log : LogDisplay Meaning Fault V
       Answers-to (IsAddedTo log belongs old new path file lines) (IsAppended log belongs old new path lines)
       (λ printed it. to_log file held it) result h
 
-  pub log_unread : (end : Stop) → new ≡ old → IfStopped IsUnusable end → IfStopped (IsAppended log belongs old new path lines) end
+  pub log_unread : (end : Stop) → new ≡ old → IfStopped IsLogUnread end → IfStopped (IsAppended log belongs old new path lines) end
   log_unread end kept h =
-      IfStopped-to IsUnusable (IsAppended log belongs old new path lines) (λ printed it. no_log it kept) end h
+      IfStopped-to IsLogUnread (IsAppended log belongs old new path lines) (λ printed it. no_log it kept) end h

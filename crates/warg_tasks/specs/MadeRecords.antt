@@ -14,11 +14,12 @@ use Rattle.warg_files.specs.Files.{Files, ReadsLog}
 use Rattle.warg_files.specs.RecordLines.{record_lines}
 use Rattle.warg_files.specs.Texts.{line, yes}
 use Rattle.warg_files.specs.Answers.{IsUnusable}
+use Rattle.warg_files.specs.ReadFaults.{IsLogUnread}
 use Rattle.warg_answers.specs.Verdicts.{IsPrintedOf, envelopes_of}
 
 -- by which entries words say, what is wrong with others, and how a record of a kind of log is written and signed
 module _ {T : Type 0} (Says : List ℕ → T → Type 0) (Lacks : List ℕ → EntryFault → Type 0) (content : Option RecordId → Time → List T → List ℕ) (prefix : List ℕ) where
-  -- the hex of the envelope of the record that the words say on a line; where they say none, nothing is printed, and the status tells it
+  -- the hex of the envelope of the record that the words say on a line; where they say none, nothing is printed, and the status is 2
   pub data IsMadeText (prev : Option RecordId) (name time : List ℕ) (words : List (List ℕ)) (printed : Printout) : Type 0 where
     made : (bytes : List ℕ) → IsNextEnvelope Says content prefix prev name time words bytes → printed ≡ yes (line (encode_lower bytes))
         → IsMadeText prev name time words printed
@@ -36,5 +37,5 @@ module _ {T : Type 0} (Says : List ℕ → T → Type 0) (Lacks : List ℕ → E
 
     -- the same by the file of a log that may not be there yet, unless it can't be read
     pub data IsMade (old : Option Files) (path : List ℕ) (printed : Printout) : Type 0 where
-      no_file : IsUnusable printed → IsMade old path printed
+      no_file : IsLogUnread printed → IsMade old path printed
       of_log : (file : List ℕ) → ReadsLog old path file → IsMadeOf file printed → IsMade old path printed

@@ -17,19 +17,19 @@ use Rattle.warg_tasks.specs.ClaimTexts.{IsClaimsAnswer}
 use Rattle.warg_tasks.specs.MadeRecords.{IsMade}
 use Rattle.warg_files.specs.RecordLines.{texts}
 use Rattle.warg_files.specs.Unusable.{IsOfLines}
-use Rattle.warg_files.specs.Answers.{IsUnusable}
+use Rattle.warg_files.specs.ReadFaults.{IsLogUnread, IsUnread}
 use Rattle.warg_words.specs.declared.task.Task.{Task}
 use Rattle.warg_words.specs.declared.task.Task.TheVariants as task
 
 module _ {Meaning Fault View Offence : Type 0} (log : LogDisplay Meaning Fault View Offence) (belongs : SignatureRelation) (old new : Option Files) where
   -- the lines of a file are added to a log that is read, all or none; if they can't be read, no file is changed
   pub data IsAddedTo (path file lines : List ℕ) (printed : Printout) : Type 0 where
-    no_lines : IsUnusable printed → new ≡ old → IsAddedTo path file lines printed
+    no_lines : IsUnread old lines printed → new ≡ old → IsAddedTo path file lines printed
     of_lines : (added : List ℕ) → Reads old lines added → IsAllOrNone log belongs path file added old new printed → IsAddedTo path file lines printed
 
   -- the same of the log in a file that may not be there yet; if it can't be read, no file is changed
   pub data IsAppended (path lines : List ℕ) (printed : Printout) : Type 0 where
-    no_log : IsUnusable printed → new ≡ old → IsAppended path lines printed
+    no_log : IsLogUnread printed → new ≡ old → IsAppended path lines printed
     to_log : (file : List ℕ) → ReadsLog old path file → IsAddedTo path file lines printed → IsAppended path lines printed
 
   -- what files hold after a task: what they held, or, after records are added, what goes with an answer to that

@@ -2,7 +2,7 @@
 
 ghost use Rattle.std.specs.Prelude.{◌≡◌, [], ◌∷◌, filter, IfOk, IfErr, OnOk, string_bytes};
 ghost use Rattle.std.specs.Str.Lines.{lines};
-ghost use Rattle.warg_files.specs.Answers.{answer_view, Answers, IfStopped, IsUnusable};
+ghost use Rattle.warg_files.specs.Answers.{answer_view, Answers, IfStopped, IsUnanswered};
 ghost use Rattle.warg_tasks.specs.Audits.{BeginsAs, first_of};
 ghost use Rattle.warg_tasks.specs.ManyAudits.{audit_line, is_path, IsManyAnswer, IsVerdictOn, IsWith, IsWithAll, IsWithListed, IsWithNamed};
 ghost use Rattle.warg_files.specs.RecordLines.{texts};
@@ -118,6 +118,10 @@ impl<'v, V: Verifier> Verdicts<'v, V> {
     }
 
     // Adds the lines of the logs whose paths a file lists, by its bytes.
+    #[tactic(auto, using(
+        warg_files::proofs::UnusableLemmas::unanswered,
+        warg_files::proofs::UnusableLemmas::unread_end
+    ))]
     fn add_bytes<S: Store>(
         &self,
         store: &mut S,
@@ -128,7 +132,7 @@ impl<'v, V: Verifier> Verdicts<'v, V> {
         ensures added { OnOk result (IsWithAll self.now.is_json self.now.kind
             (V.belongs self.now.verifier.now) (S.files store.old) (filter is_path (lines bytes.now))
             (answer_view all.old) (answer_view all.new)) }
-        ensures stopped { IfErr result (IfStopped IsUnusable) }
+        ensures stopped { IfErr result (IfStopped IsUnanswered) }
         ensures kept { S.files store.new ≡ S.files store.old }
     {
         match str::from_utf8(bytes) {
@@ -138,11 +142,15 @@ impl<'v, V: Verifier> Verdicts<'v, V> {
     }
 
     // Adds the lines of the logs whose paths a file lists.
+    #[tactic(auto, using(
+        warg_files::proofs::UnusableLemmas::unanswered,
+        warg_files::proofs::UnusableLemmas::unread_end
+    ))]
     fn add_listed<S: Store>(&self, store: &mut S, list: &str, all: &mut Answer) -> Result<(), Stop>
         ensures added { OnOk result (IsWithListed self.now.is_json self.now.kind
             (V.belongs self.now.verifier.now) (S.files store.old) list.now
             (answer_view all.old) (answer_view all.new)) }
-        ensures stopped { IfErr result (IfStopped IsUnusable) }
+        ensures stopped { IfErr result (IfStopped IsUnanswered) }
         ensures kept { S.files store.new ≡ S.files store.old }
     {
         match read_input(self.alloc, store, list) {
@@ -156,7 +164,7 @@ impl<'v, V: Verifier> Verdicts<'v, V> {
         ensures added { OnOk result (IsWithNamed self.now.is_json self.now.kind
             (V.belongs self.now.verifier.now) (S.files store.old) word.now
             (answer_view all.old) (answer_view all.new)) }
-        ensures stopped { IfErr result (IfStopped IsUnusable) }
+        ensures stopped { IfErr result (IfStopped IsUnanswered) }
         ensures kept { S.files store.new ≡ S.files store.old }
     {
         match word.strip_prefix('@') {

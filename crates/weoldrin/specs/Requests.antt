@@ -31,7 +31,7 @@ use Rattle.warg_answers.specs.ShownWords.{says_operator_words, says_package_word
 use Rattle.warg_show.specs.ShownLogs.{IsShown}
 use Rattle.warg_tasks.specs.Tasks.{DoneLeaves, IsDoneAnswer}
 use Rattle.warg_files.specs.Unusable.{IfUsable, IsOfLines, IsOfWord}
-use Rattle.warg_files.specs.Answers.{IsUnusable}
+use Rattle.warg_files.specs.Answers.{IsUnanswered}
 use Rattle.warg_tasks.specs.Audits.{IsAuditOf}
 use Rattle.warg_answers.specs.Verdicts.{IsPrintedOf}
 use Rattle.weoldrin.specs.Schemes.{asked_belongs}
@@ -148,7 +148,7 @@ IsUnder files toy (Some path) Unread P = Unread ⊎ ((claims : List ClaimData) �
 -- what is answered to an invocation, by what files hold before and after
 abbrev pub IsInvocationAnswer : Option Files → Option Files → Invocation → Printout → Type 0
 IsInvocationAnswer old new it printed =
-    IsUnder old it.toy it.verified (IsGivenAs it.json it.command.now IsUnusable printed)
+    IsUnder old it.verified (IsGivenAs it.json it.command.now IsUnanswered printed)
     (λ belongs. IsResponse it.json it.command.now belongs old new it.request printed)
 
 -- what files hold after it

@@ -3,9 +3,8 @@
 ghost use Rattle.std.specs.Prelude.{◌≡◌, IfOk, IfErr};
 ghost use Rattle.std.specs.Str.Lines.{lines};
 ghost use Rattle.warg_verified.specs.Texts.{IsReadFrom};
-ghost use Rattle.warg_files.specs.Answers.{answer_view, IfStopped, IsUnusable};
-ghost use Rattle.weoldrin.specs.Requests.{AreClaimsIn, InvocationLeaves, IsGivenAs, IsInvocationAnswer, IsResponse, RequestLeaves};
-ghost use Rattle.weoldrin.specs.Schemes.{asked_belongs};
+ghost use Rattle.warg_files.specs.Answers.{answer_view, IfStopped, IsUnanswered, IsUnusable};
+ghost use Rattle.weoldrin.specs.Requests.{AreClaimsIn, InvocationLeaves, IsGivenAs, IsInvocationAnswer};
 
 use crate::commands::{given, respond};
 use crate::schemes::KnownSchemes;
@@ -60,9 +59,13 @@ fn verified_of_file(alloc: Global, input: &Input<'_>) -> Result<Verified, Stop>
 }
 
 // The claims that the file of this path lists.
+#[tactic(auto, using(
+    warg_files::proofs::UnusableLemmas::unanswered,
+    warg_files::proofs::UnusableLemmas::unread_end
+))]
 fn read_verified<S: Store>(alloc: Global, path: &str, store: &mut S) -> Result<Verified, Stop>
     ensures ok { IfOk result (AreClaimsIn (S.files store.old) path.now) }
-    ensures stopped { IfErr result (IfStopped IsUnusable) }
+    ensures stopped { IfErr result (IfStopped IsUnanswered) }
     ensures kept { S.files store.new ≡ S.files store.old }
 {
     match read_input(alloc, store, path) {
@@ -73,9 +76,9 @@ fn read_verified<S: Store>(alloc: Global, path: &str, store: &mut S) -> Result<V
 
 // The end of a command that can't use a file, as the invocation wants its answer.
 fn given_end(alloc: Global, invocation: &Invocation<'_>, stop: Stop) -> Result<Answer, AllocError>
-    ensures { IfStopped IsUnusable stop →
+    ensures { IfStopped IsUnanswered stop →
         IfOk result (λ it. IsGivenAs invocation.now.json invocation.now.command.now
-        IsUnusable (answer_view it)) }
+        IsUnanswered (answer_view it)) }
 {
     match stop {
         Stop::Answer(answer) => given(alloc, invocation, answer),

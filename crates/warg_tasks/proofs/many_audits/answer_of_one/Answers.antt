@@ -12,5 +12,5 @@ pub returns-in-Err-clause-verdict : goal.returns-in-Err-clause-verdict
 returns-in-Err-clause-verdict g c =
     IfOk-weaker c.fixed.result _ _
     (λ answer is. verdict_unread c.args.kind (g.V.Verifier.belongs c.args.verifier.now) (g.S.Store.files c.args.store.now) c.args.path.now
-    c.in-Err.fault (answer_view answer) c.text.result.now c.status.result c.in-Err.ensures.missing is c.text.ensures c.status.ensures.is)
+    c.in-Err.fault (answer_view answer) c.text.result.now c.status.result c.in-Err.ensures.missing is c.text.ensures c.status.ensures)
     c.fixed.ensures
