@@ -111,7 +111,7 @@ fn latest_of(
 
 /// The release that is not yanked, meets the requirement (as ">=1.2, <2"), and has the greatest version.
 ///   WARG_NONE: there is none.
-///   WARG_BAD_ARGUMENT: the text is no requirement (BadRequirement), or the log is one of operators (WrongKind).
+///   WARG_BAD_ARGUMENT: the text is no requirement, or the log is one of operators.
 #[unsafe(no_mangle)]
 pub extern "C" fn warg_latest(
     alloc: Global,
@@ -176,7 +176,7 @@ fn release_of(
 
 /// The release of a version, yanked or not.
 ///   WARG_NONE: the version was not released.
-///   WARG_BAD_ARGUMENT: the text is no version (BadVersion), or the log is one of operators (WrongKind).
+///   WARG_BAD_ARGUMENT: the text is no version, or the log is one of operators.
 #[unsafe(no_mangle)]
 pub extern "C" fn warg_release(
     alloc: Global,
@@ -230,7 +230,7 @@ fn release_at(alloc: Global, held: &Held, place: usize) -> Result<(Vec<u8>, Show
 /// The release at a place, counted from 0, in the order in which they were released; those of a resumed log come first, by the bytes of their
 /// versions.
 ///   WARG_NONE: there are not so many releases.
-///   WARG_BAD_ARGUMENT (WrongKind): the log is one of operators.
+///   WARG_BAD_ARGUMENT: the log is one of operators.
 #[unsafe(no_mangle)]
 pub extern "C" fn warg_releases(
     alloc: Global,

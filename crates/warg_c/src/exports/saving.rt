@@ -172,8 +172,8 @@ fn resumed(
 /// Goes on from a saved state of one of `enum warg_kind`. A log that was open is closed first. Of a resumed log nothing is known of its
 /// records, those that are appended to it included: `warg_length`, `warg_record`, `warg_chain` and `warg_compare` are not for it. All else is as if its
 /// records were there. Whether the text is what was saved is the caller's to keep.
-///   WARG_BAD_ARGUMENT: no such kind (NoKind), or the text is no saved state of this kind (NotJson, WrongType, Missing, BadText,
-///     TimeBeforeEpoch, TimeOutOfRange, Incoherent). The log is as it was.
+///   WARG_BAD_ARGUMENT: no such kind (`used` is 0), or the text is no saved state of this kind: the error's name is in `text`, one of
+///     NotJson, WrongType, Missing, BadText, TimeBeforeEpoch, TimeOutOfRange, Incoherent. The log is as it was.
 #[unsafe(no_mangle)]
 pub extern "C" fn warg_resume(
     alloc: Global,
