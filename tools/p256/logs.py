@@ -27,7 +27,7 @@ def module_of(path: pathlib.Path) -> ModuleType:
     return module
 
 
-sign = module_of(EXAMPLES / "sign")
+sign = module_of(ROOT / "bin/weoldrin-sign")
 
 
 def text_of(data: bytes, scheme: str = SCHEME) -> str:
@@ -65,15 +65,15 @@ class Key:
 
 
 class Line:
-    """A record's line in its parts: the content bytes, the id of the key, and the signature's bytes."""
+    """A record's line in its parts: the content bytes, the id of the key, and the signature's bytes, of which there are none in
+    a record that is to be signed."""
 
     def __init__(self, line: str) -> None:
-        envelope = bytes.fromhex(line)
-        self.content = sign.content_of(envelope)
-        # The text of a key's id has 71 bytes, behind a tag and a length; the signature's text follows, behind two more.
-        behind = envelope[len(sign.field(1, self.content)):]
-        self.key_id = behind[2:73].decode()
-        self.signature = base64.b64decode(behind[75:].partition(b":")[2])
+        envelope = bytes.fromhex(line.split()[0])
+        self.content, behind = sign.cut_field(1, envelope)
+        key_id, behind = sign.cut_field(2, behind)
+        signature = sign.cut_field(3, behind)[0] if behind else b""
+        self.key_id, self.signature = key_id.decode(), base64.b64decode(signature.partition(b":")[2])
 
     def message(self, kind: str = "package") -> bytes:
         """What is signed."""
