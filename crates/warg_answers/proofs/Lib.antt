@@ -2,3 +2,4 @@ pub mod FirstEntryLemmas
 pub mod JudgedLemmas
 pub mod ShownWordLemmas
 pub mod ResealedLemmas
+pub mod PartingLemmas

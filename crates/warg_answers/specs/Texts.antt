@@ -1,5 +1,5 @@
 -- The texts that commands print.
-use Rattle.std.specs.Prelude.{ℕ, Bool, List, [], ◌∷◌, ◌++◌, codes, length, Option, Some, None, unwrap_or, if◌then◌else◌, slice_index_or, filter, map, Result, Ok, Err}
+use Rattle.std.specs.Prelude.{ℕ, ◌<◌, Bool, List, [], ◌∷◌, ◌++◌, codes, length, Option, Some, None, unwrap_or, if◌then◌else◌, slice_index_or, filter, map, Result, Ok, Err}
 use Rattle.std.specs.Fmt.{decimal}
 use Rattle.std.specs.List.{slice_get}
 use Rattle.std.specs.Option.{option_map}
@@ -8,6 +8,7 @@ use Rattle.warg_protocol.specs.Records.{hash_text, RecordId}
 use Rattle.warg_protocol.specs.Json.{JsonError}
 use Rattle.warg_files.specs.Printouts.{Printout}
 use Rattle.warg_files.specs.Texts.{yes, no, line, all_lines}
+use Rattle.warg_audit.specs.LogAnswers.{head_text}
 use Rattle.warg_audited_log.specs.declared.link.Link.{Link}
 use Rattle.warg_audited_log.specs.declared.comparison.Comparison.{Comparison}
 use Rattle.warg_audited_log.specs.declared.comparison.Comparison.TheVariants.{Same, LeftIsPrefix, RightIsPrefix, Fork, Collision}
@@ -44,10 +45,31 @@ abbrev pub chain_text : List EnvelopeData → List ℕ → Option (List Link) �
 chain_text es key None = no (codes "none\n")
 chain_text es key (Some links) = yes (links_text es key links)
 
--- how two logs compare, by the content bytes of their records: how many they share, or where they part
-abbrev pub comparison_text : (List ℕ → RecordId) → List (List ℕ) → List (List ℕ) → Comparison → Printout
-comparison_text id left right Same = yes (codes "same " ++ decimal (length left) ++ codes "\n")
-comparison_text id left right (LeftIsPrefix place) = yes (codes "left is a prefix " ++ decimal place ++ codes "\n")
-comparison_text id left right (RightIsPrefix place) = yes (codes "right is a prefix " ++ decimal place ++ codes "\n")
-comparison_text id left right (Fork place) = no (codes "fork " ++ (decimal place ++ (codes " " ++ (hash_text (id (slice_index_or left place [])).hash ++ (codes " " ++ (hash_text (id (slice_index_or right place [])).hash ++ codes "\n"))))))
-comparison_text id left right (Collision here there) = no (codes "collision " ++ (decimal here ++ (codes " " ++ (decimal there ++ codes "\n"))))
+-- the text of the id of the content at a place
+abbrev pub id_text_at : (List ℕ → RecordId) → List (List ℕ) → ℕ → List ℕ
+id_text_at id contents place = hash_text (id (slice_index_or contents place [])).hash
+
+-- where two logs fork: the place, and the ids of both records there
+abbrev pub fork_line : (List ℕ → RecordId) → List (List ℕ) → List (List ℕ) → ℕ → List ℕ
+fork_line id old new place = codes "fork " ++ (decimal place ++ (codes " " ++ (id_text_at id old place ++ (codes " " ++ (id_text_at id new place ++ codes "\n")))))
+
+-- where two records that differ have one id: both places, and the id
+abbrev pub collision_line : (List ℕ → RecordId) → List (List ℕ) → ℕ → ℕ → List ℕ
+collision_line id old here there = codes "collision " ++ (decimal here ++ (codes " " ++ (decimal there ++ (codes " " ++ (id_text_at id old here ++ codes "\n")))))
+
+-- how a log compares with an older copy, by the older one's head and the content bytes of the records of both: it is the same, it goes
+-- on, it was rolled back, or they part
+abbrev pub comparison_text : (List ℕ → RecordId) → Option RecordId → List (List ℕ) → List (List ℕ) → Comparison → Printout
+comparison_text id head old new Same = yes (codes "same " ++ (decimal (length old) ++ (codes " " ++ (head_text head ++ codes "\n"))))
+comparison_text id head old new (LeftIsPrefix place) = yes (codes "goes on " ++ (decimal (length old) ++ (codes " " ++ (decimal (length new) ++ codes "\n"))))
+comparison_text id head old new (RightIsPrefix place) = no (codes "rolled back " ++ (decimal (length old) ++ (codes " " ++ (decimal (length new) ++ codes "\n"))))
+comparison_text id head old new (Fork place) = no (fork_line id old new place)
+comparison_text id head old new (Collision here there) = no (collision_line id old here there)
+
+-- the lists have items at the places where they part
+abbrev pub PartsWithin : List (List ℕ) → List (List ℕ) → Comparison → Type 0
+PartsWithin old new (Fork place) = (place < length old) × (place < length new)
+PartsWithin old new (Collision here there) = (here < length old) × (there < length new)
+PartsWithin old new Same = Unit {0}
+PartsWithin old new (LeftIsPrefix place) = Unit {0}
+PartsWithin old new (RightIsPrefix place) = Unit {0}

@@ -150,19 +150,19 @@ fn resumed_from_files<L: ToolLog, V: Verifier, S: Store>(
 fn compared_with_file<L: ToolLog, V: Verifier, S: Store>(
     alloc: Global,
     verifier: &V,
-    left: Input<'_>,
+    old: Input<'_>,
     path: &str,
     store: &mut S,
 ) -> Result<Answer, Stop>
     ensures answered { ForDisplay L.view L.kind L.Record.read L.Record.fault_of L.offence_of
         L.name_of L.lines_of (λ log.
         Answers (IsOfLines (S.files store.old) path.now
-        (IsCompared log (V.belongs verifier.now) (record_lines left.entry.bytes.items)))
+        (IsCompared log (V.belongs verifier.now) (record_lines old.entry.bytes.items)))
         result) }
     ensures kept { S.files store.new ≡ S.files store.old }
 {
     match read_input(alloc, store, path) {
-        Ok(right) => compare_answer::<L, V>(alloc, verifier, left, right),
+        Ok(new) => compare_answer::<L, V>(alloc, verifier, old, new),
         Err(stop) => Err(stop),
     }
 }
@@ -170,19 +170,19 @@ fn compared_with_file<L: ToolLog, V: Verifier, S: Store>(
 fn compared_files<L: ToolLog, V: Verifier, S: Store>(
     alloc: Global,
     verifier: &V,
-    left: &str,
-    right: &str,
+    old: &str,
+    new: &str,
     store: &mut S,
 ) -> Result<Answer, Stop>
     ensures answered { ForDisplay L.view L.kind L.Record.read L.Record.fault_of L.offence_of
         L.name_of L.lines_of (λ log.
-        Answers (IsOfLines (S.files store.old) left.now
-        (λ here. IsOfLines (S.files store.old) right.now
-        (IsCompared log (V.belongs verifier.now) here))) result) }
+        Answers (IsOfLines (S.files store.old) old.now
+        (λ before. IsOfLines (S.files store.old) new.now
+        (IsCompared log (V.belongs verifier.now) before))) result) }
     ensures kept { S.files store.new ≡ S.files store.old }
 {
-    match read_input(alloc, store, left) {
-        Ok(left) => compared_with_file::<L, V, S>(alloc, verifier, left, right, store),
+    match read_input(alloc, store, old) {
+        Ok(old) => compared_with_file::<L, V, S>(alloc, verifier, old, new, store),
         Err(stop) => Err(stop),
     }
 }

@@ -1,10 +1,11 @@
 use Rattle.warg_files.specs.Answers.{answer_view}
-use Rattle.warg_questions.proofs.CompareLemmas.{fork_is_within, told_of_kept}
+use Rattle.warg_answers.proofs.PartingLemmas.{parts_within}
+use Rattle.warg_questions.proofs.CompareLemmas.{told_of_kept}
 use Rattle.warg_questions.proofs.compare.compared.Goals as goal
 
 pub comparison_answer-requires : goal.comparison_answer-requires
 comparison_answer-requires g c =
-    rw (c.records-here.ensures.records, c.records-there.ensures.records) (fork_is_within _ _ _ _ _ c.compare-comparison.ensures.answer)
+    rw (c.records-here.ensures.records, c.records-there.ensures.records) (parts_within _ _ _ _ _ c.compare-comparison.ensures.answer)
 
 pub returns : goal.returns
 returns g c =

@@ -1,7 +1,7 @@
 use Rattle.std.proofs.Common.{◌<◌, length, ap, sym, ◌∙◌}
 use Rattle.warg_audited_log.proofs.HeadLemmas.{content_at}
-use Rattle.warg_questions.proofs.CompareLemmas.{length-contents}
-use Rattle.warg_questions.proofs.compare.id_at.Goals as goal
+use Rattle.warg_answers.proofs.PartingLemmas.{length-contents}
+use Rattle.warg_answers.proofs.parting.id_at.Goals as goal
 
 pub bounds-records-place : goal.bounds-records-place
 bounds-records-place g c = rw length-contents at c.requires

@@ -1,5 +1,5 @@
-use Rattle.warg_questions.proofs.CompareLemmas.{end_of_side}
-use Rattle.warg_questions.proofs.compare.side.Goals as goal
+use Rattle.warg_answers.proofs.PartingLemmas.{end_of_side}
+use Rattle.warg_answers.proofs.side.side.Goals as goal
 
 pub returns-in-Err-clause-stopped : goal.returns-in-Err-clause-stopped
 returns-in-Err-clause-stopped g c = λ fault_name offence_name shown reports.

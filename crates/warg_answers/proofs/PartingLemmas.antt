@@ -1,0 +1,31 @@
+-- Where logs part, by the places of their records.
+use Rattle.std.proofs.Common.{◌≡◌, ◌∙◌, ℕ, List, length, Option}
+use Rattle.std.proofs.lemmas.List.{length-map}
+use Rattle.warg_protocol.specs.Records.{RecordId}
+use Rattle.warg_protocol.specs.Logs.{DecodedEnvelope, IsComparison, contents, envelopes}
+use Rattle.warg_audited_log.specs.declared.comparison.Comparison.{Comparison}
+use Rattle.warg_audited_log.specs.declared.comparison.Comparison.TheVariants.{Same, LeftIsPrefix, RightIsPrefix, Fork, Collision}
+use Rattle.warg_answers.specs.Texts.{PartsWithin}
+use Rattle.warg_audit.specs.Printouts.{Printout}
+use Rattle.warg_files.specs.Answers.{answer_view, IfStopped, IsSideStop}
+use Rattle.warg_files.specs.Texts.{side_text}
+use Rattle.warg_files.specs.declared.stop.Stop.{Stop}
+use Rattle.warg_files.specs.declared.stop.Stop.TheVariants as stop
+
+pub length-contents : {C : Type 0} (records : List (DecodedEnvelope C)) → length (contents (envelopes records)) ≡ length records
+length-contents records = length-map (envelopes records) (λ e. e.content) ∙ length-map records (λ e. e.envelope)
+
+-- a comparison's places are those of records
+pub parts_within : (old_head new_head : Option RecordId) (old new : List (List ℕ)) (comparison : Comparison)
+    → IsComparison old_head new_head old new comparison → PartsWithin old new comparison
+parts_within old_head new_head old new Same h = tt
+parts_within old_head new_head old new (LeftIsPrefix place) h = tt
+parts_within old_head new_head old new (RightIsPrefix place) h = tt
+parts_within old_head new_head old new (Fork place) h = (h.1.in_left, h.1.in_right)
+parts_within old_head new_head old new (Collision here there) h = (h.1.in_left, h.1.in_right)
+
+-- the end of a command for want of a side
+pub end_of_side : (name : List ℕ) (own named : Stop) (P : Printout → Type 0) → IsSideStop name own named → IfStopped P own
+    → IfStopped (λ printed. (it : Printout) × (P it × (printed ≡ side_text name it))) named
+end_of_side name own (stop.Answer answer) P is h = (answer_view is.0, (rw is.1 at h, is.2))
+end_of_side name own stop.OutOfMemory P is h = tt
