@@ -1,20 +1,22 @@
 -- The lines of claims.
-use Rattle.std.proofs.Common.{◌≡◌, ◌+◌, ◌<◌, ℕ, suc, List, [], ◌∷◌, ◌++◌, length, map, take, refl, sym, ap, ◌∙◌, append_assoc, arith, slice_index_or, Result, Ok, Err}
-use Rattle.std.proofs.Math.Seq.{take-suc}
+use Rattle.std.proofs.Common.{◌≡◌, ◌+◌, ◌<◌, ℕ, suc, List, [], ◌∷◌, ◌++◌, length, map, take, refl, sym, ap, ◌∙◌, append_assoc, arith, false, is_none, slice_index_or, subst, Option, Some, None, Result, Ok, Err}
+use Rattle.std.proofs.lemmas.Bool.{false≢true}
+use Rattle.std.proofs.Math.Seq.{take-length, take-suc}
 use Rattle.std.proofs.lemmas.List.{map-append}
-use Rattle.warg_protocol.specs.Logs.{EnvelopeData, Kind}
+use Rattle.warg_protocol.specs.Logs.{Cause, EnvelopeData, Kind}
 use Rattle.warg_files.specs.Lines.{strings_of}
 use Rattle.warg_audit.specs.Printouts.{Printout, bad_line}
 use Rattle.warg_files.specs.declared.lines.LineError.TheVariants.{Bad}
 use Rattle.warg_files.proofs.StringLemmas as lines
-use Rattle.warg_claims.specs.Claimed.{AreClaims}
+use Rattle.warg_claims.specs.Claimed.{AreClaims, EndsAt, IsRefusedAnyway}
+use Rattle.warg_validator.specs.OutcomeRuns.{IfNamed}
 use Rattle.warg_verified.specs.Claims.{ClaimData, claim_text}
 use Rattle.warg_files.specs.Answers.{Answers, IfStopped}
-use Rattle.warg_tasks.specs.ClaimTexts.{IsClaimList, IsClaimsAnswer, first_bad, listed}
+use Rattle.warg_tasks.specs.ClaimTexts.{IsClaimList, IsClaimsAnswer, cut, first_bad, listed, whole}
 use Rattle.warg_files.specs.declared.answer.Answer.{Answer}
 use Rattle.warg_files.specs.declared.stop.Stop.{Stop}
 use Rattle.warg_files.proofs.AnswerLemmas.{Answers-to, IfStopped-to}
-use Rattle.warg_files.specs.Texts.{all_lines, line}
+use Rattle.warg_files.specs.Texts.{all_lines, line, no, yes}
 
 all_lines-append : (texts : List (List ℕ)) (text : List ℕ) → all_lines (texts ++ text ∷ []) ≡ all_lines texts ++ (text ++ 10 ∷ [])
 all_lines-append [] text = append_nil_line text
@@ -38,23 +40,27 @@ claims_more n claims claim text new low is so_far more =
 
 -- ---- answers
 
-not_both : (n : ℕ) → n ≡ 1 → n ≡ 0 → ⊥
-not_both n one none = omega arith
+-- what is named of a cause that is not that memory was refused
+named_why : {C : Type 0} (found : Option C) (P : C → Type 0) → is_none found ≡ false → IfNamed found P → (why : C) × P why
+named_why None P some h = absurd (false≢true (sym some))
+named_why (Some why) P some h = (why, h)
 
 module _ {View Offence F : Type 0} (k : Kind View Offence) (read : List ℕ → Result EnvelopeData F) where
-  pub claim_list : (strings : List (List ℕ)) (claims : List ClaimData) (text : List ℕ) (status : ℕ) (printed : Printout)
-      → printed ≡ record { text = text; status = status } → AreClaims k read (take (length claims) strings) claims
-      → text ≡ all_lines (map claim_text claims) → (status ≡ 0 → length claims ≡ length strings)
-      → IsClaimList k read strings printed
-  claim_list strings claims text status printed is own e whole =
-      rw is (record { claims = claims; own = own; text = e; whole = whole })
+  pub claim_list : (strings : List (List ℕ)) (claims : List ClaimData) (text : List ℕ) (printed : Printout)
+      → printed ≡ yes text → AreClaims k read (take (length claims) strings) claims
+      → text ≡ all_lines (map claim_text claims) → length claims ≡ length strings → IsClaimList k read strings printed
+  claim_list strings claims text printed is own e all =
+      let P : List (List ℕ) → Type 0 = λ ss. AreClaims k read ss claims in
+      whole claims (subst P (ap (λ n. take n strings) all ∙ take-length strings) own) (is ∙ ap yes e)
 
-  -- of a list that was cut the status is no 0
-  pub cut_list : (strings : List (List ℕ)) (claims : List ClaimData) (text : List ℕ) (printed : Printout)
-      → printed ≡ record { text = text; status = 1 } → AreClaims k read (take (length claims) strings) claims
-      → text ≡ all_lines (map claim_text claims) → IsClaimList k read strings printed
-  cut_list strings claims text printed is own e =
-      claim_list strings claims text 1 printed is own e (λ none. absurd (not_both 1 refl none))
+  -- a list that was cut, before a string that is refused whatever its signature
+  pub cut_list : {C : Type 0} (named_by : C → Option (Cause F Offence)) (cause : C) (strings : List (List ℕ)) (claims : List ClaimData)
+      (text : List ℕ) (printed : Printout) → printed ≡ no text → is_none (named_by cause) ≡ false
+      → AreClaims k read (take (length claims) strings) claims → text ≡ all_lines (map claim_text claims)
+      → EndsAt k read named_by strings (length claims) (Some cause) → IsClaimList k read strings printed
+  cut_list named_by cause strings claims text printed is some own e ends =
+      let found = named_why (named_by cause) (IsRefusedAnyway k read strings (length claims)) some ends in
+      cut claims found.0 own found.1 (is ∙ ap no e)
 
   pub list_answers : (ls strings : List (List ℕ)) (result : Result Answer Stop) → strings_of ls ≡ Ok strings
       → Answers (IsClaimList k read strings) result → Answers (IsClaimsAnswer k read ls) result

@@ -2,17 +2,18 @@
 use Rattle.std.specs.Prelude.{◌≡◌, ℕ, List, length, map, take, Result}
 use Rattle.warg_files.specs.Lines.{IsFirstBad, Spell}
 use Rattle.warg_audit.specs.Printouts.{Printout, bad_line}
-use Rattle.warg_claims.specs.Claimed.{AreClaims}
-use Rattle.warg_protocol.specs.Logs.{EnvelopeData, Kind}
-use Rattle.warg_files.specs.Texts.{all_lines}
+use Rattle.warg_claims.specs.Claimed.{AreClaims, IsRefusedAnyway}
+use Rattle.warg_protocol.specs.Logs.{Cause, EnvelopeData, Kind}
+use Rattle.warg_files.specs.Texts.{all_lines, no, yes}
 use Rattle.warg_verified.specs.Claims.{ClaimData, claim_text}
 
--- what is printed are the claims of the first of the strings, a line each; of all, where the status is 0
-pub record IsClaimList {View Offence F : Type 0} (k : Kind View Offence) (read : List ℕ → Result EnvelopeData F) (strings : List (List ℕ)) (printed : Printout) : Type 0 where
-  pub claims : List ClaimData
-  pub own : AreClaims k read (take (length claims) strings) claims
-  pub text : printed.text ≡ all_lines (map claim_text claims)
-  pub whole : printed.status ≡ 0 → length claims ≡ length strings
+-- what is printed are the claims of the strings, a line each; or those of the strings before one that can't come next whatever its signature
+pub data IsClaimList {View Offence F : Type 0} (k : Kind View Offence) (read : List ℕ → Result EnvelopeData F) (strings : List (List ℕ)) (printed : Printout) : Type 0 where
+  whole : (claims : List ClaimData) → AreClaims k read strings claims
+      → printed ≡ yes (all_lines (map claim_text claims)) → IsClaimList k read strings printed
+  cut : (claims : List ClaimData) (why : Cause F Offence) → AreClaims k read (take (length claims) strings) claims
+      → IsRefusedAnyway k read strings (length claims) why
+      → printed ≡ no (all_lines (map claim_text claims)) → IsClaimList k read strings printed
 
 -- what is printed to lines: of the first that spells no bytes, or the claims of the strings that they spell
 pub data IsClaimsAnswer {View Offence F : Type 0} (k : Kind View Offence) (read : List ℕ → Result EnvelopeData F) (lines : List (List ℕ)) (printed : Printout) : Type 0 where

@@ -1,17 +1,19 @@
 //! `claims`: what a host has to verify of a log, a line a record.
 
-ghost use Rattle.std.specs.Prelude.{◌≡◌, ◌++◌, IfOk, OnOk, map, string_bytes};
+ghost use Rattle.std.specs.Prelude.{◌≡◌, ◌++◌, false, IfOk, OnOk, is_none, map, string_bytes};
+ghost use Rattle.warg_protocol.specs.Logs.{cause_named_by, envelope_fault_of};
 ghost use Rattle.std.specs.Vec.{vec_items};
 ghost use Rattle.warg_verified.specs.Claims.{claim_text};
 ghost use Rattle.warg_protocol.specs.Logs.{envelope_of};
 ghost use Rattle.warg_files.specs.Answers.{Answers};
 ghost use Rattle.warg_tasks.specs.ClaimTexts.{IsClaimList, IsClaimsAnswer};
 ghost use Rattle.warg_files.specs.RecordLines.{record_lines};
-ghost use Rattle.warg_files.specs.Texts.{all_lines, line};
+ghost use Rattle.warg_files.specs.Texts.{all_lines, line, no};
 
 use std::alloc::{AllocError, Global};
 use warg_answers::judged::{file_strings, refusal_sentence};
 use warg_answers::kind::ToolLog;
+use warg_audit::refusal_reply;
 use warg_claims::{LogClaims, claims};
 use warg_files::answer::Answer;
 use warg_files::input::Input;
@@ -41,16 +43,43 @@ fn claim_lines(alloc: Global, claims: &[Claim]) -> Result<String, AllocError>
     Ok(text)
 }
 
-// Whether memory was refused.
-fn is_out_of_memory<L: Hosted>(cause: &RunCause<L::Error>) -> bool {
+// Whether memory was refused, so that the cause names nothing.
+fn is_out_of_memory<L: Hosted>(cause: &RunCause<L::Error>) -> bool
+    ensures { result ≡ is_none (cause_named_by (envelope_fault_of L.Record.fault_of)
+        L.offence_of cause.now) }
+{
     match cause {
-        RunCause::Parse(ParseEnvelopeError::OutOfMemory) => true,
-        RunCause::Parse(_) => false,
+        RunCause::Parse(error) => is_memory_fault::<L>(error),
         RunCause::Validation(error) => L::is_out_of_memory(error),
     }
 }
 
-// The claims before a record that can't come next whatever its signature, as an answer.
+// Whether memory was refused while an envelope was read.
+fn is_memory_fault<L: Hosted>(error: &ParseEnvelopeError) -> bool
+    ensures { result ≡ is_none (envelope_fault_of L.Record.fault_of error.now) }
+{
+    match error {
+        ParseEnvelopeError::OutOfMemory => true,
+        ParseEnvelopeError::ProtobufEnvelope(_)
+        | ParseEnvelopeError::Contents(_)
+        | ParseEnvelopeError::KeyID(_)
+        | ParseEnvelopeError::Signature(_) => false,
+    }
+}
+
+// The audit's line on a refused record, and the error's sentence.
+fn told_refusal<L: ToolLog>(
+    alloc: Global,
+    path: &str,
+    error: &RunError<L::Error>,
+) -> Result<String, AllocError> {
+    let reply = refusal_reply::<L>(alloc, error)?;
+    let sentence = refusal_sentence::<L>(alloc, path, error)?;
+    let line = reply.text();
+    format!(in alloc; "{line}{sentence}")
+}
+
+// The claims before a record that can't come next whatever its signature, as an answer; why, on standard error.
 fn cut_answer<L: ToolLog + Hosted>(
     alloc: Global,
     path: &str,
@@ -58,8 +87,9 @@ fn cut_answer<L: ToolLog + Hosted>(
     count: usize,
     cause: RunCause<L::Error>,
 ) -> Result<Answer, Stop>
-    ensures { Answers (λ printed. printed ≡ record { text = string_bytes text; status = 1 })
-        result }
+    ensures { Answers (λ printed. (printed ≡ no (string_bytes text)) ×
+        (is_none (cause_named_by (envelope_fault_of L.Record.fault_of) L.offence_of cause)
+        ≡ false)) result }
 {
     if is_out_of_memory::<L>(&cause) {
         return Err(Stop::OutOfMemory);
@@ -68,8 +98,8 @@ fn cut_answer<L: ToolLog + Hosted>(
         index: count,
         cause,
     };
-    let sentence = refusal_sentence::<L>(alloc, path, &error)?;
-    Ok(Answer::new(alloc, text, 1).with_sentence(sentence))
+    let told = told_refusal::<L>(alloc, path, &error)?;
+    Ok(Answer::new(alloc, text, 1).with_sentence(told))
 }
 
 // The claims of strings, up to the first record that can't come next whatever its signature.
