@@ -84,10 +84,7 @@ fn checkpoint_of_file(alloc: Global, input: &Input<'_>) -> Result<Checkpoint, St
 }
 
 /// The checkpoint in the file of this path.
-#[tactic(auto, using(
-    warg_files::proofs::UnusableLemmas::unanswered,
-    warg_files::proofs::UnusableLemmas::unread_end
-))]
+#[tactic(auto, using(warg_files::proofs::UnusableLemmas::unanswered, warg_files::proofs::UnusableLemmas::unread_end))]
 pub(crate) fn read_checkpoint<S: Store>(
     alloc: Global,
     path: &str,
@@ -150,10 +147,7 @@ fn log_proof_of_file(alloc: Global, input: &Input<'_>) -> Result<LogProof, Stop>
 }
 
 /// The proof on a log in the file of this path.
-#[tactic(auto, using(
-    warg_files::proofs::UnusableLemmas::unanswered,
-    warg_files::proofs::UnusableLemmas::unread_end
-))]
+#[tactic(auto, using(warg_files::proofs::UnusableLemmas::unanswered, warg_files::proofs::UnusableLemmas::unread_end))]
 pub(crate) fn read_log_proof<S: Store>(
     alloc: Global,
     path: &str,
@@ -192,10 +186,7 @@ fn map_proof_of_file(alloc: Global, input: &Input<'_>) -> Result<MapProof, Stop>
 }
 
 /// The proof on a map in the file of this path.
-#[tactic(auto, using(
-    warg_files::proofs::UnusableLemmas::unanswered,
-    warg_files::proofs::UnusableLemmas::unread_end
-))]
+#[tactic(auto, using(warg_files::proofs::UnusableLemmas::unanswered, warg_files::proofs::UnusableLemmas::unread_end))]
 pub(crate) fn read_map_proof<S: Store>(
     alloc: Global,
     path: &str,

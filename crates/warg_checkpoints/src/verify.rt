@@ -115,10 +115,7 @@ fn place_of(alloc: Global, word: &str) -> Result<u64, Stop>
     value_of::<u64>(alloc, word, "place of a leaf")
 }
 
-#[tactic(auto, using(
-    warg_files::proofs::UnusableLemmas::unusable_end,
-    warg_files::proofs::UnusableLemmas::unanswered_end
-))]
+#[tactic(auto, using(warg_files::proofs::UnusableLemmas::unusable_end, warg_files::proofs::UnusableLemmas::unanswered_end))]
 fn inclusion_answer<S: Store>(
     alloc: Global,
     checkpoint: &str,
@@ -138,10 +135,7 @@ fn inclusion_answer<S: Store>(
     Ok(inclusion_verdict(alloc, &checkpoint, &leaf, place, &proof)?)
 }
 
-#[tactic(auto, using(
-    warg_files::proofs::UnusableLemmas::unusable_end,
-    warg_files::proofs::UnusableLemmas::unanswered_end
-))]
+#[tactic(auto, using(warg_files::proofs::UnusableLemmas::unusable_end, warg_files::proofs::UnusableLemmas::unanswered_end))]
 fn consistency_answer<S: Store>(
     alloc: Global,
     old: &str,
@@ -159,10 +153,7 @@ fn consistency_answer<S: Store>(
     Ok(consistency_verdict(alloc, &old, &new, &proof)?)
 }
 
-#[tactic(auto, using(
-    warg_files::proofs::UnusableLemmas::unusable_end,
-    warg_files::proofs::UnusableLemmas::unanswered_end
-))]
+#[tactic(auto, using(warg_files::proofs::UnusableLemmas::unusable_end, warg_files::proofs::UnusableLemmas::unanswered_end))]
 fn head_answer<S: Store>(
     alloc: Global,
     checkpoint: &str,
@@ -180,10 +171,7 @@ fn head_answer<S: Store>(
     Ok(head_verdict(alloc, &checkpoint, &leaf, &proof)?)
 }
 
-#[tactic(auto, using(
-    warg_files::proofs::UnusableLemmas::unusable_end,
-    warg_files::proofs::UnusableLemmas::unanswered_end
-))]
+#[tactic(auto, using(warg_files::proofs::UnusableLemmas::unusable_end, warg_files::proofs::UnusableLemmas::unanswered_end))]
 fn absence_answer<S: Store>(
     alloc: Global,
     checkpoint: &str,

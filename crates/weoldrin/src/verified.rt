@@ -59,10 +59,7 @@ fn verified_of_file(alloc: Global, input: &Input<'_>) -> Result<Verified, Stop>
 }
 
 // The claims that the file of this path lists.
-#[tactic(auto, using(
-    warg_files::proofs::UnusableLemmas::unanswered,
-    warg_files::proofs::UnusableLemmas::unread_end
-))]
+#[tactic(auto, using(warg_files::proofs::UnusableLemmas::unanswered, warg_files::proofs::UnusableLemmas::unread_end))]
 fn read_verified<S: Store>(alloc: Global, path: &str, store: &mut S) -> Result<Verified, Stop>
     ensures ok { IfOk result (AreClaimsIn (S.files store.old) path.now) }
     ensures stopped { IfErr result (IfStopped IsUnanswered) }
