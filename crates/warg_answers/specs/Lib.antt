@@ -2,3 +2,5 @@ pub mod Texts
 pub mod Verdicts
 pub mod ShownWords
 pub mod Explanations
+pub mod IdWords
+pub mod Causes

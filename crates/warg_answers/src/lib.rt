@@ -1,6 +1,8 @@
 //! What the commands of `weoldrin` share: what a kind of log is asked, how a log is judged, and what is answered.
 #![tactic(auto)]
 
+pub mod cause;
+pub mod id_word;
 pub mod judged;
 pub mod kind;
 mod operator_log;
