@@ -1,18 +1,20 @@
 -- The first line of a text that ends with a newline stays so, whatever comes behind it.
-use Rattle.std.proofs.Common.{◌≡◌, ℕ, Bool, true, false, List, [], ◌∷◌, ◌++◌, codes, length, refl, sym, ap, ◌∙◌, append_assoc, Option}
+use Rattle.std.proofs.Common.{◌≡◌, ℕ, Bool, true, false, List, [], ◌∷◌, ◌++◌, codes, length, refl, sym, ap, ◌∙◌, append_assoc, Option, Some, None, Result}
 use Rattle.std.specs.Fmt.{decimal}
 use Rattle.std.specs.List.{onto_first, slice_split}
 use Rattle.std.specs.Prelude.{◌==◌, cond}
 use Rattle.std.specs.Str.Lines.{lines, lines_of_parts, strip_carriage_return}
 use Rattle.warg_protocol.specs.Records.{RecordId}
-use Rattle.warg_audit.specs.LogAnswers.{LogDisplay, IsAuditAnswer, accepted_line, accepted_start, head_text, view_of}
+use Rattle.warg_audit.specs.LogAnswers.{LogDisplay, accepted_line, accepted_start, head_text, log_shown, view_of}
 use Rattle.warg_audit.specs.Printouts.{Printout}
 use Rattle.warg_protocol.specs.Logs.{SignatureRelation}
 use Rattle.warg_files.specs.Answers.{Answers, IfStopped, answer_view}
-use Rattle.warg_answers.specs.Verdicts.{IsLawful}
+use Rattle.warg_answers.specs.Verdicts.{IsLawful, lawful}
+use Rattle.warg_files.specs.declared.answer.Answer.{Answer}
+use Rattle.warg_files.proofs.AnswerLemmas.{Answers-to}
 use Rattle.warg_files.specs.declared.stop.Stop.{Stop}
-use Rattle.warg_answers.proofs.JudgedLemmas.{IfStopped-weaker, lawful_audited, verdict_shown}
-use Rattle.warg_tasks.specs.Audits.{BeginsAs, first_of}
+use Rattle.warg_answers.proofs.JudgedLemmas.{IfStopped-weaker}
+use Rattle.warg_tasks.specs.Audits.{BeginsAs, IsAudited, first_of, line_or, met, not_met, records_alone, unmet}
 
 abbrev is_end : ℕ → Bool
 is_end b = b == 10
@@ -90,17 +92,31 @@ begins_as_itself P printed h = record { whole = printed; holds = h; line = refl;
 pub stopped_begins : (P : Printout → Type 0) (end : Stop) → IfStopped P end → IfStopped (BeginsAs P) end
 stopped_begins P end h = IfStopped-weaker P (BeginsAs P) (begins_as_itself P) end h
 
-module _ {Meaning Fault View Offence : Type 0} (log : LogDisplay Meaning Fault View Offence) (belongs : SignatureRelation) where
-  -- the first line alone of the verdict on a lawful log
-  pub lawful_begins : (ls strings : List (List ℕ)) → IsLawful log belongs ls strings → (view : View) → view ≡ view_of log strings
-      → (count : ℕ) → count ≡ length strings → (printed : Printout)
-      → printed ≡ record { text = accepted_start count (log.kind.head view); status = 0 }
-      → BeginsAs (IsAuditAnswer log belongs ls) printed
-  lawful_begins ls strings it view stands count counted printed is =
-      let whole = accepted_line count (log.kind.head view) (log.shown view) in
-      record {
-        whole = whole;
-        holds = lawful_audited log belongs ls strings it whole (verdict_shown log belongs strings view stands count counted (log.shown view) refl whole refl);
-        line = ap (λ (p : Printout). first_of (lines p.text)) is ∙ accepted_begins count (log.kind.head view) (log.shown view);
-        status = ap (λ (p : Printout). p.status) is;
-      }
+module _ {Meaning Fault View Offence : Type 0} (log : LogDisplay Meaning Fault View Offence) (belongs : SignatureRelation) (allows_empty : Bool) where
+  -- the first line alone of the answer to a lawful log of which no more than records is demanded
+  first_or_not : (ls strings : List (List ℕ)) → IsLawful log belongs ls strings → (found : Option (List ℕ))
+      → unmet (records_alone allows_empty) (length strings) (log.kind.head (view_of log strings)) ≡ found → (printed : Printout)
+      → printed ≡ line_or (record { text = accepted_start (length strings) (log.kind.head (view_of log strings)); status = 0 }) found
+      → BeginsAs (IsAudited log belongs (records_alone allows_empty) None ls) printed
+  first_or_not ls strings it None e printed is = record {
+    whole = log_shown log (length strings) (view_of log strings);
+    holds = lawful strings it (met e refl);
+    line = ap (λ (p : Printout). first_of (lines p.text)) is
+        ∙ accepted_begins (length strings) (log.kind.head (view_of log strings)) (log.shown (view_of log strings));
+    status = ap (λ (p : Printout). p.status) is;
+  }
+  first_or_not ls strings it (Some text) e printed is =
+      begins_as_itself (IsAudited log belongs (records_alone allows_empty) None ls) printed (lawful strings it (not_met text e is))
+
+  -- the same of a state that stands for the strings
+  pub first_answers : (ls strings : List (List ℕ)) → IsLawful log belongs ls strings → (view : View) → view ≡ view_of log strings
+      → (count : ℕ) → count ≡ length strings → (head : Option RecordId) → head ≡ log.kind.head view → (result : Result Answer Stop)
+      → Answers (λ printed. printed ≡ line_or (record { text = accepted_start count head; status = 0 }) (unmet (records_alone allows_empty) count head)) result
+      → Answers (BeginsAs (IsAudited log belongs (records_alone allows_empty) None ls)) result
+  first_answers ls strings it view stands count counted head is_head result h =
+      Answers-to (λ printed. printed ≡ line_or (record { text = accepted_start count head; status = 0 }) (unmet (records_alone allows_empty) count head))
+      (BeginsAs (IsAudited log belongs (records_alone allows_empty) None ls))
+      (λ printed is. first_or_not ls strings it (unmet (records_alone allows_empty) (length strings) (log.kind.head (view_of log strings))) refl printed
+      (is ∙ ap (λ (n : ℕ). line_or (record { text = accepted_start n head; status = 0 }) (unmet (records_alone allows_empty) n head)) counted
+      ∙ ap (λ (d : Option RecordId). line_or (record { text = accepted_start (length strings) d; status = 0 }) (unmet (records_alone allows_empty) (length strings) d))
+      (is_head ∙ ap log.kind.head stands))) result h

@@ -11,10 +11,10 @@ use Rattle.warg_audit.specs.Printouts.{Printout}
 use Rattle.warg_log_type.specs.declared.LogType.{LogType}
 use Rattle.warg_files.specs.Files.{Files, Lacks, Reads}
 use Rattle.warg_files.specs.Answers.{answer_view, Answers, IsSettled}
-use Rattle.warg_tasks.specs.ManyAudits.{audit_line, is_path, IsVerdictOn, audited, unread, IsWith, IsWithAll, IsWithNamed, IsWithWords}
+use Rattle.warg_tasks.specs.ManyAudits.{audit_line, is_path, IsPathLine, IsVerdictOn, audited, unread, IsWith, IsWithAll, IsWithNamed, IsWithWords}
 use Rattle.warg_files.specs.ReadFaults.{unread_text}
 use Rattle.warg_files.specs.RecordLines.{record_lines, texts}
-use Rattle.warg_tasks.specs.Audits.{BeginsAs, IsAuditOf, first_of}
+use Rattle.warg_tasks.specs.Audits.{BeginsAs, IsAuditOf, first_of, records_alone}
 use Rattle.warg_tasks.specs.JsonLines.{json_path_object}
 use Rattle.warg_tasks.proofs.FirstLineLemmas.{begins_as_itself}
 use Rattle.warg_files.specs.declared.answer.Answer.{Answer}
@@ -32,26 +32,47 @@ settled_answers P outcome (Ok answer) is h = settled_is P outcome answer is h
 settled_answers P outcome (Err error) is h = tt
 
 -- the first line of the verdict on the log in a file that is read
-pub verdict_read : (kind : LogType) (belongs : SignatureRelation) (files : Option Files) (path bytes : List ℕ) (outcome : Result Answer Stop)
+pub verdict_read : (P : List (List ℕ) → Printout → Type 0) (files : Option Files) (path bytes : List ℕ) (outcome : Result Answer Stop)
     (settled : Result Answer AllocError) → IsSettled outcome settled → Reads files path bytes
-    → Answers (BeginsAs (IsAuditOf kind belongs (record_lines bytes))) outcome
-    → IfOk settled (λ answer. BeginsAs (IsVerdictOn kind belongs files path) (answer_view answer))
-verdict_read kind belongs files path bytes outcome settled is held h =
-    settled_answers (BeginsAs (IsVerdictOn kind belongs files path)) outcome settled is
-    (Answers-to (BeginsAs (IsAuditOf kind belongs (record_lines bytes))) (BeginsAs (IsVerdictOn kind belongs files path))
+    → Answers (BeginsAs (P (record_lines bytes))) outcome
+    → IfOk settled (λ answer. BeginsAs (IsVerdictOn files P path) (answer_view answer))
+verdict_read P files path bytes outcome settled is held h =
+    settled_answers (BeginsAs (IsVerdictOn files P path)) outcome settled is
+    (Answers-to (BeginsAs (P (record_lines bytes))) (BeginsAs (IsVerdictOn files P path))
     (λ printed it. record { whole = it.whole; holds = audited bytes held it.holds; line = it.line; status = it.status }) outcome h)
+
+-- the same, whole
+pub whole_verdict_read : (P : List (List ℕ) → Printout → Type 0) (files : Option Files) (path bytes : List ℕ) (outcome : Result Answer Stop)
+    (settled : Result Answer AllocError) → IsSettled outcome settled → Reads files path bytes
+    → Answers (P (record_lines bytes)) outcome → IfOk settled (λ answer. IsVerdictOn files P path (answer_view answer))
+whole_verdict_read P files path bytes outcome settled is held h =
+    settled_answers (IsVerdictOn files P path) outcome settled is
+    (Answers-to (P (record_lines bytes)) (IsVerdictOn files P path) (λ printed it. audited bytes held it) outcome h)
 
 -- and why one can't be read
 printed_of_both : (verdict told : Printout) (text : List ℕ) (status : ℕ) → verdict ≡ record { text = text; status = status }
     → text ≡ told.text → status ≡ told.status → verdict ≡ told
 printed_of_both verdict told text status is e f = is ∙ rw (e, f) refl
 
-pub verdict_unread : (kind : LogType) (belongs : SignatureRelation) (files : Option Files) (path : List ℕ) (fault : ReadFault)
+pub whole_verdict_unread : (P : List (List ℕ) → Printout → Type 0) (files : Option Files) (path : List ℕ) (fault : ReadFault)
     (verdict : Printout) (text : List ℕ) (status : ℕ) → (fault ≡ Missing → Lacks files path)
     → verdict ≡ record { text = text; status = status } → text ≡ (unread_text fault).text → status ≡ (unread_text fault).status
-    → BeginsAs (IsVerdictOn kind belongs files path) verdict
-verdict_unread kind belongs files path fault verdict text status lacks is e f =
-    begins_as_itself (IsVerdictOn kind belongs files path) verdict (unread fault lacks (printed_of_both verdict (unread_text fault) text status is e f))
+    → IsVerdictOn files P path verdict
+whole_verdict_unread P files path fault verdict text status lacks is e f =
+    unread fault lacks (printed_of_both verdict (unread_text fault) text status is e f)
+
+pub verdict_unread : (P : List (List ℕ) → Printout → Type 0) (files : Option Files) (path : List ℕ) (fault : ReadFault)
+    (verdict : Printout) (text : List ℕ) (status : ℕ) → (fault ≡ Missing → Lacks files path)
+    → verdict ≡ record { text = text; status = status } → text ≡ (unread_text fault).text → status ≡ (unread_text fault).status
+    → BeginsAs (IsVerdictOn files P path) verdict
+verdict_unread P files path fault verdict text status lacks is e f =
+    begins_as_itself (IsVerdictOn files P path) verdict (whole_verdict_unread P files path fault verdict text status lacks is e f)
+
+-- the line of a log behind its path
+pub path_line_is : (json : Bool) (files : Option Files) (P : List (List ℕ) → Printout → Type 0) (path : List ℕ) (verdict printed : Printout)
+    → IsVerdictOn files P path verdict → printed ≡ record { text = audit_line json path verdict; status = verdict.status }
+    → IsPathLine json files P path printed
+path_line_is json files P path verdict printed own is = record { verdict = verdict; own = own; is = is }
 
 pub on_ok_to : {T E P Q : Type 0} → (P → Q) → (r : Result T E) → OnOk r P → OnOk r Q
 on_ok_to f (Ok x) h = f h
@@ -79,12 +100,12 @@ same_line false path short whole line status = ap (λ text. path ++ (codes ": " 
 same_line true path short whole line status =
     ap (λ text. json_path_object path text short.status) line ∙ ap (json_path_object path (first_of (lines whole.text))) status
 
-module _ (json : Bool) (kind : LogType) (belongs : SignatureRelation) (files : Option Files) where
+module _ (json : Bool) (kind : LogType) (belongs : SignatureRelation) (files : Option Files) (allows_empty : Bool) where
   -- one line more
   pub with_line : (path : List ℕ) (before short : Printout) (text line : List ℕ) (status : ℕ)
-      → BeginsAs (IsVerdictOn kind belongs files path) short → line ≡ audit_line json path short
+      → BeginsAs (IsVerdictOn files (IsAuditOf kind belongs (records_alone allows_empty) None) path) short → line ≡ audit_line json path short
       → text ≡ before.text ++ line → status ≡ max before.status short.status
-      → IsWith json kind belongs files path before (record { text = text; status = status })
+      → IsWith json kind belongs files allows_empty path before (record { text = text; status = status })
   with_line path before short text line status own said more greater = record {
     verdict = own.whole;
     own = own.holds;
@@ -94,46 +115,46 @@ module _ (json : Bool) (kind : LogType) (belongs : SignatureRelation) (files : O
 
   -- an empty line of a list names no log, and another names one
   pub no_line : (line : List ℕ) (before : Printout) → (length line == 0) ≡ true
-      → IsWithAll json kind belongs files (filter is_path (line ∷ [])) before before
+      → IsWithAll json kind belongs files allows_empty (filter is_path (line ∷ [])) before before
   no_line line before e = rw e refl
 
   pub one_line : (line : List ℕ) (before after : Printout) → (length line == 0) ≡ false
-      → IsWith json kind belongs files line before after
-      → IsWithAll json kind belongs files (filter is_path (line ∷ [])) before after
+      → IsWith json kind belongs files allows_empty line before after
+      → IsWithAll json kind belongs files allows_empty (filter is_path (line ∷ [])) before after
   one_line line before after e it = rw e (after, it, refl)
 
   -- lines behind lines
   pub all_more : (paths more : List (List ℕ)) (before middle after : Printout)
-      → IsWithAll json kind belongs files paths before middle → IsWithAll json kind belongs files more middle after
-      → IsWithAll json kind belongs files (paths ++ more) before after
-  all_more [] more before middle after e it = subst (λ (p : Printout). IsWithAll json kind belongs files more p after) e it
+      → IsWithAll json kind belongs files allows_empty paths before middle → IsWithAll json kind belongs files allows_empty more middle after
+      → IsWithAll json kind belongs files allows_empty (paths ++ more) before after
+  all_more [] more before middle after e it = subst (λ (p : Printout). IsWithAll json kind belongs files allows_empty more p after) e it
   all_more (path ∷ paths) more before middle after h it =
       (h.0, h.1, all_more paths more h.0 middle after h.2 it)
 
   -- the lines of a list so far, and one line more
   pub listed_more : (done : List (Bor (List ℕ))) (line : Bor (List ℕ)) (before middle after : Printout)
-      → IsWithAll json kind belongs files (filter is_path (map (λ it. it.now) done)) before middle
-      → IsWithAll json kind belongs files (filter is_path (line.now ∷ [])) middle after
-      → IsWithAll json kind belongs files (filter is_path (map (λ it. it.now) (done ++ line ∷ []))) before after
+      → IsWithAll json kind belongs files allows_empty (filter is_path (map (λ it. it.now) done)) before middle
+      → IsWithAll json kind belongs files allows_empty (filter is_path (line.now ∷ [])) middle after
+      → IsWithAll json kind belongs files allows_empty (filter is_path (map (λ it. it.now) (done ++ line ∷ []))) before after
   listed_more done line before middle after so_far it =
       let now : Bor (List ℕ) → List ℕ = λ it. it.now in
       let e : filter is_path (map now (done ++ line ∷ [])) ≡ filter is_path (map now done) ++ filter is_path (line.now ∷ []) =
       ap (filter is_path) (map-append now done (line ∷ [])) ∙ filter-append is_path (map now done) (line.now ∷ []) in
-      subst (λ (paths : List (List ℕ)). IsWithAll json kind belongs files paths before after) (sym e)
+      subst (λ (paths : List (List ℕ)). IsWithAll json kind belongs files allows_empty paths before after) (sym e)
       (all_more (filter is_path (map now done)) (filter is_path (line.now ∷ [])) before middle after so_far it)
 
   word_more : (words : List (List ℕ)) (word : List ℕ) (before middle after : Printout)
-      → IsWithWords json kind belongs files words before middle → IsWithNamed json kind belongs files word middle after
-      → IsWithWords json kind belongs files (words ++ word ∷ []) before after
+      → IsWithWords json kind belongs files allows_empty words before middle → IsWithNamed json kind belongs files allows_empty word middle after
+      → IsWithWords json kind belongs files allows_empty (words ++ word ∷ []) before after
   word_more [] word before middle after e it =
-      (after, subst (λ (p : Printout). IsWithNamed json kind belongs files word p after) e it, refl)
+      (after, subst (λ (p : Printout). IsWithNamed json kind belongs files allows_empty word p after) e it, refl)
   word_more (first ∷ words) word before middle after h it =
       (h.0, h.1, word_more words word h.0 middle after h.2 it)
 
   -- one word more
   pub words_more : (n : ℕ) (words : List (Bor (List ℕ))) (d : Bor (List ℕ)) (before middle after : Printout) → n < length words
-      → IsWithWords json kind belongs files (texts (take n words)) before middle
-      → IsWithNamed json kind belongs files (slice_index_or words n d).now middle after
-      → IsWithWords json kind belongs files (texts (take (n + 1) words)) before after
+      → IsWithWords json kind belongs files allows_empty (texts (take n words)) before middle
+      → IsWithNamed json kind belongs files allows_empty (slice_index_or words n d).now middle after
+      → IsWithWords json kind belongs files allows_empty (texts (take (n + 1) words)) before after
   words_more n words d before middle after low so_far it =
       rw (taken-suc n words d low) (word_more (texts (take n words)) (slice_index_or words n d).now before middle after so_far it)

@@ -1,13 +1,16 @@
-//! `id` and `audit`: what `warg_audit` answers.
+//! `id` and `audit`: what `warg_audit` answers, and what is demanded of a log beside.
 
-ghost use Rattle.std.specs.Prelude.{◌≡◌};
+ghost use Rattle.std.specs.Prelude.{◌≡◌, None, Some, IfOk, string_bytes};
+ghost use Rattle.std.specs.Option.{option_copied, option_map};
 ghost use Rattle.warg_audit.specs.Answers.{IsIdAnswer};
-ghost use Rattle.warg_audit.specs.LogAnswers.{IsAuditAnswer, accepted_line};
+ghost use Rattle.warg_audit.specs.LogAnswers.{accepted_line, accepted_start};
 ghost use Rattle.warg_files.specs.Answers.{Answers};
 ghost use Rattle.warg_files.specs.RecordLines.{record_lines};
 ghost use Rattle.warg_answers.specs.Verdicts.{ForDisplay};
-ghost use Rattle.warg_tasks.specs.Audits.{BeginsAs, IsAuditOf};
+ghost use Rattle.warg_tasks.specs.Audits.{BeginsAs, IsAudited, IsAuditOf, line_or, records_alone, unmet};
 
+use crate::beside::beside;
+use crate::demands::{records_alone, unmet};
 use std::alloc::Global;
 use warg_answers::judged::judged;
 use warg_answers::kind::ToolLog;
@@ -17,8 +20,10 @@ use warg_files::answer::Answer;
 use warg_files::input::Input;
 use warg_files::record_lines::record_text;
 use warg_files::stop::Stop;
+use warg_protocol::registry::RecordId;
 use warg_protocol::signing::Verifier;
 use warg_protocol::{operator, package};
+use warg_words::Demands;
 
 /// The id of the one record in a file.
 pub fn id_answer(alloc: Global, kind: LogType, input: Input<'_>) -> Result<Answer, Stop>
@@ -29,7 +34,7 @@ pub fn id_answer(alloc: Global, kind: LogType, input: Input<'_>) -> Result<Answe
     Ok(answer_of_reply(alloc, &reply)?)
 }
 
-// The verdict on a lawful log.
+/// The verdict on a lawful log.
 pub(crate) fn accepted<L: ToolLog>(alloc: Global, state: &L, count: usize) -> Result<Answer, Stop>
     ensures { Answers (λ printed. printed ≡ accepted_line count (L.kind.head (L.view state.now))
         (L.lines_of state.now)) result }
@@ -38,70 +43,141 @@ pub(crate) fn accepted<L: ToolLog>(alloc: Global, state: &L, count: usize) -> Re
     Ok(answer_of_reply(alloc, &reply)?)
 }
 
-fn verdict<L: ToolLog, V: Verifier>(
+// The first demand that a lawful log does not meet, or the verdict on it.
+fn demanded<L: ToolLog>(
+    alloc: Global,
+    demands: &Demands<'_>,
+    state: &L,
+    count: usize,
+) -> Result<Answer, Stop>
+    ensures { Answers (λ printed. printed ≡ line_or
+        (accepted_line count (L.kind.head (L.view state.now)) (L.lines_of state.now))
+        (unmet demands.now count (L.kind.head (L.view state.now)))) result }
+{
+    match unmet(alloc, demands, count, state.head_digest())? {
+        Some(text) => Ok(Answer::new(alloc, text, 1)),
+        None => accepted(alloc, state, count),
+    }
+}
+
+// The answer to a log of which this is demanded, and no older copy is there.
+fn alone<L: ToolLog, V: Verifier>(
     alloc: Global,
     verifier: &V,
+    demands: &Demands<'_>,
     input: Input<'_>,
 ) -> Result<Answer, Stop>
     ensures { ForDisplay L.view L.kind L.Record.read L.Record.fault_of L.offence_of
         L.name_of L.lines_of (λ log.
-        Answers (IsAuditAnswer log (V.belongs verifier.now) (record_lines input.entry.bytes.items))
-        result) }
+        Answers (IsAudited log (V.belongs verifier.now) demands.now None
+        (record_lines input.entry.bytes.items)) result) }
 {
     match judged::<L, V>(alloc, verifier, input) {
-        Ok((state, count)) => accepted(alloc, &state, count),
+        Ok((state, count)) => demanded(alloc, demands, &state, count),
         Err(stop) => Err(stop),
     }
 }
 
-// The first line of the verdict.
+// The answer to a log of which this is demanded, beside its older copy, if there is one.
+fn audited<L: ToolLog, V: Verifier>(
+    alloc: Global,
+    verifier: &V,
+    demands: &Demands<'_>,
+    older: Option<Input<'_>>,
+    input: Input<'_>,
+) -> Result<Answer, Stop>
+    ensures { ForDisplay L.view L.kind L.Record.read L.Record.fault_of L.offence_of
+        L.name_of L.lines_of (λ log.
+        Answers (IsAudited log (V.belongs verifier.now) demands.now
+        (option_map (λ it. record_lines it.bytes.items) older.entry)
+        (record_lines input.entry.bytes.items)) result) }
+{
+    match older {
+        Some(older) => beside::<L, V>(alloc, verifier, demands, older, input),
+        None => alone::<L, V>(alloc, verifier, demands, input),
+    }
+}
+
+// The first line of a verdict on a lawful log, which takes no time for those behind it.
+fn first_line(
+    alloc: Global,
+    allows_empty: bool,
+    head: Option<&RecordId>,
+    count: usize,
+) -> Result<Answer, Stop>
+    ensures { Answers (λ printed. printed ≡ line_or (record {
+      text = accepted_start count (option_copied head.entry);
+      status = 0;
+    }) (unmet (records_alone allows_empty) count (option_copied head.entry))) result }
+{
+    let demands = records_alone(allows_empty);
+    match unmet(alloc, &demands, count, head)? {
+        Some(text) => Ok(Answer::new(alloc, text, 1)),
+        None => {
+            let line = accepted_first_line(alloc, head, count)?;
+            Ok(Answer::new(alloc, line, 0))
+        }
+    }
+}
+
+// The first line of the answer to a log.
 fn first_of_verdict<L: ToolLog, V: Verifier>(
     alloc: Global,
     verifier: &V,
+    allows_empty: bool,
     input: Input<'_>,
 ) -> Result<Answer, Stop>
     ensures { ForDisplay L.view L.kind L.Record.read L.Record.fault_of L.offence_of
         L.name_of L.lines_of (λ log.
-        Answers (BeginsAs (IsAuditAnswer log (V.belongs verifier.now)
+        Answers (BeginsAs (IsAudited log (V.belongs verifier.now) (records_alone allows_empty) None
         (record_lines input.entry.bytes.items))) result) }
 {
     match judged::<L, V>(alloc, verifier, input) {
-        Ok((state, count)) => {
-            let line = accepted_first_line(alloc, state.head_digest(), count)?;
-            Ok(Answer::new(alloc, line, 0))
-        }
+        Ok((state, count)) => first_line(alloc, allows_empty, state.head_digest(), count),
         Err(stop) => Err(stop),
     }
 }
 
-/// The first line of the verdict on the log in a file, which takes no time for those behind it.
+/// The first line of the answer to the log in a file, which takes no time for those behind it.
 pub(crate) fn first_of_audit<V: Verifier>(
     alloc: Global,
     verifier: &V,
     kind: LogType,
+    allows_empty: bool,
     input: Input<'_>,
 ) -> Result<Answer, Stop>
     ensures { Answers (BeginsAs (IsAuditOf kind (V.belongs verifier.now)
-        (record_lines input.entry.bytes.items))) result }
+        (records_alone allows_empty) None (record_lines input.entry.bytes.items))) result }
 {
     match kind {
-        LogType::Package => first_of_verdict::<package::LogState, V>(alloc, verifier, input),
-        LogType::Operator => first_of_verdict::<operator::LogState, V>(alloc, verifier, input),
+        LogType::Package => {
+            first_of_verdict::<package::LogState, V>(alloc, verifier, allows_empty, input)
+        }
+        LogType::Operator => {
+            first_of_verdict::<operator::LogState, V>(alloc, verifier, allows_empty, input)
+        }
     }
 }
 
-/// The verdict on the log in a file.
-pub fn audit_answer<V: Verifier>(
+/// The answer to the log in a file, of which this is demanded, beside its older copy, if there is one.
+pub(crate) fn audit_answer<V: Verifier>(
     alloc: Global,
     verifier: &V,
     kind: LogType,
+    demands: &Demands<'_>,
+    older: Option<Input<'_>>,
     input: Input<'_>,
 ) -> Result<Answer, Stop>
-    ensures { Answers (IsAuditOf kind (V.belongs verifier.now)
+    ensures { Answers (IsAuditOf kind (V.belongs verifier.now) demands.now
+        (option_map (λ it. record_lines it.bytes.items) older.entry)
         (record_lines input.entry.bytes.items)) result }
 {
     match kind {
-        LogType::Package => verdict::<package::LogState, V>(alloc, verifier, input),
-        LogType::Operator => verdict::<operator::LogState, V>(alloc, verifier, input),
+        LogType::Package => {
+            audited::<package::LogState, V>(alloc, verifier, demands, older, input)
+        }
+        LogType::Operator => {
+            audited::<operator::LogState, V>(alloc, verifier, demands, older, input)
+        }
     }
 }

@@ -4,14 +4,18 @@
 
 mod append;
 mod audit;
+mod audit_files;
+mod beside;
 mod claim_lines;
+mod demands;
 mod json;
 mod latest;
 mod making;
 mod many_audits;
 mod task;
 
-pub use audit::{audit_answer, id_answer};
+pub use audit::id_answer;
+pub use audit_files::Audit;
 pub use json::json_answer;
 pub use latest::{latest_answer, requirement_of};
 pub use many_audits::audits_answer;

@@ -1,10 +1,11 @@
 //! `audit` of many logs in one call: a line each.
 
-ghost use Rattle.std.specs.Prelude.{◌≡◌, [], ◌∷◌, filter, IfOk, IfErr, OnOk, string_bytes};
+ghost use Rattle.std.specs.Prelude.{◌≡◌, ◌++◌, [], ◌∷◌, None, filter, max, IfOk, IfErr, OnOk, string_bytes};
+ghost use Rattle.std.specs.List.{list_any};
 ghost use Rattle.std.specs.Str.Lines.{lines};
 ghost use Rattle.warg_files.specs.Answers.{answer_view, Answers, IfStopped, IsUnanswered};
-ghost use Rattle.warg_tasks.specs.Audits.{BeginsAs, first_of};
-ghost use Rattle.warg_tasks.specs.ManyAudits.{audit_line, is_path, IsManyAnswer, IsVerdictOn, IsWith, IsWithAll, IsWithListed, IsWithNamed};
+ghost use Rattle.warg_tasks.specs.Audits.{BeginsAs, IsAuditOf, first_of, records_alone};
+ghost use Rattle.warg_tasks.specs.ManyAudits.{audit_line, empty_list_line, is_path, IsManyAnswer, IsVerdictOn, IsWith, IsWithAll, IsWithListed, IsWithNamed, IsWithPaths};
 ghost use Rattle.warg_files.specs.RecordLines.{texts};
 
 use crate::audit::first_of_audit;
@@ -22,15 +23,20 @@ fn answer_of_one<V: Verifier, S: Store>(
     alloc: Global,
     verifier: &V,
     kind: LogType,
+    allows_empty: bool,
     store: &mut S,
     path: &str,
 ) -> Result<Answer, AllocError>
-    ensures verdict { IfOk result (λ answer. BeginsAs (IsVerdictOn kind (V.belongs verifier.now)
-        (S.files store.old) path.now) (answer_view answer)) }
+    ensures verdict { IfOk result (λ answer. BeginsAs (IsVerdictOn (S.files store.old)
+        (IsAuditOf kind (V.belongs verifier.now) (records_alone allows_empty) None) path.now)
+        (answer_view answer)) }
     ensures kept { S.files store.new ≡ S.files store.old }
 {
     match store.read(path) {
-        Ok(bytes) => settled(first_of_audit(alloc, verifier, kind, Input { path, bytes })),
+        Ok(bytes) => {
+            let input = Input { path, bytes };
+            settled(first_of_audit(alloc, verifier, kind, allows_empty, input))
+        }
         Err(ReadFault::OutOfMemory) => Err(AllocError),
         Err(fault) => Answer::fixed(alloc, fault.text(), fault.status()),
     }
@@ -43,8 +49,13 @@ fn first_line(text: &str) -> &str
     text.lines().next().unwrap_or("")
 }
 
-// The line of one log of many: its path, and the first line of its verdict or why it can't be read.
-fn one_line(alloc: Global, path: &str, answer: &Answer, is_json: bool) -> Result<String, AllocError>
+/// The line of one log: its path, and the first line of its verdict or why it can't be read.
+pub(crate) fn one_line(
+    alloc: Global,
+    path: &str,
+    answer: &Answer,
+    is_json: bool,
+) -> Result<String, AllocError>
     ensures { IfOk result (λ text. string_bytes text ≡
         audit_line is_json path.now (answer_view answer.now)) }
 {
@@ -56,6 +67,13 @@ fn one_line(alloc: Global, path: &str, answer: &Answer, is_json: bool) -> Result
     }
 }
 
+// Whether a line of the list names a log.
+fn has_path(paths: &str) -> bool
+    ensures { result ≡ list_any is_path (lines paths.now) }
+{
+    paths.lines().any(|line| !line.is_empty())
+}
+
 /// The verdicts on many logs: of which kind they are, and how each is printed.
 #[derive(Clone, Copy, Debug)]
 struct Verdicts<'v, V> {
@@ -63,17 +81,25 @@ struct Verdicts<'v, V> {
     verifier: &'v V,
     kind: LogType,
     is_json: bool,
+    allows_empty: bool,
 }
 
 impl<'v, V: Verifier> Verdicts<'v, V> {
     // Adds the line of a log.
     fn add<S: Store>(&self, store: &mut S, path: &str, all: &mut Answer) -> Result<(), AllocError>
         ensures added { OnOk result (IsWith self.now.is_json self.now.kind
-            (V.belongs self.now.verifier.now) (S.files store.old) path.now
+            (V.belongs self.now.verifier.now) (S.files store.old) self.now.allows_empty path.now
             (answer_view all.old) (answer_view all.new)) }
         ensures kept { S.files store.new ≡ S.files store.old }
     {
-        let answer = answer_of_one(self.alloc, self.verifier, self.kind, store, path)?;
+        let answer = answer_of_one(
+            self.alloc,
+            self.verifier,
+            self.kind,
+            self.allows_empty,
+            store,
+            path,
+        )?;
         let line = one_line(self.alloc, path, &answer, self.is_json)?;
         all.text.push_str(line.as_str())?;
         all.status = all.status.max(answer.status);
@@ -88,7 +114,8 @@ impl<'v, V: Verifier> Verdicts<'v, V> {
         all: &mut Answer,
     ) -> Result<(), AllocError>
         ensures added { OnOk result (IsWithAll self.now.is_json self.now.kind
-            (V.belongs self.now.verifier.now) (S.files store.old) (filter is_path (line.now ∷ []))
+            (V.belongs self.now.verifier.now) (S.files store.old) self.now.allows_empty
+            (filter is_path (line.now ∷ []))
             (answer_view all.old) (answer_view all.new)) }
         ensures kept { S.files store.new ≡ S.files store.old }
     {
@@ -107,7 +134,8 @@ impl<'v, V: Verifier> Verdicts<'v, V> {
         all: &mut Answer,
     ) -> Result<(), AllocError>
         ensures added { OnOk result (IsWithAll self.now.is_json self.now.kind
-            (V.belongs self.now.verifier.now) (S.files store.old) (filter is_path (lines paths.now))
+            (V.belongs self.now.verifier.now) (S.files store.old) self.now.allows_empty
+            (filter is_path (lines paths.now))
             (answer_view all.old) (answer_view all.new)) }
         ensures kept { S.files store.new ≡ S.files store.old }
     {
@@ -117,11 +145,45 @@ impl<'v, V: Verifier> Verdicts<'v, V> {
         Ok(())
     }
 
+    // Adds the line of a list that names no log.
+    fn add_none(&self, list: &str, all: &mut Answer) -> Result<(), AllocError>
+        ensures { OnOk result (answer_view all.new ≡ record {
+          text = string_bytes all.old.text ++ empty_list_line self.now.is_json list.now;
+          status = max all.old.status 1;
+        }) }
+    {
+        if self.is_json {
+            let line = path_object(self.alloc, list, "empty", 1)?;
+            all.text.push_str(line.as_str())?;
+        } else {
+            all.text.push_str("empty\n")?;
+        }
+        all.status = all.status.max(1);
+        Ok(())
+    }
+
+    // Adds the lines of the logs of these paths, or that there is none.
+    fn add_paths<S: Store>(
+        &self,
+        store: &mut S,
+        list: &str,
+        paths: &str,
+        all: &mut Answer,
+    ) -> Result<(), AllocError>
+        ensures added { OnOk result (IsWithPaths self.now.is_json self.now.kind
+            (V.belongs self.now.verifier.now) (S.files store.old) self.now.allows_empty list.now
+            (lines paths.now) (answer_view all.old) (answer_view all.new)) }
+        ensures kept { S.files store.new ≡ S.files store.old }
+    {
+        if has_path(paths) || self.allows_empty {
+            self.add_all(store, paths, all)
+        } else {
+            self.add_none(list, all)
+        }
+    }
+
     // Adds the lines of the logs whose paths a file lists, by its bytes.
-    #[tactic(auto, using(
-        warg_files::proofs::UnusableLemmas::unanswered,
-        warg_files::proofs::UnusableLemmas::unread_end
-    ))]
+    #[tactic(auto, using(warg_files::proofs::UnusableLemmas::unanswered, warg_files::proofs::UnusableLemmas::unread_end))]
     fn add_bytes<S: Store>(
         &self,
         store: &mut S,
@@ -129,26 +191,23 @@ impl<'v, V: Verifier> Verdicts<'v, V> {
         bytes: &[u8],
         all: &mut Answer,
     ) -> Result<(), Stop>
-        ensures added { OnOk result (IsWithAll self.now.is_json self.now.kind
-            (V.belongs self.now.verifier.now) (S.files store.old) (filter is_path (lines bytes.now))
-            (answer_view all.old) (answer_view all.new)) }
+        ensures added { OnOk result (IsWithPaths self.now.is_json self.now.kind
+            (V.belongs self.now.verifier.now) (S.files store.old) self.now.allows_empty list.now
+            (lines bytes.now) (answer_view all.old) (answer_view all.new)) }
         ensures stopped { IfErr result (IfStopped IsUnanswered) }
         ensures kept { S.files store.new ≡ S.files store.old }
     {
         match str::from_utf8(bytes) {
-            Ok(paths) => Ok(self.add_all(store, paths, all)?),
+            Ok(paths) => Ok(self.add_paths(store, list, paths, all)?),
             Err(_) => Err(file_stop(self.alloc, list, "its paths are no UTF-8")),
         }
     }
 
     // Adds the lines of the logs whose paths a file lists.
-    #[tactic(auto, using(
-        warg_files::proofs::UnusableLemmas::unanswered,
-        warg_files::proofs::UnusableLemmas::unread_end
-    ))]
+    #[tactic(auto, using(warg_files::proofs::UnusableLemmas::unanswered, warg_files::proofs::UnusableLemmas::unread_end))]
     fn add_listed<S: Store>(&self, store: &mut S, list: &str, all: &mut Answer) -> Result<(), Stop>
         ensures added { OnOk result (IsWithListed self.now.is_json self.now.kind
-            (V.belongs self.now.verifier.now) (S.files store.old) list.now
+            (V.belongs self.now.verifier.now) (S.files store.old) self.now.allows_empty list.now
             (answer_view all.old) (answer_view all.new)) }
         ensures stopped { IfErr result (IfStopped IsUnanswered) }
         ensures kept { S.files store.new ≡ S.files store.old }
@@ -162,7 +221,7 @@ impl<'v, V: Verifier> Verdicts<'v, V> {
     // Adds the lines of the logs that a word names.
     fn add_named<S: Store>(&self, store: &mut S, word: &str, all: &mut Answer) -> Result<(), Stop>
         ensures added { OnOk result (IsWithNamed self.now.is_json self.now.kind
-            (V.belongs self.now.verifier.now) (S.files store.old) word.now
+            (V.belongs self.now.verifier.now) (S.files store.old) self.now.allows_empty word.now
             (answer_view all.old) (answer_view all.new)) }
         ensures stopped { IfErr result (IfStopped IsUnanswered) }
         ensures kept { S.files store.new ≡ S.files store.old }
@@ -181,10 +240,11 @@ pub fn audits_answer<V: Verifier, S: Store>(
     kind: LogType,
     store: &mut S,
     logs: &[&str],
+    allows_empty: bool,
     is_json: bool,
 ) -> Result<Answer, Stop>
     ensures answered { Answers (IsManyAnswer is_json kind (V.belongs verifier.now)
-        (S.files store.old) (texts logs.now)) result }
+        (S.files store.old) allows_empty (texts logs.now)) result }
     ensures kept { S.files store.new ≡ S.files store.old }
 {
     let verdicts = Verdicts {
@@ -192,6 +252,7 @@ pub fn audits_answer<V: Verifier, S: Store>(
         verifier,
         kind,
         is_json,
+        allows_empty,
     };
     let mut all = Answer::new(alloc, String::new(alloc), 0);
     for log in logs {

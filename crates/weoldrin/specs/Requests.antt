@@ -20,7 +20,7 @@ use Rattle.warg_verified.specs.Claims.{ClaimData, is_claimed}
 use Rattle.warg_verified.specs.Texts.{IsReadFrom}
 use Rattle.warg_files.specs.Files.{Files, Reads}
 use Rattle.warg_tasks.specs.JsonLines.{IsInJson}
-use Rattle.warg_tasks.specs.ManyAudits.{IsManyAnswer}
+use Rattle.warg_tasks.specs.ManyAudits.{IsManyAnswer, IsOneAnswer}
 use Rattle.warg_checkpoints.specs.ProofTexts.{IsProofAnswer}
 use Rattle.warg_checkpoints.specs.Proofs.{IsStatementVerdict}
 use Rattle.warg_tasks.specs.Latest.{IsLatestOf}
@@ -32,7 +32,6 @@ use Rattle.warg_show.specs.ShownLogs.{IsShown}
 use Rattle.warg_tasks.specs.Tasks.{DoneLeaves, IsDoneAnswer}
 use Rattle.warg_files.specs.Unusable.{IfUsable, IsOfLines, IsOfWord}
 use Rattle.warg_files.specs.Answers.{IsUnanswered}
-use Rattle.warg_tasks.specs.Audits.{IsAuditOf}
 use Rattle.warg_answers.specs.Verdicts.{IsPrintedOf}
 use Rattle.weoldrin.specs.Schemes.{asked_belongs}
 use Rattle.warg_words.specs.declared.request.Invocation.{Invocation}
@@ -80,11 +79,11 @@ IsLatestAnswer belongs files requirement path printed =
     IsOfWord (λ (wanted : List Comparator). req_of requirement ≡ Ok (map comparator_view wanted))
     (λ wanted. IsOfLines files path (IsPrintedOf package_log belongs (IsLatestOf wanted))) printed
 
--- what is answered to a request, by what files hold before and after; verdicts on many logs may be in JSON
+-- what is answered to a request, by what files hold before and after; verdicts behind paths may be in JSON
 abbrev pub IsRequestAnswer : Bool → SignatureRelation → Option Files → Option Files → Request → Printout → Type 0
 IsRequestAnswer json belongs old new (request.Id kind path) printed = IsOfLines old path.now (IsIdAnswer kind) printed
-IsRequestAnswer json belongs old new (request.Audit kind path demands shows_path) printed = IsOfLines old path.now (IsAuditOf kind belongs) printed
-IsRequestAnswer json belongs old new (request.Audits kind paths allows_empty) printed = IsManyAnswer json kind belongs old (texts paths.items) printed
+IsRequestAnswer json belongs old new (request.Audit kind path demands shows_path) printed = IsOneAnswer json kind belongs old demands shows_path path.now printed
+IsRequestAnswer json belongs old new (request.Audits kind paths allows_empty) printed = IsManyAnswer json kind belongs old allows_empty (texts paths.items) printed
 IsRequestAnswer json belongs old new (request.Show kind path full names) printed = IsShownAnswer kind belongs old path.now printed
 IsRequestAnswer json belongs old new (request.Latest requirement path) printed = IsLatestAnswer belongs old requirement.now path.now printed
 IsRequestAnswer json belongs old new (request.Prove wanted path) printed = IsProofAnswer old wanted path.now printed
@@ -104,10 +103,10 @@ RequestLeaves belongs old new (request.Verify statement) = new ≡ old
 RequestLeaves belongs old new (request.Ask kind question) = new ≡ old
 RequestLeaves belongs old new (request.Do kind task) = DoneLeaves kind belongs old new task
 
--- whether the verdicts on many logs are asked for
+-- whether each verdict is asked for behind its path
 abbrev pub is_many : Request → Bool
 is_many (request.Id kind path) = false
-is_many (request.Audit kind path demands shows_path) = false
+is_many (request.Audit kind path demands shows_path) = shows_path
 is_many (request.Audits kind paths allows_empty) = true
 is_many (request.Show kind path full names) = false
 is_many (request.Latest requirement path) = false
@@ -125,7 +124,7 @@ IsGiven true command plain printed = IsInJson command plain printed
 abbrev pub IsGivenAs : Bool → List ℕ → (Printout → Type 0) → Printout → Type 0
 IsGivenAs json command P printed = (plain : Printout) × P plain × IsGiven json command plain printed
 
--- what is printed to a request of which P holds; verdicts on many logs have an object for each log already
+-- what is printed to a request of which P holds; verdicts behind paths have an object for each log already
 abbrev pub IsGivenTo : Bool → Bool → List ℕ → (Printout → Type 0) → Printout → Type 0
 IsGivenTo false json command P printed = IsGivenAs json command P printed
 IsGivenTo true json command P printed = P printed

@@ -8,7 +8,6 @@ ghost use Rattle.warg_tasks.specs.Latest.{IsLatestOf};
 ghost use Rattle.weoldrin.specs.Requests.{is_many, IsAskedAnswer, IsGiven, IsLatestAnswer, IsRequestAnswer, IsResponse, IsShownAnswer, RequestLeaves};
 ghost use Rattle.warg_tasks.specs.Tasks.{DoneLeaves, IsDoneAnswer};
 ghost use Rattle.warg_files.specs.Unusable.{IsOfLines};
-ghost use Rattle.warg_tasks.specs.Audits.{IsAuditOf};
 ghost use Rattle.warg_answers.specs.Verdicts.{IsPrintedOf};
 
 use std::alloc::{AllocError, Global};
@@ -22,7 +21,7 @@ use warg_protocol::{VersionReq, operator, package};
 use warg_questions::question_answer;
 use warg_show::show_of_file;
 use warg_tasks::{
-    audit_answer, audits_answer, id_answer, json_answer, latest_answer, requirement_of, task_answer,
+    Audit, audits_answer, id_answer, json_answer, latest_answer, requirement_of, task_answer,
 };
 use warg_words::{Invocation, Question, Request, Task};
 
@@ -138,25 +137,7 @@ fn id_of_file<S: Store>(
     }
 }
 
-// The verdict on the log in a file.
-fn audit_of_file<V: Verifier, S: Store>(
-    alloc: Global,
-    verifier: &V,
-    kind: LogType,
-    log: &str,
-    store: &mut S,
-) -> Result<Answer, Stop>
-    ensures answered { Answers (IsOfLines (S.files store.old) log.now
-        (IsAuditOf kind (V.belongs verifier.now))) result }
-    ensures kept { S.files store.new ≡ S.files store.old }
-{
-    match read_input(alloc, store, log) {
-        Ok(input) => audit_answer(alloc, verifier, kind, input),
-        Err(stop) => Err(stop),
-    }
-}
-
-// What a request is answered; verdicts on many logs in JSON, if that is wanted.
+// What a request is answered; verdicts behind paths in JSON, if that is wanted.
 fn request_answer<V: Verifier, S: Store>(
     alloc: Global,
     verifier: &V,
@@ -171,10 +152,35 @@ fn request_answer<V: Verifier, S: Store>(
 {
     match request {
         Request::Id { kind, log } => id_of_file(alloc, *kind, log, store),
-        Request::Audit { kind, log, .. } => audit_of_file(alloc, verifier, *kind, log, store),
-        Request::Audits { kind, logs, .. } => {
-            audits_answer(alloc, verifier, *kind, store, logs.as_slice(), is_json)
+        Request::Audit {
+            kind,
+            log,
+            demands,
+            shows_path,
+        } => {
+            let audit = Audit {
+                alloc,
+                verifier,
+                kind: *kind,
+                demands: *demands,
+                shows_path: *shows_path,
+                is_json,
+            };
+            audit.of_file(log, store)
         }
+        Request::Audits {
+            kind,
+            logs,
+            allows_empty,
+        } => audits_answer(
+            alloc,
+            verifier,
+            *kind,
+            store,
+            logs.as_slice(),
+            *allows_empty,
+            is_json,
+        ),
         Request::Show { kind, log, .. } => shown_answer(alloc, verifier, *kind, log, store),
         Request::Latest { requirement, log } => {
             latest_of_file(alloc, verifier, requirement, log, store)
@@ -203,14 +209,14 @@ pub(crate) fn given(
     }
 }
 
-// Whether verdicts on many logs are asked for: they have an object for each log already.
+// Whether verdicts behind paths are asked for: they have an object for each log already.
 fn is_many(request: &Request<'_>) -> bool
     ensures { result ≡ is_many request.now }
 {
     match request {
         Request::Audits { .. } => true,
+        Request::Audit { shows_path, .. } => *shows_path,
         Request::Id { .. }
-        | Request::Audit { .. }
         | Request::Show { .. }
         | Request::Latest { .. }
         | Request::Prove { .. }

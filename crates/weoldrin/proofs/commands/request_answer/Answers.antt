@@ -7,10 +7,10 @@ pub returns-in-Id-clause-files : goal.returns-in-Id-clause-files
 returns-in-Id-clause-files g c = rw c.in-Id.is c.id_of_file.ensures.kept
 
 pub returns-in-Audit-clause-answered : goal.returns-in-Audit-clause-answered
-returns-in-Audit-clause-answered g c = rw c.in-Audit.is c.audit_of_file.ensures.answered
+returns-in-Audit-clause-answered g c = rw c.in-Audit.is c.of_file.ensures.answered
 
 pub returns-in-Audit-clause-files : goal.returns-in-Audit-clause-files
-returns-in-Audit-clause-files g c = rw c.in-Audit.is c.audit_of_file.ensures.kept
+returns-in-Audit-clause-files g c = rw c.in-Audit.is c.of_file.ensures.kept
 
 pub returns-in-Audits-clause-answered : goal.returns-in-Audits-clause-answered
 returns-in-Audits-clause-answered g c = rw c.in-Audits.is (rw c.as_slice.ensures.value at c.audits_answer.ensures.answered)
