@@ -1,0 +1,4 @@
+pub mod CharacterLemmas
+pub mod ShownLemmas
+pub mod BackLemmas
+pub mod LineLemmas

@@ -1,0 +1,8 @@
+use Rattle.std.proofs.Common.{◌≡◌, sym, ap, ◌∙◌, rules}
+use Rattle.std.proofs.Output.{has_written_of_eq}
+use Rattle.warg_printable.proofs.ShownLemmas.{shown-backslash, shown-number, shown-plain}
+use Rattle.warg_printable.proofs.shown.write_shown.Goals as goal
+
+pub returns-then-is_numbered : goal.returns-then-is_numbered
+returns-then-is_numbered g c = λ plain ok.
+    has_written_of_eq _ _ _ _ _ (shown-number c.args.spaces c.args.c (sym c.is_numbered.ensures ∙ c.if-is_numbered.true)) (c.write_number.ensures plain ok)

@@ -1,0 +1,4 @@
+pub mod Characters
+pub mod Printable
+pub mod Back
+pub mod Lines

@@ -1,0 +1,29 @@
+//! Laws of printed texts. They have no effect.
+
+ghost use Rattle.std.specs.Prelude.{◌≡◌, ◌≢◌, ◌≤◌, ◌<◌, ℕ, Bool, List, Some, length, slice_index};
+ghost use Rattle.std.specs.Str.{IsUtf8, NonePass, chars};
+ghost use Rattle.warg_printable.specs.Back.{unprintable};
+ghost use Rattle.warg_printable.specs.Printable.{escaped, is_escaped, IsPrintable};
+
+/// No control character, no separator of lines and no mark of direction stands in what is printed.
+pub fn is_printable()
+    ensures { (spaces : Bool) (text : List ℕ) → IsPrintable (escaped spaces text) }
+{}
+
+/// So no byte of it is below a space or DEL.
+pub fn has_no_control_byte()
+    ensures { (text : List ℕ) → IsPrintable text → (k : ℕ) → k < length text →
+        slice_index text k < 128 → (32 ≤ slice_index text k) × (slice_index text k ≢ 127) }
+{}
+
+/// What is printed reads back, so two texts that are printed alike are one.
+pub fn reads_back()
+    ensures { (spaces : Bool) (text : List ℕ) → IsUtf8 text →
+        unprintable (escaped spaces text) ≡ Some text }
+{}
+
+/// A text with no such character and no backslash is printed as it is.
+pub fn stays()
+    ensures { (spaces : Bool) (text : List ℕ) → IsUtf8 text →
+        NonePass (is_escaped spaces) (chars text) → escaped spaces text ≡ text }
+{}
