@@ -7,6 +7,8 @@ use Rattle.jiff.specs.Words.{civil_nanos, iso_datetime_text}
 use Rattle.jiff.specs.Instant.{IsTimestampParts}
 use Rattle.jiff_core.specs.declared.civil.datetime.DateTime.{DateTime}
 use Rattle.warg_crypto.specs.NamedBytes.{named_bytes_text}
+use Rattle.warg_printable.specs.Printable.{printable}
+use Rattle.warg_files.specs.Texts.{line}
 use Rattle.warg_audit.specs.LogTypes.{operator_log, package_log}
 use Rattle.warg_protocol.specs.Logs.{AreKeysOf, EnvelopeData, KeyData}
 use Rattle.warg_protocol.specs.Operator.{Defined, Imported, Namespace, OperatorOwnEntry, names}
@@ -57,13 +59,13 @@ abbrev pub comma_list : List (List ℕ) → List ℕ
 comma_list [] = []
 comma_list (text ∷ more) = codes " " ++ (text ++ after_commas more)
 
--- the line of a record by its parts: a time, the signer's id, and the entries
+-- what is said of a record by its parts: a time, the signer's id, and the entries
 abbrev pub record_line : List ℕ → List ℕ → List ℕ → List ℕ
-record_line time key_id entries = time ++ (codes " " ++ (key_id ++ (codes ":" ++ (entries ++ codes "\n"))))
+record_line time key_id entries = time ++ (codes " " ++ (key_id ++ (codes ":" ++ entries)))
 
--- the line of a record of which this is shown, and which this key is said to have signed
+-- the text is said of a record of which this is shown, and which this key is said to have signed
 abbrev pub IsRecordLine : List ℕ → RecordWords → List ℕ → Type 0
-IsRecordLine key_id words line = (time : List ℕ) × IsTimeText words.time time × (line ≡ record_line time key_id (comma_list words.entries))
+IsRecordLine key_id words text = (time : List ℕ) × IsTimeText words.time time × (text ≡ record_line time key_id (comma_list words.entries))
 
 -- an entry that both kinds have
 abbrev pub shared_words : {P : Type 0} → (P → List ℕ) → SharedEntry P → List ℕ
@@ -102,7 +104,7 @@ says_operator_words content words = SaysWords operator_log.read (record_words op
 -- the line of a key: its id, the key, and what it holds
 abbrev pub key_line : {P : Type 0} → (P → List ℕ) → KeyData P → List ℕ
 key_line text_of key =
-    codes "key " ++ (key.id ++ (codes " " ++ (named_bytes_text key.key ++ (after_spaces (map text_of (unwrap_or key.permissions [])) ++ codes "\n"))))
+    line (printable (codes "key " ++ (key.id ++ (codes " " ++ (named_bytes_text key.key ++ after_spaces (map text_of (unwrap_or key.permissions [])))))))
 
 -- the lines of keys, one after another
 abbrev pub key_lines : {P : Type 0} → (P → List ℕ) → List (KeyData P) → List ℕ
@@ -111,25 +113,25 @@ key_lines text_of (key ∷ more) = key_line text_of key ++ key_lines text_of mor
 
 -- the line of a release that was yanked, by who did it and when
 abbrev pub yanked_line : List ℕ → List ℕ → List ℕ → List ℕ
-yanked_line version by time = codes "release " ++ (version ++ (codes " yanked by " ++ (by ++ (codes " at " ++ (time ++ codes "\n")))))
+yanked_line version by time = line (printable (codes "release " ++ (version ++ (codes " yanked by " ++ (by ++ (codes " at " ++ time))))))
 
 -- the line of a release that stands, or was yanked
 abbrev pub IsStandingLine : List ℕ → ReleaseState → List ℕ → Type 0
-IsStandingLine version (Released content) line = line ≡ codes "release " ++ (version ++ (codes " " ++ (hash_text content ++ codes "\n")))
-IsStandingLine version (Yanked by timestamp) line = (time : List ℕ) × IsTimeText timestamp time × (line ≡ yanked_line version by time)
+IsStandingLine version (Released content) text = text ≡ line (printable (codes "release " ++ (version ++ (codes " " ++ hash_text content))))
+IsStandingLine version (Yanked by timestamp) text = (time : List ℕ) × IsTimeText timestamp time × (text ≡ yanked_line version by time)
 
 abbrev pub IsReleaseLine : ReleaseView → List ℕ → Type 0
-IsReleaseLine release line = IsStandingLine (parts_text release.version) release.state line
+IsReleaseLine release text = IsStandingLine (parts_text release.version) release.state text
 
 -- the lines of releases, one after another
 abbrev pub AreReleaseLines : List ReleaseView → List ℕ → Type 0
 AreReleaseLines [] text = text ≡ []
-AreReleaseLines (release ∷ more) text = (line : List ℕ) × (rest : List ℕ) × IsReleaseLine release line × (text ≡ line ++ rest) × AreReleaseLines more rest
+AreReleaseLines (release ∷ more) text = (first : List ℕ) × (rest : List ℕ) × IsReleaseLine release first × (text ≡ first ++ rest) × AreReleaseLines more rest
 
 -- the line of a namespace: its name, and what it is
 abbrev pub namespace_line : List ℕ → Namespace → List ℕ
-namespace_line name Defined = codes "namespace " ++ (name ++ codes " defined\n")
-namespace_line name (Imported registry) = codes "namespace " ++ (name ++ (codes " imported from " ++ (registry ++ codes "\n")))
+namespace_line name Defined = line (printable (codes "namespace " ++ (name ++ codes " defined")))
+namespace_line name (Imported registry) = line (printable (codes "namespace " ++ (name ++ (codes " imported from " ++ registry))))
 
 -- the lines of namespaces, one after another
 abbrev pub namespace_lines : List (List ℕ × Namespace) → List ℕ

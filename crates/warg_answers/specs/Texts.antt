@@ -7,6 +7,7 @@ use Rattle.warg_protocol.specs.Logs.{EnvelopeData}
 use Rattle.warg_protocol.specs.Records.{hash_text, RecordId}
 use Rattle.warg_protocol.specs.Json.{JsonError}
 use Rattle.warg_files.specs.Printouts.{Printout}
+use Rattle.warg_printable.specs.Printable.{printable}
 use Rattle.warg_files.specs.Texts.{yes, no, line, all_lines}
 use Rattle.warg_audit.specs.LogAnswers.{head_text}
 use Rattle.warg_audited_log.specs.declared.link.Link.{Link}
@@ -33,7 +34,7 @@ receiver es key (next ∷ more) = unwrap_or (signer_at es next.record_index) key
 
 -- a link's line: the places of the record and of the entry, and whom it gives to
 abbrev pub link_text : Link → List ℕ → List ℕ
-link_text link to = decimal link.record_index ++ (codes " " ++ (decimal link.entry_index ++ (codes " " ++ (to ++ codes "\n"))))
+link_text link to = line (printable (decimal link.record_index ++ (codes " " ++ (decimal link.entry_index ++ (codes " " ++ to)))))
 
 -- the lines of links, each with the links after it
 abbrev pub links_text : List EnvelopeData → List ℕ → List Link → List ℕ

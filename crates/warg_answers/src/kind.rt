@@ -65,7 +65,7 @@ pub trait ToolLog: Report {
     fn error_sentence(alloc: Global, error: &Self::Error) -> Result<String, AllocError>
         ensures { IfOk result (λ text. string_bytes text ≡ sentence_of error.now) };
 
-    /// The line of a record: its time, its signer, and its entries in words.
+    /// What is said of a record: its time, its signer, and its entries in words.
     fn record_line(
         alloc: Global,
         envelope: &ProtoEnvelope<Self::Record>,

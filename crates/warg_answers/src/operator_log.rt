@@ -9,6 +9,7 @@ use crate::resealed::resealed;
 use crate::wording::{EntryWords, key_lines, permission_words, record_line};
 use std::alloc::{AllocError, Global};
 use warg_permissions::LogPermission;
+use warg_printable::printed_line;
 use warg_protocol::operator::{
     LogState, NamespaceState, Namespaces, OperatorEntry, OperatorRecord, Permission,
     ValidationError,
@@ -53,12 +54,13 @@ fn namespace_line(alloc: Global, name: &str, state: &NamespaceState) -> Result<S
     ensures { IfOk result (λ line. string_bytes line ≡
         namespace_line name.now (namespace_view state.now)) }
 {
-    match state {
-        NamespaceState::Defined => format!(in alloc; "namespace {name} defined\n"),
+    let said = match state {
+        NamespaceState::Defined => format!(in alloc; "namespace {name} defined")?,
         NamespaceState::Imported { registry } => {
-            format!(in alloc; "namespace {name} imported from {registry}\n")
+            format!(in alloc; "namespace {name} imported from {registry}")?
         }
-    }
+    };
+    printed_line(alloc, said.as_str())
 }
 
 // A line for each namespace.

@@ -10,6 +10,7 @@ use crate::resealed::resealed;
 use crate::wording::{EntryWords, key_lines, permission_words, record_line, time_words};
 use std::alloc::{AllocError, Global};
 use warg_permissions::LogPermission;
+use warg_printable::printed_line;
 use warg_protocol::package::{
     LogState, PackageEntry, PackageRecord, Permission, Release, ReleaseState, Releases,
     ValidationError,
@@ -56,7 +57,8 @@ fn yanked_line(
     ensures { IfOk result (λ line. string_bytes line ≡
         yanked_line (parts_text (parts_of version.now)) by.now time.now) }
 {
-    format!(in alloc; "release {version} yanked by {by} at {time}\n")
+    let said = format!(in alloc; "release {version} yanked by {by} at {time}")?;
+    printed_line(alloc, said.as_str())
 }
 
 // The line of a release that stands, or was yanked.
@@ -69,7 +71,10 @@ fn standing_line(
         state.now (string_bytes line)) }
 {
     match state {
-        ReleaseState::Released { content } => format!(in alloc; "release {version} {content}\n"),
+        ReleaseState::Released { content } => {
+            let said = format!(in alloc; "release {version} {content}")?;
+            printed_line(alloc, said.as_str())
+        }
         ReleaseState::Yanked { by, timestamp } => {
             let time = time_words(alloc, *timestamp)?;
             yanked_line(alloc, version, by, time.as_str())

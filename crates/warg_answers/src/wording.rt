@@ -9,6 +9,7 @@ use jiff::civil::DateTime;
 use jiff::tz::Offset;
 use std::alloc::{AllocError, Global};
 use warg_permissions::LogPermission;
+use warg_printable::printed_line;
 use warg_protocol::package::{KeyEntry, Keys};
 use warg_protocol::signing::KeyID;
 use warg_protocol::{IndexSet, LogRecord, ProtoEnvelope, Timestamp};
@@ -98,7 +99,7 @@ fn entry_words<E: EntryWords>(alloc: Global, entries: &[E]) -> Result<String, Al
     }
 }
 
-// The line of a record by its parts.
+// What is said of a record by its parts.
 fn joined_line(
     alloc: Global,
     time: &str,
@@ -108,10 +109,10 @@ fn joined_line(
     ensures { IfOk result (λ line. string_bytes line ≡
         record_line time.now key_id.now entries.now) }
 {
-    format!(in alloc; "{time} {key_id}:{entries}\n")
+    format!(in alloc; "{time} {key_id}:{entries}")
 }
 
-/// The line of a record: its time, its signer, and its entries.
+/// What is said of a record: its time, its signer, and its entries.
 pub(crate) fn record_line<E: EntryWords>(
     alloc: Global,
     envelope: &ProtoEnvelope<LogRecord<E>>,
@@ -151,7 +152,8 @@ fn key_line<P: LogPermission>(alloc: Global, key: KeyEntry<'_, P>) -> Result<Str
 {
     let (id, public_key) = (key.id, key.key);
     let held = held_words(alloc, key.permissions)?;
-    format!(in alloc; "key {id} {public_key}{held}\n")
+    let said = format!(in alloc; "key {id} {public_key}{held}")?;
+    printed_line(alloc, said.as_str())
 }
 
 /// A line for each key.

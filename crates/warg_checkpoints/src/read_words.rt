@@ -16,6 +16,7 @@ use std::str::FromStr;
 use warg_files::input::{Input, Store, file_stop, read_input};
 use warg_files::stop::{Stop, unusable};
 use warg_json::{JsonError, JsonValue};
+use warg_printable::printed_line;
 use warg_registry::Checkpoint;
 use warg_transparency::{LogProof, MapProof, ProofTextError};
 
@@ -23,10 +24,11 @@ use warg_transparency::{LogProof, MapProof, ProofTextError};
 fn word_stop(alloc: Global, word: &str, kind: &str) -> Stop
     ensures { IfStopped IsUnusable result }
 {
-    unusable(
-        alloc,
-        format!(in alloc; "weoldrin: {word:?} is no {kind}\n"),
-    )
+    let sentence = match format!(in alloc; "weoldrin: \"{word}\" is no {kind}") {
+        Ok(said) => printed_line(alloc, said.as_str()),
+        Err(error) => Err(error),
+    };
+    unusable(alloc, sentence)
 }
 
 /// The value that the word says, of what the kind names.

@@ -10,6 +10,7 @@ ghost use Rattle.warg_files.specs.declared.input.ReadFault.TheVariants.{Missing}
 use crate::answer::Answer;
 use crate::stop::{Stop, unusable};
 use std::alloc::{AllocError, Global};
+use warg_printable::printed_line;
 
 /// Why a file's bytes are not there.
 #[derive(Clone, Copy, Debug, PartialEq, Eq)]
@@ -93,7 +94,8 @@ pub fn sentence(alloc: Global, path: &str, fault: &str) -> Result<String, AllocE
     ensures { IfOk result (λ text. string_bytes text ≡ sentence path.now fault.now) }
 {
     let name = shown_path(path);
-    format!(in alloc; "weoldrin: {name}: {fault}\n")
+    let said = format!(in alloc; "weoldrin: {name}: {fault}")?;
+    printed_line(alloc, said.as_str())
 }
 
 /// A sentence that names the file and a line of it, whose place is counted from 0 and printed from 1.
@@ -108,7 +110,8 @@ pub fn line_sentence(
 {
     let name = shown_path(path);
     let number = place.saturating_add(1);
-    format!(in alloc; "weoldrin: {name}:{number}: {fault}\n")
+    let said = format!(in alloc; "weoldrin: {name}:{number}: {fault}")?;
+    printed_line(alloc, said.as_str())
 }
 
 /// The end of a command for a file that does not hold what it should.

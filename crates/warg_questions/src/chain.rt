@@ -13,9 +13,10 @@ ghost use Rattle.warg_answers.specs.Verdicts.{ForDisplay, IsPrintedOf};
 use std::alloc::{AllocError, Global};
 use warg_answers::judged::{Lent, kept};
 use warg_answers::kind::{ToolLog, permission_of};
-use warg_files::answer::{Answer, UNUSABLE};
+use warg_files::answer::Answer;
 use warg_files::input::Input;
-use warg_files::stop::Stop;
+use warg_files::stop::{Stop, unusable};
+use warg_printable::printed_line;
 use warg_protocol::signing::{KeyID, Verifier};
 use warg_protocol::{AuditedLog, Link, ProtoEnvelope};
 
@@ -41,7 +42,8 @@ fn link_line(alloc: Global, link: Link, to: &KeyID) -> Result<String, AllocError
     ensures { IfOk result (λ text. string_bytes text ≡ link_text link to.now) }
 {
     let (record, entry) = (link.record_index, link.entry_index);
-    format!(in alloc; "{record} {entry} {to}\n")
+    let said = format!(in alloc; "{record} {entry} {to}")?;
+    printed_line(alloc, said.as_str())
 }
 
 // The lines of links.
@@ -91,10 +93,10 @@ pub fn wanted_permission<L: ToolLog>(alloc: Global, word: &str) -> Result<L::Per
     match permission_of::<L>(alloc, word)? {
         Some(permission) => Ok(permission),
         None => {
-            let sentence = format!(in alloc;
-                "weoldrin: {word:?} is no permission of this kind of log\n"
+            let said = format!(in alloc;
+                "weoldrin: \"{word}\" is no permission of this kind of log"
             )?;
-            Err(Stop::Answer(Answer::fault(alloc, sentence, UNUSABLE)))
+            Err(unusable(alloc, printed_line(alloc, said.as_str())))
         }
     }
 }

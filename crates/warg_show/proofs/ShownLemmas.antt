@@ -16,7 +16,7 @@ use Rattle.warg_files.specs.declared.lines.LineError.TheVariants.{Bad}
 use Rattle.warg_files.proofs.StringLemmas as spelling
 use Rattle.warg_files.specs.Answers.{IfStopped, answer_view}
 use Rattle.warg_show.specs.Advice.{advice_on}
-use Rattle.warg_show.specs.ShownLogs.{AreEnvelopeLines, AreRecordLines, IsCutText, IsLineOf, IsLogText, IsRefusalText, IsShown, IsShownOf, cause_words, first_bad, lines_with_places, of_log, of_refused, of_strings}
+use Rattle.warg_show.specs.ShownLogs.{AreEnvelopeLines, AreRecordLines, IsCutText, IsLineOf, IsLogText, IsRefusalText, IsShown, IsShownOf, cause_words, first_bad, lines_with_places, placed_line, of_log, of_refused, of_strings}
 use Rattle.warg_answers.specs.ShownWords.{IsRecordLine, RecordWords}
 use Rattle.warg_files.specs.Texts.{no, yes}
 use Rattle.warg_answers.specs.Verdicts.{envelopes_of}
@@ -34,14 +34,14 @@ zip_more R (a ∷ xs) [] x y h r = absurd h
 zip_more R (a ∷ xs) (b ∷ ys) x y h r = (h.0, zip_more R xs ys x y h.1 r)
 
 lines_with_places-append : (place at : ℕ) (lines : List (List ℕ)) (line : List ℕ) → at ≡ place + length lines
-    → lines_with_places place (lines ++ line ∷ []) ≡ lines_with_places place lines ++ (decimal at ++ (codes " " ++ line))
+    → lines_with_places place (lines ++ line ∷ []) ≡ lines_with_places place lines ++ placed_line at line
 lines_with_places-append place at [] line is =
     let e : at ≡ place = omega arith in
-    rw e (append-nil (decimal place ++ (codes " " ++ line)))
+    rw e (append-nil (placed_line place line))
 lines_with_places-append place at (first ∷ more) line is =
     let e : at ≡ place + 1 + length more = omega arith in
-    ap (λ rest. (decimal place ++ (codes " " ++ first)) ++ rest) (lines_with_places-append (place + 1) at more line e)
-    ∙ sym (append_assoc (decimal place ++ (codes " " ++ first)) (lines_with_places (place + 1) more) (decimal at ++ (codes " " ++ line)))
+    ap (λ rest. placed_line place first ++ rest) (lines_with_places-append (place + 1) at more line e)
+    ∙ sym (append_assoc (placed_line place first) (lines_with_places (place + 1) more) (placed_line at line))
 
 module _ {C : Type 0} (words_of : C → RecordWords) where
   -- the line of the record that an envelope holds
@@ -54,7 +54,7 @@ module _ {C : Type 0} (words_of : C → RecordWords) where
 
   pub record_more : (records : List (DecodedEnvelope C)) (n : ℕ) (it : DecodedEnvelope C) (text line placed new : List ℕ)
       → n < length records → it ≡ slice_index_or records n it → AreEnvelopeLines words_of (take n records) text
-      → IsLineOfEnvelope it line → placed ≡ decimal n ++ (codes " " ++ line) → new ≡ text ++ placed
+      → IsLineOfEnvelope it line → placed ≡ placed_line n line → new ≡ text ++ placed
       → AreEnvelopeLines words_of (take (n + 1) records) new
   record_more records n it text line placed new low is so_far is_line behind more =
       let e : n + 1 ≡ suc n = omega arith in

@@ -8,42 +8,47 @@ use Rattle.warg_audit.specs.LogAnswers.{LogDisplay, cause_name, head_text, refus
 use Rattle.warg_files.specs.Lines.{IsFirstBad, Spell}
 use Rattle.warg_audit.specs.Printouts.{Printout, bad_line}
 use Rattle.warg_answers.specs.ShownWords.{IsRecordLine, RecordWords}
-use Rattle.warg_files.specs.Texts.{no, yes}
+use Rattle.warg_files.specs.Texts.{line, no, yes}
+use Rattle.warg_printable.specs.Printable.{printable}
 use Rattle.warg_answers.specs.Verdicts.{envelopes_of}
 use Rattle.warg_show.specs.Advice.{advice_on}
+
+-- what is said of a record, on a line behind its place
+abbrev pub placed_line : ℕ → List ℕ → List ℕ
+placed_line place said = line (printable (decimal place ++ (codes " " ++ said)))
 
 -- the lines of records in order, each behind its place
 abbrev pub lines_with_places : ℕ → List (List ℕ) → List ℕ
 lines_with_places place [] = []
-lines_with_places place (line ∷ more) = (decimal place ++ (codes " " ++ line)) ++ lines_with_places (place + 1) more
+lines_with_places place (said ∷ more) = placed_line place said ++ lines_with_places (place + 1) more
 
 -- the line of a head
 abbrev pub head_line : Option RecordId → List ℕ
-head_line head = codes "head " ++ (head_text head ++ codes "\n")
+head_line head = line (printable (codes "head " ++ head_text head))
 
 -- the line of the entry that an offence is of, if it is of one
 abbrev pub entry_line : Option ℕ → List ℕ
 entry_line None = []
-entry_line (Some entry) = codes "entry: " ++ (decimal entry ++ codes "\n")
+entry_line (Some entry) = line (printable (codes "entry: " ++ decimal entry))
 
 -- why a record is refused, by its parts: the error's sentence, the entry that it is of, and what a publisher can do
 abbrev pub cause_words : List ℕ → Option ℕ → List ℕ → List ℕ
-cause_words why entry advice = codes "why: " ++ (why ++ (codes "\n" ++ (entry_line entry ++ (codes "try: " ++ (advice ++ codes "\n")))))
+cause_words why entry advice = line (printable (codes "why: " ++ why)) ++ (entry_line entry ++ line (printable (codes "try: " ++ advice)))
 
 -- ---- records
 
 -- a line for each record that an envelope holds, in order, by what is shown of it
 pub record AreEnvelopeLines {C : Type 0} (words_of : C → RecordWords) (records : List (DecodedEnvelope C)) (text : List ℕ) : Type 0 where
   pub lines : List (List ℕ)
-  pub each : AllZip (λ (it : DecodedEnvelope C) (line : List ℕ). IsRecordLine it.envelope.key_id (words_of it.contents) line) records lines
+  pub each : AllZip (λ (it : DecodedEnvelope C) (said : List ℕ). IsRecordLine it.envelope.key_id (words_of it.contents) said) records lines
   pub is : text ≡ lines_with_places 0 lines
 
 module _ (Says : List ℕ → RecordWords → Type 0) where
-  -- the line of the record that the content bytes of an envelope say
-  pub record IsLineOf (envelope : EnvelopeData) (line : List ℕ) : Type 0 where
+  -- what is said of the record that the content bytes of an envelope say
+  pub record IsLineOf (envelope : EnvelopeData) (said : List ℕ) : Type 0 where
     pub words : RecordWords
     pub says : Says envelope.content words
-    pub is : IsRecordLine envelope.key_id words line
+    pub is : IsRecordLine envelope.key_id words said
 
   -- a line for each envelope, in order
   pub record AreRecordLines (envelopes : List EnvelopeData) (text : List ℕ) : Type 0 where

@@ -2,6 +2,7 @@
 #![tactic(auto)]
 
 mod advice;
+pub mod laws;
 mod reason;
 mod show;
 

@@ -8,7 +8,7 @@ ghost use Rattle.warg_protocol.specs.Logs.{EnvelopeData, SignatureRelation, enve
 ghost use Rattle.warg_files.specs.Answers.{answer_view, Answers};
 ghost use Rattle.warg_answers.specs.Explanations.{Explains};
 ghost use Rattle.warg_files.specs.RecordLines.{record_lines};
-ghost use Rattle.warg_show.specs.ShownLogs.{AreEnvelopeLines, cause_words, entry_line, head_line, IsCutText, IsLogText, IsRefusalText, IsShown, IsShownOf};
+ghost use Rattle.warg_show.specs.ShownLogs.{AreEnvelopeLines, cause_words, entry_line, head_line, placed_line, IsCutText, IsLogText, IsRefusalText, IsShown, IsShownOf};
 ghost use Rattle.warg_files.specs.Texts.{no, yes};
 ghost use Rattle.warg_files.specs.Unusable.{IsOfLines};
 ghost use Rattle.warg_answers.specs.Verdicts.{ForDisplay};
@@ -22,6 +22,7 @@ use warg_audit::{cause_name, refused_reply};
 use warg_files::answer::Answer;
 use warg_files::input::{Input, Store, read_input};
 use warg_files::stop::Stop;
+use warg_printable::printed_line;
 use warg_protocol::registry::RecordId;
 use warg_protocol::signing::Verifier;
 use warg_protocol::{AuditedLog, ProtoEnvelope, RunError};
@@ -31,7 +32,10 @@ fn entry_line(alloc: Global, entry: Option<usize>) -> Result<String, AllocError>
     ensures { IfOk result (λ line. string_bytes line ≡ entry_line entry) }
 {
     match entry {
-        Some(entry) => format!(in alloc; "entry: {entry}\n"),
+        Some(entry) => {
+            let said = format!(in alloc; "entry: {entry}")?;
+            printed_line(alloc, said.as_str())
+        }
         None => Ok(String::new(alloc)),
     }
 }
@@ -45,8 +49,12 @@ fn cause_words(
 ) -> Result<String, AllocError>
     ensures { IfOk result (λ text. string_bytes text ≡ cause_words why.now entry advice.now) }
 {
-    let line = entry_line(alloc, entry)?;
-    format!(in alloc; "why: {why}\n{line}try: {advice}\n")
+    let why = format!(in alloc; "why: {why}")?;
+    let advice = format!(in alloc; "try: {advice}")?;
+    let mut text = printed_line(alloc, why.as_str())?;
+    text.push_str(entry_line(alloc, entry)?.as_str())?;
+    text.push_str(printed_line(alloc, advice.as_str())?.as_str())?;
+    Ok(text)
 }
 
 // Why the next record is refused: the audit's line, and the cause in words. Refused memory is no cause.
@@ -78,11 +86,12 @@ fn refusal_text<L: ToolLog>(
     Ok(all)
 }
 
-// The line of a record behind its place.
+// What is said of a record, on a line behind its place.
 fn placed_line(alloc: Global, place: usize, said: &str) -> Result<String, AllocError>
-    ensures { IfOk result (λ line. string_bytes line ≡ decimal place ++ (codes " " ++ said.now)) }
+    ensures { IfOk result (λ line. string_bytes line ≡ placed_line place said.now) }
 {
-    format!(in alloc; "{place} {said}")
+    let said = format!(in alloc; "{place} {said}")?;
+    printed_line(alloc, said.as_str())
 }
 
 // A line for each record, its place first.
@@ -106,8 +115,11 @@ fn head_line(alloc: Global, head: Option<&RecordId>) -> Result<String, AllocErro
     ensures { IfOk result (λ line. string_bytes line ≡ head_line (option_copied head.entry)) }
 {
     match head {
-        Some(id) => format!(in alloc; "head {id}\n"),
-        None => String::from_str(alloc, "head none\n"),
+        Some(id) => {
+            let said = format!(in alloc; "head {id}")?;
+            printed_line(alloc, said.as_str())
+        }
+        None => printed_line(alloc, "head none"),
     }
 }
 

@@ -1,7 +1,6 @@
 use Rattle.std.proofs.Common.{◌≡◌, [], ap, ◌++◌, ◌∙◌, rules, string_bytes}
-use Rattle.std.specs.Fmt.{decimal}
-use Rattle.std.specs.Prelude.{codes}
 use Rattle.warg_show.proofs.ShownLemmas.{every_record, no_record, record_more}
+use Rattle.warg_show.specs.ShownLogs.{placed_line}
 use Rattle.warg_show.proofs.show.records_text.Goals as goal
 
 pub loop-place-init : goal.loop-place-init
@@ -15,7 +14,7 @@ loop-place-preserved g c =
     record_more g.L.ToolLog.words_of c.args.records.now place _ (string_bytes c.loop-place.text)
     (string_bytes c.in_ok-said.said) (string_bytes c.in_ok-line.line) _ c.loop-place-test.true c.index-records-place.is
     c.loop-place.invariant c.in_ok-said.ensures
-    (c.in_ok-line.ensures ∙ ap (λ line. decimal place ++ (codes " " ++ line)) c.as_str.ensures.value)
+    (c.in_ok-line.ensures ∙ ap (placed_line place) c.as_str.ensures.value)
     (c.in_ok-push_str.ensures.bytes ∙ ap (λ line. string_bytes c.loop-place.text ++ line) c.as_str-in-loop-place.ensures.value)
 
 pub returns : goal.returns
