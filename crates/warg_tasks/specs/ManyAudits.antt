@@ -11,6 +11,8 @@ use Rattle.warg_tasks.specs.JsonLines.{json_path_object}
 use Rattle.warg_files.specs.ReadFaults.{unread_text}
 use Rattle.warg_files.specs.RecordLines.{record_lines}
 use Rattle.warg_files.specs.Answers.{IsUnusable}
+use Rattle.warg_files.specs.Texts.{line}
+use Rattle.warg_printable.specs.Printable.{printable}
 use Rattle.warg_files.specs.Unusable.{IfUsable, IsOfLines}
 use Rattle.warg_tasks.specs.Audits.{IsAuditOf, SaysHead, first_of, records_alone}
 use Rattle.warg_words.specs.declared.request.Demands.{Demands}
@@ -19,7 +21,7 @@ use Rattle.warg_files.specs.declared.input.ReadFault.TheVariants.{Missing}
 
 -- the line of one log of many, as text or in JSON: its path, and the first line of its verdict
 abbrev pub audit_line : Bool → List ℕ → Printout → List ℕ
-audit_line false path verdict = path ++ (codes ": " ++ (first_of (lines verdict.text) ++ codes "\n"))
+audit_line false path verdict = line (printable (path ++ (codes ": " ++ first_of (lines verdict.text))))
 audit_line true path verdict = json_path_object path (first_of (lines verdict.text)) verdict.status
 
 -- whether a line of a list names a log: an empty one does not

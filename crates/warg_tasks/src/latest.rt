@@ -11,11 +11,13 @@ ghost use Rattle.warg_tasks.specs.Latest.{IsLatestOf, IsLatestText, latest_text}
 ghost use Rattle.warg_files.specs.RecordLines.{record_lines};
 ghost use Rattle.warg_answers.specs.Verdicts.{IsPrintedOf};
 
+use semver::Error;
 use std::alloc::{AllocError, Global};
 use warg_answers::judged::judged;
 use warg_files::answer::Answer;
 use warg_files::input::Input;
 use warg_files::stop::{Stop, unusable};
+use warg_printable::printed_line;
 use warg_protocol::VersionReq;
 use warg_protocol::package::{LogState, Release};
 use warg_protocol::signing::Verifier;
@@ -47,6 +49,12 @@ fn latest_of(alloc: Global, state: &LogState, wanted: &VersionReq) -> Result<Ans
     release_answer(alloc, state.find_latest_release(wanted))
 }
 
+// Why a word says no requirement.
+fn requirement_sentence(alloc: Global, word: &str, error: &Error) -> Result<String, AllocError> {
+    let said = format!(in alloc; "weoldrin: \"{word}\" is no requirement of versions: {error}")?;
+    printed_line(alloc, said.as_str())
+}
+
 /// The requirement that the word says.
 pub fn requirement_of(alloc: Global, word: &str) -> Result<VersionReq, Stop>
     ensures ok { IfOk result (λ wanted. req_of word.now ≡
@@ -55,10 +63,7 @@ pub fn requirement_of(alloc: Global, word: &str) -> Result<VersionReq, Stop>
 {
     match VersionReq::parse(alloc, word) {
         Ok(wanted) => Ok(wanted),
-        Err(error) => Err(unusable(
-            alloc,
-            format!(in alloc; "weoldrin: {word:?} is no requirement of versions: {error}\n"),
-        )),
+        Err(error) => Err(unusable(alloc, requirement_sentence(alloc, word, &error))),
     }
 }
 

@@ -16,6 +16,7 @@ use warg_audit::LogType;
 use warg_files::answer::Answer;
 use warg_files::input::{Input, ReadFault, Store, file_stop, read_input};
 use warg_files::stop::{Stop, settled};
+use warg_printable::printed_line;
 use warg_protocol::signing::Verifier;
 
 // The first line of the verdict on one log of many, or why it can't be read.
@@ -63,7 +64,8 @@ pub(crate) fn one_line(
     if is_json {
         path_object(alloc, path, line, answer.status)
     } else {
-        format!(in alloc; "{path}: {line}\n")
+        let said = format!(in alloc; "{path}: {line}")?;
+        printed_line(alloc, said.as_str())
     }
 }
 
