@@ -6,4 +6,5 @@ pub mod Files
 pub mod Answers
 pub mod Unusable
 pub mod ReadFaults
+pub mod Changes
 pub mod Sentences

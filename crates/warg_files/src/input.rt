@@ -1,13 +1,15 @@
 //! Files, by their paths and bytes.
 
-ghost use Rattle.std.specs.Prelude.{◌≡◌, Option, IfOk, IfErr, OnOk, OnErr, ◌+◌, ◌-◌, ◌^◌, min, string_bytes};
+ghost use Rattle.std.specs.Prelude.{◌≡◌, Option, Err, IfOk, IfErr, OnOk, ◌+◌, ◌-◌, ◌^◌, min, string_bytes};
 ghost use Rattle.warg_files.specs.Files.{Files, Lacks, Puts, Reads, ReadsLog};
 ghost use Rattle.warg_files.specs.Answers.{IfStopped, IsUnusable};
 ghost use Rattle.warg_files.specs.ReadFaults.{IsLogUnread, IsUnread, IsUnreadFor, unread_text};
 ghost use Rattle.warg_files.specs.Sentences.{line_sentence, sentence, shown_path};
+ghost use Rattle.warg_files.specs.declared.change.WriteFault.TheVariants.{Unflushed, Unwritten};
 ghost use Rattle.warg_files.specs.declared.input.ReadFault.TheVariants.{Missing};
 
 use crate::answer::Answer;
+use crate::change::{HoldFault, WriteCause, WriteFault};
 use crate::stop::{Stop, unusable};
 use std::alloc::{AllocError, Global};
 use warg_printable::printed_line;
@@ -67,10 +69,18 @@ pub trait Store {
             Lacks (files self.old) path.now) }
         ensures kept { files self.new ≡ files self.old };
 
-    /// Puts these bytes in the place of the file of this path, which may be missing. An error leaves it as it was.
-    fn replace(&mut self, path: &str, bytes: &[u8]) -> Result<(), ReadFault>
+    /// The bytes of the file of this path, or none where it is missing, which no one else that holds it changes from now on.
+    fn hold(&mut self, path: &str) -> Result<Vec<u8>, HoldFault>
+        ensures bytes { IfOk result (λ bytes. ReadsLog (files self.old) path.now bytes.items) }
+        ensures kept { files self.new ≡ files self.old };
+
+    /// Puts these bytes in the place of the file of this path, which is held.
+    fn replace(&mut self, path: &str, bytes: &[u8]) -> Result<(), WriteFault>
         ensures written { OnOk result (Puts path.now bytes.now (files self.old) (files self.new)) }
-        ensures kept { OnErr result (files self.new ≡ files self.old) };
+        ensures unflushed { result ≡ Err Unflushed →
+            Puts path.now bytes.now (files self.old) (files self.new) }
+        ensures kept { (cause : WriteCause) → result ≡ Err (Unwritten cause) →
+            files self.new ≡ files self.old };
 }
 
 /// A file's path and its bytes.

@@ -2,6 +2,7 @@
 #![tactic(auto)]
 
 pub mod answer;
+pub mod change;
 pub mod input;
 pub mod lines;
 pub mod record_lines;

@@ -1,8 +1,9 @@
 pub mod JsonLemmas
-pub mod TaskLemmas
+pub mod AppendLemmas
 pub mod MadeLemmas
 pub mod FirstLineLemmas
 pub mod ManyAuditLemmas
 pub mod AuditLemmas
+pub mod AddedLineLemmas
 pub mod AdditionLemmas
 pub mod ClaimLemmas

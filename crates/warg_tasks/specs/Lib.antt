@@ -2,6 +2,7 @@ pub mod JsonLines
 pub mod Audits
 pub mod Latest
 pub mod Additions
+pub mod Appends
 pub mod ManyAudits
 pub mod MadeRecords
 pub mod ClaimTexts

@@ -11,32 +11,21 @@ use Rattle.warg_audit.specs.Printouts.{Printout}
 use Rattle.warg_make.specs.Entries.{LacksOperatorEntry, LacksPackageEntry, SaysOperatorEntry, SaysPackageEntry}
 use Rattle.warg_make.specs.NextRecords.{operator_content, operator_prefix, package_content, package_prefix}
 use Rattle.warg_make.specs.declared.error.EntryFault.{EntryFault}
-use Rattle.warg_files.specs.Files.{Files, Reads, ReadsLog}
-use Rattle.warg_tasks.specs.Additions.{IsAllOrNone}
+use Rattle.warg_files.specs.Files.{Files}
+use Rattle.warg_tasks.specs.Appends.{IsAppended}
 use Rattle.warg_tasks.specs.ClaimTexts.{IsClaimsAnswer}
 use Rattle.warg_tasks.specs.MadeRecords.{IsMade}
 use Rattle.warg_files.specs.RecordLines.{texts}
 use Rattle.warg_files.specs.Unusable.{IsOfLines}
-use Rattle.warg_files.specs.ReadFaults.{IsLogUnread, IsUnread}
 use Rattle.warg_words.specs.declared.task.Task.{Task}
 use Rattle.warg_words.specs.declared.task.Task.TheVariants as task
 
 module _ {Meaning Fault View Offence : Type 0} (log : LogDisplay Meaning Fault View Offence) (belongs : SignatureRelation) (old new : Option Files) where
-  -- the lines of a file are added to a log that is read, all or none; if they can't be read, no file is changed
-  pub data IsAddedTo (path file lines : List ℕ) (printed : Printout) : Type 0 where
-    no_lines : IsUnread old lines printed → new ≡ old → IsAddedTo path file lines printed
-    of_lines : (added : List ℕ) → Reads old lines added → IsAllOrNone log belongs path file added old new printed → IsAddedTo path file lines printed
-
-  -- the same of the log in a file that may not be there yet; if it can't be read, no file is changed
-  pub data IsAppended (path lines : List ℕ) (printed : Printout) : Type 0 where
-    no_log : IsLogUnread printed → new ≡ old → IsAppended path lines printed
-    to_log : (file : List ℕ) → ReadsLog old path file → IsAddedTo path file lines printed → IsAppended path lines printed
-
   -- what files hold after a task: what they held, or, after records are added, what goes with an answer to that
   abbrev pub Leaves : Task → Type 0
   Leaves (task.Claims path) = new ≡ old
   Leaves (task.Make path draft) = new ≡ old
-  Leaves (task.Append path lines) = (new ≡ old) ⊎ ((printed : Printout) × IsAppended path.now lines.now printed)
+  Leaves (task.Append path lines) = (new ≡ old) ⊎ ((printed : Printout) × IsAppended log belongs old new path.now lines.now printed)
 
 module _ {Meaning Fault View Offence T : Type 0} (Says : List ℕ → T → Type 0) (Lacks : List ℕ → EntryFault → Type 0) (content : Option RecordId → Time → List T → List ℕ) (prefix : List ℕ)
     (log : LogDisplay Meaning Fault View Offence) (belongs : SignatureRelation) (old new : Option Files) where

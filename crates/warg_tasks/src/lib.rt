@@ -2,6 +2,7 @@
 //! in JSON.
 #![tactic(auto)]
 
+mod added_lines;
 mod append;
 mod audit;
 mod audit_files;

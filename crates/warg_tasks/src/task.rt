@@ -1,12 +1,12 @@
 //! The commands that list what is to be verified, make records, and add to logs.
 
-ghost use Rattle.std.specs.Prelude.{◌≡◌, OnErr};
+ghost use Rattle.std.specs.Prelude.{◌≡◌};
 ghost use Rattle.warg_protocol.specs.Logs.{envelope_of};
 ghost use Rattle.warg_files.specs.Answers.{Answers};
 ghost use Rattle.warg_tasks.specs.ClaimTexts.{IsClaimsAnswer};
 ghost use Rattle.warg_tasks.specs.MadeRecords.{IsMade};
 ghost use Rattle.warg_files.specs.RecordLines.{texts};
-ghost use Rattle.warg_tasks.specs.Tasks.{IsAddedTo, IsAppended, IsTaskAnswer, Leaves};
+ghost use Rattle.warg_tasks.specs.Tasks.{IsTaskAnswer, Leaves};
 ghost use Rattle.warg_files.specs.Unusable.{IsOfLines};
 ghost use Rattle.warg_answers.specs.Verdicts.{ForDisplay};
 
@@ -16,7 +16,7 @@ use crate::making::make_answer;
 use std::alloc::Global;
 use warg_answers::kind::ToolLog;
 use warg_files::answer::Answer;
-use warg_files::input::{Input, Store, read_input, read_log};
+use warg_files::input::{Store, read_input, read_log};
 use warg_files::stop::Stop;
 use warg_make::Worded;
 use warg_protocol::signing::Verifier;
@@ -60,46 +60,6 @@ fn made_for_file<L: ToolLog + Worded, V: Verifier, S: Store>(
     }
 }
 
-// Adds the records of a file's lines to a log that is read.
-fn added_to_log<L: ToolLog, V: Verifier, S: Store>(
-    alloc: Global,
-    verifier: &V,
-    log: Input<'_>,
-    lines: &str,
-    store: &mut S,
-) -> Result<Answer, Stop>
-    ensures answered { ForDisplay L.view L.kind L.Record.read L.Record.fault_of L.offence_of
-        L.name_of L.lines_of (λ shown. Answers
-        (IsAddedTo shown (V.belongs verifier.now) (S.files store.old) (S.files store.new)
-        log.entry.path.now log.entry.bytes.items lines.now) result) }
-    ensures kept { OnErr result (S.files store.new ≡ S.files store.old) }
-{
-    match read_input(alloc, store, lines) {
-        Ok(lines) => append_answer::<L, V, S>(alloc, verifier, log, lines, store),
-        Err(stop) => Err(stop),
-    }
-}
-
-// Adds the records of a file's lines to the log in another.
-fn added_to_file<L: ToolLog, V: Verifier, S: Store>(
-    alloc: Global,
-    verifier: &V,
-    log: &str,
-    lines: &str,
-    store: &mut S,
-) -> Result<Answer, Stop>
-    ensures answered { ForDisplay L.view L.kind L.Record.read L.Record.fault_of L.offence_of
-        L.name_of L.lines_of (λ shown. Answers
-        (IsAppended shown (V.belongs verifier.now) (S.files store.old) (S.files store.new)
-        log.now lines.now) result) }
-    ensures kept { OnErr result (S.files store.new ≡ S.files store.old) }
-{
-    match read_log(alloc, store, log) {
-        Ok(log) => added_to_log::<L, V, S>(alloc, verifier, log, lines, store),
-        Err(stop) => Err(stop),
-    }
-}
-
 /// What is answered when the task is done.
 pub fn task_answer<L: ToolLog + Hosted + Worded, V: Verifier, S: Store>(
     alloc: Global,
@@ -121,7 +81,7 @@ pub fn task_answer<L: ToolLog + Hosted + Worded, V: Verifier, S: Store>(
             made_for_file::<L, V, S>(alloc, verifier, log, draft, store)
         }
         Task::Append { log, lines } => {
-            added_to_file::<L, V, S>(alloc, verifier, log, lines, store)
+            append_answer::<L, V, S>(alloc, verifier, log, lines, store)
         }
     }
 }

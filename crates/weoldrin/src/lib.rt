@@ -11,6 +11,7 @@ pub use schemes::KnownSchemes;
 pub use verified::invocation_answer;
 pub use warg_audit::LogType;
 pub use warg_files::answer::Answer;
+pub use warg_files::change::{HoldFault, WriteCause, WriteFault};
 pub use warg_files::input::{ReadFault, Store};
 pub use warg_words::{
     Demands, Draft, Invocation, LeafIds, Question, Request, Statement, Task, Wanted,

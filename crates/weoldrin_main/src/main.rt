@@ -2,6 +2,9 @@
 #![tactic(auto)]
 
 mod disk;
+mod held;
+mod put;
+mod streams;
 
 use disk::Disk;
 use std::alloc::{AllocError, Global};
@@ -9,7 +12,11 @@ use std::env::Env;
 use std::io::{ErrorKind, Write};
 use std::process::ExitCode;
 use std::{env, io};
+use streams::closed_streams;
 use weoldrin::{Answer, Parsed, invocation_answer, parse_words};
+
+/// The status of trouble.
+const TROUBLE: u8 = 3;
 
 // The program's name, by which its help speaks of it, and the words after it.
 fn words(rt: &(impl Alloc<A = Global> + Env)) -> io::Result<Vec<String>> {
@@ -22,12 +29,10 @@ fn words(rt: &(impl Alloc<A = Global> + Env)) -> io::Result<Vec<String>> {
 }
 
 // What the words are answered.
-fn answered(rt: &HostRuntime, words: &[&str]) -> Result<Answer, AllocError> {
-    let alloc = rt.alloc();
+fn answered(alloc: Global, words: &[&str], disk: &mut Disk<'_>) -> Result<Answer, AllocError> {
     match parse_words(alloc, words)? {
         Parsed::Invocation(invocation) => {
-            let mut disk = Disk::new(rt);
-            let answer = invocation_answer(alloc, &invocation, &mut disk);
+            let answer = invocation_answer(alloc, &invocation, disk);
             disk.clear_progress();
             answer
         }
@@ -35,40 +40,55 @@ fn answered(rt: &HostRuntime, words: &[&str]) -> Result<Answer, AllocError> {
     }
 }
 
-// Writes the answer, and gives the exit status.
-fn print(rt: &HostRuntime, answer: &Answer) -> u8 {
+// Says what went wrong, and where records were added, that they stand all the same.
+fn trouble(rt: &HostRuntime, disk: &Disk<'_>, fault: &str) -> u8 {
+    let mut error = rt.stderr();
+    let end = if disk.has_put() {
+        "; the records were added, and stand in the log's file\n"
+    } else {
+        "\n"
+    };
+    for part in ["weoldrin: ", fault, end] {
+        let _ = error.write_all(part.as_bytes());
+    }
+    TROUBLE
+}
+
+// Writes the answer, and gives the exit status. A reader that went away wants no more, so that is no trouble.
+fn print(rt: &HostRuntime, disk: &Disk<'_>, answer: &Answer) -> u8 {
     let _ = rt.stderr().write_all(answer.error_text.as_bytes());
     match rt.stdout().write_all(answer.text.as_bytes()) {
         Ok(()) => answer.status,
-        Err(_) => {
-            let _ = rt.eprintln("weoldrin: standard output could not be written");
-            3
-        }
+        Err(error) if error.kind() == ErrorKind::BrokenPipe => answer.status,
+        Err(_) => trouble(rt, disk, "standard output could not be written"),
+    }
+}
+
+// Answers the words, and gives the exit status.
+fn run(rt: &HostRuntime, words: &[String]) -> u8 {
+    let mut disk = Disk::new(rt);
+    let texts: Result<Vec<&str>, AllocError> = words
+        .iter()
+        .map(|word| word.as_str())
+        .collect(rt.alloc());
+    match texts.and_then(|texts| answered(rt.alloc(), texts.as_slice(), &mut disk)) {
+        Ok(answer) => print(rt, &disk, &answer),
+        Err(AllocError) => trouble(rt, &disk, "out of memory"),
     }
 }
 
 fn main(rt: HostRuntime) -> ExitCode {
+    let _closed = closed_streams(&rt);
     let status = match words(&rt) {
-        Ok(words) => {
-            let texts: Result<Vec<&str>, AllocError> = words
-                .iter()
-                .map(|word| word.as_str())
-                .collect(rt.alloc());
-            match texts.and_then(|texts| answered(&rt, texts.as_slice())) {
-                Ok(answer) => print(&rt, &answer),
-                Err(AllocError) => out_of_memory(&rt),
-            }
-        }
+        Ok(words) => run(&rt, words.as_slice()),
         Err(fault) if fault.kind() == ErrorKind::InvalidData => {
             let _ = rt.eprintln("weoldrin: an argument is no UTF-8");
             2
         }
-        Err(_) => out_of_memory(&rt),
+        Err(_) => {
+            let _ = rt.eprintln("weoldrin: out of memory");
+            TROUBLE
+        }
     };
     ExitCode::from(status)
-}
-
-fn out_of_memory(rt: &HostRuntime) -> u8 {
-    let _ = rt.eprintln("weoldrin: out of memory");
-    3
 }

@@ -1,4 +1,4 @@
-use Rattle.warg_tasks.proofs.TaskLemmas.{append_leaves}
+use Rattle.warg_tasks.proofs.AppendLemmas.{append_leaves}
 use Rattle.warg_tasks.proofs.task.task_answer.Goals as goal
 
 pub returns-in-Claims-clause-answered : goal.returns-in-Claims-clause-answered
@@ -16,9 +16,9 @@ returns-in-Make-clause-files g c = λ fault_name offence_name shown reports. rw 
 
 pub returns-in-Append-clause-answered : goal.returns-in-Append-clause-answered
 returns-in-Append-clause-answered g c = λ fault_name offence_name shown reports.
-    rw c.in-Append.is (c.added_to_file.ensures.answered fault_name offence_name shown reports)
+    rw c.in-Append.is (c.append_answer.ensures.answered fault_name offence_name shown reports)
 
 pub returns-in-Append-clause-files : goal.returns-in-Append-clause-files
 returns-in-Append-clause-files g c = λ fault_name offence_name shown reports.
-    rw c.in-Append.is (append_leaves _ _ _ c.added_to_file.result
-    (c.added_to_file.ensures.answered fault_name offence_name shown reports) c.added_to_file.ensures.kept)
+    rw c.in-Append.is (append_leaves _ _ _ c.append_answer.result
+    (c.append_answer.ensures.answered fault_name offence_name shown reports) c.append_answer.ensures.kept)
