@@ -1,0 +1,1 @@
+"""What tools/check_append tries of `weoldrin append`."""
