@@ -1,10 +1,10 @@
-"""python3 -m weoldrin: audits logs whose records are signed by ECDSA P-256."""
+"""python3 -m weoldrin: audits logs whose records are signed by ECDSA P-256, and makes records."""
 
 import argparse
 import os
 import sys
 
-from . import Empty, Verdict, audit_many, library_version, print_lines, processes
+from . import Empty, Verdict, audit_many, library_version, making, print_lines, processes
 
 
 def _parser() -> argparse.ArgumentParser:
@@ -25,6 +25,7 @@ def _parser() -> argparse.ArgumentParser:
     command.add_argument("logs", nargs="+", metavar="LOG")
     command.add_argument("--allow-empty", action="store_true", help="take a log of no records")
     command.add_argument("--workers", type=int, default=os.cpu_count(), help="how many processes read the logs")
+    making.add_command(commands)
     return parser
 
 
@@ -38,6 +39,8 @@ def _status(verdict: Verdict) -> int:
 def main(words: list[str] | None = None) -> int:
     """Runs the words of a command line, and gives the exit status."""
     asked = _parser().parse_args(words)
+    if asked.command == "make":
+        return making.run(asked)
     workers, allowed = max(1, min(asked.workers or 1, len(asked.logs))), asked.allow_empty
     if workers == 1:
         verdicts = audit_many(asked.logs, asked.kind, workers=1, allow_empty=allowed)

@@ -1,0 +1,180 @@
+"""python3 -m weoldrin make: the next record of a log by words and a key's file."""
+
+import os
+import pathlib
+import subprocess
+import sys
+import tempfile
+import time
+import unittest
+
+from weoldrin import Kind, OperatorLog, PackageLog, audit, p256, records
+from weoldrin.making import NoRecord, entry_of, next_envelope, time_of
+
+SCRIPT = pathlib.Path(__file__).resolve().parents[3] / "bin/weoldrin-sign"
+
+
+class Times(unittest.TestCase):
+    """What words say as times."""
+
+    def test_now(self) -> None:
+        before = time.time_ns()
+        self.assertTrue(before <= time_of("now") <= time.time_ns())
+
+    def test_times(self) -> None:
+        for word, at in {
+            "1700000000.0": 1_700_000_000_000_000_000,
+            "1700000060.5": 1_700_000_060_000_000_005,
+            "+1.+2": 1_000_000_002,
+            "1.4294967295": 5_294_967_295,
+            "2023-11-14T22:13:20Z": 1_700_000_000_000_000_000,
+            "2023-11-14t22:13:20z": 1_700_000_000_000_000_000,
+            "2023-11-14T22:13:20.5Z": 1_700_000_000_500_000_000,
+            "2023-11-15T03:43:20.123456789+05:30": 1_700_000_000_123_456_789,
+            "2023-11-14T17:13:20-05:00": 1_700_000_000_000_000_000,
+            "2016-12-31T23:59:60Z": 1_483_228_799_000_000_000,
+            "1969-12-31T23:59:59.25Z": -750_000_000,
+        }.items():
+            with self.subTest(word):
+                self.assertEqual(time_of(word), at)
+
+    def test_none(self) -> None:
+        for word in (
+            "",
+            "Now",
+            "yesterday",
+            "1",
+            "1.-1",
+            "1.4294967296",
+            "18446744073709551616.0",
+            "9223372036854775808.0",
+            "2023-11-14",
+            "2023-11-14T22:13:20",
+            "2023-02-30T00:00:00Z",
+            "2023-11-14T24:13:20Z",
+            "2023-11-14T22:13:20.1234567890Z",
+            "2023-11-14T22:13:20Z ",
+        ):
+            with self.subTest(word), self.assertRaises(NoRecord):
+                time_of(word)
+
+
+class Entries(unittest.TestCase):
+    """What words say as entries."""
+
+    def test_entries(self) -> None:
+        key = p256.SigningKey.generate().public_key
+        key_id = records.key_id(key)
+        for kind, words, entry in [
+            (Kind.PACKAGE, f"init {key}", records.init(key)),
+            (Kind.PACKAGE, f"grant {key} release yank", records.grant(Kind.PACKAGE, key, ["release", "yank"])),
+            (Kind.OPERATOR, f"revoke {key_id} commit", records.revoke(Kind.OPERATOR, key_id, ["commit"])),
+            (Kind.PACKAGE, "release 1.0.0 the content", records.release("1.0.0", records.sha256_text(b"the content"))),
+            (Kind.PACKAGE, "yank 1.0.0", records.yank("1.0.0")),
+            (Kind.OPERATOR, "define mine", records.define_namespace("mine")),
+            (Kind.OPERATOR, "import theirs example.com", records.import_namespace("theirs", "example.com")),
+        ]:
+            with self.subTest(words):
+                self.assertEqual(entry_of(kind, words), entry)
+
+    def test_none(self) -> None:
+        for kind, words in [
+            (Kind.PACKAGE, "init"),
+            (Kind.PACKAGE, "init alice"),
+            (Kind.PACKAGE, "grant toy:YQ== commit"),
+            (Kind.PACKAGE, "define mine"),
+            (Kind.OPERATOR, "release 1.0.0 x"),
+            (Kind.OPERATOR, "publish 1.0.0"),
+        ]:
+            with self.subTest(words), self.assertRaises(NoRecord):
+                entry_of(kind, words)
+
+
+class Command(unittest.TestCase):
+    """The command, on files."""
+
+    def setUp(self) -> None:
+        folder = tempfile.TemporaryDirectory()
+        self.addCleanup(folder.cleanup)
+        self.folder = pathlib.Path(folder.name)
+        self.key = p256.SigningKey.generate()
+        self.pem = self.folder / "alice.pem"
+        self.pem.touch(0o600)
+        self.pem.write_bytes(self.key.to_pem())
+        self.log = self.folder / "log.hex"
+
+    def _make(self, *words: str, kind: str = "package", key: pathlib.Path | None = None) -> tuple[int, str, str]:
+        command = [sys.executable, "-m", "weoldrin", "make", kind, str(self.log), *words, "--key", str(key or self.pem)]
+        done = subprocess.run(command, capture_output=True, text=True, check=False)
+        return done.returncode, done.stdout, done.stderr
+
+    def _add(self, *words: str) -> None:
+        status, line, told = self._make(*words)
+        self.assertEqual((status, told), (0, ""))
+        with self.log.open("a", encoding="ascii") as log:
+            log.write(line)
+
+    def test_a_log(self) -> None:
+        self._add("1700000000.0", f"init {self.key.public_key}")
+        self._add("2023-11-14T22:14:20Z", "release 1.0.0 the content")
+        self._add("now", "yank 1.0.0")
+        verdict = audit(self.log, Kind.PACKAGE)
+        self.assertEqual((verdict.accepted, verdict.records), (True, 3))
+
+    def test_bytes(self) -> None:
+        with PackageLog() as log:
+            made = next_envelope(log, self.key, 1_700_000_000_000_000_000, [records.init(self.key.public_key)])
+            self.assertEqual(len(log), 1)
+        status, line, _ = self._make("1700000000.0", f"init {self.key.public_key}")
+        # All but the signature, which differs each time, and may have another length.
+        end = bytes.fromhex(line).index(b"ecdsa-p256:", made.index(b"\x1a", 80) - 3)
+        self.assertEqual((status, bytes.fromhex(line)[: end - 2]), (0, made[: end - 2]))
+
+    def test_operators(self) -> None:
+        status, line, _ = self._make("now", f"init {self.key.public_key}", "define mine", kind="operator")
+        with OperatorLog() as log:
+            log.append(bytes.fromhex(line))
+            self.assertIsNotNone(log.namespace_state("mine"))
+        self.assertEqual(status, 0)
+
+    def test_refused(self) -> None:
+        status, line, told = self._make("now", "release 1.0.0 x")
+        self.assertEqual((status, line), (1, "refused 0 UnauthorizedAction\n"))
+        self.assertIn("record 0: ", told)
+        self._add("1700000000.0", f"init {self.key.public_key}")
+        self.assertEqual(self._make("1600000000.0", "yank 1.0.0")[:2], (1, "refused 1 TimestampLowerThanPrevious\n"))
+        other = self.folder / "bob.pem"
+        other.touch(0o600)
+        other.write_bytes(p256.SigningKey.generate().to_pem())
+        self.assertEqual(self._make("now", "yank 1.0.0", key=other)[:2], (1, "refused 1 UnauthorizedAction\n"))
+        self.log.write_text(self.log.read_text() * 2)
+        self.assertEqual(self._make("now", "yank 1.0.0")[:2], (1, "refused 1 NoPreviousHashAfterInit\n"))
+
+    def test_unusable(self) -> None:
+        for words in (["soon", "init a:"], ["now", "init alice"], ["now", "publish 1"]):
+            with self.subTest(words):
+                status, line, told = self._make(*words)
+                self.assertEqual((status, line, told.count("\n")), (2, "", 1))
+        folder = str(self.folder)
+        for content in (b"", b"no key", self.key.to_pem()[:-40]):
+            with self.subTest(content):
+                self.pem.write_bytes(content)
+                self.assertEqual(self._make("now")[:2], (2, ""))
+        self.assertEqual(self._make("now", key=self.folder / "none.pem")[:2], (2, ""))
+        self.assertEqual(self._make("now", key=pathlib.Path(folder))[:2], (2, ""))
+
+    def test_a_key_that_others_may_read(self) -> None:
+        self.pem.chmod(0o640)
+        status, _, told = self._make("now", f"init {self.key.public_key}")
+        self.assertEqual((status, "chmod 600" in told), (0, True))
+
+    @unittest.skipUnless(SCRIPT.is_file() and os.access(SCRIPT, os.X_OK), "there is no bin/weoldrin-sign here")
+    def test_keys_of_the_script(self) -> None:
+        pem = self.folder / "new.pem"
+        subprocess.run([SCRIPT, "new", pem], check=True)
+        text = subprocess.run([SCRIPT, "key", pem], capture_output=True, text=True, check=True).stdout.strip()
+        self.assertEqual(self._make("now", f"init {text}", key=pem)[0], 0)
+
+
+if __name__ == "__main__":
+    unittest.main()
