@@ -1,7 +1,7 @@
-"""The next record of a log, by words and the file of a key: `python3 -m weoldrin make KIND LOG TIME ENTRY.. --key FILE`.
+"""The next record of a log, by words and a key's file: `python3 -m weoldrin make KIND LOG TIME ENTRY.. --key FILE`.
 
-It takes the words of the tool's `make`, and signs by itself: FILE is a private key of P-256 as PEM, without a password, as
-`bin/weoldrin-sign new` and `openssl genpkey` write it. The package `cryptography` signs.
+It takes the words of the tool's `make`, and signs by itself: FILE is a private key of P-256 as PEM, without a password,
+as `bin/weoldrin-sign new` and `openssl genpkey` write it. The package `cryptography` signs.
 """
 
 import argparse
@@ -25,7 +25,9 @@ if TYPE_CHECKING:
 
 _NANOS = 1_000_000_000
 _SECONDS = re.compile(r"\+?([0-9]+)\.\+?([0-9]+)")
-_DATE = re.compile(r"([0-9]{4}-[0-9]{2}-[0-9]{2})[Tt ]([0-9]{2}:[0-9]{2}:)([0-9]{2})(?:\.([0-9]{1,9}))?([Zz]|[+-][0-9]{2}:[0-9]{2})")
+_DATE = re.compile(
+    r"([0-9]{4}-[0-9]{2}-[0-9]{2})[Tt ]([0-9]{2}:[0-9]{2}:)([0-9]{2})(?:\.([0-9]{1,9}))?([Zz]|[+-][0-9]{2}:[0-9]{2})"
+)
 _EPOCH = datetime.datetime(1970, 1, 1, tzinfo=datetime.UTC)
 
 
@@ -96,8 +98,8 @@ def entry_of(kind: Kind, words: str) -> bytes:
 
 
 def next_envelope(log: Log, key: "SigningKey", timestamp: int, entries: Iterable[bytes]) -> bytes:
-    """The envelope of the record of these entries that comes next in a log, signed by a key. It is appended, so that it is
-    one that the log takes. Raises `Refused`."""
+    """The envelope of the record of these entries that comes next in a log, signed by a key. It is appended, so that it
+    is one that the log takes. Raises `Refused`."""
     contents = records.contents(log.head(), timestamp, entries)
     envelope = records.signed(log.KIND, contents, key.public_key, key.sign)
     log.append(envelope)
@@ -150,7 +152,7 @@ def add_command(commands: "argparse._SubParsersAction[argparse.ArgumentParser]")
     command.add_argument("kind", choices=["package", "operator"])
     command.add_argument("log", metavar="LOG", help="a file, which may be missing yet; - is standard input")
     command.add_argument("time", metavar="TIME", help="now, as 2026-11-28T14:00:00Z, or seconds as 1700000000.0")
-    command.add_argument("entries", nargs="*", metavar="ENTRY", help="an entry in one word of the shell, as 'yank 1.0.0'")
+    command.add_argument("entries", nargs="*", metavar="ENTRY", help="an entry in one word, as 'yank 1.0.0'")
     command.add_argument("--key", required=True, metavar="FILE", help="the private key, as PEM")
 
 
@@ -180,7 +182,7 @@ def _line(asked: argparse.Namespace) -> tuple[str, int]:
 
 
 def run(asked: argparse.Namespace) -> int:
-    """Prints the line of the record that is asked for, or the audit's where the log refuses it, and gives the status."""
+    """Prints the line of the record that is asked for, or the audit's where the log refuses it. Gives the status."""
     try:
         line, status = _line(asked)
     except (NoRecord, Error) as error:
