@@ -1,3 +1,4 @@
 pub mod WordLemmas
 pub mod EntryLemmas
+pub mod SealedLemmas
 pub mod RecordLemmas

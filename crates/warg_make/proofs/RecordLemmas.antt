@@ -1,12 +1,11 @@
 -- The records that words say.
-use Rattle.std.proofs.Common.{◌≡◌, ◌≤◌, ◌<◌, ◌+◌, ℕ, suc, List, [], ◌∷◌, ◌++◌, length, map, take, slice_index_or, ap, ◌∙◌, subst, sym, refl, arith, Option, Some, Ok, IsErr, IsOk, Bor}
+use Rattle.std.proofs.Common.{◌≡◌, ◌≤◌, ◌<◌, ◌+◌, ℕ, suc, List, [], ◌∷◌, ◌++◌, length, map, take, slice_index_or, ap, ◌∙◌, subst, sym, refl, arith, Option, Some, Bor}
 use Rattle.std.specs.Global.{Vec}
 use Rattle.std.specs.List.{AllZip, slice_get}
 use Rattle.std.specs.Option.{option_map}
 use Rattle.std.proofs.lemmas.Option.{slice_get-map, slice_get-get_or}
 use Rattle.std.proofs.Math.Seq.{take-suc}
 use Rattle.std.proofs.lemmas.List.{map-append, take-map, take_all}
-use Rattle.warg_time.specs.TimeText.{time_of}
 use Rattle.warg_time.specs.Times.{Time}
 use Rattle.warg_protocol.specs.Operator as in_operator
 use Rattle.warg_protocol.specs.Package as in_package
@@ -15,9 +14,10 @@ use Rattle.warg_records.specs.declared.log_record.LogRecord.{LogRecord}
 use Rattle.warg_records.specs.declared.operator.model.OperatorEntry.{OperatorEntry}
 use Rattle.warg_records.specs.declared.package.model.PackageEntry.{PackageEntry}
 use Rattle.warg_make.specs.NextRecords.{IsEntriesError, IsMakeError, operator_content, package_content, texts}
+use Rattle.warg_make.specs.TimeWords.{IsTimeError, SaysTime}
 use Rattle.warg_make.specs.declared.error.EntryFault.{EntryFault}
 use Rattle.warg_make.specs.declared.error.MakeError.{MakeError}
-use Rattle.warg_make.specs.declared.error.MakeError.TheVariants.{BadTime, Entry, OutOfMemory}
+use Rattle.warg_make.specs.declared.error.MakeError.TheVariants.{BadTime, Entry, NoClock, OutOfMemory}
 use Rattle.warg_make.proofs.WordLemmas.{zip_more}
 
 -- the content bytes of a record by its parts
@@ -33,18 +33,22 @@ pub operator_content_is : (it : LogRecord OperatorEntry) (prev : Option RecordId
 operator_content_is it prev time entries p v t e =
     λ i. in_operator.operator_content_of (record { prev = p i; version = v i; time = t i; entries = map in_operator.entry_data (e i).items })
 
-module _ {T : Type 0} (Says : List ℕ → T → Type 0) (Lacks : List ℕ → EntryFault → Type 0) (time : List ℕ) (words : List (List ℕ)) where
+module _ {T : Type 0} (Says : List ℕ → T → Type 0) (Lacks : List ℕ → EntryFault → Type 0) (clock : Option Time) (time : List ℕ) (words : List (List ℕ)) where
   -- what is wrong with words that say no time, or no entries
-  pub time_refused : (it : MakeError) → (it ≡ BadTime) × IsErr (time_of time) → IsMakeError Says Lacks time words it
-  time_refused it h = rw h.0 h.1
+  pub time_refused : (it : MakeError) → IsTimeError clock time it → IsMakeError Says Lacks clock time words it
+  time_refused BadTime h = h
+  time_refused NoClock h = h
+  time_refused (Entry place fault) h = absurd h
+  time_refused OutOfMemory h = absurd h
 
-  pub entries_refused : (at : Time) (it : MakeError) → time_of time ≡ Ok at → IsEntriesError Says Lacks words it
-      → IsMakeError Says Lacks time words it
-  entries_refused at BadTime is h = absurd h
-  entries_refused at (Entry place fault) is h = (subst IsOk (sym is) refl, h)
-  entries_refused at OutOfMemory is h = tt
+  pub entries_refused : (at : Time) (it : MakeError) → SaysTime clock time at → IsEntriesError Says Lacks words it
+      → IsMakeError Says Lacks clock time words it
+  entries_refused at BadTime says h = absurd h
+  entries_refused at NoClock says h = absurd h
+  entries_refused at (Entry place fault) says h = ((at, says), h)
+  entries_refused at OutOfMemory says h = tt
 
-  pub memory_refused : (it : MakeError) → it ≡ OutOfMemory → IsMakeError Says Lacks time words it
+  pub memory_refused : (it : MakeError) → it ≡ OutOfMemory → IsMakeError Says Lacks clock time words it
   memory_refused it e = rw e tt
 
 -- ---- the entries so far

@@ -1,4 +1,5 @@
 pub mod KeyWords
+pub mod TimeWords
 pub mod Sealed
 pub mod Words
 pub mod Entries

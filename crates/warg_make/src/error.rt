@@ -6,7 +6,7 @@ ghost use Rattle.warg_make.specs.declared.error.MakeError.TheVariants as made;
 
 use std::alloc::{AllocError, AllocFailed};
 use thiserror::Error;
-use warg_protocol::signing::SignatureError;
+use warg_crypto::signing::SignatureError;
 
 /// Why words say no entry.
 #[derive(Clone, Copy, Debug, PartialEq, Eq, Error)]
@@ -50,9 +50,12 @@ impl<T: Drop> From<AllocFailed<T>> for EntryFault {
 /// Why words make no record.
 #[derive(Clone, Copy, Debug, PartialEq, Eq, Error)]
 pub enum MakeError {
-    /// The time is not seconds, a point, and nanoseconds.
-    #[error("the time is not seconds, a point, and nanoseconds, as 1700000000.0")]
+    /// The word says no time.
+    #[error("the time is not now, nor as 2026-11-28T14:00:00Z, nor seconds as 1700000000.0")]
     BadTime,
+    /// The time is `now`, and the clock tells none.
+    #[error("the clock can't be read")]
+    NoClock,
     /// The words of the entry at this place, counted from 0, say none.
     #[error("entry {place}: {fault}")]
     Entry {
@@ -82,7 +85,7 @@ impl<T: Drop> From<AllocFailed<T>> for MakeError {
     }
 }
 
-// A toy signer refuses no message, so what is left is memory.
+// The signers here refuse no message, so what is left is memory.
 impl From<SignatureError> for MakeError {
     ghost from_gives = { λ _ error. error ≡ made.OutOfMemory };
 

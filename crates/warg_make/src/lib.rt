@@ -1,4 +1,4 @@
-//! Records in few words, signed by the toy scheme, so that anyone has a log to try things on.
+//! Records in few words: signed by the toy scheme, so that anyone has a log to try things on, or for a key to sign.
 #![tactic(auto)]
 
 mod entries;
@@ -7,8 +7,10 @@ mod making;
 mod operator_words;
 mod package_words;
 mod sealed;
+mod time_words;
 mod worded;
 
 pub use error::{EntryFault, MakeError};
-pub use making::make;
+pub use making::{make, make_unsigned};
+pub use sealed::{UnsignedRecord, signed_later};
 pub use worded::Worded;

@@ -2,12 +2,13 @@
 
 use crate::entries::{first_word, key, key_id, permissions, word_and_rest};
 use crate::error::{EntryFault, MakeError};
-use crate::sealed::sealed;
+use crate::sealed::enveloped;
 use crate::worded::Worded;
 use std::alloc::Global;
-use warg_protocol::Timestamp;
 use warg_protocol::hash::HashAlgorithm;
-use warg_protocol::operator::{LogState, OperatorEntry};
+use warg_protocol::operator::{LogState, OperatorEntry, OperatorRecord};
+use warg_protocol::signing::Signer;
+use warg_protocol::{ProtoEnvelope, Timestamp};
 
 impl Worded for LogState {
     ghost use Rattle.std.specs.Prelude.{◌≡◌, map, IfErr, IfOk};
@@ -15,7 +16,7 @@ impl Worded for LogState {
     ghost use Rattle.warg_protocol.specs.Operator.{entry_data, view_of};
     ghost use Rattle.warg_make.specs.Entries.{LacksOperatorEntry, OperatorEntryData, SaysOperatorEntry};
     ghost use Rattle.warg_make.specs.NextRecords.{operator_content, operator_prefix};
-    ghost use Rattle.warg_make.specs.Sealed.{IsSealed};
+    ghost use Rattle.warg_make.specs.Sealed.{IsSigned};
 
     type Entry = OperatorEntry;
 
@@ -58,18 +59,18 @@ impl Worded for LogState {
         }
     }
 
-    fn next_envelope(
+    fn next_envelope<S: Signer>(
         &self,
         alloc: Global,
-        name: &str,
+        signer: &S,
         timestamp: Timestamp,
         entries: Vec<OperatorEntry>,
-    ) -> Result<Vec<u8>, MakeError>
-        ensures ok { IfOk result (λ bytes. IsSealed name.now operator_prefix
-            (operator_content (option_map (λ head. head.digest) (view_of self.now).head) timestamp
-            (map entry_data entries.items)) bytes.items) }
+    ) -> Result<ProtoEnvelope<OperatorRecord>, MakeError>
+        ensures ok { IfOk result (λ it. IsSigned (S.gives signer.now) (S.key_of signer.now)
+            operator_prefix (operator_content (option_map (λ head. head.digest) (view_of self.now).head)
+            timestamp (map entry_data entries.items)) it.envelope) }
         ensures err { IfErr result (λ error. error ≡ MakeError.OutOfMemory) }
     {
-        sealed(alloc, name, self.next_record(timestamp, entries))
+        enveloped(alloc, signer, self.next_record(timestamp, entries))
     }
 }

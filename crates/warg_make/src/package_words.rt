@@ -7,12 +7,13 @@ ghost use Rattle.warg_make.specs.declared.error.EntryFault.TheVariants as fault;
 
 use crate::entries::{first_word, key, key_id, permissions, word_and_rest};
 use crate::error::{EntryFault, MakeError};
-use crate::sealed::sealed;
+use crate::sealed::enveloped;
 use crate::worded::Worded;
 use std::alloc::{AllocError, Global};
 use warg_protocol::hash::HashAlgorithm;
-use warg_protocol::package::{LogState, PackageEntry};
-use warg_protocol::{Timestamp, Version};
+use warg_protocol::package::{LogState, PackageEntry, PackageRecord};
+use warg_protocol::signing::Signer;
+use warg_protocol::{ProtoEnvelope, Timestamp, Version};
 
 // Whether parsing a version found no memory.
 fn is_memory_error(error: semver::Error) -> bool
@@ -43,7 +44,7 @@ impl Worded for LogState {
     ghost use Rattle.warg_protocol.specs.Package.{entry_data, view_of};
     ghost use Rattle.warg_make.specs.Entries.{LacksPackageEntry, PackageEntryData, SaysPackageEntry};
     ghost use Rattle.warg_make.specs.NextRecords.{package_content, package_prefix};
-    ghost use Rattle.warg_make.specs.Sealed.{IsSealed};
+    ghost use Rattle.warg_make.specs.Sealed.{IsSigned};
 
     type Entry = PackageEntry;
 
@@ -86,18 +87,18 @@ impl Worded for LogState {
         }
     }
 
-    fn next_envelope(
+    fn next_envelope<S: Signer>(
         &self,
         alloc: Global,
-        name: &str,
+        signer: &S,
         timestamp: Timestamp,
         entries: Vec<PackageEntry>,
-    ) -> Result<Vec<u8>, MakeError>
-        ensures ok { IfOk result (λ bytes. IsSealed name.now package_prefix
-            (package_content (option_map (λ head. head.digest) (view_of self.now).head) timestamp
-            (map entry_data entries.items)) bytes.items) }
+    ) -> Result<ProtoEnvelope<PackageRecord>, MakeError>
+        ensures ok { IfOk result (λ it. IsSigned (S.gives signer.now) (S.key_of signer.now)
+            package_prefix (package_content (option_map (λ head. head.digest) (view_of self.now).head)
+            timestamp (map entry_data entries.items)) it.envelope) }
         ensures err { IfErr result (λ error. error ≡ MakeError.OutOfMemory) }
     {
-        sealed(alloc, name, self.next_record(timestamp, entries))
+        enveloped(alloc, signer, self.next_record(timestamp, entries))
     }
 }

@@ -3,12 +3,13 @@
 ghost use Rattle.std.specs.Prelude.{◌≡◌, ℕ, List, map, Option, IfErr, IfOk};
 ghost use Rattle.warg_time.specs.Times.{Time};
 ghost use Rattle.warg_protocol.specs.Records.{RecordId};
-ghost use Rattle.warg_make.specs.Sealed.{IsSealed};
+ghost use Rattle.warg_make.specs.Sealed.{IsSigned};
 ghost use Rattle.warg_make.specs.declared.error.EntryFault.{EntryFault as OfEntryFault};
 
 use crate::error::{EntryFault, MakeError};
 use std::alloc::Global;
-use warg_protocol::{Timestamp, Validator};
+use warg_protocol::signing::Signer;
+use warg_protocol::{ProtoEnvelope, Timestamp, Validator};
 
 /// A kind of log whose entries have words.
 pub trait Worded: Validator {
@@ -37,16 +38,16 @@ pub trait Worded: Validator {
         ensures ok { IfOk result (λ entry. says words.now (as_data entry)) }
         ensures err { IfErr result (lacks words.now) };
 
-    /// The envelope of the record with these entries that comes next, signed by the toy key of the name.
-    fn next_envelope(
+    /// The record with these entries that comes next, in an envelope that the signer signs.
+    fn next_envelope<S: Signer>(
         &self,
         alloc: Global,
-        name: &str,
+        signer: &S,
         timestamp: Timestamp,
         entries: Vec<Self::Entry>,
-    ) -> Result<Vec<u8>, MakeError>
-        ensures ok { IfOk result (λ bytes. IsSealed name.now prefix (content
-            (Self.Validator.kind.head (Self.Validator.view self.now)) timestamp
-            (map as_data entries.items)) bytes.items) }
+    ) -> Result<ProtoEnvelope<Self::Record>, MakeError>
+        ensures ok { IfOk result (λ it. IsSigned (S.gives signer.now) (S.key_of signer.now) prefix
+            (content (Self.Validator.kind.head (Self.Validator.view self.now)) timestamp
+            (map as_data entries.items)) it.envelope) }
         ensures err { IfErr result (λ error. error ≡ MakeError.OutOfMemory) };
 }

@@ -1,9 +1,17 @@
 -- What is answered when the record that words say is made.
-use Rattle.std.proofs.Common.{◌≡◌, ℕ, List, Option, subst, Result}
+use Rattle.std.proofs.Common.{◌≡◌, ℕ, zero, suc, List, [], ◌∷◌, ◌∙◌, ap, refl, sym, subst, Option, Some, None, Ok, Result, length}
+use Rattle.std.specs.List.{slice_get}
+use Rattle.std.specs.Option.{option_map}
 use Rattle.warg_time.specs.Times.{Time}
-use Rattle.warg_protocol.specs.Logs.{SignatureRelation}
+use Rattle.warg_protocol.specs.Logs.{Cause, EnvelopeData, EnvelopeFault, Kind, SignatureRelation, envelope_of}
 use Rattle.warg_protocol.specs.Records.{RecordId}
-use Rattle.warg_audit.specs.LogAnswers.{LogDisplay}
+use Rattle.warg_records.specs.Kinds.{view_after}
+use Rattle.warg_validator.specs.OutcomeRuns.{HasNoOffence, IsFirstOffence, IsRefusal, IfNamed, cause_next}
+use Rattle.warg_validator.specs.declared.replay.RunCause.{RunCause}
+use Rattle.warg_validator.specs.declared.replay.RunError.{RunError}
+use Rattle.warg_answers.specs.Explanations.{all_belong}
+use Rattle.warg_audit.specs.LogAnswers.{IsNamedRefusal, LogDisplay, cause_name}
+use Rattle.warg_audit.specs.Printouts.{Printout, refused_line}
 use Rattle.warg_make.specs.NextRecords.{IsMakeError}
 use Rattle.warg_make.specs.declared.error.EntryFault.{EntryFault}
 use Rattle.warg_make.specs.declared.error.MakeError.{MakeError}
@@ -11,42 +19,104 @@ use Rattle.warg_make.specs.declared.error.MakeError.TheVariants.{OutOfMemory}
 use Rattle.warg_files.specs.Files.{Files, ReadsLog}
 use Rattle.warg_files.specs.Answers.{Answers, IfStopped, IsUnusable}
 use Rattle.warg_files.specs.ReadFaults.{IsLogUnread}
-use Rattle.warg_tasks.specs.MadeRecords.{IsMade, IsMadeAfter, IsMadeOf, IsMadeText, no_file, of_log, unsaid}
-use Rattle.warg_answers.specs.Verdicts.{IsLawful, IsPrintedOf, IsViewOf, lawful}
+use Rattle.warg_files.specs.RecordLines.{texts}
+use Rattle.warg_tasks.specs.MadeRecords.{IsMade, IsMadeAfter, IsMadeBy, IsMadeOf, IsRefusedNext, IsUnsaid, no_file, of_log}
+use Rattle.warg_answers.specs.Verdicts.{IsLawful, IsPrintedOf, IsViewOf, envelopes_of, lawful}
 use Rattle.warg_files.specs.declared.answer.Answer.{Answer}
 use Rattle.warg_files.specs.declared.stop.Stop.{Stop}
 use Rattle.warg_files.specs.declared.stop.Stop.TheVariants as stop
 use Rattle.warg_files.proofs.AnswerLemmas.{Answers-to, IfStopped-to}
+use Rattle.warg_words.specs.declared.task.Draft.{Draft}
 
-module _ {T : Type 0} (Says : List ℕ → T → Type 0) (Lacks : List ℕ → EntryFault → Type 0) (content : Option RecordId → Time → List T → List ℕ) (prefix : List ℕ) where
+-- ---- a string that comes next
+
+module _ {F View Offence : Type 0} (k : Kind View Offence) (b : SignatureRelation) (read : List ℕ → Result EnvelopeData F) (view : View) (bytes : List ℕ) where
+  -- one string without offence
+  pub next_taken : HasNoOffence k b read (view_after k view) (bytes ∷ []) → cause_next k b read view bytes ≡ None
+  next_taken h = h 0 bytes refl
+
+  -- the first offence of one string
+  first_alone : (place : ℕ) (cause : Cause F Offence) → IsFirstOffence k b read (view_after k view) (bytes ∷ []) place cause
+      → cause_next k b read view bytes ≡ Some cause
+  first_alone zero cause first =
+      let same : bytes ≡ first.item = some_same first.at in
+      subst (λ (it : List ℕ). cause_next k b read view it ≡ Some cause) (sym same) first.wrong
+    where
+      some_same : {x y : List ℕ} → Some x ≡ Some y → x ≡ y
+      some_same e = cc e
+  first_alone (suc place) cause first = absurd (nothing_at place first.item first.at)
+    where
+      nothing_at : (i : ℕ) (x : List ℕ) → slice_get [] i ≡ Some x → ⊥
+      nothing_at i x at = cc at
+
+  pub next_refused : {E : Type 0} (named_by : RunCause E → Option (Cause F Offence)) (error : RunError E)
+      → IsRefusal k b read (view_after k view) named_by (bytes ∷ []) error
+      → (cause : Cause F Offence) → named_by error.cause ≡ Some cause → cause_next k b read view bytes ≡ Some cause
+  next_refused named_by error refusal cause names =
+      first_alone error.index cause (subst (λ (told : Option (Cause F Offence)). IfNamed told (λ it. IsFirstOffence k b read (view_after k view) (bytes ∷ []) error.index it)) names refusal.first)
+
+-- the cause of a refusal that is printed
+printed_cause : {C : Type 0} (name_of : C → List ℕ) (told : Option C) (index : ℕ) (printed : Printout) → IsNamedRefusal name_of told index printed
+    → (cause : C) × (told ≡ Some cause) × (printed ≡ refused_line index (name_of cause))
+printed_cause name_of None index printed it = absurd (none_named it.of_cause)
+  where
+    none_named : {name : List ℕ} → Some name ≡ None → ⊥
+    none_named e = cc e
+printed_cause name_of (Some cause) index printed it =
+    let same : it.name ≡ name_of cause = some_same it.of_cause in (cause, refl, it.is ∙ ap (refused_line index) same)
+  where
+    some_same : {x y : List ℕ} → Some x ≡ Some y → x ≡ y
+    some_same e = cc e
+
+-- the answer to a string that can't come next
+pub refused_so : {Meaning Fault View Offence E : Type 0} (log : LogDisplay Meaning Fault View Offence) (view : View) (count : ℕ) (bytes : List ℕ)
+    (named_by : RunCause E → Option (Cause (EnvelopeFault Fault) Offence)) (error : RunError E) (printed : Printout)
+    → IsRefusal log.kind all_belong (envelope_of log.read) (view_after log.kind view) named_by (bytes ∷ []) error
+    → IsNamedRefusal (cause_name log.fault_name log.offence_name) (named_by error.cause) count printed → IsRefusedNext log view count bytes printed
+refused_so log view count bytes named_by error printed refusal told =
+    let it = printed_cause (cause_name log.fault_name log.offence_name) (named_by error.cause) count printed told in record {
+      cause = it.0;
+      wrong = next_refused log.kind all_belong (envelope_of log.read) view bytes named_by error refusal it.0 it.1;
+      is = it.2;
+    }
+
+-- ---- what words say
+
+module _ {T : Type 0} (Says : List ℕ → T → Type 0) (Lacks : List ℕ → EntryFault → Type 0) (content : Option RecordId → Time → List T → List ℕ) (prefix : List ℕ)
+    {Meaning Fault View Offence : Type 0} (log : LogDisplay Meaning Fault View Offence) (draft : Draft) where
   -- words that say no record
-  pub none_made : (prev : Option RecordId) (name time : List ℕ) (words : List (List ℕ)) (error : MakeError) (end : Stop)
-      → (error ≡ OutOfMemory → end ≡ stop.OutOfMemory) → IsMakeError Says Lacks time words error → IfStopped IsUnusable end
-      → IfStopped (IsMadeText Says Lacks content prefix prev name time words) end
-  none_made prev name time words error (stop.Answer answer) memory why h =
-      unsaid error (λ is. let e : stop.Answer answer ≡ stop.OutOfMemory = memory is in cc) why h
-  none_made prev name time words error stop.OutOfMemory memory why h = tt
+  pub none_said : (error : MakeError) (end : Stop) → (error ≡ OutOfMemory → end ≡ stop.OutOfMemory)
+      → IsMakeError Says Lacks draft.clock draft.time.now (texts draft.entries.items) error → IfStopped IsUnusable end
+      → IfStopped (IsUnsaid Says Lacks content prefix log draft) end
+  none_said error (stop.Answer answer) memory why h = record {
+    error = error;
+    of_words = λ is. let e : stop.Answer answer ≡ stop.OutOfMemory = memory is in cc;
+    why = why;
+    nothing = h;
+  }
+  none_said error stop.OutOfMemory memory why h = tt
 
-  module _ {Meaning Fault View Offence : Type 0} (log : LogDisplay Meaning Fault View Offence) (belongs : SignatureRelation) (name time : List ℕ) (words : List (List ℕ)) where
-    -- after a lawful log, by its view
-    pub made_after : (ls strings : List (List ℕ)) (view : View) (result : Result Answer Stop) → IsLawful log belongs ls strings
-        → IsViewOf log view strings → Answers (IsMadeText Says Lacks content prefix (log.kind.head view) name time words) result
-        → Answers (IsPrintedOf log belongs (IsMadeAfter Says Lacks content prefix log belongs name time words) ls) result
-    made_after ls strings view result it stands h =
-        Answers-to (IsMadeText Says Lacks content prefix (log.kind.head view) name time words)
-        (IsPrintedOf log belongs (IsMadeAfter Says Lacks content prefix log belongs name time words) ls)
+  module _ (belongs : SignatureRelation) where
+    -- after a lawful log, by its view and how many records it has
+    pub made_after : (ls strings : List (List ℕ)) (view : View) (count : ℕ) (result : Result Answer Stop) → IsLawful log belongs ls strings
+        → IsViewOf log view strings → count ≡ length strings → Answers (IsMadeBy Says Lacks content prefix log draft view count draft.signer) result
+        → Answers (IsPrintedOf log belongs (IsMadeAfter Says Lacks content prefix log draft belongs) ls) result
+    made_after ls strings view count result it stands many h =
+        Answers-to (IsMadeBy Says Lacks content prefix log draft view count draft.signer)
+        (IsPrintedOf log belongs (IsMadeAfter Says Lacks content prefix log draft belongs) ls)
         (λ printed is. lawful strings it
-        (subst (λ (v : View). IsMadeText Says Lacks content prefix (log.kind.head v) name time words printed) stands is)) result h
+        (subst (λ (n : ℕ). IsMadeBy Says Lacks content prefix log draft (log.kind.view_of (envelopes_of log strings)) n draft.signer printed) many
+        (subst (λ (v : View). IsMadeBy Says Lacks content prefix log draft v count draft.signer printed) stands is))) result h
 
     module _ (old : Option Files) (path : List ℕ) where
       pub made_read : (file : List ℕ) (result : Result Answer Stop) → ReadsLog old path file
-          → Answers (IsMadeOf Says Lacks content prefix log belongs name time words file) result
-          → Answers (IsMade Says Lacks content prefix log belongs name time words old path) result
+          → Answers (IsMadeOf Says Lacks content prefix log draft belongs file) result
+          → Answers (IsMade Says Lacks content prefix log draft belongs old path) result
       made_read file result held h =
-          Answers-to (IsMadeOf Says Lacks content prefix log belongs name time words file)
-          (IsMade Says Lacks content prefix log belongs name time words old path) (λ printed it. of_log file held it) result h
+          Answers-to (IsMadeOf Says Lacks content prefix log draft belongs file)
+          (IsMade Says Lacks content prefix log draft belongs old path) (λ printed it. of_log file held it) result h
 
       pub made_unread : (end : Stop) → IfStopped IsLogUnread end
-          → IfStopped (IsMade Says Lacks content prefix log belongs name time words old path) end
+          → IfStopped (IsMade Says Lacks content prefix log draft belongs old path) end
       made_unread end h =
-          IfStopped-to IsLogUnread (IsMade Says Lacks content prefix log belongs name time words old path) (λ printed it. no_file it) end h
+          IfStopped-to IsLogUnread (IsMade Says Lacks content prefix log draft belongs old path) (λ printed it. no_file it) end h

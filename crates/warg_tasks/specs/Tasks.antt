@@ -15,7 +15,6 @@ use Rattle.warg_files.specs.Files.{Files}
 use Rattle.warg_tasks.specs.Appends.{IsAppended}
 use Rattle.warg_tasks.specs.ClaimTexts.{IsClaimsAnswer}
 use Rattle.warg_tasks.specs.MadeRecords.{IsMade}
-use Rattle.warg_files.specs.RecordLines.{texts}
 use Rattle.warg_files.specs.Unusable.{IsOfLines}
 use Rattle.warg_words.specs.declared.task.Task.{Task}
 use Rattle.warg_words.specs.declared.task.Task.TheVariants as task
@@ -32,8 +31,7 @@ module _ {Meaning Fault View Offence T : Type 0} (Says : List ℕ → T → Type
   -- what is answered when a task is done
   abbrev pub IsTaskAnswer : Task → Printout → Type 0
   IsTaskAnswer (task.Claims path) printed = IsOfLines old path.now (IsClaimsAnswer log.kind (envelope_of log.read)) printed
-  IsTaskAnswer (task.Make path draft) printed =
-      IsMade Says Lacks content prefix log belongs draft.name.now draft.time.now (texts draft.entries.items) old path.now printed
+  IsTaskAnswer (task.Make path draft) printed = IsMade Says Lacks content prefix log draft belongs old path.now printed
   IsTaskAnswer (task.Append path lines) printed = IsAppended log belongs old new path.now lines.now printed
 
 -- the same of a task on a log of a kind

@@ -5,7 +5,6 @@ ghost use Rattle.warg_protocol.specs.Logs.{envelope_of};
 ghost use Rattle.warg_files.specs.Answers.{Answers};
 ghost use Rattle.warg_tasks.specs.ClaimTexts.{IsClaimsAnswer};
 ghost use Rattle.warg_tasks.specs.MadeRecords.{IsMade};
-ghost use Rattle.warg_files.specs.RecordLines.{texts};
 ghost use Rattle.warg_tasks.specs.Tasks.{IsTaskAnswer, Leaves};
 ghost use Rattle.warg_files.specs.Unusable.{IsOfLines};
 ghost use Rattle.warg_answers.specs.Verdicts.{ForDisplay};
@@ -49,8 +48,7 @@ fn made_for_file<L: ToolLog + Worded, V: Verifier, S: Store>(
 ) -> Result<Answer, Stop>
     ensures answered { ForDisplay L.view L.kind L.Record.read L.Record.fault_of L.offence_of
         L.name_of L.lines_of (λ shown. Answers
-        (IsMade L.says L.lacks L.content L.prefix shown (V.belongs verifier.now)
-        draft.now.name.now draft.now.time.now (texts draft.now.entries.items)
+        (IsMade L.says L.lacks L.content L.prefix shown draft.now (V.belongs verifier.now)
         (S.files store.old) log.now) result) }
     ensures kept { S.files store.new ≡ S.files store.old }
 {

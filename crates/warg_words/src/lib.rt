@@ -12,5 +12,5 @@ mod words;
 
 pub use request::{Demands, Invocation, Question, Request, Said};
 pub use statement::{LeafIds, Statement, Wanted};
-pub use task::{Draft, Task};
+pub use task::{Draft, Signer, Task};
 pub use words::parse_words;

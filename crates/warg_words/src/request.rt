@@ -1,8 +1,16 @@
 //! What the words of the program ask for.
 
+ghost use Rattle.std.specs.Prelude.{◌≡◌, ℕ, List};
+ghost use Rattle.std.specs.Borrow.{Bor};
+ghost use Rattle.warg_log_type.specs.declared.LogType.{LogType as OfLogType};
+ghost use Rattle.warg_words.specs.declared.request.Request.TheVariants as asked;
+ghost use Rattle.warg_words.specs.declared.task.Draft.{Draft as OfDraft};
+ghost use Rattle.warg_words.specs.declared.task.Task.TheVariants as task;
+
 use crate::statement::{Statement, Wanted};
 use crate::task::Task;
 use warg_log_type::LogType;
+use warg_time::Timestamp;
 
 /// What is asked of logs of one kind, with the paths of the files. `-` is standard input.
 #[derive(Clone, Copy, Debug, PartialEq, Eq)]
@@ -146,6 +154,35 @@ pub struct Invocation<'a> {
     pub verified: Option<&'a str>,
     /// Whether signatures of the toy scheme, which anyone can forge, are taken too.
     pub toy: bool,
+}
+
+impl Invocation<'_> {
+    /// Notes what the clock tells, where the time of a record that is made may be that.
+    pub fn tell_time(&mut self, clock: Option<Timestamp>)
+        ensures made { (kind : OfLogType) (log : Bor (List ℕ)) (draft : OfDraft) →
+            self.old.request ≡ asked.Do kind (task.Make log draft) →
+            self.new.request ≡ asked.Do kind (task.Make log (record {
+              signer = draft.signer;
+              clock = clock;
+              time = draft.time;
+              entries = draft.entries;
+            })) }
+        ensures others { ((kind : OfLogType) (log : Bor (List ℕ)) (draft : OfDraft) →
+            self.old.request ≡ asked.Do kind (task.Make log draft) → ⊥) →
+            self.new.request ≡ self.old.request }
+        ensures command { self.new.command ≡ self.old.command }
+        ensures json { self.new.json ≡ self.old.json }
+        ensures verified { self.new.verified ≡ self.old.verified }
+        ensures toy { self.new.toy ≡ self.old.toy }
+    {
+        if let Request::Do {
+            task: Task::Make { draft, .. },
+            ..
+        } = &mut self.request
+        {
+            draft.clock = clock;
+        }
+    }
 }
 
 /// What the words say.

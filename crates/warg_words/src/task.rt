@@ -3,12 +3,24 @@
 use crate::words::value;
 use clap::ArgMatches;
 use std::alloc::{AllocError, Global};
+use warg_time::Timestamp;
+
+/// Who signs a record.
+#[derive(Clone, Copy, Debug, PartialEq, Eq)]
+pub enum Signer<'a> {
+    /// The toy key of this name.
+    Toy(&'a str),
+    /// The key of this text, whose secret is elsewhere.
+    KeyText(&'a str),
+}
 
 /// The record that comes next in a log, in words.
 #[derive(Debug, Drop)]
 pub struct Draft<'a> {
-    /// Whose toy key signs.
-    pub name: &'a str,
+    /// Who signs it.
+    pub signer: Signer<'a>,
+    /// What the clock tells. Words say nothing of it.
+    pub clock: Option<Timestamp>,
     /// The record's time.
     pub time: &'a str,
     /// The record's entries.
@@ -23,7 +35,7 @@ pub enum Task<'a> {
         /// The log.
         log: &'a str,
     },
-    /// The next record is made, and signed by the toy scheme.
+    /// The next record is made.
     Make {
         /// The log. Where there is no such file, it has no records yet.
         log: &'a str,
@@ -42,7 +54,8 @@ pub enum Task<'a> {
 // The record that the words say.
 fn parse_draft<'a>(alloc: Global, matches: &ArgMatches<'a>) -> Result<Draft<'a>, AllocError> {
     Ok(Draft {
-        name: value(matches, "NAME"),
+        signer: Signer::Toy(value(matches, "NAME")),
+        clock: None,
         time: value(matches, "TIME"),
         entries: match matches.get_strs("ENTRY") {
             Some(entries) => entries.to_vec(alloc)?,

@@ -14,6 +14,6 @@ pub use warg_files::answer::Answer;
 pub use warg_files::change::{HoldFault, WriteCause, WriteFault};
 pub use warg_files::input::{ReadFault, Store};
 pub use warg_words::{
-    Demands, Draft, Invocation, LeafIds, Question, Request, Statement, Task, Wanted,
+    Demands, Draft, Invocation, LeafIds, Question, Request, Signer, Statement, Task, Wanted,
 };
 pub use words::{Parsed, parse_words};

@@ -13,6 +13,7 @@ use std::io::{ErrorKind, Write};
 use std::process::ExitCode;
 use std::{env, io};
 use streams::closed_streams;
+use warg_protocol::Timestamp;
 use weoldrin::{Answer, Parsed, invocation_answer, parse_words};
 
 /// The status of trouble.
@@ -29,9 +30,11 @@ fn words(rt: &(impl Alloc<A = Global> + Env)) -> io::Result<Vec<String>> {
 }
 
 // What the words are answered.
-fn answered(alloc: Global, words: &[&str], disk: &mut Disk<'_>) -> Result<Answer, AllocError> {
+fn answered(rt: &HostRuntime, words: &[&str], disk: &mut Disk<'_>) -> Result<Answer, AllocError> {
+    let alloc = rt.alloc();
     match parse_words(alloc, words)? {
-        Parsed::Invocation(invocation) => {
+        Parsed::Invocation(mut invocation) => {
+            invocation.tell_time(Timestamp::now(rt).ok());
             let answer = invocation_answer(alloc, &invocation, disk);
             disk.clear_progress();
             answer
@@ -71,7 +74,7 @@ fn run(rt: &HostRuntime, words: &[String]) -> u8 {
         .iter()
         .map(|word| word.as_str())
         .collect(rt.alloc());
-    match texts.and_then(|texts| answered(rt.alloc(), texts.as_slice(), &mut disk)) {
+    match texts.and_then(|texts| answered(rt, texts.as_slice(), &mut disk)) {
         Ok(answer) => print(rt, &disk, &answer),
         Err(AllocError) => trouble(rt, &disk, "out of memory"),
     }

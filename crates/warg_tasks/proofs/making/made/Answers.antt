@@ -1,16 +1,15 @@
-use Rattle.std.proofs.Common.{◌∙◌, ap, ℕ, List}
-use Rattle.hex.specs.Hex.{encode_lower}
-use Rattle.warg_tasks.specs.MadeRecords.{made}
-use Rattle.warg_files.specs.Texts.{line, yes}
-use Rattle.warg_tasks.proofs.MadeLemmas.{none_made}
+use Rattle.warg_files.proofs.AnswerLemmas.{Answers-to, IfStopped-to}
+use Rattle.warg_tasks.specs.MadeRecords.{no_key, of_key}
 use Rattle.warg_tasks.proofs.making.made.Goals as goal
 
-pub returns-in_ok-made_line-in-Ok : goal.returns-in_ok-made_line-in-Ok
-returns-in_ok-made_line-in-Ok g c =
-    made c.in-Ok.envelope.items (rw c.as_slice-entries.ensures.value at c.in-Ok.ensures.ok)
-    (c.in_ok-made_line-in-Ok.ensures ∙ ap (λ (bytes : List ℕ). yes (line (encode_lower bytes))) c.as_slice.ensures.value)
+pub returns-in-Toy : goal.returns-in-Toy
+returns-in-Toy g c = λ fault_name offence_name shown reports. rw c.in-Toy.is (c.made_by_toy.ensures fault_name offence_name shown reports)
 
-pub returns-in-Err : goal.returns-in-Err
-returns-in-Err g c =
-    none_made _ _ _ _ _ _ _ _ c.in-Err.error c.make_stop.result c.make_stop.ensures.memory
-    (rw c.as_slice-entries.ensures.value at c.in-Err.ensures.err) c.make_stop.ensures.unusable
+pub returns-in-Ok-in-KeyText : goal.returns-in-Ok-in-KeyText
+returns-in-Ok-in-KeyText g c = λ fault_name offence_name shown reports.
+    rw c.in-KeyText.is (Answers-to _ _ (λ printed it. of_key c.in-Ok-in-KeyText.key c.in-Ok-in-KeyText.ensures.ok it) c.made_for_key-in-Ok-in-KeyText.result
+    (c.made_for_key-in-Ok-in-KeyText.ensures fault_name offence_name shown reports))
+
+pub returns-in-Err-in-KeyText : goal.returns-in-Err-in-KeyText
+returns-in-Err-in-KeyText g c = λ fault_name offence_name shown reports.
+    rw c.in-KeyText.is (IfStopped-to _ _ (λ printed it. no_key it.0 it.1) c.in-Err-in-KeyText.stop c.in-Err-in-KeyText.ensures.stopped)

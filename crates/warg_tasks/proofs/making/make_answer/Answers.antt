@@ -6,7 +6,7 @@ use Rattle.warg_tasks.proofs.making.make_answer.Goals as goal
 pub returns-in-Ok : goal.returns-in-Ok
 returns-in-Ok g c = λ fault_name offence_name shown reports.
     let it = c.in-Ok.ensures.lawful fault_name offence_name shown reports in
-    made_after _ _ _ _ _ _ _ _ _ (record_lines c.args.input.bytes.items) it.0 _ c.made.result it.1.0 it.1.1 c.made.ensures
+    made_after _ _ _ _ _ _ _ (record_lines c.args.input.bytes.items) it.0 _ _ c.made.result it.1.0 it.1.1 it.1.2 (c.made.ensures fault_name offence_name shown reports)
 
 pub returns-in-Err : goal.returns-in-Err
 returns-in-Err g c = λ fault_name offence_name shown reports.

@@ -1,13 +1,15 @@
 use Rattle.std.proofs.Common.{List, ℕ, subst}
 use Rattle.std.proofs.lemmas.Result.{IfOk-weaker}
 use Rattle.warg_make.specs.NextRecords.{package_prefix}
-use Rattle.warg_make.specs.Sealed.{IsSealed}
+use Rattle.warg_make.specs.Sealed.{IsSigned}
 use Rattle.warg_make.proofs.RecordLemmas.{package_content_is}
 use Rattle.warg_make.proofs.package_words.LogStateWorded.next_envelope.Goals as goal
 
 pub returns-clause-ok : goal.returns-clause-ok
-returns-clause-ok c =
+returns-clause-ok g c =
     let it = c.next_record.ensures in
     let same = package_content_is c.next_record.result _ _ _ it.prev it.version it.said.0 it.said.1 in
-    IfOk-weaker c.sealed.result _ _
-    (λ bytes is. subst (λ (content : List ℕ). IsSealed c.args.name.now package_prefix content bytes.items) same is) c.sealed.ensures.ok
+    IfOk-weaker c.enveloped.result _ _
+    (λ made is. subst (λ (content : List ℕ).
+    IsSigned (g.S.Signer.gives c.args.signer.now) (g.S.Signer.key_of c.args.signer.now) package_prefix content made.envelope) same is)
+    c.enveloped.ensures.ok
