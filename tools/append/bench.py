@@ -45,11 +45,11 @@ class Tool:
 
     def make(self, log: pathlib.Path, seconds: int, *entries: str) -> str:
         """The line of the record that comes next in a log."""
-        return self.run("make", "package", log, "alice", f"{seconds}.0", *entries).stdout
+        return self.run("make", "package", log, f"{seconds}.0", *entries, "--key", "toy:alice", "--toy").stdout
 
     def append(self, log: str | pathlib.Path, lines: str, **kept: Any) -> Done:
         """Appends lines to a log."""
-        return self.run("append", "package", log, given=lines, **kept)
+        return self.run("append", "package", log, "--toy", given=lines, **kept)
 
     def begun(self, log: pathlib.Path, *versions: str) -> list[str]:
         """Begins a log with a record that starts it and one for each version, and gives their lines."""

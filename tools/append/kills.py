@@ -80,7 +80,7 @@ def paused(place: Place, faults: Faults) -> None:
     for call in range(1, calls + 1):
         log = place.log(f"stop{call}")
         kept = {**os.environ, "LD_PRELOAD": str(preload), "BROKEN": "2", "BREAK": str(call), "BREAK_FAILS": STOPS}
-        words = [place.tool.program, "append", "package", log]
+        words = [place.tool.program, "append", "package", log, "--toy"]
         with subprocess.Popen(words, stdin=subprocess.PIPE, stdout=subprocess.PIPE, stderr=subprocess.DEVNULL, text=True, env=kept) as first:
             assert first.stdin is not None
             first.stdin.write(place.lines[2])
@@ -104,7 +104,7 @@ def killed_everywhere(place: Place, faults: Faults) -> None:
     """Each call of the system, by strace."""
     strace = shutil.which("strace")
     traced = place.folder / "traced"
-    words = [place.tool.program, "append", "package", place.log("strace")]
+    words = [place.tool.program, "append", "package", place.log("strace"), "--toy"]
     tried = strace and subprocess.run(
         [strace, "-qq", "-o", traced, *words], input=place.lines[2], text=True, capture_output=True, check=False, timeout=60)
     if not strace or not tried or tried.returncode != 0:
@@ -118,6 +118,6 @@ def killed_everywhere(place: Place, faults: Faults) -> None:
         log = place.log(f"{name}{when}")
         kill = [strace, "-qq", "-o", os.devnull, "-e", f"trace={name}", "-e", f"inject={name}:signal=KILL:when={when}"]
         done = subprocess.run(
-            [*kill, place.tool.program, "append", "package", log], input=place.lines[2], text=True, capture_output=True, check=False, timeout=60)
+            [*kill, place.tool.program, "append", "package", log, "--toy"], input=place.lines[2], text=True, capture_output=True, check=False, timeout=60)
         expect_whole(place, faults, f"killed at {name} {when}", log, done)
     print(f"{len(calls)} calls of the system, killed at each")

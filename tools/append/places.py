@@ -170,7 +170,7 @@ def busy(place: Place, faults: Faults) -> None:
             told = (done.returncode, done.stdout) == (3, "busy\n") and "another append is under way" in done.stderr
             faults.expect(f"while another holds {path.name}", told and time.monotonic() - begun < 10, done)
             faults.expect("a log that another holds stays", log.read_text(encoding="utf-8") == place.text(2), log)
-        with subprocess.Popen([place.tool.program, "append", "package", log], stdin=subprocess.PIPE, stdout=subprocess.PIPE, text=True) as waiting:
+        with subprocess.Popen([place.tool.program, "append", "package", log, "--toy"], stdin=subprocess.PIPE, stdout=subprocess.PIPE, text=True) as waiting:
             fcntl.flock(lock, fcntl.LOCK_UN)
             expect_added(place, faults, "while another waits for its lines", place.tool.append(log, place.lines[2]), log)
             waiting.communicate(place.lines[3])
@@ -189,7 +189,7 @@ def limit(place: Place, faults: Faults) -> None:
             expect_left(faults, name, done, 2, "more than 16777216 bytes", log, text)
         else:
             faults.expect(name, done.returncode == 0 and log.stat().st_size == LIMIT, done)
-            faults.expect(f"{name}: it is read", place.tool.run("audit", "package", log).returncode == 0, log)
+            faults.expect(f"{name}: it is read", place.tool.run("audit", "package", log, "--toy").returncode == 0, log)
 
 
 def outputs(place: Place, faults: Faults) -> None:
@@ -198,7 +198,7 @@ def outputs(place: Place, faults: Faults) -> None:
     def answered(name: str, output: int | None, before: Callable[[], None] | None = None) -> tuple[pathlib.Path, Done]:
         log = place.log(name)
         return log, subprocess.run(
-            [place.tool.program, "append", "package", log], input=place.lines[2], text=True, stdout=output, stderr=subprocess.PIPE, check=False,
+            [place.tool.program, "append", "package", log, "--toy"], input=place.lines[2], text=True, stdout=output, stderr=subprocess.PIPE, check=False,
             preexec_fn=before, timeout=60)
 
     with open("/dev/full", "wb") as full:
@@ -219,7 +219,7 @@ def outputs(place: Place, faults: Faults) -> None:
     faults.expect("a reader that went away", (done.returncode, done.stderr) == (0, ""), done)
     faults.expect("the record stands", log.read_text(encoding="utf-8") == place.text(3), log)
     for text, status in ((place.text(3), 0), (place.text(1) + place.lines[2], 1)):
-        audit = [place.tool.program, "audit", "package"]
+        audit = [place.tool.program, "audit", "package", "--toy"]
         audited = subprocess.run(audit, input=text, text=True, stdout=writes, stderr=subprocess.PIPE, check=False, timeout=60)
         faults.expect(f"an audit of status {status} whose reader went away", audited.returncode == status and "output" not in audited.stderr, audited)
     os.close(writes)
