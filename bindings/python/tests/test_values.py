@@ -1,6 +1,7 @@
 """What is taken for bytes, texts, kinds and permissions, and what is said of anything else."""
 
 import unittest
+import unittest.mock
 from collections.abc import Callable
 from typing import Any
 
@@ -20,6 +21,7 @@ from weoldrin import (
     records,
     verify,
 )
+from weoldrin._library import BAD_ARGUMENT, CALLS
 
 from . import published
 
@@ -133,6 +135,21 @@ class Sentences(unittest.TestCase):
                 call()
             self.assertTrue(caught.exception.name)
         self.assertEqual(str(BadArgument()), "BadArgument: an argument is not of its form, or the log has no such call")
+
+    def test_texts_of_the_library(self) -> None:
+        """What the library says of a bad argument is what is told."""
+        said = b"BadRequirement: said by the library \x1b"
+
+        def call(*arguments: Any) -> int:
+            text, used = arguments[3], arguments[5]
+            text[: len(said)], used.value = said, len(said)
+            return BAD_ARGUMENT
+
+        with unittest.mock.patch.dict(CALLS, {"latest": call}), self.assertRaises(BadArgument) as caught:
+            PackageLog().latest("bogus")
+        error = caught.exception
+        self.assertEqual((error.name, error.sentence), ("BadRequirement", "said by the library \x1b"))
+        self.assertEqual(str(error), "BadRequirement: said by the library \\u{1b}")
 
     def test_kinds(self) -> None:
         self.assertEqual([kind_of("package"), kind_of("operator")], [Kind.PACKAGE, Kind.OPERATOR])

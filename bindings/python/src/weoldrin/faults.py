@@ -104,7 +104,8 @@ class SpoiledState(Fault):
 
 
 class Unsaved(Fault):
-    """The state could not be kept. The new records were found lawful, and are new again the next time."""
+    """The state could not be kept. Records that are counted as new were found lawful, and are new again the next time;
+    where the folder takes no file beside that of the state, nothing was audited."""
 
     def __init__(self, why: str) -> None:
         super().__init__(why)
