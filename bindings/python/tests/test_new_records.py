@@ -1,5 +1,6 @@
 """The audit of what is new in a file: what it keeps, and what it says of a file that is not the old one any more."""
 
+import fcntl
 import json
 import multiprocessing
 import os
@@ -268,6 +269,21 @@ print(audit_new({str(self.path)!r}, Kind.PACKAGE))
         self.assertEqual(sorted(it.records for it in found), [0] * 7 + [6])
         self.assertTrue(all(it.accepted for it in found))
         self.assertEqual({it.name for it in self.folder.iterdir()}, {"log.hex", "log.hex.state"})
+
+    def test_taken_while_waiting(self) -> None:
+        """Whoever waited for a file beside that is gone meanwhile holds none of that name, and takes another."""
+        real, beside = fcntl.flock, self.folder / "log.hex.state.new"
+        waited: list[int] = []
+
+        def flock(file: int, operation: int) -> None:
+            if not waited:
+                beside.unlink()
+            waited.append(file)
+            real(file, operation)
+
+        with unittest.mock.patch.object(fcntl, "flock", flock):
+            self.assertEqual(self._audited(*self.lines).records, 6)
+        self.assertEqual(json.loads(self.state.read_text(encoding="ascii"))["records"], 6)
 
     def test_flushed(self) -> None:
         """The state is flushed before it takes the place of the old one, and the folder after that."""
