@@ -147,7 +147,7 @@ IsUnder files toy (Some path) Unread P = Unread ⊎ ((claims : List ClaimData) �
 -- what is answered to an invocation, by what files hold before and after
 abbrev pub IsInvocationAnswer : Option Files → Option Files → Invocation → Printout → Type 0
 IsInvocationAnswer old new it printed =
-    IsUnder old it.verified (IsGivenAs it.json it.command.now IsUnanswered printed)
+    IsUnder old it.toy it.verified (IsGivenAs it.json it.command.now IsUnanswered printed)
     (λ belongs. IsResponse it.json it.command.now belongs old new it.request printed)
 
 -- what files hold after it

@@ -4,7 +4,8 @@ ghost use Rattle.std.specs.Prelude.{◌≡◌, IfOk, IfErr};
 ghost use Rattle.std.specs.Str.Lines.{lines};
 ghost use Rattle.warg_verified.specs.Texts.{IsReadFrom};
 ghost use Rattle.warg_files.specs.Answers.{answer_view, IfStopped, IsUnanswered, IsUnusable};
-ghost use Rattle.weoldrin.specs.Requests.{AreClaimsIn, InvocationLeaves, IsGivenAs, IsInvocationAnswer};
+ghost use Rattle.weoldrin.specs.Requests.{AreClaimsIn, InvocationLeaves, IsGivenAs, IsInvocationAnswer, IsResponse, RequestLeaves};
+ghost use Rattle.weoldrin.specs.Schemes.{asked_belongs};
 
 use crate::commands::{given, respond};
 use crate::schemes::KnownSchemes;
