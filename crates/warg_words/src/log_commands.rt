@@ -1,6 +1,6 @@
 //! The commands on logs.
 
-use crate::table::{Form, Row, Word};
+use crate::table::{Choice, Form, JSON, Row, Word};
 
 const KIND: Word = Word {
     name: "KIND",
@@ -26,6 +26,81 @@ const KEY_ID: Word = Word {
     help: "The key's id",
 };
 
+const VERIFIED: Choice = Choice {
+    name: "verified",
+    value: Some("FILE"),
+    help: "Takes the signatures that this file lists, and no others",
+};
+
+const TOY: Choice = Choice {
+    name: "toy",
+    value: None,
+    help: "Also takes signatures of the toy scheme, which anyone can forge",
+};
+
+const FULL: Choice = Choice {
+    name: "full",
+    value: None,
+    help: "Shows ids whole",
+};
+
+const NAMES: Choice = Choice {
+    name: "names",
+    value: Some("FILE"),
+    help: "Names keys as this file does: an id or a key's text, a space, a name",
+};
+
+const OF_LOGS: &[Choice] = &[JSON, VERIFIED, TOY];
+
+const OF_SHOWN: &[Choice] = &[JSON, VERIFIED, TOY, FULL, NAMES];
+
+const OF_AUDITS: &[Choice] = &[
+    JSON,
+    VERIFIED,
+    TOY,
+    Choice {
+        name: "allow-empty",
+        value: None,
+        help: "Takes a log without records",
+    },
+    Choice {
+        name: "paths",
+        value: None,
+        help: "Prints the log's path before each line, as for many logs",
+    },
+    Choice {
+        name: "expect-head",
+        value: Some("ID"),
+        help: "The id that the last record has to have; with one log alone",
+    },
+    Choice {
+        name: "at-least",
+        value: Some("N"),
+        help: "How many records there have to be; with one log alone",
+    },
+    Choice {
+        name: "goes-on-from",
+        value: Some("FILE"),
+        help: "An older copy, which the log has to go on from; with one log alone",
+    },
+];
+
+const OF_MAKING: &[Choice] = &[
+    JSON,
+    VERIFIED,
+    TOY,
+    Choice {
+        name: "key",
+        value: Some("toy:NAME"),
+        help: "The toy key that signs",
+    },
+    Choice {
+        name: "key-text",
+        value: Some("TEXT"),
+        help: "The text of the key that signs elsewhere; what it has to sign is printed",
+    },
+];
+
 /// The commands, in the order of the help.
 pub(crate) const LOG_COMMANDS: &[Row] = &[
     Row {
@@ -40,12 +115,14 @@ pub(crate) const LOG_COMMANDS: &[Row] = &[
                 help: "The file with the record's line",
             },
         ],
+        choices: &[JSON],
     },
     Row {
         name: "audit",
         about: "Prints the verdict on a log, or a line on each of many",
         example: "Examples:
   weoldrin audit package log.hex
+  weoldrin audit package log.hex --at-least 3 --goes-on-from older.hex
   weoldrin audit package logs/*.hex
   weoldrin audit package @paths.txt   (the file has a path on each line)",
         words: &[
@@ -56,18 +133,21 @@ pub(crate) const LOG_COMMANDS: &[Row] = &[
                 help: "The logs' files, or @FILE for those that a file lists",
             },
         ],
+        choices: OF_AUDITS,
     },
     Row {
         name: "show",
         about: "Shows a log in words, and why a record is refused",
         example: "Example: weoldrin show package log.hex",
         words: &[KIND, LOG],
+        choices: OF_SHOWN,
     },
     Row {
         name: "state",
         about: "Prints the state that a log adds up to, as JSON",
         example: "Example: weoldrin state package log.hex > state.json",
         words: &[KIND, LOG],
+        choices: OF_LOGS,
     },
     Row {
         name: "resume",
@@ -86,6 +166,7 @@ pub(crate) const LOG_COMMANDS: &[Row] = &[
                 help: "The records that came since",
             },
         ],
+        choices: OF_LOGS,
     },
     Row {
         name: "latest",
@@ -99,12 +180,14 @@ pub(crate) const LOG_COMMANDS: &[Row] = &[
             },
             LOG,
         ],
+        choices: OF_LOGS,
     },
     Row {
         name: "permissions",
         about: "Prints what a key may do",
         example: "Example: weoldrin permissions package sha256:0a1b.. log.hex",
         words: &[KIND, KEY_ID, LOG],
+        choices: OF_LOGS,
     },
     Row {
         name: "chain",
@@ -120,11 +203,14 @@ pub(crate) const LOG_COMMANDS: &[Row] = &[
             },
             LOG,
         ],
+        choices: OF_SHOWN,
     },
     Row {
         name: "compare",
-        about: "Says how two logs compare: the same, a beginning, or a fork",
-        example: "Example: weoldrin compare package mine.hex theirs.hex",
+        about: "Says how a log compares with an older copy of it",
+        example: "Example: weoldrin compare package older.hex log.hex
+
+One of the two may be -, standard input.",
         words: &[
             KIND,
             Word {
@@ -138,6 +224,7 @@ pub(crate) const LOG_COMMANDS: &[Row] = &[
                 help: "The newer copy's file",
             },
         ],
+        choices: OF_LOGS,
     },
     Row {
         name: "claims",
@@ -148,30 +235,30 @@ Verify each line by what you trust, keep the lines that hold, and hand them back
 to any command by --verified FILE. A line is the key's text, the message in hex
 and the signature's text, with a space between.",
         words: &[KIND, LOG],
+        choices: OF_LOGS,
     },
     Row {
         name: "make",
-        about: "Prints a record that comes next in a log, signed by the toy scheme",
-        example: "Example: weoldrin make package log.hex alice 1700000000.0 'init alice'
+        about: "Prints a record that comes next in a log",
+        example: "Example: weoldrin make package log.hex now 'init alice' --key toy:alice --toy
+
+The time is 'now', one of RFC 3339, or seconds since 1970 as 1700000000.0.
 
 Entries of a package: 'init NAME', 'grant NAME PERMISSION..',
 'revoke NAME PERMISSION..', 'release VERSION CONTENT', 'yank VERSION'. Of
 operators: 'init NAME', 'grant NAME PERMISSION..', 'revoke NAME PERMISSION..',
 'define NAMESPACE', 'import NAMESPACE REGISTRY'. A NAME is that of a toy key, or
 a key's text; in 'revoke' it may be a key's id. The toy scheme keeps no secret:
-anyone can sign by any name, so it is for trying alone.",
+anyone can sign by any name, so it is for trying alone. With --key-text the
+record without its signature is printed, and what is to be signed:
+weoldrin-sign sign KEY.pem makes the record of it.",
         words: &[
             KIND,
             BEGUN,
             Word {
-                name: "NAME",
-                form: Form::Required,
-                help: "Whose toy key signs",
-            },
-            Word {
                 name: "TIME",
                 form: Form::Required,
-                help: "Seconds since 1970, a point, nanoseconds",
+                help: "When the record is made",
             },
             Word {
                 name: "ENTRY",
@@ -179,11 +266,12 @@ anyone can sign by any name, so it is for trying alone.",
                 help: "The record's entries, each in one word of the shell",
             },
         ],
+        choices: OF_MAKING,
     },
     Row {
         name: "append",
-        about: "Adds records to a log's file, all or none, and prints the whole log's audit",
-        example: "Example: weoldrin make package log.hex alice 1700000000.0 'init alice' | weoldrin append package log.hex
+        about: "Adds records to a log's file, all or none, and prints what they added",
+        example: "Example: weoldrin make package log.hex now 'init alice' --key toy:alice --toy | weoldrin append package log.hex --toy
 
 What the audit refuses is not written. A failed write or a kill leaves the old
 file or the new one.",
@@ -196,5 +284,6 @@ file or the new one.",
                 help: "The file with the records' lines",
             },
         ],
+        choices: OF_LOGS,
     },
 ];

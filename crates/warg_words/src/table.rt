@@ -1,4 +1,4 @@
-//! Commands as tables: each word of a command, and the command line that clap makes of them.
+//! Commands as tables, for their help: each word and option of a command, and the command line that clap makes of them.
 
 use clap::{Arg, ArgAction, Command};
 use std::alloc::{AllocError, Global};
@@ -26,6 +26,15 @@ pub(crate) struct Word {
     pub(crate) help: &'static str,
 }
 
+/// An option of a command.
+#[derive(Clone, Copy)]
+pub(crate) struct Choice {
+    pub(crate) name: &'static str,
+    /// What its value is called, if it takes one.
+    pub(crate) value: Option<&'static str>,
+    pub(crate) help: &'static str,
+}
+
 /// A command, with an example behind its help.
 #[derive(Clone, Copy)]
 pub(crate) struct Row {
@@ -33,16 +42,15 @@ pub(crate) struct Row {
     pub(crate) about: &'static str,
     pub(crate) example: &'static str,
     pub(crate) words: &'static [Word],
+    pub(crate) choices: &'static [Choice],
 }
 
-/// Which options commands have beside their words.
-#[derive(Clone, Copy, PartialEq, Eq)]
-pub(crate) enum Options {
-    /// Answers in JSON.
-    Json,
-    /// These, and which signatures are taken.
-    JsonAndSchemes,
-}
+/// Answers in JSON.
+pub(crate) const JSON: Choice = Choice {
+    name: "json",
+    value: None,
+    help: "Answers in JSON, an object a line",
+};
 
 fn arg_of<'a>(alloc: Global, word: &Word) -> Arg<'a> {
     let arg = Arg::new(alloc, word.name).help(word.help);
@@ -54,35 +62,22 @@ fn arg_of<'a>(alloc: Global, word: &Word) -> Arg<'a> {
     }
 }
 
-fn json<'a>(alloc: Global) -> Arg<'a> {
-    Arg::new(alloc, "json")
-        .long("json")
-        .action(ArgAction::SetTrue)
-        .help("Answers in JSON, an object a line")
+fn option_of<'a>(alloc: Global, choice: &Choice) -> Arg<'a> {
+    let arg = Arg::new(alloc, choice.name)
+        .long(choice.name)
+        .help(choice.help);
+    match choice.value {
+        Some(name) => arg.value_name(name),
+        None => arg.action(ArgAction::SetTrue),
+    }
 }
 
-fn verified<'a>(alloc: Global) -> Arg<'a> {
-    Arg::new(alloc, "verified")
-        .long("verified")
-        .value_name("FILE")
-        .help("Takes the signatures that this file lists, and no others")
-}
-
-fn toy<'a>(alloc: Global) -> Result<Arg<'a>, AllocError> {
-    Arg::new(alloc, "toy")
-        .long("toy")
-        .action(ArgAction::SetTrue)
-        .help("Also takes signatures of the toy scheme, which anyone can forge")
-        .conflicts_with("verified")
-}
-
-fn command_of<'a>(alloc: Global, row: &Row, options: Options) -> Result<Command<'a>, AllocError> {
+fn command_of<'a>(alloc: Global, row: &Row) -> Result<Command<'a>, AllocError> {
     let mut command = Command::new(alloc, row.name)
         .about(row.about)
-        .after_help(row.example)
-        .arg(json(alloc))?;
-    if options == Options::JsonAndSchemes {
-        command = command.arg(verified(alloc))?.arg(toy(alloc)?)?;
+        .after_help(row.example);
+    for choice in row.choices {
+        command = command.arg(option_of(alloc, choice))?;
     }
     for word in row.words {
         command = command.arg(arg_of(alloc, word))?;
@@ -95,11 +90,10 @@ pub(crate) fn with_commands<'a>(
     alloc: Global,
     command: Command<'a>,
     rows: &[Row],
-    options: Options,
 ) -> Result<Command<'a>, AllocError> {
     let mut command = command.subcommand_required(true);
     for row in rows {
-        command = command.subcommand(command_of(alloc, row, options)?)?;
+        command = command.subcommand(command_of(alloc, row)?)?;
     }
     Ok(command)
 }

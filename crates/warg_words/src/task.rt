@@ -51,17 +51,35 @@ pub enum Task<'a> {
     },
 }
 
-// The record that the words say.
-fn parse_draft<'a>(alloc: Global, matches: &ArgMatches<'a>) -> Result<Draft<'a>, AllocError> {
-    Ok(Draft {
-        signer: Signer::Toy(value(matches, "NAME")),
+// Who signs; none where the words say no such key, or more than one.
+fn signer<'a>(matches: &ArgMatches<'a>) -> Option<Signer<'a>> {
+    match (matches.get_str("key"), matches.get_str("key-text")) {
+        (Some(key), None) => match key.strip_prefix("toy:") {
+            Some(name) => Some(Signer::Toy(name)),
+            None => None,
+        },
+        (None, Some(text)) => Some(Signer::KeyText(text)),
+        _ => None,
+    }
+}
+
+// The record that the words say, if they say who signs it.
+fn parse_draft<'a>(
+    alloc: Global,
+    matches: &ArgMatches<'a>,
+) -> Result<Option<Draft<'a>>, AllocError> {
+    let Some(signer) = signer(matches) else {
+        return Ok(None);
+    };
+    Ok(Some(Draft {
+        signer,
         clock: None,
         time: value(matches, "TIME"),
         entries: match matches.get_strs("ENTRY") {
             Some(entries) => entries.to_vec(alloc)?,
             None => Vec::new(alloc),
         },
-    })
+    }))
 }
 
 /// The task of a command, if the command is one.
@@ -73,10 +91,10 @@ pub(crate) fn parse_task<'a>(
     let log = value(matches, "LOG");
     match command {
         "claims" => Ok(Some(Task::Claims { log })),
-        "make" => Ok(Some(Task::Make {
-            log,
-            draft: parse_draft(alloc, matches)?,
-        })),
+        "make" => match parse_draft(alloc, matches)? {
+            Some(draft) => Ok(Some(Task::Make { log, draft })),
+            None => Ok(None),
+        },
         "append" => Ok(Some(Task::Append {
             log,
             lines: value(matches, "LINES"),

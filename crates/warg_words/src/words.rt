@@ -3,7 +3,7 @@
 use crate::log_commands::LOG_COMMANDS;
 use crate::proof_commands::{PROVE, VERIFY, prove_request, verify_request};
 use crate::request::{Demands, Invocation, Question, Request, Said};
-use crate::table::{Options, with_commands};
+use crate::table::with_commands;
 use crate::task::parse_task;
 use crate::version::VERSION;
 use clap::error::ErrorKind;
@@ -16,8 +16,8 @@ const ABOUT: &str = "Checks the logs of a package registry, and answers from the
 const AFTER: &str = "A log is a file of lines, each a signed record in hex. Comments, which begin
 with #, are passed over, and so is a blank last line. - is standard input.
 
-Status: 0 yes, 1 a negative answer, 2 wrong words or unreadable input, 3 a failed
-read or write, or out of memory.";
+Status: 0 yes, 1 a negative answer, whose text is on standard output, 2 wrong
+words or unreadable input, 3 a failed read or write, out of memory, or busy.";
 
 // The program's command line.
 fn program<'a>(alloc: Global) -> Result<Command<'a>, AllocError> {
@@ -26,7 +26,7 @@ fn program<'a>(alloc: Global) -> Result<Command<'a>, AllocError> {
         .about(ABOUT)
         .after_help(AFTER)
         .arg_required_else_help(true);
-    let program = with_commands(alloc, program, LOG_COMMANDS, Options::JsonAndSchemes)?;
+    let program = with_commands(alloc, program, LOG_COMMANDS)?;
     let prove = Command::new(alloc, "prove").about(
         "Prints a registry's checkpoint, or a proof under it",
     );
@@ -34,8 +34,8 @@ fn program<'a>(alloc: Global) -> Result<Command<'a>, AllocError> {
         "Says whether a proof under a checkpoint holds",
     );
     program
-        .subcommand(with_commands(alloc, prove, PROVE, Options::Json)?)?
-        .subcommand(with_commands(alloc, verify, VERIFY, Options::Json)?)
+        .subcommand(with_commands(alloc, prove, PROVE)?)?
+        .subcommand(with_commands(alloc, verify, VERIFY)?)
 }
 
 // The value of a word that the command requires or has a default for.
@@ -52,32 +52,66 @@ fn kind(matches: &ArgMatches<'_>) -> LogType {
     }
 }
 
-// The verdict on one log, of which nothing more is demanded.
-fn audit_of_one<'a>(kind: LogType, log: &'a str) -> Request<'a> {
-    Request::Audit {
-        kind,
-        log,
-        demands: Demands {
-            allows_empty: true,
-            head: None,
-            least: None,
-            older: None,
-        },
-        shows_path: false,
+// The number that decimal digits say, if it is below 2^64.
+fn number(digits: &str) -> Option<u64> {
+    if digits.starts_with('+') {
+        return None;
     }
+    digits.parse::<u64>().ok()
+}
+
+// What is demanded of one log, if the words can be used.
+fn demands<'a>(matches: &ArgMatches<'a>) -> Option<Demands<'a>> {
+    let least = match matches.get_str("at-least") {
+        Some(digits) => Some(number(digits)?),
+        None => None,
+    };
+    Some(Demands {
+        allows_empty: matches.get_flag("allow-empty"),
+        head: matches.get_str("expect-head"),
+        least,
+        older: matches.get_str("goes-on-from"),
+    })
+}
+
+// Whether something is demanded that is demanded of one log alone.
+fn is_of_one(demands: &Demands<'_>) -> bool {
+    demands.head.is_some() || demands.least.is_some() || demands.older.is_some()
 }
 
 // The verdict on one log, or a line on each of many; on standard input where no log is named.
-fn audit<'a>(alloc: Global, matches: &ArgMatches<'a>) -> Result<Request<'a>, AllocError> {
+fn audit<'a>(alloc: Global, matches: &ArgMatches<'a>) -> Result<Option<Request<'a>>, AllocError> {
     let kind = kind(matches);
-    match matches.get_strs("LOG") {
-        None | Some([]) => Ok(audit_of_one(kind, "-")),
-        Some([log]) if !log.starts_with('@') => Ok(audit_of_one(kind, log)),
-        Some(logs) => Ok(Request::Audits {
-            kind,
-            logs: logs.to_vec(alloc)?,
-            allows_empty: true,
-        }),
+    let Some(demands) = demands(matches) else {
+        return Ok(None);
+    };
+    let log = match matches.get_strs("LOG") {
+        None | Some([]) => "-",
+        Some([log]) if !log.starts_with('@') => *log,
+        Some(_) if is_of_one(&demands) => return Ok(None),
+        Some(logs) => {
+            return Ok(Some(Request::Audits {
+                kind,
+                logs: logs.to_vec(alloc)?,
+                allows_empty: demands.allows_empty,
+            }));
+        }
+    };
+    Ok(Some(Request::Audit {
+        kind,
+        log,
+        demands,
+        shows_path: matches.get_flag("paths"),
+    }))
+}
+
+// Whether standard input is to be read as two files.
+fn is_read_twice(command: &str, matches: &ArgMatches<'_>) -> bool {
+    match command {
+        "compare" => value(matches, "OLD") == "-" && value(matches, "NEW") == "-",
+        "resume" => value(matches, "STATE") == "-" && value(matches, "LOG") == "-",
+        "append" => value(matches, "LOG") == "-" && value(matches, "LINES") == "-",
+        _ => matches.get_str("verified") == Some("-") && value(matches, "LOG") == "-",
     }
 }
 
@@ -126,12 +160,12 @@ fn request<'a>(
             kind: kind(matches),
             log: value(matches, "LOG"),
         })),
-        "audit" => Ok(Some(audit(alloc, matches)?)),
+        "audit" => audit(alloc, matches),
         "show" => Ok(Some(Request::Show {
             kind: kind(matches),
             log: value(matches, "LOG"),
-            full: false,
-            names: None,
+            full: matches.get_flag("full"),
+            names: matches.get_str("names"),
         })),
         "prove" => Ok(prove_request(matches)),
         "verify" => Ok(verify_request(matches)),
@@ -159,9 +193,29 @@ fn told(alloc: Global, error: &Error) -> Result<Said<'static>, AllocError> {
     }
 }
 
+// What is said of words that can't stand together.
+const CLASH: &str = "error: these words can't stand together
+
+For more information, try '--help'.
+";
+
+// The request of a command, if its words can stand together.
+fn usable_request<'a>(
+    alloc: Global,
+    command: &str,
+    matches: &ArgMatches<'a>,
+) -> Result<Option<Request<'a>>, AllocError> {
+    let has_two_verifiers = matches.get_flag("toy") && matches.get_str("verified").is_some();
+    if has_two_verifiers || is_read_twice(command, matches) {
+        Ok(None)
+    } else {
+        request(alloc, command, matches)
+    }
+}
+
 fn matched<'a>(alloc: Global, matches: &ArgMatches<'a>) -> Result<Said<'a>, AllocError> {
     if let Some((command, matches)) = matches.subcommand()
-        && let Some(request) = request(alloc, command, matches)?
+        && let Some(request) = usable_request(alloc, command, matches)?
     {
         let options = matches.subcommand().map_or(matches, |(_, inner)| inner);
         return Ok(Said::Invocation(Invocation {
@@ -172,8 +226,7 @@ fn matched<'a>(alloc: Global, matches: &ArgMatches<'a>) -> Result<Said<'a>, Allo
             toy: options.get_flag("toy"),
         }));
     }
-    let sentence = String::from_str(alloc, "weoldrin: no such command\n")?;
-    Ok(Said::Fault(sentence))
+    Ok(Said::Fault(String::from_str(alloc, CLASH)?))
 }
 
 /// What the words ask for. The first is the program's name.
