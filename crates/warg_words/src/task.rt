@@ -52,7 +52,7 @@ pub enum Task<'a> {
 }
 
 // Who signs; none where the words say no such key, or more than one.
-fn signer<'a>(matches: &ArgMatches<'a>) -> Option<Signer<'a>> {
+fn parse_signer<'a>(matches: &ArgMatches<'a>) -> Option<Signer<'a>> {
     match (matches.get_str("key"), matches.get_str("key-text")) {
         (Some(key), None) => match key.strip_prefix("toy:") {
             Some(name) => Some(Signer::Toy(name)),
@@ -68,7 +68,7 @@ fn parse_draft<'a>(
     alloc: Global,
     matches: &ArgMatches<'a>,
 ) -> Result<Option<Draft<'a>>, AllocError> {
-    let Some(signer) = signer(matches) else {
+    let Some(signer) = parse_signer(matches) else {
         return Ok(None);
     };
     Ok(Some(Draft {
