@@ -2,6 +2,7 @@
 
 import os
 import pathlib
+import shlex
 import subprocess
 import sys
 import tempfile
@@ -162,6 +163,17 @@ class Command(unittest.TestCase):
                 self.assertEqual(self._make("now")[:2], (2, ""))
         self.assertEqual(self._make("now", key=self.folder / "none.pem")[:2], (2, ""))
         self.assertEqual(self._make("now", key=pathlib.Path(folder))[:2], (2, ""))
+
+    def test_output(self) -> None:
+        """A reader that has gone is no error, and a full disk is one."""
+        words = ["make", "package", str(self.log), "now", f"init {self.key.public_key}", "--key", str(self.pem)]
+        command = " ".join(map(shlex.quote, [sys.executable, "-m", "weoldrin", *words]))
+        for output, status in (("> /dev/full", 3), ("| true", 0)):
+            done = subprocess.run(
+                ["bash", "-o", "pipefail", "-c", f"{command} {output}"], capture_output=True, text=True, check=False
+            )
+            self.assertEqual(done.returncode, status, done.stderr)
+            self.assertNotIn("Traceback", done.stderr)
 
     def test_a_key_that_others_may_read(self) -> None:
         self.pem.chmod(0o640)

@@ -19,6 +19,7 @@ from . import records
 from .auditing import append_all, envelopes_of
 from .errors import Error, Refused
 from .logs import Kind, Log, log_of
+from .printing import print_lines, printable
 
 if TYPE_CHECKING:
     from .p256 import SigningKey
@@ -147,7 +148,8 @@ def add_command(commands: "argparse._SubParsersAction[argparse.ArgumentParser]")
         "make",
         help="the next record of a log, signed by a key's file",
         description="Prints the line of the record that comes next in a log, signed by a key of ECDSA P-256.",
-        epilog="Status: 0 made, 1 the log refuses it, 2 wrong words, or a key or a log that can't be used.",
+        epilog="Status: 0 made, 1 the log refuses it, 2 wrong words, or a key or a log that can't be used, 3 the line could not "
+        "be written.",
     )
     command.add_argument("kind", choices=["package", "operator"])
     command.add_argument("log", metavar="LOG", help="a file, which may be missing yet; - is standard input")
@@ -157,7 +159,7 @@ def add_command(commands: "argparse._SubParsersAction[argparse.ArgumentParser]")
 
 
 def _warn(sentence: str) -> None:
-    print(f"weoldrin: {ascii(sentence)[1:-1]}", file=sys.stderr)
+    print(f"weoldrin: {printable(sentence)}", file=sys.stderr)
 
 
 def _line(asked: argparse.Namespace) -> tuple[str, int]:
@@ -188,5 +190,9 @@ def run(asked: argparse.Namespace) -> int:
     except (NoRecord, Error) as error:
         _warn(str(error))
         return 2
-    print(line)
+    try:
+        print_lines([line])
+    except OSError as error:
+        _warn(f"standard output could not be written: {error.strerror}")
+        return 3
     return status
