@@ -4,11 +4,12 @@ ghost use Rattle.std.specs.Prelude.{◌≡◌, Bool, not, ◌||◌, codes};
 ghost use Rattle.std.specs.Str.{bytes_eq};
 
 use crate::kind::ToolLog;
+use crate::unread::unless_out_of_memory;
 use std::alloc::{AllocError, Global};
 use warg_protocol::p256::KnownKeys;
 use warg_protocol::signing::{PublicKey, Signature, SignatureError, Verifier};
 use warg_protocol::toy::ToyVerifier;
-use warg_protocol::{ParseEnvelopeError, ProtoEnvelope, RunError, operator, package, run_from};
+use warg_protocol::{ProtoEnvelope, RunError, operator, package, run_from};
 
 /// What each file of text may begin with, and no log may.
 const BYTE_ORDER_MARK: &[u8] = b"\xef\xbb\xbf";
@@ -78,7 +79,27 @@ impl Verifier for UnknownScheme {
     }
 }
 
-// Whether the string is a record that may come after the state, by these signatures.
+// That a record is not taken, unless memory was refused.
+fn not_taken<L: ToolLog>(error: &L::Error) -> Result<bool, AllocError> {
+    if L::is_out_of_memory(error) {
+        return Err(AllocError);
+    }
+    Ok(false)
+}
+
+// Whether the record may come after the state, by these signatures.
+fn is_next<L: ToolLog, V: Verifier>(
+    state: L,
+    envelope: &ProtoEnvelope<L::Record>,
+    verifier: &V,
+) -> Result<bool, AllocError> {
+    match state.validate(envelope, verifier) {
+        Ok(_) => Ok(true),
+        Err(error) => not_taken::<L>(&error),
+    }
+}
+
+// Whether the string is such a record.
 fn is_taken<L: ToolLog, V: Verifier>(
     alloc: Global,
     state: L,
@@ -86,13 +107,11 @@ fn is_taken<L: ToolLog, V: Verifier>(
     verifier: &V,
 ) -> Result<bool, AllocError> {
     match ProtoEnvelope::<L::Record>::from_protobuf(alloc, string) {
-        Ok(envelope) => match state.validate(&envelope, verifier) {
-            Ok(_) => Ok(true),
-            Err(error) if L::is_out_of_memory(&error) => Err(AllocError),
-            Err(_) => Ok(false),
-        },
-        Err(ParseEnvelopeError::OutOfMemory) => Err(AllocError),
-        Err(_) => Ok(false),
+        Ok(envelope) => is_next(state, &envelope, verifier),
+        Err(error) => {
+            unless_out_of_memory(&error)?;
+            Ok(false)
+        }
     }
 }
 
