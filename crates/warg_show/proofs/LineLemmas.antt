@@ -7,7 +7,10 @@ use Rattle.warg_protocol.specs.Operator.{Defined, Imported, Namespace}
 use Rattle.warg_protocol.specs.Package.{ReleaseState, ReleaseView}
 use Rattle.warg_protocol.specs.Records.{RecordId, hash_text, parts_text}
 use Rattle.warg_protocol.specs.ReleaseStates.{Released, Yanked}
+use Rattle.warg_protocol.specs.Operator as operators
+use Rattle.warg_protocol.specs.Package as packages
 use Rattle.warg_audit.specs.LogAnswers.{head_text}
+use Rattle.warg_audit.specs.LogTypes.{package_log}
 use Rattle.warg_answers.specs.ShownWords.{AreReleaseLines, IsReleaseLine, IsStandingLine, RecordWords, after_spaces, key_line, key_lines, namespace_line, namespace_lines, shows_namespaces, shows_releases}
 use Rattle.warg_printable.specs.Lines.{IsPrintedText}
 use Rattle.warg_printable.proofs.LineLemmas.{both_lines, no_lines, one_line, same_lines}
@@ -46,10 +49,15 @@ namespaces_shown (it ∷ more) = both_lines (namespace_line it.0 it.1) (namespac
 
 pub releases_text : (records : List EnvelopeData) (text : List ℕ) → shows_releases records text → IsPrintedText text
 releases_text records text h =
-    same_lines text _ h.is (both_lines _ h.releases (keys_shown _ h.keys) (releases_shown _ h.releases h.are_releases))
+    same_lines text (key_lines packages.permission_text h.keys ++ h.releases) h.is
+    (both_lines (key_lines packages.permission_text h.keys) h.releases (keys_shown packages.permission_text h.keys)
+    (releases_shown (package_log.kind.view_of records).state.own_state h.releases h.are_releases))
 
 pub namespaces_text : (records : List EnvelopeData) (text : List ℕ) → shows_namespaces records text → IsPrintedText text
-namespaces_text records text h = same_lines text _ h.is (both_lines _ _ (keys_shown _ h.keys) (namespaces_shown h.namespaces))
+namespaces_text records text h =
+    same_lines text (key_lines operators.permission_text h.keys ++ namespace_lines h.namespaces) h.is
+    (both_lines (key_lines operators.permission_text h.keys) (namespace_lines h.namespaces) (keys_shown operators.permission_text h.keys)
+    (namespaces_shown h.namespaces))
 
 module _ (Says : List ℕ → RecordWords → Type 0) (Shows : List EnvelopeData → List ℕ → Type 0)
     (shown : (records : List EnvelopeData) (text : List ℕ) → Shows records text → IsPrintedText text) where
