@@ -1,16 +1,15 @@
 -- What is printed, as it is read back.
-use Rattle.std.proofs.Common.{◌≡◌, ℕ, ◌+◌, ◌*◌, ◌^◌, ◌==◌, ◌<◌, Bool, true, false, not, ◌&&◌, cond, List, [], ◌∷◌, ◌++◌, Option, Some, None, option_map, refl, sym, ap, ◌∙◌, arith, append_assoc, encode_utf8_all, chars, IsUtf8, flat_map}
+use Rattle.std.proofs.Common.{◌≡◌, ℕ, ◌+◌, ◌*◌, ◌^◌, ◌==◌, ◌<◌, Bool, true, false, not, ◌&&◌, cond, List, [], ◌∷◌, ◌++◌, Some, refl, sym, ap, ◌∙◌, arith, append_assoc, encode_utf8_all, chars, IsUtf8, flat_map}
 use Rattle.std.proofs.lemmas.Bool.{eqb-true, lt-ltb}
-use Rattle.std.proofs.lemmas.Bool.Decides.{nat_tests}
 use Rattle.std.proofs.lemmas.Fmt.{digits_is_IsNumeral}
 use Rattle.std.proofs.lemmas.Str.{chars-encodes, encodes-chars, scalars-chars}
 use Rattle.std.specs.Char.{digit_value, is_digit}
 use Rattle.std.specs.Fmt.{digit_glyph, digits}
 use Rattle.std.specs.Str.{NonePass, all_scalars}
-use Rattle.std.specs.Str.Parse.{AllDigits, digits_value, digits_value_after}
+use Rattle.std.specs.Str.Parse.{AllDigits, digits_value_after}
 use lib.Utf8.{scalar, scalar_fits, low_scalar}
-use Rattle.warg_printable.specs.Back.{Within, bytes_of_read, in_front, read_from, unprintable}
-use Rattle.warg_printable.specs.Back.Within.{plain, after_backslash, after_u, in_number}
+use Rattle.warg_printable.specs.Back.{bytes_of_read, in_front, read_from, unprintable}
+use Rattle.warg_printable.specs.Back.Within.{plain, in_number}
 use Rattle.warg_printable.specs.Characters.{backslash, number_escape}
 use Rattle.warg_printable.specs.Printable.{escaped, is_numbered, shown_char}
 use Rattle.warg_printable.proofs.CharacterLemmas.{glyph_ascii, none-append, none-escape}

@@ -1,7 +1,7 @@
 -- Printed texts, put together line by line.
 use Rattle.std.proofs.Common.{◌≡◌, ℕ, false, List, [], ◌∷◌, ◌++◌, codes, refl, sym, ap, subst, ◌∙◌, append_assoc, append-nil}
 use Rattle.std.specs.List.{AllByRecursion}
-use Rattle.warg_printable.specs.Lines.{IsPrintedLines, IsPrintedText, with_ends}
+use Rattle.warg_printable.specs.Lines.{IsPrintedText, with_ends}
 use Rattle.warg_printable.specs.Printable.{IsPrintable, printable}
 use Rattle.warg_printable.proofs.ShownLemmas.{escaped_shown}
 

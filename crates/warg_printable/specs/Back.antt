@@ -1,5 +1,5 @@
 -- A printed text, as it is read back.
-use Rattle.std.specs.Prelude.{◌==◌, ◌+◌, ◌*◌, ℕ, Bool, if◌then◌else◌, List, [], ◌∷◌, Option, Some, None, option_map}
+use Rattle.std.specs.Prelude.{◌==◌, ◌+◌, ◌*◌, ℕ, if◌then◌else◌, List, [], ◌∷◌, Option, Some, None, option_map}
 use Rattle.std.specs.Char.{digit_value, is_digit}
 use Rattle.std.specs.Str.{all_scalars, chars, encode_utf8_all}
 use Rattle.warg_printable.specs.Characters.{backslash}

@@ -1,5 +1,5 @@
 -- Characters that a terminal or a reader of lines takes for more than a sign, and how they are printed.
-use Rattle.std.specs.Prelude.{ℕ, ◌%◌, ◌==◌, ◌&&◌, ◌||◌, nat_lt, nat_le, Bool, false, if◌then◌else◌, List, [], ◌∷◌, ◌++◌}
+use Rattle.std.specs.Prelude.{ℕ, ◌%◌, ◌==◌, ◌&&◌, ◌||◌, nat_lt, nat_le, Bool, false, List, [], ◌∷◌, ◌++◌}
 use Rattle.std.specs.Fmt.{digits}
 
 -- whether the character is one from low to high

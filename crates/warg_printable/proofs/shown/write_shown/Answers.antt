@@ -1,6 +1,6 @@
-use Rattle.std.proofs.Common.{◌≡◌, sym, ap, ◌∙◌, rules}
+use Rattle.std.proofs.Common.{sym, ◌∙◌}
 use Rattle.std.proofs.Output.{has_written_of_eq}
-use Rattle.warg_printable.proofs.ShownLemmas.{shown-backslash, shown-number, shown-plain}
+use Rattle.warg_printable.proofs.ShownLemmas.{shown-number}
 use Rattle.warg_printable.proofs.shown.write_shown.Goals as goal
 
 pub returns-then-is_numbered : goal.returns-then-is_numbered
