@@ -1,7 +1,7 @@
 -- Envelopes that a key signed, and envelopes that still lack their signature.
 use Rattle.std.proofs.Common.{◌≡◌, ◌<◌, ◌^◌, ℕ, List, [], ◌∷◌, ◌++◌, length, IsUtf8, refl, sym, subst, ◌∙◌, ap}
-use Rattle.warg_crypto.specs.NamedBytes.{NamedBytes}
-use Rattle.warg_crypto.specs.Signed.{toy_signature}
+use Rattle.warg_crypto.specs.NamedBytes.{NamedBytes, fingerprint_of}
+use Rattle.warg_crypto.specs.Signed.{signed_message, toy_signature}
 use Rattle.warg_envelope.specs.EnvelopeData.{EnvelopeData}
 use Rattle.warg_envelope.specs.Envelopes.{envelope_message}
 use Rattle.warg_protobuf.specs.Envelope.{EnvelopeValue, IsEnvelope, envelope_bytes}
@@ -9,25 +9,19 @@ use Rattle.warg_protobuf.specs.Writing.{bytes_field, bytes_of, field_bytes}
 use Rattle.warg_protobuf.specs.Field.{Field}
 use Rattle.warg_protobuf.proofs.WrittenMessages.{envelope_again}
 use Rattle.warg_make.specs.KeyWords.{toy_key}
-use Rattle.warg_make.specs.Sealed.{IsEnclosed, IsSealed, IsSigned, signature_bytes, unsigned_bytes}
+use Rattle.warg_make.specs.Sealed.{IsSealed, IsSigned, signature_bytes, unsigned_bytes}
 
 -- the bytes of an envelope that the toy key of a name signed
-pub sealed_by : (name prefix content bytes : List ℕ) (it : EnvelopeData)
-    → IsSigned (λ message signature. signature ≡ toy_signature name message) (toy_key name) prefix content it
+pub sealed_by : (name : List ℕ) (key : NamedBytes) → key ≡ toy_key name → (prefix content bytes : List ℕ) (it : EnvelopeData)
+    → IsSigned (λ message signature. signature ≡ toy_signature key.bytes message) key prefix content it
     → IsEnvelope bytes (envelope_message it) → IsSealed name prefix content bytes
-sealed_by name prefix content bytes it is spelled = record {
+sealed_by name key e prefix content bytes it is spelled = record {
   envelope = it;
   contents = is.contents;
-  key_id = is.key_id;
-  signature = is.signature;
+  key_id = is.key_id ∙ ap fingerprint_of e;
+  signature = is.signature ∙ ap (λ (k : NamedBytes). toy_signature k.bytes (signed_message prefix content)) e;
   spelled = spelled;
 }
-
--- the bytes of any envelope that was signed
-pub enclosed_by : (Gives : List ℕ → NamedBytes → Type 0) (key : NamedBytes) (prefix content bytes : List ℕ) (it : EnvelopeData)
-    → IsSigned Gives key prefix content it → IsEnvelope bytes (envelope_message it) → IsEnclosed key content bytes
-enclosed_by Gives key prefix content bytes it is spelled =
-    record { envelope = it; contents = is.contents; key_id = is.key_id; spelled = spelled }
 
 -- ---- the signature's field behind the others
 
