@@ -124,10 +124,10 @@ fn refused_next<L: ToolLog>(
 // Whether the log takes the record in these bytes, whatever its signature; the end of the command where it does not.
 fn taken<L: ToolLog>(alloc: Global, log: Lawful<'_, L>, string: &Vec<u8>) -> Result<(), Stop>
     ensures taken { IfOk result (λ _. cause_next L.kind all_belong (envelope_of L.Record.read)
-        (L.view log.state) string.now.items ≡ None) }
+        (L.view log.entry.state) string.now.items ≡ None) }
     ensures refused { ForDisplay L.view L.kind L.Record.read L.Record.fault_of L.offence_of
         L.name_of L.lines_of (λ shown. IfErr result (IfStopped
-        (IsRefusedNext shown (L.view log.state) log.count string.now.items))) }
+        (IsRefusedNext shown (L.view log.entry.state) log.entry.count string.now.items))) }
 {
     match run_from(alloc, log.state, &AnySignature, slice::from_ref(string)) {
         Ok(_) => Ok(()),
@@ -150,7 +150,7 @@ fn made_by_toy<L: ToolLog + Worded>(
 ) -> Result<Answer, Stop>
     ensures { ForDisplay L.view L.kind L.Record.read L.Record.fault_of L.offence_of
         L.name_of L.lines_of (λ shown. Answers (IsMadeByToy L.says L.lacks L.content L.prefix
-        shown draft.now (L.view log.state) log.count name.now) result) }
+        shown draft.now (L.view log.entry.state) log.entry.count name.now) result) }
 {
     let entries = draft.entries.as_slice();
     match make::<L>(alloc, &log.state, name, draft.clock, draft.time, entries) {
@@ -171,7 +171,7 @@ fn made_for_key<L: ToolLog + Worded>(
 ) -> Result<Answer, Stop>
     ensures { ForDisplay L.view L.kind L.Record.read L.Record.fault_of L.offence_of
         L.name_of L.lines_of (λ shown. Answers (IsMadeForKey L.says L.lacks L.content L.prefix
-        shown draft.now (L.view log.state) log.count key) result) }
+        shown draft.now (L.view log.entry.state) log.entry.count key) result) }
 {
     let entries = draft.entries.as_slice();
     match make_unsigned::<L>(alloc, &log.state, key, draft.clock, draft.time, entries) {
@@ -191,7 +191,7 @@ fn made<L: ToolLog + Worded>(
 ) -> Result<Answer, Stop>
     ensures { ForDisplay L.view L.kind L.Record.read L.Record.fault_of L.offence_of
         L.name_of L.lines_of (λ shown. Answers (IsMadeBy L.says L.lacks L.content L.prefix
-        shown draft.now (L.view log.state) log.count draft.now.signer) result) }
+        shown draft.now (L.view log.entry.state) log.entry.count draft.now.signer) result) }
 {
     match draft.signer {
         Signer::Toy(name) => made_by_toy(alloc, log, name, draft),
