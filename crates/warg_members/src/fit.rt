@@ -114,20 +114,13 @@ fn word_member(alloc: Global, part: &Part, word: &str) -> Result<Option<String>,
 {
     match part {
         Part::Word(it) if word == *it => Ok(Some(String::new(alloc))),
-        Part::Tag {
-            member,
-            word: it,
-            text,
-        } if word == *it => Ok(Some(text_member(alloc, member, text)?)),
-        Part::Null {
-            member: name,
-            word: it,
-        } if word == *it => { Ok(Some(member(alloc, name, "null")?)) }
+        Part::Tag(name, it, text) if word == *it => Ok(Some(text_member(alloc, name, text)?)),
+        Part::Null(name, it) if word == *it => Ok(Some(member(alloc, name, "null")?)),
         Part::Number(name) if is_number(word) => Ok(Some(member(alloc, name, word)?)),
         Part::Text(name) | Part::Rest(name) => Ok(Some(text_member(alloc, name, word)?)),
         Part::Word(_)
-        | Part::Tag { .. }
-        | Part::Null { .. }
+        | Part::Tag(..)
+        | Part::Null(..)
         | Part::Number(_)
         | Part::Words(_)
         | Part::Json(_) => Ok(None),

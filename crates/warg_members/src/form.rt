@@ -5,22 +5,10 @@
 pub enum Part {
     /// This word, which is no member.
     Word(&'static str),
-    /// This word, for which the member has a text.
-    Tag {
-        /// The member's name.
-        member: &'static str,
-        /// The word.
-        word: &'static str,
-        /// The text.
-        text: &'static str,
-    },
-    /// This word, for which the member is `null`.
-    Null {
-        /// The member's name.
-        member: &'static str,
-        /// The word.
-        word: &'static str,
-    },
+    /// A member with a text, where a word stands: the member's name, the word, and the text.
+    Tag(&'static str, &'static str, &'static str),
+    /// A member that is `null`, where a word stands: the member's name, and the word.
+    Null(&'static str, &'static str),
     /// A number in decimal digits, as the number of the member of this name.
     Number(&'static str),
     /// Any word, as the text of the member of this name.

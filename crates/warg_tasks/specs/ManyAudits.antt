@@ -7,7 +7,8 @@ use Rattle.warg_protocol.specs.Logs.{SignatureRelation}
 use Rattle.warg_audit.specs.Printouts.{Printout}
 use Rattle.warg_log_type.specs.declared.LogType.{LogType}
 use Rattle.warg_files.specs.Files.{Files, Lacks, Reads}
-use Rattle.warg_tasks.specs.JsonLines.{json_path_object}
+use Rattle.warg_members.specs.Objects.{path_object}
+use Rattle.warg_tasks.specs.declared.line_forms.TheConstants.{LINE_FORMS}
 use Rattle.warg_files.specs.ReadFaults.{unread_text}
 use Rattle.warg_files.specs.RecordLines.{record_lines}
 use Rattle.warg_files.specs.Answers.{IsUnusable}
@@ -22,7 +23,7 @@ use Rattle.warg_files.specs.declared.input.ReadFault.TheVariants.{Missing}
 -- the line of one log of many, as text or in JSON: its path, and the first line of its verdict
 abbrev pub audit_line : Bool → List ℕ → Printout → List ℕ
 audit_line false path verdict = line (printable (path ++ (codes ": " ++ first_of (lines verdict.text))))
-audit_line true path verdict = json_path_object path (first_of (lines verdict.text)) verdict.status
+audit_line true path verdict = path_object LINE_FORMS.now (codes "audit") path verdict.status (first_of (lines verdict.text))
 
 -- whether a line of a list names a log: an empty one does not
 abbrev pub is_path : List ℕ → Bool

@@ -11,6 +11,7 @@ mod claim_lines;
 mod demands;
 mod json;
 mod latest;
+mod line_forms;
 mod making;
 mod many_audits;
 mod task;

@@ -9,13 +9,14 @@ ghost use Rattle.warg_tasks.specs.ManyAudits.{audit_line, empty_list_line, is_pa
 ghost use Rattle.warg_files.specs.RecordLines.{texts};
 
 use crate::audit::first_of_audit;
-use crate::json::path_object;
+use crate::line_forms::LINE_FORMS;
 use std::alloc::{AllocError, Global};
 use std::str;
 use warg_audit::LogType;
 use warg_files::answer::Answer;
 use warg_files::input::{Input, ReadFault, Store, file_stop, read_input};
 use warg_files::stop::{Stop, settled};
+use warg_members::path_object;
 use warg_printable::printed_line;
 use warg_protocol::signing::Verifier;
 
@@ -62,7 +63,7 @@ pub(crate) fn one_line(
 {
     let line = first_line(answer.text.as_str());
     if is_json {
-        path_object(alloc, path, line, answer.status)
+        path_object(alloc, LINE_FORMS, "audit", path, answer.status, line)
     } else {
         let said = format!(in alloc; "{path}: {line}")?;
         printed_line(alloc, said.as_str())
