@@ -14,8 +14,11 @@ use Rattle.warg_files.specs.Answers.{answer_view, Answers, IsSettled}
 use Rattle.warg_tasks.specs.ManyAudits.{audit_line, is_path, IsPathLine, IsVerdictOn, audited, unread, IsWith, IsWithAll, IsWithNamed, IsWithWords}
 use Rattle.warg_files.specs.ReadFaults.{unread_text}
 use Rattle.warg_files.specs.RecordLines.{record_lines, texts}
+use Rattle.warg_files.specs.Texts.{line}
 use Rattle.warg_tasks.specs.Audits.{BeginsAs, IsAuditOf, first_of, records_alone}
-use Rattle.warg_tasks.specs.JsonLines.{json_path_object}
+use Rattle.warg_members.specs.Objects.{path_object}
+use Rattle.warg_printable.specs.Printable.{printable}
+use Rattle.warg_tasks.specs.declared.line_forms.TheConstants.{LINE_FORMS}
 use Rattle.warg_tasks.proofs.FirstLineLemmas.{begins_as_itself}
 use Rattle.warg_files.specs.declared.answer.Answer.{Answer}
 use Rattle.warg_files.specs.declared.input.ReadFault.{ReadFault}
@@ -96,9 +99,10 @@ printed_is text t status n e f = rw (e, f) refl
 -- the line of a log is made of the first line and the status alone
 same_line : (json : Bool) (path : List ℕ) (short whole : Printout) → first_of (lines short.text) ≡ first_of (lines whole.text)
     → short.status ≡ whole.status → audit_line json path short ≡ audit_line json path whole
-same_line false path short whole line status = ap (λ text. path ++ (codes ": " ++ (text ++ codes "\n"))) line
-same_line true path short whole line status =
-    ap (λ text. json_path_object path text short.status) line ∙ ap (json_path_object path (first_of (lines whole.text))) status
+same_line false path short whole first status = ap (λ text. line (printable (path ++ (codes ": " ++ text)))) first
+same_line true path short whole first status =
+    ap (λ text. path_object LINE_FORMS.now (codes "audit") path short.status text) first
+    ∙ ap (λ n. path_object LINE_FORMS.now (codes "audit") path n (first_of (lines whole.text))) status
 
 module _ (json : Bool) (kind : LogType) (belongs : SignatureRelation) (files : Option Files) (allows_empty : Bool) where
   -- one line more

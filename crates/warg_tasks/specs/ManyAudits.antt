@@ -32,7 +32,7 @@ is_path line = not (length line == 0)
 -- the line of a list that names no log
 abbrev pub empty_list_line : Bool → List ℕ → List ℕ
 empty_list_line false list = codes "empty\n"
-empty_list_line true list = json_path_object list (codes "empty") 1
+empty_list_line true list = path_object LINE_FORMS.now (codes "audit") list 1 (codes "empty")
 
 -- the verdict on the log in the file of a path, by its lines, or why it can't be read
 pub data IsVerdictOn (files : Option Files) (P : List (List ℕ) → Printout → Type 0) (path : List ℕ) (verdict : Printout) : Type 0 where

@@ -156,7 +156,7 @@ impl<'v, V: Verifier> Verdicts<'v, V> {
         }) }
     {
         if self.is_json {
-            let line = path_object(self.alloc, list, "empty", 1)?;
+            let line = path_object(self.alloc, LINE_FORMS, "audit", list, 1, "empty")?;
             all.text.push_str(line.as_str())?;
         } else {
             all.text.push_str("empty\n")?;
