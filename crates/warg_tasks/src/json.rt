@@ -18,7 +18,7 @@ fn line_objects(alloc: Global, command: &str, status: u8, text: &str) -> Result<
 {
     let mut objects = String::new(alloc);
     for line in text.lines() {
-        let object = line_object(alloc, LINE_FORMS, command, status, line)?;
+        let object = line_object(alloc, &LINE_FORMS, command, status, line)?;
         objects.push_str(object.as_str())?;
     }
     Ok(objects)

@@ -189,7 +189,7 @@ const STATE: Form = Form {
 };
 
 /// The forms of each command's lines, of which the first that fits is taken.
-pub(crate) const LINE_FORMS: &[CommandForms] = &[
+pub(crate) static LINE_FORMS: [CommandForms; 14] = [
     CommandForms {
         command: "id",
         forms: &[

@@ -63,7 +63,7 @@ pub(crate) fn one_line(
 {
     let line = first_line(answer.text.as_str());
     if is_json {
-        path_object(alloc, LINE_FORMS, "audit", path, answer.status, line)
+        path_object(alloc, &LINE_FORMS, "audit", path, answer.status, line)
     } else {
         let said = format!(in alloc; "{path}: {line}")?;
         printed_line(alloc, said.as_str())
@@ -156,7 +156,7 @@ impl<'v, V: Verifier> Verdicts<'v, V> {
         }) }
     {
         if self.is_json {
-            let line = path_object(self.alloc, LINE_FORMS, "audit", list, 1, "empty")?;
+            let line = path_object(self.alloc, &LINE_FORMS, "audit", list, 1, "empty")?;
             all.text.push_str(line.as_str())?;
         } else {
             all.text.push_str("empty\n")?;
