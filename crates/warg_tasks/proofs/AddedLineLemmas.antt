@@ -1,10 +1,11 @@
 -- The lines of a text that are none of others.
-use Rattle.std.proofs.Common.{◌≡◌, ◌<◌, ℕ, Bool, true, false, List, [], ◌∷◌, ◌++◌, map, length, refl, sym, ap, ◌∙◌, append_assoc, append-nil, codes, Bor, Option, Some, None, ◌||◌}
-use Rattle.std.specs.Prelude.{filter, not}
-use Rattle.std.specs.List.{list_any, slice_get}
+use Rattle.std.proofs.Common.{◌≡◌, ◌<◌, ℕ, Bool, true, false, List, [], ◌∷◌, ◌++◌, map, length, refl, sym, ap, ◌∙◌, append_assoc, append-nil, Bor, get_or, ◌||◌}
+use Rattle.std.specs.Prelude.{filter}
+use Rattle.std.specs.List.{list_any}
 use Rattle.std.specs.Str.{bytes_eq}
 use Rattle.std.proofs.lemmas.List.{map-append}
 use Rattle.std.proofs.lemmas.List.Elements.{filter-append}
+use Rattle.std.proofs.lemmas.List.Folds.{list_any_at}
 use Rattle.warg_files.specs.RecordLines.{texts}
 use Rattle.warg_files.specs.Texts.{all_lines, line}
 use Rattle.warg_tasks.specs.Additions.{is_line_of, is_none_of}
@@ -13,6 +14,13 @@ use Rattle.warg_tasks.specs.Additions.{is_line_of, is_none_of}
 pub any_text : (said : List ℕ) (others : List (Bor (List ℕ))) → list_any (λ (other : Bor (List ℕ)). bytes_eq other.now said) others ≡ is_line_of (texts others) said
 any_text said [] = refl
 any_text said (other ∷ more) = ap (λ t. bytes_eq other.now said || t) (any_text said more)
+
+-- a text behind the reference at a place
+pub line_at : (said : List ℕ) (others : List (Bor (List ℕ))) (place : ℕ) (there : Bor (List ℕ)) → place < length others
+    → there ≡ get_or others place there → bytes_eq there.now said ≡ true → is_line_of (texts others) said ≡ true
+line_at said others place there within at same =
+    let equal : Bor (List ℕ) → Bool = λ other. bytes_eq other.now said in
+    sym (any_text said others) ∙ list_any_at equal others place there within (sym (ap equal at) ∙ same)
 
 -- lines, and more behind them
 pub all_lines-append : (front back : List (List ℕ)) → all_lines (front ++ back) ≡ all_lines front ++ all_lines back

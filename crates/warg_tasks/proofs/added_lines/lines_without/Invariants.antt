@@ -7,4 +7,4 @@ use Rattle.warg_tasks.proofs.added_lines.lines_without.Given as goal
 
 -- what is kept of the lines so far
 abbrev pub invariant-loop-line : goal.invariant-loop-line
-invariant-loop-line l = string_bytes l.kept ≡ all_lines (filter (is_none_of (texts l.known.now)) (texts l.yielded))
+invariant-loop-line l = string_bytes l.kept ≡ all_lines (filter (is_none_of (texts l.known)) (texts l.yielded))
