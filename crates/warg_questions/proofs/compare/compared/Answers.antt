@@ -13,4 +13,4 @@ returns g c =
     (rw c.records-here.ensures.records at c.records-here.ensures.audited.stands)
     (rw c.records-there.ensures.records at c.records-there.ensures.audited.stands)
     c.compare-comparison.ensures.answer
-    (rw (c.records-here.ensures.records, c.records-there.ensures.records) at c.in_ok-comparison_answer.ensures)
+    (rw (c.head.ensures.head, c.records-here.ensures.records, c.records-there.ensures.records) at c.in_ok-comparison_answer.ensures)
