@@ -1,13 +1,12 @@
 //! `compare`: how a log compares with an older copy of it.
 
-ghost use Rattle.std.specs.Prelude.{◌≡◌, ◌++◌, List, ℕ, codes, IfOk};
+ghost use Rattle.std.specs.Prelude.{◌≡◌, ◌++◌, List, ℕ, codes, string_bytes, IfOk};
 ghost use Rattle.std.specs.Fmt.{decimal};
 ghost use Rattle.std.specs.Option.{option_copied};
 ghost use Rattle.warg_protocol.specs.Logs.{contents, envelopes};
 ghost use Rattle.warg_files.specs.Answers.{answer_view, Answers};
 ghost use Rattle.warg_questions.specs.Questions.{IsCompared, IsComparedWith, IsComparisonOf};
 ghost use Rattle.warg_files.specs.RecordLines.{record_lines};
-ghost use Rattle.warg_files.specs.Texts.{yes};
 ghost use Rattle.warg_answers.specs.Texts.{PartsWithin, comparison_text};
 ghost use Rattle.warg_audit.specs.LogAnswers.{head_text};
 ghost use Rattle.warg_answers.specs.Verdicts.{ForDisplay, envelopes_of};
@@ -24,16 +23,15 @@ use warg_protocol::registry::RecordId;
 use warg_protocol::signing::Verifier;
 use warg_protocol::{AuditedLog, Comparison, ProtoEnvelope};
 
-// The answer to a log that is the same as its older copy.
-fn same_answer(alloc: Global, count: usize, head: Option<&RecordId>) -> Result<Answer, AllocError>
-    ensures { IfOk result (λ answer. answer_view answer ≡ yes (codes "same " ++ (decimal count ++
-        (codes " " ++ (head_text (option_copied head.entry) ++ codes "\n"))))) }
+// That a log is the same as its older copy, on a line: how many records it has, and its head.
+fn same_text(alloc: Global, count: usize, head: Option<&RecordId>) -> Result<String, AllocError>
+    ensures { IfOk result (λ text. string_bytes text ≡ codes "same " ++ (decimal count ++
+        (codes " " ++ (head_text (option_copied head.entry) ++ codes "\n")))) }
 {
-    let text = match head {
-        Some(id) => format!(in alloc; "same {count} {id}\n")?,
-        None => format!(in alloc; "same {count} none\n")?,
-    };
-    Ok(Answer::new(alloc, text, 0))
+    match head {
+        Some(id) => format!(in alloc; "same {count} {id}\n"),
+        None => format!(in alloc; "same {count} none\n"),
+    }
 }
 
 // The answer to a comparison of a log with an older copy, which has this head, by their records.
@@ -52,7 +50,10 @@ fn comparison_answer<L: ToolLog>(
 {
     let (before, after) = (old.len(), new.len());
     match comparison {
-        Comparison::Same => same_answer(alloc, before, head),
+        Comparison::Same => {
+            let text = same_text(alloc, before, head)?;
+            Ok(Answer::new(alloc, text, 0))
+        }
         Comparison::LeftIsPrefix { .. } => {
             let text = format!(in alloc; "goes on {before} {after}\n")?;
             Ok(Answer::new(alloc, text, 0))
