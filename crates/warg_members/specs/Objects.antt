@@ -1,22 +1,29 @@
 -- The objects of lines.
-use Rattle.std.specs.Prelude.{ℕ, if◌then◌else◌, List, [], ◌∷◌, ◌++◌, codes}
+use Rattle.std.specs.Prelude.{ℕ, if◌then◌else◌, List, [], ◌∷◌, ◌++◌, codes, map}
 use Rattle.std.specs.Fmt.{decimal}
 use Rattle.std.specs.Str.{bytes_eq}
 use Rattle.warg_members.specs.declared.form.CommandForms.{CommandForms}
-use Rattle.warg_members.specs.declared.form.Form.{Form}
-use Rattle.warg_members.specs.Forms.{line_members, text_member}
+use Rattle.warg_members.specs.Forms.{PartView, form_view, line_members, text_member}
+
+-- a row of a table: a command, and the forms of its lines
+pub record RowView : Type 0 where
+  pub command : List ℕ
+  pub forms : List (List PartView)
+
+abbrev pub row_view : CommandForms → RowView
+row_view row = record { command = row.command.now; forms = map form_view row.forms.now }
 
 -- the forms of a command's lines, by a table
-abbrev pub forms_of : List CommandForms → List ℕ → List Form
+abbrev pub forms_of : List RowView → List ℕ → List (List PartView)
 forms_of [] command = []
-forms_of (row ∷ more) command = if bytes_eq row.command.now command then row.forms.now else forms_of more command
+forms_of (row ∷ more) command = if bytes_eq row.command command then row.forms else forms_of more command
 
 -- an object on a line: the command, members behind it, and the status
 abbrev pub object_text : List ℕ → List ℕ → ℕ → List ℕ
 object_text command members status =
     codes "{\"command\":\"" ++ (command ++ (codes "\"" ++ (members ++ (codes ",\"status\":" ++ (decimal status ++ codes "}\n")))))
 
-module _ (table : List CommandForms) where
+module _ (table : List RowView) where
   -- the object of a line that a command prints
   abbrev pub line_object : List ℕ → ℕ → List ℕ → List ℕ
   line_object command status line = object_text command (line_members (forms_of table command) line) status

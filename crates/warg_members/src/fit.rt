@@ -1,12 +1,12 @@
 //! Lines and the forms that they fit.
 
-ghost use Rattle.std.specs.Prelude.{◌≡◌, IfOk, string_bytes};
+ghost use Rattle.std.specs.Prelude.{◌≡◌, IfOk, map, string_bytes};
 ghost use Rattle.std.specs.Char.{is_ascii_digit};
 ghost use Rattle.std.specs.List.{list_all, slice_split};
 ghost use Rattle.std.specs.Option.{option_map};
 ghost use Rattle.serde_json.specs.Data.{string};
 ghost use Rattle.serde_json.specs.Written.{compact_text};
-ghost use Rattle.warg_members.specs.Forms.{behind_word, if_so, is_number, is_object, is_space, line_members, list_of, member_text, members_by, strings_json, text_member, word_member, word_of};
+ghost use Rattle.warg_members.specs.Forms.{behind_word, form_view, if_so, is_number, is_object, is_space, line_members, list_of, member_text, members_by, part_view, strings_json, text_member, word_member, word_of};
 
 use crate::form::{Form, Part};
 use serde_json::Value;
@@ -110,7 +110,7 @@ fn json_member(alloc: Global, name: &str, text: &str) -> Result<Option<String>, 
 // The member that a word is, if it fits the part.
 fn word_member(alloc: Global, part: &Part, word: &str) -> Result<Option<String>, AllocError>
     ensures { IfOk result (λ found. option_map string_bytes found ≡
-        word_member part.now word.now) }
+        word_member (part_view part.now) word.now) }
 {
     match part {
         Part::Word(it) if word == *it => Ok(Some(String::new(alloc))),
@@ -134,7 +134,7 @@ fn members_by(
     text: Option<&str>,
 ) -> Result<Option<String>, AllocError>
     ensures { IfOk result (λ found. option_map string_bytes found ≡
-        members_by parts.now (option_map (λ it. it.now) text.entry)) }
+        members_by (map part_view parts.now) (option_map (λ it. it.now) text.entry)) }
 {
     let Some((part, more)) = parts.split_first() else {
         return Ok(if text.is_none() {
@@ -168,7 +168,8 @@ fn members_by(
 
 /// The members of a line by the first of the forms that it fits.
 pub(crate) fn line_members(alloc: Global, forms: &[Form], line: &str) -> Result<String, AllocError>
-    ensures { IfOk result (λ members. string_bytes members ≡ line_members forms.now line.now) }
+    ensures { IfOk result (λ members. string_bytes members ≡
+        line_members (map form_view forms.now) line.now) }
 {
     let Some((form, more)) = forms.split_first() else {
         return text_member(alloc, "line", line);

@@ -1,7 +1,8 @@
 //! Objects, one a line.
 
-ghost use Rattle.std.specs.Prelude.{◌≡◌, IfOk, string_bytes};
-ghost use Rattle.warg_members.specs.Objects.{forms_of, line_object, message_object, object_text, path_object};
+ghost use Rattle.std.specs.Prelude.{◌≡◌, IfOk, map, string_bytes};
+ghost use Rattle.warg_members.specs.Forms.{form_view};
+ghost use Rattle.warg_members.specs.Objects.{forms_of, line_object, message_object, object_text, path_object, row_view};
 
 use crate::fit::{line_members, text_member};
 use crate::form::{CommandForms, Form};
@@ -9,7 +10,7 @@ use std::alloc::{AllocError, Global};
 
 // The forms of a command's lines.
 fn forms_of(table: &'static [CommandForms], command: &str) -> &'static [Form]
-    ensures { result.now ≡ forms_of table.now command.now }
+    ensures { map form_view result.now ≡ forms_of (map row_view table.now) command.now }
 {
     match table.split_first() {
         Some((row, _)) if row.command == command => row.forms,
@@ -36,7 +37,7 @@ pub fn line_object(
     line: &str,
 ) -> Result<String, AllocError>
     ensures { IfOk result (λ text. string_bytes text ≡
-        line_object table.now command.now status line.now) }
+        line_object (map row_view table.now) command.now status line.now) }
 {
     let members = line_members(alloc, forms_of(table, command), line)?;
     object(alloc, command, members.as_str(), status)
@@ -52,7 +53,7 @@ pub fn path_object(
     line: &str,
 ) -> Result<String, AllocError>
     ensures { IfOk result (λ text. string_bytes text ≡
-        path_object table.now command.now path.now status line.now) }
+        path_object (map row_view table.now) command.now path.now status line.now) }
 {
     let mut members = text_member(alloc, "path", path)?;
     let others = line_members(alloc, forms_of(table, command), line)?;
