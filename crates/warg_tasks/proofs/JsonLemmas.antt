@@ -6,7 +6,7 @@ use Rattle.std.proofs.lemmas.Bool.Decides.{nat_tests}
 use Rattle.std.proofs.lemmas.List.{map-append}
 use Rattle.warg_members.specs.Objects.{line_object}
 use Rattle.warg_tasks.specs.JsonLines.{line_objects}
-use Rattle.warg_tasks.specs.declared.line_forms.TheConstants.{LINE_FORMS}
+use Rattle.warg_tasks.specs.LineForms.{line_forms}
 
 concat-append : (xs : List (List ℕ)) (x : List ℕ) → concat (xs ++ x ∷ []) ≡ concat xs ++ x
 concat-append [] x = append-nil x
@@ -18,10 +18,10 @@ none_left text e h = grind (arith, nat_tests)
 
 -- one line more
 pub objects_more : (command : List ℕ) (status : ℕ) (done : List (Bor (List ℕ))) (line : Bor (List ℕ)) (text new : List ℕ)
-    → text ≡ line_objects command status (map (λ it. it.now) done) → new ≡ text ++ line_object LINE_FORMS command status line.now
+    → text ≡ line_objects command status (map (λ it. it.now) done) → new ≡ text ++ line_object line_forms command status line.now
     → new ≡ line_objects command status (map (λ it. it.now) (done ++ line ∷ []))
 objects_more command status done line text new so_far more =
-    let f : List ℕ → List ℕ = line_object LINE_FORMS command status in
+    let f : List ℕ → List ℕ = line_object line_forms command status in
     let lines = map (λ (it : Bor (List ℕ)). it.now) done in
     more ∙ ap (λ t. t ++ f line.now) so_far ∙ sym (concat-append (map f lines) (f line.now))
     ∙ ap concat (sym (map-append f lines (line.now ∷ []))

@@ -3,7 +3,8 @@ use Rattle.std.proofs.Common.{◌≡◌, ◌+◌, ◌<◌, ℕ, Bool, true, fals
 use Rattle.std.proofs.lemmas.Iterator.{YieldsList}
 use Rattle.std.proofs.lemmas.List.{map-append}
 use Rattle.std.proofs.lemmas.List.Elements.{filter-append}
-use Rattle.std.specs.Prelude.{◌==◌, codes}
+use Rattle.std.specs.List.{list_any}
+use Rattle.std.specs.Prelude.{◌==◌, ◌||◌, codes}
 use Rattle.std.specs.Str.Lines.{lines}
 use Rattle.std.specs.declared.alloc.AllocError.{AllocError}
 use Rattle.warg_protocol.specs.Logs.{SignatureRelation}
@@ -11,14 +12,15 @@ use Rattle.warg_audit.specs.Printouts.{Printout}
 use Rattle.warg_log_type.specs.declared.LogType.{LogType}
 use Rattle.warg_files.specs.Files.{Files, Lacks, Reads}
 use Rattle.warg_files.specs.Answers.{answer_view, Answers, IsSettled}
-use Rattle.warg_tasks.specs.ManyAudits.{audit_line, is_path, IsPathLine, IsVerdictOn, audited, unread, IsWith, IsWithAll, IsWithNamed, IsWithWords}
+use Rattle.warg_tasks.specs.ManyAudits.{audit_line, empty_list_line, is_path, IsPathLine, IsVerdictOn, audited, unread, IsWith, IsWithAll, IsWithListed, IsWithNamed, IsWithPaths, IsWithWords}
+use Rattle.warg_tasks.specs.ManyAudits as many
 use Rattle.warg_files.specs.ReadFaults.{unread_text}
 use Rattle.warg_files.specs.RecordLines.{record_lines, texts}
 use Rattle.warg_files.specs.Texts.{line}
 use Rattle.warg_tasks.specs.Audits.{BeginsAs, IsAuditOf, first_of, records_alone}
 use Rattle.warg_members.specs.Objects.{path_object}
 use Rattle.warg_printable.specs.Printable.{printable}
-use Rattle.warg_tasks.specs.declared.line_forms.TheConstants.{LINE_FORMS}
+use Rattle.warg_tasks.specs.LineForms.{line_forms}
 use Rattle.warg_tasks.proofs.FirstLineLemmas.{begins_as_itself}
 use Rattle.warg_files.specs.declared.answer.Answer.{Answer}
 use Rattle.warg_files.specs.declared.input.ReadFault.{ReadFault}
@@ -71,12 +73,6 @@ pub verdict_unread : (P : List (List ℕ) → Printout → Type 0) (files : Opti
 verdict_unread P files path fault verdict text status lacks is e f =
     begins_as_itself (IsVerdictOn files P path) verdict (whole_verdict_unread P files path fault verdict text status lacks is e f)
 
--- the line of a log behind its path
-pub path_line_is : (json : Bool) (files : Option Files) (P : List (List ℕ) → Printout → Type 0) (path : List ℕ) (verdict printed : Printout)
-    → IsVerdictOn files P path verdict → printed ≡ record { text = audit_line json path verdict; status = verdict.status }
-    → IsPathLine json files P path printed
-path_line_is json files P path verdict printed own is = record { verdict = verdict; own = own; is = is }
-
 pub on_ok_to : {T E P Q : Type 0} → (P → Q) → (r : Result T E) → OnOk r P → OnOk r Q
 on_ok_to f (Ok x) h = f h
 on_ok_to f (Err e) h = tt
@@ -90,19 +86,25 @@ first_given steps s t [] (Some x) d road step none = absurd (road.runs x t step)
 first_given steps s t (y ∷ more) None d road step none = absurd (road.runs.0 t step)
 first_given steps s t (y ∷ more) (Some x) d road step none = (road.runs.1 x t step).0
 
-abbrev printed_of : List ℕ → ℕ → Printout
+abbrev pub printed_of : List ℕ → ℕ → Printout
 printed_of text status = record { text = text; status = status }
 
-printed_is : (text t : List ℕ) (status n : ℕ) → text ≡ t → status ≡ n → printed_of text status ≡ printed_of t n
+pub printed_is : (text t : List ℕ) (status n : ℕ) → text ≡ t → status ≡ n → printed_of text status ≡ printed_of t n
 printed_is text t status n e f = rw (e, f) refl
+
+-- the line of a log behind its path
+pub path_line_is : (json : Bool) (files : Option Files) (P : List (List ℕ) → Printout → Type 0) (path : List ℕ) (verdict : Printout) (text : List ℕ)
+    → IsVerdictOn files P path verdict → text ≡ audit_line json path verdict → IsPathLine json files P path (printed_of text verdict.status)
+path_line_is json files P path verdict text own e =
+    record { verdict = verdict; own = own; is = ap (λ t. printed_of t verdict.status) e }
 
 -- the line of a log is made of the first line and the status alone
 same_line : (json : Bool) (path : List ℕ) (short whole : Printout) → first_of (lines short.text) ≡ first_of (lines whole.text)
     → short.status ≡ whole.status → audit_line json path short ≡ audit_line json path whole
 same_line false path short whole first status = ap (λ text. line (printable (path ++ (codes ": " ++ text)))) first
 same_line true path short whole first status =
-    ap (λ text. path_object LINE_FORMS (codes "audit") path short.status text) first
-    ∙ ap (λ n. path_object LINE_FORMS (codes "audit") path n (first_of (lines whole.text))) status
+    ap (λ text. path_object line_forms (codes "audit") path short.status text) first
+    ∙ ap (λ n. path_object line_forms (codes "audit") path n (first_of (lines whole.text))) status
 
 module _ (json : Bool) (kind : LogType) (belongs : SignatureRelation) (files : Option Files) (allows_empty : Bool) where
   -- one line more
@@ -162,3 +164,22 @@ module _ (json : Bool) (kind : LogType) (belongs : SignatureRelation) (files : O
       → IsWithWords json kind belongs files allows_empty (texts (take (n + 1) words)) before after
   words_more n words d before middle after low so_far it =
       rw (taken-suc n words d low) (word_more (texts (take n words)) (slice_index_or words n d).now before middle after so_far it)
+
+  -- the lines of the logs of a list, or the line of one that names none
+  pub some_paths : {T E : Type 0} (list : List ℕ) (paths : List (List ℕ)) (before after : Printout) (result : Result T E)
+      → true ≡ (list_any is_path paths || allows_empty)
+      → OnOk result (IsWithAll json kind belongs files allows_empty (filter is_path paths) before after)
+      → OnOk result (IsWithPaths json kind belongs files allows_empty list paths before after)
+  some_paths list paths before after result e h = on_ok_to (λ all. many.some all (sym e)) result h
+
+  pub no_path : {T E : Type 0} (list : List ℕ) (paths : List (List ℕ)) (before after : Printout) (result : Result T E)
+      → false ≡ (list_any is_path paths || allows_empty)
+      → OnOk result (after ≡ record { text = before.text ++ empty_list_line json list; status = max before.status 1 })
+      → OnOk result (IsWithPaths json kind belongs files allows_empty list paths before after)
+  no_path list paths before after result e h = on_ok_to (λ told. many.none (sym e) told) result h
+
+  -- those of a list in a file
+  pub listed_paths : {T E : Type 0} (list bytes : List ℕ) (before after : Printout) (result : Result T E) → Reads files list bytes
+      → OnOk result (IsWithPaths json kind belongs files allows_empty list (lines bytes) before after)
+      → OnOk result (IsWithListed json kind belongs files allows_empty list before after)
+  listed_paths list bytes before after result held h = on_ok_to (λ all. record { bytes = bytes; held = held; all = all }) result h

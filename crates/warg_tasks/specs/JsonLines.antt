@@ -4,11 +4,11 @@ use Rattle.std.specs.List.{concat}
 use Rattle.std.specs.Str.Lines.{lines}
 use Rattle.warg_audit.specs.Printouts.{Printout}
 use Rattle.warg_members.specs.Objects.{line_object, message_object}
-use Rattle.warg_tasks.specs.declared.line_forms.TheConstants.{LINE_FORMS}
+use Rattle.warg_tasks.specs.LineForms.{line_forms}
 
 -- the objects of lines that a command prints, one after another
 abbrev pub line_objects : List ℕ → ℕ → List (List ℕ) → List ℕ
-line_objects command status said = concat (map (line_object LINE_FORMS command status) said)
+line_objects command status said = concat (map (line_object line_forms command status) said)
 
 -- the text is the object of each line that is printed, or of a sentence, where none is
 pub record IsJsonText (command : List ℕ) (printed : Printout) (text : List ℕ) : Type 0 where

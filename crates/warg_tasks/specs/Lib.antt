@@ -1,3 +1,4 @@
+pub mod LineForms
 pub mod JsonLines
 pub mod Audits
 pub mod Latest

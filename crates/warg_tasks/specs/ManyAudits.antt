@@ -8,7 +8,7 @@ use Rattle.warg_audit.specs.Printouts.{Printout}
 use Rattle.warg_log_type.specs.declared.LogType.{LogType}
 use Rattle.warg_files.specs.Files.{Files, Lacks, Reads}
 use Rattle.warg_members.specs.Objects.{path_object}
-use Rattle.warg_tasks.specs.declared.line_forms.TheConstants.{LINE_FORMS}
+use Rattle.warg_tasks.specs.LineForms.{line_forms}
 use Rattle.warg_files.specs.ReadFaults.{unread_text}
 use Rattle.warg_files.specs.RecordLines.{record_lines}
 use Rattle.warg_files.specs.Answers.{IsUnusable}
@@ -23,7 +23,7 @@ use Rattle.warg_files.specs.declared.input.ReadFault.TheVariants.{Missing}
 -- the line of one log of many, as text or in JSON: its path, and the first line of its verdict
 abbrev pub audit_line : Bool → List ℕ → Printout → List ℕ
 audit_line false path verdict = line (printable (path ++ (codes ": " ++ first_of (lines verdict.text))))
-audit_line true path verdict = path_object LINE_FORMS (codes "audit") path verdict.status (first_of (lines verdict.text))
+audit_line true path verdict = path_object line_forms (codes "audit") path verdict.status (first_of (lines verdict.text))
 
 -- whether a line of a list names a log: an empty one does not
 abbrev pub is_path : List ℕ → Bool
@@ -32,7 +32,7 @@ is_path line = not (length line == 0)
 -- the line of a list that names no log
 abbrev pub empty_list_line : Bool → List ℕ → List ℕ
 empty_list_line false list = codes "empty\n"
-empty_list_line true list = path_object LINE_FORMS (codes "audit") list 1 (codes "empty")
+empty_list_line true list = path_object line_forms (codes "audit") list 1 (codes "empty")
 
 -- the verdict on the log in the file of a path, by its lines, or why it can't be read
 pub data IsVerdictOn (files : Option Files) (P : List (List ℕ) → Printout → Type 0) (path : List ℕ) (verdict : Printout) : Type 0 where

@@ -3,13 +3,41 @@
 ghost use Rattle.std.specs.Prelude.{◌≡◌, IfOk, string_bytes};
 ghost use Rattle.std.specs.Str.Lines.{lines};
 ghost use Rattle.warg_files.specs.Answers.{answer_view};
-ghost use Rattle.warg_members.specs.Objects.{message_object};
+ghost use Rattle.warg_members.specs.Objects.{line_object, message_object, path_object};
 ghost use Rattle.warg_tasks.specs.JsonLines.{IsInJson, IsJsonText, line_objects};
+ghost use Rattle.warg_tasks.specs.LineForms.{line_forms};
 
-use crate::line_forms::LINE_FORMS;
+use crate::line_forms::line_forms;
 use std::alloc::{AllocError, Global};
 use warg_files::answer::Answer;
-use warg_members::{line_object, message_object};
+use warg_members::{line_object, message_object, path_object};
+
+// The object of a line that a command prints.
+fn object_of_line(
+    alloc: Global,
+    command: &str,
+    status: u8,
+    line: &str,
+) -> Result<String, AllocError>
+    ensures { IfOk result (λ object. string_bytes object ≡
+        line_object line_forms command.now status line.now) }
+{
+    line_object(alloc, line_forms(), command, status, line)
+}
+
+/// The object of a line on the file of a path.
+pub(crate) fn object_of_path(
+    alloc: Global,
+    command: &str,
+    path: &str,
+    status: u8,
+    line: &str,
+) -> Result<String, AllocError>
+    ensures { IfOk result (λ object. string_bytes object ≡
+        path_object line_forms command.now path.now status line.now) }
+{
+    path_object(alloc, line_forms(), command, path, status, line)
+}
 
 // The object of each line of an answer's text.
 fn line_objects(alloc: Global, command: &str, status: u8, text: &str) -> Result<String, AllocError>
@@ -18,7 +46,7 @@ fn line_objects(alloc: Global, command: &str, status: u8, text: &str) -> Result<
 {
     let mut objects = String::new(alloc);
     for line in text.lines() {
-        let object = line_object(alloc, &LINE_FORMS, command, status, line)?;
+        let object = object_of_line(alloc, command, status, line)?;
         objects.push_str(object.as_str())?;
     }
     Ok(objects)

@@ -1,5 +1,9 @@
 //! The forms of the lines that commands print, by which their objects in JSON have members.
 
+ghost use Rattle.std.specs.Prelude.{◌≡◌, map};
+ghost use Rattle.warg_members.specs.Objects.{row_view};
+ghost use Rattle.warg_tasks.specs.LineForms.{line_forms};
+
 use warg_members::{CommandForms, Form, Part};
 
 const REFUSED: Form = Form {
@@ -188,8 +192,7 @@ const STATE: Form = Form {
     parts: &[Part::Json("state")],
 };
 
-/// The forms of each command's lines, of which the first that fits is taken.
-pub(crate) static LINE_FORMS: [CommandForms; 14] = [
+static LINE_FORMS: [CommandForms; 14] = [
     CommandForms {
         command: "id",
         forms: &[
@@ -411,3 +414,11 @@ pub(crate) static LINE_FORMS: [CommandForms; 14] = [
         ],
     },
 ];
+
+/// The forms of each command's lines, of which the first that fits is taken.
+#[tactic(auto, unfolding(crate::specs::LineForms::line_forms))]
+pub(crate) fn line_forms() -> &'static [CommandForms]
+    ensures { map row_view result.now ≡ line_forms }
+{
+    &LINE_FORMS
+}

@@ -1,6 +1,6 @@
 //! `audit` of many logs in one call: a line each.
 
-ghost use Rattle.std.specs.Prelude.{◌≡◌, ◌++◌, [], ◌∷◌, None, filter, max, IfOk, IfErr, OnOk, string_bytes};
+ghost use Rattle.std.specs.Prelude.{◌≡◌, ◌++◌, ◌||◌, [], ◌∷◌, None, filter, max, IfOk, IfErr, OnOk, string_bytes};
 ghost use Rattle.std.specs.List.{list_any};
 ghost use Rattle.std.specs.Str.Lines.{lines};
 ghost use Rattle.warg_files.specs.Answers.{answer_view, Answers, IfStopped, IsUnanswered};
@@ -9,14 +9,13 @@ ghost use Rattle.warg_tasks.specs.ManyAudits.{audit_line, empty_list_line, is_pa
 ghost use Rattle.warg_files.specs.RecordLines.{texts};
 
 use crate::audit::first_of_audit;
-use crate::line_forms::LINE_FORMS;
+use crate::json::object_of_path;
 use std::alloc::{AllocError, Global};
 use std::str;
 use warg_audit::LogType;
 use warg_files::answer::Answer;
 use warg_files::input::{Input, ReadFault, Store, file_stop, read_input};
 use warg_files::stop::{Stop, settled};
-use warg_members::path_object;
 use warg_printable::printed_line;
 use warg_protocol::signing::Verifier;
 
@@ -63,7 +62,7 @@ pub(crate) fn one_line(
 {
     let line = first_line(answer.text.as_str());
     if is_json {
-        path_object(alloc, &LINE_FORMS, "audit", path, answer.status, line)
+        object_of_path(alloc, "audit", path, answer.status, line)
     } else {
         let said = format!(in alloc; "{path}: {line}")?;
         printed_line(alloc, said.as_str())
@@ -148,6 +147,18 @@ impl<'v, V: Verifier> Verdicts<'v, V> {
         Ok(())
     }
 
+    // The line of a list that names no log.
+    fn empty_line(&self, list: &str) -> Result<String, AllocError>
+        ensures { IfOk result (λ text. string_bytes text ≡
+            empty_list_line self.now.is_json list.now) }
+    {
+        if self.is_json {
+            object_of_path(self.alloc, "audit", list, 1, "empty")
+        } else {
+            String::from_str(self.alloc, "empty\n")
+        }
+    }
+
     // Adds the line of a list that names no log.
     fn add_none(&self, list: &str, all: &mut Answer) -> Result<(), AllocError>
         ensures { OnOk result (answer_view all.new ≡ record {
@@ -155,14 +166,17 @@ impl<'v, V: Verifier> Verdicts<'v, V> {
           status = max all.old.status 1;
         }) }
     {
-        if self.is_json {
-            let line = path_object(self.alloc, &LINE_FORMS, "audit", list, 1, "empty")?;
-            all.text.push_str(line.as_str())?;
-        } else {
-            all.text.push_str("empty\n")?;
-        }
+        let line = self.empty_line(list)?;
+        all.text.push_str(line.as_str())?;
         all.status = all.status.max(1);
         Ok(())
+    }
+
+    // Whether a list may have these lines: one of them names a log, or none has to.
+    fn may_list(&self, paths: &str) -> bool
+        ensures { result ≡ (list_any is_path (lines paths.now) || self.now.allows_empty) }
+    {
+        has_path(paths) || self.allows_empty
     }
 
     // Adds the lines of the logs of these paths, or that there is none.
@@ -178,7 +192,7 @@ impl<'v, V: Verifier> Verdicts<'v, V> {
             (lines paths.now) (answer_view all.old) (answer_view all.new)) }
         ensures kept { S.files store.new ≡ S.files store.old }
     {
-        if has_path(paths) || self.allows_empty {
+        if self.may_list(paths) {
             self.add_all(store, paths, all)
         } else {
             self.add_none(list, all)
