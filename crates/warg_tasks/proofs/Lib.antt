@@ -3,7 +3,9 @@ pub mod AppendLemmas
 pub mod MadeLemmas
 pub mod FirstLineLemmas
 pub mod ManyAuditLemmas
+pub mod DemandLemmas
 pub mod AuditLemmas
+pub mod BesideLemmas
 pub mod AddedLineLemmas
 pub mod AdditionLemmas
 pub mod ClaimLemmas

@@ -34,13 +34,30 @@ pub fn id_answer(alloc: Global, kind: LogType, input: Input<'_>) -> Result<Answe
     Ok(answer_of_reply(alloc, &reply)?)
 }
 
-/// The verdict on a lawful log.
-pub(crate) fn accepted<L: ToolLog>(alloc: Global, state: &L, count: usize) -> Result<Answer, Stop>
+// The verdict on a lawful log.
+fn accepted<L: ToolLog>(alloc: Global, state: &L, count: usize) -> Result<Answer, Stop>
     ensures { Answers (λ printed. printed ≡ accepted_line count (L.kind.head (L.view state.now))
         (L.lines_of state.now)) result }
 {
     let reply = accepted_reply(alloc, state, count)?;
     Ok(answer_of_reply(alloc, &reply)?)
+}
+
+/// The line, if there is one, or else the verdict on a lawful log.
+pub(crate) fn line_or_verdict<L: ToolLog>(
+    alloc: Global,
+    line: Option<String>,
+    state: &L,
+    count: usize,
+) -> Result<Answer, Stop>
+    ensures { Answers (λ printed. printed ≡ line_or
+        (accepted_line count (L.kind.head (L.view state.now)) (L.lines_of state.now))
+        (option_map string_bytes line)) result }
+{
+    match line {
+        Some(text) => Ok(Answer::new(alloc, text, 1)),
+        None => accepted(alloc, state, count),
+    }
 }
 
 // The first demand that a lawful log does not meet, or the verdict on it.
@@ -54,10 +71,8 @@ fn demanded<L: ToolLog>(
         (accepted_line count (L.kind.head (L.view state.now)) (L.lines_of state.now))
         (unmet demands.now count (L.kind.head (L.view state.now)))) result }
 {
-    match unmet(alloc, demands, count, state.head_digest())? {
-        Some(text) => Ok(Answer::new(alloc, text, 1)),
-        None => accepted(alloc, state, count),
-    }
+    let line = unmet(alloc, demands, count, state.head_digest())?;
+    line_or_verdict(alloc, line, state, count)
 }
 
 // The answer to a log of which this is demanded, and no older copy is there.

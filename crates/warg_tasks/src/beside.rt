@@ -11,7 +11,7 @@ ghost use Rattle.warg_answers.specs.Texts.{PartsWithin};
 ghost use Rattle.warg_answers.specs.Verdicts.{ForDisplay, envelopes_of};
 ghost use Rattle.warg_tasks.specs.Audits.{IsAudited, IsBeside, IsBesideLines, IsDemanded, parted};
 
-use crate::audit::accepted;
+use crate::audit::line_or_verdict;
 use crate::demands::unmet;
 use std::alloc::{AllocError, Global};
 use warg_answers::judged::{Lent, counted};
@@ -76,10 +76,8 @@ fn beside_older<L: ToolLog, V: Verifier + Drop>(
 {
     let comparison = older.compare(log);
     let (here, there) = (older.records(), log.records());
-    match parted::<L>(alloc, comparison, log.head(), here, there)? {
-        Some(text) => Ok(Answer::new(alloc, text, 1)),
-        None => accepted(alloc, log.state(), count),
-    }
+    let line = parted::<L>(alloc, comparison, log.head(), here, there)?;
+    line_or_verdict(alloc, line, log.state(), count)
 }
 
 // The same by the older copy's file.
@@ -117,7 +115,8 @@ fn demanded_beside<L: ToolLog, V: Verifier + Drop>(
         Answers (IsDemanded shown (V.belongs verifier) demands.now
         (Some (record_lines older.entry.bytes.items)) strings) result) }
 {
-    match unmet(alloc, demands, count, log.head())? {
+    let state = log.state();
+    match unmet(alloc, demands, count, state.head_digest())? {
         Some(text) => Ok(Answer::new(alloc, text, 1)),
         None => beside_file(alloc, verifier, older, log, count),
     }

@@ -32,10 +32,11 @@ fn test_id(alloc: Global, word: &str) -> Result<(), Stop>
         (is_id_word word.now ≡ true → ⊥) × IsUnusable printed)) }
 {
     if is_id_word(word) {
-        return Ok(());
+        Ok(())
+    } else {
+        let sentence = format!(in alloc; "weoldrin: {word:?} is no id of a record\n");
+        Err(unusable(alloc, sentence))
     }
-    let sentence = format!(in alloc; "weoldrin: {word:?} is no id of a record\n");
-    Err(unusable(alloc, sentence))
 }
 
 /// Tests that the word for the head says the beginning of an id, if one is demanded.

@@ -1,0 +1,13 @@
+use Rattle.warg_answers.proofs.JudgedLemmas.{stopped_prints}
+use Rattle.warg_tasks.proofs.BesideLemmas.{audited_beside}
+use Rattle.warg_tasks.proofs.beside.beside.Goals as goal
+
+pub returns-in-Ok : goal.returns-in-Ok
+returns-in-Ok g c = λ fault_name offence_name shown reports.
+    let it = c.in-Ok.ensures.lawful fault_name offence_name shown reports in
+    audited_beside _ _ _ _ _ it.0 c.demanded_beside.result it.1.0
+    (c.demanded_beside.ensures fault_name offence_name shown reports it.0 it.1.1.0 it.1.1.1)
+
+pub returns-in-Err : goal.returns-in-Err
+returns-in-Err g c = λ fault_name offence_name shown reports.
+    stopped_prints _ _ _ _ c.in-Err.stop (c.in-Err.ensures.stopped fault_name offence_name shown reports)

@@ -1,0 +1,7 @@
+use Rattle.warg_tasks.proofs.demands.test_words.Goals as goal
+
+pub returns-in-Some-clause-said : goal.returns-in-Some-clause-said
+returns-in-Some-clause-said c = rw c.in-Some.is c.test_id.ensures.said
+
+pub returns-in-Some-clause-stopped : goal.returns-in-Some-clause-stopped
+returns-in-Some-clause-stopped c = rw c.in-Some.is c.test_id.ensures.stopped
