@@ -224,7 +224,7 @@ uint32_t warg_length(struct warg_log *log, size_t *length);
  * the bytes that were appended: it has the contents, the key id and the signature that came, and nothing else that stood there, such as fields
  * that no envelope has. Its record has the same id.
  *   WARG_NONE: the log has no record at this place.
- *   WARG_BAD_ARGUMENT: the log was resumed. */
+ *   WARG_BAD_ARGUMENT (Resumed): the log was resumed. */
 uint32_t warg_record(struct warg_log *log, size_t place, uint8_t *bytes, size_t bytes_len, size_t *used, struct warg_kept *kept);
 
 /* The id of an envelope's record. */
@@ -307,8 +307,8 @@ uint32_t warg_save(struct warg_log *log, uint8_t *text, size_t text_len, size_t 
 /* Goes on from a saved state of one of `enum warg_kind`. A log that was open is closed first. Of a resumed log nothing is known of its
  * records, those that are appended to it included: `warg_length`, `warg_record`, `warg_chain` and `warg_compare` are not for it. All else is as if its
  * records were there. Whether the text is what was saved is the caller's to keep.
- *   WARG_BAD_ARGUMENT: no such kind (`used` is 0), or the text is no saved state of this kind: the error's name is in `text`, one of
- *     NotJson, WrongType, Missing, BadText, TimeBeforeEpoch, TimeOutOfRange, Incoherent. The log is as it was. */
+ *   WARG_BAD_ARGUMENT: no such kind (NoKind), or the text is no saved state of this kind (NotJson, WrongType, Missing, BadText,
+ *     TimeBeforeEpoch, TimeOutOfRange, Incoherent). The log is as it was. */
 uint32_t warg_resume(struct warg_log *log, uint32_t kind, const uint8_t *saved, size_t saved_len, uint8_t *text, size_t text_len,
                      size_t *used);
 
@@ -349,6 +349,12 @@ uint32_t warg_verify_absence(const uint8_t *log_id, size_t log_id_len, const uin
  *   WARG_NONE: nothing is wrong: it is the text of a proof, whatever that shows.
  *   WARG_BAD_ARGUMENT (NoTree): no such tree. */
 uint32_t warg_proof_fault(uint32_t tree, const uint8_t *proof, size_t proof_len, uint8_t *text, size_t text_len, size_t *used);
+
+/* The names of statuses. */
+
+/* The name of one of `enum warg_status`: Ok, NotOpen, OutOfMemory, TooSmall, NoEnvelope, Refused, None, BadArgument or UnknownAlgorithm.
+ *   WARG_NONE: the number is no status. */
+uint32_t warg_status_name(uint32_t number, uint8_t *text, size_t text_len, size_t *used);
 
 /* The library's version. */
 

@@ -25,16 +25,19 @@
 //!     sequentially consistent atomic. Different logs may be used by different threads at once: there is no global state.
 //!
 //! What every call keeps. It returns a status. At any status but WARG_OK all logs stay as they were. Calls that only look also
-//! leave them so at WARG_OK. All texts are UTF-8, with no zero byte behind them.
+//! leave them so at WARG_OK. All texts are UTF-8, with no zero byte behind them. WARG_OUT_OF_MEMORY is an answer of calls that take memory
+//! alone, and only where they came to take some: `warg_length`, `warg_compare`, `warg_version` and `warg_status_name` never do.
 //!
-//! Calls that give bytes write them to the start of the caller's buffer, and to `used` how many they are:
+//! Calls that give bytes write them to the start of the caller's buffer, and to `used` how many they are. What stands behind them stays as it
+//! was:
 //!   - at WARG_OK, how many bytes were written;
 //!   - at WARG_TOO_SMALL, how many there have to be room for; the buffer stays as it was;
-//!   - at WARG_NO_ENVELOPE and WARG_REFUSED, the length of the error's text, which stands in the buffer: the error's name, a colon,
-//!     a space, and a sentence. At WARG_BAD_ARGUMENT of `warg_resume`, that of the error's name alone. 0 where the buffer had no room
-//!     for it, or there was no memory for a sentence;
-//!   - at any other status 0.
-//! What else a call gives (`asked`, `kept`, `release`, `is_imported`) is written at WARG_OK and at WARG_TOO_SMALL.
+//!   - at WARG_NO_ENVELOPE, WARG_REFUSED and WARG_BAD_ARGUMENT, the length of the error's text, which stands in the buffer: the error's name,
+//!     a colon, a space, and a sentence; or 0 where the buffer had no room for it. Where there was no memory for the sentence of a
+//!     WARG_NO_ENVELOPE or a WARG_REFUSED, the text is the name alone;
+//!   - at any other status 0, and the buffer stays as it was. `warg_status_name` gives the name of each status.
+//! What else a call gives (`asked`, `kept`, `release`, `is_imported`) is written at WARG_OK and at WARG_TOO_SMALL, and `length` and
+//! `comparison` at WARG_OK. At any other status it stays as it was.
 
 mod appending;
 mod chains;

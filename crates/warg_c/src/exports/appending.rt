@@ -1,5 +1,5 @@
 //! Appending, by what the caller says of a signature, or by what the library verifies itself.
-ghost use Rattle.std.specs.Prelude.{◌≡◌, ◌≢◌, ◌≤◌, IfOk, IfErr, OnOk, OnErr, length, take};
+ghost use Rattle.std.specs.Prelude.{◌≡◌, ◌≢◌, ◌≤◌, IfOk, IfErr, OnOk, OnErr, length, take, drop};
 ghost use Rattle.warg_validator.specs.Telling.{Holds};
 ghost use Rattle.warg_p256.specs.Scheme.{p256_belongs};
 ghost use Rattle.warg_records.specs.Kinds.{SignatureRelation, AcceptsNoMore};
@@ -155,7 +155,8 @@ fn append_told(
 ///   WARG_REFUSED: the record is unlawful after those of the log; the error's text is in `text`. So is every record whose `belongs` is
 ///     false, and one whose question is not the one that is passed (also where another record was appended in between, if that changes
 ///     the key): they are refused as wrong signatures.
-///   WARG_BAD_ARGUMENT: the bytes are no question: the lengths reach beyond its end, or the key or the signature can't be read.
+///   WARG_BAD_ARGUMENT (BadQuestion): the bytes are no question: the lengths reach beyond its end, or the key or the signature can't be
+///     read.
 #[unsafe(no_mangle)]
 pub extern "C" fn warg_append(
     alloc: Global,

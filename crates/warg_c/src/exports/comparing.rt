@@ -1,5 +1,5 @@
 //! Two logs.
-ghost use Rattle.std.specs.Prelude.{◌≡◌, ◌⊎◌, None, Some, IfOk, IfErr};
+ghost use Rattle.std.specs.Prelude.{◌≡◌, ◌≢◌, ◌⊎◌, None, Some, IfOk, IfErr};
 ghost use Rattle.warg_c.specs.ComparisonAnswers.{ComparisonIs, compare_tells, compare_answers, compare_bad, shown_of};
 ghost use Rattle.warg_c.specs.Logs.{whole_of};
 ghost use Rattle.warg_c.specs.Statuses.{Answers};

@@ -79,7 +79,7 @@ fn id_of(
 
 /// The text of the id of an envelope's record, of one of `enum warg_kind`. No log is needed, and the record need not be lawful.
 ///   WARG_NO_ENVELOPE: the error's text is in `text`.
-///   WARG_BAD_ARGUMENT: no such kind.
+///   WARG_BAD_ARGUMENT (NoKind): no such kind.
 #[unsafe(no_mangle)]
 pub extern "C" fn warg_id(
     alloc: Global,

@@ -1,12 +1,12 @@
 //! Keys, and what they may do. A key id is the fingerprint of a key, and permissions are `release` and `yank` of package logs, and
 //! `commit`, `defineNamespace` and `importNamespace` of operator logs.
-ghost use Rattle.std.specs.Prelude.{◌≡◌, ◌≢◌, ◌≤◌, ◌⊎◌, None, Some, true, false, Bool, IfOk, IfErr, OnOk};
-ghost use Rattle.std.specs.Prelude.{take, string_bytes, length};
+ghost use Rattle.std.specs.Prelude.{◌≡◌, ◌≢◌, ◌≤◌, ◌⊎◌, None, Some, true, false, Bool, IfOk, IfErr};
+ghost use Rattle.std.specs.Prelude.{IsSome, OnOk, take, drop, length};
 ghost use Rattle.std.specs.Option.{option_copied};
 ghost use Rattle.std.specs.Str.{IsUtf8};
-ghost use Rattle.warg_c.specs.Keys.{HoldsIs, IsNoPermission, KeyText, with_name, holds_tells, holds_bad, key_of};
-ghost use Rattle.warg_c.specs.Keys.{PackageText, OperatorText, permissions_tell, permissions_lack};
-ghost use Rattle.warg_c.specs.Keys.{package_permissions, operator_permissions};
+ghost use Rattle.warg_c.specs.Keys.{HoldsIs, IsNoPermission, KeyText, with_name, holds_tells, holds_bad};
+ghost use Rattle.warg_c.specs.Keys.{is_permission, key_of, PackageText, OperatorText, permissions_tell};
+ghost use Rattle.warg_c.specs.Keys.{permissions_lack, package_permissions, operator_permissions};
 ghost use Rattle.warg_operator_log.specs.State as operators;
 ghost use Rattle.warg_package_log.specs.State as packages;
 ghost use Rattle.warg_c.specs.Logs.{state_of};
@@ -186,7 +186,7 @@ fn permissions_of(alloc: Global, held: &Held, key_id: &[u8]) -> Result<Vec<u8>, 
 
 /// The permissions of a key id, with a space between two: no text where it holds none.
 ///   WARG_NONE: the log does not know the key id.
-///   WARG_BAD_ARGUMENT: the key id is no UTF-8.
+///   WARG_BAD_ARGUMENT (NotUtf8): the key id is no UTF-8.
 #[unsafe(no_mangle)]
 pub extern "C" fn warg_permissions(
     alloc: Global,
@@ -243,7 +243,7 @@ fn key_text(alloc: Global, held: &Held, key_id: &[u8]) -> Result<Vec<u8>, Failur
 
 /// The text of the key of a key id.
 ///   WARG_NONE: the log does not know the key.
-///   WARG_BAD_ARGUMENT: the key id is no UTF-8.
+///   WARG_BAD_ARGUMENT (NotUtf8): the key id is no UTF-8.
 #[unsafe(no_mangle)]
 pub extern "C" fn warg_key(
     alloc: Global,

@@ -67,7 +67,7 @@ fn namespace_of(alloc: Global, held: &Held, name: &[u8]) -> Result<(Vec<u8>, u32
 /// What a namespace is. `is_imported` is 0 where this registry defines it, and `text` is empty; it is 1 where its packages are those of another
 /// registry, and `text` is that one's name.
 ///   WARG_NONE: the log has no such namespace.
-///   WARG_BAD_ARGUMENT: the name is no UTF-8, or the log is one of a package.
+///   WARG_BAD_ARGUMENT: the name is no UTF-8 (NotUtf8), or the log is one of a package (WrongKind).
 #[unsafe(no_mangle)]
 pub extern "C" fn warg_namespace(
     alloc: Global,

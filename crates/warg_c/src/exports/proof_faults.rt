@@ -79,7 +79,7 @@ fn fault_text(alloc: Global, number: u32, proof: &[u8]) -> Result<Vec<u8>, Failu
 /// The name of what is wrong with the text of a proof on one of `enum warg_tree`, so that a caller can say it: TooLong, BadBase64, BadLength
 /// or EmptySibling.
 ///   WARG_NONE: nothing is wrong: it is the text of a proof, whatever that shows.
-///   WARG_BAD_ARGUMENT: no such tree.
+///   WARG_BAD_ARGUMENT (NoTree): no such tree.
 #[unsafe(no_mangle)]
 pub extern "C" fn warg_proof_fault(
     alloc: Global,

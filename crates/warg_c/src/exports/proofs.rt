@@ -5,12 +5,13 @@
 //!     a log of this root has this length: so a log's length and root have to be signed together, and the map's root with them.
 //!   WARG_REFUSED: it does not hold.
 //!   WARG_BAD_ARGUMENT: a text is not of its form. `warg_proof_fault` says what is wrong with a proof's.
-//!   WARG_OUT_OF_MEMORY: nothing is said.
+//!   WARG_OUT_OF_MEMORY: nothing is said. The texts of the hashes are of their form.
 ghost use Rattle.std.specs.Prelude.{OnOk, IfErr};
-ghost use Rattle.warg_c.specs.ProofAnswers.{ShowsConsistency, ShowsInclusion, IsAbsence, IsConsistency, IsInclusion};
-ghost use Rattle.warg_c.specs.ProofAnswers.{IsNoAbsence, IsNoConsistency, IsNoInclusion, IsNoPresence, IsPresence};
-ghost use Rattle.warg_c.specs.ProofAnswers.{ShowsAbsence, ShowsNoConsistency, ShowsNoInclusion, ShowsNoAbsence};
-ghost use Rattle.warg_c.specs.ProofAnswers.{ShowsNoPresence, ShowsPresence, ProofFails};
+ghost use Rattle.warg_c.specs.ProofAnswers.{AreHashes, AreTwoHashes, ShowsConsistency, ShowsInclusion, IsAbsence};
+ghost use Rattle.warg_c.specs.ProofAnswers.{IsConsistency, IsInclusion, IsNoAbsence, IsNoConsistency, IsNoInclusion};
+ghost use Rattle.warg_c.specs.ProofAnswers.{IsNoPresence, IsPresence, ShowsAbsence, ShowsNoConsistency};
+ghost use Rattle.warg_c.specs.ProofAnswers.{ShowsNoInclusion, ShowsNoAbsence, ShowsNoPresence, ShowsPresence};
+ghost use Rattle.warg_c.specs.ProofAnswers.{ProofFails};
 ghost use Rattle.warg_c.specs.Statuses.{IsStatusOf};
 
 use crate::failure::{Failure, status};

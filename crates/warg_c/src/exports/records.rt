@@ -1,8 +1,8 @@
 //! The records of a log.
-ghost use Rattle.std.specs.Prelude.{◌≡◌, ◌≢◌, ◌≤◌, ◌⊎◌, ◌++◌, None, Some, IfOk, IfErr, OnOk, length, take};
+ghost use Rattle.std.specs.Prelude.{◌≡◌, ◌≢◌, ◌≤◌, ◌⊎◌, ◌++◌, None, Some, IfOk, IfErr, IsSome, length, take, drop};
 ghost use Rattle.std.specs.Option.{option_copied};
 ghost use Rattle.warg_c.specs.Lookups.{IdText, LengthIs, IsBeyond, IsRecord, IsRecordAt, head_of, length_tells};
-ghost use Rattle.warg_c.specs.Lookups.{has_no_records, record_tells, record_lacks};
+ghost use Rattle.warg_c.specs.Lookups.{has_no_records, record_takes, record_tells, record_lacks};
 ghost use Rattle.warg_c.specs.Logs.{whole_of};
 ghost use Rattle.warg_c.specs.Statuses.{Answers};
 ghost use Rattle.warg_c.specs.Misuses.{misuse_text};
@@ -178,7 +178,7 @@ fn record_in(alloc: Global, held: &Held, place: usize) -> Result<(Vec<u8>, KeptL
 /// the bytes that were appended: it has the contents, the key id and the signature that came, and nothing else that stood there, such as fields
 /// that no envelope has. Its record has the same id.
 ///   WARG_NONE: the log has no record at this place.
-///   WARG_BAD_ARGUMENT: the log was resumed.
+///   WARG_BAD_ARGUMENT (Resumed): the log was resumed.
 #[unsafe(no_mangle)]
 pub extern "C" fn warg_record(
     alloc: Global,

@@ -7,8 +7,10 @@ ghost use Rattle.semver.specs.Identifiers.{comparator_view, parts_of};
 ghost use Rattle.semver.specs.Parse.{memory_error, req_of, version_parts};
 ghost use Rattle.warg_package_log.specs.ReleaseMap.{release_view};
 ghost use Rattle.warg_c.specs.ReleaseAnswers.{IsAt, IsLatest, IsNoRequirement, IsNoVersion, IsReleaseOf, Shows};
-ghost use Rattle.warg_c.specs.ReleaseAnswers.{latest_bad, latest_lacks, latest_tells, place_bad, place_lacks};
-ghost use Rattle.warg_c.specs.ReleaseAnswers.{place_tells, release_bad, release_lacks, release_tells};
+ghost use Rattle.warg_c.specs.ReleaseAnswers.{is_package, latest_bad, latest_lacks, latest_tells, place_bad};
+ghost use Rattle.warg_c.specs.ReleaseAnswers.{place_lacks, place_takes, place_tells, release_bad, release_lacks};
+ghost use Rattle.warg_c.specs.ReleaseAnswers.{release_tells};
+ghost use Rattle.warg_c.specs.Misuses.{misuse_text, package_misuse};
 ghost use Rattle.warg_c.specs.Statuses.{Answers};
 ghost use Rattle.warg_c.specs.Texts.{Always, FailsAs, IsGiven, TextFails};
 ghost use Rattle.warg_c.specs.declared.misuse.Misuse.TheVariants.{BadRequirement, BadVersion, WrongKind};
@@ -109,7 +111,7 @@ fn latest_of(
 
 /// The release that is not yanked, meets the requirement (as ">=1.2, <2"), and has the greatest version.
 ///   WARG_NONE: there is none.
-///   WARG_BAD_ARGUMENT: the text is no requirement, or the log is one of operators.
+///   WARG_BAD_ARGUMENT: the text is no requirement (BadRequirement), or the log is one of operators (WrongKind).
 #[unsafe(no_mangle)]
 pub extern "C" fn warg_latest(
     alloc: Global,
@@ -174,7 +176,7 @@ fn release_of(
 
 /// The release of a version, yanked or not.
 ///   WARG_NONE: the version was not released.
-///   WARG_BAD_ARGUMENT: the text is no version, or the log is one of operators.
+///   WARG_BAD_ARGUMENT: the text is no version (BadVersion), or the log is one of operators (WrongKind).
 #[unsafe(no_mangle)]
 pub extern "C" fn warg_release(
     alloc: Global,
@@ -228,7 +230,7 @@ fn release_at(alloc: Global, held: &Held, place: usize) -> Result<(Vec<u8>, Show
 /// The release at a place, counted from 0, in the order in which they were released; those of a resumed log come first, by the bytes of their
 /// versions.
 ///   WARG_NONE: there are not so many releases.
-///   WARG_BAD_ARGUMENT: the log is one of operators.
+///   WARG_BAD_ARGUMENT (WrongKind): the log is one of operators.
 #[unsafe(no_mangle)]
 pub extern "C" fn warg_releases(
     alloc: Global,

@@ -6,8 +6,8 @@ ghost use Rattle.warg_saved.specs.JsonText.{TextReadsBack};
 ghost use Rattle.warg_saved.specs.Texts.{text_of};
 ghost use Rattle.warg_saved.specs.declared.error.JsonTextError.TheVariants as json;
 ghost use Rattle.warg_c.specs.declared.failure.Failure.TheVariants.{OutOfMemory, BadArgument};
-ghost use Rattle.warg_c.specs.Held.{IsNoKind, IsOfKind};
-ghost use Rattle.warg_c.specs.Saved.{IsWritten, SaysNoState, fault_name, value_name, reads_back, save_tells};
+ghost use Rattle.warg_c.specs.Held.{IsNoKind, IsOfKind, kind_numbered};
+ghost use Rattle.warg_c.specs.Saved.{IsWritten, SaysNoState, fault_text, value_text, reads_back, save_tells};
 ghost use Rattle.warg_c.specs.Saved.{save_lacks, saved_text, resume_gives, resume_gives_number, is_no_saved};
 ghost use Rattle.warg_c.specs.Statuses.{IsStatusOf, Answers};
 ghost use Rattle.warg_c.specs.Texts.{Always, CallFails, FailsAs, IsGiven, TextFails};
@@ -172,8 +172,8 @@ fn resumed(
 /// Goes on from a saved state of one of `enum warg_kind`. A log that was open is closed first. Of a resumed log nothing is known of its
 /// records, those that are appended to it included: `warg_length`, `warg_record`, `warg_chain` and `warg_compare` are not for it. All else is as if its
 /// records were there. Whether the text is what was saved is the caller's to keep.
-///   WARG_BAD_ARGUMENT: no such kind (`used` is 0), or the text is no saved state of this kind: the error's name is in `text`, one of
-///     NotJson, WrongType, Missing, BadText, TimeBeforeEpoch, TimeOutOfRange, Incoherent. The log is as it was.
+///   WARG_BAD_ARGUMENT: no such kind (NoKind), or the text is no saved state of this kind (NotJson, WrongType, Missing, BadText,
+///     TimeBeforeEpoch, TimeOutOfRange, Incoherent). The log is as it was.
 #[unsafe(no_mangle)]
 pub extern "C" fn warg_resume(
     alloc: Global,
