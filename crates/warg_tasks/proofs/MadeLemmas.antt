@@ -1,7 +1,6 @@
 -- What is answered when the record that words say is made.
-use Rattle.std.proofs.Common.{◌≡◌, ℕ, zero, suc, List, [], ◌∷◌, ◌∙◌, ap, refl, sym, subst, Option, Some, None, Ok, Result, length}
+use Rattle.std.proofs.Common.{◌≡◌, ℕ, zero, suc, List, [], ◌∷◌, ◌∙◌, ap, refl, sym, subst, Option, Some, None, Result, length}
 use Rattle.std.specs.List.{slice_get}
-use Rattle.std.specs.Option.{option_map}
 use Rattle.warg_time.specs.Times.{Time}
 use Rattle.warg_protocol.specs.Logs.{Cause, EnvelopeData, EnvelopeFault, Kind, SignatureRelation, envelope_of}
 use Rattle.warg_protocol.specs.Records.{RecordId}
