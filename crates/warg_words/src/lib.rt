@@ -1,9 +1,14 @@
 //! The words of the program `weoldrin`: its commands, as its help shows them, and what its words ask for.
 #![tactic(auto)]
 
+mod command;
+mod invocation;
 mod log_commands;
+mod parts;
+mod pleas;
 mod proof_commands;
 mod request;
+mod rules;
 mod statement;
 mod table;
 mod task;

@@ -1,10 +1,6 @@
-//! The commands on a registry's log and map, and what their words ask for.
+//! The commands on a registry's log and map.
 
-use crate::request::Request;
-use crate::statement::{LeafIds, Statement, Wanted};
 use crate::table::{Form, JSON, Row, Word};
-use crate::words::value;
-use clap::ArgMatches;
 
 const LEAVES: Word = Word {
     name: "LEAVES",
@@ -124,61 +120,3 @@ pub(crate) const VERIFY: &[Row] = &[
         choices: &[JSON],
     },
 ];
-
-/// What is to be proved.
-pub(crate) fn prove_request<'a>(matches: &ArgMatches<'a>) -> Option<Request<'a>> {
-    let (name, matches) = matches.subcommand()?;
-    let wanted = match name {
-        "checkpoint" => Wanted::Checkpoint,
-        "inclusion" => Wanted::Inclusion {
-            place: value(matches, "PLACE"),
-        },
-        "consistency" => Wanted::Consistency {
-            length: value(matches, "LENGTH"),
-        },
-        "head" => Wanted::Head {
-            log_id: value(matches, "LOG_ID"),
-        },
-        _ => return None,
-    };
-    let leaves = value(matches, "LEAVES");
-    Some(Request::Prove { wanted, leaves })
-}
-
-// The leaf that the words say.
-fn leaf_ids<'a>(matches: &ArgMatches<'a>) -> LeafIds<'a> {
-    LeafIds {
-        log_id: value(matches, "LOG_ID"),
-        record_id: value(matches, "RECORD_ID"),
-    }
-}
-
-/// What is to be verified.
-pub(crate) fn verify_request<'a>(matches: &ArgMatches<'a>) -> Option<Request<'a>> {
-    let (name, matches) = matches.subcommand()?;
-    let statement = match name {
-        "inclusion" => Statement::Inclusion {
-            checkpoint: value(matches, "CHECKPOINT"),
-            place: value(matches, "PLACE"),
-            leaf: leaf_ids(matches),
-            proof: value(matches, "PROOF"),
-        },
-        "consistency" => Statement::Consistency {
-            old: value(matches, "OLD"),
-            new: value(matches, "NEW"),
-            proof: value(matches, "PROOF"),
-        },
-        "head" => Statement::Head {
-            checkpoint: value(matches, "CHECKPOINT"),
-            leaf: leaf_ids(matches),
-            proof: value(matches, "PROOF"),
-        },
-        "absence" => Statement::Absence {
-            checkpoint: value(matches, "CHECKPOINT"),
-            log_id: value(matches, "LOG_ID"),
-            proof: value(matches, "PROOF"),
-        },
-        _ => return None,
-    };
-    Some(Request::Verify { statement })
-}

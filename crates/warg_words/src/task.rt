@@ -1,8 +1,5 @@
-//! What is done with a log, by the words of `claims`, `make` and `append`.
+//! What is done with a log.
 
-use crate::words::value;
-use clap::ArgMatches;
-use std::alloc::{AllocError, Global};
 use warg_time::Timestamp;
 
 /// Who signs a record.
@@ -49,56 +46,4 @@ pub enum Task<'a> {
         /// The file with the records' lines.
         lines: &'a str,
     },
-}
-
-// Who signs; none where the words say no such key, or more than one.
-fn parse_signer<'a>(matches: &ArgMatches<'a>) -> Option<Signer<'a>> {
-    match (matches.get_str("key"), matches.get_str("key-text")) {
-        (Some(key), None) => match key.strip_prefix("toy:") {
-            Some(name) => Some(Signer::Toy(name)),
-            None => None,
-        },
-        (None, Some(text)) => Some(Signer::KeyText(text)),
-        _ => None,
-    }
-}
-
-// The record that the words say, if they say who signs it.
-fn parse_draft<'a>(
-    alloc: Global,
-    matches: &ArgMatches<'a>,
-) -> Result<Option<Draft<'a>>, AllocError> {
-    let Some(signer) = parse_signer(matches) else {
-        return Ok(None);
-    };
-    Ok(Some(Draft {
-        signer,
-        clock: None,
-        time: value(matches, "TIME"),
-        entries: match matches.get_strs("ENTRY") {
-            Some(entries) => entries.to_vec(alloc)?,
-            None => Vec::new(alloc),
-        },
-    }))
-}
-
-/// The task of a command, if the command is one.
-pub(crate) fn parse_task<'a>(
-    alloc: Global,
-    command: &str,
-    matches: &ArgMatches<'a>,
-) -> Result<Option<Task<'a>>, AllocError> {
-    let log = value(matches, "LOG");
-    match command {
-        "claims" => Ok(Some(Task::Claims { log })),
-        "make" => match parse_draft(alloc, matches)? {
-            Some(draft) => Ok(Some(Task::Make { log, draft })),
-            None => Ok(None),
-        },
-        "append" => Ok(Some(Task::Append {
-            log,
-            lines: value(matches, "LINES"),
-        })),
-        _ => Ok(None),
-    }
 }

@@ -1,25 +1,37 @@
 //! The words of the program.
 
+ghost use Rattle.std.specs.Prelude.{IfOk};
+ghost use Rattle.warg_words.specs.Invocations.{IsSaid};
+ghost use Rattle.warg_words.specs.Requests.{texts};
+
+use crate::command::{Command as Called, is_group};
+use crate::invocation::{invocation_of, word};
 use crate::log_commands::LOG_COMMANDS;
-use crate::proof_commands::{PROVE, VERIFY, prove_request, verify_request};
-use crate::request::{Demands, Invocation, Question, Request, Said};
+use crate::pleas::{asks_for_text, is_help, is_version};
+use crate::proof_commands::{PROVE, VERIFY};
+use crate::request::Said;
 use crate::table::with_commands;
-use crate::task::parse_task;
 use crate::version::VERSION;
+use clap::Command;
 use clap::error::ErrorKind;
-use clap::{ArgMatches, Command, Error};
 use std::alloc::{AllocError, Global};
-use warg_log_type::LogType;
 
 const ABOUT: &str = "Checks the logs of a package registry, and answers from them";
 
 const AFTER: &str = "A log is a file of lines, each a signed record in hex. Comments, which begin
 with #, are passed over, and so is a blank last line. - is standard input.
+Options may stand anywhere behind the command; -- ends them.
 
 Status: 0 yes, 1 a negative answer, whose text is on standard output, 2 wrong
 words or unreadable input, 3 a failed read or write, out of memory, or busy.";
 
-// The program's command line.
+// What is said of words that are none of the table's, where clap would take them.
+const CLASH: &str = "error: these words can't stand together
+
+For more information, try '--help'.
+";
+
+// The program's command line, for the texts of its help and of faults.
 fn program<'a>(alloc: Global) -> Result<Command<'a>, AllocError> {
     let program = Command::new(alloc, "weoldrin")
         .version(VERSION)
@@ -38,202 +50,70 @@ fn program<'a>(alloc: Global) -> Result<Command<'a>, AllocError> {
         .subcommand(with_commands(alloc, verify, VERIFY)?)
 }
 
-// The value of a word that the command requires or has a default for.
-pub(crate) fn value<'a>(matches: &ArgMatches<'a>, name: &str) -> &'a str {
-    matches.get_str(name).unwrap_or("-")
-}
-
-// The kind of log; clap takes no other words.
-fn kind(matches: &ArgMatches<'_>) -> LogType {
-    if value(matches, "KIND") == "operator" {
-        LogType::Operator
-    } else {
-        LogType::Package
-    }
-}
-
-// The number that decimal digits say, if it is below 2^64.
-fn number(digits: &str) -> Option<u64> {
-    if digits.starts_with('+') {
-        return None;
-    }
-    digits.parse::<u64>().ok()
-}
-
-// What is demanded of one log, if the words can be used.
-fn demands<'a>(matches: &ArgMatches<'a>) -> Option<Demands<'a>> {
-    let least = match matches.get_str("at-least") {
-        Some(digits) => Some(number(digits)?),
-        None => None,
-    };
-    Some(Demands {
-        allows_empty: matches.get_flag("allow-empty"),
-        head: matches.get_str("expect-head"),
-        least,
-        older: matches.get_str("goes-on-from"),
-    })
-}
-
-// Whether something is demanded that is demanded of one log alone.
-fn is_of_one(demands: &Demands<'_>) -> bool {
-    demands.head.is_some() || demands.least.is_some() || demands.older.is_some()
-}
-
-// The verdict on one log, or a line on each of many; on standard input where no log is named.
-fn audit<'a>(alloc: Global, matches: &ArgMatches<'a>) -> Result<Option<Request<'a>>, AllocError> {
-    let kind = kind(matches);
-    let Some(demands) = demands(matches) else {
-        return Ok(None);
-    };
-    let log = match matches.get_strs("LOG") {
-        None | Some([]) => "-",
-        Some([log]) if !log.starts_with('@') => *log,
-        Some(_) if is_of_one(&demands) => return Ok(None),
-        Some(logs) => {
-            return Ok(Some(Request::Audits {
-                kind,
-                logs: logs.to_vec(alloc)?,
-                allows_empty: demands.allows_empty,
-            }));
+// What clap says of words, and whether that is a fault; nothing where it takes them.
+fn told(alloc: Global, words: &[&str]) -> Result<Option<(String, bool)>, AllocError> {
+    match program(alloc)?.try_get_matches_from(words) {
+        Ok(_) => Ok(None),
+        Err(error) => {
+            if error.kind() == ErrorKind::OutOfMemory {
+                return Err(AllocError);
+            }
+            let text = error.to_string(alloc)?;
+            Ok(Some((text, error.use_stderr())))
         }
-    };
-    Ok(Some(Request::Audit {
-        kind,
-        log,
-        demands,
-        shows_path: matches.get_flag("paths"),
-    }))
-}
-
-// Whether standard input is to be read as two files.
-fn is_read_twice(command: &str, matches: &ArgMatches<'_>) -> bool {
-    match command {
-        "compare" => value(matches, "OLD") == "-" && value(matches, "NEW") == "-",
-        "resume" => value(matches, "STATE") == "-" && value(matches, "LOG") == "-",
-        "append" => value(matches, "LOG") == "-" && value(matches, "LINES") == "-",
-        _ => matches.get_str("verified") == Some("-") && value(matches, "LOG") == "-",
     }
 }
 
-// What is asked of logs of one kind, if the command asks that.
-fn question<'a>(command: &str, matches: &ArgMatches<'a>) -> Option<Question<'a>> {
-    let log = value(matches, "LOG");
-    match command {
-        "state" => Some(Question::State { log }),
-        "resume" => Some(Question::Resume {
-            state: value(matches, "STATE"),
-            log,
-        }),
-        "permissions" => Some(Question::Permissions {
-            key_id: value(matches, "KEY_ID"),
-            log,
-        }),
-        "chain" => Some(Question::Chain {
-            key_id: value(matches, "KEY_ID"),
-            permission: value(matches, "PERMISSION"),
-            log,
-        }),
-        "compare" => Some(Question::Compare {
-            old: value(matches, "OLD"),
-            new: value(matches, "NEW"),
-        }),
-        _ => None,
+// The help of what words ask help for.
+fn help(alloc: Global, words: &[&str]) -> Result<String, AllocError> {
+    let first = word(words, 1);
+    let second = word(words, 2);
+    let mut asked = Vec::new(alloc);
+    asked.push("weoldrin")?;
+    if first == "help" {
+        if words.len() > 2 {
+            asked.push(second)?;
+        }
+    } else if !is_help(first) {
+        asked.push(first)?;
+        if is_group(first) && Called::of(first, second).is_some() {
+            asked.push(second)?;
+        }
+    }
+    asked.push("--help")?;
+    match told(alloc, asked.as_slice())? {
+        Some((text, _)) => Ok(text),
+        None => String::from_str(alloc, ABOUT),
     }
 }
 
-// The request of a command, if there is such a command.
-fn request<'a>(
-    alloc: Global,
-    command: &str,
-    matches: &ArgMatches<'a>,
-) -> Result<Option<Request<'a>>, AllocError> {
-    if let Some(question) = question(command, matches) {
-        let kind = kind(matches);
-        return Ok(Some(Request::Ask { kind, question }));
-    }
-    if let Some(task) = parse_task(alloc, command, matches)? {
-        let kind = kind(matches);
-        return Ok(Some(Request::Do { kind, task }));
-    }
-    match command {
-        "id" => Ok(Some(Request::Id {
-            kind: kind(matches),
-            log: value(matches, "LOG"),
-        })),
-        "audit" => audit(alloc, matches),
-        "show" => Ok(Some(Request::Show {
-            kind: kind(matches),
-            log: value(matches, "LOG"),
-            full: matches.get_flag("full"),
-            names: matches.get_str("names"),
-        })),
-        "prove" => Ok(prove_request(matches)),
-        "verify" => Ok(verify_request(matches)),
-        "latest" => Ok(Some(Request::Latest {
-            requirement: value(matches, "REQUIREMENT"),
-            log: value(matches, "LOG"),
-        })),
-        _ => Ok(None),
-    }
-}
-
-// What clap says of words that ask for nothing: help and the version, or what is wrong with them.
-fn told(alloc: Global, error: &Error) -> Result<Said<'static>, AllocError> {
-    if error.kind() == ErrorKind::OutOfMemory {
-        return Err(AllocError);
-    }
-    if error.kind() == ErrorKind::DisplayVersion {
-        return Ok(Said::Help(String::from_str(alloc, VERSION)?));
-    }
-    let text = error.to_string(alloc)?;
-    if error.use_stderr() {
-        Ok(Said::Fault(text))
+// The text that words ask for.
+fn text(alloc: Global, words: &[&str]) -> Result<String, AllocError> {
+    if is_version(word(words, 1)) {
+        String::from_str(alloc, VERSION)
     } else {
-        Ok(Said::Help(text))
+        help(alloc, words)
     }
 }
 
-// What is said of words that can't stand together.
-const CLASH: &str = "error: these words can't stand together
+// What is wrong with words: what clap says, or, where it would take them, that they are none.
+fn fault(alloc: Global, words: &[&str]) -> Result<String, AllocError> {
+    match told(alloc, words)? {
+        Some((text, true)) => Ok(text),
+        _ => String::from_str(alloc, CLASH),
+    }
+}
 
-For more information, try '--help'.
-";
-
-// The request of a command, if its words can stand together.
-fn usable_request<'a>(
-    alloc: Global,
-    command: &str,
-    matches: &ArgMatches<'a>,
-) -> Result<Option<Request<'a>>, AllocError> {
-    let has_two_verifiers = matches.get_flag("toy") && matches.get_str("verified").is_some();
-    if has_two_verifiers || is_read_twice(command, matches) {
-        Ok(None)
+/// What the words say. The first is the program's name.
+pub fn parse_words<'a>(alloc: Global, words: &'a [&'a str]) -> Result<Said<'a>, AllocError>
+    ensures { IfOk result (IsSaid (texts words.now)) }
+{
+    if let Some(invocation) = invocation_of(alloc, words)? {
+        return Ok(Said::Invocation(invocation));
+    }
+    if asks_for_text(words) {
+        Ok(Said::Help(text(alloc, words)?))
     } else {
-        request(alloc, command, matches)
+        Ok(Said::Fault(fault(alloc, words)?))
     }
-}
-
-fn matched<'a>(alloc: Global, matches: &ArgMatches<'a>) -> Result<Said<'a>, AllocError> {
-    if let Some((command, matches)) = matches.subcommand()
-        && let Some(request) = usable_request(alloc, command, matches)?
-    {
-        let options = matches.subcommand().map_or(matches, |(_, inner)| inner);
-        return Ok(Said::Invocation(Invocation {
-            command,
-            request,
-            json: options.get_flag("json"),
-            verified: options.get_str("verified"),
-            toy: options.get_flag("toy"),
-        }));
-    }
-    Ok(Said::Fault(String::from_str(alloc, CLASH)?))
-}
-
-/// What the words ask for. The first is the program's name.
-pub fn parse_words<'a>(alloc: Global, words: &'a [&'a str]) -> Result<Said<'a>, AllocError> {
-    let matches = match program(alloc)?.try_get_matches_from(words) {
-        Ok(matches) => matches,
-        Err(error) => return told(alloc, &error),
-    };
-    matched(alloc, &matches)
 }

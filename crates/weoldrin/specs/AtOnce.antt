@@ -1,15 +1,23 @@
--- Words that are answered by themselves.
-use Rattle.std.specs.Prelude.{◌≡◌, ◌⊎◌}
+-- What the program's words say: an invocation, or what is answered by itself.
+use Rattle.std.specs.Prelude.{◌≡◌, ◌⊎◌, ℕ, true, false, List, [], None, Some}
 use Rattle.warg_audit.specs.Printouts.{Printout}
-use Rattle.warg_files.specs.Answers.{answer_view, IsUnusable}
+use Rattle.warg_files.specs.Answers.{answer_view}
+use Rattle.warg_words.specs.Invocations.{asks_for_text, invocation_of, IsCalled}
 use Rattle.weoldrin.specs.declared.words.Parsed.{Parsed}
 use Rattle.weoldrin.specs.declared.words.Parsed.TheVariants as parsed
 
--- what is answered at once: help and the like, or that the words can't be used
-abbrev pub IsAnsweredAtOnce : Printout → Type 0
-IsAnsweredAtOnce printed = (printed.status ≡ 0) ⊎ IsUnusable printed
+-- what is answered to words that ask for a text alone: that, with status 0
+pub record IsText (words : List (List ℕ)) (printed : Printout) : Type 0 where
+  pub asked : asks_for_text words ≡ true
+  pub status : printed.status ≡ 0
 
--- P of what words are answered at once, if they ask for nothing
-abbrev pub IfAnsweredAtOnce : (Printout → Type 0) → Parsed → Type 0
-IfAnsweredAtOnce P (parsed.Answer answer) = P (answer_view answer)
-IfAnsweredAtOnce P (parsed.Invocation invocation) = Unit {0}
+-- what is answered to wrong words: nothing on standard output, with status 2
+pub record IsWrong (words : List (List ℕ)) (printed : Printout) : Type 0 where
+  pub asked : asks_for_text words ≡ false
+  pub status : printed.status ≡ 2
+  pub text : printed.text ≡ []
+
+-- what words say: the invocation that they are; else they are answered at once
+abbrev pub IsParsed : List (List ℕ) → Parsed → Type 0
+IsParsed words (parsed.Invocation it) = IsCalled (invocation_of words) words (Some it)
+IsParsed words (parsed.Answer answer) = (invocation_of words ≡ None) × (IsText words (answer_view answer) ⊎ IsWrong words (answer_view answer))

@@ -1,7 +1,8 @@
 //! The words of the program, with what those are answered that ask for nothing.
 
 ghost use Rattle.std.specs.Prelude.{IfOk};
-ghost use Rattle.weoldrin.specs.AtOnce.{IfAnsweredAtOnce, IsAnsweredAtOnce};
+ghost use Rattle.warg_words.specs.Requests.{texts};
+ghost use Rattle.weoldrin.specs.AtOnce.{IsParsed};
 
 use std::alloc::{AllocError, Global};
 use warg_files::answer::{Answer, UNUSABLE};
@@ -18,7 +19,7 @@ pub enum Parsed<'a> {
 
 /// What the words ask for. The first is the program's name.
 pub fn parse_words<'a>(alloc: Global, words: &'a [&'a str]) -> Result<Parsed<'a>, AllocError>
-    ensures { IfOk result (IfAnsweredAtOnce IsAnsweredAtOnce) }
+    ensures { IfOk result (IsParsed (texts words.now)) }
 {
     match warg_words::parse_words(alloc, words)? {
         Said::Invocation(invocation) => Ok(Parsed::Invocation(invocation)),

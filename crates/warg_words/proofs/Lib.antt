@@ -1,0 +1,3 @@
+pub mod InvocationLemmas
+pub mod PartLemmas
+pub mod RuleLemmas

@@ -1,0 +1,15 @@
+use Rattle.std.proofs.Common.{rules}
+use Rattle.warg_words.proofs.InvocationLemmas.{said_call}
+use Rattle.warg_words.specs.PartsViews.{parts_view}
+use Rattle.warg_words.specs.Requests.{texts}
+use Rattle.warg_words.proofs.invocation.invocation_with.Goals as goal
+
+pub returns-in-Some : goal.returns-in-Some
+returns-in-Some c =
+    said_call (texts c.args.words.now) c.args.called (parts_view c.args.parts.now) _ (search rules) (record {
+      command = c.word.ensures;
+      request = search rules;
+      json = c.has.ensures;
+      verified = c.value.ensures;
+      toy = c.has-in-Some.ensures;
+    })

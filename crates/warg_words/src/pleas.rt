@@ -1,0 +1,62 @@
+//! Words that ask for a text alone: help, or the version.
+
+ghost use Rattle.std.specs.Prelude.{◌≡◌};
+ghost use Rattle.warg_words.specs.Invocations.{asks_for_text, has_help, is_help, is_name, is_topic, is_version};
+ghost use Rattle.warg_words.specs.Requests.{texts};
+
+use crate::command::{is_group, of_name};
+use crate::invocation::{word, words_from};
+
+/// Whether a word asks for help.
+pub(crate) fn is_help(text: &str) -> bool
+    ensures { result ≡ is_help text.now }
+{
+    text == "--help" || text == "-h"
+}
+
+/// Whether a word asks for the version.
+pub(crate) fn is_version(text: &str) -> bool
+    ensures { result ≡ is_version text.now }
+{
+    text == "--version" || text == "-V"
+}
+
+// Whether a word is the name of a command or of a group.
+fn is_name(text: &str) -> bool
+    ensures { result ≡ is_name text.now }
+{
+    text == "prove" || (text == "verify" || of_name(text).is_some())
+}
+
+// Whether one of the words asks for help, before `--`.
+fn has_help(words: &[&str]) -> bool
+    ensures { result ≡ has_help (texts words.now) }
+{
+    for text in words {
+        if *text == "--" {
+            return false;
+        }
+        if is_help(text) {
+            return true;
+        }
+    }
+    false
+}
+
+// Whether nothing stands behind `help`, or a name.
+fn is_topic(words: &[&str]) -> bool
+    ensures { result ≡ is_topic (texts words.now) }
+{
+    words.len() == 2 || (words.len() == 3 && is_name(word(words, 2)))
+}
+
+/// Whether words ask for a text alone.
+pub(crate) fn asks_for_text(words: &[&str]) -> bool
+    ensures { result ≡ asks_for_text (texts words.now) }
+{
+    let first = word(words, 1);
+    is_help(first)
+        || (is_version(first)
+            || ((first == "help" && is_topic(words))
+                || (is_name(first) && has_help(words_from(words, 2)))))
+}
