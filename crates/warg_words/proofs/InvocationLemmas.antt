@@ -5,7 +5,7 @@ use Rattle.std.specs.Borrow.{Bor}
 use Rattle.warg_words.specs.Invocations.{call_if_taken, IsCalled, Says}
 use Rattle.warg_words.specs.Parts.{has, Parts, value}
 use Rattle.warg_words.specs.Requests.{texts}
-use Rattle.warg_words.specs.Rules.{has_demand, is_number, is_one_log, is_taken, reads_once, signer_in, stdin_options, stdin_places, takes_places}
+use Rattle.warg_words.specs.Rules.{has_demand, is_number, is_one_log, is_taken, reads_once, signer_in, stdin_files, stdin_options, stdin_places, takes_places}
 use Rattle.warg_words.specs.declared.command.Command.{Command}
 use Rattle.warg_words.specs.declared.command.Command.TheVariants as command
 use Rattle.warg_words.specs.declared.command.Doing.TheVariants as doing
@@ -40,7 +40,8 @@ unsigned places given e =
     (takes_places (command.Do doing.Make) places)
     (not (has (codes "--toy") given && has (codes "--verified") given))
     (is_number (value (codes "--at-least") given))
-    (reads_once (stdin_places (command.Do doing.Make) places) (stdin_options given) && (is_one_log places || not (has_demand given))))
+    (reads_once (stdin_places (command.Do doing.Make) places) (stdin_files (command.Do doing.Make) places) (stdin_options given)
+        && (is_one_log places || not (has_demand given))))
 
 -- the texts of the words from a place on
 pub texts_from : (n : ℕ) (words rest : List (Bor (List ℕ))) → rest ≡ drop n words → texts rest ≡ drop n (texts words)

@@ -1,8 +1,17 @@
 -- What the options of a command say.
 use Rattle.std.proofs.Common.{◌≡◌, ℕ, ◌==◌, ◌^◌, true, false, List, slice_index, Option, Some, None, refl}
+use Rattle.std.proofs.lemmas.List.Recursion.{is_count_by}
+use Rattle.std.specs.Borrow.{Bor}
+use Rattle.std.specs.List.{count_by}
 use Rattle.warg_time.specs.TimeText.{number_of}
-use Rattle.warg_words.specs.Rules.{number}
+use Rattle.warg_words.specs.Requests.{texts}
+use Rattle.warg_words.specs.Rules.{is_stdin, number}
 
 -- digits behind no plus
 pub number_plain : (digits : List ℕ) (said : Option ℕ) → (slice_index digits 0 == 43) ≡ false → number_of (2 ^ 64) digits ≡ said → number digits ≡ said
 number_plain digits said plain is = rw plain (rw plain at is)
+
+-- how many paths are standard input
+pub stdin_texts : (paths : List (Bor (List ℕ))) → count_by is_stdin (texts paths) ≡ count_by (λ (path : Bor (List ℕ)). is_stdin path.now) paths
+stdin_texts paths =
+    is_count_by (λ it. count_by is_stdin (texts it)) (λ (path : Bor (List ℕ)). is_stdin path.now) refl (λ path more. refl) paths

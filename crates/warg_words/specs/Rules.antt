@@ -37,7 +37,7 @@ is_read Input = true
 is_read Words = false
 is_read Files = false
 
--- at which places such a file stands, from the i-th on; files beyond the table's places are left out
+-- at which places such a file stands, from the i-th on; those where any number of files may stand are left out
 abbrev pub read_places : ℕ → List Form → List ℕ
 read_places i [] = []
 read_places i (form ∷ more) = if is_read form then i ∷ read_places (i + 1) more else read_places (i + 1) more
@@ -45,6 +45,16 @@ read_places i (form ∷ more) = if is_read form then i ∷ read_places (i + 1) m
 -- how many of these places are standard input
 abbrev pub stdin_places : Command → List (List ℕ) → ℕ
 stdin_places command places = count_by (λ i. is_stdin (place i places)) (read_places 0 (forms command))
+
+-- the files that stand where any number of them may, if the forms are those of the i-th place and of the next ones
+abbrev pub more_files : ℕ → List Form → List (List ℕ) → List (List ℕ)
+more_files i [] places = []
+more_files i (Files ∷ more) places = drop i places
+more_files i (_ ∷ more) places = more_files (i + 1) more places
+
+-- how many of those are standard input
+abbrev pub stdin_files : Command → List (List ℕ) → ℕ
+stdin_files command places = count_by is_stdin (more_files 0 (forms command) places)
 
 -- whether a value is that of a file that is standard input
 abbrev pub is_some_stdin : Option (List ℕ) → Bool
@@ -63,8 +73,8 @@ stdin_options given =
     + one_if (is_some_stdin (value (codes "--goes-on-from") given))
 
 -- whether standard input is read once at most
-abbrev pub reads_once : ℕ → ℕ → Bool
-reads_once places options = nat_le places 1 && (nat_le options 1 && (places == 0 || options == 0))
+abbrev pub reads_once : ℕ → ℕ → ℕ → Bool
+reads_once places files options = nat_le (places + files + options) 1
 
 -- the number below 2^64 that decimal digits say; no plus may stand first
 abbrev pub number : List ℕ → Option ℕ
@@ -124,4 +134,4 @@ abbrev pub is_taken : Command → List (List ℕ) → List (List ℕ × List ℕ
 is_taken command places given =
     takes_places command places
     && (takes_options command given
-    && (reads_once (stdin_places command places) (stdin_options given) && (is_one_log places || not (has_demand given))))
+    && (reads_once (stdin_places command places) (stdin_files command places) (stdin_options given) && (is_one_log places || not (has_demand given))))

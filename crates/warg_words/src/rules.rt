@@ -4,10 +4,11 @@ ghost use Rattle.std.specs.Prelude.{◌≡◌, ◌≤◌, length, None, Some};
 ghost use Rattle.std.specs.Option.{option_map};
 ghost use Rattle.warg_words.specs.Commands.{forms};
 ghost use Rattle.warg_words.specs.PartsViews.{parts_view};
-ghost use Rattle.warg_words.specs.Requests.{signer_view, text_in};
-ghost use Rattle.warg_words.specs.Rules.{fills, has_demand, is_kind, is_make, is_number, is_one_log, is_some_stdin, is_stdin, is_taken, kind_of, number, number_in, one_if, read_places, reads_once, signer_in, signer_of, stdin_options, stdin_places, takes_options, takes_places};
+ghost use Rattle.warg_words.specs.Requests.{signer_view, text_in, texts};
+ghost use Rattle.warg_words.specs.Rules.{fills, has_demand, is_kind, is_make, is_number, is_one_log, is_some_stdin, is_stdin, is_taken, kind_of, more_files, number, number_in, one_if, read_places, reads_once, signer_in, signer_of, stdin_files, stdin_options, stdin_places, takes_options, takes_places};
 
 use crate::command::{Asking, Command, Doing, Proving, Verifying};
+use crate::invocation::words_from;
 use crate::parts::Parts;
 use crate::task::Signer;
 use warg_log_type::LogType;
@@ -58,10 +59,10 @@ fn one_if(is_so: bool) -> usize
     if is_so { 1 } else { 0 }
 }
 
-fn reads_once(places: usize, options: usize) -> bool
-    ensures { result ≡ reads_once places options }
+fn reads_once(places: usize, files: usize, options: usize) -> bool
+    ensures { result ≡ reads_once places files options }
 {
-    places <= 1 && (options <= 1 && (places == 0 || options == 0))
+    places <= 1 && (files <= 1 && (options <= 1 && places + files + options <= 1))
 }
 
 // At which places of a command files stand that are read.
@@ -180,12 +181,46 @@ impl<'a> Parts<'a> {
             .count()
     }
 
+    // The files that stand where any number of them may.
+    fn more_files(&self, command: Command) -> &[&'a str]
+        ensures { texts result.now ≡ more_files 0 (forms command) (parts_view self.now).places }
+    {
+        match command {
+            Command::Audit => words_from(self.places.as_slice(), 2),
+            Command::Id | Command::Show | Command::Latest => &[],
+            Command::Ask(_) | Command::Do(_) | Command::Prove(_) | Command::Verify(_) => &[],
+        }
+    }
+
+    #[tactic(auto, using(crate::proofs::RuleLemmas::stdin_texts))]
+    fn stdin_files(&self, command: Command) -> usize
+        ensures { result ≡ stdin_files command (parts_view self.now).places }
+    {
+        self.more_files(command)
+            .iter()
+            .filter(|path| is_stdin(**path))
+            .count()
+    }
+
     fn stdin_options(&self) -> usize
         ensures { result ≡ stdin_options (parts_view self.now).given }
     {
         one_if(is_some_stdin(self.value("--verified")))
             + one_if(is_some_stdin(self.value("--names")))
             + one_if(is_some_stdin(self.value("--goes-on-from")))
+    }
+
+    // Whether standard input is read once at most.
+    fn reads_once(&self, command: Command) -> bool
+        ensures { result ≡ reads_once (stdin_places command (parts_view self.now).places)
+            (stdin_files command (parts_view self.now).places)
+            (stdin_options (parts_view self.now).given) }
+    {
+        reads_once(
+            self.stdin_places(command),
+            self.stdin_files(command),
+            self.stdin_options(),
+        )
     }
 
     fn has_places_of(&self, command: Command) -> bool
@@ -209,7 +244,6 @@ impl<'a> Parts<'a> {
     {
         self.has_places_of(command)
             && (self.has_options_of(command)
-                && (reads_once(self.stdin_places(command), self.stdin_options())
-                    && (self.is_one_log() || !self.has_demand())))
+                && (self.reads_once(command) && (self.is_one_log() || !self.has_demand())))
     }
 }
