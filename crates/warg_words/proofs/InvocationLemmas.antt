@@ -41,7 +41,7 @@ unsigned places given e =
     (not (has (codes "--toy") given && has (codes "--verified") given))
     (is_number (value (codes "--at-least") given))
     (reads_once (stdin_places (command.Do doing.Make) places) (stdin_files (command.Do doing.Make) places) (stdin_options given)
-        && (is_one_log places || not (has_demand given))))
+    && (is_one_log places || not (has_demand given))))
 
 -- the texts of the words from a place on
 pub texts_from : (n : ℕ) (words rest : List (Bor (List ℕ))) → rest ≡ drop n words → texts rest ≡ drop n (texts words)

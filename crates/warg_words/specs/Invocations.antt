@@ -67,14 +67,22 @@ is_version text = bytes_eq text (codes "--version") || bytes_eq text (codes "-V"
 abbrev pub is_name : List ℕ → Bool
 is_name text = bytes_eq text (codes "prove") || (bytes_eq text (codes "verify") || is_some (named text commands))
 
+-- whether words name a command of a group
+abbrev pub is_grouped : Option Command → Bool
+is_grouped (Some (command.Prove it)) = true
+is_grouped (Some (command.Verify it)) = true
+is_grouped _ = false
+
 -- whether one of the words asks for help, before `--`
 abbrev pub has_help : List (List ℕ) → Bool
 has_help [] = false
 has_help (text ∷ more) = if bytes_eq text (codes "--") then false else is_help text || has_help more
 
--- whether behind `help` stands nothing, or a name
+-- whether behind `help` stands nothing, or the name of a command, in its group, or of a group
 abbrev pub is_topic : List (List ℕ) → Bool
-is_topic words = length words == 2 || (length words == 3 && is_name (word 2 words))
+is_topic words =
+    length words == 2
+    || ((length words == 3 && is_name (word 2 words)) || (length words == 4 && is_grouped (command_of (word 2 words) (word 3 words))))
 
 -- whether words ask for a text alone: help or the version come first, or help stands among those of a command
 abbrev pub asks_for_text : List (List ℕ) → Bool

@@ -1,10 +1,10 @@
 //! Words that ask for a text alone: help, or the version.
 
 ghost use Rattle.std.specs.Prelude.{◌≡◌};
-ghost use Rattle.warg_words.specs.Invocations.{asks_for_text, has_help, is_help, is_name, is_topic, is_version};
+ghost use Rattle.warg_words.specs.Invocations.{asks_for_text, has_help, is_grouped, is_help, is_name, is_topic, is_version};
 ghost use Rattle.warg_words.specs.Requests.{texts};
 
-use crate::command::{is_group, of_name};
+use crate::command::{Command, of_name};
 use crate::invocation::{word, words_from};
 
 /// Whether a word asks for help.
@@ -28,6 +28,24 @@ fn is_name(text: &str) -> bool
     text == "prove" || (text == "verify" || of_name(text).is_some())
 }
 
+// Whether words name a command of a group.
+fn is_grouped(called: Option<Command>) -> bool
+    ensures { result ≡ is_grouped called }
+{
+    match called {
+        Some(Command::Prove(_) | Command::Verify(_)) => true,
+        Some(
+            Command::Id
+            | Command::Audit
+            | Command::Show
+            | Command::Latest
+            | Command::Ask(_)
+            | Command::Do(_),
+        ) => false,
+        None => false,
+    }
+}
+
 // Whether one of the words asks for help, before `--`.
 fn has_help(words: &[&str]) -> bool
     ensures { result ≡ has_help (texts words.now) }
@@ -43,11 +61,13 @@ fn has_help(words: &[&str]) -> bool
     false
 }
 
-// Whether nothing stands behind `help`, or a name.
+// Whether behind `help` stands nothing, or the name of a command, in its group, or of a group.
 fn is_topic(words: &[&str]) -> bool
     ensures { result ≡ is_topic (texts words.now) }
 {
-    words.len() == 2 || (words.len() == 3 && is_name(word(words, 2)))
+    words.len() == 2
+        || ((words.len() == 3 && is_name(word(words, 2)))
+            || (words.len() == 4 && is_grouped(Command::of(word(words, 2), word(words, 3)))))
 }
 
 /// Whether words ask for a text alone.

@@ -74,6 +74,9 @@ fn help(alloc: Global, words: &[&str]) -> Result<String, AllocError> {
         if words.len() > 2 {
             asked.push(second)?;
         }
+        if words.len() > 3 {
+            asked.push(word(words, 3))?;
+        }
     } else if !is_help(first) {
         asked.push(first)?;
         if is_group(first) && Called::of(first, second).is_some() {
