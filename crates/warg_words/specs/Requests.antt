@@ -103,9 +103,7 @@ module _ (called : Command) (places : List (List ℕ)) (given : List (List ℕ �
   IsRequest (request.Audits kind logs allows_empty) =
       (called ≡ command.Audit) × (is_one_log places ≡ false) × (kind ≡ kind_of (place 0 places)) × (texts logs.items ≡ drop 1 places)
       × (allows_empty ≡ has (codes "--allow-empty") given)
-  IsRequest (request.Show kind log full names) =
-      (called ≡ command.Show) × (kind ≡ kind_of (place 0 places)) × (log.now ≡ place 1 places)
-      × (full ≡ has (codes "--full") given) × (text_in names ≡ value (codes "--names") given)
+  IsRequest (request.Show kind log) = (called ≡ command.Show) × (kind ≡ kind_of (place 0 places)) × (log.now ≡ place 1 places)
   IsRequest (request.Latest requirement log) = (called ≡ command.Latest) × (requirement.now ≡ place 0 places) × (log.now ≡ place 1 places)
   IsRequest (request.Prove wanted leaves) = IsWanted wanted leaves.now
   IsRequest (request.Verify statement) = IsStatement statement

@@ -234,8 +234,6 @@ impl<'a> Parts<'a> {
             Command::Show => Ok(Some(Request::Show {
                 kind,
                 log: self.place(1),
-                full: self.has("--full"),
-                names: self.value("--names"),
             })),
             Command::Latest => Ok(Some(Request::Latest {
                 requirement: self.place(0),

@@ -38,21 +38,7 @@ const TOY: Choice = Choice {
     help: "Also takes signatures of the toy scheme, which anyone can forge",
 };
 
-const FULL: Choice = Choice {
-    name: "full",
-    value: None,
-    help: "Shows ids whole",
-};
-
-const NAMES: Choice = Choice {
-    name: "names",
-    value: Some("FILE"),
-    help: "Names keys as this file does: an id or a key's text, a space, a name",
-};
-
 const OF_LOGS: &[Choice] = &[JSON, VERIFIED, TOY];
-
-const OF_SHOWN: &[Choice] = &[JSON, VERIFIED, TOY, FULL, NAMES];
 
 const OF_AUDITS: &[Choice] = &[
     JSON,
@@ -140,7 +126,7 @@ pub(crate) const LOG_COMMANDS: &[Row] = &[
         about: "Shows a log in words, and why a record is refused",
         example: "Example: weoldrin show package log.hex",
         words: &[KIND, LOG],
-        choices: OF_SHOWN,
+        choices: OF_LOGS,
     },
     Row {
         name: "state",
@@ -203,7 +189,7 @@ pub(crate) const LOG_COMMANDS: &[Row] = &[
             },
             LOG,
         ],
-        choices: OF_SHOWN,
+        choices: OF_LOGS,
     },
     Row {
         name: "compare",

@@ -101,10 +101,6 @@ pub enum Request<'a> {
         kind: LogType,
         /// The log.
         log: &'a str,
-        /// Whether ids are shown whole.
-        full: bool,
-        /// The file of names for keys.
-        names: Option<&'a str>,
     },
     /// The greatest release of a package that meets a requirement.
     Latest {

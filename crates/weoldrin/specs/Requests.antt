@@ -84,7 +84,7 @@ abbrev pub IsRequestAnswer : Bool → SignatureRelation → Option Files → Opt
 IsRequestAnswer json belongs old new (request.Id kind path) printed = IsOfLines old path.now (IsIdAnswer kind) printed
 IsRequestAnswer json belongs old new (request.Audit kind path demands shows_path) printed = IsOneAnswer json kind belongs old demands shows_path path.now printed
 IsRequestAnswer json belongs old new (request.Audits kind paths allows_empty) printed = IsManyAnswer json kind belongs old allows_empty (texts paths.items) printed
-IsRequestAnswer json belongs old new (request.Show kind path full names) printed = IsShownAnswer kind belongs old path.now printed
+IsRequestAnswer json belongs old new (request.Show kind path) printed = IsShownAnswer kind belongs old path.now printed
 IsRequestAnswer json belongs old new (request.Latest requirement path) printed = IsLatestAnswer belongs old requirement.now path.now printed
 IsRequestAnswer json belongs old new (request.Prove wanted path) printed = IsProofAnswer old wanted path.now printed
 IsRequestAnswer json belongs old new (request.Verify statement) printed = IfUsable (IsStatementVerdict old statement) printed
@@ -96,7 +96,7 @@ abbrev pub RequestLeaves : SignatureRelation → Option Files → Option Files �
 RequestLeaves belongs old new (request.Id kind path) = new ≡ old
 RequestLeaves belongs old new (request.Audit kind path demands shows_path) = new ≡ old
 RequestLeaves belongs old new (request.Audits kind paths allows_empty) = new ≡ old
-RequestLeaves belongs old new (request.Show kind path full names) = new ≡ old
+RequestLeaves belongs old new (request.Show kind path) = new ≡ old
 RequestLeaves belongs old new (request.Latest requirement path) = new ≡ old
 RequestLeaves belongs old new (request.Prove wanted path) = new ≡ old
 RequestLeaves belongs old new (request.Verify statement) = new ≡ old
@@ -108,7 +108,7 @@ abbrev pub is_many : Request → Bool
 is_many (request.Id kind path) = false
 is_many (request.Audit kind path demands shows_path) = shows_path
 is_many (request.Audits kind paths allows_empty) = true
-is_many (request.Show kind path full names) = false
+is_many (request.Show kind path) = false
 is_many (request.Latest requirement path) = false
 is_many (request.Prove wanted path) = false
 is_many (request.Verify statement) = false

@@ -181,7 +181,7 @@ fn request_answer<V: Verifier, S: Store>(
             *allows_empty,
             is_json,
         ),
-        Request::Show { kind, log, .. } => shown_answer(alloc, verifier, *kind, log, store),
+        Request::Show { kind, log } => shown_answer(alloc, verifier, *kind, log, store),
         Request::Latest { requirement, log } => {
             latest_of_file(alloc, verifier, requirement, log, store)
         }
