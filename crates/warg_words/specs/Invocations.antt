@@ -90,6 +90,19 @@ asks_for_text words =
     is_help (word 1 words) || (is_version (word 1 words)
     || ((bytes_eq (word 1 words) (codes "help") && is_topic words) || (is_name (word 1 words) && has_help (drop 2 words))))
 
+-- whether an answer in JSON is asked for, also by wrong words: `--json` is one of them, before `--`
+abbrev pub has_json : List (List ℕ) → Bool
+has_json [] = false
+has_json (text ∷ more) = if bytes_eq text (codes "--") then false else bytes_eq text (codes "--json") || has_json more
+
+-- the same of the program's words
+abbrev pub asks_for_json : List (List ℕ) → Bool
+asks_for_json words = has_json (drop 1 words)
+
+-- the command that words name, empty where they name none
+abbrev pub named_command : List (List ℕ) → List ℕ
+named_command words = if is_name (word 1 words) then word 1 words else []
+
 -- what is said of words: the invocation that they are, else a text that they ask for, else what is wrong
 abbrev pub IsSaid : List (List ℕ) → Said → Type 0
 IsSaid words (said.Invocation it) = IsCalled (invocation_of words) words (Some it)

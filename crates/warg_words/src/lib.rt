@@ -15,6 +15,7 @@ mod task;
 mod version;
 mod words;
 
+pub use pleas::{asks_for_json, named_command};
 pub use request::{Demands, Invocation, Question, Request, Said};
 pub use statement::{LeafIds, Statement, Wanted};
 pub use task::{Draft, Signer, Task};

@@ -1,7 +1,7 @@
-//! Words that ask for a text alone: help, or the version.
+//! Words that ask for a text alone, as help or the version, and what wrong words still say: the command, and whether JSON is wanted.
 
 ghost use Rattle.std.specs.Prelude.{◌≡◌};
-ghost use Rattle.warg_words.specs.Invocations.{asks_for_text, has_help, is_grouped, is_help, is_name, is_topic, is_version};
+ghost use Rattle.warg_words.specs.Invocations.{asks_for_json, asks_for_text, has_help, has_json, is_grouped, is_help, is_name, is_topic, is_version, named_command};
 ghost use Rattle.warg_words.specs.Requests.{texts};
 
 use crate::command::{Command, of_name};
@@ -68,6 +68,36 @@ fn is_topic(words: &[&str]) -> bool
     words.len() == 2
         || ((words.len() == 3 && is_name(word(words, 2)))
             || (words.len() == 4 && is_grouped(Command::of(word(words, 2), word(words, 3)))))
+}
+
+// Whether JSON is asked for, before `--`.
+fn has_json(words: &[&str]) -> bool
+    ensures { result ≡ has_json (texts words.now) }
+{
+    for text in words {
+        if *text == "--" {
+            return false;
+        }
+        if *text == "--json" {
+            return true;
+        }
+    }
+    false
+}
+
+/// Whether words ask for answers in JSON, also where they are wrong. The first is the program's name.
+pub fn asks_for_json(words: &[&str]) -> bool
+    ensures { result ≡ asks_for_json (texts words.now) }
+{
+    has_json(words_from(words, 1))
+}
+
+/// The command that words name, also where they are wrong; empty where they name none.
+pub fn named_command<'a>(words: &[&'a str]) -> &'a str
+    ensures { result.now ≡ named_command (texts words.now) }
+{
+    let first = word(words, 1);
+    if is_name(first) { first } else { "" }
 }
 
 /// Whether words ask for a text alone.

@@ -192,18 +192,18 @@ fn request_answer<V: Verifier, S: Store>(
     }
 }
 
-/// The answer as the invocation wants it: as it is, or in JSON.
+/// The answer as it is wanted: as it is, or in JSON.
 pub(crate) fn given(
     alloc: Global,
-    invocation: &Invocation<'_>,
+    is_json: bool,
+    command: &str,
     answer: Answer,
 ) -> Result<Answer, AllocError>
-    ensures { IfOk result (λ it. IsGiven invocation.now.json invocation.now.command.now
-        (answer_view answer)
+    ensures { IfOk result (λ it. IsGiven is_json command.now (answer_view answer)
         (answer_view it)) }
 {
-    if invocation.json {
-        json_answer(alloc, invocation.command, answer)
+    if is_json {
+        json_answer(alloc, command, answer)
     } else {
         Ok(answer)
     }
@@ -246,6 +246,6 @@ pub fn respond<V: Verifier, S: Store>(
     if is_many(request) {
         Ok(answer)
     } else {
-        given(alloc, invocation, answer)
+        given(alloc, invocation.json, invocation.command, answer)
     }
 }

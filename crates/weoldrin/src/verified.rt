@@ -79,7 +79,7 @@ fn given_end(alloc: Global, invocation: &Invocation<'_>, stop: Stop) -> Result<A
         IsUnanswered (answer_view it)) }
 {
     match stop {
-        Stop::Answer(answer) => given(alloc, invocation, answer),
+        Stop::Answer(answer) => given(alloc, invocation.json, invocation.command, answer),
         Stop::OutOfMemory => Err(AllocError),
     }
 }

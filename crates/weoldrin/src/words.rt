@@ -1,12 +1,16 @@
 //! The words of the program, with what those are answered that ask for nothing.
 
 ghost use Rattle.std.specs.Prelude.{IfOk};
+ghost use Rattle.warg_files.specs.Answers.{answer_view, IsUnusable};
+ghost use Rattle.warg_words.specs.Invocations.{asks_for_json, named_command};
 ghost use Rattle.warg_words.specs.Requests.{texts};
 ghost use Rattle.weoldrin.specs.AtOnce.{IsParsed};
+ghost use Rattle.weoldrin.specs.Requests.{IsGivenAs};
 
+use crate::commands::given;
 use std::alloc::{AllocError, Global};
 use warg_files::answer::{Answer, UNUSABLE};
-use warg_words::{Invocation, Said};
+use warg_words::{Invocation, Said, asks_for_json, named_command};
 
 /// What the words say: a request, or what is answered at once, as help.
 #[derive(Debug, Drop)]
@@ -17,6 +21,15 @@ pub enum Parsed<'a> {
     Answer(Answer),
 }
 
+// What is answered to wrong words: what is wrong with them, in JSON too if they ask for it.
+fn wrong_answer(alloc: Global, words: &[&str], fault: String) -> Result<Answer, AllocError>
+    ensures { IfOk result (λ answer. IsGivenAs (asks_for_json (texts words.now))
+        (named_command (texts words.now)) IsUnusable (answer_view answer)) }
+{
+    let answer = Answer::fault(alloc, fault, UNUSABLE);
+    given(alloc, asks_for_json(words), named_command(words), answer)
+}
+
 /// What the words ask for. The first is the program's name.
 pub fn parse_words<'a>(alloc: Global, words: &'a [&'a str]) -> Result<Parsed<'a>, AllocError>
     ensures { IfOk result (IsParsed (texts words.now)) }
@@ -24,6 +37,6 @@ pub fn parse_words<'a>(alloc: Global, words: &'a [&'a str]) -> Result<Parsed<'a>
     match warg_words::parse_words(alloc, words)? {
         Said::Invocation(invocation) => Ok(Parsed::Invocation(invocation)),
         Said::Help(text) => Ok(Parsed::Answer(Answer::new(alloc, text, 0))),
-        Said::Fault(text) => Ok(Parsed::Answer(Answer::fault(alloc, text, UNUSABLE))),
+        Said::Fault(text) => Ok(Parsed::Answer(wrong_answer(alloc, words, text)?)),
     }
 }
