@@ -1,6 +1,6 @@
 -- What the options of a command say.
-use Rattle.std.proofs.Common.{◌≡◌, ℕ, ◌==◌, ◌^◌, true, false, List, slice_index, Option, Some, None, refl}
-use Rattle.std.proofs.lemmas.List.Recursion.{is_count_by}
+use Rattle.std.proofs.Common.{◌≡◌, ℕ, ◌+◌, ◌==◌, ◌^◌, true, false, cond, List, slice_index, Option}
+use Rattle.std.proofs.lemmas.List.Folds.{fold-map}
 use Rattle.std.specs.Borrow.{Bor}
 use Rattle.std.specs.List.{count_by}
 use Rattle.warg_time.specs.TimeText.{number_of}
@@ -14,4 +14,4 @@ number_plain digits said plain is = rw plain (rw plain at is)
 -- how many paths are standard input
 pub stdin_texts : (paths : List (Bor (List ℕ))) → count_by is_stdin (texts paths) ≡ count_by (λ (path : Bor (List ℕ)). is_stdin path.now) paths
 stdin_texts paths =
-    is_count_by (λ it. count_by is_stdin (texts it)) (λ (path : Bor (List ℕ)). is_stdin path.now) refl (λ path more. refl) paths
+    fold-map (λ (count : ℕ) (path : List ℕ). count + cond (is_stdin path) 1 0) (λ (path : Bor (List ℕ)). path.now) 0 paths
