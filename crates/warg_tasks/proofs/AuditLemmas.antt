@@ -1,16 +1,14 @@
 -- What is answered to a log of which something is demanded.
 use Rattle.std.proofs.Common.{◌≡◌, ℕ, List, length, refl, ap, ◌∙◌, Option, Some, None, Result}
-use Rattle.warg_protocol.specs.Logs.{IsComparison, SignatureRelation, contents}
-use Rattle.warg_audited_log.specs.declared.comparison.Comparison.{Comparison}
+use Rattle.warg_protocol.specs.Logs.{SignatureRelation}
 use Rattle.warg_audit.specs.LogAnswers.{LogDisplay, accepted_line, log_shown, view_of}
 use Rattle.warg_audit.specs.Printouts.{Printout}
-use Rattle.warg_files.specs.Answers.{Answers, IfStopped}
-use Rattle.warg_files.specs.Texts.{side_text}
-use Rattle.warg_files.proofs.AnswerLemmas.{Answers-to, IfStopped-to}
+use Rattle.warg_files.specs.Answers.{Answers}
+use Rattle.warg_files.proofs.AnswerLemmas.{Answers-to}
 use Rattle.warg_files.specs.declared.answer.Answer.{Answer}
 use Rattle.warg_files.specs.declared.stop.Stop.{Stop}
-use Rattle.warg_answers.specs.Verdicts.{IsLawful, IsNegative, lawful, envelopes_of}
-use Rattle.warg_tasks.specs.Audits.{IsAudited, IsBeside, IsBesideLines, IsDemanded, beside, line_or, met, not_met, of_older, parted, unmet, verdict_on}
+use Rattle.warg_answers.specs.Verdicts.{IsLawful, lawful}
+use Rattle.warg_tasks.specs.Audits.{IsAudited, IsDemanded, line_or, met, not_met, unmet, verdict_on}
 use Rattle.warg_words.specs.declared.request.Demands.{Demands}
 
 module _ {Meaning Fault View Offence : Type 0} (log : LogDisplay Meaning Fault View Offence) (belongs : SignatureRelation) where

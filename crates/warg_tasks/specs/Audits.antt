@@ -20,6 +20,10 @@ use Rattle.warg_words.specs.declared.request.Demands.{Demands}
 
 -- ---- what is demanded of a log alone
 
+-- there are no records, where there have to be some
+abbrev pub lacks_records : Demands → ℕ → Bool
+lacks_records demands count = not demands.allows_empty && (count == 0)
+
 -- the head has the id that a word says, if one is demanded
 abbrev pub has_head : Option (Bor (List ℕ)) → Option RecordId → Bool
 has_head None head = true
@@ -33,7 +37,7 @@ has_least (Some least) count = nat_le least count
 -- the line of the first demand that a log does not meet, which has so many records and this head
 abbrev pub unmet : Demands → ℕ → Option RecordId → Option (List ℕ)
 unmet demands count head =
-    if not demands.allows_empty && (count == 0) then Some (codes "empty\n")
+    if lacks_records demands count then Some (codes "empty\n")
     else if not (has_head demands.head head) then Some (codes "other head " ++ (head_text head ++ codes "\n"))
     else if not (has_least demands.least count) then Some (codes "too short " ++ (decimal count ++ codes "\n"))
     else None

@@ -3,9 +3,9 @@
 ghost use Rattle.std.specs.Prelude.{◌≡◌, IfErr, IfOk, OnOk, true, string_bytes};
 ghost use Rattle.std.specs.Option.{option_copied, option_map};
 ghost use Rattle.warg_audit.specs.LogAnswers.{head_text};
-ghost use Rattle.warg_answers.specs.IdWords.{is_id_word};
+ghost use Rattle.warg_answers.specs.IdWords.{begins_as_said, is_id_word};
 ghost use Rattle.warg_files.specs.Answers.{IfStopped, IsUnusable};
-ghost use Rattle.warg_tasks.specs.Audits.{SaysHead, has_head, has_least, records_alone, unmet};
+ghost use Rattle.warg_tasks.specs.Audits.{SaysHead, has_head, has_least, lacks_records, records_alone, unmet};
 
 use std::alloc::{AllocError, Global};
 use warg_answers::id_word::{begins_as_said, is_id_word};
@@ -61,17 +61,30 @@ fn head_text(alloc: Global, head: Option<&RecordId>) -> Result<String, AllocErro
     }
 }
 
+// Whether the head has the id that the word says.
+fn has_id(alloc: Global, word: &str, head: Option<&RecordId>) -> Result<bool, AllocError>
+    ensures { IfOk result (λ has. has ≡
+        begins_as_said word.now (head_text (option_copied head.entry))) }
+{
+    let text = head_text(alloc, head)?;
+    begins_as_said(alloc, word, text.as_str())
+}
+
 // Whether the head has the id that a word says, if one is demanded.
 fn has_head(alloc: Global, word: Option<&str>, head: Option<&RecordId>) -> Result<bool, AllocError>
     ensures { IfOk result (λ has. has ≡ has_head word.entry (option_copied head.entry)) }
 {
     match word {
-        Some(word) => {
-            let text = head_text(alloc, head)?;
-            begins_as_said(alloc, word, text.as_str())
-        }
+        Some(word) => has_id(alloc, word, head),
         None => Ok(true),
     }
+}
+
+// Whether there are no records, where there have to be some.
+fn lacks_records(demands: &Demands<'_>, count: usize) -> bool
+    ensures { result ≡ lacks_records demands.now count }
+{
+    !demands.allows_empty && count == 0
 }
 
 // Whether there are as many records as are demanded.
@@ -94,7 +107,7 @@ pub(crate) fn unmet(
     ensures { IfOk result (λ found. option_map string_bytes found ≡
         unmet demands.now count (option_copied head.entry)) }
 {
-    if !demands.allows_empty && count == 0 {
+    if lacks_records(demands, count) {
         return Ok(Some(String::from_str(alloc, "empty\n")?));
     }
     if !has_head(alloc, demands.head, head)? {

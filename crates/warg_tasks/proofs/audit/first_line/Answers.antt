@@ -8,11 +8,11 @@ use Rattle.warg_tasks.proofs.audit.first_line.Goals as goal
 pub returns-in-Some : goal.returns-in-Some
 returns-in-Some c =
     line_of_unmet _ c.records_alone-demands.result (records_alone c.args.allows_empty) c.args.count (option_copied c.args.head) _
-    (string_bytes c.in-Some.text) (answer_view c.new.result) c.in_ok-unmet.ensures c.records_alone-demands.ensures
+    (string_bytes c.in-Some.text) (answer_view c.new.result) c.in_ok-text.ensures c.records_alone-demands.ensures
     (ap (option_map string_bytes) c.in-Some.is) c.new.ensures
 
-pub returns-in-None : goal.returns-in-None
-returns-in-None c =
+pub returns-in_ok-line-in-None : goal.returns-in_ok-line-in-None
+returns-in_ok-line-in-None c =
     verdict_of_met c.records_alone-demands.result (records_alone c.args.allows_empty) c.args.count (option_copied c.args.head) _
-    _ _ 0 (answer_view c.new-in-None.result) c.in_ok-unmet.ensures c.records_alone-demands.ensures
-    (ap (option_map string_bytes) c.in-None.is) c.in_ok-line.ensures c.new-in-None.ensures
+    _ _ 0 (answer_view c.new-in-None.result) c.in_ok-text.ensures c.records_alone-demands.ensures
+    (ap (option_map string_bytes) c.in-None.is) c.in_ok-line-in-None.ensures c.new-in-None.ensures

@@ -5,3 +5,6 @@ returns-in-Some-clause-said c = rw c.in-Some.is c.test_id.ensures.said
 
 pub returns-in-Some-clause-stopped : goal.returns-in-Some-clause-stopped
 returns-in-Some-clause-stopped c = rw c.in-Some.is c.test_id.ensures.stopped
+
+pub returns-in-None-clause-said : goal.returns-in-None-clause-said
+returns-in-None-clause-said c = rw c.in-None.is tt
