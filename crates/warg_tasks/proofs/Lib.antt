@@ -5,6 +5,7 @@ pub mod FirstLineLemmas
 pub mod ManyAuditLemmas
 pub mod DemandLemmas
 pub mod AuditLemmas
+pub mod AuditFileLemmas
 pub mod BesideLemmas
 pub mod AddedLineLemmas
 pub mod AdditionLemmas

@@ -1,9 +1,10 @@
 //! `audit` of the log in one file.
 
-ghost use Rattle.std.specs.Prelude.{◌≡◌, IfOk};
+ghost use Rattle.std.specs.Prelude.{◌≡◌, IfOk, Some};
 ghost use Rattle.std.specs.Option.{option_map};
 ghost use Rattle.warg_files.specs.Answers.{answer_view, Answers};
 ghost use Rattle.warg_files.specs.RecordLines.{record_lines};
+ghost use Rattle.warg_files.specs.Unusable.{IsOfLines};
 ghost use Rattle.warg_tasks.specs.Audits.{IsAuditOf};
 ghost use Rattle.warg_tasks.specs.ManyAudits.{IsByOlder, IsOneAnswer, IsPathLine, IsShownBy, IsVerdictOn};
 
@@ -116,6 +117,20 @@ impl<'v, 'a, V: Verifier> Audit<'v, 'a, V> {
         }
     }
 
+    // The answer beside the older copy in a file.
+    fn beside_copy<S: Store>(&self, older: &str, path: &str, store: &mut S) -> Result<Answer, Stop>
+        ensures answered { Answers (IsOfLines (S.files store.old) older.now (λ lines.
+            IsShownBy self.now.is_json (S.files store.old) (IsAuditOf self.now.kind
+            (V.belongs self.now.verifier.now) self.now.demands (Some lines)) path.now
+            self.now.shows_path)) result }
+        ensures kept { S.files store.new ≡ S.files store.old }
+    {
+        match read_input(self.alloc, store, older) {
+            Ok(older) => self.shown(Some(older), path, store),
+            Err(stop) => Err(stop),
+        }
+    }
+
     // The answer beside the older copy that is named, if one is.
     fn beside_named<S: Store>(&self, path: &str, store: &mut S) -> Result<Answer, Stop>
         ensures answered { Answers (IsByOlder (S.files store.old) self.now.demands.older (λ older.
@@ -125,10 +140,7 @@ impl<'v, 'a, V: Verifier> Audit<'v, 'a, V> {
         ensures kept { S.files store.new ≡ S.files store.old }
     {
         match self.demands.older {
-            Some(older) => match read_input(self.alloc, store, older) {
-                Ok(older) => self.shown(Some(older), path, store),
-                Err(stop) => Err(stop),
-            },
+            Some(older) => self.beside_copy(older, path, store),
             None => self.shown(None, path, store),
         }
     }

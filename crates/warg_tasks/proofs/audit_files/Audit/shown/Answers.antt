@@ -4,8 +4,8 @@ use Rattle.warg_files.proofs.UnusableLemmas.{file_read, file_unread}
 use Rattle.warg_tasks.specs.Audits.{IsAuditOf}
 use Rattle.warg_tasks.proofs.audit_files.Audit.shown.Goals as goal
 
-pub returns-in_ok-path_line-then-self-clause-answered : goal.returns-in_ok-path_line-then-self-clause-answered
-returns-in_ok-path_line-then-self-clause-answered g c = rw c.if-self.true c.in_ok-path_line-then-self.ensures.line
+pub returns-then-self-clause-answered : goal.returns-then-self-clause-answered
+returns-then-self-clause-answered g c = rw c.if-self.true c.in_ok-path_line.ensures.line
 
 pub returns-in-Ok-clause-answered : goal.returns-in-Ok-clause-answered
 returns-in-Ok-clause-answered g c =

@@ -8,12 +8,18 @@ use Rattle.warg_tasks.proofs.audit_files.Audit.verdict.Goals as goal
 
 pub returns-in-Ok-clause-verdict : goal.returns-in-Ok-clause-verdict
 returns-in-Ok-clause-verdict g c =
-    whole_verdict_read _ (g.S.Store.files c.args.store.now) c.args.path.now c.in-Ok.bytes.items c.answer.result
+    let it = c.args.self.now in
+    whole_verdict_read
+    (IsAuditOf it.kind (g.V.Verifier.belongs it.verifier.now) it.demands (option_map (λ o. record_lines o.bytes.items) c.args.older))
+    (g.S.Store.files c.args.store.now) c.args.path.now c.in-Ok.bytes.items c.answer.result
     c.settled.result c.settled.ensures c.in-Ok.ensures.bytes c.answer.ensures
 
-pub returns-in-Err-clause-verdict : goal.returns-in-Err-clause-verdict
-returns-in-Err-clause-verdict g c =
+pub returns-clause-verdict : goal.returns-clause-verdict
+returns-clause-verdict g c =
+    let it = c.args.self.now in
     IfOk-weaker c.fixed.result _ _
-    (λ answer is. whole_verdict_unread _ (g.S.Store.files c.args.store.now) c.args.path.now
+    (λ answer is. whole_verdict_unread
+    (IsAuditOf it.kind (g.V.Verifier.belongs it.verifier.now) it.demands (option_map (λ o. record_lines o.bytes.items) c.args.older))
+    (g.S.Store.files c.args.store.now) c.args.path.now
     c.in-Err.fault (answer_view answer) c.text.result.now c.status.result c.in-Err.ensures.missing is c.text.ensures c.status.ensures)
     c.fixed.ensures
