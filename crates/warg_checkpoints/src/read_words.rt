@@ -86,7 +86,6 @@ fn checkpoint_of_file(alloc: Global, input: &Input<'_>) -> Result<Checkpoint, St
 }
 
 /// The checkpoint in the file of this path.
-#[tactic(auto, using(warg_files::proofs::UnusableLemmas::unanswered, warg_files::proofs::UnusableLemmas::unread_end))]
 pub(crate) fn read_checkpoint<S: Store>(
     alloc: Global,
     path: &str,
@@ -149,7 +148,6 @@ fn log_proof_of_file(alloc: Global, input: &Input<'_>) -> Result<LogProof, Stop>
 }
 
 /// The proof on a log in the file of this path.
-#[tactic(auto, using(warg_files::proofs::UnusableLemmas::unanswered, warg_files::proofs::UnusableLemmas::unread_end))]
 pub(crate) fn read_log_proof<S: Store>(
     alloc: Global,
     path: &str,
@@ -188,7 +186,6 @@ fn map_proof_of_file(alloc: Global, input: &Input<'_>) -> Result<MapProof, Stop>
 }
 
 /// The proof on a map in the file of this path.
-#[tactic(auto, using(warg_files::proofs::UnusableLemmas::unanswered, warg_files::proofs::UnusableLemmas::unread_end))]
 pub(crate) fn read_map_proof<S: Store>(
     alloc: Global,
     path: &str,
