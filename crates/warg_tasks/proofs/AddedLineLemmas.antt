@@ -8,7 +8,7 @@ use Rattle.std.proofs.lemmas.List.Elements.{filter-append}
 use Rattle.std.proofs.lemmas.List.Folds.{list_any_at}
 use Rattle.warg_files.specs.RecordLines.{texts}
 use Rattle.warg_files.specs.Texts.{all_lines, line}
-use Rattle.warg_tasks.specs.Additions.{is_line_of, is_none_of}
+use Rattle.warg_tasks.specs.Additions.{is_line_of}
 
 -- a test of texts behind references
 pub any_text : (said : List ℕ) (others : List (Bor (List ℕ))) → list_any (λ (other : Bor (List ℕ)). bytes_eq other.now said) others ≡ is_line_of (texts others) said

@@ -17,13 +17,13 @@ loop-line-preserved c =
     let said = c.in-Some.line in
     let before = string_bytes c.loop-line.kept in
     elim c.if-not-is_among.branch [
-    | then-not-is_among+in_ok-push_str+in_ok-push w ↦
-        kept_more test c.loop-line.yielded said before (string_bytes c.if-not-is_among.kept) c.loop-line.invariant
-        (ap not (sym w.if-not-is_among.ensures))
-        (ap string_bytes w.kept-is ∙ w.in_ok-push.ensures.bytes ∙ ap (λ t. t ++ codes "\n") w.in_ok-push_str.ensures.bytes
-        ∙ append_assoc before said.now (codes "\n"))
-    | else-not-is_among w ↦
-        ap string_bytes w.kept-is ∙ passed_more test c.loop-line.yielded said before c.loop-line.invariant (ap not (sym w.if-not-is_among.ensures))
+      | then-not-is_among+in_ok-push_str+in_ok-push w ↦
+          kept_more test c.loop-line.yielded said before (string_bytes c.if-not-is_among.kept) c.loop-line.invariant
+          (ap not (sym w.if-not-is_among.ensures))
+          (ap string_bytes w.kept-is ∙ w.in_ok-push.ensures.bytes ∙ ap (λ t. t ++ codes "\n") w.in_ok-push_str.ensures.bytes
+          ∙ append_assoc before said.now (codes "\n"))
+      | else-not-is_among w ↦
+          ap string_bytes w.kept-is ∙ passed_more test c.loop-line.yielded said before c.loop-line.invariant (ap not (sym w.if-not-is_among.ensures))
     ]
 
 pub returns : goal.returns
