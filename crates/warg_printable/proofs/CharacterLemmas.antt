@@ -69,6 +69,10 @@ glyph_shown d h = let b = glyph_bounds d h in ascii_shown (digit_glyph false d) 
 pub glyph_ascii : (d : ℕ) → d < 16 → digit_glyph false d < 128
 glyph_ascii d h = let b = glyph_bounds d h in let fits : digit_glyph false d < 127 = b.1 in omega arith
 
+-- a hex digit is no space
+pub glyph_no_blank : (d : ℕ) → d < 16 → (digit_glyph false d == 32) ≡ false
+glyph_no_blank d h = grind (arith, nat_tests)
+
 module _ (p : ℕ → Bool) where
   pub none-append : (xs ys : List ℕ) → NonePass p xs → NonePass p ys → NonePass p (xs ++ ys)
   none-append [] ys h k = k

@@ -1,4 +1,5 @@
 pub mod CharacterLemmas
 pub mod ShownLemmas
 pub mod BackLemmas
+pub mod ReadLemmas
 pub mod LineLemmas

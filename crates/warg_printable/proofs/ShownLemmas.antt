@@ -1,12 +1,12 @@
 -- What stands for characters, and for texts.
-use Rattle.std.proofs.Common.{◌≡◌, ◌≢◌, ℕ, ◌==◌, ◌<◌, ◌≤◌, Bool, true, false, nat_le, cond, List, [], ◌∷◌, ◌++◌, length, get_or, refl, sym, ap, ◌∙◌, arith, append-nil, encode_utf8, encode_utf8_all, chars, IsUtf8, flat_map}
+use Rattle.std.proofs.Common.{◌≡◌, ◌≢◌, ℕ, ◌==◌, ◌<◌, ◌≤◌, Bool, true, false, nat_le, cond, List, [], ◌∷◌, ◌++◌, length, get_or, refl, sym, ap, ◌∙◌, arith, append-nil, append_assoc, encode_utf8, encode_utf8_all, chars, IsUtf8, flat_map}
 use Rattle.std.proofs.lemmas.Bool.{leb-false, lt-leb}
 use Rattle.std.proofs.lemmas.List.{nil_from_length}
-use Rattle.std.proofs.lemmas.Str.{NoCharPasses-byte, chars-nil, chars_past_char, encode_ascii, encodes-append, encodes-chars}
+use Rattle.std.proofs.lemmas.Str.{NoCharPasses-byte, chars-append, chars-nil, chars_past_char, encode_ascii, encodes-append, encodes-chars}
 use Rattle.std.specs.Str.{NoCharPasses, NonePass}
 use Rattle.warg_printable.specs.Characters.{backslash, is_hidden, number_escape}
 use Rattle.warg_printable.specs.Printable.{escaped, is_escaped, is_numbered, shown_char}
-use Rattle.warg_printable.proofs.CharacterLemmas.{ascii_shown, glyph_ascii, glyph_shown, none-append, none-escape, or_left_false, or_right_false, shown_bounds}
+use Rattle.warg_printable.proofs.CharacterLemmas.{ascii_shown, glyph_ascii, glyph_no_blank, glyph_shown, none-append, none-escape, or_left_false, or_right_false, shown_bounds}
 
 -- ---- characters
 
@@ -88,6 +88,20 @@ module _ (spaces : Bool) where
       ap (λ (l : List ℕ). encode_utf8_all (flat_map (shown_char spaces) (chars l))) (nil_from_length bs h)
       ∙ ap (λ (cs : List ℕ). encode_utf8_all (flat_map (shown_char spaces) cs)) chars-nil
 
+  shown_all-append : (xs ys : List ℕ) → flat_map (shown_char spaces) (xs ++ ys) ≡ flat_map (shown_char spaces) xs ++ flat_map (shown_char spaces) ys
+  shown_all-append [] ys = refl
+  shown_all-append (x ∷ xs) ys =
+      ap (λ (l : List ℕ). shown_char spaces x ++ l) (shown_all-append xs ys)
+      ∙ sym (append_assoc (shown_char spaces x) (flat_map (shown_char spaces) xs) (flat_map (shown_char spaces) ys))
+
+  -- a text behind another
+  pub escaped-append : (a b : List ℕ) → IsUtf8 a → escaped spaces (a ++ b) ≡ escaped spaces a ++ escaped spaces b
+  unfolding escaped
+  escaped-append a b u =
+      ap (λ (cs : List ℕ). encode_utf8_all (flat_map (shown_char spaces) cs)) (chars-append a b u)
+      ∙ ap encode_utf8_all (shown_all-append (chars a) (chars b))
+      ∙ encodes-append (flat_map (shown_char spaces) (chars a)) (flat_map (shown_char spaces) (chars b))
+
   stays_all : (cs : List ℕ) → NonePass (is_escaped spaces) cs → flat_map (shown_char spaces) cs ≡ cs
   stays_all [] h = refl
   stays_all (c ∷ cs) h =
@@ -99,6 +113,22 @@ module _ (spaces : Bool) where
   pub escaped_same : (text : List ℕ) → IsUtf8 text → NonePass (is_escaped spaces) (chars text) → escaped spaces text ≡ text
   unfolding escaped
   escaped_same text u h = ap encode_utf8_all (stays_all (chars text) h) ∙ encodes-chars text u
+
+-- ---- words
+
+escape_no_blank : (c : ℕ) → NonePass (λ d. d == 32) (number_escape c)
+escape_no_blank c = none-escape (λ d. d == 32) (λ d h. glyph_no_blank d h) refl refl refl refl c
+
+no_blank : (cs : List ℕ) → NonePass (λ c. c == 32) (flat_map (shown_char true) cs)
+no_blank [] = tt
+no_blank (c ∷ cs) =
+    none-append (λ d. d == 32) (shown_char true c) (flat_map (shown_char true) cs)
+    (none-shown true (λ d. d == 32) escape_no_blank refl c (λ h. or_right_false (is_hidden c) (c == 32) h)) (no_blank cs)
+
+-- no space stands in a text that is printed as a word
+pub word_no_blank : (text : List ℕ) → NoCharPasses (λ c. c == 32) (escaped true text)
+unfolding escaped
+word_no_blank text = (flat_map (shown_char true) (chars text), refl, no_blank (chars text))
 
 -- a byte of ASCII in a text with no hidden character
 pub shown_byte : (text : List ℕ) → NoCharPasses is_hidden text → (k : ℕ) → k < length text → get_or text k 0 < 128

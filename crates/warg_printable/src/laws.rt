@@ -1,9 +1,9 @@
 //! Laws of printed texts. They have no effect.
 
-ghost use Rattle.std.specs.Prelude.{◌≡◌, ◌≢◌, ◌≤◌, ◌<◌, ℕ, Bool, List, Some, length, slice_index};
-ghost use Rattle.std.specs.Str.{IsUtf8, NonePass, chars};
+ghost use Rattle.std.specs.Prelude.{◌≡◌, ◌≢◌, ◌==◌, ◌≤◌, ◌<◌, ℕ, Bool, List, Some, length, slice_index};
+ghost use Rattle.std.specs.Str.{IsUtf8, NoCharPasses, NonePass, chars};
 ghost use Rattle.warg_printable.specs.Back.{unprintable};
-ghost use Rattle.warg_printable.specs.Printable.{escaped, is_escaped, IsPrintable};
+ghost use Rattle.warg_printable.specs.Printable.{escaped, is_escaped, IsPrintable, printable_word};
 
 /// No control character, no separator of lines and no mark of direction stands in what is printed.
 pub fn is_printable()
@@ -14,6 +14,11 @@ pub fn is_printable()
 pub fn has_no_control_byte()
     ensures { (text : List ℕ) → IsPrintable text → (k : ℕ) → k < length text →
         slice_index text k < 128 → (32 ≤ slice_index text k) × (slice_index text k ≢ 127) }
+{}
+
+/// No space stands in what is printed as a word.
+pub fn word_has_no_space()
+    ensures { (text : List ℕ) → NoCharPasses (λ c. c == 32) (printable_word text) }
 {}
 
 /// What is printed reads back, so two texts that are printed alike are one.

@@ -3,6 +3,8 @@
 
 mod characters;
 pub mod laws;
+mod read;
 mod shown;
 
+pub use read::unprinted;
 pub use shown::{Printable, printed, printed_line};

@@ -1,7 +1,7 @@
 //! A text as it is printed.
 
 ghost use Rattle.std.specs.Prelude.{◌≡◌, ◌++◌, IfOk, codes, string_bytes};
-ghost use Rattle.std.specs.Fmt.{WritesOnOk};
+ghost use Rattle.std.specs.Fmt.{WritesOnOk, WritesStyledOnOk};
 ghost use Rattle.std.specs.Str.{encode_utf8_all};
 ghost use Rattle.warg_printable.specs.Characters.{number_escape};
 ghost use Rattle.warg_printable.specs.Printable.{printable, shown_char};
@@ -9,6 +9,7 @@ ghost use Rattle.warg_printable.specs.Printable.{printable, shown_char};
 use crate::characters::is_numbered;
 use std::alloc::{AllocError, Global};
 use std::fmt;
+use std::fmt::{InlineText, Write};
 
 /// A text, which is displayed as it is printed: `\u{..}` stands for each control character, each separator of lines, each
 /// mark of direction and each noncharacter, and `\\` for a backslash.
@@ -20,16 +21,23 @@ pub struct Printable<'a> {
     pub spaces: bool,
 }
 
-// Writes a character by its number.
-fn write_number<W: fmt::Write>(c: u32, f: &mut fmt::Formatter<W>) -> fmt::Result
-    ensures { WritesOnOk W.write_str_gives f.old result (number_escape c) f.new }
+// Writes a character by its number, under any formatting options.
+fn write_number<W: Write>(c: u32, f: &mut fmt::Formatter<W>) -> fmt::Result
+    ensures writes { WritesOnOk W.write_str_gives f.old result (number_escape c) f.new }
+    ensures styled { WritesStyledOnOk W.write_str_gives f.old result (number_escape c) f.new }
 {
-    write!(f, "\\u{{{c:x}}}")
+    let mut digits = InlineText::<8>::new();
+    write!(digits, "{c:x}")?;
+    f.write_str("\\u{")?;
+    f.write_str(digits.as_str())?;
+    f.write_str("}")
 }
 
 // Writes what stands for a character.
-fn write_shown<W: fmt::Write>(spaces: bool, c: char, f: &mut fmt::Formatter<W>) -> fmt::Result
-    ensures { WritesOnOk W.write_str_gives f.old result
+fn write_shown<W: Write>(spaces: bool, c: char, f: &mut fmt::Formatter<W>) -> fmt::Result
+    ensures writes { WritesOnOk W.write_str_gives f.old result
+        (encode_utf8_all (shown_char spaces c)) f.new }
+    ensures styled { WritesStyledOnOk W.write_str_gives f.old result
         (encode_utf8_all (shown_char spaces c)) f.new }
 {
     if is_numbered(spaces, c as u32) {
@@ -47,7 +55,9 @@ impl fmt::Display for Printable<'_> {
 
     ghost output = { λ p. Some (escaped p.spaces p.text.now) };
 
-    fn fmt<W: fmt::Write>(&self, f: &mut fmt::Formatter<W>) -> fmt::Result {
+    ghost styled_output = { λ p _. Some (escaped p.spaces p.text.now) };
+
+    fn fmt<W: Write>(&self, f: &mut fmt::Formatter<W>) -> fmt::Result {
         let spaces = self.spaces;
         let mut rest = self.text.chars();
         while let Some(c) = rest.next() {
