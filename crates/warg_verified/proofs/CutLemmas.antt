@@ -2,9 +2,8 @@
 use Rattle.std.proofs.Common.{◌≡◌, ◌<◌, ℕ, Bool, false, if◌then◌else◌, List, length, Result, Err, refl, arith}
 use Rattle.std.specs.List.{before_first, after_first, position_or_len}
 use Rattle.hex.specs.Hex.{decode_of}
-use Rattle.warg_crypto.specs.Keys.{public_key_of, signature_of}
 use Rattle.warg_verified.specs.Claims.{ClaimData}
-use Rattle.warg_verified.specs.Lines.{claim_of, claim_of_parts, has_no_space, is_space}
+use Rattle.warg_verified.specs.Lines.{claim_of, claim_of_parts, has_no_space, is_space, printed_key_of, printed_signature_of}
 use Rattle.warg_verified.specs.declared.error.ClaimParseError.{ClaimParseError}
 use Rattle.warg_verified.specs.declared.error.ClaimParseError.TheVariants as fault
 
@@ -19,6 +18,6 @@ a_space text h = grind arith
 pub cut-line : (line key rest message signature : List ℕ) → key ≡ before_first is_space line → rest ≡ after_first is_space line
     → position_or_len is_space line < length line → message ≡ before_first is_space rest → signature ≡ after_first is_space rest
     → position_or_len is_space rest < length rest
-    → claim_of line ≡ claim_of_parts (public_key_of key) (decode_of message) (signature_of signature)
+    → claim_of line ≡ claim_of_parts (printed_key_of key) (decode_of message) (printed_signature_of signature)
 cut-line line key rest message signature k r here m s there =
     rw (m, s, k, r) (chosen _ _ _ (a_space line here) (a_space (after_first is_space line) (rw r at there)))

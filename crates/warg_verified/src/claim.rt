@@ -1,14 +1,15 @@
 //! Claims and their lines.
 
-ghost use Rattle.std.specs.Prelude.{◌≡◌, ◌⊎◌, IfOk, IfErr, MatchOption, Some};
+ghost use Rattle.std.specs.Prelude.{◌≡◌, ◌⊎◌, IfOk, IfErr, MatchOption, None, Some, string_bytes};
 ghost use Rattle.hex.specs.Hex.{IsBytes, decode_of};
-ghost use Rattle.warg_crypto.specs.Keys.{public_key_of, signature_of};
+ghost use Rattle.warg_printable.specs.Back.{unprintable};
 ghost use Rattle.warg_verified.specs.Claims.{claim_text};
-ghost use Rattle.warg_verified.specs.Lines.{claim_of, claim_of_parts};
+ghost use Rattle.warg_verified.specs.Lines.{claim_of, claim_of_parts, printed_key_of, printed_signature_of};
 ghost use Rattle.warg_verified.specs.Parts.{claim_in};
 ghost use Rattle.warg_verified.specs.declared.error.ClaimParseError.TheVariants as fault;
 
 use crate::error::ClaimParseError;
+use crate::named::write_named;
 use crate::parts::Parts;
 use crate::shown::write_hex;
 use std::alloc::{AllocError, Global};
@@ -17,9 +18,10 @@ use std::hash::{Hash, Hasher};
 use std::marker::Model;
 use warg_crypto::laws::byte_range;
 use warg_crypto::signing::{PublicKey, Signature};
+use warg_printable::unprinted;
 
 /// A key, a message, and a signature that is said to belong to the message under the key. Its line is
-/// the key's text, the message in hex, and the signature's text, with a space between.
+/// the key's text, the message in hex, and the signature's text, with a space between; both texts are printed words.
 #[derive(Drop)]
 pub struct Claim {
     key: PublicKey,
@@ -39,7 +41,7 @@ impl Model for Claim {
 fn cut(line: &str) -> Option<(&str, &str, &str)>
     ensures { MatchOption result (claim_of line.now ≡ Err fault.MissingPart)
         (λ p. claim_of line.now ≡
-        claim_of_parts (public_key_of p.0.now) (decode_of p.1.now) (signature_of p.2.now)) }
+        claim_of_parts (printed_key_of p.0.now) (decode_of p.1.now) (printed_signature_of p.2.now)) }
 {
     let Some((key, rest)) = line.split_once(' ') else {
         return None;
@@ -48,6 +50,41 @@ fn cut(line: &str) -> Option<(&str, &str, &str)>
         return None;
     };
     Some((key, message, signature))
+}
+
+// The text that a printed one stands for.
+fn unprinted_part(alloc: Global, part: &str) -> Result<String, ClaimParseError>
+    ensures ok { IfOk result (λ text. unprintable part.now ≡ Some (string_bytes text)) }
+    ensures err { IfErr result (λ e. (e ≡ fault.OutOfMemory) ⊎
+        ((e ≡ fault.BadEscape) × (unprintable part.now ≡ None))) }
+{
+    match unprinted(alloc, part)? {
+        Some(text) => Ok(text),
+        None => Err(ClaimParseError::BadEscape),
+    }
+}
+
+// The key whose printed text this is.
+#[tactic(auto, using(crate::proofs::PartLemmas::key_said, crate::proofs::PartLemmas::key_unread, crate::proofs::PartLemmas::key_bad))]
+fn printed_key(alloc: Global, part: &str) -> Result<PublicKey, ClaimParseError>
+    ensures ok { IfOk result (λ key. printed_key_of part.now ≡ Ok key) }
+    ensures err { IfErr result (λ e. (e ≡ fault.OutOfMemory) ⊎ (printed_key_of part.now ≡ Err e)) }
+{
+    let text = unprinted_part(alloc, part)?;
+    let key = PublicKey::parse(alloc, text.as_str())?;
+    Ok(key)
+}
+
+// The signature whose printed text this is.
+#[tactic(auto, using(crate::proofs::PartLemmas::signature_said, crate::proofs::PartLemmas::signature_unread, crate::proofs::PartLemmas::signature_bad))]
+fn printed_signature(alloc: Global, part: &str) -> Result<Signature, ClaimParseError>
+    ensures ok { IfOk result (λ signature. printed_signature_of part.now ≡ Ok signature) }
+    ensures err { IfErr result (λ e. (e ≡ fault.OutOfMemory) ⊎
+        (printed_signature_of part.now ≡ Err e)) }
+{
+    let text = unprinted_part(alloc, part)?;
+    let signature = Signature::parse(alloc, text.as_str())?;
+    Ok(signature)
 }
 
 impl Claim {
@@ -97,8 +134,8 @@ impl Claim {
         }
     }
 
-    /// The claim that a line says: a key's text, a message in hex digits of either case, and a signature's text, with
-    /// a space between. So the key's name has no space, and in a text of several lines neither name has a line end.
+    /// The claim that a line says: a key's printed text with no space in it, a message in hex digits of either case,
+    /// and a signature's printed text, with a space between.
     pub fn parse(alloc: Global, line: &str) -> Result<Claim, ClaimParseError>
         ensures ok { IfOk result (λ c. claim_of line.now ≡ Ok c) }
         ensures err { IfErr result (λ e. (e ≡ fault.OutOfMemory) ⊎ (claim_of line.now ≡ Err e)) }
@@ -106,9 +143,9 @@ impl Claim {
         let Some((key, message, signature)) = cut(line) else {
             return Err(ClaimParseError::MissingPart);
         };
-        let key = PublicKey::parse(alloc, key)?;
+        let key = printed_key(alloc, key)?;
         let message = hex::decode(alloc, message.as_bytes())?;
-        let signature = Signature::parse(alloc, signature)?;
+        let signature = printed_signature(alloc, signature)?;
         Ok(Claim::new(key, message, signature))
     }
 
@@ -126,11 +163,11 @@ impl fmt::Display for Claim {
     ghost styled_output = { λ c _. Some (claim_text c) };
 
     fn fmt<W: fmt::Write>(&self, f: &mut fmt::Formatter<W>) -> fmt::Result {
-        fmt::Display::fmt(&self.key, f)?;
+        write_named(self.key.algorithm(), self.key.bytes(), f)?;
         f.write_str(" ")?;
         write_hex(self.message.as_slice(), f)?;
         f.write_str(" ")?;
-        fmt::Display::fmt(&self.signature, f)
+        write_named(self.signature.algorithm(), self.signature.bytes(), f)
     }
 }
 

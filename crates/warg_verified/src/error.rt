@@ -13,13 +13,17 @@ pub enum ClaimParseError {
     /// Two spaces do not stand in the line.
     #[error("MissingPart")]
     MissingPart,
-    /// What stands before the first space is no key.
+    /// What stands before the first space is the printed text of no key.
     #[error("Key.{0}")]
     Key(KeyParseError),
+    /// What stands for the key or the signature is no printed text: a backslash stands there before another character
+    /// than a backslash or the `u{..}` of a character's number.
+    #[error("BadEscape")]
+    BadEscape,
     /// What stands between the first two spaces is not made of pairs of hex digits.
     #[error("BadHex")]
     BadHex,
-    /// What stands behind the second space is no signature.
+    /// What stands behind the second space is the printed text of no signature.
     #[error("Signature.{0}")]
     Signature(SignatureParseError),
     /// There was no memory for the claim.

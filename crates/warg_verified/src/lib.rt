@@ -4,6 +4,7 @@
 mod claim;
 mod error;
 pub mod laws;
+mod named;
 mod parts;
 mod shown;
 mod verified;
