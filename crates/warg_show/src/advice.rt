@@ -12,21 +12,24 @@ pub fn advice(name: &str) -> &'static str
             "begin the log with a record whose first entry is an init"
         }
         "KeyIDNotRecognized" =>
-            "sign with a key that the log knows, or have such a key grant first",
+            "sign with a known key, an init with its own, or have a known key grant to yours first",
         "InitialEntryAfterBeginning" => {
             "leave the init out: the log has begun, and further keys come in by grants"
         }
         "UnauthorizedAction" => {
             "have a key that holds the permission sign, or ask its owner for a grant"
         }
-        "PermissionNotFoundToRevoke" => "leave out what the key does not hold",
-        "SignatureError" => "sign the record anew with the key that the envelope names",
+        "PermissionNotFoundToRevoke" =>
+            "leave out what the key does not hold, and name each permission once",
+        "SignatureError" =>
+            "ask for the right kind and scheme (--toy, --verified), or sign with the named key",
         "RecordHashDoesNotMatch" => {
             "another record came first: fetch the log, name its head and sign again"
         }
         "PreviousHashOnFirstRecord" => "name no record before the first one",
         "NoPreviousHashAfterInit" => "name the log's head as the record before",
-        "ProtocolVersionNotAllowed" => "write the newest version of the protocol into the record",
+        "ProtocolVersionNotAllowed" =>
+            "write version 1 into the record, the newest of the protocol that is known here",
         "TimestampLowerThanPrevious" => "set the clock: the time lies before that of the head",
         "EmptyGrant" => "name a permission in the grant",
         "ReleaseOfReleased" =>
@@ -34,9 +37,9 @@ pub fn advice(name: &str) -> &'static str
         "YankOfUnreleased" => "look for the version among the releases",
         "YankOfYanked" => "nothing is left to do",
         "InvalidNamespace" => {
-            "choose words of lower-case or of upper-case letters and digits, with dashes between"
+            "choose words of lower-case letters and digits, a letter first, with dashes between"
         }
         "NamespaceAlreadyDefined" => "choose another name: each is defined or imported once",
-        _ => "write the envelope anew: its bytes are not those of a record",
+        _ => "write the envelope anew, or ask for the right kind: it is no record of such a log",
     }
 }
