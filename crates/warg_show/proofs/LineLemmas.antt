@@ -1,5 +1,5 @@
 -- The lines of logs in words.
-use Rattle.std.proofs.Common.{◌≡◌, ℕ, ◌+◌, List, [], ◌∷◌, ◌++◌, codes, map, Option, unwrap_or}
+use Rattle.std.proofs.Common.{ℕ, ◌+◌, List, [], ◌∷◌, ◌++◌, codes, map, Option, unwrap_or}
 use Rattle.std.specs.Fmt.{decimal}
 use Rattle.warg_protocol.specs.Texts.{named_bytes_text}
 use Rattle.warg_protocol.specs.Logs.{EnvelopeData, KeyData}
@@ -11,7 +11,7 @@ use Rattle.warg_protocol.specs.Operator as operators
 use Rattle.warg_protocol.specs.Package as packages
 use Rattle.warg_audit.specs.LogAnswers.{head_text}
 use Rattle.warg_audit.specs.LogTypes.{package_log}
-use Rattle.warg_answers.specs.ShownWords.{AreReleaseLines, IsReleaseLine, IsStandingLine, RecordWords, after_spaces, key_line, key_lines, namespace_line, namespace_lines, shows_namespaces, shows_releases}
+use Rattle.warg_answers.specs.ShownWords.{AreReleaseLines, IsStandingLine, RecordWords, after_spaces, key_line, key_lines, namespace_line, namespace_lines, shows_namespaces, shows_releases}
 use Rattle.warg_printable.specs.Lines.{IsPrintedText}
 use Rattle.warg_printable.proofs.LineLemmas.{both_lines, no_lines, one_line, same_lines}
 use Rattle.warg_show.specs.ShownLogs.{IsLogText, head_line, lines_with_places, placed_line}

@@ -1,12 +1,10 @@
 -- Why a record is refused.
 use Rattle.std.proofs.Common.{◌≡◌, ◌+◌, ℕ, Bool, true, false, List, refl, sym, ◌∙◌, subst, Option, Some, None, Result}
-use Rattle.std.specs.Prelude.{is_some, IsErr, ◌↔◌}
+use Rattle.std.specs.Prelude.{is_some, ◌↔◌}
 use Rattle.std.specs.Option.{option_map}
 use Rattle.warg_envelope.specs.ErrorTexts.{error_text as fault_text}
 use Rattle.warg_protocol.specs.Errors.{DecodeError, ParseEnvelopeError}
 use Rattle.warg_protocol.specs.Logs.{Cause, DecodedEnvelope, EnvelopeFault, SignatureRelation, Unlawful, Unread, cause_named_by, envelope_fault_of}
-use Rattle.warg_envelope.specs.Faults.{NamesFault}
-use Rattle.warg_protocol.specs.ParseEnvelopeErrors as error
 use Rattle.warg_protocol.specs.RunCauses.{Parse, Validation}
 use Rattle.warg_records.specs.OutcomeOffences.{NamesOffence}
 use Rattle.warg_answers.specs.Explanations.{Explains, HoldsFirst, IsEntryAtFault, IsEntryOf, IsEntryOfString, IsPassedWith, IsRefusedWith, all_belong}
