@@ -1,6 +1,6 @@
 -- The words of a text as strings of JSON: the first one, and those behind it.
-use Rattle.std.proofs.Common.{◌≡◌, ◌<◌, ◌≤◌, ℕ, ◌+◌, Bool, true, false, length, arith, List, [], ◌∷◌, ◌++◌, refl, ap, ◌∙◌, codes}
-use Rattle.std.specs.List.{All, after_first, before_first, count_by, position_or_len, slice_split}
+use Rattle.std.proofs.Common.{◌≡◌, ◌<◌, ℕ, ◌+◌, false, length, arith, List, [], ◌∷◌, ◌++◌, refl, ap, ◌∙◌, codes}
+use Rattle.std.specs.List.{after_first, before_first, position_or_len, slice_split}
 use Rattle.std.proofs.lemmas.List.Elements.{All-from_get_or}
 use Rattle.std.proofs.lemmas.List.Splits.{length-slice_split, slice_split_first, slice_split_none}
 use Rattle.std.proofs.lemmas.List.Sums.{fails_before_first}

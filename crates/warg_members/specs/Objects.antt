@@ -2,6 +2,7 @@
 use Rattle.std.specs.Prelude.{ℕ, if◌then◌else◌, List, [], ◌∷◌, ◌++◌, codes, map}
 use Rattle.std.specs.Fmt.{decimal}
 use Rattle.std.specs.Str.{bytes_eq}
+use Rattle.warg_printable.specs.Json.{json_printable}
 use Rattle.warg_members.specs.declared.form.CommandForms.{CommandForms}
 use Rattle.warg_members.specs.Forms.{PartView, form_view, line_members, text_member}
 
@@ -18,10 +19,14 @@ abbrev pub forms_of : List RowView → List ℕ → List (List PartView)
 forms_of [] command = []
 forms_of (row ∷ more) command = if bytes_eq row.command command then row.forms else forms_of more command
 
--- an object on a line: the command, members behind it, and the status
+-- an object: the command, members behind it, and the status
+abbrev pub object_json : List ℕ → List ℕ → ℕ → List ℕ
+object_json command members status =
+    codes "{\"command\":\"" ++ (command ++ (codes "\"" ++ (members ++ (codes ",\"status\":" ++ (decimal status ++ codes "}")))))
+
+-- the same on a line, as it is printed
 abbrev pub object_text : List ℕ → List ℕ → ℕ → List ℕ
-object_text command members status =
-    codes "{\"command\":\"" ++ (command ++ (codes "\"" ++ (members ++ (codes ",\"status\":" ++ (decimal status ++ codes "}\n")))))
+object_text command members status = json_printable (object_json command members status) ++ codes "\n"
 
 module _ (table : List RowView) where
   -- the object of a line that a command prints

@@ -3,6 +3,7 @@
 
 mod fit;
 mod form;
+pub mod laws;
 mod object;
 
 pub use form::{CommandForms, Form, Part};

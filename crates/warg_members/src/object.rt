@@ -2,11 +2,12 @@
 
 ghost use Rattle.std.specs.Prelude.{◌≡◌, IfOk, map, string_bytes};
 ghost use Rattle.warg_members.specs.Forms.{form_view};
-ghost use Rattle.warg_members.specs.Objects.{forms_of, line_object, message_object, object_text, path_object, row_view};
+ghost use Rattle.warg_members.specs.Objects.{forms_of, line_object, message_object, object_json, object_text, path_object, row_view};
 
 use crate::fit::{line_members, text_member};
 use crate::form::{CommandForms, Form};
 use std::alloc::{AllocError, Global};
+use warg_printable::json_printed;
 
 // The forms of a command's lines.
 fn forms_of(table: &'static [CommandForms], command: &str) -> &'static [Form]
@@ -20,15 +21,32 @@ fn forms_of(table: &'static [CommandForms], command: &str) -> &'static [Form]
 }
 
 // The command, members behind it, and the status.
+fn object_json(
+    alloc: Global,
+    command: &str,
+    members: &str,
+    status: u8,
+) -> Result<String, AllocError>
+    ensures { IfOk result (λ json. string_bytes json ≡
+        object_json command.now members.now status) }
+{
+    format!(in alloc; "{{\"command\":\"{command}\"{members},\"status\":{status}}}")
+}
+
+// The same on a line, with no hidden character.
 fn object(alloc: Global, command: &str, members: &str, status: u8) -> Result<String, AllocError>
     ensures { IfOk result (λ text. string_bytes text ≡
         object_text command.now members.now status) }
 {
-    format!(in alloc; "{{\"command\":\"{command}\"{members},\"status\":{status}}}\n")
+    let json = object_json(alloc, command, members, status)?;
+    let mut text = json_printed(alloc, json.as_str())?;
+    text.push_str("\n")?;
+    Ok(text)
 }
 
-/// The object of a line that a command prints, with a line feed after it: the command, the members of the line by the
-/// first of the forms that it fits, and the status. A line that fits none is the member `line`.
+/// The object of a line that a command prints, with no hidden character in it and a line feed after it: the command,
+/// the members of the line by the first of the forms that it fits, and the status. A line that fits none is the member
+/// `line`.
 pub fn line_object(
     alloc: Global,
     table: &'static [CommandForms],

@@ -3,3 +3,4 @@ pub mod ShownLemmas
 pub mod BackLemmas
 pub mod ReadLemmas
 pub mod LineLemmas
+pub mod JsonLemmas

@@ -28,9 +28,13 @@ both_lines a b x y = (
   },
 )
 
+-- one line with no hidden character
+pub one_shown : (text : List ℕ) → IsPrintable text → IsPrintedText (text ++ codes "\n")
+one_shown text shown = (text ∷ [], record { each = (shown, tt); is = sym (append-nil (text ++ codes "\n")) })
+
 -- one printed line
 pub one_line : (text : List ℕ) → IsPrintedText (printable text ++ codes "\n")
-one_line text = (printable text ∷ [], record { each = (escaped_shown false text, tt); is = sym (append-nil (printable text ++ codes "\n")) })
+one_line text = one_shown (printable text) (escaped_shown false text)
 
 -- the same of a text that is such lines
 pub same_lines : (a b : List ℕ) → a ≡ b → IsPrintedText b → IsPrintedText a

@@ -10,7 +10,7 @@ use Rattle.warg_printable.proofs.CharacterLemmas.{ascii_shown, glyph_ascii, glyp
 
 -- ---- characters
 
-encodes-ascii : (cs : List ℕ) → NonePass (λ c. nat_le 128 c) cs → encode_utf8_all cs ≡ cs
+pub encodes-ascii : (cs : List ℕ) → NonePass (λ c. nat_le 128 c) cs → encode_utf8_all cs ≡ cs
 encodes-ascii [] h = refl
 encodes-ascii (c ∷ cs) h =
     let small : c < 128 = leb-false 128 c h.0 in rw (encode_ascii c small, encodes-ascii cs h.1) refl

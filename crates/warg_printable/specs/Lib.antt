@@ -2,3 +2,4 @@ pub mod Characters
 pub mod Printable
 pub mod Back
 pub mod Lines
+pub mod Json

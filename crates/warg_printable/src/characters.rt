@@ -43,9 +43,9 @@ fn is_noncharacter(c: u32) -> bool
     is_from(0xFDD0, 0xFDEF, c) || c % 0x1_0000 >= 0xFFFE
 }
 
-// Whether the character is never printed as it is.
+/// Whether the character is never printed as it is.
 #[tactic(auto, unfolding(crate::specs::Characters::is_hidden))]
-fn is_hidden(c: u32) -> bool
+pub(crate) fn is_hidden(c: u32) -> bool
     ensures { result ≡ is_hidden c }
 {
     is_control(c) || is_separator(c) || is_mark(c) || is_noncharacter(c)

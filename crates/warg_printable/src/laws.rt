@@ -3,6 +3,7 @@
 ghost use Rattle.std.specs.Prelude.{◌≡◌, ◌≢◌, ◌==◌, ◌≤◌, ◌<◌, ℕ, Bool, List, Some, length, slice_index};
 ghost use Rattle.std.specs.Str.{IsUtf8, NoCharPasses, NonePass, chars};
 ghost use Rattle.warg_printable.specs.Back.{unprintable};
+ghost use Rattle.warg_printable.specs.Json.{json_printable};
 ghost use Rattle.warg_printable.specs.Printable.{escaped, is_escaped, IsPrintable, printable_word};
 
 /// No control character, no separator of lines and no mark of direction stands in what is printed.
@@ -31,4 +32,14 @@ pub fn reads_back()
 pub fn stays()
     ensures { (spaces : Bool) (text : List ℕ) → IsUtf8 text →
         NonePass (is_escaped spaces) (chars text) → escaped spaces text ≡ text }
+{}
+
+/// No hidden character stands in JSON that is printed.
+pub fn json_is_printable()
+    ensures { (text : List ℕ) → IsPrintable (json_printable text) }
+{}
+
+/// JSON with no hidden character in it is printed as it is.
+pub fn printable_json_stays()
+    ensures { (text : List ℕ) → IsUtf8 text → IsPrintable text → json_printable text ≡ text }
 {}

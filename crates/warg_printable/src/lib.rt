@@ -2,9 +2,11 @@
 #![tactic(auto)]
 
 mod characters;
+mod json;
 pub mod laws;
 mod read;
 mod shown;
 
+pub use json::json_printed;
 pub use read::unprinted;
 pub use shown::{Printable, printed, printed_line};
