@@ -1,3 +1,4 @@
+pub mod InlineLemmas
 pub mod CharacterLemmas
 pub mod ShownLemmas
 pub mod BackLemmas
