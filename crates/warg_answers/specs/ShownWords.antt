@@ -15,7 +15,7 @@ use Rattle.warg_protocol.specs.Operator.{Defined, Imported, Namespace, OperatorO
 use Rattle.warg_protocol.specs.Operator as in_operator
 use Rattle.warg_protocol.specs.Package.{PackageOwnEntry, ReleaseState, ReleaseView}
 use Rattle.warg_protocol.specs.Package as in_package
-use Rattle.warg_protocol.specs.Records.{EntryData, RecordData, SharedEntry, hash_text, parts_text}
+use Rattle.warg_protocol.specs.Records.{AnyHash, EntryData, RecordData, SharedEntry, hash_text, parts_text}
 use Rattle.warg_protocol.specs.ReleaseStates.{Released, Yanked}
 use Rattle.warg_protocol.specs.Texts.{Time, shown_time}
 use Rattle.warg_records.specs.OperatorEntries.{DefineNamespace, ImportNamespace}
@@ -111,13 +111,17 @@ abbrev pub key_lines : {P : Type 0} → (P → List ℕ) → List (KeyData P) �
 key_lines text_of [] = []
 key_lines text_of (key ∷ more) = key_line text_of key ++ key_lines text_of more
 
+-- the line of a release that stands
+abbrev pub released_line : List ℕ → AnyHash → List ℕ
+released_line version content = line (printable (codes "release " ++ (version ++ (codes " " ++ hash_text content))))
+
 -- the line of a release that was yanked, by who did it and when
 abbrev pub yanked_line : List ℕ → List ℕ → List ℕ → List ℕ
 yanked_line version by time = line (printable (codes "release " ++ (version ++ (codes " yanked by " ++ (by ++ (codes " at " ++ time))))))
 
 -- the line of a release that stands, or was yanked
 abbrev pub IsStandingLine : List ℕ → ReleaseState → List ℕ → Type 0
-IsStandingLine version (Released content) text = text ≡ line (printable (codes "release " ++ (version ++ (codes " " ++ hash_text content))))
+IsStandingLine version (Released content) text = text ≡ released_line version content
 IsStandingLine version (Yanked by timestamp) text = (time : List ℕ) × IsTimeText timestamp time × (text ≡ yanked_line version by time)
 
 abbrev pub IsReleaseLine : ReleaseView → List ℕ → Type 0
@@ -128,10 +132,14 @@ abbrev pub AreReleaseLines : List ReleaseView → List ℕ → Type 0
 AreReleaseLines [] text = text ≡ []
 AreReleaseLines (release ∷ more) text = (first : List ℕ) × (rest : List ℕ) × IsReleaseLine release first × (text ≡ first ++ rest) × AreReleaseLines more rest
 
--- the line of a namespace: its name, and what it is
+-- what is said of a namespace: its name, and what it is
+abbrev pub namespace_words : List ℕ → Namespace → List ℕ
+namespace_words name Defined = codes "namespace " ++ (name ++ codes " defined")
+namespace_words name (Imported registry) = codes "namespace " ++ (name ++ (codes " imported from " ++ registry))
+
+-- the line of a namespace
 abbrev pub namespace_line : List ℕ → Namespace → List ℕ
-namespace_line name Defined = line (printable (codes "namespace " ++ (name ++ codes " defined")))
-namespace_line name (Imported registry) = line (printable (codes "namespace " ++ (name ++ (codes " imported from " ++ registry))))
+namespace_line name it = line (printable (namespace_words name it))
 
 -- the lines of namespaces, one after another
 abbrev pub namespace_lines : List (List ℕ × Namespace) → List ℕ

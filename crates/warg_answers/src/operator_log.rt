@@ -2,7 +2,7 @@
 
 ghost use Rattle.std.specs.Prelude.{◌≡◌, string_bytes, IfOk};
 ghost use Rattle.warg_protocol.specs.Operator.{namespace_view};
-ghost use Rattle.warg_answers.specs.ShownWords.{namespace_line, namespace_lines};
+ghost use Rattle.warg_answers.specs.ShownWords.{namespace_line, namespace_lines, namespace_words};
 
 use crate::kind::ToolLog;
 use crate::resealed::resealed;
@@ -49,17 +49,25 @@ impl EntryWords for OperatorEntry {
     }
 }
 
-// The line of a namespace: its name and what it is.
+// What is said of a namespace: its name and what it is.
+fn namespace_words(alloc: Global, name: &str, state: &NamespaceState) -> Result<String, AllocError>
+    ensures { IfOk result (λ said. string_bytes said ≡
+        namespace_words name.now (namespace_view state.now)) }
+{
+    match state {
+        NamespaceState::Defined => format!(in alloc; "namespace {name} defined"),
+        NamespaceState::Imported { registry } => {
+            format!(in alloc; "namespace {name} imported from {registry}")
+        }
+    }
+}
+
+// The line of a namespace.
 fn namespace_line(alloc: Global, name: &str, state: &NamespaceState) -> Result<String, AllocError>
     ensures { IfOk result (λ line. string_bytes line ≡
         namespace_line name.now (namespace_view state.now)) }
 {
-    let said = match state {
-        NamespaceState::Defined => format!(in alloc; "namespace {name} defined")?,
-        NamespaceState::Imported { registry } => {
-            format!(in alloc; "namespace {name} imported from {registry}")?
-        }
-    };
+    let said = namespace_words(alloc, name, state)?;
     printed_line(alloc, said.as_str())
 }
 

@@ -3,7 +3,7 @@
 ghost use Rattle.std.specs.Prelude.{◌≡◌, string_bytes, IfOk};
 ghost use Rattle.semver.specs.Identifiers.{parts_of, parts_text};
 ghost use Rattle.warg_protocol.specs.Package.{release_view};
-ghost use Rattle.warg_answers.specs.ShownWords.{AreReleaseLines, IsReleaseLine, IsStandingLine, yanked_line};
+ghost use Rattle.warg_answers.specs.ShownWords.{AreReleaseLines, IsReleaseLine, IsStandingLine, released_line, yanked_line};
 
 use crate::kind::ToolLog;
 use crate::resealed::resealed;
@@ -11,6 +11,7 @@ use crate::wording::{EntryWords, key_lines, permission_words, record_line, time_
 use std::alloc::{AllocError, Global};
 use warg_permissions::LogPermission;
 use warg_printable::printed_line;
+use warg_protocol::hash::AnyHash;
 use warg_protocol::package::{
     LogState, PackageEntry, PackageRecord, Permission, Release, ReleaseState, Releases,
     ValidationError,
@@ -47,6 +48,15 @@ impl EntryWords for PackageEntry {
     }
 }
 
+// The line of a release that stands.
+fn released_line(alloc: Global, version: &Version, content: &AnyHash) -> Result<String, AllocError>
+    ensures { IfOk result (λ line. string_bytes line ≡
+        released_line (parts_text (parts_of version.now)) content.now) }
+{
+    let said = format!(in alloc; "release {version} {content}")?;
+    printed_line(alloc, said.as_str())
+}
+
 // The line of a release that was yanked, by the words of the time.
 fn yanked_line(
     alloc: Global,
@@ -71,10 +81,7 @@ fn standing_line(
         state.now (string_bytes line)) }
 {
     match state {
-        ReleaseState::Released { content } => {
-            let said = format!(in alloc; "release {version} {content}")?;
-            printed_line(alloc, said.as_str())
-        }
+        ReleaseState::Released { content } => released_line(alloc, version, content),
         ReleaseState::Yanked { by, timestamp } => {
             let time = time_words(alloc, *timestamp)?;
             yanked_line(alloc, version, by, time.as_str())
