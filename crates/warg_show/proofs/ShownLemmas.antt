@@ -51,11 +51,11 @@ module _ {C : Type 0} (words_of : C → RecordWords) where
       → AreEnvelopeLines words_of (take 0 records) text
   no_record records text none = record { lines = []; each = tt; is = none }
 
-  pub record_more : (records : List (DecodedEnvelope C)) (n : ℕ) (it : DecodedEnvelope C) (text line placed new : List ℕ)
+  pub record_more : (records : List (DecodedEnvelope C)) (n : ℕ) (it : DecodedEnvelope C) (text line said placed added new : List ℕ)
       → n < length records → it ≡ slice_index_or records n it → AreEnvelopeLines words_of (take n records) text
-      → IsLineOfEnvelope it line → placed ≡ placed_line n line → new ≡ text ++ placed
+      → IsLineOfEnvelope it line → said ≡ line → placed ≡ placed_line n said → added ≡ placed → new ≡ text ++ added
       → AreEnvelopeLines words_of (take (n + 1) records) new
-  record_more records n it text line placed new low is so_far is_line behind more =
+  record_more records n it text line said placed added new low is so_far is_line same behind alike more =
       let e : n + 1 ≡ suc n = omega arith in
       let whole = ap (λ m. take m records) e ∙ take-suc records n it low ∙ ap (λ x. take n records ++ x ∷ []) (sym is) in
       let fits : n ≤ length records = omega arith in
@@ -64,7 +64,7 @@ module _ {C : Type 0} (words_of : C → RecordWords) where
       record {
         lines = so_far.lines ++ line ∷ [];
         each = rw whole (zip_more IsLineOfEnvelope (take n records) so_far.lines it line so_far.each is_line);
-        is = more ∙ ap (λ t. t ++ placed) so_far.is ∙ ap (λ t. lines_with_places 0 so_far.lines ++ t) behind
+        is = more ∙ ap (λ t. t ++ added) so_far.is ∙ ap (λ t. lines_with_places 0 so_far.lines ++ t) (alike ∙ behind ∙ ap (placed_line n) same)
             ∙ sym (lines_with_places-append 0 n so_far.lines line next);
       }
 

@@ -1,6 +1,5 @@
-use Rattle.std.proofs.Common.{◌≡◌, [], ap, ◌++◌, ◌∙◌, rules, string_bytes}
+use Rattle.std.proofs.Common.{◌≡◌, [], rules, string_bytes}
 use Rattle.warg_show.proofs.ShownLemmas.{every_record, no_record, record_more}
-use Rattle.warg_show.specs.ShownLogs.{placed_line}
 use Rattle.warg_show.proofs.show.records_text.Goals as goal
 
 pub loop-place-init : goal.loop-place-init
@@ -10,12 +9,10 @@ loop-place-init g c =
 
 pub loop-place-preserved : goal.loop-place-preserved
 loop-place-preserved g c =
-    let place = c.loop-place.place in
-    record_more g.L.ToolLog.words_of c.args.records.now place _ (string_bytes c.loop-place.text)
-    (string_bytes c.in_ok-said.said) (string_bytes c.in_ok-line.line) _ c.loop-place-test.true c.index-records-place.is
-    c.loop-place.invariant c.in_ok-said.ensures
-    (c.in_ok-line.ensures ∙ ap (placed_line place) c.as_str.ensures.value)
-    (c.in_ok-push_str.ensures.bytes ∙ ap (λ line. string_bytes c.loop-place.text ++ line) c.as_str-in-loop-place.ensures.value)
+    record_more g.L.ToolLog.words_of c.args.records.now c.loop-place.place _ (string_bytes c.loop-place.text)
+    (string_bytes c.in_ok-said.said) c.as_str.result.now (string_bytes c.in_ok-line.line) c.as_str-in-loop-place.result.now _
+    c.loop-place-test.true c.index-records-place.is c.loop-place.invariant c.in_ok-said.ensures c.as_str.ensures.value c.in_ok-line.ensures
+    c.as_str-in-loop-place.ensures.value c.in_ok-push_str.ensures.bytes
 
 pub returns : goal.returns
 returns g c =
