@@ -1,7 +1,9 @@
 -- What is answered when the record that words say is made.
-use Rattle.std.proofs.Common.{◌≡◌, ℕ, zero, suc, List, [], ◌∷◌, ◌∙◌, ap, refl, sym, subst, Option, Some, None, Result, length}
+use Rattle.std.proofs.Common.{◌≡◌, ℕ, zero, suc, List, [], ◌∷◌, ◌∙◌, ap, refl, sym, subst, Option, Some, None, Result, Ok, IsErr, Bor, length}
 use Rattle.std.specs.List.{slice_get}
 use Rattle.warg_time.specs.Times.{Time}
+use Rattle.warg_crypto.specs.Keys.{public_key_of}
+use Rattle.warg_crypto.specs.NamedBytes.{NamedBytes}
 use Rattle.warg_protocol.specs.Logs.{Cause, EnvelopeData, EnvelopeFault, Kind, SignatureRelation, envelope_of}
 use Rattle.warg_protocol.specs.Records.{RecordId}
 use Rattle.warg_records.specs.Kinds.{view_after}
@@ -11,7 +13,7 @@ use Rattle.warg_validator.specs.declared.replay.RunError.{RunError}
 use Rattle.warg_answers.specs.Explanations.{all_belong}
 use Rattle.warg_audit.specs.LogAnswers.{IsNamedRefusal, LogDisplay, cause_name}
 use Rattle.warg_audit.specs.Printouts.{Printout, refused_line}
-use Rattle.warg_make.specs.NextRecords.{IsMakeError}
+use Rattle.warg_make.specs.NextRecords.{IsMakeError, IsNextEnvelope, IsNextUnsigned}
 use Rattle.warg_make.specs.declared.error.EntryFault.{EntryFault}
 use Rattle.warg_make.specs.declared.error.MakeError.{MakeError}
 use Rattle.warg_make.specs.declared.error.MakeError.TheVariants.{OutOfMemory}
@@ -19,13 +21,15 @@ use Rattle.warg_files.specs.Files.{Files, ReadsLog}
 use Rattle.warg_files.specs.Answers.{Answers, IfStopped, IsUnusable}
 use Rattle.warg_files.specs.ReadFaults.{IsLogUnread}
 use Rattle.warg_files.specs.RecordLines.{texts}
-use Rattle.warg_tasks.specs.MadeRecords.{IsMade, IsMadeAfter, IsMadeBy, IsMadeOf, IsRefusedNext, IsUnsaid, no_file, of_log}
+use Rattle.warg_tasks.specs.MadeRecords.{IsMade, IsMadeAfter, IsMadeBy, IsMadeByToy, IsMadeForKey, IsMadeForText, IsMadeOf, IsPrintedNext, IsRefusedNext, IsUnsaid, signed_line, unsigned_line}
+use Rattle.warg_tasks.specs.MadeRecords.{no_file, no_key, of_key, of_log, refused, signed, to_be_signed, unsaid, unsaid_for_key}
 use Rattle.warg_answers.specs.Verdicts.{IsLawful, IsPrintedOf, IsViewOf, envelopes_of, lawful}
 use Rattle.warg_files.specs.declared.answer.Answer.{Answer}
 use Rattle.warg_files.specs.declared.stop.Stop.{Stop}
 use Rattle.warg_files.specs.declared.stop.Stop.TheVariants as stop
 use Rattle.warg_files.proofs.AnswerLemmas.{Answers-to, IfStopped-to}
 use Rattle.warg_words.specs.declared.task.Draft.{Draft}
+use Rattle.warg_words.specs.declared.task.Signer.{Signer}
 
 -- ---- a string that comes next
 
@@ -79,6 +83,12 @@ refused_so log view count bytes named_by error printed refusal told =
       is = it.2;
     }
 
+-- the line of that answer
+pub refusal_printed : {Meaning Fault View Offence : Type 0} (log : LogDisplay Meaning Fault View Offence) (view : View) (count : ℕ) (bytes : List ℕ) (own : Printout) (end : Stop)
+    → IfStopped (IsRefusedNext log view count bytes) end → IfStopped (IsPrintedNext log view count bytes own) end
+refusal_printed log view count bytes own end h =
+    IfStopped-to (IsRefusedNext log view count bytes) (IsPrintedNext log view count bytes own) (λ printed it. refused it) end h
+
 -- ---- what words say
 
 module _ {T : Type 0} (Says : List ℕ → T → Type 0) (Lacks : List ℕ → EntryFault → Type 0) (content : Option RecordId → Time → List T → List ℕ) (prefix : List ℕ)
@@ -94,6 +104,65 @@ module _ {T : Type 0} (Says : List ℕ → T → Type 0) (Lacks : List ℕ → E
     nothing = h;
   }
   none_said error stop.OutOfMemory memory why h = tt
+
+  module _ (view : View) (count : ℕ) where
+    -- the record that a toy key signs
+    pub toy_made : (name bytes : List ℕ) (entries : List (Bor (List ℕ))) (result : Result Answer Stop) → entries ≡ draft.entries.items
+        → IsNextEnvelope Says content prefix (log.kind.head view) name draft.clock draft.time.now (texts entries) bytes
+        → Answers (IsPrintedNext log view count bytes (signed_line bytes)) result
+        → Answers (IsMadeByToy Says Lacks content prefix log draft view count name) result
+    toy_made name bytes entries result e is h =
+        let own : IsNextEnvelope Says content prefix (log.kind.head view) name draft.clock draft.time.now (texts draft.entries.items) bytes =
+        subst (λ (words : List (Bor (List ℕ))). IsNextEnvelope Says content prefix (log.kind.head view) name draft.clock draft.time.now (texts words) bytes) e is in
+        Answers-to (IsPrintedNext log view count bytes (signed_line bytes)) (IsMadeByToy Says Lacks content prefix log draft view count name)
+        (λ printed it. signed bytes own it) result h
+
+    pub toy_unsaid : (name : List ℕ) (entries : List (Bor (List ℕ))) (error : MakeError) (end : Stop) → entries ≡ draft.entries.items
+        → (error ≡ OutOfMemory → end ≡ stop.OutOfMemory) → IsMakeError Says Lacks draft.clock draft.time.now (texts entries) error
+        → IfStopped IsUnusable end → IfStopped (IsMadeByToy Says Lacks content prefix log draft view count name) end
+    toy_unsaid name entries error end e memory why h =
+        IfStopped-to (IsUnsaid Says Lacks content prefix log draft) (IsMadeByToy Says Lacks content prefix log draft view count name)
+        (λ printed it. unsaid it) end
+        (none_said error end memory (subst (λ (words : List (Bor (List ℕ))). IsMakeError Says Lacks draft.clock draft.time.now (texts words) error) e why) h)
+
+    -- the record that a key is to sign
+    pub key_made : (key : NamedBytes) (envelope message whole : List ℕ) (entries : List (Bor (List ℕ))) (result : Result Answer Stop) → entries ≡ draft.entries.items
+        → IsNextUnsigned Says content prefix (log.kind.head view) key draft.clock draft.time.now (texts entries) envelope message whole
+        → Answers (IsPrintedNext log view count whole (unsigned_line envelope message)) result
+        → Answers (IsMadeForKey Says Lacks content prefix log draft view count key) result
+    key_made key envelope message whole entries result e is h =
+        let own : IsNextUnsigned Says content prefix (log.kind.head view) key draft.clock draft.time.now (texts draft.entries.items) envelope message whole =
+        subst (λ (words : List (Bor (List ℕ))). IsNextUnsigned Says content prefix (log.kind.head view) key draft.clock draft.time.now (texts words) envelope message whole) e is in
+        Answers-to (IsPrintedNext log view count whole (unsigned_line envelope message)) (IsMadeForKey Says Lacks content prefix log draft view count key)
+        (λ printed it. to_be_signed envelope message whole own it) result h
+
+    pub key_unsaid : (key : NamedBytes) (entries : List (Bor (List ℕ))) (error : MakeError) (end : Stop) → entries ≡ draft.entries.items
+        → (error ≡ OutOfMemory → end ≡ stop.OutOfMemory) → IsMakeError Says Lacks draft.clock draft.time.now (texts entries) error
+        → IfStopped IsUnusable end → IfStopped (IsMadeForKey Says Lacks content prefix log draft view count key) end
+    key_unsaid key entries error end e memory why h =
+        IfStopped-to (IsUnsaid Says Lacks content prefix log draft) (IsMadeForKey Says Lacks content prefix log draft view count key)
+        (λ printed it. unsaid_for_key it) end
+        (none_said error end memory (subst (λ (words : List (Bor (List ℕ))). IsMakeError Says Lacks draft.clock draft.time.now (texts words) error) e why) h)
+
+    -- the same by the key's text
+    pub text_made : (text : List ℕ) (key : NamedBytes) (result : Result Answer Stop) → public_key_of text ≡ Ok key
+        → Answers (IsMadeForKey Says Lacks content prefix log draft view count key) result
+        → Answers (IsMadeForText Says Lacks content prefix log draft view count text) result
+    text_made text key result e h =
+        Answers-to (IsMadeForKey Says Lacks content prefix log draft view count key) (IsMadeForText Says Lacks content prefix log draft view count text)
+        (λ printed it. of_key key e it) result h
+
+    pub text_unread : (text : List ℕ) (end : Stop) → IfStopped (λ printed. IsErr (public_key_of text) × IsUnusable printed) end
+        → IfStopped (IsMadeForText Says Lacks content prefix log draft view count text) end
+    text_unread text end h =
+        IfStopped-to (λ printed. IsErr (public_key_of text) × IsUnusable printed) (IsMadeForText Says Lacks content prefix log draft view count text)
+        (λ printed it. no_key it.0 it.1) end h
+
+    -- the same by who signs
+    pub made_by : (by : Signer) (result : Result Answer Stop) → draft.signer ≡ by
+        → Answers (IsMadeBy Says Lacks content prefix log draft view count by) result
+        → Answers (IsMadeBy Says Lacks content prefix log draft view count draft.signer) result
+    made_by by result e h = subst (λ (it : Signer). Answers (IsMadeBy Says Lacks content prefix log draft view count it) result) (sym e) h
 
   module _ (belongs : SignatureRelation) where
     -- after a lawful log, by its view and how many records it has

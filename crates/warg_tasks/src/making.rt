@@ -8,7 +8,7 @@ ghost use Rattle.warg_answers.specs.Explanations.{all_belong};
 ghost use Rattle.warg_audit.specs.LogAnswers.{cause_name, IsNamedRefusal};
 ghost use Rattle.warg_files.specs.Answers.{answer_view, Answers, IfStopped, IsUnusable};
 ghost use Rattle.warg_make.specs.declared.error.MakeError.TheVariants.{OutOfMemory};
-ghost use Rattle.warg_tasks.specs.MadeRecords.{IsMadeBy, IsMadeByToy, IsMadeForKey, IsMadeOf, IsRefusedNext, signed_line, unsigned_line};
+ghost use Rattle.warg_tasks.specs.MadeRecords.{IsMadeBy, IsMadeByToy, IsMadeForKey, IsMadeForText, IsMadeOf, IsPrintedNext, IsRefusedNext, signed_line, unsigned_line};
 ghost use Rattle.warg_answers.specs.Verdicts.{ForDisplay};
 
 use std::alloc::{AllocError, Global};
@@ -141,6 +141,40 @@ fn taken<L: ToolLog>(alloc: Global, log: Lawful<'_, L>, string: &Vec<u8>) -> Res
     }
 }
 
+// The line of an envelope that is to come next in the log, if it may.
+fn signed_next<L: ToolLog>(
+    alloc: Global,
+    log: Lawful<'_, L>,
+    envelope: &Vec<u8>,
+) -> Result<Answer, Stop>
+    ensures { ForDisplay L.view L.kind L.Record.read L.Record.fault_of L.offence_of
+        L.name_of L.lines_of (λ shown. Answers (IsPrintedNext shown
+        (L.view log.entry.state) log.entry.count envelope.now.items
+        (signed_line envelope.now.items)) result) }
+{
+    match taken(alloc, log, envelope) {
+        Ok(()) => Ok(signed_line(alloc, envelope.as_slice())?),
+        Err(stop) => Err(stop),
+    }
+}
+
+// The line of a record that is to be signed and to come next in the log, if it may.
+fn unsigned_next<L: ToolLog>(
+    alloc: Global,
+    log: Lawful<'_, L>,
+    made: &UnsignedRecord,
+) -> Result<Answer, Stop>
+    ensures { ForDisplay L.view L.kind L.Record.read L.Record.fault_of L.offence_of
+        L.name_of L.lines_of (λ shown. Answers (IsPrintedNext shown
+        (L.view log.entry.state) log.entry.count made.now.draft.items
+        (unsigned_line made.now.envelope.items made.now.message.items)) result) }
+{
+    match taken(alloc, log, &made.draft) {
+        Ok(()) => Ok(unsigned_line(alloc, made)?),
+        Err(stop) => Err(stop),
+    }
+}
+
 // The line of the record that comes next in the log, signed by the toy key of the name.
 fn made_by_toy<L: ToolLog + Worded>(
     alloc: Global,
@@ -154,10 +188,7 @@ fn made_by_toy<L: ToolLog + Worded>(
 {
     let entries = draft.entries.as_slice();
     match make::<L>(alloc, &log.state, name, draft.clock, draft.time, entries) {
-        Ok(envelope) => match taken(alloc, log, &envelope) {
-            Ok(()) => Ok(signed_line(alloc, envelope.as_slice())?),
-            Err(stop) => Err(stop),
-        },
+        Ok(envelope) => signed_next(alloc, log, &envelope),
         Err(error) => Err(make_stop(alloc, &error)),
     }
 }
@@ -175,11 +206,25 @@ fn made_for_key<L: ToolLog + Worded>(
 {
     let entries = draft.entries.as_slice();
     match make_unsigned::<L>(alloc, &log.state, key, draft.clock, draft.time, entries) {
-        Ok(made) => match taken(alloc, log, &made.draft) {
-            Ok(()) => Ok(unsigned_line(alloc, &made)?),
-            Err(stop) => Err(stop),
-        },
+        Ok(made) => unsigned_next(alloc, log, &made),
         Err(error) => Err(make_stop(alloc, &error)),
+    }
+}
+
+// The same for the key of a text.
+fn made_for_text<L: ToolLog + Worded>(
+    alloc: Global,
+    log: Lawful<'_, L>,
+    text: &str,
+    draft: &Draft<'_>,
+) -> Result<Answer, Stop>
+    ensures { ForDisplay L.view L.kind L.Record.read L.Record.fault_of L.offence_of
+        L.name_of L.lines_of (λ shown. Answers (IsMadeForText L.says L.lacks L.content L.prefix
+        shown draft.now (L.view log.entry.state) log.entry.count text.now) result) }
+{
+    match key_of(alloc, text) {
+        Ok(key) => made_for_key(alloc, log, key, draft),
+        Err(stop) => Err(stop),
     }
 }
 
@@ -195,10 +240,7 @@ fn made<L: ToolLog + Worded>(
 {
     match draft.signer {
         Signer::Toy(name) => made_by_toy(alloc, log, name, draft),
-        Signer::KeyText(text) => match key_of(alloc, text) {
-            Ok(key) => made_for_key(alloc, log, key, draft),
-            Err(stop) => Err(stop),
-        },
+        Signer::KeyText(text) => made_for_text(alloc, log, text, draft),
     }
 }
 

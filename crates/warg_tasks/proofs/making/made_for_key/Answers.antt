@@ -1,22 +1,12 @@
-use Rattle.warg_files.proofs.AnswerLemmas.{IfStopped-to}
-use Rattle.warg_tasks.specs.MadeRecords.{refused, taken, to_be_signed, unsaid_for_key}
-use Rattle.warg_tasks.proofs.MadeLemmas.{none_said}
+use Rattle.warg_tasks.proofs.MadeLemmas.{key_made, key_unsaid}
 use Rattle.warg_tasks.proofs.making.made_for_key.Goals as goal
 
-pub returns-in_ok-unsigned_line-in-Ok-taken : goal.returns-in_ok-unsigned_line-in-Ok-taken
-returns-in_ok-unsigned_line-in-Ok-taken g c = λ fault_name offence_name shown reports.
-    to_be_signed c.in-Ok.made.envelope.items c.in-Ok.made.message.items c.in-Ok.made.draft.items
-    (rw c.as_slice-entries.ensures.value at c.in-Ok.ensures.ok) (taken c.in-Ok-taken.ensures.taken c.in_ok-unsigned_line-in-Ok-taken.ensures)
-
-pub returns-in-Err-taken : goal.returns-in-Err-taken
-returns-in-Err-taken g c = λ fault_name offence_name shown reports.
-    IfStopped-to _ _
-    (λ printed it. to_be_signed c.in-Ok.made.envelope.items c.in-Ok.made.message.items c.in-Ok.made.draft.items
-    (rw c.as_slice-entries.ensures.value at c.in-Ok.ensures.ok) (refused it))
-    c.in-Err-taken.stop (c.in-Err-taken.ensures.refused fault_name offence_name shown reports)
+pub returns-in-Ok : goal.returns-in-Ok
+returns-in-Ok g c = λ fault_name offence_name shown reports.
+    key_made _ _ _ _ _ _ _ _ c.args.key c.in-Ok.made.envelope.items c.in-Ok.made.message.items c.in-Ok.made.draft.items _ c.unsigned_next.result
+    c.as_slice-entries.ensures.value c.in-Ok.ensures.ok (c.unsigned_next.ensures fault_name offence_name shown reports)
 
 pub returns-in-Err : goal.returns-in-Err
 returns-in-Err g c = λ fault_name offence_name shown reports.
-    IfStopped-to _ _ (λ printed it. unsaid_for_key it) c.make_stop.result
-    (none_said _ _ _ _ _ _ c.in-Err.error c.make_stop.result c.make_stop.ensures.memory
-    (rw c.as_slice.ensures.value at c.in-Err.ensures.err) c.make_stop.ensures.unusable)
+    key_unsaid _ _ _ _ _ _ _ _ c.args.key _ c.in-Err.error c.make_stop.result c.as_slice-entries.ensures.value c.make_stop.ensures.memory
+    c.in-Err.ensures.err c.make_stop.ensures.unusable
