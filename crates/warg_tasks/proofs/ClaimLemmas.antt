@@ -54,13 +54,22 @@ module _ {View Offence F : Type 0} (k : Kind View Offence) (read : List ℕ → 
       whole claims (subst P (ap (λ n. take n strings) all ∙ take-length strings) own) (is ∙ ap yes e)
 
   -- a list that was cut, before a string that is refused whatever its signature
-  pub cut_list : {C : Type 0} (named_by : C → Option (Cause F Offence)) (cause : C) (strings : List (List ℕ)) (claims : List ClaimData)
+  cut_list : {C : Type 0} (named_by : C → Option (Cause F Offence)) (cause : C) (strings : List (List ℕ)) (claims : List ClaimData)
       (text : List ℕ) (printed : Printout) → printed ≡ no text → is_none (named_by cause) ≡ false
       → AreClaims k read (take (length claims) strings) claims → text ≡ all_lines (map claim_text claims)
       → EndsAt k read named_by strings (length claims) (Some cause) → IsClaimList k read strings printed
   cut_list named_by cause strings claims text printed is some own e ends =
       let found = named_why (named_by cause) (IsRefusedAnyway k read strings (length claims)) some ends in
       cut claims found.0 own found.1 (is ∙ ap no e)
+
+  pub cut_answers : {C : Type 0} (named_by : C → Option (Cause F Offence)) (cause : C) (strings : List (List ℕ)) (claims : List ClaimData)
+      (text : List ℕ) (result : Result Answer Stop) → AreClaims k read (take (length claims) strings) claims
+      → text ≡ all_lines (map claim_text claims) → EndsAt k read named_by strings (length claims) (Some cause)
+      → Answers (λ printed. (printed ≡ no text) × (is_none (named_by cause) ≡ false)) result
+      → Answers (IsClaimList k read strings) result
+  cut_answers named_by cause strings claims text result own e ends h =
+      Answers-to (λ printed. (printed ≡ no text) × (is_none (named_by cause) ≡ false)) (IsClaimList k read strings)
+      (λ printed it. cut_list named_by cause strings claims text printed it.0 it.1 own e ends) result h
 
   pub list_answers : (ls strings : List (List ℕ)) (result : Result Answer Stop) → strings_of ls ≡ Ok strings
       → Answers (IsClaimList k read strings) result → Answers (IsClaimsAnswer k read ls) result

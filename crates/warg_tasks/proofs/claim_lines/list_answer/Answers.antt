@@ -1,8 +1,8 @@
-use Rattle.std.proofs.Common.{map}
+use Rattle.std.proofs.Common.{map, string_bytes}
 use Rattle.std.specs.Vec.{vec_items}
+use Rattle.warg_protocol.specs.Logs.{cause_named_by, envelope_fault_of}
 use Rattle.warg_files.specs.Answers.{answer_view}
-use Rattle.warg_files.proofs.AnswerLemmas.{Answers-to}
-use Rattle.warg_tasks.proofs.ClaimLemmas.{claim_list, cut_list}
+use Rattle.warg_tasks.proofs.ClaimLemmas.{claim_list, cut_answers}
 use Rattle.warg_tasks.proofs.claim_lines.list_answer.Goals as goal
 
 pub returns-in-None : goal.returns-in-None
@@ -12,7 +12,6 @@ returns-in-None g c =
 
 pub returns : goal.returns
 returns g c =
-    Answers-to _ _ (λ printed is.
-    cut_list _ _ _ c.in-Some.cause (map vec_items c.args.strings.now) _ _ printed is.0 is.1 c.claims-claims.ensures.claims
-    (rw c.as_slice.ensures.value at c.in_ok-text.ensures) (rw c.in-Some.is at c.claims-claims.ensures.end))
-    c.cut_answer.result c.cut_answer.ensures
+    cut_answers _ _ (cause_named_by (envelope_fault_of g.L.Record.Record.fault_of) g.L.Validator.offence_of) c.in-Some.cause
+    (map vec_items c.args.strings.now) _ (string_bytes c.in_ok-text.text) c.cut_answer.result c.claims-claims.ensures.claims
+    (rw c.as_slice.ensures.value at c.in_ok-text.ensures) (rw c.in-Some.is at c.claims-claims.ensures.end) c.cut_answer.ensures
