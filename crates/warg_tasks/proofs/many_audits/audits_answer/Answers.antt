@@ -1,4 +1,4 @@
-use Rattle.std.proofs.Common.{[], arith, inr, ◌∙◌}
+use Rattle.std.proofs.Common.{[], arith, ◌∙◌}
 use Rattle.warg_files.specs.Answers.{answer_view}
 use Rattle.warg_tasks.proofs.ManyAuditLemmas.{words_more}
 use Rattle.warg_tasks.proofs.many_audits.audits_answer.Goals as goal
