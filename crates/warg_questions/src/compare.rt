@@ -84,8 +84,7 @@ fn compared<L: ToolLog, V: Verifier + Drop>(
 {
     let comparison = old.compare(new);
     let (here, there) = (old.records(), new.records());
-    let answer = comparison_answer::<L>(alloc, comparison, old.head(), here, there)?;
-    Ok(answer)
+    Ok(comparison_answer::<L>(alloc, comparison, old.head(), here, there)?)
 }
 
 // The answer by the newer copy, where the older one is a lawful log.
