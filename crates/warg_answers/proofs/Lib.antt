@@ -3,3 +3,4 @@ pub mod JudgedLemmas
 pub mod ShownWordLemmas
 pub mod ResealedLemmas
 pub mod PartingLemmas
+pub mod KeyIdLemmas

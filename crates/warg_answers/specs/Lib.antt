@@ -4,3 +4,4 @@ pub mod ShownWords
 pub mod Explanations
 pub mod IdWords
 pub mod Causes
+pub mod KeyIds

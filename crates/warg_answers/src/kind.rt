@@ -5,6 +5,7 @@ ghost use Rattle.warg_protocol.specs.Json.{JsonError as OfJsonError, JsonTextErr
 ghost use Rattle.warg_protocol.specs.Logs.{EnvelopeData, IsHonest};
 ghost use Rattle.warg_saved.specs.JsonText.{ReturnsOfText};
 ghost use Rattle.warg_answers.specs.Explanations.{HoldsFirst};
+ghost use Rattle.warg_answers.specs.KeyIds.{AreIdsOf};
 ghost use Rattle.warg_answers.specs.ShownWords.{IsRecordLine, RecordWords};
 
 use std::alloc::{AllocError, Global};
@@ -21,6 +22,9 @@ pub trait ToolLog: Report {
 
     // Whether a record spoke of a key id.
     ghost knows: { Self → List ℕ → Bool };
+
+    // Whether there is a key of an id.
+    ghost has_key: { Self → List ℕ → Bool };
 
     // The text of a state's JSON, and the state of a text.
     ghost json_of: { Self → Result (List ℕ) OfJsonError };
@@ -52,6 +56,10 @@ pub trait ToolLog: Report {
     /// Whether a record spoke of the key.
     fn has_entry(&self, key_id: &KeyID) -> bool
         ensures { result ≡ knows self.now key_id.now };
+
+    /// The ids of the keys, each once.
+    fn key_ids(&self, alloc: Global) -> Result<Vec<KeyID>, AllocError>
+        ensures { IfOk result (λ ids. AreIdsOf (has_key self.now) ids.items) };
 
     /// The state's JSON.
     fn json_text(&self, alloc: Global) -> Result<String, JsonError>

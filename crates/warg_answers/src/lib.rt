@@ -4,6 +4,7 @@
 pub mod cause;
 pub mod id_word;
 pub mod judged;
+mod key_ids;
 pub mod kind;
 mod operator_log;
 mod package_log;

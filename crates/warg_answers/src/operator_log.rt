@@ -4,6 +4,7 @@ ghost use Rattle.std.specs.Prelude.{◌≡◌, string_bytes, IfOk};
 ghost use Rattle.warg_protocol.specs.Operator.{namespace_view};
 ghost use Rattle.warg_answers.specs.ShownWords.{namespace_line, namespace_lines, namespace_words};
 
+use crate::key_ids::key_ids;
 use crate::kind::ToolLog;
 use crate::resealed::resealed;
 use crate::wording::{EntryWords, key_lines, permission_words, record_line};
@@ -86,7 +87,7 @@ fn namespace_lines(alloc: Global, namespaces: Namespaces<'_>) -> Result<String, 
 impl ToolLog for LogState {
     ghost use Rattle.std.proofs.Common.{ap, sym};
     ghost use Rattle.std.proofs.lemmas.Simd.{map-map};
-    ghost use Rattle.std.specs.Prelude.{[], ◌∷◌, map};
+    ghost use Rattle.std.specs.Prelude.{[], ◌∷◌, is_some, map};
     ghost use Rattle.warg_protocol.specs.Json.{in_text, text_of as written_text};
     ghost use Rattle.warg_protocol.specs.Operator.{entry_data, permission_text, record_data, state_in, state_json, view_of};
     ghost use Rattle.warg_operator_log.specs.ErrorTexts.{error_text};
@@ -99,6 +100,8 @@ impl ToolLog for LogState {
     ghost text_of = { permission_text };
 
     ghost knows = { λ state key. (view_of state).state.authority.has_entry key };
+
+    ghost has_key = { λ state id. is_some ((view_of state).state.authority.key id) };
 
     ghost json_of = { λ state. written_text (state_json state) };
 
@@ -127,6 +130,10 @@ impl ToolLog for LogState {
 
     fn has_entry(&self, key_id: &KeyID) -> bool {
         self.key_permissions(key_id).is_some()
+    }
+
+    fn key_ids(&self, alloc: Global) -> Result<Vec<KeyID>, AllocError> {
+        key_ids(alloc, self.keys())
     }
 
     fn json_text(&self, alloc: Global) -> Result<String, JsonError> {

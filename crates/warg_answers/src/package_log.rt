@@ -5,6 +5,7 @@ ghost use Rattle.semver.specs.Identifiers.{parts_of, parts_text};
 ghost use Rattle.warg_protocol.specs.Package.{release_view};
 ghost use Rattle.warg_answers.specs.ShownWords.{AreReleaseLines, IsReleaseLine, IsStandingLine, released_line, yanked_line};
 
+use crate::key_ids::key_ids;
 use crate::kind::ToolLog;
 use crate::resealed::resealed;
 use crate::wording::{EntryWords, key_lines, permission_words, record_line, time_words};
@@ -111,7 +112,7 @@ fn release_lines(alloc: Global, releases: Releases<'_>) -> Result<String, AllocE
 impl ToolLog for LogState {
     ghost use Rattle.std.proofs.Common.{ap, sym};
     ghost use Rattle.std.proofs.lemmas.Simd.{map-map};
-    ghost use Rattle.std.specs.Prelude.{[], ◌∷◌, map};
+    ghost use Rattle.std.specs.Prelude.{[], ◌∷◌, is_some, map};
     ghost use Rattle.warg_protocol.specs.Json.{in_text, text_of as written_text};
     ghost use Rattle.warg_protocol.specs.Package.{entry_data, permission_text, record_data, state_in, state_json, view_of};
     ghost use Rattle.warg_package_log.specs.ErrorTexts.{error_text};
@@ -124,6 +125,8 @@ impl ToolLog for LogState {
     ghost text_of = { permission_text };
 
     ghost knows = { λ state key. (view_of state).state.authority.has_entry key };
+
+    ghost has_key = { λ state id. is_some ((view_of state).state.authority.key id) };
 
     ghost json_of = { λ state. written_text (state_json state) };
 
@@ -152,6 +155,10 @@ impl ToolLog for LogState {
 
     fn has_entry(&self, key_id: &KeyID) -> bool {
         self.key_permissions(key_id).is_some()
+    }
+
+    fn key_ids(&self, alloc: Global) -> Result<Vec<KeyID>, AllocError> {
+        key_ids(alloc, self.keys())
     }
 
     fn json_text(&self, alloc: Global) -> Result<String, JsonError> {
