@@ -1,3 +1,4 @@
+pub mod AskedLemmas
 pub mod TextLemmas
 pub mod StateLemmas
 pub mod CompareLemmas

@@ -1,4 +1,5 @@
 pub mod StateFaults
+pub mod AskedKeys
 pub mod Questions
 pub mod Resumption
 pub mod QuestionAnswers

@@ -18,6 +18,7 @@ pub record Askable (Meaning Fault View Offence S P : Type 0) : Type 0 where
   pub view : S → View
   pub json : S → Result (List ℕ) JsonError
   pub reads : List ℕ → Result S JsonTextError
+  pub has_key : S → List ℕ → Bool
   pub knows : S → List ℕ → Bool
   pub held : View → List ℕ → P → Bool
   pub order : List P
@@ -33,9 +34,9 @@ module _ {Meaning Fault View Offence S P : Type 0} (kind : Askable Meaning Fault
       IsOfFile files state.now (λ saved. IsOfLines files log.now (IsResumed kind.shown belongs kind.view kind.json kind.reads saved)) printed
   IsQuestionAnswer (question.Permissions key_id log) printed =
       IsOfLines files log.now (IsPrintedOf kind.shown belongs
-      (IsPermissionsText kind.shown kind.view kind.knows kind.held kind.order kind.text_of key_id.now)) printed
+      (IsPermissionsText kind.shown kind.view kind.has_key kind.knows kind.held kind.order kind.text_of key_id.now)) printed
   IsQuestionAnswer (question.Chain key_id permission log) printed =
       IsOfWord (λ it. kind.text_of it ≡ permission.now)
-      (λ it. IsOfLines files log.now (IsPrintedOf kind.shown belongs (IsChainText kind.shown kind.effects key_id.now it))) printed
+      (λ it. IsOfLines files log.now (IsPrintedOf kind.shown belongs (IsChainText kind.shown kind.view kind.has_key kind.effects key_id.now it))) printed
   IsQuestionAnswer (question.Compare old new) printed =
       IsOfLines files old.now (λ here. IsOfLines files new.now (IsCompared kind.shown belongs here)) printed

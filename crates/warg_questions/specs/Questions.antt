@@ -10,6 +10,7 @@ use Rattle.warg_audit.specs.Printouts.{Printout}
 use Rattle.warg_files.specs.Texts.{side_text}
 use Rattle.warg_answers.specs.Texts.{json_text, permissions_text, chain_text, comparison_text}
 use Rattle.warg_answers.specs.Verdicts.{IsLawful, IsNegative, IsViewOf, envelopes_of}
+use Rattle.warg_questions.specs.AskedKeys.{IsAsked}
 
 -- how a log compares with an older copy, by the heads of both and the contents of their records
 pub record IsComparisonTold (id : List ℕ → RecordId) (old_head new_head : Option RecordId) (old new : List (List ℕ)) (printed : Printout) : Type 0 where
@@ -28,6 +29,21 @@ pub record IsChainTold {P : Type 0} (effects : Effects P) (envelopes : List Enve
   pub is_chain : IsChainAnswer effects envelopes key permission chain
   pub is : printed ≡ chain_text envelopes key chain
 
+-- the same of the key that a word asks for, of those of a state that stands for the envelopes
+pub record IsAskedChain {S View P : Type 0} (view : S → View) (has_key : S → List ℕ → Bool) (view_of : List EnvelopeData → View) (effects : Effects P) (envelopes : List EnvelopeData)
+    (word : List ℕ) (permission : P) (printed : Printout) : Type 0 where
+  pub state : S
+  pub stands : view state ≡ view_of envelopes
+  pub key : List ℕ
+  pub asked : IsAsked (has_key state) word key
+  pub told : IsChainTold effects envelopes key permission printed
+
+-- the permissions that the key holds that a word asks for, if a record spoke of it
+pub record ArePermissionsTold {P : Type 0} (has_key knows : List ℕ → Bool) (held : List ℕ → P → Bool) (order : List P) (text_of : P → List ℕ) (word : List ℕ) (printed : Printout) : Type 0 where
+  pub key : List ℕ
+  pub asked : IsAsked has_key word key
+  pub is : printed ≡ permissions_text (knows key) order text_of (held key)
+
 module _ {Meaning Fault View Offence : Type 0} (log : LogDisplay Meaning Fault View Offence) where
   -- the JSON of a state that stands for the strings
   pub record IsStateText {S : Type 0} (view : S → View) (json : S → Result (List ℕ) JsonError) (strings : List (List ℕ)) (printed : Printout) : Type 0 where
@@ -35,16 +51,17 @@ module _ {Meaning Fault View Offence : Type 0} (log : LogDisplay Meaning Fault V
     pub stands : IsViewOf log (view state) strings
     pub is : printed ≡ json_text (json state)
 
-  -- the permissions that the key holds after the strings, if a record spoke of it
-  pub record IsPermissionsText {S P : Type 0} (view : S → View) (knows : S → List ℕ → Bool) (held : View → List ℕ → P → Bool) (order : List P) (text_of : P → List ℕ) (key : List ℕ)
-      (strings : List (List ℕ)) (printed : Printout) : Type 0 where
+  -- the permissions, after the strings, of the key that a word asks for
+  pub record IsPermissionsText {S P : Type 0} (view : S → View) (has_key : S → List ℕ → Bool) (knows : S → List ℕ → Bool) (held : View → List ℕ → P → Bool) (order : List P)
+      (text_of : P → List ℕ) (word : List ℕ) (strings : List (List ℕ)) (printed : Printout) : Type 0 where
     pub state : S
     pub stands : IsViewOf log (view state) strings
-    pub is : printed ≡ permissions_text (knows state key) order text_of (held (view state) key)
+    pub told : ArePermissionsTold (has_key state) (knows state) (held (view state)) order text_of word printed
 
-  -- by which entries the key came to hold the permission after the strings
-  abbrev pub IsChainText : {P : Type 0} → Effects P → List ℕ → P → List (List ℕ) → Printout → Type 0
-  IsChainText effects key permission strings printed = IsChainTold effects (envelopes_of log strings) key permission printed
+  -- by which entries the key that a word asks for came to hold the permission after the strings
+  abbrev pub IsChainText : {S P : Type 0} → (S → View) → (S → List ℕ → Bool) → Effects P → List ℕ → P → List (List ℕ) → Printout → Type 0
+  IsChainText view has_key effects word permission strings printed =
+      IsAskedChain view has_key log.kind.view_of effects (envelopes_of log strings) word permission printed
 
   -- how the strings of two lawful logs compare, the older ones first
   abbrev pub IsComparisonText : List (List ℕ) → List (List ℕ) → Printout → Type 0

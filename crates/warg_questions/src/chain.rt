@@ -5,11 +5,12 @@ ghost use Rattle.std.specs.Option.{option_copied, option_map};
 ghost use Rattle.std.specs.Vec.{vec_items};
 ghost use Rattle.warg_protocol.specs.Logs.{envelopes};
 ghost use Rattle.warg_files.specs.Answers.{answer_view, Answers, IfStopped, IsUnusable};
-ghost use Rattle.warg_questions.specs.Questions.{IsChainText, IsChainTold};
+ghost use Rattle.warg_questions.specs.Questions.{IsAskedChain, IsChainText, IsChainTold};
 ghost use Rattle.warg_files.specs.RecordLines.{record_lines};
 ghost use Rattle.warg_answers.specs.Texts.{chain_text as text_of_chain, link_text, links_text, receiver, signer_at};
 ghost use Rattle.warg_answers.specs.Verdicts.{ForDisplay, IsPrintedOf};
 
+use crate::asked::{asked_key, with_fault};
 use std::alloc::{AllocError, Global};
 use warg_answers::judged::{Lent, kept};
 use warg_answers::kind::{ToolLog, permission_of};
@@ -115,23 +116,38 @@ fn chain_in<L: ToolLog, V: Verifier + Drop>(
     chain_of(alloc, log.records(), links, key_id)
 }
 
-/// The chain of a key and a permission in the log in a file.
+// The answer of the chain in a log to the word of a key.
+fn asked_chain<L: ToolLog, V: Verifier + Drop>(
+    alloc: Global,
+    log: &AuditedLog<L, V>,
+    word: &str,
+    permission: L::Permission,
+) -> Result<Answer, AllocError>
+    ensures { IfOk result (λ answer.
+        IsAskedChain L.view L.has_key L.kind.view_of L.effects (envelopes log.now.records)
+        word.now permission (answer_view answer)) }
+{
+    let asked = asked_key(alloc, log.state(), word)?;
+    let answer = chain_in(alloc, log, &asked.key_id, permission)?;
+    with_fault(alloc, answer, word, asked.fault)
+}
+
+/// The chain of the key that the word asks for, and a permission, in the log in a file.
 pub fn chain_answer<L: ToolLog, V: Verifier>(
     alloc: Global,
     verifier: &V,
-    key_id: &str,
+    word: &str,
     permission: L::Permission,
     input: Input<'_>,
 ) -> Result<Answer, Stop>
     ensures { ForDisplay L.view L.kind L.Record.read L.Record.fault_of L.offence_of
         L.name_of L.lines_of (λ log.
         Answers (IsPrintedOf log (V.belongs verifier.now)
-        (IsChainText log L.effects key_id.now permission)
+        (IsChainText log L.view L.has_key L.effects word.now permission)
         (record_lines input.entry.bytes.items)) result) }
 {
-    let key_id = KeyID::from(String::from_str(alloc, key_id)?);
     match kept::<L, Lent<'_, V>>(alloc, Lent(verifier), input) {
-        Ok(log) => Ok(chain_in(alloc, &log, &key_id, permission)?),
+        Ok(log) => Ok(asked_chain(alloc, &log, word, permission)?),
         Err(stop) => Err(stop),
     }
 }

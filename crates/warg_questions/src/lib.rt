@@ -1,6 +1,7 @@
 //! What is answered to a question about a log, from the files that it names: once for both kinds of log.
 #![tactic(auto)]
 
+mod asked;
 mod chain;
 mod compare;
 mod permissions;

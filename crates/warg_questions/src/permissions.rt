@@ -2,12 +2,13 @@
 
 ghost use Rattle.std.specs.Prelude.{◌≡◌, ◌++◌, [], if◌then◌else◌, filter, map, string_bytes, IfOk, OnOk};
 ghost use Rattle.warg_files.specs.Answers.{answer_view, Answers};
-ghost use Rattle.warg_questions.specs.Questions.{IsPermissionsText};
+ghost use Rattle.warg_questions.specs.Questions.{ArePermissionsTold, IsPermissionsText};
 ghost use Rattle.warg_files.specs.RecordLines.{record_lines};
 ghost use Rattle.warg_files.specs.Texts.{all_lines, line};
 ghost use Rattle.warg_answers.specs.Texts.{permissions_text};
 ghost use Rattle.warg_answers.specs.Verdicts.{ForDisplay, IsPrintedOf};
 
+use crate::asked::{asked_key, with_fault};
 use std::alloc::{AllocError, Global};
 use warg_answers::judged::judged;
 use warg_answers::kind::ToolLog;
@@ -72,22 +73,32 @@ fn permissions_of<L: ToolLog>(
     Ok(Answer::new(alloc, text, 0))
 }
 
-/// What a key holds after the log in a file.
+// The answer of a state to the word of a key.
+fn asked_permissions<L: ToolLog>(alloc: Global, state: &L, word: &str) -> Result<Answer, AllocError>
+    ensures { IfOk result (λ answer. ArePermissionsTold (L.has_key state.now)
+        (L.knows state.now) (L.holds (L.view state.now)) L.order L.text_of word.now
+        (answer_view answer)) }
+{
+    let asked = asked_key(alloc, state, word)?;
+    let answer = permissions_of(alloc, state, &asked.key_id)?;
+    with_fault(alloc, answer, word, asked.fault)
+}
+
+/// What the key holds that the word asks for, after the log in a file.
 pub fn permissions_answer<L: ToolLog, V: Verifier>(
     alloc: Global,
     verifier: &V,
-    key_id: &str,
+    word: &str,
     input: Input<'_>,
 ) -> Result<Answer, Stop>
     ensures { ForDisplay L.view L.kind L.Record.read L.Record.fault_of L.offence_of
         L.name_of L.lines_of (λ log.
         Answers (IsPrintedOf log (V.belongs verifier.now)
-        (IsPermissionsText log L.view L.knows L.holds L.order L.text_of key_id.now)
+        (IsPermissionsText log L.view L.has_key L.knows L.holds L.order L.text_of word.now)
         (record_lines input.entry.bytes.items)) result) }
 {
-    let key_id = KeyID::from(String::from_str(alloc, key_id)?);
     match judged::<L, V>(alloc, verifier, input) {
-        Ok((state, _)) => Ok(permissions_of(alloc, &state, &key_id)?),
+        Ok((state, _)) => Ok(asked_permissions(alloc, &state, word)?),
         Err(stop) => Err(stop),
     }
 }

@@ -50,7 +50,8 @@ fn permissions_of_file<L: ToolLog, V: Verifier, S: Store>(
     ensures answered { ForDisplay L.view L.kind L.Record.read L.Record.fault_of L.offence_of
         L.name_of L.lines_of (λ log.
         Answers (IsOfLines (S.files store.old) path.now (IsPrintedOf log (V.belongs verifier.now)
-        (IsPermissionsText log L.view L.knows L.holds L.order L.text_of key_id.now))) result) }
+        (IsPermissionsText log L.view L.has_key L.knows L.holds L.order L.text_of key_id.now)))
+        result) }
     ensures kept { S.files store.new ≡ S.files store.old }
 {
     match read_input(alloc, store, path) {
@@ -71,7 +72,7 @@ fn chain_of_file<L: ToolLog, V: Verifier, S: Store>(
         L.name_of L.lines_of (λ log.
         Answers (IsOfLines (S.files store.old) path.now
         (IsPrintedOf log (V.belongs verifier.now)
-        (IsChainText log L.effects key_id.now permission)))
+        (IsChainText log L.view L.has_key L.effects key_id.now permission)))
         result) }
     ensures kept { S.files store.new ≡ S.files store.old }
 {
@@ -95,7 +96,7 @@ fn chain_of_word<L: ToolLog, V: Verifier, S: Store>(
         Answers (IsOfWord (λ permission. L.text_of permission ≡ word.now) (λ permission.
         IsOfLines (S.files store.old) path.now
         (IsPrintedOf log (V.belongs verifier.now)
-        (IsChainText log L.effects key_id.now permission)))) result) }
+        (IsChainText log L.view L.has_key L.effects key_id.now permission)))) result) }
     ensures kept { S.files store.new ≡ S.files store.old }
 {
     match wanted_permission::<L>(alloc, word) {
@@ -203,6 +204,7 @@ pub fn question_answer<L: ToolLog, V: Verifier, S: Store>(
           json = L.json_of;
           reads =
               L.state_of;
+          has_key = L.has_key;
           knows = L.knows;
           held = L.holds;
           order = L.order;

@@ -1,5 +1,5 @@
 -- What is answered to requests, by the words that they have and what the files that they name hold.
-use Rattle.std.specs.Prelude.{◌≡◌, ◌⊎◌, ℕ, Bool, true, false, List, [], ◌∷◌, map, Option, Some, None, Ok}
+use Rattle.std.specs.Prelude.{◌≡◌, ◌⊎◌, ℕ, Bool, true, false, List, [], ◌∷◌, map, Option, Some, None, is_some, Ok}
 use Rattle.std.specs.Borrow.{Bor}
 use Rattle.std.specs.Str.Lines.{lines}
 use Rattle.semver.specs.Identifiers.{comparator_view}
@@ -54,6 +54,7 @@ IsAskedAnswer log_type.Package belongs files question printed =
       view = packages.view_of;
       json = λ state. text_of (packages.state_json state);
       reads = in_text packages.state_in;
+      has_key = λ state key. is_some ((packages.view_of state).state.authority.key key);
       knows = λ state key. (packages.view_of state).state.authority.has_entry key;
       held = λ view key permission. view.state.authority.holds key permission;
       order = package_permission.Release ∷ package_permission.Yank ∷ [];
@@ -66,6 +67,7 @@ IsAskedAnswer log_type.Operator belongs files question printed =
       view = operators.view_of;
       json = λ state. text_of (operators.state_json state);
       reads = in_text operators.state_in;
+      has_key = λ state key. is_some ((operators.view_of state).state.authority.key key);
       knows = λ state key. (operators.view_of state).state.authority.has_entry key;
       held = λ view key permission. view.state.authority.holds key permission;
       order = operator_permission.Commit ∷ operator_permission.DefineNamespace ∷ operator_permission.ImportNamespace ∷ [];

@@ -1,21 +1,12 @@
-use Rattle.std.proofs.Common.{◌∙◌, ap}
 use Rattle.warg_answers.proofs.JudgedLemmas.{stopped_prints}
 use Rattle.warg_files.specs.RecordLines.{record_lines}
-use Rattle.warg_answers.specs.Texts.{permissions_text}
 use Rattle.warg_answers.specs.Verdicts.{lawful}
 use Rattle.warg_questions.proofs.permissions.permissions_answer.Goals as goal
 
 pub returns-in-Ok : goal.returns-in-Ok
 returns-in-Ok g c = λ fault_name offence_name shown reports.
-    let state = c.in-Ok.state in
     let it = c.in-Ok.ensures.lawful fault_name offence_name shown reports in
-    lawful it.0 it.1.0 (record {
-      state = state;
-      stands = it.1.1;
-      is = c.in_ok-permissions_of-in-Ok.ensures
-          ∙ ap (λ key. permissions_text (g.L.ToolLog.knows state key) g.L.ToolLog.order g.L.ToolLog.text_of (g.L.Validator.holds (g.L.Validator.view state) key))
-          (c.from-key_id.ensures ∙ c.in_ok-from_str.ensures.ok);
-    })
+    lawful it.0 it.1.0 (record { state = c.in-Ok.state; stands = it.1.1; told = c.in_ok-asked_permissions-in-Ok.ensures })
 
 pub returns : goal.returns
 returns g c = λ fault_name offence_name shown reports.
