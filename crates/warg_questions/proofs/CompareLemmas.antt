@@ -1,5 +1,5 @@
 -- How logs compare, and what is answered for want of a side.
-use Rattle.std.proofs.Common.{◌≡◌, List, codes, Result}
+use Rattle.std.proofs.Common.{◌≡◌, ℕ, List, codes, Result}
 use Rattle.warg_protocol.specs.Logs.{EnvelopeData, Kind, SignatureRelation, IsComparison, contents}
 use Rattle.warg_audited_log.specs.declared.comparison.Comparison.{Comparison}
 use Rattle.warg_audit.specs.LogAnswers.{LogDisplay}
