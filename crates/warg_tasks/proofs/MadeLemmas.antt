@@ -4,9 +4,8 @@ use Rattle.std.specs.List.{slice_get}
 use Rattle.warg_time.specs.Times.{Time}
 use Rattle.warg_crypto.specs.Keys.{public_key_of}
 use Rattle.warg_crypto.specs.NamedBytes.{NamedBytes}
-use Rattle.warg_protocol.specs.Logs.{Cause, EnvelopeData, EnvelopeFault, Kind, SignatureRelation, envelope_of}
+use Rattle.warg_protocol.specs.Logs.{Cause, EnvelopeData, EnvelopeFault, Kind, SignatureRelation, envelope_of, view_after}
 use Rattle.warg_protocol.specs.Records.{RecordId}
-use Rattle.warg_records.specs.Kinds.{view_after}
 use Rattle.warg_validator.specs.OutcomeRuns.{HasNoOffence, IsFirstOffence, IsRefusal, IfNamed, cause_next}
 use Rattle.warg_validator.specs.declared.replay.RunCause.{RunCause}
 use Rattle.warg_validator.specs.declared.replay.RunError.{RunError}
