@@ -110,12 +110,22 @@ class Command(unittest.TestCase):
             ("| head -1 >&2", (0, r"log0: ok 5 [^\n]*\n")),
             ("| true", (0, "")),
             ("> /dev/full", (3, "weoldrin: standard output could not be written: No space left on device\n")),
+            (">&-", (3, "weoldrin: standard output could not be written: Bad file descriptor\n")),
         ):
             done = subprocess.run(
                 ["bash", "-o", "pipefail", "-c", f"{command} {output}"], capture_output=True, text=True, check=False
             )
             self.assertEqual(done.returncode, wanted[0], done.stderr)
             self.assertRegex(done.stderr.removeprefix(f"{self.folder}/"), f"^{wanted[1]}$")
+
+    def test_hostile_words(self) -> None:
+        """What is said of words has no control character of theirs, as a file's name may look like an option."""
+        hostile = "--\x1b[2J\nx"
+        for words in (["audit", "package", "x", hostile], [hostile[2:]], ["audit", hostile[2:], "x"], ["audit", "--\x9b"]):
+            command = [sys.executable, "-m", "weoldrin", *words]
+            done = subprocess.run(command, capture_output=True, text=True, check=False)
+            self.assertEqual((done.returncode, done.stdout), (2, ""))
+            self.assertFalse(any(it in done.stderr for it in ("\x1b", "\x9b", "\nx")), done.stderr)
 
     def test_words(self) -> None:
         self.assertEqual(run("--version")[0], 0)

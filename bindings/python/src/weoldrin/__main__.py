@@ -3,12 +3,21 @@
 import argparse
 import os
 import sys
+from typing import NoReturn
 
-from . import Empty, Verdict, audit_many, library_version, making, print_lines, processes
+from . import Empty, Verdict, audit_many, library_version, making, print_lines, printable, processes
+from .printing import tell
+
+
+class Words(argparse.ArgumentParser):
+    """Of words that can't be used a sentence is printed, whatever stands in them."""
+
+    def error(self, message: str) -> NoReturn:
+        super().error(printable(message))
 
 
 def _parser() -> argparse.ArgumentParser:
-    parser = argparse.ArgumentParser(
+    parser = Words(
         prog="python3 -m weoldrin",
         description="Audits logs of a Warg registry. A log is a file with an envelope a line, in hex.",
         epilog="Status: 0 all accepted, 1 one was refused or is empty, 2 wrong words or a file that could not be read, "
@@ -50,7 +59,7 @@ def main(words: list[str] | None = None) -> int:
     try:
         print_lines(str(it) for it in verdicts)
     except OSError as error:
-        print(f"weoldrin: standard output could not be written: {error.strerror}", file=sys.stderr)
+        tell(f"weoldrin: standard output could not be written: {error.strerror}")
         return 3
     return max(_status(it) for it in verdicts)
 

@@ -2,7 +2,7 @@
 
 from typing import Self
 
-from cryptography.exceptions import InvalidSignature
+from cryptography.exceptions import InvalidSignature, UnsupportedAlgorithm
 from cryptography.hazmat.primitives import hashes, serialization
 from cryptography.hazmat.primitives.asymmetric import ec
 
@@ -41,8 +41,12 @@ class SigningKey:
 
     @classmethod
     def from_pem(cls, pem: bytes, password: bytes | None = None) -> Self:
-        """A key that was saved as PEM, as `openssl ecparam -genkey -name prime256v1` writes it."""
-        key = serialization.load_pem_private_key(pem, password)
+        """A key that was saved as PEM, as `openssl ecparam -genkey -name prime256v1` writes it. Raises `ValueError` of
+        what is none of P-256, and `TypeError` where a password is missing, or not wanted."""
+        try:
+            key = serialization.load_pem_private_key(pem, password)
+        except UnsupportedAlgorithm as error:
+            raise ValueError("the key is none of P-256") from error
         if not isinstance(key, ec.EllipticCurvePrivateKeyWithSerialization):
             raise ValueError("the key is none of P-256")
         return cls(key)

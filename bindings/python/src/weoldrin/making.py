@@ -19,15 +19,17 @@ from . import records
 from .auditing import append_all, envelopes_of
 from .errors import Error, Refused
 from .logs import Kind, Log, log_of
-from .printing import print_lines, printable
+from .printing import print_lines, tell
 
 if TYPE_CHECKING:
     from .p256 import SigningKey
 
 _NANOS = 1_000_000_000
-_SECONDS = re.compile(r"\+?([0-9]+)\.\+?([0-9]+)")
+# Of more digits than these no number is small enough.
+_SECONDS = re.compile(r"\+?0*([0-9]{1,20})\.\+?0*([0-9]{1,10})")
 _DATE = re.compile(
-    r"([0-9]{4}-[0-9]{2}-[0-9]{2})[Tt ]([0-9]{2}:[0-9]{2}:)([0-9]{2})(?:\.([0-9]{1,9}))?([Zz]|[+-][0-9]{2}:[0-9]{2})"
+    r"([0-9]{4}-[0-9]{2}-[0-9]{2})[Tt ]([0-9]{2}:[0-9]{2}:)([0-9]{2})(?:\.([0-9]{1,9}))?"
+    r"([Zz]|[+-][0-9]{2}:[0-5][0-9])"
 )
 _EPOCH = datetime.datetime(1970, 1, 1, tzinfo=datetime.UTC)
 
@@ -93,6 +95,8 @@ def entry_of(kind: Kind, words: str) -> bytes:
                 return records.define_namespace(subject)
             case "import", Kind.OPERATOR:
                 return records.import_namespace(subject, rest)
+    except UnicodeEncodeError:
+        raise NoRecord("a word is no UTF-8") from None
     except (KeyError, ValueError):
         raise NoRecord("a word is no permission") from None
     raise NoRecord("it begins with no entry's word")
@@ -131,11 +135,15 @@ def _read(path: str) -> list[bytes]:
     """The envelopes of the log in a file. A log that is not there yet has none."""
     try:
         if path == "-":
+            if sys.stdin is None:
+                raise NoRecord("standard input: it is closed")
             return list(envelopes_of(sys.stdin.buffer))
         with pathlib.Path(path).open("rb") as lines:
             return list(envelopes_of(lines))
     except FileNotFoundError:
         return []
+    except NoRecord:
+        raise
     except OSError as error:
         raise NoRecord(f"{path}: {error.strerror}") from None
     except ValueError as error:
@@ -159,7 +167,7 @@ def add_command(commands: "argparse._SubParsersAction[argparse.ArgumentParser]")
 
 
 def _warn(sentence: str) -> None:
-    print(f"weoldrin: {printable(sentence)}", file=sys.stderr)
+    tell(f"weoldrin: {sentence}")
 
 
 def _line(asked: argparse.Namespace) -> tuple[str, int]:

@@ -1,10 +1,12 @@
 """Prints what strangers wrote: nothing of it reaches a terminal, or a reader of lines, as more than a sign."""
 
+import errno
 import io
 import os
 import re
 import sys
 from collections.abc import Iterable
+from typing import TextIO
 
 # The last two numbers of each plane are given to no character for good.
 _LAST = "".join(chr(plane + it) for plane in range(0, 0x110000, 0x10000) for it in (0xFFFE, 0xFFFF))
@@ -23,8 +25,10 @@ def print_lines(lines: Iterable[str]) -> None:
     """Prints lines to standard output. Where its reader has closed it, the rest is left out in silence.
 
     A letter that its encoding does not have is written by its number. Raises `OSError` where a line can't be written
-    for another reason.
+    for another reason, also where the caller closed standard output.
     """
+    if sys.stdout is None:
+        raise OSError(errno.EBADF, os.strerror(errno.EBADF))
     if isinstance(sys.stdout, io.TextIOWrapper):
         sys.stdout.reconfigure(errors="backslashreplace")
     try:
@@ -32,14 +36,24 @@ def print_lines(lines: Iterable[str]) -> None:
             print(line)
         sys.stdout.flush()
     except BrokenPipeError:
-        _drop_output()
+        _drop(sys.stdout)
     except OSError:
-        _drop_output()
+        _drop(sys.stdout)
         raise
 
 
-def _drop_output() -> None:
-    """Has what standard output still holds go nowhere, so that the interpreter does not fail of it at its end."""
+def tell(sentence: str) -> None:
+    """Prints a sentence to standard error, if the caller has left one open that takes it, and never elsewhere."""
+    if sys.stderr is None:
+        return
+    try:
+        print(printable(sentence), file=sys.stderr, flush=True)
+    except OSError:
+        _drop(sys.stderr)
+
+
+def _drop(stream: TextIO) -> None:
+    """Has what a stream still holds go nowhere, so that the interpreter does not fail of it at its end."""
     nowhere = os.open(os.devnull, os.O_WRONLY)
-    os.dup2(nowhere, sys.stdout.fileno())
+    os.dup2(nowhere, stream.fileno())
     os.close(nowhere)
