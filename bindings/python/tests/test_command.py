@@ -121,7 +121,12 @@ class Command(unittest.TestCase):
     def test_hostile_words(self) -> None:
         """What is said of words has no control character of theirs, as a file's name may look like an option."""
         hostile = "--\x1b[2J\nx"
-        for words in (["audit", "package", "x", hostile], [hostile[2:]], ["audit", hostile[2:], "x"], ["audit", "--\x9b"]):
+        for words in (
+            ["audit", "package", "x", hostile],
+            [hostile[2:]],
+            ["audit", hostile[2:], "x"],
+            ["audit", "--\x9b"],
+        ):
             command = [sys.executable, "-m", "weoldrin", *words]
             done = subprocess.run(command, capture_output=True, text=True, check=False)
             self.assertEqual((done.returncode, done.stdout), (2, ""))

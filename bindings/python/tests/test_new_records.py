@@ -29,6 +29,7 @@ from weoldrin import (
     Unfinished,
     Unreadable,
     Unsaved,
+    audit,
     audit_new,
     p256,
     records,
@@ -254,6 +255,38 @@ print(audit_new({str(self.path)!r}, Kind.PACKAGE))
         (self.folder / "log.hex.state.new").symlink_to(other)
         self.assertIsInstance(audit_new(self.path, Kind.PACKAGE).fault, Unsaved)
         self.assertEqual(other.read_text(encoding="ascii"), "mine")
+
+    def test_hard_links(self) -> None:
+        """What else has the name of the file beside, as another's file, is not written to."""
+        other, beside = self.folder / "other", self.folder / "log.hex.state.new"
+        other.write_text("mine", encoding="ascii")
+        beside.hardlink_to(other)
+        self.path.write_text("".join(self.lines), encoding="ascii")
+        self._is_fault(audit_new(self.path, Kind.PACKAGE), Unsaved("log.hex.state.new has several hard links"))
+        self.assertEqual(other.read_text(encoding="ascii"), "mine")
+        self.assertTrue(beside.samefile(other))
+        beside.unlink()
+        os.mkfifo(beside)
+        self._is_fault(audit_new(self.path, Kind.PACKAGE), Unsaved("log.hex.state.new is no regular file"))
+        beside.unlink()
+        self.assertTrue(audit_new(self.path, Kind.PACKAGE).accepted)
+
+    def test_state_of_another_kind_of_file(self) -> None:
+        """No writer of a state is waited for."""
+        self.path.write_text("".join(self.lines), encoding="ascii")
+        os.mkfifo(self.state)
+        program = f"from weoldrin import audit_new\nprint(audit_new({str(self.path)!r}, 'package').fault)"
+        done = subprocess.run(
+            [sys.executable, "-c", program], capture_output=True, text=True, check=False, timeout=20
+        )
+        self.assertEqual(done.stdout, "spoiled state: it is no regular file\n", done.stderr)
+
+    def test_paths_of_bytes(self) -> None:
+        """A path may be bytes, as the system has it."""
+        self.path.write_text("".join(self.lines), encoding="ascii")
+        for found in (audit(os.fsencode(self.path), "package"), audit_new(os.fsencode(self.path), "package")):
+            self.assertRegex(str(found), f"^{self.path}: ok 6 ")
+        self.assertEqual({it.name for it in self.folder.iterdir()}, {"log.hex", "log.hex.state"})
 
     def test_at_once(self) -> None:
         """Of many audits of one file each record is new to one."""

@@ -58,6 +58,15 @@ def _is_at(path: str, file: int) -> bool:
     return False
 
 
+def _check_own(path: str, file: int) -> None:
+    """Raises `OSError` where the open file of a path is none that was made here: it may be another's by a hard link."""
+    found, name = os.fstat(file), os.path.basename(path)
+    if not stat.S_ISREG(found.st_mode):
+        raise OSError(errno.EINVAL, f"{name} is no regular file")
+    if found.st_nlink > 1:
+        raise OSError(errno.EMLINK, f"{name} has several hard links")
+
+
 @contextlib.contextmanager
 def held_beside(path: str) -> Iterator[int]:
     """The file PATH.new, held by this process alone until the end. Whoever comes meanwhile waits.
@@ -72,6 +81,7 @@ def held_beside(path: str) -> Iterator[int]:
             fcntl.flock(file, fcntl.LOCK_EX)
             # It may have been renamed or removed by whoever held it.
             if _is_at(beside, file):
+                _check_own(beside, file)
                 break
         except BaseException:
             os.close(file)

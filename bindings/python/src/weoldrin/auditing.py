@@ -90,7 +90,7 @@ def fault_of(error: OSError | ValueError | MemoryError) -> Fault:
 
 
 def audit(
-    path: str | os.PathLike[str], kind: Kind | str, verify: Verify | None = None, *, allow_empty: bool = False
+    path: str | bytes | os.PathLike[str], kind: Kind | str, verify: Verify | None = None, *, allow_empty: bool = False
 ) -> Verdict:
     """Audits the log in a file, by the library's verifier or by another one. A log of no records is the fault `Empty`,
     unless that is allowed.
@@ -98,7 +98,7 @@ def audit(
     What is wrong with the file is in the verdict. Raised are `ValueError` where the kind is none, and what `verify`
     raises.
     """
-    named, kind = os.fspath(path), kind_of(kind)
+    named, kind = os.fsdecode(path), kind_of(kind)
     try:
         # The digits of all lines are tested before any record is judged, as `warg_audit` does.
         with open(named, "rb") as lines:
@@ -118,7 +118,7 @@ def audit(
 
 
 def audit_many(
-    paths: Iterable[str | os.PathLike[str]],
+    paths: Iterable[str | bytes | os.PathLike[str]],
     kind: Kind | str,
     verify: Verify | None = None,
     workers: int | None = None,

@@ -82,7 +82,7 @@ class _Digest:
 def _read_at(path: str, kind: Kind) -> _Read:
     """What was kept in a file; nothing where there is no such file."""
     try:
-        with open(path, encoding="ascii") as file:
+        with open(path, encoding="ascii", opener=open_regular) as file:
             read = _Read(**json.load(file))
     except FileNotFoundError:
         return _Read(kind.name, 0, 0, _Digest(b"").sha256(), "", "{}")
@@ -178,7 +178,7 @@ def _audited(path: str, kind: Kind, verify: Verify | None, allows_empty: bool, b
 
 
 def audit_new(
-    path: str | os.PathLike[str], kind: Kind | str, verify: Verify | None = None, *, allow_empty: bool = False
+    path: str | bytes | os.PathLike[str], kind: Kind | str, verify: Verify | None = None, *, allow_empty: bool = False
 ) -> NewRecords:
     """Audits the lines of a log's file that came since it was audited last, and keeps in PATH.state how much of the
     file was read, its digest, and the log's state behind it. Signatures are verified as by `audit`.
@@ -192,7 +192,7 @@ def audit_new(
     Whatever is wrong with the file or its state is in what is given. Raised are `ValueError` where the kind is none,
     and what `verify` raises.
     """
-    named, kind = os.fspath(path), kind_of(kind)
+    named, kind = os.fsdecode(path), kind_of(kind)
     try:
         with contextlib.ExitStack() as held:
             found = _audited(named, kind, verify, allow_empty, _held(named, held))

@@ -156,8 +156,8 @@ def add_command(commands: "argparse._SubParsersAction[argparse.ArgumentParser]")
         "make",
         help="the next record of a log, signed by a key's file",
         description="Prints the line of the record that comes next in a log, signed by a key of ECDSA P-256.",
-        epilog="Status: 0 made, 1 the log refuses it, 2 wrong words, or a key or a log that can't be used, 3 the line could not "
-        "be written.",
+        epilog="Status: 0 made, 1 the log refuses it, 2 wrong words, or a key or a log that can't be used, 3 the line "
+        "could not be written.",
     )
     command.add_argument("kind", choices=["package", "operator"])
     command.add_argument("log", metavar="LOG", help="a file, which may be missing yet; - is standard input")
