@@ -8,6 +8,7 @@ from typing import Any
 from weoldrin import (
     BadArgument,
     Kind,
+    NotOpen,
     OperatorLog,
     PackageLog,
     Question,
@@ -20,6 +21,8 @@ from weoldrin import (
     record_id,
     records,
     verify,
+    verify_consistency,
+    verify_inclusion,
 )
 from weoldrin._library import BAD_ARGUMENT, CALLS
 
@@ -123,8 +126,12 @@ class Sentences(unittest.TestCase):
             ("UnknownPermission: logs of this kind have no such permission", lambda: log.holds("x", "commit")),
             ("Resumed: the log was resumed", lambda: len(resumed)),
             ("Resumed: the log was resumed", lambda: resumed.record(0)),
-            ("BadArgument: .*permission.*resumed", lambda: resumed.chain("x", "release")),
-            ("BadArgument: .*resumed", lambda: resumed.compare(log)),
+            ("Resumed: the log was resumed", lambda: resumed.chain("x", "release")),
+            ("UnknownPermission: logs of this kind have no such permission", lambda: resumed.chain("x", "commit")),
+            ("UnknownPermission: logs of this kind have no such permission", lambda: log.chain("x", "commit")),
+            ("Resumed: the log was resumed", lambda: resumed.compare(log)),
+            ("Resumed: the log was resumed", lambda: log.compare(resumed)),
+            ("WrongKind: ", lambda: log.compare(OperatorLog())),  # type: ignore[arg-type]
             ("BadQuestion: ", lambda: log.append_answered(b"", Question("no colon", b"", "toy:"), True)),
             ("BadText: ", lambda: verify("ecdsa-p256:!", b"", "ecdsa-p256:")),
             ("NotJson", lambda: PackageLog.from_json("{")),
@@ -135,6 +142,22 @@ class Sentences(unittest.TestCase):
                 call()
             self.assertTrue(caught.exception.name)
         self.assertEqual(str(BadArgument()), "BadArgument: an argument is not of its form, or the log has no such call")
+        log.close()
+        self.assertRaisesRegex(NotOpen, "^NotOpen: the log was closed$", log.head)
+
+    def test_numbers(self) -> None:
+        """What is no whole number is told as that, and not as a wrong type of an argument of C."""
+        log, zeros = PackageLog(), f"sha256:{64 * '0'}"
+        calls: list[Callable[[Any], object]] = [
+            log.record,
+            lambda it: verify_inclusion(zeros, zeros, it, 1, zeros, ""),
+            lambda it: verify_consistency(it, zeros, 1, zeros, ""),
+        ]
+        for call in calls:
+            for wrong in others(1.5, 1.0, None):
+                self.assertRaisesRegex(TypeError, "cannot be interpreted as an integer", call, wrong)
+        for wrong in others(None, "log", log.to_json()):
+            self.assertRaisesRegex(TypeError, "a log is wanted, not ", log.compare, wrong)
 
     def test_texts_of_the_library(self) -> None:
         """What the library says of a bad argument is what is told."""

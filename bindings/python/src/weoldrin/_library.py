@@ -16,15 +16,16 @@ Bytes = bytes | bytearray | memoryview
 # The greatest number that a call takes. `ctypes` passes a greater one on without its upper digits.
 GREATEST = 2**64 - 1
 
+_RESUMED = "Resumed: the log was resumed, and its records are elsewhere"
 # What is said of a bad argument where the library says nothing of it.
 _MISUSES = {
     "append": "BadQuestion: the parts are those of no question",
-    "chain": "BadArgument: logs of this kind have no such permission, or the log was resumed and has no records",
-    "compare": "BadArgument: a log of a package and one of operators, or one that was resumed and has no records",
+    "chain": _RESUMED,
+    "compare": _RESUMED,
     "holds": "UnknownPermission: logs of this kind have no such permission",
     "latest": "BadRequirement: the text is no requirement of versions, such as >=1.2, <2",
-    "length": "Resumed: the log was resumed and has no records",
-    "record": "Resumed: the log was resumed and has no records",
+    "length": _RESUMED,
+    "record": _RESUMED,
     "release": "BadVersion: the text is no version, such as 1.2.0",
     "verify": "BadText: the text of the key or of the signature can't be read",
 }

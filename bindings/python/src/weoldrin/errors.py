@@ -21,6 +21,9 @@ class Error(Exception):
 class NotOpen(Error):
     """The log was closed."""
 
+    def __init__(self, text: str = "") -> None:
+        super().__init__(text or "NotOpen: the log was closed")
+
 
 class OutOfMemory(Error, MemoryError):
     """There was no memory. The same call may be made again."""

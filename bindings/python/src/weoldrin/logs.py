@@ -2,6 +2,7 @@
 
 import ctypes
 import enum
+import operator
 import os
 import threading
 from collections.abc import Callable, Iterator
@@ -228,6 +229,7 @@ class Log:
 
     def record(self, place: int) -> Record | None:
         """The record at a place, from 0; none if the log has none there."""
+        place = operator.index(place)
         if place > _library.GREATEST:
             return None
         kept = _library.Kept()
@@ -266,6 +268,9 @@ class Log:
             if status != _library.TOO_SMALL:
                 break
             room = used.value
+        if status == _library.BAD_ARGUMENT:
+            # Where logs of this kind have no such permission, this says so.
+            self.holds(key_id, permission)
         if not checked("chain", status):
             return None
         return [Link(it.record_index, it.entry_index) for it in links[: used.value]]
@@ -277,6 +282,10 @@ class Log:
         if other is self:
             len(self)
             return Comparison(Relation.SAME, 0, 0)
+        if not isinstance(other, Log):
+            raise TypeError(f"a log is wanted, not {type(other).__name__}")
+        if other.KIND is not self.KIND:
+            raise BadArgument("WrongKind: one log is of a package, and one of operators")
         found = _library.Comparison()
         first, second = sorted((self, other), key=id)
         checked("compare", first._alone(lambda: second._alone(CALLS["compare"], self._log, other._log, found)))

@@ -10,6 +10,8 @@ that differ have one hash. No call knows whose root it is, or how long its log i
 map's root, from one signed checkpoint.
 """
 
+import operator
+
 from ._library import BAD_ARGUMENT, CALLS, GREATEST, REFUSED, Buffer, checked, text_bytes
 from .errors import BadArgument
 
@@ -24,7 +26,7 @@ def _holds(name: str, tree: int, *arguments: str | int) -> bool:
         if isinstance(it, str):
             text = text_bytes(it)
             passed += [text, len(text)]
-        elif 0 <= it <= GREATEST:
+        elif 0 <= operator.index(it) <= GREATEST:
             passed.append(it)
         else:
             raise BadArgument(f"OutOfRange: {it} is not from 0 to {GREATEST}")
