@@ -1,5 +1,7 @@
-/* Audits a log whose records are signed by ECDSA P-256: `audit package|operator`, an envelope a line in hex on standard input. Prints `ok`, the number
- * of records and the last one's id, and the latest release; or `refused`, the place of the first record that is refused, and why. */
+/* Audits a log whose records are signed by ECDSA P-256: `audit package|operator`, an envelope a line in hex on standard
+ * input. Prints `ok`, the number of records and the last one's id, and the latest release, with status 0; or, with
+ * status 1, `refused`, the place of the first record that is refused, and why; or `empty`, since a download that failed
+ * leaves no record. */
 #include "appending.h"
 
 #include <string.h>
@@ -36,12 +38,20 @@ int main(int argc, char **argv) {
         place += status == WARG_OK;
     }
     int ended = 1;
-    if (status == WARG_OK)
+    if (status == WARG_OK && !place) {
+        puts("empty");
+    } else if (status == WARG_OK) {
         ended = tell(&log, is_package);
-    else if (status == WARG_NO_ENVELOPE || status == WARG_REFUSED)
-        printf("refused %zu %.*s\n", place, (int)text.len, (const char *)text.at);
-    else
+    } else if (status == WARG_NO_ENVELOPE || status == WARG_REFUSED) {
+        printf("refused %zu ", place);
+        bytes_print_text(&text, stdout);
+        putchar('\n');
+    } else if (status == WARG_UNKNOWN_ALGORITHM) {
+        printf("refused %zu UnknownAlgorithm: the library verifies keys of ecdsa-p256 alone\n", place);
+    } else {
         give_up(status_name(status));
+    }
+    end_output();
     warg_close(&log);
     bytes_free(&envelope);
     bytes_free(&text);

@@ -13,7 +13,10 @@ int main(int argc, char **argv) {
     struct bytes head = {0}, envelope = {0}, text = {0};
     struct signer alice = p256_signer(), bob = p256_signer();
     uint32_t status = warg_open(&log, WARG_PACKAGE);
-    size_t count = strtoul(argv[1], NULL, 10);
+    char *end = argv[1];
+    size_t count = strtoul(argv[1], &end, 10);
+    if (end == argv[1] || *end)
+        give_up("COUNT is no number");
     for (size_t place = 0; status == WARG_OK && place < count; place++) {
         status = head_of(&log, &head);
         if (status == WARG_OK) {
@@ -25,6 +28,7 @@ int main(int argc, char **argv) {
     }
     if (status != WARG_OK)
         give_up(status_name(status));
+    end_output();
     warg_close(&log);
     bytes_free(&head);
     bytes_free(&envelope);

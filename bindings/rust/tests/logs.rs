@@ -114,11 +114,11 @@ fn namespaces() -> Tested {
     Ok(())
 }
 
-/// The answer is that an argument is bad, by this name where the library names it.
+/// The answer is that an argument is bad, by this name and with a sentence.
 fn is_bad<T: std::fmt::Debug>(answer: Result<T, Error>, name: &str) {
     match answer {
         Err(Error::BadArgument(reason)) => {
-            assert!(reason.map_or(true, |it| it.name == name && !it.sentence.is_empty()), "{name}");
+            assert!(reason.map_or(false, |it| it.name == name && !it.sentence.is_empty()), "{name}");
         }
         answer => panic!("{answer:?}"),
     }
