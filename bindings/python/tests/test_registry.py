@@ -152,6 +152,20 @@ class RegistryTest(unittest.TestCase):
         self.assertEqual((asked(url, "GET", "/operator")[1], asked(url, "GET", "/package")[1]), ("registry\n", ""))
         self.assertEqual(asked(url, "POST", "/package/acme:tool", envelope)[0], 400)
 
+    def test_client(self) -> None:
+        """A package of no records is no yes, and what a registry refuses is told in one sentence."""
+        url = self.server.url
+        fetched = client("fetch", url, "a:none")
+        self.assertEqual(fetched.communicate(timeout=60), ("", "client.py: the registry has no records of a:none\n"))
+        self.assertEqual(fetched.returncode, 1)
+        for words, status, said in (
+            (["publish", url, "A", str(self.folder / "key.pem"), "1.0.0"], 1, "404 NotFound: there is no such thing"),
+            (["fetch", "http://127.0.0.1:1", "a:b"], 3, "Connection refused"),
+        ):
+            asking = client(*words)
+            self.assertEqual(asking.communicate(timeout=60), ("", f"client.py: {said}\n"))
+            self.assertEqual(asking.returncode, status)
+
     def test_refusals(self) -> None:
         url, path = self.server.url, "/package/a:b"
         alice, bob, mallory = (p256.SigningKey.generate() for _ in range(3))
@@ -173,7 +187,8 @@ class RegistryTest(unittest.TestCase):
         seen, text = asked(url, "POST", "/package/a:toy", toy.envelope("carol"))
         self.assertEqual((seen, json.loads(text)["error"]), (422, "UnknownAlgorithm"))
         self.assertEqual(asked(url, "GET", "/package/a:toy/head")[0], 404)
-        self.assertEqual(asked(url, "POST", path, None, {"Content-Length": str((1 << 20) + 1)})[0], 413)
+        for length in (str((1 << 20) + 1), 5000 * "9", "", "-1"):
+            self.assertEqual(asked(url, "POST", path, None, {"Content-Length": length})[0], 413, length[:9])
         wrong = ["/", "//[", "/package/a:b/none", "/other", "/package/A", "/package/a:none/head", "/operator/a/latest"]
         for it in wrong:
             self.assertEqual(asked(url, "GET", it)[0], 404, it)

@@ -2,6 +2,8 @@
 
     python3 client.py publish URL PACKAGE KEY VERSION..   publishes releases; KEY is a file, made where there is none
     python3 client.py fetch URL PACKAGE                   prints the package's envelopes, a line each in hex
+
+Status: 0 done, 1 the registry refused something or has no such package, 2 wrong words, 3 a read or a write failed.
 """
 
 import argparse
@@ -14,7 +16,7 @@ import urllib.parse
 from collections.abc import Iterator
 from typing import Self
 
-from weoldrin import Kind, PackageLog, p256, print_lines, printable, records
+from weoldrin import Error, Kind, PackageLog, p256, print_lines, printable, records
 
 
 class RegistryError(Exception):
@@ -23,6 +25,10 @@ class RegistryError(Exception):
     def __init__(self, status: int, name: str, sentence: str) -> None:
         super().__init__(printable(f"{status} {name}: {sentence}"))
         self.status, self.name = status, name
+
+
+class NoPackage(Exception):
+    """The registry has nothing of a package."""
 
 
 class Client:
@@ -117,15 +123,29 @@ def publish(client: Client, package: str, versions: list[str], key: p256.Signing
 
 
 def fetch(client: Client, package: str) -> Iterator[bytes]:
-    """A package's envelopes, checked."""
+    """A package's envelopes, checked. A package of no records is none."""
+    envelopes = client.records(package)
+    if not envelopes:
+        raise NoPackage(f"the registry has no records of {printable(package)}")
     with PackageLog() as log:
-        for envelope in client.records(package):
+        for envelope in envelopes:
             log.append(envelope)
             yield envelope
 
 
+def run(words: argparse.Namespace) -> None:
+    """Runs the words of the command."""
+    with Client(words.url) as client:
+        if words.command == "publish":
+            # All is published, also where nobody reads the places.
+            for place in publish(client, words.package, words.versions, key_in(words.key)):
+                print_lines([str(place)])
+        else:
+            print_lines(it.hex() for it in fetch(client, words.package))
+
+
 def main() -> int:
-    """Runs a command."""
+    """Runs the command, and says in a sentence what it failed of."""
     parser = argparse.ArgumentParser(description=__doc__, formatter_class=argparse.RawDescriptionHelpFormatter)
     commands = parser.add_subparsers(dest="command", required=True)
     for name in ("publish", "fetch"):
@@ -135,14 +155,14 @@ def main() -> int:
     publishing = commands.choices["publish"]
     publishing.add_argument("key", type=pathlib.Path)
     publishing.add_argument("versions", nargs="+", metavar="VERSION")
-    words = parser.parse_args()
-    with Client(words.url) as client:
-        if words.command == "publish":
-            # All is published, also where nobody reads the places.
-            for place in publish(client, words.package, words.versions, key_in(words.key)):
-                print_lines([str(place)])
-        else:
-            print_lines(it.hex() for it in fetch(client, words.package))
+    try:
+        run(parser.parse_args())
+    except (RegistryError, NoPackage, Error) as error:
+        print(f"client.py: {error}", file=sys.stderr)
+        return 1
+    except (OSError, http.client.HTTPException) as error:
+        print(f"client.py: {printable(getattr(error, 'strerror', None) or str(error))}", file=sys.stderr)
+        return 3
     return 0
 
 

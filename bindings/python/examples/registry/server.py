@@ -66,7 +66,7 @@ class Handler(BaseHTTPRequestHandler):
     def do_POST(self) -> None:
         """Publishes a record."""
         length = self.headers.get("Content-Length", "")
-        if not length.isdecimal() or int(length) > GREATEST:
+        if not length.isdecimal() or len(length) > 18 or int(length) > GREATEST:
             # The body is not read, so that the connection can't go on.
             self.close_connection = True
             self._refuse(HTTPStatus.REQUEST_ENTITY_TOO_LARGE, "TooLong", f"an envelope has at most {GREATEST} bytes")
