@@ -74,11 +74,16 @@ def entry_of(kind: Kind, words: str) -> bytes:
     """The entry that words say: `init KEY`, `grant KEY PERMISSION..`, `revoke KEY_ID PERMISSION..`; of a package's log
     `release VERSION CONTENT` and `yank VERSION`; of an operator's `define NAMESPACE` and `import NAMESPACE REGISTRY`.
 
-    A KEY is the text of a key. Of a release's content, which is text, the record has the digest. Raises `NoRecord`.
+    A KEY is the text of a key, and not its id. Of a release's content, which is text, the record has the digest. Raises
+    `NoRecord`, also of a word that is missing or too many: what is released can't be released again.
     """
     verb, subject, rest = _split(words)
-    if verb in ("init", "grant") and ":" not in subject:
+    if verb in ("init", "grant") and (":" not in subject or subject.startswith("sha256:")):
         raise NoRecord("a word is no key's text, as ecdsa-p256:BASE64")
+    if verb in ("grant", "revoke", "release", "import") and not rest:
+        raise NoRecord("a word is missing")
+    if verb in ("init", "yank", "define") and rest:
+        raise NoRecord("there is a word too many")
     try:
         match verb, kind:
             case "init", _:
