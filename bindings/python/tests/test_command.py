@@ -8,7 +8,19 @@ import sys
 import tempfile
 import unittest
 
-from weoldrin import Kind, PackageLog, Refusal, Refused, Verdict, audit, audit_many, p256, processes, records
+from weoldrin import (
+    Kind,
+    PackageLog,
+    Refusal,
+    Refused,
+    Verdict,
+    audit,
+    audit_many,
+    audit_new,
+    p256,
+    processes,
+    records,
+)
 
 from . import published, toy
 
@@ -64,6 +76,27 @@ class Command(unittest.TestCase):
         self.assertEqual(status, 2)
         self.assertEqual(lines[2:], [f"{odd}: bad line 1", f"{blank}: bad line 0"])
         self.assertTrue(lines[0].startswith(missing) and lines[1].startswith(folder))
+
+    def test_causes(self) -> None:
+        """What is no publisher's fault is told: a log of the other kind, a blank line, and a byte order mark."""
+        good = [it.hex() for it in self.envelopes]
+        theirs = [it.envelope.hex() for it in published.operator_log(p256.SigningKey.generate()).records()]
+        logs = {
+            "package": (good, "operator", "it is a record of a package's log: is the kind right?"),
+            "operator": (theirs, "package", "it is a record of an operator log: is the kind right?"),
+            "blank": ([*good[:2], "", *good[2:]], "package", "the line is blank: only the last line of a file may be"),
+        }
+        for name, (lines, kind, cause) in logs.items():
+            path = self._log(name, lines)
+            for found in (audit(path, kind), audit_new(path, kind)):
+                self.assertTrue(str(found).endswith(f"; {cause}"), str(found))
+                self.assertEqual(str(found).count("\n"), 0)
+        path = self._good("mark")
+        pathlib.Path(path).write_bytes(b"\xef\xbb\xbf" + pathlib.Path(path).read_bytes())
+        for found in (audit(path, "package"), audit_new(path, "package")):
+            self.assertEqual(str(found), f"{path}: bad line 0: the file begins with a byte order mark")
+        # A forged record is none of these.
+        self.assertNotIn(";", str(audit(self._log("forged", [good[0][:-8] + "41" + good[0][-6:]]), "package")))
 
     def test_hostile_texts(self) -> None:
         """Each log has one line, whatever stands in its path and in its records."""

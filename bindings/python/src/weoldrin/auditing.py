@@ -1,6 +1,7 @@
 """Audits logs that lie in files: an envelope a line, in hex, as the tool reads them."""
 
 import binascii
+import codecs
 import functools
 import os
 from collections.abc import Iterable, Iterator
@@ -53,7 +54,8 @@ def envelope_of(place: int, line: RecordLine) -> bytes:
     try:
         return binascii.unhexlify(line.digits)
     except ValueError:
-        raise BadLine(place, line.number) from None
+        is_marked = line.number == 1 and line.digits.startswith(codecs.BOM_UTF8)
+        raise BadLine(place, line.number, "the file begins with a byte order mark" if is_marked else "") from None
 
 
 def envelopes_of(lines: Iterable[bytes]) -> Iterator[bytes]:
@@ -78,6 +80,23 @@ def append_all(log: Log, envelopes: Iterable[bytes], verify: Verify | None = Non
             return taken, Refusal(taken, error.name, error.sentence)
         taken += 1
     return taken, None
+
+
+def with_cause(refusal: Refusal, kind: Kind, envelope: bytes) -> Refusal:
+    """The refusal of a record of a file. Where that is likely no fault of a publisher's, its sentence ends with what it
+    is."""
+    cause = ""
+    if not envelope:
+        cause = "the line is blank: only the last line of a file may be"
+    elif refusal.place == 0:
+        other, name = {
+            Kind.PACKAGE: (Kind.OPERATOR, "an operator log"),
+            Kind.OPERATOR: (Kind.PACKAGE, "a package's log"),
+        }[kind]
+        with log_of(other) as log:
+            if append_all(log, [envelope])[1] is None:
+                cause = f"it is a record of {name}: is the kind right?"
+    return refusal._replace(sentence=f"{refusal.sentence}; {cause}") if cause else refusal
 
 
 def fault_of(error: OSError | ValueError | MemoryError) -> Fault:
@@ -112,6 +131,8 @@ def audit(
     try:
         with log_of(kind) as log:
             taken, refusal = append_all(log, envelopes, verify)
+            if refusal is not None:
+                refusal = with_cause(refusal, kind, envelopes[taken])
             return Verdict(named, taken, log.head(), refusal, None)
     except MemoryError as error:
         return Verdict(named, 0, None, None, fault_of(error))

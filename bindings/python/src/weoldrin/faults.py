@@ -39,14 +39,15 @@ class Unreadable(Fault):
 
 class BadLine(Fault, ValueError):
     """A line is no even number of hex digits. `line` is its place among the lines that stand for records, from 0, as
-    `warg_audit` counts them, and `number` that among all lines of the file, from 1."""
+    `warg_audit` counts them, and `number` that among all lines of the file, from 1. `cause` is what is likely the
+    matter, if that is known."""
 
-    def __init__(self, line: int, number: int) -> None:
-        super().__init__(line, number)
-        self.line, self.number = line, number
+    def __init__(self, line: int, number: int, cause: str = "") -> None:
+        super().__init__(line, number, cause)
+        self.line, self.number, self.cause = line, number, cause
 
     def __str__(self) -> str:
-        return f"bad line {self.line}"
+        return f"bad line {self.line}: {self.cause}" if self.cause else f"bad line {self.line}"
 
 
 class Empty(Fault):

@@ -9,7 +9,7 @@ from collections.abc import Iterable
 from typing import NamedTuple
 
 from ._files import RecordLine, held_beside, lines_of, open_regular, record_lines, replace
-from .auditing import Refusal, append_all, envelope_of, fault_of
+from .auditing import Refusal, append_all, envelope_of, fault_of, with_cause
 from .errors import BadArgument
 from .faults import Empty, Fault, RolledBack, Rewritten, SpoiledState, Unfinished, Unsaved
 from .logs import Kind, Log, Verify, class_of, kind_of
@@ -162,7 +162,7 @@ def _audited(path: str, kind: Kind, verify: Verify | None, allows_empty: bool, b
         length, head = read.records + taken, log.head()
         if refusal is not None:
             moved = refusal._replace(place=read.records + refusal.place)
-            return NewRecords(path, taken, length, head, moved, None)
+            return NewRecords(path, taken, length, head, with_cause(moved, kind, envelopes[taken]), None)
         fault: Fault | None = None if length or allows_empty else Empty()
         if not text.endswith(b"\n") and text:
             fault = Unfinished(len(lines) + 1)
