@@ -21,8 +21,9 @@ import sys
 import time
 from collections.abc import Iterator
 from concurrent.futures import Executor, ThreadPoolExecutor
+from typing import NoReturn
 
-from weoldrin import Kind, NewRecords, audit_new, print_lines, processes
+from weoldrin import Kind, NewRecords, audit_new, print_lines, printable, processes
 
 # So many files are one task, so that handing out takes less time than auditing.
 FILES = 100
@@ -68,11 +69,25 @@ def packages_in(folder: pathlib.Path) -> list[str]:
     return sorted({*map(str, folder.glob("*.hex")), *states})
 
 
+def number_of(word: str) -> int:
+    """How many workers a word says: one or more."""
+    if not word.isdecimal() or len(word) > 4 or int(word) == 0:
+        raise argparse.ArgumentTypeError(f"{word!r} is no number of workers")
+    return int(word)
+
+
+class Words(argparse.ArgumentParser):
+    """Of words that can't be used a sentence is printed, whatever stands in them."""
+
+    def error(self, message: str) -> NoReturn:
+        super().error(printable(message))
+
+
 def parsed() -> argparse.Namespace:
     """The words of the command."""
-    parser = argparse.ArgumentParser(description=__doc__, formatter_class=argparse.RawDescriptionHelpFormatter)
+    parser = Words(description=__doc__, formatter_class=argparse.RawDescriptionHelpFormatter)
     parser.add_argument("folder", type=folder_of)
-    parser.add_argument("--workers", type=int, default=os.cpu_count())
+    parser.add_argument("--workers", type=number_of, default=os.cpu_count())
     parser.add_argument("--threads", action="store_true")
     parser.add_argument("--dask", metavar="SCHEDULER")
     parser.add_argument("--allow-empty", action="store_true", help="take packages of no records, and a folder of none")
@@ -97,7 +112,8 @@ def main() -> int:
     except OSError as error:
         print(f"registry_audit.py: standard output could not be written: {error.strerror}", file=sys.stderr)
         return 3
-    print(f"{seconds:.2f} s", file=sys.stderr)
+    if sys.stderr is not None:
+        print(f"{seconds:.2f} s", file=sys.stderr)
     return 1 if refused or not (audited or allowed) else 0
 
 

@@ -120,6 +120,15 @@ class RegistryAudit(unittest.TestCase):
             self.assertNotIn("Traceback", done.stderr)
             self.assertIn(wanted, done.stderr)
 
+    def test_words(self) -> None:
+        for words in (["--workers", "0"], ["--workers", "-1", "--threads"], ["--workers", "many"], ["--\x1b[2J"]):
+            self.assertEqual(self._audited(*words), (2, []))
+        command = " ".join(map(shlex.quote, [sys.executable, str(PROGRAM), str(self.folder), "--threads"]))
+        done = subprocess.run(["bash", "-c", f"{command} 2>&-"], capture_output=True, text=True, check=False)
+        self.assertEqual(done.stdout, "250 of 250 packages accepted, 1375 new records\n")
+        done = subprocess.run([*shlex.split(command), "--\x1b[2J"], capture_output=True, text=True, check=False)
+        self.assertNotIn("\x1b", done.stderr)
+
     @unittest.skipUnless(importlib.util.find_spec("distributed"), "Dask is not installed")
     def test_dask(self) -> None:
         self.assertEqual(self._audited("--dask", "local"), (0, ["250 of 250 packages accepted, 1375 new records"]))
