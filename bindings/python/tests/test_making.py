@@ -204,6 +204,14 @@ class Command(unittest.TestCase):
             self.assertEqual(done.returncode, status, done.stderr)
             self.assertNotIn("Traceback", done.stderr)
 
+    def test_an_endless_key(self) -> None:
+        """No more is read of a key's file than a key may have."""
+        words = ["make", "package", str(self.log), "now", "--key", "/dev/zero"]
+        command = " ".join(map(shlex.quote, [sys.executable, "-m", "weoldrin", *words]))
+        shell = ["bash", "-c", f"ulimit -v 1000000; {command}"]
+        done = subprocess.run(shell, capture_output=True, text=True, check=False, timeout=60)
+        self.assertEqual((done.returncode, done.stdout, done.stderr.count("\n")), (2, "", 1), done.stderr)
+
     def test_closed_streams(self) -> None:
         """A stream that the caller closed is told in one sentence, and no sentence takes the place of a line."""
         self.pem.chmod(0o644)

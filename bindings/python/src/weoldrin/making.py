@@ -25,6 +25,8 @@ if TYPE_CHECKING:
     from .p256 import SigningKey
 
 _NANOS = 1_000_000_000
+# So much is read of a key's file.
+_LONGEST_KEY = 65_536
 # Of more digits than these no number is small enough.
 _SECONDS = re.compile(r"\+?0*([0-9]{1,20})\.\+?0*([0-9]{1,10})")
 _DATE = re.compile(
@@ -124,7 +126,7 @@ def key_of(path: str) -> "SigningKey":
         raise NoRecord("the package cryptography signs, and it is not installed") from None
     try:
         with open(path, "rb") as file:
-            mode, pem = os.fstat(file.fileno()).st_mode, file.read()
+            mode, pem = os.fstat(file.fileno()).st_mode, file.read(_LONGEST_KEY)
         key = SigningKey.from_pem(pem)
     except OSError as error:
         raise NoRecord(f"{path}: {error.strerror}") from None
