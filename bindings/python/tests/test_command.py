@@ -169,6 +169,11 @@ class Command(unittest.TestCase):
         self.assertEqual(run("--version")[0], 0)
         self.assertEqual(run("--help")[0], 0)
         self.assertEqual(run("audit", "pack")[0], 2)
+        # An option is given once, and by its whole name.
+        good = self._good()
+        self.assertEqual(run("audit", "package", good, "--workers", "1")[0], 0)
+        self.assertEqual(run("audit", "package", good, "--work", "1"), (2, []))
+        self.assertEqual(run("audit", "package", good, "--workers", "1", "--workers", "1"), (2, []))
         self.assertEqual(run()[0], 2)
 
     def test_many(self) -> None:

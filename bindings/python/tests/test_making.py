@@ -191,6 +191,8 @@ class Command(unittest.TestCase):
                 status, line, told = self._make("now")
                 self.assertEqual((status, line, told.count("\n")), (2, "", 1))
         self.assertEqual(self._make("now", key=self.folder / "none.pem")[:2], (2, ""))
+        self.pem.write_bytes(self.key.to_pem())
+        self.assertEqual(self._make("now", f"init {self.key.public_key}", "--key", str(self.pem))[:2], (2, ""))
         self.assertEqual(self._make("now", key=pathlib.Path(folder))[:2], (2, ""))
 
     def test_output(self) -> None:

@@ -3,17 +3,10 @@
 import argparse
 import os
 import sys
-from typing import NoReturn
 
-from . import Empty, Verdict, audit_many, library_version, making, print_lines, printable, processes
+from . import Empty, Verdict, audit_many, library_version, making, print_lines, processes
+from ._words import Once, Words
 from .printing import tell
-
-
-class Words(argparse.ArgumentParser):
-    """Of words that can't be used a sentence is printed, whatever stands in them."""
-
-    def error(self, message: str) -> NoReturn:
-        super().error(printable(message))
 
 
 def _parser() -> argparse.ArgumentParser:
@@ -33,7 +26,7 @@ def _parser() -> argparse.ArgumentParser:
     command.add_argument("kind", choices=["package", "operator"])
     command.add_argument("logs", nargs="+", metavar="LOG")
     command.add_argument("--allow-empty", action="store_true", help="take a log of no records")
-    command.add_argument("--workers", type=int, default=os.cpu_count(), help="how many processes read the logs")
+    command.add_argument("--workers", type=int, action=Once, help="how many processes read the logs")
     making.add_command(commands)
     return parser
 
@@ -50,7 +43,7 @@ def main(words: list[str] | None = None) -> int:
     asked = _parser().parse_args(words)
     if asked.command == "make":
         return making.run(asked)
-    workers, allowed = max(1, min(asked.workers or 1, len(asked.logs))), asked.allow_empty
+    workers, allowed = max(1, min(asked.workers or os.cpu_count() or 1, len(asked.logs))), asked.allow_empty
     if workers == 1:
         verdicts = audit_many(asked.logs, asked.kind, workers=1, allow_empty=allowed)
     else:

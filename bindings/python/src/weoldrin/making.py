@@ -16,6 +16,7 @@ from collections.abc import Iterable
 from typing import TYPE_CHECKING
 
 from . import records
+from ._words import Once
 from .auditing import append_all, envelopes_of
 from .errors import Error, Refused
 from .logs import Kind, Log, log_of
@@ -170,7 +171,7 @@ def add_command(commands: "argparse._SubParsersAction[argparse.ArgumentParser]")
     command.add_argument("log", metavar="LOG", help="a file, which may be missing yet; - is standard input")
     command.add_argument("time", metavar="TIME", help="now, as 2026-11-28T14:00:00Z, or seconds as 1700000000.0")
     command.add_argument("entries", nargs="*", metavar="ENTRY", help="an entry in one word, as 'yank 1.0.0'")
-    command.add_argument("--key", required=True, metavar="FILE", help="the private key, as PEM")
+    command.add_argument("--key", action=Once, required=True, metavar="FILE", help="the private key, as PEM")
 
 
 def _warn(sentence: str) -> None:
