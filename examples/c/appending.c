@@ -1,6 +1,7 @@
 #include "appending.h"
 
 #include <stdlib.h>
+#include <string.h>
 
 /* Makes room for so many bytes, all of them initialised. */
 static void reserve(struct bytes *bytes, size_t room) {
@@ -49,6 +50,18 @@ uint32_t head_of(struct warg_log *log, struct bytes *text) {
     reserve(text, 128);
     uint32_t status = warg_head(log, text->at, text->room, &text->len);
     return status == WARG_NONE ? WARG_OK : status;
+}
+
+uint32_t latest_of(struct warg_log *log, const char *requirement, struct bytes *text, struct warg_release *release) {
+    const uint8_t *at = (const uint8_t *)requirement;
+    size_t len = strlen(requirement);
+    reserve(text, 1024);
+    uint32_t status = warg_latest(log, at, len, text->at, text->room, &text->len, release);
+    if (status == WARG_TOO_SMALL) {
+        reserve(text, text->len);
+        status = warg_latest(log, at, len, text->at, text->room, &text->len, release);
+    }
+    return status;
 }
 
 const char *status_name(uint32_t status) {

@@ -21,6 +21,9 @@ uint32_t append_by(struct warg_log *log, const struct bytes *envelope, verify_qu
 /* The text of the id of the last record, of no bytes before any. */
 uint32_t head_of(struct warg_log *log, struct bytes *text);
 
+/* The release that `warg_latest` finds for a requirement, with room for its texts, whatever their length. */
+uint32_t latest_of(struct warg_log *log, const char *requirement, struct bytes *text, struct warg_release *release);
+
 /* The name of a status. */
 const char *status_name(uint32_t status);
 

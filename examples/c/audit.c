@@ -7,10 +7,9 @@
 #include <string.h>
 
 static int tell(struct warg_log *log, bool is_package) {
-    struct bytes head = {0};
-    size_t length = 0, used = 0;
+    struct bytes head = {0}, text = {0};
+    size_t length = 0;
     struct warg_release release = {0};
-    uint8_t text[4096] = {0};
     uint32_t status = head_of(log, &head);
     if (status == WARG_OK)
         status = warg_length(log, &length);
@@ -18,8 +17,12 @@ static int tell(struct warg_log *log, bool is_package) {
         give_up(status_name(status));
     printf("ok %zu %.*s\n", length, head.len ? (int)head.len : 4, head.len ? (const char *)head.at : "none");
     bytes_free(&head);
-    if (is_package && warg_latest(log, (const uint8_t *)"*", 1, text, sizeof text, &used, &release) == WARG_OK)
-        printf("latest %.*s\n", (int)release.version_len, (const char *)text);
+    status = is_package ? latest_of(log, "*", &text, &release) : WARG_NONE;
+    if (status == WARG_OK)
+        printf("latest %.*s\n", (int)release.version_len, (const char *)text.at);
+    else if (status != WARG_NONE)
+        give_up(status_name(status));
+    bytes_free(&text);
     return 0;
 }
 
