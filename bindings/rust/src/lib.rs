@@ -81,7 +81,7 @@ pub fn verify(key: &str, message: &[u8], signature: &str) -> Result<bool, Error>
     match status {
         raw::OK => Ok(true),
         raw::REFUSED => Ok(false),
-        status => Err(Error::of(status, &[])),
+        status => Err(Error::of(status, b"BadText: the text of the key or of the signature can't be read")),
     }
 }
 

@@ -65,6 +65,9 @@ pub enum Comparison {
     },
 }
 
+// What is said where a call that writes no text finds an argument bad: a kind and a permission are of their type, so it is the log.
+const RESUMED: &[u8] = b"Resumed: the log was resumed, and its records are elsewhere";
+
 impl<K: Kind> Log<K> {
     /// A log of no records. The error is [`Error::OutOfMemory`].
     pub fn new() -> Result<Self, Error> {
@@ -218,7 +221,7 @@ impl<K: Kind> Log<K> {
                 }
                 raw::TOO_SMALL => links.resize(used, raw::Link::default()),
                 raw::NONE => return Ok(None),
-                status => return Err(Error::of(status, &[])),
+                status => return Err(Error::of(status, RESUMED)),
             }
         }
     }
@@ -286,7 +289,7 @@ impl<K: Kind> Log<K> {
         match call(self.raw.get()) {
             raw::OK => Ok(true),
             raw::NONE => Ok(false),
-            status => Err(Error::of(status, &[])),
+            status => Err(Error::of(status, RESUMED)),
         }
     }
 }

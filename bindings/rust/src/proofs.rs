@@ -92,7 +92,10 @@ fn said(status: u32, tree: u32, proof: &str) -> Result<bool, Error> {
     match status {
         raw::OK => Ok(true),
         raw::REFUSED => Ok(false),
-        raw::BAD_ARGUMENT => Err(Error::BadArgument(fault_of(tree, proof)?)),
+        raw::BAD_ARGUMENT => Err(match fault_of(tree, proof)? {
+            Some(fault) => Error::BadArgument(Some(fault)),
+            None => Error::of(status, b"BadText: a root or an id is not the text of one"),
+        }),
         status => Err(Error::of(status, &[])),
     }
 }

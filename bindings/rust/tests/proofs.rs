@@ -39,10 +39,10 @@ fn changed(proof: &str) -> String {
     format!("{start}{}{}", if end.starts_with('A') { 'B' } else { 'A' }, &end[1..])
 }
 
-/// The call refuses texts that are neither a hash nor a proof, and names no fault.
+/// The call refuses texts that are no hash, by the name of that fault.
 fn refuses_texts(call: impl Fn(&str) -> Result<bool, Error>) {
     for wrong in ["sha256", "sha256:00", "!", "A", "\0", "é"] {
-        assert_eq!(call(wrong), Err(Error::BadArgument(None)), "{wrong:?}");
+        assert_eq!(fault_of(call(wrong)), "BadText", "{wrong:?}");
     }
 }
 

@@ -48,18 +48,26 @@ fn signatures_by_their_texts() -> Tested {
     Ok(())
 }
 
+// The texts are told as ones that can't be read.
+fn is_bad_text(answer: Result<bool, Error>, text: &str) {
+    match answer {
+        Err(Error::BadArgument(Some(reason))) => assert!(reason.name == "BadText" && !reason.sentence.is_empty(), "{text}"),
+        answer => panic!("{answer:?} of {text}"),
+    }
+}
+
 #[test]
 fn texts_that_cannot_be_read() {
     for digits in ["!", "AAA", " AAAA", "AAAA\n", "AAAA=", "AAAA====", "AAAA\0", "\u{661}\u{662}\u{663}\u{664}", "\u{1f511}"]
     {
         let text = format!("ecdsa-p256:{digits}");
-        assert_eq!(verify(KEY, b"sample", &text), Err(Error::BadArgument(None)), "{text}");
-        assert_eq!(verify(&text, b"sample", SIGNATURE), Err(Error::BadArgument(None)), "{text}");
+        is_bad_text(verify(KEY, b"sample", &text), &text);
+        is_bad_text(verify(&text, b"sample", SIGNATURE), &text);
         assert!(!p256::verify(&Question::new(&text, b"sample", SIGNATURE)), "{text}");
     }
     for text in ["", "ecdsa-p256", ":AAAA"] {
-        assert_eq!(verify(KEY, b"sample", text), Err(Error::BadArgument(None)), "{text}");
-        assert_eq!(verify(text, b"sample", SIGNATURE), Err(Error::BadArgument(None)), "{text}");
+        is_bad_text(verify(KEY, b"sample", text), text);
+        is_bad_text(verify(text, b"sample", SIGNATURE), text);
     }
 }
 
