@@ -41,7 +41,7 @@ pub(crate) fn words_from<'w, 'a>(words: &'w [&'a str], start: usize) -> &'w [&'a
 }
 
 // How many words stand before those of a command.
-fn named_by(command: Command) -> usize
+pub(crate) fn named_by(command: Command) -> usize
     ensures { result ≡ named_by command }
 {
     match command {

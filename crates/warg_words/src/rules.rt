@@ -245,4 +245,21 @@ impl<'a> Parts<'a> {
             && (self.has_options_of(command)
                 && (self.reads_once(command) && (self.is_one_log() || !self.has_demand())))
     }
+
+    /// Why a command does not take these places with these options, where it would take each of them.
+    pub(crate) fn clash(&self, command: Command) -> Option<&'static str> {
+        if self.has("--toy") && self.has("--verified") {
+            Some("--toy and --verified can't stand together")
+        } else if !is_number(self.value("--at-least")) {
+            Some("--at-least takes decimal digits, a number below 2^64")
+        } else if is_make(command) && self.signer().is_none() {
+            Some("make takes --key toy:NAME or --key-text TEXT, and one of them alone")
+        } else if !self.reads_once(command) {
+            Some("standard input, which is -, can be read once alone")
+        } else if self.has_demand() && !self.is_one_log() {
+            Some("--expect-head, --at-least and --goes-on-from are of one log alone")
+        } else {
+            None
+        }
+    }
 }

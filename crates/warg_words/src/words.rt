@@ -5,8 +5,9 @@ ghost use Rattle.warg_words.specs.Invocations.{IsSaid};
 ghost use Rattle.warg_words.specs.Requests.{texts};
 
 use crate::command::{Command as Called, is_group};
-use crate::invocation::{invocation_of, word};
+use crate::invocation::{invocation_of, named_by, word, words_from};
 use crate::log_commands::LOG_COMMANDS;
+use crate::parts::Parts;
 use crate::pleas::{asks_for_text, is_help, is_version};
 use crate::proof_commands::{PROVE, VERIFY};
 use crate::request::Said;
@@ -15,6 +16,7 @@ use crate::version::VERSION;
 use clap::Command;
 use clap::error::ErrorKind;
 use std::alloc::{AllocError, Global};
+use warg_printable::printed;
 
 const ABOUT: &str = "Checks the logs of a package registry, and answers from them";
 
@@ -25,11 +27,8 @@ Options may stand anywhere behind the command; -- ends them.
 Status: 0 yes, 1 a negative answer, whose text is on standard output, 2 wrong
 words or unreadable input, 3 a failed read or write, out of memory, or busy.";
 
-// What is said of words that are none of the table's, where clap would take them.
-const CLASH: &str = "error: these words can't stand together
-
-For more information, try '--help'.
-";
+// What is said of words of which no more is known.
+const CLASH: &str = "these words can't stand together";
 
 // The program's command line, for the texts of its help and of faults.
 fn program<'a>(alloc: Global) -> Result<Command<'a>, AllocError> {
@@ -99,11 +98,44 @@ fn text(alloc: Global, words: &[&str]) -> Result<String, AllocError> {
     }
 }
 
-// What is wrong with words: what clap says, or, where it would take them, that they are none.
+// Why words are none of the table's, where clap would take them.
+fn clash(alloc: Global, words: &[&str]) -> Result<&'static str, AllocError> {
+    let Some(called) = Called::of(word(words, 1), word(words, 2)) else {
+        return Ok(CLASH);
+    };
+    match Parts::of(alloc, called, words_from(words, named_by(called)))? {
+        Some(parts) => Ok(parts.clash(called).unwrap_or(CLASH)),
+        None => Ok(CLASH),
+    }
+}
+
+// The words as they are printed, so that no sentence on them is taken for lines of its own, or for a word to the terminal.
+fn printed_words(alloc: Global, words: &[&str]) -> Result<Vec<String>, AllocError> {
+    let mut shown = Vec::new(alloc);
+    for word in words {
+        shown.push(printed(alloc, word)?)?;
+    }
+    Ok(shown)
+}
+
+// What clap says of words as they are printed.
+fn told_of_printed(alloc: Global, shown: &[String]) -> Result<Option<(String, bool)>, AllocError> {
+    let mut texts = Vec::new(alloc);
+    for word in shown {
+        texts.push(word.as_str())?;
+    }
+    told(alloc, texts.as_slice())
+}
+
+// What is wrong with words: what clap says, or, where it would take them, why they are none.
 fn fault(alloc: Global, words: &[&str]) -> Result<String, AllocError> {
-    match told(alloc, words)? {
+    let shown = printed_words(alloc, words)?;
+    match told_of_printed(alloc, shown.as_slice())? {
         Some((text, true)) => Ok(text),
-        _ => String::from_str(alloc, CLASH),
+        _ => {
+            let why = clash(alloc, words)?;
+            format!(in alloc; "error: {why}\n\nFor more information, try '--help'.\n")
+        }
     }
 }
 
