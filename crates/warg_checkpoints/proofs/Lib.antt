@@ -1,2 +1,3 @@
 pub mod RegistryLemmas
+pub mod WordLemmas
 pub mod ProofTextLemmas

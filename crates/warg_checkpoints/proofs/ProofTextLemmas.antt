@@ -1,17 +1,14 @@
 -- What words ask of a registry, and what its log and map answer.
-use Rattle.std.proofs.Common.{◌≡◌, ◌⊎◌, ◌↔◌, inl, inr, ℕ, nat_le, nat_lt, Bool, false, if◌then◌else◌, List, length, map, refl, sym, ap, subst, ◌∙◌, Option, Some, None, IfSome, IsSome, Result, Ok, Err, IfErr, IfOk}
-use Rattle.std.specs.Prelude.{◌<◌, ◌≤◌, ◌^◌}
-use Rattle.std.specs.Str.Parse.{IsNumeral, digits_value, without_leading_plus}
+use Rattle.std.proofs.Common.{◌≡◌, ◌⊎◌, ◌↔◌, inl, inr, ℕ, nat_le, nat_lt, Bool, false, if◌then◌else◌, List, length, map, refl, sym, ap, subst, ◌∙◌, Option, Some, None, IfSome, IsSome, Result, Ok, Err, IfOk}
+use Rattle.std.specs.Prelude.{◌<◌, ◌≤◌}
 use Rattle.std.proofs.lemmas.Bool.{cases_lt, cond-false, cond-true, cond_above, cond_below, false≢true, le-leb, lt-leb}
 use Rattle.std.proofs.lemmas.List.{length-map}
 use Rattle.serde_json.specs.Data.{Data}
 use Rattle.serde_json.specs.Written.{compact_text, has_float}
 use Rattle.sha2.specs.Sha256.{sha256}
-use Rattle.warg_crypto.specs.declared.hash.AnyHashError.{AnyHashError}
 use Rattle.warg_json.specs.declared.error.JsonError.TheVariants.{OutOfMemory}
 use Rattle.warg_json.specs.declared.error.JsonError.{JsonError}
 use Rattle.warg_saved.specs.Texts.{text_of}
-use Rattle.warg_registry.specs.LogIds.{id_of_text as log_id_of_text}
 use Rattle.warg_sparse_map.specs.Maps.{map_root}
 use Rattle.warg_merkle.specs.Extensions.{consistency_proof}
 use Rattle.warg_merkle.specs.Trees.{Side, inclusion_path, leaf_input, tree_hash}
@@ -19,57 +16,14 @@ use Rattle.warg_files.specs.Printouts.{Printout}
 use Rattle.warg_registry.specs.RegistryJson.{checkpoint_json}
 use Rattle.warg_registry.specs.declared.checkpoint.Checkpoint.{Checkpoint}
 use Rattle.warg_registry.specs.declared.leaf.LogLeaf.{LogLeaf}
-use Rattle.warg_registry.specs.declared.log_id.LogId.{LogId}
-use Rattle.warg_files.specs.Answers.{Answers, IfStopped, IsUnusable}
-use Rattle.warg_checkpoints.specs.ProofTexts.{IsByLeaves, IsByWords, IsConsistencyText, IsInclusionText, IsLogWord, IsNumber, IsUnsaid, LogProofReadsBack, ShowsBeginning, ShowsEntry, consistency_of, inclusion_of, by_value, no_leaf, unsaid}
+use Rattle.warg_files.specs.Answers.{IfStopped, IsUnusable}
+use Rattle.warg_checkpoints.specs.ProofTexts.{IsByLeaves, IsConsistencyText, IsInclusionText, LogProofReadsBack, ShowsBeginning, ShowsEntry, consistency_of, inclusion_of, no_leaf}
 use Rattle.warg_checkpoints.specs.Proofs.{log_proof_line}
 use Rattle.warg_checkpoints.specs.RegistryLeaves.{HasNoLeaf, IsCheckpointOf, IsRegistryOf, entries_of}
-use Rattle.warg_files.specs.declared.answer.Answer.{Answer}
 use Rattle.warg_files.specs.declared.stop.Stop.{Stop}
-use Rattle.warg_files.specs.declared.stop.Stop.TheVariants as stop
-use Rattle.warg_files.proofs.AnswerLemmas.{Answers-to, IfStopped-to}
+use Rattle.warg_files.proofs.AnswerLemmas.{IfStopped-to}
 
--- ---- words
-
-unsaid_end : {A : Type 0} (Says : A → Type 0) (Q : Type 0) (end : Stop) → IfStopped IsUnusable end → IfStopped (λ printed. Q) end
-    → (Q → (value : A) → Says value → ⊥) → IfStopped (IsUnsaid Says) end
-unsaid_end Says Q (stop.Answer answer) u q f = record { nothing = f q; unusable = u }
-unsaid_end Says Q stop.OutOfMemory u q f = tt
-
--- a word that is refused for Q, so that it says nothing
-pub unsaid_word : {T A : Type 0} (Says : A → Type 0) (Q : Type 0) (result : Result T Stop) → IfErr result (IfStopped IsUnusable)
-    → IfErr result (IfStopped (λ printed. Q)) → (Q → (value : A) → Says value → ⊥) → IfErr result (IfStopped (IsUnsaid Says))
-unsaid_word Says Q (Ok value) u q f = tt
-unsaid_word Says Q (Err end) u q f = unsaid_end Says Q end u q f
-
--- words that say nothing, by a word that says nothing
-pub unsaid_to : {A B : Type 0} (Says : A → Type 0) (Tells : B → Type 0) (end : Stop) → IfStopped (IsUnsaid Says) end
-    → ((it : B) → Tells it → (value : A) × Says value) → IfStopped (IsUnsaid Tells) end
-unsaid_to Says Tells end h f =
-    IfStopped-to (IsUnsaid Says) (IsUnsaid Tells)
-    (λ printed is. record { nothing = λ it tells. is.nothing (f it tells).0 (f it tells).1; unusable = is.unusable }) end h
-
-pub number_said : (word : List ℕ) (n : ℕ)
-    → ((IsNumeral 10 (without_leading_plus word) × (digits_value 10 (without_leading_plus word) < 2 ^ 64)) × (n ≡ digits_value 10 (without_leading_plus word)))
-    → IsNumber word n
-number_said word n it = record { said = (it.0.0, it.1); fits = subst (λ (m : ℕ). m < 2 ^ 64) (sym it.1) it.0.1 }
-
-pub no_number : (word : List ℕ)
-    → ((IsNumeral 10 (without_leading_plus word) × (digits_value 10 (without_leading_plus word) < 2 ^ 64)) → ⊥)
-    → (n : ℕ) → IsNumber word n → ⊥
-no_number word never n it = never (it.said.0, subst (λ (m : ℕ). m < 2 ^ 64) it.said.1 it.fits)
-
-pub no_log : (word : List ℕ) (fault : AnyHashError) → Err fault ≡ log_id_of_text word → (log_id : LogId) → IsLogWord word log_id → ⊥
-no_log word fault e log_id is = let both : Err fault ≡ Ok log_id = e ∙ is in cc
-
--- ---- answers by words and leaves
-
-module _ {A : Type 0} (Says : A → Type 0) (P : A → Printout → Type 0) where
-  pub words_said : (value : A) (result : Result Answer Stop) → Says value → Answers (P value) result → Answers (IsByWords Says P) result
-  words_said value result says h = Answers-to (P value) (IsByWords Says P) (λ printed is. by_value value says is) result h
-
-  pub words_unsaid : (end : Stop) → IfStopped (IsUnsaid Says) end → IfStopped (IsByWords Says P) end
-  words_unsaid end h = IfStopped-to (IsUnsaid Says) (IsByWords Says P) (λ printed is. unsaid is) end h
+-- ---- leaves
 
 pub leaves_unread : (P : List LogLeaf → Printout → Type 0) (lines : List (List ℕ)) (end : Stop)
     → IfStopped (λ printed. HasNoLeaf lines × IsUnusable printed) end → IfStopped (IsByLeaves P lines) end

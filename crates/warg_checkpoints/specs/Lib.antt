@@ -1,3 +1,4 @@
+pub mod Words
 pub mod Proofs
 pub mod RegistryLeaves
 pub mod ProofTexts

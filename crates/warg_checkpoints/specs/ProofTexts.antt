@@ -1,9 +1,8 @@
 -- What is printed of a registry's log and map, by the leaves that a file lists.
-use Rattle.std.specs.Prelude.{◌≡◌, ◌<◌, ◌^◌, ℕ, nat_le, nat_lt, List, [], codes, length, take, slice_index_or, Option, Some, None, IfSome, Result, Ok, Err, if◌then◌else◌}
+use Rattle.std.specs.Prelude.{◌≡◌, ℕ, nat_le, nat_lt, List, [], codes, length, take, slice_index_or, Option, Some, None, IfSome, Result, Ok, Err, if◌then◌else◌}
 use Rattle.sha2.specs.Sha256.{sha256}
 use Rattle.warg_json.specs.declared.error.JsonError.{JsonError}
 use Rattle.warg_saved.specs.Texts.{text_of}
-use Rattle.warg_registry.specs.LogIds.{id_of_text as log_id_of_text}
 use Rattle.warg_sparse_map.specs.Maps.{Leads, map_path, map_root}
 use Rattle.warg_transparency.specs.MapTree.{way_of}
 use Rattle.warg_merkle.specs.Extensions.{IsConsistent, consistency_proof}
@@ -15,7 +14,8 @@ use Rattle.warg_registry.specs.declared.checkpoint.Checkpoint.{Checkpoint}
 use Rattle.warg_registry.specs.declared.leaf.LogLeaf.{LogLeaf}
 use Rattle.warg_registry.specs.declared.log_id.LogId.{LogId}
 use Rattle.warg_files.specs.Files.{Files}
-use Rattle.warg_checkpoints.specs.Proofs.{IsNumberWord, log_proof_line, map_proof_line}
+use Rattle.warg_checkpoints.specs.Proofs.{log_proof_line, map_proof_line}
+use Rattle.warg_checkpoints.specs.Words.{IsByWords, IsLogWord, IsNumber}
 use Rattle.warg_checkpoints.specs.RegistryLeaves.{HasHeads, HasNoLeaf, IsCheckpointOf, SayLeaves, entries_of}
 use Rattle.warg_files.specs.Texts.{line, no, yes}
 use Rattle.warg_files.specs.Unusable.{IsOfLines}
@@ -26,15 +26,6 @@ use Rattle.warg_words.specs.declared.statement.Wanted.{Wanted}
 use Rattle.warg_words.specs.declared.statement.Wanted.TheVariants as wanted
 
 -- ---- what words ask for
-
--- the number of 64 bits that a word says in decimal digits; a plus may stand first
-pub record IsNumber (word : List ℕ) (n : ℕ) : Type 0 where
-  pub said : IsNumberWord word n
-  pub fits : n < 2 ^ 64
-
--- the word is the id of the log
-abbrev pub IsLogWord : List ℕ → LogId → Type 0
-IsLogWord word log_id = log_id_of_text word ≡ Ok log_id
 
 -- the proof of the place that a word says is asked
 abbrev pub AsksInclusion : List ℕ → Asked → Type 0
@@ -54,16 +45,6 @@ Asks wanted.Checkpoint it = it ≡ asked.Checkpoint
 Asks (wanted.Inclusion place) it = AsksInclusion place.now it
 Asks (wanted.Consistency older) it = AsksConsistency older.now it
 Asks (wanted.Head log_id) it = AsksHead log_id.now it
-
--- the words say nothing, so nothing is printed, and the status is 2
-pub record IsUnsaid {A : Type 0} (Says : A → Type 0) (printed : Printout) : Type 0 where
-  pub nothing : (value : A) → Says value → ⊥
-  pub unusable : IsUnusable printed
-
--- the answer by what words say, if they say something
-pub data IsByWords {A : Type 0} (Says : A → Type 0) (P : A → Printout → Type 0) (printed : Printout) : Type 0 where
-  unsaid : IsUnsaid Says printed → IsByWords Says P printed
-  by_value : (value : A) → Says value → P value printed → IsByWords Says P printed
 
 -- the answer by the leaves that lines say; where a line says none, nothing is printed, and the status is 2
 pub data IsByLeaves (P : List LogLeaf → Printout → Type 0) (lines : List (List ℕ)) (printed : Printout) : Type 0 where

@@ -1,12 +1,9 @@
 -- What is said of statements about a registry's log and map, and the proofs that are printed.
-use Rattle.std.specs.Prelude.{◌≡◌, ◌⊎◌, Bool, List, ℕ, codes, Option, Some, None, Ok, if◌then◌else◌}
+use Rattle.std.specs.Prelude.{◌≡◌, ◌⊎◌, Bool, List, ℕ, codes, Option, Some, None, Ok, IsUtf8, if◌then◌else◌}
 use Rattle.std.specs.Str.{trim_end}
-use Rattle.std.specs.Str.Parse.{IsNumeral, digits_value, without_leading_plus}
 use Rattle.sha2.specs.Sha256.{sha256}
 use Rattle.serde_json.specs.Data.{Data}
 use Rattle.serde_json.specs.Read.{read}
-use Rattle.warg_records.specs.RecordIds.{id_of_text as record_id_of_text}
-use Rattle.warg_registry.specs.LogIds.{id_of_text as log_id_of_text}
 use Rattle.warg_sparse_map.specs.Maps.{Leads}
 use Rattle.warg_merkle.specs.Trees.{Includes}
 use Rattle.warg_registry.specs.PrefixEncodings.{log_leaf_encoding_of}
@@ -16,10 +13,10 @@ use Rattle.warg_transparency.specs.Views.{GoesOn}
 use Rattle.warg_registry.specs.RegistryJson.{checkpoint_in}
 use Rattle.warg_registry.specs.declared.checkpoint.Checkpoint.{Checkpoint}
 use Rattle.warg_registry.specs.declared.leaf.LogLeaf.{LogLeaf}
-use Rattle.warg_registry.specs.declared.log_id.LogId.{LogId}
 use Rattle.warg_files.specs.Printouts.{Printout}
-use Rattle.warg_files.specs.Files.{Files, Reads}
+use Rattle.warg_files.specs.Files.{Files}
 use Rattle.warg_files.specs.Texts.{line, yes, no}
+use Rattle.warg_checkpoints.specs.Words.{IsByFile, IsByWords, IsLogWord, IsNumber, IsRecordWord}
 use Rattle.warg_words.specs.declared.statement.Statement.{Statement}
 use Rattle.warg_words.specs.declared.statement.Statement.TheVariants as statement
 
@@ -42,75 +39,61 @@ map_proof_line path = yes (line (map_proof_text path))
 
 -- ---- what words and files say
 
--- the number that a word says in decimal digits; a plus may stand first
-abbrev pub IsNumberWord : List ℕ → ℕ → Type 0
-IsNumberWord word n = IsNumeral 10 (without_leading_plus word) × (n ≡ digits_value 10 (without_leading_plus word))
-
 -- the leaf that the ids of a log and of a record say
 pub record IsLeafOf (log_id record_id : List ℕ) (leaf : LogLeaf) : Type 0 where
-  pub log_is : log_id_of_text log_id ≡ Ok leaf.log_id
-  pub record_is : record_id_of_text record_id ≡ Ok leaf.record_id
+  pub log_is : IsLogWord log_id leaf.log_id
+  pub record_is : IsRecordWord record_id leaf.record_id
+
+-- the checkpoint whose JSON bytes are, which are a text
+pub record IsCheckpoint (bytes : List ℕ) (checkpoint : Checkpoint) : Type 0 where
+  pub utf8 : IsUtf8 bytes
+  pub value : Data
+  pub json : read bytes ≡ Some value
+  pub said : checkpoint_in value ≡ Ok checkpoint
+
+-- the proof on a log that bytes are, which are its text, with blanks behind it or none
+pub record IsLogProof (bytes : List ℕ) (hashes : List (List ℕ)) : Type 0 where
+  pub utf8 : IsUtf8 bytes
+  pub said : log_proof_of (trim_end bytes) ≡ Ok hashes
+
+-- the same of a proof on a map
+pub record IsMapProof (bytes : List ℕ) (siblings : List (List ℕ)) : Type 0 where
+  pub utf8 : IsUtf8 bytes
+  pub said : map_proof_of (trim_end bytes) ≡ Ok siblings
 
 module _ (files : Option Files) where
-  -- the checkpoint whose JSON the file of a path holds
-  pub record IsCheckpointIn (path : List ℕ) (checkpoint : Checkpoint) : Type 0 where
-    pub bytes : List ℕ
-    pub held : Reads files path bytes
-    pub value : Data
-    pub json : read bytes ≡ Some value
-    pub said : checkpoint_in value ≡ Ok checkpoint
+  -- ---- what is said of each statement, by its words and its files, in the order in which they are read
 
-  -- the proof whose text the file of a path holds, without the blanks at its end
-  pub record IsLogProofIn (path : List ℕ) (hashes : List (List ℕ)) : Type 0 where
-    pub bytes : List ℕ
-    pub held : Reads files path bytes
-    pub said : log_proof_of (trim_end bytes) ≡ Ok hashes
+  abbrev pub IsInclusionVerdict : List ℕ → List ℕ → List ℕ → List ℕ → List ℕ → Printout → Type 0
+  IsInclusionVerdict checkpoint_path place log_id record_id proof_path printed =
+      IsByWords (IsLeafOf log_id record_id) (λ leaf.
+      IsByWords (IsNumber place) (λ index.
+      IsByFile files checkpoint_path IsCheckpoint (λ checkpoint.
+      IsByFile files proof_path IsLogProof (λ hashes.
+      IsVerdict (Includes sha256 (log_leaf_encoding_of leaf) index checkpoint.log_length hashes checkpoint.log_root.bytes))))) printed
 
-  pub record IsMapProofIn (path : List ℕ) (siblings : List (List ℕ)) : Type 0 where
-    pub bytes : List ℕ
-    pub held : Reads files path bytes
-    pub said : map_proof_of (trim_end bytes) ≡ Ok siblings
+  abbrev pub IsConsistencyVerdict : List ℕ → List ℕ → List ℕ → Printout → Type 0
+  IsConsistencyVerdict old_path new_path proof_path printed =
+      IsByFile files old_path IsCheckpoint (λ old.
+      IsByFile files new_path IsCheckpoint (λ new.
+      IsByFile files proof_path IsLogProof (λ hashes.
+      IsVerdict (GoesOn old new hashes)))) printed
 
-  -- ---- what is said of each statement, by its words and its files
+  abbrev pub IsHeadVerdict : List ℕ → List ℕ → List ℕ → List ℕ → Printout → Type 0
+  IsHeadVerdict checkpoint_path log_id record_id proof_path printed =
+      IsByWords (IsLeafOf log_id record_id) (λ leaf.
+      IsByFile files checkpoint_path IsCheckpoint (λ checkpoint.
+      IsByFile files proof_path IsMapProof (λ siblings.
+      IsVerdict (ShowsHead checkpoint leaf.log_id leaf.record_id siblings)))) printed
 
-  pub record IsInclusionVerdict (checkpoint_path place log_id record_id proof_path : List ℕ) (printed : Printout) : Type 0 where
-    pub leaf : LogLeaf
-    pub leaf_is : IsLeafOf log_id record_id leaf
-    pub index : ℕ
-    pub index_is : IsNumberWord place index
-    pub checkpoint : Checkpoint
-    pub checkpoint_is : IsCheckpointIn checkpoint_path checkpoint
-    pub hashes : List (List ℕ)
-    pub hashes_are : IsLogProofIn proof_path hashes
-    pub is : IsVerdict (Includes sha256 (log_leaf_encoding_of leaf) index checkpoint.log_length hashes checkpoint.log_root.bytes) printed
+  abbrev pub IsAbsenceVerdict : List ℕ → List ℕ → List ℕ → Printout → Type 0
+  IsAbsenceVerdict checkpoint_path log_id proof_path printed =
+      IsByWords (IsLogWord log_id) (λ log.
+      IsByFile files checkpoint_path IsCheckpoint (λ checkpoint.
+      IsByFile files proof_path IsMapProof (λ siblings.
+      IsVerdict (Leads sha256 None log.hash.bytes siblings checkpoint.map_root.bytes)))) printed
 
-  pub record IsConsistencyVerdict (old_path new_path proof_path : List ℕ) (printed : Printout) : Type 0 where
-    pub old : Checkpoint
-    pub old_is : IsCheckpointIn old_path old
-    pub new : Checkpoint
-    pub new_is : IsCheckpointIn new_path new
-    pub hashes : List (List ℕ)
-    pub hashes_are : IsLogProofIn proof_path hashes
-    pub is : IsVerdict (GoesOn old new hashes) printed
-
-  pub record IsHeadVerdict (checkpoint_path log_id record_id proof_path : List ℕ) (printed : Printout) : Type 0 where
-    pub leaf : LogLeaf
-    pub leaf_is : IsLeafOf log_id record_id leaf
-    pub checkpoint : Checkpoint
-    pub checkpoint_is : IsCheckpointIn checkpoint_path checkpoint
-    pub siblings : List (List ℕ)
-    pub siblings_are : IsMapProofIn proof_path siblings
-    pub is : IsVerdict (ShowsHead checkpoint leaf.log_id leaf.record_id siblings) printed
-
-  pub record IsAbsenceVerdict (checkpoint_path log_id proof_path : List ℕ) (printed : Printout) : Type 0 where
-    pub log : LogId
-    pub log_is : log_id_of_text log_id ≡ Ok log
-    pub checkpoint : Checkpoint
-    pub checkpoint_is : IsCheckpointIn checkpoint_path checkpoint
-    pub siblings : List (List ℕ)
-    pub siblings_are : IsMapProofIn proof_path siblings
-    pub is : IsVerdict (Leads sha256 None log.hash.bytes siblings checkpoint.map_root.bytes) printed
-
+  -- what is said of a statement
   abbrev pub IsStatementVerdict : Statement → Printout → Type 0
   IsStatementVerdict (statement.Inclusion checkpoint place leaf proof) printed =
       IsInclusionVerdict checkpoint.now place.now leaf.log_id.now leaf.record_id.now proof.now printed

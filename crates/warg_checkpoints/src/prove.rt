@@ -7,14 +7,15 @@ ghost use Rattle.warg_transparency.specs.MapTree.{leaves_of};
 ghost use Rattle.warg_transparency.specs.Texts.{map_proof_of, map_proof_text};
 ghost use Rattle.warg_registry.specs.RegistryJson.{checkpoint_json};
 ghost use Rattle.warg_files.specs.Answers.{answer_view, Answers, IfStopped};
-ghost use Rattle.warg_checkpoints.specs.ProofTexts.{Asks, AsksConsistency, AsksHead, AsksInclusion, checkpoint_line, IsByLeaves, IsCheckpointText, IsConsistencyText, IsHeadText, IsInclusionText, IsLogWord, IsNumber, IsProofAnswer, IsProved, IsUnsaid, LogProofReadsBack};
+ghost use Rattle.warg_checkpoints.specs.ProofTexts.{Asks, AsksConsistency, AsksHead, AsksInclusion, checkpoint_line, IsByLeaves, IsCheckpointText, IsConsistencyText, IsHeadText, IsInclusionText, IsProofAnswer, IsProved, LogProofReadsBack};
+ghost use Rattle.warg_checkpoints.specs.Words.{IsUnsaid};
 ghost use Rattle.warg_checkpoints.specs.Proofs.{log_proof_line, map_proof_line};
 ghost use Rattle.warg_files.specs.RecordLines.{record_lines};
 ghost use Rattle.warg_checkpoints.specs.RegistryLeaves.{ForRegistry};
 ghost use Rattle.warg_files.specs.Unusable.{IsOfLines};
 
 use crate::leaves::{Trees, trees_of};
-use crate::read_words::value_of;
+use crate::read_words::{log_id_of, number_of};
 use std::alloc::{AllocError, Global};
 use warg_files::answer::Answer;
 use warg_files::input::{Input, Store, read_input};
@@ -35,22 +36,6 @@ pub(crate) enum Asked {
     Consistency(u64),
     /// What its map says of this log.
     Head(LogId),
-}
-
-// The number that a word says, of what the kind names.
-fn number_of(alloc: Global, word: &str, kind: &str) -> Result<u64, Stop>
-    ensures ok { IfOk result (IsNumber word.now) }
-    ensures stopped { IfErr result (IfStopped (IsUnsaid (IsNumber word.now))) }
-{
-    value_of::<u64>(alloc, word, kind)
-}
-
-// The id of a log that a word says.
-fn log_id_of(alloc: Global, word: &str) -> Result<LogId, Stop>
-    ensures ok { IfOk result (IsLogWord word.now) }
-    ensures stopped { IfErr result (IfStopped (IsUnsaid (IsLogWord word.now))) }
-{
-    value_of::<LogId>(alloc, word, "id of a log")
 }
 
 // The proof of the place that a word says.

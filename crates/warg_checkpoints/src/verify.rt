@@ -1,22 +1,22 @@
 //! `verify`: whether a proof shows what is stated under a checkpoint.
 
-ghost use Rattle.std.specs.Prelude.{◌≡◌, None, IfOk, IfErr};
+ghost use Rattle.std.specs.Prelude.{◌≡◌, None, IfOk};
 ghost use Rattle.sha2.specs.Sha256.{sha256};
 ghost use Rattle.warg_sparse_map.specs.Maps.{Leads};
 ghost use Rattle.warg_merkle.specs.Trees.{Includes};
 ghost use Rattle.warg_registry.specs.PrefixEncodings.{log_leaf_encoding_of};
 ghost use Rattle.warg_transparency.specs.Heads.{ShowsHead};
 ghost use Rattle.warg_transparency.specs.Views.{GoesOn};
-ghost use Rattle.warg_files.specs.Answers.{answer_view, Answers, IfStopped, IsUnusable};
-ghost use Rattle.warg_checkpoints.specs.Proofs.{IsAbsenceVerdict, IsConsistencyVerdict, IsHeadVerdict, IsInclusionVerdict, IsLeafOf, IsNumberWord, IsStatementVerdict, IsVerdict, verdict_text};
-ghost use Rattle.warg_files.specs.Unusable.{IfUsable};
+ghost use Rattle.warg_files.specs.Answers.{answer_view, Answers};
+ghost use Rattle.warg_checkpoints.specs.Proofs.{IsAbsenceVerdict, IsConsistencyVerdict, IsHeadVerdict, IsInclusionVerdict, IsStatementVerdict, IsVerdict, verdict_text};
 
-use crate::read_words::{read_checkpoint, read_log_proof, read_map_proof, value_of};
+use crate::read_words::{
+    leaf_of, log_id_of, number_of, read_checkpoint, read_log_proof, read_map_proof,
+};
 use std::alloc::{AllocError, Global};
 use warg_files::answer::Answer;
 use warg_files::input::Store;
 use warg_files::stop::Stop;
-use warg_records::RecordId;
 use warg_registry::{Checkpoint, LogId, LogLeaf};
 use warg_transparency::{
     LogProof, MapProof, verify_absence, verify_consistency, verify_head, verify_inclusion,
@@ -97,25 +97,6 @@ pub(crate) fn absence_verdict(
     verdict(alloc, verify_absence(log_id, proof, &checkpoint.map_root))
 }
 
-// The leaf that the ids of a log and of a record say.
-fn leaf_of(alloc: Global, log_id: &str, record_id: &str) -> Result<LogLeaf, Stop>
-    ensures ok { IfOk result (IsLeafOf log_id.now record_id.now) }
-    ensures stopped { IfErr result (IfStopped IsUnusable) }
-{
-    let log_id = value_of::<LogId>(alloc, log_id, "id of a log")?;
-    let record_id = value_of::<RecordId>(alloc, record_id, "id of a record")?;
-    Ok(LogLeaf { log_id, record_id })
-}
-
-// The place that a word says.
-fn place_of(alloc: Global, word: &str) -> Result<u64, Stop>
-    ensures ok { IfOk result (IsNumberWord word.now) }
-    ensures stopped { IfErr result (IfStopped IsUnusable) }
-{
-    value_of::<u64>(alloc, word, "place of a leaf")
-}
-
-#[tactic(auto, using(warg_files::proofs::UnusableLemmas::unusable_end, warg_files::proofs::UnusableLemmas::unanswered_end))]
 fn inclusion_answer<S: Store>(
     alloc: Global,
     checkpoint: &str,
@@ -124,18 +105,17 @@ fn inclusion_answer<S: Store>(
     proof: &str,
     store: &mut S,
 ) -> Result<Answer, Stop>
-    ensures answered { Answers (IfUsable (IsInclusionVerdict (S.files store.old)
-        checkpoint.now place.now leaf.now.log_id.now leaf.now.record_id.now proof.now)) result }
+    ensures answered { Answers (IsInclusionVerdict (S.files store.old)
+        checkpoint.now place.now leaf.now.log_id.now leaf.now.record_id.now proof.now) result }
     ensures kept { S.files store.new ≡ S.files store.old }
 {
     let leaf = leaf_of(alloc, leaf.log_id, leaf.record_id)?;
-    let place = place_of(alloc, place)?;
+    let place = number_of(alloc, place, "place of a leaf")?;
     let checkpoint = read_checkpoint(alloc, checkpoint, store)?;
     let proof = read_log_proof(alloc, proof, store)?;
     Ok(inclusion_verdict(alloc, &checkpoint, &leaf, place, &proof)?)
 }
 
-#[tactic(auto, using(warg_files::proofs::UnusableLemmas::unusable_end, warg_files::proofs::UnusableLemmas::unanswered_end))]
 fn consistency_answer<S: Store>(
     alloc: Global,
     old: &str,
@@ -143,8 +123,8 @@ fn consistency_answer<S: Store>(
     proof: &str,
     store: &mut S,
 ) -> Result<Answer, Stop>
-    ensures answered { Answers (IfUsable (IsConsistencyVerdict (S.files store.old) old.now
-        new.now proof.now)) result }
+    ensures answered { Answers (IsConsistencyVerdict (S.files store.old) old.now
+        new.now proof.now) result }
     ensures kept { S.files store.new ≡ S.files store.old }
 {
     let old = read_checkpoint(alloc, old, store)?;
@@ -153,7 +133,6 @@ fn consistency_answer<S: Store>(
     Ok(consistency_verdict(alloc, &old, &new, &proof)?)
 }
 
-#[tactic(auto, using(warg_files::proofs::UnusableLemmas::unusable_end, warg_files::proofs::UnusableLemmas::unanswered_end))]
 fn head_answer<S: Store>(
     alloc: Global,
     checkpoint: &str,
@@ -161,8 +140,8 @@ fn head_answer<S: Store>(
     proof: &str,
     store: &mut S,
 ) -> Result<Answer, Stop>
-    ensures answered { Answers (IfUsable (IsHeadVerdict (S.files store.old) checkpoint.now
-        leaf.now.log_id.now leaf.now.record_id.now proof.now)) result }
+    ensures answered { Answers (IsHeadVerdict (S.files store.old) checkpoint.now
+        leaf.now.log_id.now leaf.now.record_id.now proof.now) result }
     ensures kept { S.files store.new ≡ S.files store.old }
 {
     let leaf = leaf_of(alloc, leaf.log_id, leaf.record_id)?;
@@ -171,7 +150,6 @@ fn head_answer<S: Store>(
     Ok(head_verdict(alloc, &checkpoint, &leaf, &proof)?)
 }
 
-#[tactic(auto, using(warg_files::proofs::UnusableLemmas::unusable_end, warg_files::proofs::UnusableLemmas::unanswered_end))]
 fn absence_answer<S: Store>(
     alloc: Global,
     checkpoint: &str,
@@ -179,11 +157,11 @@ fn absence_answer<S: Store>(
     proof: &str,
     store: &mut S,
 ) -> Result<Answer, Stop>
-    ensures answered { Answers (IfUsable (IsAbsenceVerdict (S.files store.old) checkpoint.now
-        log_id.now proof.now)) result }
+    ensures answered { Answers (IsAbsenceVerdict (S.files store.old) checkpoint.now
+        log_id.now proof.now) result }
     ensures kept { S.files store.new ≡ S.files store.old }
 {
-    let log_id = value_of::<LogId>(alloc, log_id, "id of a log")?;
+    let log_id = log_id_of(alloc, log_id)?;
     let checkpoint = read_checkpoint(alloc, checkpoint, store)?;
     let proof = read_map_proof(alloc, proof, store)?;
     Ok(absence_verdict(alloc, &checkpoint, &log_id, &proof)?)
@@ -195,8 +173,8 @@ pub fn verify_answer<S: Store>(
     statement: &Statement<'_>,
     store: &mut S,
 ) -> Result<Answer, Stop>
-    ensures answered { Answers (IfUsable (IsStatementVerdict (S.files store.old)
-        statement.now)) result }
+    ensures answered { Answers (IsStatementVerdict (S.files store.old)
+        statement.now) result }
     ensures kept { S.files store.new ≡ S.files store.old }
 {
     match statement {

@@ -30,7 +30,7 @@ use Rattle.warg_answers.specs.Explanations.{explains_operator, explains_package}
 use Rattle.warg_answers.specs.ShownWords.{says_operator_words, says_package_words, shows_namespaces, shows_releases}
 use Rattle.warg_show.specs.ShownLogs.{IsShown}
 use Rattle.warg_tasks.specs.Tasks.{DoneLeaves, IsDoneAnswer}
-use Rattle.warg_files.specs.Unusable.{IfUsable, IsOfLines, IsOfWord}
+use Rattle.warg_files.specs.Unusable.{IsOfLines, IsOfWord}
 use Rattle.warg_files.specs.Answers.{IsUnanswered}
 use Rattle.warg_answers.specs.Verdicts.{IsPrintedOf}
 use Rattle.weoldrin.specs.Schemes.{asked_belongs}
@@ -89,7 +89,7 @@ IsRequestAnswer json belongs old new (request.Audits kind paths allows_empty) pr
 IsRequestAnswer json belongs old new (request.Show kind path) printed = IsShownAnswer kind belongs old path.now printed
 IsRequestAnswer json belongs old new (request.Latest requirement path) printed = IsLatestAnswer belongs old requirement.now path.now printed
 IsRequestAnswer json belongs old new (request.Prove wanted path) printed = IsProofAnswer old wanted path.now printed
-IsRequestAnswer json belongs old new (request.Verify statement) printed = IfUsable (IsStatementVerdict old statement) printed
+IsRequestAnswer json belongs old new (request.Verify statement) printed = IsStatementVerdict old statement printed
 IsRequestAnswer json belongs old new (request.Ask kind question) printed = IsAskedAnswer kind belongs old question printed
 IsRequestAnswer json belongs old new (request.Do kind task) printed = IsDoneAnswer kind belongs old new task printed
 

@@ -1,6 +1,7 @@
 use Rattle.std.proofs.Common.{refl}
-use Rattle.warg_checkpoints.specs.ProofTexts.{AsksHead, IsLogWord}
-use Rattle.warg_checkpoints.proofs.ProofTextLemmas.{unsaid_to}
+use Rattle.warg_checkpoints.specs.ProofTexts.{AsksHead}
+use Rattle.warg_checkpoints.specs.Words.{IsLogWord}
+use Rattle.warg_checkpoints.proofs.WordLemmas.{unsaid_to}
 use Rattle.warg_checkpoints.proofs.prove.head_asked.Goals as goal
 
 pub returns-in-Ok-clause-ok : goal.returns-in-Ok-clause-ok

@@ -1,6 +1,7 @@
 use Rattle.std.proofs.Common.{refl}
-use Rattle.warg_checkpoints.specs.ProofTexts.{AsksInclusion, IsNumber}
-use Rattle.warg_checkpoints.proofs.ProofTextLemmas.{unsaid_to}
+use Rattle.warg_checkpoints.specs.ProofTexts.{AsksInclusion}
+use Rattle.warg_checkpoints.specs.Words.{IsNumber}
+use Rattle.warg_checkpoints.proofs.WordLemmas.{unsaid_to}
 use Rattle.warg_checkpoints.proofs.prove.inclusion_asked.Goals as goal
 
 pub returns-in-Ok-clause-ok : goal.returns-in-Ok-clause-ok

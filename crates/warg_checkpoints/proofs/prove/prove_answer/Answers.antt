@@ -1,4 +1,4 @@
-use Rattle.warg_checkpoints.proofs.ProofTextLemmas.{words_said, words_unsaid}
+use Rattle.warg_checkpoints.proofs.WordLemmas.{words_said, words_unsaid}
 use Rattle.warg_checkpoints.proofs.prove.prove_answer.Goals as goal
 
 pub returns-in-Ok-clause-answered : goal.returns-in-Ok-clause-answered

@@ -1,14 +1,14 @@
-use Rattle.std.proofs.lemmas.Result.{IfErr-weaker, IfOk-weaker}
-use Rattle.warg_files.proofs.UnusableLemmas.{unanswered, unread_end}
+use Rattle.warg_checkpoints.proofs.WordLemmas.{in_bytes, unread_bytes, unsaid_bytes}
+use Rattle.warg_checkpoints.specs.Proofs.{IsMapProof}
 use Rattle.warg_checkpoints.proofs.read_words.read_map_proof.Goals as goal
 
 pub returns-in-Ok-clause-ok : goal.returns-in-Ok-clause-ok
 returns-in-Ok-clause-ok g c =
-    IfOk-weaker c.map_proof_of_file.result _ _
-    (λ proof it. record { bytes = c.in-Ok.input.bytes.items; held = c.in-Ok.ensures.bytes; said = it }) c.map_proof_of_file.ensures.ok
+    in_bytes _ _ IsMapProof c.in-Ok.input.bytes.items c.map_proof_of_file.result c.in-Ok.ensures.bytes c.map_proof_of_file.ensures.ok
 
 pub returns-in-Ok-clause-stopped : goal.returns-in-Ok-clause-stopped
-returns-in-Ok-clause-stopped g c = IfErr-weaker c.map_proof_of_file.result _ _ unanswered c.map_proof_of_file.ensures.stopped
+returns-in-Ok-clause-stopped g c =
+    unsaid_bytes _ _ IsMapProof c.in-Ok.input.bytes.items c.map_proof_of_file.result c.in-Ok.ensures.bytes c.map_proof_of_file.ensures.stopped
 
 pub returns-in-Err-clause-stopped : goal.returns-in-Err-clause-stopped
-returns-in-Err-clause-stopped g c = unread_end _ _ c.in-Err.stop c.in-Err.ensures.stopped
+returns-in-Err-clause-stopped g c = unread_bytes _ _ IsMapProof c.in-Err.stop c.in-Err.ensures.stopped

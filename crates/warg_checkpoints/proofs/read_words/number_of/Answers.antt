@@ -1,7 +1,7 @@
 use Rattle.std.proofs.lemmas.Result.{IfOk-weaker}
-use Rattle.warg_checkpoints.specs.ProofTexts.{IsNumber}
-use Rattle.warg_checkpoints.proofs.ProofTextLemmas.{no_number, number_said, unsaid_word}
-use Rattle.warg_checkpoints.proofs.prove.number_of.Goals as goal
+use Rattle.warg_checkpoints.specs.Words.{IsNumber}
+use Rattle.warg_checkpoints.proofs.WordLemmas.{no_number, number_said, unsaid_word}
+use Rattle.warg_checkpoints.proofs.read_words.number_of.Goals as goal
 
 pub returns-clause-ok : goal.returns-clause-ok
 returns-clause-ok c = IfOk-weaker c.value_of.result _ _ (λ n told. number_said c.args.word.now n told.0) c.value_of.ensures.ok

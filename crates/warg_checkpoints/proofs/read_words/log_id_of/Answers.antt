@@ -1,8 +1,8 @@
 use Rattle.std.proofs.Common.{sym}
 use Rattle.std.proofs.lemmas.Result.{IfOk-weaker}
-use Rattle.warg_checkpoints.specs.ProofTexts.{IsLogWord}
-use Rattle.warg_checkpoints.proofs.ProofTextLemmas.{no_log, unsaid_word}
-use Rattle.warg_checkpoints.proofs.prove.log_id_of.Goals as goal
+use Rattle.warg_checkpoints.specs.Words.{IsLogWord}
+use Rattle.warg_checkpoints.proofs.WordLemmas.{no_log, unsaid_word}
+use Rattle.warg_checkpoints.proofs.read_words.log_id_of.Goals as goal
 
 pub returns-clause-ok : goal.returns-clause-ok
 returns-clause-ok c = IfOk-weaker c.value_of.result _ _ (λ log_id told. sym told) c.value_of.ensures.ok
