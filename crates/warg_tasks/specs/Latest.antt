@@ -1,12 +1,18 @@
 -- What is printed of the release that meets a requirement best.
-use Rattle.std.specs.Prelude.{ℕ, List, ◌++◌, codes, Option, Some, None, ◌≡◌}
+use Rattle.std.specs.Prelude.{◌≡◌, ℕ, List, ◌++◌, map, codes, Option, Some, None, Ok}
 use Rattle.warg_protocol.specs.Records.{hash_text, parts_text, AnyHash}
 use Rattle.warg_protocol.specs.Package.{ReleaseView, content_of, IsGreatest, shows_candidate, shown_cmp}
 use Rattle.warg_audit.specs.Printouts.{Printout}
+use Rattle.semver.specs.Identifiers.{comparator_view}
+use Rattle.semver.specs.Parse.{req_of}
 use Rattle.semver.specs.declared.Comparator.{Comparator}
 use Rattle.warg_audit.specs.LogTypes.{package_log}
 use Rattle.warg_files.specs.Texts.{yes, no}
 use Rattle.warg_answers.specs.Verdicts.{envelopes_of}
+
+-- the word is a requirement of versions: all of these comparators are to be met
+abbrev pub IsRequirement : List ℕ → List Comparator → Type 0
+IsRequirement word wanted = req_of word ≡ Ok (map comparator_view wanted)
 
 -- a release's version and its content
 abbrev pub content_text : List ℕ → Option AnyHash → Printout

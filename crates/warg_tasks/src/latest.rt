@@ -1,13 +1,12 @@
 //! `latest`: the greatest release that meets a requirement.
 
-ghost use Rattle.std.specs.Prelude.{◌≡◌, IfOk, IfErr, Ok, map};
+ghost use Rattle.std.specs.Prelude.{◌≡◌, ◌↔◌, IfOk, IfErr, IsErr, IsTrue};
 ghost use Rattle.std.specs.Option.{option_copied, option_map};
-ghost use Rattle.semver.specs.Identifiers.{comparator_view};
-ghost use Rattle.semver.specs.Parse.{req_of};
+ghost use Rattle.semver.specs.Parse.{memory_error, req_of};
 ghost use Rattle.warg_protocol.specs.Package.{release_view, view_of};
 ghost use Rattle.warg_audit.specs.LogTypes.{package_log};
 ghost use Rattle.warg_files.specs.Answers.{answer_view, Answers, IfStopped, IsUnusable};
-ghost use Rattle.warg_tasks.specs.Latest.{IsLatestOf, IsLatestText, latest_text};
+ghost use Rattle.warg_tasks.specs.Latest.{IsLatestOf, IsLatestText, IsRequirement, latest_text};
 ghost use Rattle.warg_files.specs.RecordLines.{record_lines};
 ghost use Rattle.warg_answers.specs.Verdicts.{IsPrintedOf};
 
@@ -55,14 +54,22 @@ fn requirement_sentence(alloc: Global, word: &str, error: &Error) -> Result<Stri
     printed_line(alloc, said.as_str())
 }
 
+// Whether an error of a requirement is one of memory.
+fn is_memory(error: &Error) -> bool
+    ensures { IsTrue result ↔ (error.now ≡ memory_error) }
+{
+    *error == Error::from(AllocError)
+}
+
 /// The requirement that the word says.
 pub fn requirement_of(alloc: Global, word: &str) -> Result<VersionReq, Stop>
-    ensures ok { IfOk result (λ wanted. req_of word.now ≡
-        Ok (map comparator_view wanted.comparators.items)) }
-    ensures stopped { IfErr result (IfStopped IsUnusable) }
+    ensures ok { IfOk result (λ wanted. IsRequirement word.now wanted.comparators.items) }
+    ensures stopped { IfErr result (IfStopped (λ printed.
+        IsErr (req_of word.now) × IsUnusable printed)) }
 {
     match VersionReq::parse(alloc, word) {
         Ok(wanted) => Ok(wanted),
+        Err(error) if is_memory(&error) => Err(Stop::OutOfMemory),
         Err(error) => Err(unusable(alloc, requirement_sentence(alloc, word, &error))),
     }
 }

@@ -1,10 +1,7 @@
 -- What is answered to requests, by the words that they have and what the files that they name hold.
-use Rattle.std.specs.Prelude.{◌≡◌, ◌⊎◌, ℕ, Bool, true, false, List, [], ◌∷◌, map, Option, Some, None, is_some, Ok}
+use Rattle.std.specs.Prelude.{◌≡◌, ◌⊎◌, ℕ, Bool, true, false, List, [], ◌∷◌, Option, Some, None, is_some, IsUtf8}
 use Rattle.std.specs.Borrow.{Bor}
 use Rattle.std.specs.Str.Lines.{lines}
-use Rattle.semver.specs.Identifiers.{comparator_view}
-use Rattle.semver.specs.Parse.{req_of}
-use Rattle.semver.specs.declared.Comparator.{Comparator}
 use Rattle.warg_permissions.specs.declared.operator.Permission.TheVariants as operator_permission
 use Rattle.warg_permissions.specs.declared.package.Permission.TheVariants as package_permission
 use Rattle.warg_protocol.specs.Json.{in_text, text_of}
@@ -18,20 +15,23 @@ use Rattle.warg_log_type.specs.declared.LogType.TheVariants as log_type
 use Rattle.warg_audit.specs.Printouts.{Printout}
 use Rattle.warg_verified.specs.Claims.{ClaimData, is_claimed}
 use Rattle.warg_verified.specs.Texts.{IsReadFrom}
-use Rattle.warg_files.specs.Files.{Files, Reads}
+use Rattle.warg_files.specs.Files.{Files}
 use Rattle.warg_tasks.specs.JsonLines.{IsInJson}
 use Rattle.warg_tasks.specs.ManyAudits.{IsManyAnswer, IsOneAnswer}
 use Rattle.warg_checkpoints.specs.ProofTexts.{IsProofAnswer}
 use Rattle.warg_checkpoints.specs.Proofs.{IsStatementVerdict}
-use Rattle.warg_tasks.specs.Latest.{IsLatestOf}
+use Rattle.warg_checkpoints.specs.Words.{IsByWords, IsIn, IsUnsaidIn}
+use Rattle.warg_tasks.specs.Latest.{IsLatestOf, IsRequirement}
 use Rattle.warg_questions.specs.QuestionAnswers.{IsQuestionAnswer}
 use Rattle.warg_files.specs.RecordLines.{texts}
 use Rattle.warg_answers.specs.Explanations.{explains_operator, explains_package}
 use Rattle.warg_answers.specs.ShownWords.{says_operator_words, says_package_words, shows_namespaces, shows_releases}
 use Rattle.warg_show.specs.ShownLogs.{IsShown}
 use Rattle.warg_tasks.specs.Tasks.{DoneLeaves, IsDoneAnswer}
-use Rattle.warg_files.specs.Unusable.{IsOfLines, IsOfWord}
-use Rattle.warg_files.specs.Answers.{IsUnanswered}
+use Rattle.warg_files.specs.Unusable.{IsOfLines}
+use Rattle.warg_files.specs.Answers.{answer_view}
+use Rattle.warg_files.specs.declared.stop.Stop.{Stop}
+use Rattle.warg_files.specs.declared.stop.Stop.TheVariants as stop
 use Rattle.warg_answers.specs.Verdicts.{IsPrintedOf}
 use Rattle.weoldrin.specs.Schemes.{asked_belongs}
 use Rattle.warg_words.specs.declared.request.Invocation.{Invocation}
@@ -78,8 +78,7 @@ IsAskedAnswer log_type.Operator belongs files question printed =
 -- the greatest release of the log in a file that meets the requirement that a word says
 abbrev pub IsLatestAnswer : SignatureRelation → Option Files → List ℕ → List ℕ → Printout → Type 0
 IsLatestAnswer belongs files requirement path printed =
-    IsOfWord (λ (wanted : List Comparator). req_of requirement ≡ Ok (map comparator_view wanted))
-    (λ wanted. IsOfLines files path (IsPrintedOf package_log belongs (IsLatestOf wanted))) printed
+    IsByWords (IsRequirement requirement) (λ wanted. IsOfLines files path (IsPrintedOf package_log belongs (IsLatestOf wanted))) printed
 
 -- what is answered to a request, by what files hold before and after; verdicts behind paths may be in JSON
 abbrev pub IsRequestAnswer : Bool → SignatureRelation → Option Files → Option Files → Request → Printout → Type 0
@@ -126,6 +125,11 @@ IsGiven true command plain printed = IsInJson command plain printed
 abbrev pub IsGivenAs : Bool → List ℕ → (Printout → Type 0) → Printout → Type 0
 IsGivenAs json command P printed = (plain : Printout) × P plain × IsGiven json command plain printed
 
+-- what is printed of the answer that ends a command before its own
+abbrev pub IsGivenEnd : Bool → List ℕ → Stop → Printout → Type 0
+IsGivenEnd json command (stop.Answer answer) printed = IsGiven json command (answer_view answer) printed
+IsGivenEnd json command stop.OutOfMemory printed = ⊥
+
 -- what is printed to a request of which P holds; verdicts behind paths have an object for each log already
 abbrev pub IsGivenTo : Bool → Bool → List ℕ → (Printout → Type 0) → Printout → Type 0
 IsGivenTo false json command P printed = IsGivenAs json command P printed
@@ -135,23 +139,22 @@ IsGivenTo true json command P printed = P printed
 abbrev pub IsResponse : Bool → List ℕ → SignatureRelation → Option Files → Option Files → Request → Printout → Type 0
 IsResponse json command belongs old new it printed = IsGivenTo (is_many it) json command (IsRequestAnswer json belongs old new it) printed
 
--- the claims that the file of a path lists
-pub record AreClaimsIn (files : Option Files) (path : List ℕ) (claims : List ClaimData) : Type 0 where
-  pub bytes : List ℕ
-  pub held : Reads files path bytes
+-- the lines of the text that bytes are say claims, and these are what is held
+pub record SaysClaims (bytes : List ℕ) (claims : List ClaimData) : Type 0 where
+  pub utf8 : IsUtf8 bytes
   pub said : IsReadFrom (lines bytes) claims
 
--- P of what tells which signatures belong: the schemes that are asked for, or the claims that a file lists; Unread, if that can't be used
-abbrev pub IsUnder : Option Files → Bool → Option (Bor (List ℕ)) → Type 0 → (SignatureRelation → Type 0) → Type 0
+-- P of what tells which signatures belong: the schemes that are asked for, or the claims that a file lists; Unread of its path, if it lists none
+abbrev pub IsUnder : Option Files → Bool → Option (Bor (List ℕ)) → (List ℕ → Type 0) → (SignatureRelation → Type 0) → Type 0
 IsUnder files toy None Unread P = P (asked_belongs toy)
-IsUnder files toy (Some path) Unread P = Unread ⊎ ((claims : List ClaimData) × AreClaimsIn files path.now claims × P (is_claimed claims))
+IsUnder files toy (Some path) Unread P = Unread path.now ⊎ ((claims : List ClaimData) × IsIn files path.now SaysClaims claims × P (is_claimed claims))
 
 -- what is answered to an invocation, by what files hold before and after
 abbrev pub IsInvocationAnswer : Option Files → Option Files → Invocation → Printout → Type 0
 IsInvocationAnswer old new it printed =
-    IsUnder old it.toy it.verified (IsGivenAs it.json it.command.now IsUnanswered printed)
+    IsUnder old it.toy it.verified (λ path. IsGivenAs it.json it.command.now (IsUnsaidIn old path SaysClaims) printed)
     (λ belongs. IsResponse it.json it.command.now belongs old new it.request printed)
 
 -- what files hold after it
 abbrev pub InvocationLeaves : Option Files → Option Files → Invocation → Type 0
-InvocationLeaves old new it = IsUnder old it.toy it.verified (new ≡ old) (λ belongs. RequestLeaves belongs old new it.request)
+InvocationLeaves old new it = IsUnder old it.toy it.verified (λ path. new ≡ old) (λ belongs. RequestLeaves belongs old new it.request)

@@ -3,8 +3,11 @@
 ghost use Rattle.std.specs.Prelude.{◌≡◌, IfOk, IfErr};
 ghost use Rattle.std.specs.Str.Lines.{lines};
 ghost use Rattle.warg_verified.specs.Texts.{IsReadFrom};
-ghost use Rattle.warg_files.specs.Answers.{answer_view, IfStopped, IsUnanswered, IsUnusable};
-ghost use Rattle.weoldrin.specs.Requests.{AreClaimsIn, InvocationLeaves, IsGivenAs, IsInvocationAnswer, IsResponse, RequestLeaves};
+ghost use Rattle.warg_verified.specs.declared.error.ClaimParseError.TheVariants.{OutOfMemory};
+ghost use Rattle.warg_files.specs.Answers.{answer_view, IfStopped, IsUnusable};
+ghost use Rattle.warg_files.specs.declared.stop.Stop.TheVariants as end;
+ghost use Rattle.warg_checkpoints.specs.Words.{IsIn, IsUnsaid, IsUnsaidIn};
+ghost use Rattle.weoldrin.specs.Requests.{InvocationLeaves, IsGivenEnd, IsInvocationAnswer, IsResponse, RequestLeaves, SaysClaims};
 ghost use Rattle.weoldrin.specs.Schemes.{asked_belongs};
 
 use crate::commands::{given, respond};
@@ -29,7 +32,8 @@ fn claim_sentence(
 
 // The end of a command for a line that says no claim.
 fn claim_stop(alloc: Global, path: &str, error: VerifiedParseError) -> Stop
-    ensures { IfStopped IsUnusable result }
+    ensures unusable { IfStopped IsUnusable result }
+    ensures memory { error.fault ≡ OutOfMemory → result ≡ end.OutOfMemory }
 {
     if error.fault == ClaimParseError::OutOfMemory {
         return Stop::OutOfMemory;
@@ -40,7 +44,7 @@ fn claim_stop(alloc: Global, path: &str, error: VerifiedParseError) -> Stop
 // The claims that a text lists.
 fn verified_of(alloc: Global, path: &str, text: &str) -> Result<Verified, Stop>
     ensures ok { IfOk result (IsReadFrom (lines text.now)) }
-    ensures stopped { IfErr result (IfStopped IsUnusable) }
+    ensures stopped { IfErr result (IfStopped (IsUnsaid (IsReadFrom (lines text.now)))) }
 {
     match Verified::parse(alloc, text) {
         Ok(verified) => Ok(verified),
@@ -50,8 +54,8 @@ fn verified_of(alloc: Global, path: &str, text: &str) -> Result<Verified, Stop>
 
 // The claims that a file lists.
 fn verified_of_file(alloc: Global, input: &Input<'_>) -> Result<Verified, Stop>
-    ensures ok { IfOk result (IsReadFrom (lines input.now.bytes.items)) }
-    ensures stopped { IfErr result (IfStopped IsUnusable) }
+    ensures ok { IfOk result (SaysClaims input.now.bytes.items) }
+    ensures stopped { IfErr result (IfStopped (IsUnsaid (SaysClaims input.now.bytes.items))) }
 {
     match str::from_utf8(input.bytes.as_slice()) {
         Ok(text) => verified_of(alloc, input.path, text),
@@ -60,10 +64,10 @@ fn verified_of_file(alloc: Global, input: &Input<'_>) -> Result<Verified, Stop>
 }
 
 // The claims that the file of this path lists.
-#[tactic(auto, using(warg_files::proofs::UnusableLemmas::unanswered, warg_files::proofs::UnusableLemmas::unread_end))]
 fn read_verified<S: Store>(alloc: Global, path: &str, store: &mut S) -> Result<Verified, Stop>
-    ensures ok { IfOk result (AreClaimsIn (S.files store.old) path.now) }
-    ensures stopped { IfErr result (IfStopped IsUnanswered) }
+    ensures ok { IfOk result (IsIn (S.files store.old) path.now SaysClaims) }
+    ensures stopped { IfErr result (IfStopped
+        (IsUnsaidIn (S.files store.old) path.now SaysClaims)) }
     ensures kept { S.files store.new ≡ S.files store.old }
 {
     match read_input(alloc, store, path) {
@@ -74,9 +78,8 @@ fn read_verified<S: Store>(alloc: Global, path: &str, store: &mut S) -> Result<V
 
 // The end of a command that can't use a file, as the invocation wants its answer.
 fn given_end(alloc: Global, invocation: &Invocation<'_>, stop: Stop) -> Result<Answer, AllocError>
-    ensures { IfStopped IsUnanswered stop →
-        IfOk result (λ it. IsGivenAs invocation.now.json invocation.now.command.now
-        IsUnanswered (answer_view it)) }
+    ensures { IfOk result (λ it. IsGivenEnd invocation.now.json invocation.now.command.now
+        stop (answer_view it)) }
 {
     match stop {
         Stop::Answer(answer) => given(alloc, invocation.json, invocation.command, answer),

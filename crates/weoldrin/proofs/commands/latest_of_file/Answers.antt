@@ -1,9 +1,13 @@
-use Rattle.warg_files.proofs.UnusableLemmas.{word_read, word_unread}
+use Rattle.warg_tasks.specs.Latest.{IsRequirement}
+use Rattle.warg_checkpoints.proofs.WordLemmas.{words_said, words_unsaid}
+use Rattle.weoldrin.proofs.RequestLemmas.{no_requirement}
 use Rattle.weoldrin.proofs.commands.latest_of_file.Goals as goal
 
 pub returns-in-Ok-clause-answered : goal.returns-in-Ok-clause-answered
 returns-in-Ok-clause-answered g c =
-    word_read _ _ c.in-Ok.wanted.comparators.items c.latest_in_file.result c.in-Ok.ensures.ok c.latest_in_file.ensures.answered
+    words_said (IsRequirement c.args.requirement.now) _ c.in-Ok.wanted.comparators.items c.latest_in_file.result c.in-Ok.ensures.ok
+    c.latest_in_file.ensures.answered
 
 pub returns-in-Err-clause-answered : goal.returns-in-Err-clause-answered
-returns-in-Err-clause-answered g c = word_unread _ _ c.in-Err.stop c.in-Err.ensures.stopped
+returns-in-Err-clause-answered g c =
+    words_unsaid (IsRequirement c.args.requirement.now) _ c.in-Err.stop (no_requirement c.args.requirement.now c.in-Err.stop c.in-Err.ensures.stopped)

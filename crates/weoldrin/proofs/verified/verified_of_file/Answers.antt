@@ -1,5 +1,22 @@
+use Rattle.std.proofs.lemmas.Result.{IfOk-weaker}
+use Rattle.std.specs.Str.Lines.{lines}
+use Rattle.warg_verified.specs.Texts.{IsReadFrom}
+use Rattle.warg_checkpoints.proofs.WordLemmas.{unsaid_as, unsaid_if}
+use Rattle.weoldrin.specs.Requests.{SaysClaims}
 use Rattle.weoldrin.proofs.verified.verified_of_file.Goals as goal
 
 pub returns-in-Ok-clause-ok : goal.returns-in-Ok-clause-ok
 returns-in-Ok-clause-ok c =
-    rw (c.in-Ok.ensures.cases.0, c.as_slice.ensures.value) at c.verified_of.ensures.ok
+    IfOk-weaker c.verified_of.result _ _ (λ claims said. record { utf8 = rw c.as_slice.ensures.value at c.in-Ok.ensures.cases.1; said = said })
+    (rw (c.in-Ok.ensures.cases.0, c.as_slice.ensures.value) at c.verified_of.ensures.ok)
+
+pub returns-in-Ok-clause-stopped : goal.returns-in-Ok-clause-stopped
+returns-in-Ok-clause-stopped c =
+    let bytes = c.args.input.now.bytes.items in
+    unsaid_if (IsReadFrom (lines bytes)) (SaysClaims bytes) c.verified_of.result
+    (rw (c.in-Ok.ensures.cases.0, c.as_slice.ensures.value) at c.verified_of.ensures.stopped) (λ claims it. (claims, it.said))
+
+pub returns-in-Err-clause-stopped : goal.returns-in-Err-clause-stopped
+returns-in-Err-clause-stopped c =
+    let bytes = c.args.input.now.bytes.items in
+    unsaid_as (SaysClaims bytes) c.file_stop.result c.file_stop.ensures (λ claims it. (rw c.as_slice.ensures.value at c.in-Err.ensures.cases.0) it.utf8)

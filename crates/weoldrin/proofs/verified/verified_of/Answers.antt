@@ -1,0 +1,13 @@
+use Rattle.std.proofs.Common.{◌≡◌}
+use Rattle.std.specs.Str.Lines.{lines}
+use Rattle.warg_verified.specs.Texts.{IsReadFrom}
+use Rattle.warg_verified.specs.declared.error.ClaimParseError.TheVariants.{OutOfMemory}
+use Rattle.warg_checkpoints.proofs.WordLemmas.{unsaid_unless}
+use Rattle.weoldrin.proofs.RequestLemmas.{no_claims}
+use Rattle.weoldrin.proofs.verified.verified_of.Goals as goal
+
+pub returns-in-Err-clause-stopped : goal.returns-in-Err-clause-stopped
+returns-in-Err-clause-stopped c =
+    let memory : Type 0 = c.in-Err.error.fault ≡ OutOfMemory in
+    unsaid_unless (IsReadFrom (lines c.args.text.now)) memory c.claim_stop.result c.claim_stop.ensures.unusable c.claim_stop.ensures.memory
+    (no_claims memory (lines c.args.text.now) c.in-Err.error.line c.in-Err.error.fault c.in-Err.ensures.err)
