@@ -125,6 +125,10 @@ of_all = (codes "--json", false) ∷ []
 abbrev pub of_logs : List (List ℕ × Bool)
 of_logs = (codes "--verified", true) ∷ (codes "--toy", false) ∷ of_all
 
+-- those of commands that show ids and keys
+abbrev pub of_shown : List (List ℕ × Bool)
+of_shown = (codes "--full", false) ∷ (codes "--names", true) ∷ of_logs
+
 -- those of `audit`
 abbrev pub of_audits : List (List ℕ × Bool)
 of_audits =
@@ -143,12 +147,12 @@ of_making = (codes "--key", true) ∷ (codes "--key-text", true) ∷ of_logs
 abbrev pub options : Command → List (List ℕ × Bool)
 options command.Id = of_all
 options command.Audit = of_audits
-options command.Show = of_logs
+options command.Show = of_shown
 options command.Latest = of_logs
 options (command.Ask asking.State) = of_logs
 options (command.Ask asking.Resume) = of_logs
 options (command.Ask asking.Permissions) = of_logs
-options (command.Ask asking.Chain) = of_logs
+options (command.Ask asking.Chain) = of_shown
 options (command.Ask asking.Compare) = of_logs
 options (command.Do doing.Claims) = of_logs
 options (command.Do doing.Make) = of_making

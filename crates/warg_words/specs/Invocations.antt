@@ -49,6 +49,8 @@ pub record Says (words : List (List ℕ)) (call : Call) (it : Invocation) : Type
   pub json : it.json ≡ has (codes "--json") call.parts.given
   pub verified : text_in it.verified ≡ value (codes "--verified") call.parts.given
   pub toy : it.toy ≡ has (codes "--toy") call.parts.given
+  pub full : it.full ≡ has (codes "--full") call.parts.given
+  pub names : text_in it.names ≡ value (codes "--names") call.parts.given
 
 -- the invocation says what is called; without one nothing is
 abbrev pub IsCalled : Option Call → List (List ℕ) → Option Invocation → Type 0

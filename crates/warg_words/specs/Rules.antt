@@ -69,7 +69,8 @@ one_if false = 0
 -- how many of the options read standard input
 abbrev pub stdin_options : List (List ℕ × List ℕ) → ℕ
 stdin_options given =
-    one_if (is_some_stdin (value (codes "--verified") given)) + one_if (is_some_stdin (value (codes "--goes-on-from") given))
+    one_if (is_some_stdin (value (codes "--verified") given)) + one_if (is_some_stdin (value (codes "--names") given))
+    + one_if (is_some_stdin (value (codes "--goes-on-from") given))
 
 -- whether standard input is read once at most
 abbrev pub reads_once : ℕ → ℕ → ℕ → Bool

@@ -276,6 +276,8 @@ fn invocation_with<'a>(
             json: parts.has("--json"),
             verified: parts.value("--verified"),
             toy: parts.has("--toy"),
+            full: parts.has("--full"),
+            names: parts.value("--names"),
         })),
         None => Ok(None),
     }

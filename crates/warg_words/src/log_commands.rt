@@ -23,7 +23,7 @@ const BEGUN: Word = Word {
 const KEY_ID: Word = Word {
     name: "KEY_ID",
     form: Form::Required,
-    help: "The key's id",
+    help: "The key's id, or its beginning, eight digits or more",
 };
 
 const VERIFIED: Choice = Choice {
@@ -38,7 +38,21 @@ const TOY: Choice = Choice {
     help: "Also takes signatures of the toy scheme, which anyone can forge",
 };
 
+const FULL: Choice = Choice {
+    name: "full",
+    value: None,
+    help: "Shows ids whole",
+};
+
+const NAMES: Choice = Choice {
+    name: "names",
+    value: Some("FILE"),
+    help: "Names keys as this file does: an id or a key's text, a space, a name",
+};
+
 const OF_LOGS: &[Choice] = &[JSON, VERIFIED, TOY];
+
+const OF_SHOWN: &[Choice] = &[JSON, VERIFIED, TOY, FULL, NAMES];
 
 const OF_AUDITS: &[Choice] = &[
     JSON,
@@ -126,7 +140,7 @@ pub(crate) const LOG_COMMANDS: &[Row] = &[
         about: "Shows a log in words, and why a record is refused",
         example: "Example: weoldrin show package log.hex",
         words: &[KIND, LOG],
-        choices: OF_LOGS,
+        choices: OF_SHOWN,
     },
     Row {
         name: "state",
@@ -189,7 +203,7 @@ pub(crate) const LOG_COMMANDS: &[Row] = &[
             },
             LOG,
         ],
-        choices: OF_LOGS,
+        choices: OF_SHOWN,
     },
     Row {
         name: "compare",

@@ -3,12 +3,12 @@
 ghost use Rattle.std.specs.Prelude.{◌≡◌, ◌==◌, IfOk, if◌then◌else◌, length, None, Some, true, map};
 ghost use Rattle.std.specs.Option.{option_map};
 ghost use Rattle.std.specs.List.{before_first, after_first, position_or_len};
-ghost use Rattle.warg_words.specs.Commands.{named, of_all, of_audits, of_logs, of_making, options};
+ghost use Rattle.warg_words.specs.Commands.{named, of_all, of_audits, of_logs, of_making, of_shown, options};
 ghost use Rattle.warg_words.specs.Parts.{and_words, has, is_equals, is_place, no_parts, parts_of, place, value, with_awaited, with_bare, with_dashed, with_joined, with_mark, with_option, with_place, with_word};
 ghost use Rattle.warg_words.specs.PartsViews.{given_view, IfRead, parts_view};
 ghost use Rattle.warg_words.specs.Requests.{text_in, texts};
 
-use crate::command::{Command, Doing};
+use crate::command::{Asking, Command, Doing};
 use std::alloc::{AllocError, Global};
 
 /// An option that is given, with its value; that of a flag is empty.
@@ -34,6 +34,16 @@ fn log_option(name: &str) -> Option<bool>
         "--verified" => Some(true),
         "--toy" | "--json" => Some(false),
         _ => None,
+    }
+}
+
+fn shown_option(name: &str) -> Option<bool>
+    ensures { result ≡ named name.now of_shown }
+{
+    match name {
+        "--full" => Some(false),
+        "--names" => Some(true),
+        _ => log_option(name),
     }
 }
 
@@ -71,9 +81,11 @@ fn option_of(command: Command, name: &str) -> Option<bool>
 {
     match command {
         Command::Audit => audit_option(name),
+        Command::Show | Command::Ask(Asking::Chain) => shown_option(name),
         Command::Do(Doing::Make) => making_option(name),
-        Command::Show | Command::Latest => log_option(name),
-        Command::Ask(_) | Command::Do(Doing::Claims | Doing::Append) => log_option(name),
+        Command::Latest | Command::Do(Doing::Claims | Doing::Append) => log_option(name),
+        Command::Ask(Asking::State | Asking::Resume | Asking::Permissions | Asking::Compare) =>
+            log_option(name),
         Command::Id | Command::Prove(_) | Command::Verify(_) => common_option(name),
     }
 }

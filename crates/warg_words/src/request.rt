@@ -150,6 +150,10 @@ pub struct Invocation<'a> {
     pub verified: Option<&'a str>,
     /// Whether signatures of the toy scheme, which anyone can forge, are taken too.
     pub toy: bool,
+    /// Whether ids are shown whole.
+    pub full: bool,
+    /// The file of names for keys, where keys are called by such.
+    pub names: Option<&'a str>,
 }
 
 impl Invocation<'_> {
@@ -170,6 +174,8 @@ impl Invocation<'_> {
         ensures json { self.new.json ≡ self.old.json }
         ensures verified { self.new.verified ≡ self.old.verified }
         ensures toy { self.new.toy ≡ self.old.toy }
+        ensures full { self.new.full ≡ self.old.full }
+        ensures names { self.new.names ≡ self.old.names }
     {
         if let Request::Do {
             task: Task::Make { draft, .. },

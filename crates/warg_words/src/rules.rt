@@ -206,6 +206,7 @@ impl<'a> Parts<'a> {
         ensures { result ≡ stdin_options (parts_view self.now).given }
     {
         one_if(is_some_stdin(self.value("--verified")))
+            + one_if(is_some_stdin(self.value("--names")))
             + one_if(is_some_stdin(self.value("--goes-on-from")))
     }
 

@@ -12,4 +12,6 @@ returns-in-Some c =
       json = c.has.ensures;
       verified = c.value.ensures;
       toy = c.has-in-Some.ensures;
+      full = c.has-in-Some-2.ensures;
+      names = c.value-in-Some.ensures;
     })
