@@ -8,6 +8,7 @@ ghost use Rattle.warg_tasks.specs.JsonLines.{IsInJson, IsJsonText, line_objects}
 ghost use Rattle.warg_tasks.specs.LineForms.{line_forms};
 
 use crate::line_forms::line_forms;
+use crate::many_audits::first_line;
 use std::alloc::{AllocError, Global};
 use warg_files::answer::Answer;
 use warg_members::{line_object, message_object, path_object};
@@ -55,20 +56,23 @@ fn line_objects(alloc: Global, command: &str, status: u8, text: &str) -> Result<
 // The objects of an answer.
 fn json_text(alloc: Global, command: &str, answer: &Answer) -> Result<String, AllocError>
     ensures { IfOk result (λ text. IsJsonText command.now
-        (answer_view answer.now) (string_bytes text)) }
+        (answer_view answer.now) (string_bytes answer.now.error_text) (string_bytes text)) }
 {
     let text = answer.text.as_str();
     if text.is_empty() {
-        let sentence = answer.error_text.as_str().lines().next().unwrap_or("");
+        let sentence = first_line(answer.error_text.as_str());
         message_object(alloc, command, answer.status, sentence)
     } else {
         line_objects(alloc, command, answer.status, text)
     }
 }
 
-/// The answer in JSON: an object for each of its lines; where it has none, one with the sentence on standard error.
+/// The answer in JSON: an object for each of its lines; where it has none, one whose message is the first line that it
+/// tells on standard error.
 pub fn json_answer(alloc: Global, command: &str, answer: Answer) -> Result<Answer, AllocError>
-    ensures { IfOk result (λ json. IsInJson command.now (answer_view answer) (answer_view json)) }
+    ensures given { IfOk result (λ json. IsInJson command.now (answer_view answer)
+        (string_bytes answer.error_text) (answer_view json)) }
+    ensures told { IfOk result (λ json. json.error_text ≡ answer.error_text) }
 {
     Ok(Answer {
         text: json_text(alloc, command, &answer)?,

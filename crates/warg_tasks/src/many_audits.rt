@@ -43,8 +43,8 @@ fn answer_of_one<V: Verifier, S: Store>(
     }
 }
 
-// The first line of a text, if it has one.
-fn first_line(text: &str) -> &str
+/// The first line of a text, if it has one.
+pub(crate) fn first_line(text: &str) -> &str
     ensures { result.now ≡ first_of (lines text.now) }
 {
     text.lines().next().unwrap_or("")

@@ -1,34 +1,51 @@
 -- What is answered to requests, as text or in JSON.
-use Rattle.std.proofs.Common.{◌≡◌, ◌⊎◌, inl, inr, ℕ, Bool, true, false, List, map, Option, Some, None, Result, Ok, Err, IsErr, sym, ap, ◌∙◌}
+use Rattle.std.proofs.Common.{◌≡◌, ◌⊎◌, inl, inr, ℕ, Bool, true, false, List, map, Option, Some, None, Result, Ok, Err, IsErr, IfOk, string_bytes, sym, ap, ◌∙◌}
 use Rattle.std.specs.List.{slice_get}
 use Rattle.std.specs.Option.{option_map}
 use Rattle.std.proofs.lemmas.Option.{slice_get-map}
 use Rattle.std.proofs.lemmas.Bool.{false≢true}
+use Rattle.std.specs.declared.alloc.AllocError.{AllocError}
 use Rattle.warg_audit.specs.Printouts.{Printout}
 use Rattle.semver.specs.Parse.{req_of}
 use Rattle.warg_tasks.specs.Latest.{IsRequirement}
 use Rattle.warg_files.specs.Answers.{IfStopped, IsUnusable, answer_view}
+use Rattle.warg_files.specs.declared.answer.Answer.{Answer}
 use Rattle.warg_files.specs.declared.stop.Stop.{Stop}
+use Rattle.warg_files.specs.declared.stop.Stop.TheVariants as stop
 use Rattle.warg_checkpoints.specs.Words.{IsUnsaid}
 use Rattle.warg_checkpoints.proofs.WordLemmas.{unsaid_for}
-use Rattle.warg_files.specs.declared.stop.Stop.TheVariants as stop
+use Rattle.warg_tasks.specs.JsonLines.{IsInJson}
 use Rattle.warg_verified.specs.Claims.{ClaimData}
 use Rattle.warg_verified.specs.Lines.{claim_of}
 use Rattle.warg_verified.specs.Texts.{IsFirstFault, IsReadFrom}
 use Rattle.warg_verified.specs.declared.error.ClaimParseError.{ClaimParseError}
+use Rattle.weoldrin.specs.Looks.{as_it_is}
 use Rattle.weoldrin.specs.Requests.{IsGivenAs, IsGivenEnd, IsGivenTo}
 
--- verdicts on many logs are printed as they are
-pub given_many : (many json : Bool) (command : List ℕ) (P : Printout → Type 0) (printed : Printout) → many ≡ true → P printed
-    → IsGivenTo many json command P printed
-given_many true json command P printed e h = h
-given_many false json command P printed e h = absurd (false≢true e)
+module _ (json : Bool) (command : List ℕ) (layout : List ℕ → List ℕ) (P : Printout → Type 0) (told : List ℕ) (printed : Printout) where
+  -- verdicts on many logs are printed as they are
+  pub given_many : (many : Bool) → many ≡ true → P printed → IsGivenTo many json command layout P told printed
+  given_many true e h = h
+  given_many false e h = absurd (false≢true e)
 
--- and another answer as it is wanted
-pub given_one : (many json : Bool) (command : List ℕ) (P : Printout → Type 0) (printed : Printout) → many ≡ false
-    → IsGivenAs json command P printed → IsGivenTo many json command P printed
-given_one true json command P printed e h = absurd (false≢true (sym e))
-given_one false json command P printed e h = h
+  -- and another answer as it is wanted
+  pub given_one : (many : Bool) → many ≡ false → IsGivenAs json command layout P told printed → IsGivenTo many json command layout P told printed
+  given_one true e h = absurd (false≢true (sym e))
+  given_one false e h = h
+
+-- JSON of an answer is beside what that tells
+pub json_given : (result : Result Answer AllocError) (command : List ℕ) (plain : Answer)
+    → IfOk result (λ json. IsInJson command (answer_view plain) (string_bytes plain.error_text) (answer_view json))
+    → IfOk result (λ json. json.error_text ≡ plain.error_text)
+    → IfOk result (λ it. IsInJson command (answer_view plain) (string_bytes it.error_text) (answer_view it))
+json_given (Ok it) command plain is told = rw told is
+json_given (Err e) command plain is told = tt
+
+-- the answer that ends a command is given as it is wanted
+pub given_stopped : (P : Printout → Type 0) (end : Stop) (json : Bool) (command told : List ℕ) (printed : Printout) → IfStopped P end
+    → IsGivenEnd json command end told printed → IsGivenAs json command as_it_is P told printed
+given_stopped P (stop.Answer answer) json command told printed h is = (answer_view answer, h, is)
+given_stopped P stop.OutOfMemory json command told printed h is = absurd is
 
 never_both : {T E : Type 0} (result : Result T E) (value : T) → IsErr result → result ≡ Ok value → ⊥
 never_both (Ok it) value is_err e = false≢true is_err
@@ -40,12 +57,6 @@ pub no_requirement : (word : List ℕ) (end : Stop) → IfStopped (λ printed. I
 no_requirement word end h = unsaid_for (IsRequirement word) (IsErr (req_of word)) end h (λ is_err wanted e. never_both (req_of word) _ is_err e)
 
 -- ---- claims
-
--- what is given of an end of which P holds
-pub given_before : (json : Bool) (command : List ℕ) (P : Printout → Type 0) (end : Stop) (printed : Printout) → IfStopped P end
-    → IsGivenEnd json command end printed → IsGivenAs json command P printed
-given_before json command P (stop.Answer answer) printed h is = (answer_view answer, h, is)
-given_before json command P stop.OutOfMemory printed h is = absurd is
 
 no_fault : (found : Option ClaimData) (fault : ClaimParseError) → option_map Ok found ≡ Some (Err fault) → ⊥
 no_fault (Some claim) fault e = cc

@@ -1,3 +1,4 @@
 pub mod AtOnce
+pub mod Looks
 pub mod Requests
 pub mod Schemes

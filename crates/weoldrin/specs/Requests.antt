@@ -33,6 +33,8 @@ use Rattle.warg_files.specs.Answers.{answer_view}
 use Rattle.warg_files.specs.declared.stop.Stop.{Stop}
 use Rattle.warg_files.specs.declared.stop.Stop.TheVariants as stop
 use Rattle.warg_answers.specs.Verdicts.{IsPrintedOf}
+use Rattle.warg_layout.specs.declared.look.Look.{Look}
+use Rattle.weoldrin.specs.Looks.{as_it_is, IsNamed, IsUnnamed, laid_out, layout_of}
 use Rattle.weoldrin.specs.Schemes.{asked_belongs}
 use Rattle.warg_words.specs.declared.request.Invocation.{Invocation}
 use Rattle.warg_words.specs.declared.request.Question.{Question}
@@ -116,28 +118,29 @@ is_many (request.Verify statement) = false
 is_many (request.Ask kind question) = false
 is_many (request.Do kind task) = false
 
--- what is printed of an answer: itself, or its JSON
-abbrev pub IsGiven : Bool → List ℕ → Printout → Printout → Type 0
-IsGiven false command plain printed = printed ≡ plain
-IsGiven true command plain printed = IsInJson command plain printed
+-- what is printed of an answer, beside what is told on standard error: its text laid out so, or its JSON
+abbrev pub IsGiven : Bool → List ℕ → (List ℕ → List ℕ) → Printout → List ℕ → Printout → Type 0
+IsGiven false command layout plain told printed = printed ≡ laid_out layout plain
+IsGiven true command layout plain told printed = IsInJson command plain told printed
 
 -- the same of an answer of which P holds
-abbrev pub IsGivenAs : Bool → List ℕ → (Printout → Type 0) → Printout → Type 0
-IsGivenAs json command P printed = (plain : Printout) × P plain × IsGiven json command plain printed
+abbrev pub IsGivenAs : Bool → List ℕ → (List ℕ → List ℕ) → (Printout → Type 0) → List ℕ → Printout → Type 0
+IsGivenAs json command layout P told printed = (plain : Printout) × P plain × IsGiven json command layout plain told printed
 
 -- what is printed of the answer that ends a command before its own
-abbrev pub IsGivenEnd : Bool → List ℕ → Stop → Printout → Type 0
-IsGivenEnd json command (stop.Answer answer) printed = IsGiven json command (answer_view answer) printed
-IsGivenEnd json command stop.OutOfMemory printed = ⊥
+abbrev pub IsGivenEnd : Bool → List ℕ → Stop → List ℕ → Printout → Type 0
+IsGivenEnd json command (stop.Answer answer) told printed = IsGiven json command as_it_is (answer_view answer) told printed
+IsGivenEnd json command stop.OutOfMemory told printed = ⊥
 
 -- what is printed to a request of which P holds; verdicts behind paths have an object for each log already
-abbrev pub IsGivenTo : Bool → Bool → List ℕ → (Printout → Type 0) → Printout → Type 0
-IsGivenTo false json command P printed = IsGivenAs json command P printed
-IsGivenTo true json command P printed = P printed
+abbrev pub IsGivenTo : Bool → Bool → List ℕ → (List ℕ → List ℕ) → (Printout → Type 0) → List ℕ → Printout → Type 0
+IsGivenTo false json command layout P told printed = IsGivenAs json command layout P told printed
+IsGivenTo true json command layout P told printed = P printed
 
--- what is printed to a request
-abbrev pub IsResponse : Bool → List ℕ → SignatureRelation → Option Files → Option Files → Request → Printout → Type 0
-IsResponse json command belongs old new it printed = IsGivenTo (is_many it) json command (IsRequestAnswer json belongs old new it) printed
+-- what is printed to a request in a look, beside what is told on standard error
+abbrev pub IsResponse : Bool → List ℕ → Look → SignatureRelation → Option Files → Option Files → Request → List ℕ → Printout → Type 0
+IsResponse json command look belongs old new it told printed =
+    IsGivenTo (is_many it) json command (layout_of it look) (IsRequestAnswer json belongs old new it) told printed
 
 -- the lines of the text that bytes are say claims, and these are what is held
 pub record SaysClaims (bytes : List ℕ) (claims : List ClaimData) : Type 0 where
@@ -149,12 +152,22 @@ abbrev pub IsUnder : Option Files → Bool → Option (Bor (List ℕ)) → (List
 IsUnder files toy None Unread P = P (asked_belongs toy)
 IsUnder files toy (Some path) Unread P = Unread path.now ⊎ ((claims : List ClaimData) × IsIn files path.now SaysClaims claims × P (is_claimed claims))
 
--- what is answered to an invocation, by what files hold before and after
-abbrev pub IsInvocationAnswer : Option Files → Option Files → Invocation → Printout → Type 0
-IsInvocationAnswer old new it printed =
-    IsUnder old it.toy it.verified (λ path. IsGivenAs it.json it.command.now (IsUnsaidIn old path SaysClaims) printed)
-    (λ belongs. IsResponse it.json it.command.now belongs old new it.request printed)
+-- what is answered to an invocation in a look, under the verifier that it names
+abbrev pub IsAnswerIn : Look → Option Files → Option Files → Invocation → List ℕ → Printout → Type 0
+IsAnswerIn look old new it told printed =
+    IsUnder old it.toy it.verified (λ path. IsGivenAs it.json it.command.now as_it_is (IsUnsaidIn old path SaysClaims) told printed)
+    (λ belongs. IsResponse it.json it.command.now look belongs old new it.request told printed)
+
+-- what files hold after that
+abbrev pub AnswerLeaves : Option Files → Option Files → Invocation → Type 0
+AnswerLeaves old new it = IsUnder old it.toy it.verified (λ path. new ≡ old) (λ belongs. RequestLeaves belongs old new it.request)
+
+-- what is answered to an invocation, by what files hold before and after, beside what is told on standard error; names are read first
+abbrev pub IsInvocationAnswer : Option Files → Option Files → Invocation → List ℕ → Printout → Type 0
+IsInvocationAnswer old new it told printed =
+    IsNamed old it.names (λ path. IsGivenAs it.json it.command.now as_it_is (IsUnnamed old path) told printed)
+    (λ names. IsAnswerIn (record { full = it.full; names = names }) old new it told printed)
 
 -- what files hold after it
 abbrev pub InvocationLeaves : Option Files → Option Files → Invocation → Type 0
-InvocationLeaves old new it = IsUnder old it.toy it.verified (λ path. new ≡ old) (λ belongs. RequestLeaves belongs old new it.request)
+InvocationLeaves old new it = IsNamed old it.names (λ path. new ≡ old) (λ names. AnswerLeaves old new it)

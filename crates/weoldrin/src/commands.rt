@@ -1,21 +1,24 @@
 //! The commands: what each answers to the bytes of its files.
 
-ghost use Rattle.std.specs.Prelude.{◌≡◌, IfOk};
+ghost use Rattle.std.specs.Prelude.{◌≡◌, IfOk, string_bytes};
 ghost use Rattle.warg_audit.specs.Answers.{IsIdAnswer};
 ghost use Rattle.warg_audit.specs.LogTypes.{package_log};
 ghost use Rattle.warg_files.specs.Answers.{answer_view, Answers};
 ghost use Rattle.warg_tasks.specs.Latest.{IsLatestOf};
+ghost use Rattle.weoldrin.specs.Looks.{as_it_is, layout_of};
 ghost use Rattle.weoldrin.specs.Requests.{is_many, IsAskedAnswer, IsGiven, IsLatestAnswer, IsRequestAnswer, IsResponse, IsShownAnswer, RequestLeaves};
 ghost use Rattle.warg_tasks.specs.Tasks.{DoneLeaves, IsDoneAnswer};
 ghost use Rattle.warg_files.specs.Unusable.{IsOfLines};
 ghost use Rattle.warg_answers.specs.Verdicts.{IsPrintedOf};
 
+use crate::looks::laid_out;
 use std::alloc::{AllocError, Global};
 use warg_audit::LogType;
 use warg_checkpoints::{prove_answer, verify_answer};
 use warg_files::answer::Answer;
 use warg_files::input::{Store, read_input};
 use warg_files::stop::{Stop, settled};
+use warg_layout::Look;
 use warg_protocol::signing::Verifier;
 use warg_protocol::{VersionReq, operator, package};
 use warg_questions::question_answer;
@@ -192,20 +195,38 @@ fn request_answer<V: Verifier, S: Store>(
     }
 }
 
-/// The answer as it is wanted: as it is, or in JSON.
+/// An answer before that to a request, as it is wanted: as it is, or in JSON.
 pub(crate) fn given(
     alloc: Global,
     is_json: bool,
     command: &str,
     answer: Answer,
 ) -> Result<Answer, AllocError>
-    ensures { IfOk result (λ it. IsGiven is_json command.now (answer_view answer)
-        (answer_view it)) }
+    ensures { IfOk result (λ it. IsGiven is_json command.now as_it_is (answer_view answer)
+        (string_bytes it.error_text) (answer_view it)) }
 {
     if is_json {
         json_answer(alloc, command, answer)
     } else {
         Ok(answer)
+    }
+}
+
+// The answer to a request, as it is wanted: laid out for people, or in JSON.
+fn given_in(
+    alloc: Global,
+    invocation: &Invocation<'_>,
+    look: &Look,
+    answer: Answer,
+) -> Result<Answer, AllocError>
+    ensures { IfOk result (λ it. IsGiven invocation.now.json invocation.now.command.now
+        (layout_of invocation.now.request look.now) (answer_view answer)
+        (string_bytes it.error_text) (answer_view it)) }
+{
+    if invocation.json {
+        json_answer(alloc, invocation.command, answer)
+    } else {
+        laid_out(alloc, look, &invocation.request, answer)
     }
 }
 
@@ -226,16 +247,18 @@ fn is_many(request: &Request<'_>) -> bool
     }
 }
 
-/// What the request is answered, from the bytes of the files that it names.
+/// What the request is answered in a look, from the bytes of the files that it names.
 pub fn respond<V: Verifier, S: Store>(
     alloc: Global,
     verifier: &V,
     invocation: &Invocation<'_>,
+    look: &Look,
     store: &mut S,
 ) -> Result<Answer, AllocError>
     ensures answered { IfOk result (λ answer. IsResponse invocation.now.json
-        invocation.now.command.now (V.belongs verifier.now) (S.files store.old)
-        (S.files store.new) invocation.now.request (answer_view answer)) }
+        invocation.now.command.now look.now (V.belongs verifier.now) (S.files store.old)
+        (S.files store.new) invocation.now.request (string_bytes answer.error_text)
+        (answer_view answer)) }
 
     // What files hold is changed by records that are added alone, also where memory runs out.
     ensures files { RequestLeaves (V.belongs verifier.now) (S.files store.old)
@@ -246,6 +269,6 @@ pub fn respond<V: Verifier, S: Store>(
     if is_many(request) {
         Ok(answer)
     } else {
-        given(alloc, invocation.json, invocation.command, answer)
+        given_in(alloc, invocation, look, answer)
     }
 }

@@ -2,17 +2,21 @@
 #![tactic(auto)]
 
 mod commands;
+mod looks;
+mod names;
 mod schemes;
 mod verified;
 mod words;
 
 pub use commands::respond;
+pub use looks::coloured;
+pub use names::invocation_answer;
 pub use schemes::KnownSchemes;
-pub use verified::invocation_answer;
 pub use warg_audit::LogType;
 pub use warg_files::answer::Answer;
 pub use warg_files::change::{HoldFault, WriteCause, WriteFault};
 pub use warg_files::input::{ReadFault, Store};
+pub use warg_layout::{Look, NameFault, Names, NamesParseError};
 pub use warg_words::{
     Demands, Draft, Invocation, LeafIds, Question, Request, Signer, Statement, Task, Wanted,
 };

@@ -1,13 +1,13 @@
 //! The verifier of a request: the schemes that it asks for, or what a file says was verified.
 
-ghost use Rattle.std.specs.Prelude.{◌≡◌, IfOk, IfErr};
+ghost use Rattle.std.specs.Prelude.{◌≡◌, IfOk, IfErr, string_bytes};
 ghost use Rattle.std.specs.Str.Lines.{lines};
 ghost use Rattle.warg_verified.specs.Texts.{IsReadFrom};
 ghost use Rattle.warg_verified.specs.declared.error.ClaimParseError.TheVariants.{OutOfMemory};
 ghost use Rattle.warg_files.specs.Answers.{answer_view, IfStopped, IsUnusable};
 ghost use Rattle.warg_files.specs.declared.stop.Stop.TheVariants as end;
 ghost use Rattle.warg_checkpoints.specs.Words.{IsIn, IsUnsaid, IsUnsaidIn};
-ghost use Rattle.weoldrin.specs.Requests.{InvocationLeaves, IsGivenEnd, IsInvocationAnswer, IsResponse, RequestLeaves, SaysClaims};
+ghost use Rattle.weoldrin.specs.Requests.{AnswerLeaves, IsAnswerIn, IsGivenEnd, IsResponse, RequestLeaves, SaysClaims};
 ghost use Rattle.weoldrin.specs.Schemes.{asked_belongs};
 
 use crate::commands::{given, respond};
@@ -17,6 +17,7 @@ use std::str;
 use warg_files::answer::Answer;
 use warg_files::input::{Input, Store, file_stop, line_sentence, read_input};
 use warg_files::stop::{Stop, unusable};
+use warg_layout::Look;
 use warg_protocol::p256::KnownKeys;
 use warg_verified::{ClaimParseError, Verified, VerifiedParseError};
 use warg_words::Invocation;
@@ -76,10 +77,14 @@ fn read_verified<S: Store>(alloc: Global, path: &str, store: &mut S) -> Result<V
     }
 }
 
-// The end of a command that can't use a file, as the invocation wants its answer.
-fn given_end(alloc: Global, invocation: &Invocation<'_>, stop: Stop) -> Result<Answer, AllocError>
+/// The end of a command that can't use a file, as the invocation wants its answer.
+pub(crate) fn given_end(
+    alloc: Global,
+    invocation: &Invocation<'_>,
+    stop: Stop,
+) -> Result<Answer, AllocError>
     ensures { IfOk result (λ it. IsGivenEnd invocation.now.json invocation.now.command.now
-        stop (answer_view it)) }
+        stop (string_bytes it.error_text) (answer_view it)) }
 {
     match stop {
         Stop::Answer(answer) => given(alloc, invocation.json, invocation.command, answer),
@@ -91,37 +96,39 @@ fn given_end(alloc: Global, invocation: &Invocation<'_>, stop: Stop) -> Result<A
 fn known_answer<S: Store>(
     alloc: Global,
     invocation: &Invocation<'_>,
+    look: &Look,
     store: &mut S,
 ) -> Result<Answer, AllocError>
     ensures answered { IfOk result (λ answer. IsResponse invocation.now.json
-        invocation.now.command.now (asked_belongs invocation.now.toy) (S.files store.old)
-        (S.files store.new) invocation.now.request (answer_view answer)) }
+        invocation.now.command.now look.now (asked_belongs invocation.now.toy)
+        (S.files store.old) (S.files store.new) invocation.now.request
+        (string_bytes answer.error_text) (answer_view answer)) }
     ensures files { RequestLeaves (asked_belongs invocation.now.toy) (S.files store.old)
         (S.files store.new) invocation.now.request }
 {
     if invocation.toy {
-        respond(alloc, &KnownSchemes::new(alloc), invocation, store)
+        respond(alloc, &KnownSchemes::new(alloc), invocation, look, store)
     } else {
-        respond(alloc, &KnownKeys::new(alloc), invocation, store)
+        respond(alloc, &KnownKeys::new(alloc), invocation, look, store)
     }
 }
 
-/// What the invocation is answered, under the verifier that it names, from the bytes of the files that it names.
-pub fn invocation_answer<S: Store>(
+/// What the invocation is answered in a look, under the verifier that it names.
+pub(crate) fn answer_in<S: Store>(
     alloc: Global,
     invocation: &Invocation<'_>,
+    look: &Look,
     store: &mut S,
 ) -> Result<Answer, AllocError>
-    ensures answered { IfOk result (λ answer. IsInvocationAnswer (S.files store.old)
-        (S.files store.new) invocation.now (answer_view answer)) }
-
-    // What files hold is changed by records that are added alone, also where memory runs out.
-    ensures files { InvocationLeaves (S.files store.old) (S.files store.new) invocation.now }
+    ensures answered { IfOk result (λ answer. IsAnswerIn look.now (S.files store.old)
+        (S.files store.new) invocation.now (string_bytes answer.error_text)
+        (answer_view answer)) }
+    ensures files { AnswerLeaves (S.files store.old) (S.files store.new) invocation.now }
 {
     match invocation.verified {
-        None => known_answer(alloc, invocation, store),
+        None => known_answer(alloc, invocation, look, store),
         Some(path) => match read_verified(alloc, path, store) {
-            Ok(verified) => respond(alloc, &verified, invocation, store),
+            Ok(verified) => respond(alloc, &verified, invocation, look, store),
             Err(stop) => given_end(alloc, invocation, stop),
         },
     }

@@ -1,10 +1,11 @@
 //! The words of the program, with what those are answered that ask for nothing.
 
-ghost use Rattle.std.specs.Prelude.{IfOk};
+ghost use Rattle.std.specs.Prelude.{IfOk, string_bytes};
 ghost use Rattle.warg_files.specs.Answers.{answer_view, IsUnusable};
 ghost use Rattle.warg_words.specs.Invocations.{asks_for_json, named_command};
 ghost use Rattle.warg_words.specs.Requests.{texts};
 ghost use Rattle.weoldrin.specs.AtOnce.{IsParsed};
+ghost use Rattle.weoldrin.specs.Looks.{as_it_is};
 ghost use Rattle.weoldrin.specs.Requests.{IsGivenAs};
 
 use crate::commands::given;
@@ -24,7 +25,8 @@ pub enum Parsed<'a> {
 // What is answered to wrong words: what is wrong with them, in JSON too if they ask for it.
 fn wrong_answer(alloc: Global, words: &[&str], fault: String) -> Result<Answer, AllocError>
     ensures { IfOk result (λ answer. IsGivenAs (asks_for_json (texts words.now))
-        (named_command (texts words.now)) IsUnusable (answer_view answer)) }
+        (named_command (texts words.now)) as_it_is IsUnusable
+        (string_bytes answer.error_text) (answer_view answer)) }
 {
     let answer = Answer::fault(alloc, fault, UNUSABLE);
     given(alloc, asks_for_json(words), named_command(words), answer)

@@ -8,13 +8,13 @@ mod streams;
 
 use disk::Disk;
 use std::alloc::{AllocError, Global};
-use std::env::Env;
-use std::io::{ErrorKind, Write};
+use std::env::{Env, VarError};
+use std::io::{ErrorKind, IsTerminal, Write};
 use std::process::ExitCode;
 use std::{env, io};
 use streams::closed_streams;
 use warg_protocol::Timestamp;
-use weoldrin::{Answer, Parsed, invocation_answer, parse_words};
+use weoldrin::{Answer, Parsed, coloured, invocation_answer, parse_words};
 
 /// The status of trouble.
 const TROUBLE: u8 = 3;
@@ -41,6 +41,21 @@ fn answered(rt: &HostRuntime, words: &[&str], disk: &mut Disk<'_>) -> Result<Ans
         }
         Parsed::Answer(answer) => Ok(answer),
     }
+}
+
+// Whether the user has asked for answers without colour: `NO_COLOR` has a text.
+fn is_plain(rt: &(impl Alloc<A = Global> + Env)) -> Result<bool, AllocError> {
+    match env::var(rt, "NO_COLOR") {
+        Ok(text) => Ok(!text.is_empty()),
+        Err(VarError::NotPresent) => Ok(false),
+        Err(VarError::NotUnicode) => Ok(true),
+        Err(VarError::OutOfMemory) => Err(AllocError),
+    }
+}
+
+// The answer as it is printed to standard output.
+fn shown(rt: &HostRuntime, answer: Answer) -> Result<Answer, AllocError> {
+    coloured(rt.alloc(), rt.stdout().is_terminal(), is_plain(rt)?, answer)
 }
 
 // Says what went wrong, and where records were added, that they stand all the same.
@@ -74,7 +89,8 @@ fn run(rt: &HostRuntime, words: &[String]) -> u8 {
         .iter()
         .map(|word| word.as_str())
         .collect(rt.alloc());
-    match texts.and_then(|texts| answered(rt, texts.as_slice(), &mut disk)) {
+    let answer = texts.and_then(|texts| answered(rt, texts.as_slice(), &mut disk));
+    match answer.and_then(|answer| shown(rt, answer)) {
         Ok(answer) => print(rt, &disk, &answer),
         Err(AllocError) => trouble(rt, &disk, "out of memory"),
     }

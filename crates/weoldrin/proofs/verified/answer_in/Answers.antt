@@ -1,8 +1,7 @@
 use Rattle.std.proofs.Common.{inl, inr}
 use Rattle.std.proofs.lemmas.Result.{IfOk-weaker}
-use Rattle.warg_files.specs.Answers.{answer_view}
-use Rattle.weoldrin.proofs.RequestLemmas.{given_before}
-use Rattle.weoldrin.proofs.verified.invocation_answer.Goals as goal
+use Rattle.weoldrin.proofs.RequestLemmas.{given_stopped}
+use Rattle.weoldrin.proofs.verified.answer_in.Goals as goal
 
 pub returns-in-None-clause-answered : goal.returns-in-None-clause-answered
 returns-in-None-clause-answered g c = rw c.in-None.is c.known_answer.ensures.answered
@@ -21,9 +20,8 @@ returns-in-Ok-clause-files g c =
 
 pub returns-in-Err-clause-answered : goal.returns-in-Err-clause-answered
 returns-in-Err-clause-answered g c =
-    let it = c.args.invocation.now in
     rw c.in-Some.is (IfOk-weaker c.given_end.result _ _
-    (λ answer told. inl (given_before it.json it.command.now _ c.in-Err.stop (answer_view answer) c.in-Err.ensures.stopped told)) c.given_end.ensures)
+    (λ answer told. inl (given_stopped _ c.in-Err.stop _ _ _ _ c.in-Err.ensures.stopped told)) c.given_end.ensures)
 
 pub returns-in-Err-clause-files : goal.returns-in-Err-clause-files
 returns-in-Err-clause-files g c = rw c.in-Some.is (inl c.in-Err.ensures.kept)

@@ -1,0 +1,17 @@
+use Rattle.std.proofs.lemmas.Result.{IfOk-weaker}
+use Rattle.warg_files.proofs.UnusableLemmas.{file_unread}
+use Rattle.weoldrin.proofs.NameLemmas.{unlisted_file}
+use Rattle.weoldrin.proofs.names.read_names.Goals as goal
+
+pub returns-in-Ok-clause-ok : goal.returns-in-Ok-clause-ok
+returns-in-Ok-clause-ok g c =
+    IfOk-weaker c.names_of_file.result _ _
+    (λ names said. record { bytes = c.in-Ok.input.bytes.items; held = c.in-Ok.ensures.bytes; said = said })
+    c.names_of_file.ensures.ok
+
+pub returns-in-Ok-clause-stopped : goal.returns-in-Ok-clause-stopped
+returns-in-Ok-clause-stopped g c =
+    unlisted_file _ _ c.in-Ok.input.bytes.items c.names_of_file.result c.in-Ok.ensures.bytes c.names_of_file.ensures.stopped
+
+pub returns-in-Err-clause-stopped : goal.returns-in-Err-clause-stopped
+returns-in-Err-clause-stopped g c = file_unread _ _ _ c.in-Err.stop c.in-Err.ensures.stopped

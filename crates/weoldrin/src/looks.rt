@@ -1,0 +1,92 @@
+//! Answers laid out for people: names and short ids in what `show` and `chain` print, and colours on a terminal.
+
+ghost use Rattle.std.specs.Prelude.{◌≡◌, IfOk, string_bytes};
+ghost use Rattle.warg_files.specs.Answers.{answer_view};
+ghost use Rattle.weoldrin.specs.Looks.{coloured, laid_out, layout_of, layout_of_question};
+
+use std::alloc::{AllocError, Global};
+use warg_files::answer::Answer;
+use warg_layout::{Look, chain_layout, log_layout, painted};
+use warg_words::{Question, Request};
+
+// The text that a question is answered, laid out.
+fn question_layout(
+    alloc: Global,
+    look: &Look,
+    question: &Question<'_>,
+    text: String,
+) -> Result<String, AllocError>
+    ensures { IfOk result (λ laid. string_bytes laid ≡
+        layout_of_question question.now look.now (string_bytes text)) }
+{
+    match question {
+        Question::Chain { .. } => chain_layout(alloc, look, text.as_str()),
+        Question::State { .. }
+        | Question::Resume { .. }
+        | Question::Permissions { .. }
+        | Question::Compare { .. } => Ok(text),
+    }
+}
+
+// The text that a request is answered, laid out.
+fn layout(
+    alloc: Global,
+    look: &Look,
+    request: &Request<'_>,
+    text: String,
+) -> Result<String, AllocError>
+    ensures { IfOk result (λ laid. string_bytes laid ≡
+        layout_of request.now look.now (string_bytes text)) }
+{
+    match request {
+        Request::Show { .. } => log_layout(alloc, look, text.as_str()),
+        Request::Ask { question, .. } => question_layout(alloc, look, question, text),
+        Request::Id { .. }
+        | Request::Audit { .. }
+        | Request::Audits { .. }
+        | Request::Latest { .. }
+        | Request::Prove { .. }
+        | Request::Verify { .. }
+        | Request::Do { .. } => Ok(text),
+    }
+}
+
+/// What a request is answered, laid out for people.
+pub(crate) fn laid_out(
+    alloc: Global,
+    look: &Look,
+    request: &Request<'_>,
+    answer: Answer,
+) -> Result<Answer, AllocError>
+    ensures laid { IfOk result (λ it. answer_view it ≡
+        laid_out (layout_of request.now look.now) (answer_view answer)) }
+    ensures told { IfOk result (λ it. it.error_text ≡ answer.error_text) }
+{
+    Ok(Answer {
+        text: layout(alloc, look, request, answer.text)?,
+        error_text: answer.error_text,
+        status: answer.status,
+    })
+}
+
+/// The answer as it is printed: in colour on a terminal, unless its user has asked for none.
+pub fn coloured(
+    alloc: Global,
+    is_on_terminal: bool,
+    is_plain: bool,
+    answer: Answer,
+) -> Result<Answer, AllocError>
+    ensures shown { IfOk result (λ it. answer_view it ≡
+        coloured is_on_terminal is_plain (answer_view answer)) }
+    ensures told { IfOk result (λ it. it.error_text ≡ answer.error_text) }
+{
+    if is_on_terminal && !is_plain {
+        Ok(Answer {
+            text: painted(alloc, answer.text.as_str())?,
+            error_text: answer.error_text,
+            status: answer.status,
+        })
+    } else {
+        Ok(answer)
+    }
+}

@@ -1,0 +1,101 @@
+//! The names of keys that a file lists, and the answers that have them.
+
+ghost use Rattle.std.specs.Prelude.{◌≡◌, IfErr, IfOk, IsErr, Ok, string_bytes};
+ghost use Rattle.warg_files.specs.Answers.{answer_view, IfStopped, IsUnusable};
+ghost use Rattle.warg_files.specs.declared.stop.Stop.TheVariants as stop;
+ghost use Rattle.warg_layout.specs.Names.{names_of};
+ghost use Rattle.warg_layout.specs.declared.error.NameFault.TheVariants as fault;
+ghost use Rattle.weoldrin.specs.Looks.{AreNamesIn, IsUnnamed, ListNoNames};
+ghost use Rattle.weoldrin.specs.Requests.{InvocationLeaves, IsInvocationAnswer};
+
+use crate::verified::{answer_in, given_end};
+use std::alloc::{AllocError, Global};
+use std::str;
+use warg_files::answer::Answer;
+use warg_files::input::{Input, Store, file_stop, line_sentence, read_input};
+use warg_files::stop::{Stop, unusable};
+use warg_layout::{Look, NameFault, Names, NamesParseError};
+use warg_words::Invocation;
+
+fn name_sentence(
+    alloc: Global,
+    path: &str,
+    error: NamesParseError,
+) -> Result<String, AllocError> {
+    let fault = format!(in alloc; "{}", error.fault)?;
+    line_sentence(alloc, path, error.line.saturating_sub(1), fault.as_str())
+}
+
+// The end of a command for a line that says no name.
+fn name_stop(alloc: Global, path: &str, error: NamesParseError) -> Stop
+    ensures unusable { IfStopped IsUnusable result }
+    ensures memory { error.fault ≡ fault.OutOfMemory → result ≡ stop.OutOfMemory }
+{
+    if error.fault == NameFault::OutOfMemory {
+        return Stop::OutOfMemory;
+    }
+    unusable(alloc, name_sentence(alloc, path, error))
+}
+
+// The names that a text lists.
+fn names_of(alloc: Global, path: &str, text: &str) -> Result<Names, Stop>
+    ensures ok { IfOk result (λ names. names_of text.now ≡ Ok names) }
+    ensures stopped { IfErr result (IfStopped (λ told.
+        IsErr (names_of text.now) × IsUnusable told)) }
+{
+    match Names::parse(alloc, text) {
+        Ok(names) => Ok(names),
+        Err(error) => Err(name_stop(alloc, path, error)),
+    }
+}
+
+// The names that a file lists.
+fn names_of_file(alloc: Global, input: &Input<'_>) -> Result<Names, Stop>
+    ensures ok { IfOk result (λ names. names_of input.now.bytes.items ≡ Ok names) }
+    ensures stopped { IfErr result (IfStopped (λ told.
+        ListNoNames input.now.bytes.items × IsUnusable told)) }
+{
+    match str::from_utf8(input.bytes.as_slice()) {
+        Ok(text) => names_of(alloc, input.path, text),
+        Err(_) => Err(file_stop(alloc, input.path, "it is no UTF-8")),
+    }
+}
+
+// The names that the file of this path lists.
+fn read_names<S: Store>(alloc: Global, path: &str, store: &mut S) -> Result<Names, Stop>
+    ensures ok { IfOk result (AreNamesIn (S.files store.old) path.now) }
+    ensures stopped { IfErr result (IfStopped (IsUnnamed (S.files store.old) path.now)) }
+    ensures kept { S.files store.new ≡ S.files store.old }
+{
+    match read_input(alloc, store, path) {
+        Ok(input) => names_of_file(alloc, &input),
+        Err(stop) => Err(stop),
+    }
+}
+
+/// What the invocation is answered, with the names and under the verifier that it names, from the bytes of the files that
+/// it names.
+pub fn invocation_answer<S: Store>(
+    alloc: Global,
+    invocation: &Invocation<'_>,
+    store: &mut S,
+) -> Result<Answer, AllocError>
+    ensures answered { IfOk result (λ answer. IsInvocationAnswer (S.files store.old)
+        (S.files store.new) invocation.now (string_bytes answer.error_text)
+        (answer_view answer)) }
+
+    // What files hold is changed by records that are added alone, also where memory runs out.
+    ensures files { InvocationLeaves (S.files store.old) (S.files store.new) invocation.now }
+{
+    let full = invocation.full;
+    match invocation.names {
+        None => {
+            let names = Names::new(alloc);
+            answer_in(alloc, invocation, &Look { full, names }, store)
+        }
+        Some(path) => match read_names(alloc, path, store) {
+            Ok(names) => answer_in(alloc, invocation, &Look { full, names }, store),
+            Err(stop) => given_end(alloc, invocation, stop),
+        },
+    }
+}
