@@ -4,3 +4,4 @@ pub mod ShownWordLemmas
 pub mod ResealedLemmas
 pub mod PartingLemmas
 pub mod KeyIdLemmas
+pub mod WordLemmas

@@ -1,8 +1,11 @@
 -- Where logs part, by the places of their records.
-use Rattle.std.proofs.Common.{◌≡◌, ◌∙◌, ℕ, List, length, Option}
+use Rattle.std.proofs.Common.{◌≡◌, ◌∙◌, ◌<◌, ℕ, All, List, length, slice_index_or, Option, Some, Result, ap, subst, sym}
+use Rattle.std.specs.List.{slice_get}
+use Rattle.std.specs.Option.{option_map}
 use Rattle.std.proofs.lemmas.List.{length-map}
+use Rattle.std.proofs.lemmas.Option.{slice_get-get_or, slice_get-map}
 use Rattle.warg_protocol.specs.Records.{RecordId}
-use Rattle.warg_protocol.specs.Logs.{DecodedEnvelope, IsComparison, contents, envelopes}
+use Rattle.warg_protocol.specs.Logs.{DecodedEnvelope, EnvelopeData, IsComparison, IsHonest, contents, envelopes}
 use Rattle.warg_audited_log.specs.declared.comparison.Comparison.{Comparison}
 use Rattle.warg_audited_log.specs.declared.comparison.Comparison.TheVariants.{Same, LeftIsPrefix, RightIsPrefix, Fork, Collision}
 use Rattle.warg_answers.specs.Texts.{PartsWithin}
@@ -14,6 +17,16 @@ use Rattle.warg_files.specs.declared.stop.Stop.TheVariants as stop
 
 pub length-contents : {C : Type 0} (records : List (DecodedEnvelope C)) → length (contents (envelopes records)) ≡ length records
 length-contents records = length-map (envelopes records) (λ e. e.content) ∙ length-map records (λ e. e.envelope)
+
+-- the envelope of the record at a place, and what its content bytes say
+module _ {C : Type 0} (records : List (DecodedEnvelope C)) (place : ℕ) (it : DecodedEnvelope C) (low : place < length records) (is : it ≡ slice_index_or records place it) where
+  pub envelope_at : slice_get (envelopes records) place ≡ Some it.envelope
+  envelope_at =
+      slice_get-map (λ (e : DecodedEnvelope C). e.envelope) records place
+      ∙ ap (option_map (λ (e : DecodedEnvelope C). e.envelope)) (slice_get-get_or records place it low ∙ ap Some (sym is))
+
+  pub honest_at : {M F : Type 0} (read : List ℕ → Result M F) (meaning : C → M) → All (IsHonest read meaning) records → IsHonest read meaning it
+  honest_at read meaning all = subst (IsHonest read meaning) (sym is) (all place it low)
 
 -- a comparison's places are those of records
 pub parts_within : (old_head new_head : Option RecordId) (old new : List (List ℕ)) (comparison : Comparison)

@@ -5,3 +5,4 @@ pub mod Explanations
 pub mod IdWords
 pub mod Causes
 pub mod KeyIds
+pub mod Words

@@ -61,7 +61,7 @@ comma_list (text ∷ more) = codes " " ++ (text ++ after_commas more)
 
 -- what is said of a record by its parts: a time, the signer's id, and the entries
 abbrev pub record_line : List ℕ → List ℕ → List ℕ → List ℕ
-record_line time key_id entries = time ++ (codes " " ++ (key_id ++ (codes ":" ++ entries)))
+record_line time key_id entries = time ++ (codes " " ++ (key_id ++ entries))
 
 -- the text is said of a record of which this is shown, and which this key is said to have signed
 abbrev pub IsRecordLine : List ℕ → RecordWords → List ℕ → Type 0
@@ -98,6 +98,12 @@ says_package_words content words = SaysWords package_log.read (record_words pack
 
 abbrev pub says_operator_words : List ℕ → RecordWords → Type 0
 says_operator_words content words = SaysWords operator_log.read (record_words operator_entry_words) content words
+
+-- what is said of the record that the content bytes of an envelope say
+pub record IsLineOf (Says : List ℕ → RecordWords → Type 0) (envelope : EnvelopeData) (said : List ℕ) : Type 0 where
+  pub words : RecordWords
+  pub says : Says envelope.content words
+  pub is : IsRecordLine envelope.key_id words said
 
 -- ---- states
 

@@ -1,22 +1,24 @@
 -- The texts that commands print.
-use Rattle.std.specs.Prelude.{ℕ, ◌<◌, Bool, List, [], ◌∷◌, ◌++◌, codes, length, Option, Some, None, unwrap_or, if◌then◌else◌, slice_index_or, filter, map, Result, Ok, Err}
+use Rattle.std.specs.Prelude.{◌≡◌, ℕ, ◌<◌, Bool, List, [], ◌∷◌, ◌++◌, codes, length, Option, Some, None, unwrap_or, if◌then◌else◌, slice_index_or, filter, map, Result, Ok, Err}
 use Rattle.std.specs.Fmt.{decimal}
 use Rattle.std.specs.List.{slice_get}
 use Rattle.std.specs.Option.{option_map}
-use Rattle.warg_protocol.specs.Logs.{EnvelopeData}
+use Rattle.warg_protocol.specs.Logs.{EnvelopeData, contents}
 use Rattle.warg_protocol.specs.Records.{hash_text, RecordId}
 use Rattle.warg_protocol.specs.Json.{JsonError}
 use Rattle.warg_files.specs.Printouts.{Printout}
+use Rattle.warg_printable.specs.Json.{json_printable}
 use Rattle.warg_printable.specs.Printable.{printable}
 use Rattle.warg_files.specs.Texts.{yes, no, line, all_lines}
 use Rattle.warg_audit.specs.LogAnswers.{head_text}
 use Rattle.warg_audited_log.specs.declared.link.Link.{Link}
 use Rattle.warg_audited_log.specs.declared.comparison.Comparison.{Comparison}
 use Rattle.warg_audited_log.specs.declared.comparison.Comparison.TheVariants.{Same, LeftIsPrefix, RightIsPrefix, Fork, Collision}
+use Rattle.warg_answers.specs.ShownWords.{IsLineOf, IsTimeText, RecordWords}
 
--- the JSON of a state on a line; where a time in it lies before the epoch, there is none
+-- the JSON of a state on a line, with no hidden character in it; where a time in it lies before the epoch, there is none
 abbrev pub json_text : Result (List ℕ) JsonError → Printout
-json_text (Ok text) = yes (line text)
+json_text (Ok text) = yes (line (json_printable text))
 json_text (Err fault) = no (codes "no json TimeBeforeEpoch\n")
 
 -- the permissions that pass the test, a line each in the order of the kind; `unknown` of a key that no record spoke of
@@ -32,19 +34,32 @@ abbrev pub receiver : List EnvelopeData → List ℕ → List Link → List ℕ
 receiver es key [] = key
 receiver es key (next ∷ more) = unwrap_or (signer_at es next.record_index) key
 
--- a link's line: the places of the record and of the entry, and whom it gives to
-abbrev pub link_text : Link → List ℕ → List ℕ
-link_text link to = line (printable (decimal link.record_index ++ (codes " " ++ (decimal link.entry_index ++ (codes " " ++ to)))))
+-- a link's line by its parts: the places of the record and of the entry, the record's time and signer, and whom the entry gives to
+abbrev pub link_text : Link → List ℕ → List ℕ → List ℕ → List ℕ
+link_text link time signer to =
+    line (printable (decimal link.record_index ++ (codes " " ++ (decimal link.entry_index ++ (codes " " ++ (time ++ (codes " " ++ (signer ++ (codes " to " ++ to)))))))))
 
--- the lines of links, each with the links after it
-abbrev pub links_text : List EnvelopeData → List ℕ → List Link → List ℕ
-links_text es key [] = []
-links_text es key (link ∷ more) = link_text link (receiver es key more) ++ links_text es key more
+module _ (Says : List ℕ → RecordWords → Type 0) (es : List EnvelopeData) where
+  -- a link's line: its record is the one at its place, which content bytes say
+  pub record IsLinkLine (link : Link) (to text : List ℕ) : Type 0 where
+    pub envelope : EnvelopeData
+    pub at : slice_get es link.record_index ≡ Some envelope
+    pub words : RecordWords
+    pub says : Says envelope.content words
+    pub time : List ℕ
+    pub is_time : IsTimeText words.time time
+    pub is : text ≡ link_text link time envelope.key_id to
 
--- the lines of a chain, or `none`
-abbrev pub chain_text : List EnvelopeData → List ℕ → Option (List Link) → Printout
-chain_text es key None = no (codes "none\n")
-chain_text es key (Some links) = yes (links_text es key links)
+  -- the lines of links, each with the links after it
+  abbrev pub AreLinkLines : List ℕ → List Link → List ℕ → Type 0
+  AreLinkLines key [] text = text ≡ []
+  AreLinkLines key (link ∷ more) text =
+      (first : List ℕ) × (rest : List ℕ) × IsLinkLine link (receiver es key more) first × (text ≡ first ++ rest) × AreLinkLines key more rest
+
+  -- the lines of a chain, or `none`
+  abbrev pub IsChainPrinted : List ℕ → Option (List Link) → Printout → Type 0
+  IsChainPrinted key None printed = printed ≡ no (codes "none\n")
+  IsChainPrinted key (Some links) printed = (text : List ℕ) × AreLinkLines key links text × (printed ≡ yes text)
 
 -- the text of the id of the content at a place
 abbrev pub id_text_at : (List ℕ → RecordId) → List (List ℕ) → ℕ → List ℕ
@@ -58,14 +73,38 @@ fork_line id old new place = codes "fork " ++ (decimal place ++ (codes " " ++ (i
 abbrev pub collision_line : (List ℕ → RecordId) → List (List ℕ) → ℕ → ℕ → List ℕ
 collision_line id old here there = codes "collision " ++ (decimal here ++ (codes " " ++ (decimal there ++ (codes " " ++ (id_text_at id old here ++ codes "\n")))))
 
--- how a log compares with an older copy, by the older one's head and the content bytes of the records of both: it is the same, it goes
--- on, it was rolled back, or they part
-abbrev pub comparison_text : (List ℕ → RecordId) → Option RecordId → List (List ℕ) → List (List ℕ) → Comparison → Printout
-comparison_text id head old new Same = yes (codes "same " ++ (decimal (length old) ++ (codes " " ++ (head_text head ++ codes "\n"))))
-comparison_text id head old new (LeftIsPrefix place) = yes (codes "goes on " ++ (decimal (length old) ++ (codes " " ++ (decimal (length new) ++ codes "\n"))))
-comparison_text id head old new (RightIsPrefix place) = no (codes "rolled back " ++ (decimal (length old) ++ (codes " " ++ (decimal (length new) ++ codes "\n"))))
-comparison_text id head old new (Fork place) = no (fork_line id old new place)
-comparison_text id head old new (Collision here there) = no (collision_line id old here there)
+-- what is said of a record of one of two logs, on a line behind the log's name
+abbrev pub named_line : List ℕ → List ℕ → List ℕ
+named_line name said = line (printable (name ++ (codes " " ++ said)))
+
+module _ (Says : List ℕ → RecordWords → Type 0) where
+  -- the line of the record at a place of a log of this name
+  pub record IsNamedLine (name : List ℕ) (es : List EnvelopeData) (place : ℕ) (text : List ℕ) : Type 0 where
+    pub envelope : EnvelopeData
+    pub at : slice_get es place ≡ Some envelope
+    pub said : List ℕ
+    pub is_said : IsLineOf Says envelope said
+    pub is : text ≡ named_line name said
+
+  module _ (id : List ℕ → RecordId) (head : Option RecordId) (old new : List EnvelopeData) where
+    -- where two logs fork: the line that says so, and those of both records there
+    pub record IsForkText (place : ℕ) (text : List ℕ) : Type 0 where
+      pub of_old : List ℕ
+      pub is_old : IsNamedLine (codes "old") old place of_old
+      pub of_new : List ℕ
+      pub is_new : IsNamedLine (codes "new") new place of_new
+      pub is : text ≡ fork_line id (contents old) (contents new) place ++ (of_old ++ of_new)
+
+    -- how a log compares with an older copy, by the older one's head and the envelopes of both: it is the same, it goes on, it was
+    -- rolled back, or they part
+    abbrev pub IsComparisonPrinted : Comparison → Printout → Type 0
+    IsComparisonPrinted Same printed = printed ≡ yes (codes "same " ++ (decimal (length old) ++ (codes " " ++ (head_text head ++ codes "\n"))))
+    IsComparisonPrinted (LeftIsPrefix place) printed =
+        printed ≡ yes (codes "goes on " ++ (decimal (length old) ++ (codes " " ++ (decimal (length new) ++ codes "\n"))))
+    IsComparisonPrinted (RightIsPrefix place) printed =
+        printed ≡ no (codes "rolled back " ++ (decimal (length old) ++ (codes " " ++ (decimal (length new) ++ codes "\n"))))
+    IsComparisonPrinted (Fork place) printed = (text : List ℕ) × IsForkText place text × (printed ≡ no text)
+    IsComparisonPrinted (Collision here there) printed = printed ≡ no (collision_line id (contents old) here there)
 
 -- the lists have items at the places where they part
 abbrev pub PartsWithin : List (List ℕ) → List (List ℕ) → Comparison → Type 0

@@ -1,12 +1,12 @@
 //! What the commands ask of a kind of log.
 
-ghost use Rattle.std.specs.Prelude.{◌≡◌, ℕ, Bool, List, Result, Ok, IfOk, IfSome, is_some, string_bytes, true};
+ghost use Rattle.std.specs.Prelude.{◌≡◌, ℕ, Bool, Contains, List, Result, Ok, IfNone, IfOk, IfSome, is_some, string_bytes, true};
 ghost use Rattle.warg_protocol.specs.Json.{JsonError as OfJsonError, JsonTextError as OfJsonTextError, ReturnsOrNoMemory};
 ghost use Rattle.warg_protocol.specs.Logs.{EnvelopeData, IsHonest};
 ghost use Rattle.warg_saved.specs.JsonText.{ReturnsOfText};
 ghost use Rattle.warg_answers.specs.Explanations.{HoldsFirst};
 ghost use Rattle.warg_answers.specs.KeyIds.{AreIdsOf};
-ghost use Rattle.warg_answers.specs.ShownWords.{IsRecordLine, RecordWords};
+ghost use Rattle.warg_answers.specs.ShownWords.{IsRecordLine, IsTimeText, RecordWords};
 
 use std::alloc::{AllocError, Global};
 use warg_audit::Report;
@@ -73,6 +73,11 @@ pub trait ToolLog: Report {
     fn error_sentence(alloc: Global, error: &Self::Error) -> Result<String, AllocError>
         ensures { IfOk result (λ text. string_bytes text ≡ sentence_of error.now) };
 
+    /// The time of a record in words.
+    fn time_text(alloc: Global, record: &Self::Record) -> Result<String, AllocError>
+        ensures { IfOk result (λ text.
+            IsTimeText (words_of record.now).time (string_bytes text)) };
+
     /// What is said of a record: its time, its signer, and its entries in words.
     fn record_line(
         alloc: Global,
@@ -103,16 +108,23 @@ pub trait ToolLog: Report {
     ghost says_its_words: { (r : Self.Record) (content : List ℕ) →
         Self.Record.read content ≡ Ok (Self.Record.meaning r) →
         says_words content (words_of r) };
+
+    // Each permission of the kind is one of those in order.
+    ghost in_order: { (permission : Self.Permission) → Contains order permission };
 }
 
-/// The permission that the text names.
+/// The permission that the text names, if it names one.
 pub fn permission_of<L: ToolLog>(
     alloc: Global,
     text: &str,
 ) -> Result<Option<L::Permission>, AllocError>
-    ensures { IfOk result (λ found. IfSome found (λ permission. L.text_of permission ≡ text.now)) }
+    ensures named { IfOk result (λ found. IfSome found (λ permission.
+        L.text_of permission ≡ text.now)) }
+    ensures none { IfOk result (λ found. IfNone found ((permission : L.Permission) →
+        L.text_of permission ≡ text.now → ⊥)) }
 {
-    for permission in L::permissions(alloc)?.iter() {
+    let permissions = L::permissions(alloc)?;
+    for permission in permissions.iter() {
         if L::permission_text(*permission) == text {
             return Ok(Some(*permission));
         }

@@ -7,7 +7,7 @@ ghost use Rattle.warg_answers.specs.ShownWords.{namespace_line, namespace_lines,
 use crate::key_ids::key_ids;
 use crate::kind::ToolLog;
 use crate::resealed::resealed;
-use crate::wording::{EntryWords, key_lines, permission_words, record_line};
+use crate::wording::{EntryWords, key_lines, permission_words, record_line, time_words};
 use std::alloc::{AllocError, Global};
 use warg_permissions::LogPermission;
 use warg_printable::printed_line;
@@ -87,15 +87,15 @@ fn namespace_lines(alloc: Global, namespaces: Namespaces<'_>) -> Result<String, 
 impl ToolLog for LogState {
     ghost use Rattle.std.proofs.Common.{ap, sym};
     ghost use Rattle.std.proofs.lemmas.Simd.{map-map};
-    ghost use Rattle.std.specs.Prelude.{[], ◌∷◌, is_some, map};
+    ghost use Rattle.std.specs.Prelude.{is_some, map};
     ghost use Rattle.warg_protocol.specs.Json.{in_text, text_of as written_text};
     ghost use Rattle.warg_protocol.specs.Operator.{entry_data, permission_text, record_data, state_in, state_json, view_of};
     ghost use Rattle.warg_operator_log.specs.ErrorTexts.{error_text};
     ghost use Rattle.warg_answers.specs.Explanations.{has_first_operator_entries};
-    ghost use Rattle.warg_permissions.specs.declared.operator.Permission.TheVariants as permission;
     ghost use Rattle.warg_answers.specs.ShownWords.{operator_entry_words, says_operator_words, shows_namespaces, words_at};
+    ghost use Rattle.warg_answers.specs.Words.{in_operator_order, operator_order};
 
-    ghost order = { permission.Commit ∷ permission.DefineNamespace ∷ permission.ImportNamespace ∷ [] };
+    ghost order = { operator_order };
 
     ghost text_of = { permission_text };
 
@@ -148,6 +148,10 @@ impl ToolLog for LogState {
         error.to_string(alloc)
     }
 
+    fn time_text(alloc: Global, record: &OperatorRecord) -> Result<String, AllocError> {
+        time_words(alloc, record.timestamp)
+    }
+
     fn record_line(
         alloc: Global,
         envelope: &ProtoEnvelope<OperatorRecord>,
@@ -179,4 +183,6 @@ impl ToolLog for LogState {
       e,
       ap (words_at it.timestamp) (sym (map-map operator_entry_words entry_data it.entries.items)),
     ) };
+
+    ghost in_order = { in_operator_order };
 }

@@ -112,15 +112,15 @@ fn release_lines(alloc: Global, releases: Releases<'_>) -> Result<String, AllocE
 impl ToolLog for LogState {
     ghost use Rattle.std.proofs.Common.{ap, sym};
     ghost use Rattle.std.proofs.lemmas.Simd.{map-map};
-    ghost use Rattle.std.specs.Prelude.{[], ◌∷◌, is_some, map};
+    ghost use Rattle.std.specs.Prelude.{is_some, map};
     ghost use Rattle.warg_protocol.specs.Json.{in_text, text_of as written_text};
     ghost use Rattle.warg_protocol.specs.Package.{entry_data, permission_text, record_data, state_in, state_json, view_of};
     ghost use Rattle.warg_package_log.specs.ErrorTexts.{error_text};
     ghost use Rattle.warg_answers.specs.Explanations.{has_first_package_entries};
-    ghost use Rattle.warg_permissions.specs.declared.package.Permission.TheVariants as permission;
     ghost use Rattle.warg_answers.specs.ShownWords.{package_entry_words, says_package_words, shows_releases, words_at};
+    ghost use Rattle.warg_answers.specs.Words.{in_package_order, package_order};
 
-    ghost order = { permission.Release ∷ permission.Yank ∷ [] };
+    ghost order = { package_order };
 
     ghost text_of = { permission_text };
 
@@ -173,6 +173,10 @@ impl ToolLog for LogState {
         error.to_string(alloc)
     }
 
+    fn time_text(alloc: Global, record: &PackageRecord) -> Result<String, AllocError> {
+        time_words(alloc, record.timestamp)
+    }
+
     fn record_line(
         alloc: Global,
         envelope: &ProtoEnvelope<PackageRecord>,
@@ -204,4 +208,6 @@ impl ToolLog for LogState {
       e,
       ap (words_at it.timestamp) (sym (map-map package_entry_words entry_data it.entries.items)),
     ) };
+
+    ghost in_order = { in_package_order };
 }

@@ -1,11 +1,12 @@
 //! Where a log and an older copy of it part.
 
-ghost use Rattle.std.specs.Prelude.{◌≡◌, ◌<◌, [], IfOk, length, slice_index_or, string_bytes};
-ghost use Rattle.warg_protocol.specs.Logs.{contents, envelopes};
-ghost use Rattle.warg_answers.specs.Texts.{collision_line, fork_line};
+ghost use Rattle.std.specs.Prelude.{◌≡◌, ◌<◌, [], All, IfOk, length, slice_index_or, string_bytes};
+ghost use Rattle.warg_protocol.specs.Logs.{IsHonest, contents, envelopes};
+ghost use Rattle.warg_answers.specs.Texts.{IsNamedLine, collision_line, fork_line, named_line};
 
 use crate::kind::ToolLog;
 use std::alloc::{AllocError, Global};
+use warg_printable::printed_line;
 use warg_protocol::ProtoEnvelope;
 use warg_protocol::registry::RecordId;
 
@@ -47,4 +48,28 @@ pub fn collision_text<L: ToolLog>(
 {
     let id = id_at::<L>(old, here);
     format!(in alloc; "collision {here} {there} {id}\n")
+}
+
+// What is said of a record, on a line behind the name of its log.
+fn named_line(alloc: Global, name: &str, said: &str) -> Result<String, AllocError>
+    ensures { IfOk result (λ line. string_bytes line ≡ named_line name.now said.now) }
+{
+    let said = format!(in alloc; "{name} {said}")?;
+    printed_line(alloc, said.as_str())
+}
+
+/// The line of the record at a place of a log of this name: when and by whom it was signed, and its entries.
+pub fn record_of_side<L: ToolLog>(
+    alloc: Global,
+    name: &str,
+    records: &[ProtoEnvelope<L::Record>],
+    place: usize,
+) -> Result<String, AllocError>
+    requires within { place < length (contents (envelopes records.now)) }
+    requires honest { All (IsHonest L.Record.read L.Record.meaning) records.now }
+    ensures { IfOk result (λ text. IsNamedLine L.says_words name.now (envelopes records.now)
+        place (string_bytes text)) }
+{
+    let said = L::record_line(alloc, &records[place])?;
+    named_line(alloc, name, said.as_str())
 }

@@ -109,7 +109,7 @@ fn joined_line(
     ensures { IfOk result (λ line. string_bytes line ≡
         record_line time.now key_id.now entries.now) }
 {
-    format!(in alloc; "{time} {key_id}:{entries}")
+    format!(in alloc; "{time} {key_id}{entries}")
 }
 
 /// What is said of a record: its time, its signer, and its entries.
