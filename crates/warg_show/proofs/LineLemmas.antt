@@ -62,8 +62,9 @@ namespaces_text records text h =
 module _ (Says : List ℕ → RecordWords → Type 0) (Shows : List EnvelopeData → List ℕ → Type 0)
     (shown : (records : List EnvelopeData) (text : List ℕ) → Shows records text → IsPrintedText text) where
   -- a log in words is lines with no hidden character in them
-  pub log_lines : (head : Option RecordId) (envelopes : List EnvelopeData) (text : List ℕ) → IsLogText Says head Shows envelopes text → IsPrintedText text
-  log_lines head envelopes text h =
+  pub log_lines : (id : List ℕ → RecordId) (head : Option RecordId) (envelopes : List EnvelopeData) (text : List ℕ)
+      → IsLogText id Says head Shows envelopes text → IsPrintedText text
+  log_lines id head envelopes text h =
       same_lines text _ h.is
       (both_lines h.records (head_line head ++ h.state)
       (same_lines h.records _ h.are_records.is (placed 0 h.are_records.lines))

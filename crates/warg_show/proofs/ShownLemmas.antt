@@ -7,6 +7,7 @@ use Rattle.std.proofs.Math.Seq.{take-suc}
 use Rattle.std.proofs.lemmas.List.{length-take-le, take_all}
 use Rattle.std.proofs.lemmas.List.Elements.{recursion_from_All}
 use Rattle.std.proofs.lemmas.Slice.Zip.{AllZip-long}
+use Rattle.warg_protocol.specs.Records.{RecordId}
 use Rattle.warg_protocol.specs.Logs.{Cause, DecodedEnvelope, EnvelopeData, EnvelopeFault, HasNoOffence, IfNamed, IsFirstOffence, IsHonest, SignatureRelation, envelope_of, envelopes}
 use Rattle.warg_files.specs.Lines.{strings_of}
 use Rattle.warg_audit.specs.LogAnswers.{LogDisplay, cause_name}
@@ -15,8 +16,8 @@ use Rattle.warg_files.specs.declared.lines.LineError.TheVariants.{Bad}
 use Rattle.warg_files.proofs.StringLemmas as spelling
 use Rattle.warg_files.specs.Answers.{IfStopped, answer_view}
 use Rattle.warg_show.specs.Advice.{advice_on}
-use Rattle.warg_show.specs.ShownLogs.{AreEnvelopeLines, AreRecordLines, IsCutText, IsLineOf, IsLogText, IsRefusalText, IsShown, IsShownOf, cause_words, first_bad, lines_with_places, placed_line, of_log, of_refused, of_strings}
-use Rattle.warg_answers.specs.ShownWords.{IsRecordLine, RecordWords}
+use Rattle.warg_show.specs.ShownLogs.{AreEnvelopeLines, AreRecordLines, IsBehindId, IsCutText, IsLogText, IsRefusalText, IsShown, IsShownOf, behind_id, cause_words, first_bad, lines_with_places, placed_line, of_log, of_refused, of_strings}
+use Rattle.warg_answers.specs.ShownWords.{IsLineOf, IsRecordLine, RecordWords}
 use Rattle.warg_files.specs.Texts.{no, yes}
 use Rattle.warg_answers.specs.Verdicts.{envelopes_of}
 use Rattle.warg_files.specs.declared.answer.Answer.{Answer}
@@ -42,52 +43,66 @@ lines_with_places-append place at (first ∷ more) line is =
     ap (λ rest. placed_line place first ++ rest) (lines_with_places-append (place + 1) at more line e)
     ∙ sym (append_assoc (placed_line place first) (lines_with_places (place + 1) more) (placed_line at line))
 
-module _ {C : Type 0} (words_of : C → RecordWords) where
-  -- the line of the record that an envelope holds
+module _ {C : Type 0} (id : List ℕ → RecordId) (words_of : C → RecordWords) where
+  -- what is said of the record that an envelope holds, and that behind its id
+  abbrev pub IsSaidOfEnvelope : DecodedEnvelope C → List ℕ → Type 0
+  IsSaidOfEnvelope it said = IsRecordLine it.envelope.key_id (words_of it.contents) said
+
   abbrev pub IsLineOfEnvelope : DecodedEnvelope C → List ℕ → Type 0
-  IsLineOfEnvelope it line = IsRecordLine it.envelope.key_id (words_of it.contents) line
+  IsLineOfEnvelope it line = IsBehindId (id it.envelope.content) (IsSaidOfEnvelope it) line
 
   pub no_record : (records : List (DecodedEnvelope C)) (text : List ℕ) → text ≡ []
-      → AreEnvelopeLines words_of (take 0 records) text
+      → AreEnvelopeLines id words_of (take 0 records) text
   no_record records text none = record { lines = []; each = tt; is = none }
 
-  pub record_more : (records : List (DecodedEnvelope C)) (n : ℕ) (it : DecodedEnvelope C) (text line said placed added new : List ℕ)
-      → n < length records → it ≡ slice_index_or records n it → AreEnvelopeLines words_of (take n records) text
-      → IsLineOfEnvelope it line → said ≡ line → placed ≡ placed_line n said → added ≡ placed → new ≡ text ++ added
-      → AreEnvelopeLines words_of (take (n + 1) records) new
-  record_more records n it text line said placed added new low is so_far is_line same behind alike more =
+  pub record_more : (records : List (DecodedEnvelope C)) (n : ℕ) (it : DecodedEnvelope C) (record_id : RecordId) (text line said placed added new : List ℕ)
+      → n < length records → it ≡ slice_index_or records n it → record_id ≡ id it.envelope.content → AreEnvelopeLines id words_of (take n records) text
+      → IsSaidOfEnvelope it line → said ≡ line → placed ≡ placed_line n (behind_id record_id said) → added ≡ placed → new ≡ text ++ added
+      → AreEnvelopeLines id words_of (take (n + 1) records) new
+  record_more records n it record_id text line said placed added new low is named so_far is_line same behind alike more =
       let e : n + 1 ≡ suc n = omega arith in
       let whole = ap (λ m. take m records) e ∙ take-suc records n it low ∙ ap (λ x. take n records ++ x ∷ []) (sym is) in
       let fits : n ≤ length records = omega arith in
       let long = AllZip-long IsLineOfEnvelope (take n records) so_far.lines so_far.each ∙ length-take-le n records fits in
       let next : n ≡ 0 + length so_far.lines = omega arith in
+      let shown = behind_id (id it.envelope.content) line in
+      let is_shown : IsLineOfEnvelope it shown = (line, is_line, refl) in
+      let alone = alike ∙ behind ∙ ap (λ i. placed_line n (behind_id i said)) named ∙ ap (λ t. placed_line n (behind_id (id it.envelope.content) t)) same in
       record {
-        lines = so_far.lines ++ line ∷ [];
-        each = rw whole (zip_more IsLineOfEnvelope (take n records) so_far.lines it line so_far.each is_line);
-        is = more ∙ ap (λ t. t ++ added) so_far.is ∙ ap (λ t. lines_with_places 0 so_far.lines ++ t) (alike ∙ behind ∙ ap (placed_line n) same)
-            ∙ sym (lines_with_places-append 0 n so_far.lines line next);
+        lines = so_far.lines ++ shown ∷ [];
+        each = rw whole (zip_more IsLineOfEnvelope (take n records) so_far.lines it shown so_far.each is_shown);
+        is = more ∙ ap (λ t. t ++ added) so_far.is ∙ ap (λ t. lines_with_places 0 so_far.lines ++ t) alone
+            ∙ sym (lines_with_places-append 0 n so_far.lines shown next);
       }
 
   pub every_record : (records : List (DecodedEnvelope C)) (n : ℕ) (text : List ℕ) → length records ≤ n
-      → AreEnvelopeLines words_of (take n records) text → AreEnvelopeLines words_of records text
+      → AreEnvelopeLines id words_of (take n records) text → AreEnvelopeLines id words_of records text
   every_record records n text past are =
-      subst (λ (rs : List (DecodedEnvelope C)). AreEnvelopeLines words_of rs text) (take_all n records past) are
+      subst (λ (rs : List (DecodedEnvelope C)). AreEnvelopeLines id words_of rs text) (take_all n records past) are
 
   module _ {M F : Type 0} (meaning : C → M) (read : List ℕ → Result M F) (Says : List ℕ → RecordWords → Type 0)
       (said : (it : C) (content : List ℕ) → read content ≡ Ok (meaning it) → Says content (words_of it)) where
+    -- the line of an envelope's record by its content bytes
+    abbrev IsLineBySaying : EnvelopeData → List ℕ → Type 0
+    IsLineBySaying it line = IsBehindId (id it.content) (IsLineOf Says it) line
+
+    line_said : (it : DecodedEnvelope C) (line : List ℕ) → IsHonest read meaning it → IsLineOfEnvelope it line → IsLineBySaying it.envelope line
+    line_said it line honest is =
+        (is.0, record { words = words_of it.contents; says = said it.contents it.envelope.content honest; is = is.1 }, is.2)
+
     each_said : (records : List (DecodedEnvelope C)) (lines : List (List ℕ)) → AllByRecursion (IsHonest read meaning) records
-        → AllZip IsLineOfEnvelope records lines → AllZip (IsLineOf Says) (envelopes records) lines
+        → AllZip IsLineOfEnvelope records lines → AllZip IsLineBySaying (envelopes records) lines
     each_said [] [] honest each = tt
     each_said [] (line ∷ lines) honest each = each
     each_said (it ∷ records) [] honest each = each
     each_said (it ∷ records) (line ∷ lines) honest each = (
-      record { words = words_of it.contents; says = said it.contents it.envelope.content honest.0; is = each.0 },
+      line_said it line honest.0 each.0,
       each_said records lines honest.1 each.1,
     )
 
     -- the records are those that their content bytes say
     pub said_lines : (records : List (DecodedEnvelope C)) (text : List ℕ) → All (IsHonest read meaning) records
-        → AreEnvelopeLines words_of records text → AreRecordLines Says (envelopes records) text
+        → AreEnvelopeLines id words_of records text → AreRecordLines id Says (envelopes records) text
     said_lines records text honest are = record {
       lines = are.lines;
       each = each_said records are.lines (recursion_from_All (IsHonest read meaning) records honest) are.each;
@@ -128,21 +143,21 @@ module _ {Meaning Fault View Offence : Type 0} (log : LogDisplay Meaning Fault V
       (Explains : View → List ℕ → Cause (EnvelopeFault Fault) Offence → List ℕ → Option ℕ → Type 0) (strings : List (List ℕ)) where
     pub lawful_shown : (es : List EnvelopeData) (result : Result Answer AllocError)
         → HasNoOffence log.kind belongs (envelope_of log.read) log.kind.view_of strings → es ≡ envelopes_of log strings
-        → IfOk result (λ answer. (text : List ℕ) × IsLogText Says (log.kind.head (log.kind.view_of es)) Shows es text
+        → IfOk result (λ answer. (text : List ℕ) × IsLogText log.kind.id Says (log.kind.head (log.kind.view_of es)) Shows es text
         × (answer_view answer ≡ yes text))
         → IfOk result (λ answer. IsShownOf log belongs Says Shows Explains strings (answer_view answer))
     lawful_shown es (Ok answer) none same it =
-        let P : List EnvelopeData → Type 0 = λ fs. IsLogText Says (log.kind.head (log.kind.view_of fs)) Shows fs it.0 in
+        let P : List EnvelopeData → Type 0 = λ fs. IsLogText log.kind.id Says (log.kind.head (log.kind.view_of fs)) Shows fs it.0 in
         of_log it.0 none (subst P same it.1) it.2
     lawful_shown es (Err error) none same it = tt
 
     pub refused_shown : (es : List EnvelopeData) (index : ℕ) (string : List ℕ) (result : Result Answer AllocError) → es ≡ envelopes_of log (take index strings)
         → slice_get strings index ≡ Some string
-        → IfOk result (λ answer. (text : List ℕ) × IsCutText Says (IsRefusalText log belongs (Explains (log.kind.view_of es) string) log.kind.view_of strings index) es text
+        → IfOk result (λ answer. (text : List ℕ) × IsCutText log.kind.id Says (IsRefusalText log belongs (Explains (log.kind.view_of es) string) log.kind.view_of strings index) es text
         × (answer_view answer ≡ no text))
         → IfOk result (λ answer. IsShownOf log belongs Says Shows Explains strings (answer_view answer))
     refused_shown es index string (Ok answer) same at it =
-        let P : List EnvelopeData → Type 0 = λ fs. IsCutText Says (IsRefusalText log belongs (Explains (log.kind.view_of fs) string) log.kind.view_of strings index) fs it.0 in
+        let P : List EnvelopeData → Type 0 = λ fs. IsCutText log.kind.id Says (IsRefusalText log belongs (Explains (log.kind.view_of fs) string) log.kind.view_of strings index) fs it.0 in
         of_refused index string it.0 at (subst P same it.1) it.2
     refused_shown es index string (Err error) same at it = tt
 

@@ -3,17 +3,21 @@ use Rattle.std.specs.Prelude.{◌≡◌, ℕ, ◌+◌, List, [], ◌∷◌, ◌+
 use Rattle.std.specs.Fmt.{decimal}
 use Rattle.std.specs.List.{AllZip, slice_get}
 use Rattle.warg_protocol.specs.Logs.{Cause, DecodedEnvelope, EnvelopeData, EnvelopeFault, HasNoOffence, IsFirstOffence, SignatureRelation, envelope_of}
-use Rattle.warg_protocol.specs.Records.{RecordId}
+use Rattle.warg_protocol.specs.Records.{RecordId, hash_text}
 use Rattle.warg_audit.specs.LogAnswers.{LogDisplay, cause_name, head_text, refusal, view_of}
 use Rattle.warg_files.specs.Lines.{IsFirstBad, Spell}
 use Rattle.warg_audit.specs.Printouts.{Printout, bad_line}
-use Rattle.warg_answers.specs.ShownWords.{IsRecordLine, RecordWords}
+use Rattle.warg_answers.specs.ShownWords.{IsLineOf, IsRecordLine, RecordWords}
 use Rattle.warg_files.specs.Texts.{line, no, yes}
 use Rattle.warg_printable.specs.Printable.{printable}
 use Rattle.warg_answers.specs.Verdicts.{envelopes_of}
 use Rattle.warg_show.specs.Advice.{advice_on}
 
--- what is said of a record, on a line behind its place
+-- what is said of a record, behind its id
+abbrev pub behind_id : RecordId → List ℕ → List ℕ
+behind_id id said = hash_text id.hash ++ (codes " " ++ said)
+
+-- the same on a line, behind its place
 abbrev pub placed_line : ℕ → List ℕ → List ℕ
 placed_line place said = line (printable (decimal place ++ (codes " " ++ said)))
 
@@ -37,23 +41,22 @@ cause_words why entry advice = line (printable (codes "why: " ++ why)) ++ (entry
 
 -- ---- records
 
--- a line for each record that an envelope holds, in order, by what is shown of it
-pub record AreEnvelopeLines {C : Type 0} (words_of : C → RecordWords) (records : List (DecodedEnvelope C)) (text : List ℕ) : Type 0 where
+-- the text is what P holds of, behind the id
+abbrev pub IsBehindId : RecordId → (List ℕ → Type 0) → List ℕ → Type 0
+IsBehindId id P text = (said : List ℕ) × P said × (text ≡ behind_id id said)
+
+-- a line for each record that an envelope holds, in order, by the ids of content bytes and by what is shown of it
+pub record AreEnvelopeLines {C : Type 0} (id : List ℕ → RecordId) (words_of : C → RecordWords) (records : List (DecodedEnvelope C)) (text : List ℕ) : Type 0 where
   pub lines : List (List ℕ)
-  pub each : AllZip (λ (it : DecodedEnvelope C) (said : List ℕ). IsRecordLine it.envelope.key_id (words_of it.contents) said) records lines
+  pub each : AllZip (λ (it : DecodedEnvelope C) (shown : List ℕ).
+      IsBehindId (id it.envelope.content) (IsRecordLine it.envelope.key_id (words_of it.contents)) shown) records lines
   pub is : text ≡ lines_with_places 0 lines
 
-module _ (Says : List ℕ → RecordWords → Type 0) where
-  -- what is said of the record that the content bytes of an envelope say
-  pub record IsLineOf (envelope : EnvelopeData) (said : List ℕ) : Type 0 where
-    pub words : RecordWords
-    pub says : Says envelope.content words
-    pub is : IsRecordLine envelope.key_id words said
-
-  -- a line for each envelope, in order
+module _ (id : List ℕ → RecordId) (Says : List ℕ → RecordWords → Type 0) where
+  -- a line for each envelope, in order: the id of its content bytes, and what is said of the record that they say
   pub record AreRecordLines (envelopes : List EnvelopeData) (text : List ℕ) : Type 0 where
     pub lines : List (List ℕ)
-    pub each : AllZip IsLineOf envelopes lines
+    pub each : AllZip (λ (it : EnvelopeData) (shown : List ℕ). IsBehindId (id it.content) (IsLineOf Says it) shown) envelopes lines
     pub is : text ≡ lines_with_places 0 lines
 
   -- ---- logs
@@ -92,9 +95,9 @@ module _ {Meaning Fault View Offence : Type 0} (log : LogDisplay Meaning Fault V
     -- or the records before the first that is refused, and why that is
     pub data IsShownOf (strings : List (List ℕ)) (printed : Printout) : Type 0 where
       of_log : (text : List ℕ) → HasNoOffence log.kind belongs (envelope_of log.read) log.kind.view_of strings
-          → IsLogText Says (log.kind.head (view_of log strings)) Shows (envelopes_of log strings) text → printed ≡ yes text → IsShownOf strings printed
+          → IsLogText log.kind.id Says (log.kind.head (view_of log strings)) Shows (envelopes_of log strings) text → printed ≡ yes text → IsShownOf strings printed
       of_refused : (index : ℕ) (string text : List ℕ) → slice_get strings index ≡ Some string
-          → IsCutText Says (IsRefusalText (Explains (view_of log (take index strings)) string) log.kind.view_of strings index)
+          → IsCutText log.kind.id Says (IsRefusalText (Explains (view_of log (take index strings)) string) log.kind.view_of strings index)
           (envelopes_of log (take index strings)) text
           → printed ≡ no text → IsShownOf strings printed
 

@@ -9,12 +9,15 @@ ghost use Rattle.warg_show.specs.ShownLogs.{IsLogText};
 
 /// A package log in words is lines with no control character in them.
 pub fn package_lines()
-    ensures { (head : Option RecordId) (envelopes : List EnvelopeData) (text : List ℕ) →
-        IsLogText says_package_words head shows_releases envelopes text → IsPrintedText text }
+    ensures { (id : List ℕ → RecordId) (head : Option RecordId) (envelopes : List EnvelopeData)
+        (text : List ℕ) →
+        IsLogText id says_package_words head shows_releases envelopes text → IsPrintedText text }
 {}
 
 /// So is an operator log.
 pub fn operator_lines()
-    ensures { (head : Option RecordId) (envelopes : List EnvelopeData) (text : List ℕ) →
-        IsLogText says_operator_words head shows_namespaces envelopes text → IsPrintedText text }
+    ensures { (id : List ℕ → RecordId) (head : Option RecordId) (envelopes : List EnvelopeData)
+        (text : List ℕ) →
+        IsLogText id says_operator_words head shows_namespaces envelopes text →
+        IsPrintedText text }
 {}

@@ -7,7 +7,7 @@ ghost use Rattle.warg_protocol.specs.Logs.{EnvelopeData, SignatureRelation, enve
 ghost use Rattle.warg_files.specs.Answers.{answer_view, Answers};
 ghost use Rattle.warg_answers.specs.Explanations.{Explains};
 ghost use Rattle.warg_files.specs.RecordLines.{record_lines};
-ghost use Rattle.warg_show.specs.ShownLogs.{AreEnvelopeLines, cause_words, entry_line, head_line, placed_line, IsCutText, IsLogText, IsRefusalText, IsShown, IsShownOf};
+ghost use Rattle.warg_show.specs.ShownLogs.{AreEnvelopeLines, behind_id, cause_words, entry_line, head_line, placed_line, IsCutText, IsLogText, IsRefusalText, IsShown, IsShownOf};
 ghost use Rattle.warg_files.specs.Texts.{no, yes};
 ghost use Rattle.warg_files.specs.Unusable.{IsOfLines};
 ghost use Rattle.warg_answers.specs.Verdicts.{ForDisplay};
@@ -85,25 +85,32 @@ fn refusal_text<L: ToolLog>(
     Ok(all)
 }
 
-// What is said of a record, on a line behind its place.
-fn placed_line(alloc: Global, place: usize, said: &str) -> Result<String, AllocError>
-    ensures { IfOk result (λ line. string_bytes line ≡ placed_line place said.now) }
+// What is said of a record, on a line behind its place and its id.
+fn placed_line(
+    alloc: Global,
+    place: usize,
+    id: &RecordId,
+    said: &str,
+) -> Result<String, AllocError>
+    ensures { IfOk result (λ line. string_bytes line ≡
+        placed_line place (behind_id id.now said.now)) }
 {
-    let said = format!(in alloc; "{place} {said}")?;
+    let said = format!(in alloc; "{place} {id} {said}")?;
     printed_line(alloc, said.as_str())
 }
 
-// A line for each record, its place first.
+// A line for each record, its place first, and its id.
 fn records_text<L: ToolLog>(
     alloc: Global,
     records: &[ProtoEnvelope<L::Record>],
 ) -> Result<String, AllocError>
-    ensures { IfOk result (λ text. AreEnvelopeLines L.words_of records.now (string_bytes text)) }
+    ensures { IfOk result (λ text. AreEnvelopeLines L.kind.id L.words_of records.now
+        (string_bytes text)) }
 {
     let mut text = String::new(alloc);
     for (place, envelope) in records.iter().enumerate() {
         let said = L::record_line(alloc, envelope)?;
-        let line = placed_line(alloc, place, said.as_str())?;
+        let line = placed_line(alloc, place, &L::record_id(envelope), said.as_str())?;
         text.push_str(line.as_str())?;
     }
     Ok(text)
@@ -127,7 +134,7 @@ fn log_text<L: ToolLog, V: Verifier + Drop>(
     alloc: Global,
     log: &AuditedLog<L, V>,
 ) -> Result<String, AllocError>
-    ensures { IfOk result (λ text. IsLogText L.says_words
+    ensures { IfOk result (λ text. IsLogText L.kind.id L.says_words
         (L.kind.head (L.kind.view_of (envelopes log.now.records))) L.shows
         (envelopes log.now.records) (string_bytes text)) }
 {
@@ -152,7 +159,7 @@ fn cut_text<L: ToolLog, V: Verifier + Drop>(
         (strings : List (List ℕ)) →
         IsRefusal L.kind belongs (envelope_of L.Record.read) seen
         (cause_named_by (envelope_fault_of L.Record.fault_of) L.offence_of) strings error.now →
-        IsCutText L.says_words (IsRefusalText shown belongs
+        IsCutText L.kind.id L.says_words (IsRefusalText shown belongs
         (Explains L.sentence_of L.Record.fault_of L.offence_of L.Record.read L.Record.meaning
         L.count_of L.has_first L.record_rules.offence (L.kind.view_of (envelopes log.now.records)) string.now)
         seen strings error.now.index)
@@ -169,7 +176,7 @@ fn lawful_answer<L: ToolLog, V: Verifier + Drop>(
     alloc: Global,
     log: &AuditedLog<L, V>,
 ) -> Result<Answer, AllocError>
-    ensures { IfOk result (λ answer. (text : List ℕ) × IsLogText L.says_words
+    ensures { IfOk result (λ answer. (text : List ℕ) × IsLogText L.kind.id L.says_words
         (L.kind.head (L.kind.view_of (envelopes log.now.records))) L.shows
         (envelopes log.now.records) text × (answer_view answer ≡ yes text)) }
 {
@@ -190,7 +197,7 @@ fn refused_answer<L: ToolLog, V: Verifier + Drop>(
         (all : List (List ℕ)) →
         IsRefusal L.kind belongs (envelope_of L.Record.read) seen
         (cause_named_by (envelope_fault_of L.Record.fault_of) L.offence_of) all error.now →
-        (text : List ℕ) × IsCutText L.says_words (IsRefusalText shown belongs
+        (text : List ℕ) × IsCutText L.kind.id L.says_words (IsRefusalText shown belongs
         (Explains L.sentence_of L.Record.fault_of L.offence_of L.Record.read L.Record.meaning
         L.count_of L.has_first L.record_rules.offence (L.kind.view_of (envelopes log.now.records)) string.now)
         seen all error.now.index) (envelopes log.now.records) text

@@ -8,7 +8,7 @@ returns g c = λ fault_name offence_name shown reports belongs seen strings refu
     let stands = rw c.records.ensures.records at c.records.ensures.audited.stands in
     record {
       records = records;
-      are_records = rw c.records.ensures.records at (said_lines g.L.ToolLog.words_of g.L.Record.Record.meaning g.L.Record.Record.read g.L.ToolLog.says_words g.met.L.ToolLog.says_its_words
+      are_records = rw c.records.ensures.records at (said_lines g.L.Validator.kind.id g.L.ToolLog.words_of g.L.Record.Record.meaning g.L.Record.Record.read g.L.ToolLog.says_words g.met.L.ToolLog.says_its_words
           c.records.result.now records c.records.ensures.audited.honest c.in_ok-text.ensures);
       refused = string_bytes c.in_ok-refused.refused;
       refuses = rw (ap g.L.Validator.view c.state.ensures.state ∙ stands) at (c.in_ok-refused.ensures fault_name offence_name shown reports belongs seen strings refusal);

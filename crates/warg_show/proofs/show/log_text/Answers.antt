@@ -13,7 +13,7 @@ returns g c =
     let stands = rw same at c.records.ensures.audited.stands in
     record {
       records = records;
-      are_records = rw same at (said_lines g.L.ToolLog.words_of g.L.Record.Record.meaning g.L.Record.Record.read g.L.ToolLog.says_words g.met.L.ToolLog.says_its_words c.records.result.now
+      are_records = rw same at (said_lines g.L.Validator.kind.id g.L.ToolLog.words_of g.L.Record.Record.meaning g.L.Record.Record.read g.L.ToolLog.says_words g.met.L.ToolLog.says_its_words c.records.result.now
           records c.records.ensures.audited.honest c.in_ok-text.ensures);
       state = state;
       is_state = c.in_ok-state.ensures (envelopes c.args.log.now.records) (ap g.L.Validator.view c.state.ensures.state ∙ stands);
