@@ -8,49 +8,50 @@ use Rattle.warg_files.proofs.AnswerLemmas.{IfStopped-to, Answers-to}
 use Rattle.warg_files.specs.Answers.{Answers, IfStopped}
 use Rattle.warg_questions.specs.Questions.{IsCompared, of_old, by_new, IsComparedWith, of_new, both, IsComparisonOf}
 use Rattle.warg_files.specs.Texts.{side_text}
-use Rattle.warg_answers.specs.Texts.{comparison_text}
+use Rattle.warg_answers.specs.ShownWords.{RecordWords}
+use Rattle.warg_answers.specs.Texts.{IsComparisonPrinted}
 use Rattle.warg_answers.specs.Verdicts.{IsLawful, IsNegative, envelopes_of}
 use Rattle.warg_files.specs.declared.answer.Answer.{Answer}
 use Rattle.warg_files.specs.declared.stop.Stop.{Stop}
 
 -- ---- logs as their envelopes
 
-module _ {View Offence : Type 0} (kind : Kind View Offence) where
+module _ (Says : List ℕ → RecordWords → Type 0) {View Offence : Type 0} (kind : Kind View Offence) where
   -- of states that stand for the envelopes
   pub told_of_kept : (here there : View) (old new : List EnvelopeData) (comparison : Comparison) (printed : Printout)
       → here ≡ kind.view_of old → there ≡ kind.view_of new
       → IsComparison (kind.head here) (kind.head there) (contents old) (contents new) comparison
-      → printed ≡ comparison_text kind.id (kind.head here) (contents old) (contents new) comparison → IsComparisonOf kind old new printed
+      → IsComparisonPrinted Says kind.id (kind.head here) old new comparison printed → IsComparisonOf Says kind old new printed
   told_of_kept here there old new comparison printed e f h is =
       record { comparison = comparison; compares = rw (e, f) at h; is = rw e at is }
 
   pub told_of_same : (old new here there : List EnvelopeData) (printed : Printout) → old ≡ here → new ≡ there
-      → IsComparisonOf kind old new printed → IsComparisonOf kind here there printed
+      → IsComparisonOf Says kind old new printed → IsComparisonOf Says kind here there printed
   told_of_same old new here there printed e f h = rw (e, f) at h
 
-module _ {Meaning Fault View Offence : Type 0} (log : LogDisplay Meaning Fault View Offence) (belongs : SignatureRelation) where
+module _ {Meaning Fault View Offence : Type 0} (log : LogDisplay Meaning Fault View Offence) (Says : List ℕ → RecordWords → Type 0) (belongs : SignatureRelation) where
   pub new_is_compared : (here new : List (List ℕ)) (end : Stop)
       → IfStopped (λ printed. (it : Printout) × (IsNegative log belongs new it × (printed ≡ side_text (codes "new") it))) end
-      → IfStopped (IsComparedWith log belongs here new) end
+      → IfStopped (IsComparedWith log Says belongs here new) end
   new_is_compared here new end h =
       IfStopped-to (λ printed. (it : Printout) × (IsNegative log belongs new it × (printed ≡ side_text (codes "new") it)))
-      (IsComparedWith log belongs here new) (λ printed told. of_new told.0 told.1.0 told.1.1) end h
+      (IsComparedWith log Says belongs here new) (λ printed told. of_new told.0 told.1.0 told.1.1) end h
 
   pub both_are_compared : (here there new : List (List ℕ)) (old_es new_es : List EnvelopeData) (printed : Printout)
       → old_es ≡ envelopes_of log here → new_es ≡ envelopes_of log there → IsLawful log belongs new there
-      → IsComparisonOf log.kind old_es new_es printed → IsComparedWith log belongs here new printed
+      → IsComparisonOf Says log.kind old_es new_es printed → IsComparedWith log Says belongs here new printed
   both_are_compared here there new old_es new_es printed e f lawful h =
-      both there lawful (told_of_same log.kind old_es new_es (envelopes_of log here) (envelopes_of log there) printed e f h)
+      both there lawful (told_of_same Says log.kind old_es new_es (envelopes_of log here) (envelopes_of log there) printed e f h)
 
   pub old_is_compared : (old new : List (List ℕ)) (end : Stop)
       → IfStopped (λ printed. (it : Printout) × (IsNegative log belongs old it × (printed ≡ side_text (codes "old") it))) end
-      → IfStopped (IsCompared log belongs old new) end
+      → IfStopped (IsCompared log Says belongs old new) end
   old_is_compared old new end h =
       IfStopped-to (λ printed. (it : Printout) × (IsNegative log belongs old it × (printed ≡ side_text (codes "old") it)))
-      (IsCompared log belongs old new) (λ printed told. of_old told.0 told.1.0 told.1.1) end h
+      (IsCompared log Says belongs old new) (λ printed told. of_old told.0 told.1.0 told.1.1) end h
 
   pub is_compared : (old new here : List (List ℕ)) (result : Result Answer Stop) → IsLawful log belongs old here
-      → Answers (IsComparedWith log belongs here new) result → Answers (IsCompared log belongs old new) result
+      → Answers (IsComparedWith log Says belongs here new) result → Answers (IsCompared log Says belongs old new) result
   is_compared old new here result lawful h =
-      Answers-to (IsComparedWith log belongs here new) (IsCompared log belongs old new)
+      Answers-to (IsComparedWith log Says belongs here new) (IsCompared log Says belongs old new)
       (λ printed told. by_new here lawful told) result h

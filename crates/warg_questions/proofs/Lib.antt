@@ -1,5 +1,6 @@
 pub mod AskedLemmas
 pub mod TextLemmas
+pub mod ChainLemmas
 pub mod StateLemmas
 pub mod CompareLemmas
 pub mod ResumeLemmas

@@ -7,8 +7,10 @@ use Rattle.warg_audit.specs.Printouts.{Printout}
 use Rattle.warg_files.specs.Files.{Files}
 use Rattle.warg_questions.specs.Questions.{IsStateText, IsPermissionsText, IsChainText, IsCompared}
 use Rattle.warg_questions.specs.Resumption.{IsResumed}
-use Rattle.warg_files.specs.Unusable.{IsOfFile, IsOfLines, IsOfWord}
+use Rattle.warg_files.specs.Unusable.{IsOfFile, IsOfLines}
+use Rattle.warg_answers.specs.ShownWords.{RecordWords}
 use Rattle.warg_answers.specs.Verdicts.{IsPrintedOf}
+use Rattle.warg_answers.specs.Words.{IsByWord}
 use Rattle.warg_words.specs.declared.request.Question.{Question}
 use Rattle.warg_words.specs.declared.request.Question.TheVariants as question
 
@@ -25,7 +27,9 @@ pub record Askable (Meaning Fault View Offence S P : Type 0) : Type 0 where
   pub text_of : P → List ℕ
   pub effects : Effects P
 
-module _ {Meaning Fault View Offence S P : Type 0} (kind : Askable Meaning Fault View Offence S P) (belongs : SignatureRelation) (files : Option Files) where
+-- Says: content bytes say a record of which this is shown
+module _ {Meaning Fault View Offence S P : Type 0} (kind : Askable Meaning Fault View Offence S P) (Says : List ℕ → RecordWords → Type 0) (belongs : SignatureRelation)
+    (files : Option Files) where
   -- what is answered to a question, by what files hold
   abbrev pub IsQuestionAnswer : Question → Printout → Type 0
   IsQuestionAnswer (question.State log) printed =
@@ -36,7 +40,7 @@ module _ {Meaning Fault View Offence S P : Type 0} (kind : Askable Meaning Fault
       IsOfLines files log.now (IsPrintedOf kind.shown belongs
       (IsPermissionsText kind.shown kind.view kind.has_key kind.knows kind.held kind.order kind.text_of key_id.now)) printed
   IsQuestionAnswer (question.Chain key_id permission log) printed =
-      IsOfWord (λ it. kind.text_of it ≡ permission.now)
-      (λ it. IsOfLines files log.now (IsPrintedOf kind.shown belongs (IsChainText kind.shown kind.view kind.has_key kind.effects key_id.now it))) printed
+      IsByWord (λ it. kind.text_of it ≡ permission.now)
+      (λ it. IsOfLines files log.now (IsPrintedOf kind.shown belongs (IsChainText kind.shown Says kind.view kind.has_key kind.effects key_id.now it))) printed
   IsQuestionAnswer (question.Compare old new) printed =
-      IsOfLines files old.now (λ here. IsOfLines files new.now (IsCompared kind.shown belongs here)) printed
+      IsOfLines files old.now (λ here. IsOfLines files new.now (IsCompared kind.shown Says belongs here)) printed

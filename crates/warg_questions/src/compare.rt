@@ -1,20 +1,20 @@
 //! `compare`: how a log compares with an older copy of it.
 
-ghost use Rattle.std.specs.Prelude.{◌≡◌, ◌++◌, List, ℕ, codes, string_bytes, IfOk};
+ghost use Rattle.std.specs.Prelude.{◌≡◌, ◌<◌, ◌++◌, All, List, ℕ, codes, length, string_bytes, IfOk};
 ghost use Rattle.std.specs.Fmt.{decimal};
 ghost use Rattle.std.specs.Option.{option_copied};
-ghost use Rattle.warg_protocol.specs.Logs.{contents, envelopes};
+ghost use Rattle.warg_protocol.specs.Logs.{IsHonest, contents, envelopes};
 ghost use Rattle.warg_files.specs.Answers.{answer_view, Answers};
 ghost use Rattle.warg_questions.specs.Questions.{IsCompared, IsComparedWith, IsComparisonOf};
 ghost use Rattle.warg_files.specs.RecordLines.{record_lines};
-ghost use Rattle.warg_answers.specs.Texts.{PartsWithin, comparison_text};
+ghost use Rattle.warg_answers.specs.Texts.{IsComparisonPrinted, IsForkText, PartsWithin};
 ghost use Rattle.warg_audit.specs.LogAnswers.{head_text};
 ghost use Rattle.warg_answers.specs.Verdicts.{ForDisplay, envelopes_of};
 
 use std::alloc::{AllocError, Global};
 use warg_answers::judged::Lent;
 use warg_answers::kind::ToolLog;
-use warg_answers::parting::{collision_text, fork_text};
+use warg_answers::parting::{collision_text, fork_text, record_of_side};
 use warg_answers::side::side;
 use warg_files::answer::Answer;
 use warg_files::input::Input;
@@ -34,6 +34,28 @@ fn same_text(alloc: Global, count: usize, head: Option<&RecordId>) -> Result<Str
     }
 }
 
+// Where two logs fork: the line that says so, and those of both records there.
+fn forked_text<L: ToolLog>(
+    alloc: Global,
+    place: usize,
+    old: &[ProtoEnvelope<L::Record>],
+    new: &[ProtoEnvelope<L::Record>],
+) -> Result<String, AllocError>
+    requires old_within { place < length (contents (envelopes old.now)) }
+    requires new_within { place < length (contents (envelopes new.now)) }
+    requires old_honest { All (IsHonest L.Record.read L.Record.meaning) old.now }
+    requires new_honest { All (IsHonest L.Record.read L.Record.meaning) new.now }
+    ensures { IfOk result (λ text. IsForkText L.says_words L.kind.id (envelopes old.now)
+        (envelopes new.now) place (string_bytes text)) }
+{
+    let mut text = fork_text::<L>(alloc, place, old, new)?;
+    let of_old = record_of_side::<L>(alloc, "old", old, place)?;
+    let of_new = record_of_side::<L>(alloc, "new", new, place)?;
+    text.push_str(of_old.as_str())?;
+    text.push_str(of_new.as_str())?;
+    Ok(text)
+}
+
 // The answer to a comparison of a log with an older copy, which has this head, by their records.
 fn comparison_answer<L: ToolLog>(
     alloc: Global,
@@ -42,11 +64,13 @@ fn comparison_answer<L: ToolLog>(
     old: &[ProtoEnvelope<L::Record>],
     new: &[ProtoEnvelope<L::Record>],
 ) -> Result<Answer, AllocError>
-    requires { PartsWithin (contents (envelopes old.now))
+    requires within { PartsWithin (contents (envelopes old.now))
         (contents (envelopes new.now)) comparison }
-    ensures { IfOk result (λ answer. answer_view answer ≡
-        comparison_text L.kind.id (option_copied head.entry) (contents (envelopes old.now))
-        (contents (envelopes new.now)) comparison) }
+    requires old_honest { All (IsHonest L.Record.read L.Record.meaning) old.now }
+    requires new_honest { All (IsHonest L.Record.read L.Record.meaning) new.now }
+    ensures { IfOk result (λ answer. IsComparisonPrinted L.says_words L.kind.id
+        (option_copied head.entry) (envelopes old.now) (envelopes new.now) comparison
+        (answer_view answer)) }
 {
     let (before, after) = (old.len(), new.len());
     match comparison {
@@ -63,7 +87,7 @@ fn comparison_answer<L: ToolLog>(
             Ok(Answer::new(alloc, text, 1))
         }
         Comparison::Fork { at } => {
-            let text = fork_text::<L>(alloc, at, old, new)?;
+            let text = forked_text::<L>(alloc, at, old, new)?;
             Ok(Answer::new(alloc, text, 1))
         }
         Comparison::Collision { left, right } => {
@@ -79,7 +103,7 @@ fn compared<L: ToolLog, V: Verifier + Drop>(
     old: &AuditedLog<L, V>,
     new: &AuditedLog<L, V>,
 ) -> Result<Answer, Stop>
-    ensures { Answers (IsComparisonOf L.kind (envelopes old.now.records)
+    ensures { Answers (IsComparisonOf L.says_words L.kind (envelopes old.now.records)
         (envelopes new.now.records)) result }
 {
     let comparison = old.compare(new);
@@ -97,7 +121,7 @@ fn compared_with<L: ToolLog, V: Verifier + Drop>(
     ensures { ForDisplay L.view L.kind L.Record.read L.Record.fault_of L.offence_of
         L.name_of L.lines_of (λ log.
         (here : List (List ℕ)) → envelopes old.now.records ≡ envelopes_of log here →
-        Answers (IsComparedWith log (V.belongs verifier) here
+        Answers (IsComparedWith log L.says_words (V.belongs verifier) here
         (record_lines new.entry.bytes.items)) result) }
 {
     match side::<L, V>(alloc, verifier, "new", new) {
@@ -115,8 +139,8 @@ pub fn compare_answer<L: ToolLog, V: Verifier>(
 ) -> Result<Answer, Stop>
     ensures { ForDisplay L.view L.kind L.Record.read L.Record.fault_of L.offence_of
         L.name_of L.lines_of (λ log.
-        Answers (IsCompared log (V.belongs verifier.now) (record_lines old.entry.bytes.items)
-        (record_lines new.entry.bytes.items)) result) }
+        Answers (IsCompared log L.says_words (V.belongs verifier.now)
+        (record_lines old.entry.bytes.items) (record_lines new.entry.bytes.items)) result) }
 {
     match side::<L, Lent<'_, V>>(alloc, Lent(verifier), "old", old) {
         Ok(old) => compared_with(alloc, &old, Lent(verifier), new),

@@ -4,9 +4,10 @@ ghost use Rattle.warg_files.specs.Answers.{Answers};
 ghost use Rattle.warg_questions.specs.Questions.{IsChainText, IsCompared, IsPermissionsText, IsStateText};
 ghost use Rattle.warg_files.specs.RecordLines.{record_lines};
 ghost use Rattle.warg_questions.specs.QuestionAnswers.{IsQuestionAnswer};
-ghost use Rattle.warg_files.specs.Unusable.{IsOfFile, IsOfLines, IsOfWord};
+ghost use Rattle.warg_files.specs.Unusable.{IsOfFile, IsOfLines};
 ghost use Rattle.warg_questions.specs.Resumption.{IsResumed};
 ghost use Rattle.warg_answers.specs.Verdicts.{ForDisplay, IsPrintedOf};
+ghost use Rattle.warg_answers.specs.Words.{IsByWord};
 ghost use Rattle.std.specs.Prelude.{◌≡◌};
 
 use crate::chain::{chain_answer, wanted_permission};
@@ -72,7 +73,7 @@ fn chain_of_file<L: ToolLog, V: Verifier, S: Store>(
         L.name_of L.lines_of (λ log.
         Answers (IsOfLines (S.files store.old) path.now
         (IsPrintedOf log (V.belongs verifier.now)
-        (IsChainText log L.view L.has_key L.effects key_id.now permission)))
+        (IsChainText log L.says_words L.view L.has_key L.effects key_id.now permission)))
         result) }
     ensures kept { S.files store.new ≡ S.files store.old }
 {
@@ -93,10 +94,10 @@ fn chain_of_word<L: ToolLog, V: Verifier, S: Store>(
 ) -> Result<Answer, Stop>
     ensures answered { ForDisplay L.view L.kind L.Record.read L.Record.fault_of L.offence_of
         L.name_of L.lines_of (λ log.
-        Answers (IsOfWord (λ permission. L.text_of permission ≡ word.now) (λ permission.
+        Answers (IsByWord (λ permission. L.text_of permission ≡ word.now) (λ permission.
         IsOfLines (S.files store.old) path.now
         (IsPrintedOf log (V.belongs verifier.now)
-        (IsChainText log L.view L.has_key L.effects key_id.now permission)))) result) }
+        (IsChainText log L.says_words L.view L.has_key L.effects key_id.now permission)))) result) }
     ensures kept { S.files store.new ≡ S.files store.old }
 {
     match wanted_permission::<L>(alloc, word) {
@@ -158,7 +159,7 @@ fn compared_with_file<L: ToolLog, V: Verifier, S: Store>(
     ensures answered { ForDisplay L.view L.kind L.Record.read L.Record.fault_of L.offence_of
         L.name_of L.lines_of (λ log.
         Answers (IsOfLines (S.files store.old) path.now
-        (IsCompared log (V.belongs verifier.now) (record_lines old.entry.bytes.items)))
+        (IsCompared log L.says_words (V.belongs verifier.now) (record_lines old.entry.bytes.items)))
         result) }
     ensures kept { S.files store.new ≡ S.files store.old }
 {
@@ -179,7 +180,7 @@ fn compared_files<L: ToolLog, V: Verifier, S: Store>(
         L.name_of L.lines_of (λ log.
         Answers (IsOfLines (S.files store.old) old.now
         (λ before. IsOfLines (S.files store.old) new.now
-        (IsCompared log (V.belongs verifier.now) before))) result) }
+        (IsCompared log L.says_words (V.belongs verifier.now) before))) result) }
     ensures kept { S.files store.new ≡ S.files store.old }
 {
     match read_input(alloc, store, old) {
@@ -196,23 +197,20 @@ pub fn question_answer<L: ToolLog, V: Verifier, S: Store>(
     store: &mut S,
 ) -> Result<Answer, Stop>
     ensures answered { ForDisplay L.view L.kind L.Record.read L.Record.fault_of L.offence_of
-        L.name_of
-        L.lines_of (λ log. Answers
+        L.name_of L.lines_of (λ log. Answers
         (IsQuestionAnswer (record {
           shown = log;
           view = L.view;
           json = L.json_of;
-          reads =
-              L.state_of;
+          reads = L.state_of;
           has_key = L.has_key;
           knows = L.knows;
           held = L.holds;
           order = L.order;
           text_of = L.text_of;
-          effects =
-              L.effects;
+          effects = L.effects;
         })
-        (V.belongs verifier.now) (S.files store.old) question.now) result) }
+        L.says_words (V.belongs verifier.now) (S.files store.old) question.now) result) }
     ensures kept { S.files store.new ≡ S.files store.old }
 {
     match question {

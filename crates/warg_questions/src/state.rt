@@ -13,17 +13,19 @@ use warg_answers::kind::ToolLog;
 use warg_files::answer::Answer;
 use warg_files::input::Input;
 use warg_files::stop::Stop;
+use warg_printable::json_printed;
 use warg_protocol::JsonError;
 use warg_protocol::signing::Verifier;
 
-/// The state's JSON on one line. There is none where a time lies before the epoch.
+/// The state's JSON on one line, with no hidden character in it. There is none where a time lies before the epoch.
 pub(crate) fn json_answer<L: ToolLog>(alloc: Global, state: &L) -> Result<Answer, Stop>
     ensures { Answers (λ printed. printed ≡ json_text (L.json_of state.now)) result }
 {
     match state.json_text(alloc) {
-        Ok(mut text) => {
-            text.push('\n')?;
-            Ok(Answer::new(alloc, text, 0))
+        Ok(text) => {
+            let mut printed = json_printed(alloc, text.as_str())?;
+            printed.push('\n')?;
+            Ok(Answer::new(alloc, printed, 0))
         }
         Err(JsonError::OutOfMemory) => Err(Stop::OutOfMemory),
         Err(_) => Ok(Answer::fixed(alloc, "no json TimeBeforeEpoch\n", 1)?),

@@ -62,7 +62,7 @@ IsAskedAnswer log_type.Package belongs files question printed =
       order = package_permission.Release ∷ package_permission.Yank ∷ [];
       text_of = packages.permission_text;
       effects = packages.effects;
-    }) belongs files question printed
+    }) says_package_words belongs files question printed
 IsAskedAnswer log_type.Operator belongs files question printed =
     IsQuestionAnswer (record {
       shown = operator_log;
@@ -75,7 +75,7 @@ IsAskedAnswer log_type.Operator belongs files question printed =
       order = operator_permission.Commit ∷ operator_permission.DefineNamespace ∷ operator_permission.ImportNamespace ∷ [];
       text_of = operators.permission_text;
       effects = operators.effects;
-    }) belongs files question printed
+    }) says_operator_words belongs files question printed
 
 -- the greatest release of the log in a file that meets the requirement that a word says
 abbrev pub IsLatestAnswer : SignatureRelation → Option Files → List ℕ → List ℕ → Printout → Type 0

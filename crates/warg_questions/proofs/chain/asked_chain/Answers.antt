@@ -15,6 +15,6 @@ returns g c =
       stands = c.state.ensures.audited.stands;
       key = key;
       asked = c.in_ok-asked.ensures;
-      told = subst (λ (printed : Printout). IsChainTold g.L.Validator.effects es key c.args.permission printed) (sym is) c.in_ok-answer.ensures;
+      told = subst (λ (printed : Printout). IsChainTold g.L.ToolLog.says_words g.L.Validator.effects es key c.args.permission printed) (sym is) c.in_ok-answer.ensures;
     })
     c.with_fault.ensures

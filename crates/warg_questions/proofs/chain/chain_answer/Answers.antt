@@ -12,7 +12,8 @@ returns-in_ok-asked_chain-in-Ok g c = λ fault_name offence_name shown reports.
     let it = c.in-Ok.ensures.lawful fault_name offence_name shown reports in
     let printed = answer_view c.in_ok-asked_chain-in-Ok.field-0 in
     let ByRecords : List EnvelopeData → Type 0 =
-    λ es. IsAskedChain g.L.Validator.view g.L.ToolLog.has_key g.L.Validator.kind.view_of g.L.Validator.effects es c.args.word.now c.args.permission printed in
+    λ es. IsAskedChain g.L.ToolLog.says_words g.L.Validator.view g.L.ToolLog.has_key g.L.Validator.kind.view_of g.L.Validator.effects es c.args.word.now
+    c.args.permission printed in
     lawful it.0 it.1.0 (subst ByRecords it.1.1 c.in_ok-asked_chain-in-Ok.ensures)
 
 pub returns-in-Err : goal.returns-in-Err

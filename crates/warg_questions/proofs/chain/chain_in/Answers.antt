@@ -1,10 +1,15 @@
-use Rattle.std.proofs.Common.{ap, ◌∙◌}
 use Rattle.std.proofs.lemmas.Result.{IfOk-weaker}
 use Rattle.std.specs.Option.{option_map}
 use Rattle.std.specs.Vec.{vec_items}
 use Rattle.warg_protocol.specs.Logs.{envelopes}
-use Rattle.warg_answers.specs.Texts.{chain_text}
+use Rattle.warg_questions.proofs.ChainLemmas.{answer_within}
 use Rattle.warg_questions.proofs.chain.chain_in.Goals as goal
+
+pub chain_of-requires-clause-within : goal.chain_of-requires-clause-within
+chain_of-requires-clause-within g c =
+    rw c.records.ensures.records
+    (answer_within g.L.Validator.effects (envelopes c.args.log.now.records) c.args.key_id.now c.args.permission
+    (option_map vec_items c.in_ok-links.links) c.in_ok-links.ensures)
 
 pub returns : goal.returns
 returns g c =
@@ -13,6 +18,6 @@ returns g c =
     (λ answer is. record {
       chain = chain;
       is_chain = c.in_ok-links.ensures;
-      is = is ∙ ap (λ rs. chain_text (envelopes rs) c.args.key_id.now chain) c.records.ensures.records;
+      is = rw c.records.ensures.records at is;
     })
     c.chain_of.ensures

@@ -3,13 +3,13 @@ use Rattle.warg_answers.proofs.PartingLemmas.{parts_within}
 use Rattle.warg_questions.proofs.CompareLemmas.{told_of_kept}
 use Rattle.warg_questions.proofs.compare.compared.Goals as goal
 
-pub comparison_answer-requires : goal.comparison_answer-requires
-comparison_answer-requires g c =
+pub comparison_answer-requires-clause-within : goal.comparison_answer-requires-clause-within
+comparison_answer-requires-clause-within g c =
     rw (c.records-here.ensures.records, c.records-there.ensures.records) (parts_within _ _ _ _ _ c.compare-comparison.ensures.answer)
 
 pub returns : goal.returns
 returns g c =
-    told_of_kept g.L.Validator.kind _ _ _ _ c.compare-comparison.result (answer_view c.in_ok-comparison_answer.field-0)
+    told_of_kept g.L.ToolLog.says_words g.L.Validator.kind _ _ _ _ c.compare-comparison.result (answer_view c.in_ok-comparison_answer.field-0)
     (rw c.records-here.ensures.records at c.records-here.ensures.audited.stands)
     (rw c.records-there.ensures.records at c.records-there.ensures.audited.stands)
     c.compare-comparison.ensures.answer
