@@ -42,6 +42,9 @@ released = a_text (codes "release") ∷ a_tag (codes "state") (codes "released")
 abbrev pub yanked : List PartView
 yanked = a_text (codes "release") ∷ a_tag (codes "state") (codes "yanked") (codes "yanked") ∷ []
 
+abbrev pub same_empty : List PartView
+same_empty = a_tag (codes "verdict") (codes "same") (codes "same") ∷ a_number (codes "records") ∷ a_null (codes "head") (codes "none") ∷ []
+
 abbrev pub same : List PartView
 same = a_tag (codes "verdict") (codes "same") (codes "same") ∷ a_number (codes "records") ∷ a_text (codes "head") ∷ []
 
@@ -62,6 +65,18 @@ of_old = a_tag (codes "side") (codes "old:") (codes "old") ∷ a_tag (codes "ver
 
 abbrev pub of_new : List PartView
 of_new = a_tag (codes "side") (codes "new:") (codes "new") ∷ a_tag (codes "verdict") (codes "refused") (codes "refused") ∷ a_number (codes "record") ∷ a_text (codes "offence") ∷ []
+
+abbrev pub old_record : List PartView
+old_record = a_tag (codes "side") (codes "old") (codes "old") ∷ a_text (codes "time") ∷ a_text (codes "signer") ∷ the_rest (codes "entries") ∷ []
+
+abbrev pub bare_old_record : List PartView
+bare_old_record = a_tag (codes "side") (codes "old") (codes "old") ∷ a_text (codes "time") ∷ a_text (codes "signer") ∷ []
+
+abbrev pub new_record : List PartView
+new_record = a_tag (codes "side") (codes "new") (codes "new") ∷ a_text (codes "time") ∷ a_text (codes "signer") ∷ the_rest (codes "entries") ∷ []
+
+abbrev pub bare_new_record : List PartView
+bare_new_record = a_tag (codes "side") (codes "new") (codes "new") ∷ a_text (codes "time") ∷ a_text (codes "signer") ∷ []
 
 abbrev pub of_older : List PartView
 of_older = a_tag (codes "side") (codes "older:") (codes "older") ∷ a_tag (codes "verdict") (codes "refused") (codes "refused") ∷ a_number (codes "record") ∷ a_text (codes "offence") ∷ []
@@ -104,8 +119,8 @@ line_forms =
           (a_tag (codes "shows") (codes "why:") (codes "why") ∷ the_rest (codes "why") ∷ []) ∷
           (a_tag (codes "shows") (codes "entry:") (codes "entry") ∷ a_number (codes "entry") ∷ []) ∷
           (a_tag (codes "shows") (codes "try:") (codes "try") ∷ the_rest (codes "try") ∷ []) ∷
-          (a_number (codes "record") ∷ a_text (codes "time") ∷ a_text (codes "signer") ∷ the_rest (codes "entries") ∷ []) ∷
-          (a_number (codes "record") ∷ a_text (codes "time") ∷ a_text (codes "signer") ∷ []) ∷ [];
+          (a_number (codes "record") ∷ a_text (codes "id") ∷ a_text (codes "time") ∷ a_text (codes "signer") ∷ the_rest (codes "entries") ∷ []) ∷
+          (a_number (codes "record") ∷ a_text (codes "id") ∷ a_text (codes "time") ∷ a_text (codes "signer") ∷ []) ∷ [];
     }
     ∷ record { command = codes "state"; forms = refused ∷ bad_line ∷ no_json ∷ state ∷ [] }
     ∷ record { command = codes "resume"; forms = refused ∷ bad_line ∷ no_json ∷ bad_state ∷ state ∷ [] }
@@ -115,8 +130,16 @@ line_forms =
       forms = refused ∷ bad_line ∷ (a_tag (codes "verdict") (codes "unknown") (codes "unknown") ∷ []) ∷
           (a_text (codes "permission") ∷ []) ∷ [];
     }
-    ∷ record { command = codes "chain"; forms = refused ∷ bad_line ∷ none ∷ (a_number (codes "record") ∷ a_number (codes "entry") ∷ a_text (codes "key") ∷ []) ∷ [] }
-    ∷ record { command = codes "compare"; forms = same ∷ goes_on ∷ rolled_back ∷ fork ∷ collision ∷ of_old ∷ of_new ∷ [] }
+    ∷ record {
+      command = codes "chain";
+      forms = refused ∷ bad_line ∷ none ∷
+          (a_number (codes "record") ∷ a_number (codes "entry") ∷ a_text (codes "time") ∷ a_text (codes "signer") ∷ a_word (codes "to") ∷ a_text (codes "key") ∷ []) ∷ [];
+    }
+    ∷ record {
+      command = codes "compare";
+      forms = same_empty ∷ same ∷ goes_on ∷ rolled_back ∷ fork ∷ old_record ∷ bare_old_record ∷ new_record ∷ bare_new_record ∷
+          collision ∷ of_old ∷ of_new ∷ [];
+    }
     ∷ record { command = codes "claims"; forms = refused ∷ bad_line ∷ (a_text (codes "key") ∷ a_text (codes "message") ∷ a_text (codes "signature") ∷ []) ∷ [] }
     ∷ record {
       command = codes "make";

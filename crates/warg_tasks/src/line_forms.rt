@@ -93,6 +93,14 @@ const YANKED: Form = Form {
     ],
 };
 
+const SAME_EMPTY: Form = Form {
+    parts: &[
+        Part::Tag("verdict", "same", "same"),
+        Part::Number("records"),
+        Part::Null("head", "none"),
+    ],
+};
+
 const SAME: Form = Form {
     parts: &[
         Part::Tag("verdict", "same", "same"),
@@ -152,6 +160,40 @@ const OF_NEW: Form = Form {
         Part::Tag("verdict", "refused", "refused"),
         Part::Number("record"),
         Part::Text("offence"),
+    ],
+};
+
+const OLD_RECORD: Form = Form {
+    parts: &[
+        Part::Tag("side", "old", "old"),
+        Part::Text("time"),
+        Part::Text("signer"),
+        Part::Rest("entries"),
+    ],
+};
+
+const BARE_OLD_RECORD: Form = Form {
+    parts: &[
+        Part::Tag("side", "old", "old"),
+        Part::Text("time"),
+        Part::Text("signer"),
+    ],
+};
+
+const NEW_RECORD: Form = Form {
+    parts: &[
+        Part::Tag("side", "new", "new"),
+        Part::Text("time"),
+        Part::Text("signer"),
+        Part::Rest("entries"),
+    ],
+};
+
+const BARE_NEW_RECORD: Form = Form {
+    parts: &[
+        Part::Tag("side", "new", "new"),
+        Part::Text("time"),
+        Part::Text("signer"),
     ],
 };
 
@@ -296,6 +338,7 @@ static LINE_FORMS: [CommandForms; 14] = [
             Form {
                 parts: &[
                     Part::Number("record"),
+                    Part::Text("id"),
                     Part::Text("time"),
                     Part::Text("signer"),
                     Part::Rest("entries"),
@@ -304,6 +347,7 @@ static LINE_FORMS: [CommandForms; 14] = [
             Form {
                 parts: &[
                     Part::Number("record"),
+                    Part::Text("id"),
                     Part::Text("time"),
                     Part::Text("signer"),
                 ],
@@ -352,6 +396,9 @@ static LINE_FORMS: [CommandForms; 14] = [
                 parts: &[
                     Part::Number("record"),
                     Part::Number("entry"),
+                    Part::Text("time"),
+                    Part::Text("signer"),
+                    Part::Word("to"),
                     Part::Text("key"),
                 ],
             },
@@ -359,7 +406,20 @@ static LINE_FORMS: [CommandForms; 14] = [
     },
     CommandForms {
         command: "compare",
-        forms: &[SAME, GOES_ON, ROLLED_BACK, FORK, COLLISION, OF_OLD, OF_NEW],
+        forms: &[
+            SAME_EMPTY,
+            SAME,
+            GOES_ON,
+            ROLLED_BACK,
+            FORK,
+            OLD_RECORD,
+            BARE_OLD_RECORD,
+            NEW_RECORD,
+            BARE_NEW_RECORD,
+            COLLISION,
+            OF_OLD,
+            OF_NEW,
+        ],
     },
     CommandForms {
         command: "claims",
