@@ -1,5 +1,5 @@
 -- How logs compare, and what is answered for want of a side.
-use Rattle.std.proofs.Common.{◌≡◌, ℕ, List, codes, Result}
+use Rattle.std.proofs.Common.{◌≡◌, ◌∙◌, ◌++◌, ℕ, List, ap, append_assoc, codes, Result}
 use Rattle.warg_protocol.specs.Logs.{EnvelopeData, Kind, SignatureRelation, IsComparison, contents}
 use Rattle.warg_audited_log.specs.declared.comparison.Comparison.{Comparison}
 use Rattle.warg_audit.specs.LogAnswers.{LogDisplay}
@@ -13,6 +13,14 @@ use Rattle.warg_answers.specs.Texts.{IsComparisonPrinted}
 use Rattle.warg_answers.specs.Verdicts.{IsLawful, IsNegative, envelopes_of}
 use Rattle.warg_files.specs.declared.answer.Answer.{Answer}
 use Rattle.warg_files.specs.declared.stop.Stop.{Stop}
+
+-- a text of three parts, which were put together one by one
+pub three_parts : (first second third begun so_far whole added last : List ℕ) → begun ≡ first → so_far ≡ begun ++ added → added ≡ second
+    → whole ≡ so_far ++ last → last ≡ third → whole ≡ first ++ (second ++ third)
+three_parts first second third begun so_far whole added last is_first more is_second ended is_third =
+    ended ∙ ap (λ text. so_far ++ text) is_third
+    ∙ ap (λ text. text ++ third) (more ∙ ap (λ text. begun ++ text) is_second ∙ ap (λ text. text ++ second) is_first)
+    ∙ append_assoc first second third
 
 -- ---- logs as their envelopes
 

@@ -11,6 +11,9 @@ chain_of-requires-clause-within g c =
     (answer_within g.L.Validator.effects (envelopes c.args.log.now.records) c.args.key_id.now c.args.permission
     (option_map vec_items c.in_ok-links.links) c.in_ok-links.ensures)
 
+pub chain_of-requires-clause-honest : goal.chain_of-requires-clause-honest
+chain_of-requires-clause-honest g c = c.records.ensures.audited.honest
+
 pub returns : goal.returns
 returns g c =
     let chain = option_map vec_items c.in_ok-links.links in

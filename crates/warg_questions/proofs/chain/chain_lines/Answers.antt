@@ -1,4 +1,4 @@
-use Rattle.std.proofs.Common.{◌≡◌, ◌∙◌, [], ap, length, rules, string_bytes, subst}
+use Rattle.std.proofs.Common.{◌≡◌, ◌++◌, ◌∙◌, [], ap, length, rules, string_bytes, subst}
 use Rattle.warg_protocol.specs.Logs.{envelopes}
 use Rattle.warg_questions.specs.Questions.{AreWithin}
 use Rattle.warg_questions.proofs.ChainLemmas.{link_begin, link_end, link_more}
@@ -21,7 +21,7 @@ loop-link-preserved g c =
       (subst (AreWithin (length es)) parts c.loop-link.invariant.0).1,
       link_more g.L.ToolLog.says_words es c.args.key_id.now c.loop-link.rest.now c.in-Some.later.now c.args.links.now c.in-Some.link.now _ _
       (string_bytes c.in_ok-line.line) _ parts c.receiver.ensures c.in_ok-line.ensures
-      (c.in_ok-push_str.ensures.bytes ∙ ap _ c.as_str.ensures.value) c.loop-link.invariant.1,
+      (c.in_ok-push_str.ensures.bytes ∙ ap (λ line. string_bytes c.loop-link.text ++ line) c.as_str.ensures.value) c.loop-link.invariant.1,
     )
 
 pub returns : goal.returns
