@@ -1,5 +1,5 @@
 -- Files that list no names.
-use Rattle.std.proofs.Common.{◌≡◌, ◌⊎◌, inl, inr, ℕ, Bool, true, false, List, Option, Result, Ok, Err, IfErr, IsErr, ap}
+use Rattle.std.proofs.Common.{◌≡◌, ◌⊎◌, inl, inr, ℕ, Bool, true, false, List, Option, Result, Ok, Err, IfErr, IsErr, refl, ap}
 use Rattle.std.proofs.lemmas.Bool.{false≢true}
 use Rattle.std.specs.Str.{IsUtf8}
 use Rattle.warg_files.specs.Answers.{IfStopped, IsUnusable}
@@ -13,7 +13,7 @@ use Rattle.warg_layout.specs.declared.error.NameFault.TheVariants as fault
 use Rattle.warg_layout.specs.declared.error.NamesParseError.{NamesParseError}
 use Rattle.weoldrin.specs.Looks.{IsUnnamed, ListNoNames}
 
-is_memory : Stop → Bool
+abbrev is_memory : Stop → Bool
 is_memory (stop.Answer answer) = false
 is_memory stop.OutOfMemory = true
 
@@ -22,13 +22,13 @@ pub unsaid_end : (text : List ℕ) (e : NamesParseError) (end : Stop) → (e.fau
     → (e.fault ≡ fault.OutOfMemory → end ≡ stop.OutOfMemory) → IfStopped IsUnusable end
     → IfStopped (λ told. IsErr (names_of text) × IsUnusable told) end
 unsaid_end text e (stop.Answer answer) (inl memory) ends h = absurd (false≢true (ap is_memory (ends memory)))
-unsaid_end text e (stop.Answer answer) (inr is) ends h = (rw is tt, h)
+unsaid_end text e (stop.Answer answer) (inr is) ends h = (rw is refl, h)
 unsaid_end text e stop.OutOfMemory why ends h = tt
 
 -- what is no text lists no names
 pub unlisted_bytes : (bytes : List ℕ) (end : Stop) → (IsUtf8 bytes → ⊥) → IfStopped IsUnusable end
     → IfStopped (λ told. ListNoNames bytes × IsUnusable told) end
-unlisted_bytes bytes end no h = IfStopped-to IsUnusable (λ told. ListNoNames bytes × IsUnusable told) (λ told is. (inl no, is)) end h
+unlisted_bytes bytes end bad h = IfStopped-to IsUnusable (λ told. ListNoNames bytes × IsUnusable told) (λ told is. (inl bad, is)) end h
 
 -- nor does a text of which a line says no name
 pub unlisted_text : {X : Type 0} (bytes text : List ℕ) (result : Result X Stop) → text ≡ bytes

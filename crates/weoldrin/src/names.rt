@@ -73,8 +73,8 @@ fn read_names<S: Store>(alloc: Global, path: &str, store: &mut S) -> Result<Name
     }
 }
 
-/// What the invocation is answered, with the names and under the verifier that it names, from the bytes of the files that
-/// it names.
+/// What the invocation is answered, with the names and under the verifier that it names, from the bytes of the files
+/// that it names.
 pub fn invocation_answer<S: Store>(
     alloc: Global,
     invocation: &Invocation<'_>,

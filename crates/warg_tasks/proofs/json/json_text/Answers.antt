@@ -7,6 +7,6 @@ returns-then-is_empty c =
     IfOk-weaker c.message_object.result _ _
     (λ text is. record {
       of_lines = λ some. absurd (none_left _ (rw c.as_str-text.ensures.value at c.if-is_empty.ensures) some);
-      of_none = λ none. rw (c.first_line-sentence.ensures, c.as_str-first_line-sentence.ensures.value) at is;
+      of_none = λ none. rw (c.first_line-sentence.ensures, c.as_str.ensures.value) at is;
     })
     c.message_object.ensures
