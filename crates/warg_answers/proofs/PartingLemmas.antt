@@ -5,7 +5,7 @@ use Rattle.std.specs.Option.{option_map}
 use Rattle.std.proofs.lemmas.List.{length-map}
 use Rattle.std.proofs.lemmas.Option.{slice_get-get_or, slice_get-map}
 use Rattle.warg_protocol.specs.Records.{RecordId}
-use Rattle.warg_protocol.specs.Logs.{DecodedEnvelope, EnvelopeData, IsComparison, IsHonest, contents, envelopes}
+use Rattle.warg_protocol.specs.Logs.{DecodedEnvelope, IsComparison, IsHonest, contents, envelopes}
 use Rattle.warg_audited_log.specs.declared.comparison.Comparison.{Comparison}
 use Rattle.warg_audited_log.specs.declared.comparison.Comparison.TheVariants.{Same, LeftIsPrefix, RightIsPrefix, Fork, Collision}
 use Rattle.warg_answers.specs.Texts.{PartsWithin}

@@ -1,5 +1,5 @@
 -- Answers by what a word says.
-use Rattle.std.proofs.Common.{◌≡◌, ◌<◌, ◌+◌, ◌≤◌, ◌⊎◌, inl, inr, ℕ, List, Contains, length, slice_index_or, arith, ap, sym, subst, ◌∙◌, Result}
+use Rattle.std.proofs.Common.{◌≡◌, ◌<◌, ◌+◌, ◌≤◌, inl, inr, ℕ, List, Contains, length, slice_index_or, arith, ap, sym, subst, ◌∙◌, Result}
 use Rattle.std.proofs.lemmas.Bool.{cases_lt}
 use Rattle.std.proofs.lemmas.List.{get_or_default}
 use Rattle.warg_files.specs.Printouts.{Printout}

@@ -4,7 +4,7 @@ use Rattle.std.specs.List.{AllByRecursion, slice_get}
 use Rattle.std.specs.Option.{ForSome}
 use Rattle.std.proofs.Math.ListN.{reverse_aux}
 use Rattle.std.proofs.lemmas.List.{reverse-reverse}
-use Rattle.std.proofs.lemmas.Option.{none-some, same_Some}
+use Rattle.std.proofs.lemmas.Option.{none-some}
 use Rattle.warg_protocol.specs.Logs.{Effects, EnvelopeData, IsChainAnswer, IsGrantChain}
 use Rattle.warg_audited_log.specs.Chains.{Entry, IsChainBack, entries_from, entries_of, entry_at, first_entries}
 use Rattle.warg_audited_log.specs.declared.link.Link.{Link}

@@ -1,4 +1,4 @@
-use Rattle.std.proofs.Common.{Some, ap, string_bytes}
+use Rattle.std.proofs.Common.{ap, string_bytes}
 use Rattle.std.specs.Option.{option_map}
 use Rattle.std.specs.Vec.{vec_items}
 use Rattle.warg_questions.proofs.chain.chain_of.Goals as goal
