@@ -15,18 +15,23 @@ abbrev pub laid_by : Option (List ℕ) → Bool → List ℕ → List ℕ
 laid_by (Some name) full text = name
 laid_by None full text = if full then text else short text
 
--- whether a word ends in a comma
-abbrev pub ends_in_comma : List ℕ → Bool
-ends_in_comma word = slice_index word (length word - 1) == 44
+-- what stands before the comma at the end of a word, if one is there
+abbrev pub before_comma : List ℕ → Option (List ℕ)
+before_comma word = if slice_index word (length word - 1) == 44 then Some (take (length word - 1) word) else None
 
 module _ (look : Look) where
   -- a text that may be an id: the name of the key of this id, if it has one; else the text, shortened unless whole ids are wanted
   abbrev pub laid_id : List ℕ → List ℕ
   laid_id text = laid_by (name_of look.names text) look.full text
 
-  -- the same of a word, behind which a comma stays
+  -- the same of what stands before a comma, which stays; or of the word, where there is none
+  abbrev pub laid_before : Option (List ℕ) → List ℕ → List ℕ
+  laid_before (Some id) word = laid_id id ++ codes ","
+  laid_before None word = laid_id word
+
+  -- a word laid out: what stands before the comma at its end, if one is there
   abbrev pub laid_word : List ℕ → List ℕ
-  laid_word word = if ends_in_comma word then laid_id (take (length word - 1) word) ++ codes "," else laid_id word
+  laid_word word = laid_before (before_comma word) word
 
   -- each word of a line laid out
   abbrev pub laid_line : List ℕ → List ℕ

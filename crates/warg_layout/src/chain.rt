@@ -22,8 +22,8 @@ fn push_chain_line(
     laid.push_str("\n")
 }
 
-/// The text of a chain, laid out: names in place of the ids of keys, short ids unless whole ones are wanted, and each link
-/// indented by two spaces more than the one before it, up to forty.
+/// The text of a chain, laid out: names in place of the ids of keys, short ids unless whole ones are wanted, and each
+/// link indented by two spaces more than the one before it, up to forty.
 pub fn chain_layout(alloc: Global, look: &Look, text: &str) -> Result<String, AllocError>
     ensures { IfOk result (λ laid. string_bytes laid ≡ chain_layout look.now text.now) }
 {

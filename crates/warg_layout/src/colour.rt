@@ -40,8 +40,8 @@ fn push_painted(line: &str, text: &mut String) -> Result<(), AllocError>
     text.push_str("\n")
 }
 
-/// The text with the first word of each line in colour, if that has one: red for a no, green for a yes, bold for a part of
-/// a log, and yellow for a reason.
+/// The text with the first word of each line in colour, if that has one: red for a no, green for a yes, bold for a
+/// part of a log, and yellow for a reason.
 pub fn painted(alloc: Global, text: &str) -> Result<String, AllocError>
     ensures { IfOk result (λ it. string_bytes it ≡ painted text.now) }
 {

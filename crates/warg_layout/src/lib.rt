@@ -5,6 +5,7 @@ mod chain;
 mod colour;
 mod digest;
 mod error;
+pub mod laws;
 mod line;
 mod log;
 mod look;

@@ -1,7 +1,7 @@
 //! Words and lines, laid out.
 
-ghost use Rattle.std.specs.Prelude.{◌≡◌, ◌++◌, OnOk, string_bytes};
-ghost use Rattle.warg_layout.specs.Layouts.{laid_id, laid_line, laid_word, short};
+ghost use Rattle.std.specs.Prelude.{◌≡◌, ◌++◌, OnOk, option_map, string_bytes};
+ghost use Rattle.warg_layout.specs.Layouts.{before_comma, laid_id, laid_line, laid_word, short};
 ghost use Rattle.warg_layout.specs.Logs.{spaces};
 
 use crate::digest::is_digest;
@@ -30,12 +30,19 @@ fn laid_id<'a>(look: &'a Look, text: &'a str) -> &'a str
     }
 }
 
+// What stands before the comma at the end of a word, if one is there.
+fn before_comma(word: &str) -> Option<&str>
+    ensures { option_map (λ it. it.now) result ≡ before_comma word.now }
+{
+    word.strip_suffix(',')
+}
+
 // Appends the same of a word, behind which a comma stays.
 fn push_word(look: &Look, word: &str, laid: &mut String) -> Result<(), AllocError>
     ensures { OnOk result (string_bytes laid.new ≡ string_bytes laid.old ++
         laid_word look.now word.now) }
 {
-    match word.strip_suffix(',') {
+    match before_comma(word) {
         Some(id) => {
             laid.push_str(laid_id(look, id))?;
             laid.push_str(",")

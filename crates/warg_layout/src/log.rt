@@ -3,7 +3,8 @@
 ghost use Rattle.std.specs.Prelude.{◌≡◌, ◌++◌, IfOk, OnOk, codes, option_map, string_bytes};
 ghost use Rattle.std.specs.Str.Lines.{lines};
 ghost use Rattle.warg_layout.specs.Layouts.{laid_line};
-ghost use Rattle.warg_layout.specs.Logs.{behind_release, log_layout, padded, padded_release, version_width, width_behind, widest};
+ghost use Rattle.warg_layout.specs.Logs.{behind_release, log_layout, padded, padded_release};
+ghost use Rattle.warg_layout.specs.Logs.{version_width, width_behind, widest};
 
 use crate::line::{push_line, push_spaces};
 use crate::look::Look;
@@ -52,8 +53,8 @@ fn widest(text: &str) -> usize
     width
 }
 
-// The line of a release, of which this stands behind `release`, with spaces behind the version, if that is narrower than
-// the width.
+// The line of a release, of which this stands behind `release`, with spaces behind the version, if that is narrower
+// than the width.
 fn padded_release(alloc: Global, width: usize, rest: &str) -> Result<String, AllocError>
     ensures { IfOk result (λ line. string_bytes line ≡ padded_release width rest.now) }
 {

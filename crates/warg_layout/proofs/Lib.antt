@@ -1,0 +1,6 @@
+pub mod DigestLemmas
+pub mod LayoutLemmas
+pub mod LineLemmas
+pub mod NameLemmas
+pub mod PrintableLemmas
+pub mod WordLemmas
