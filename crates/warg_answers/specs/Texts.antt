@@ -86,15 +86,15 @@ module _ (Says : List ℕ → RecordWords → Type 0) where
     pub is_said : IsLineOf Says envelope said
     pub is : text ≡ named_line name said
 
-  module _ (id : List ℕ → RecordId) (head : Option RecordId) (old new : List EnvelopeData) where
-    -- where two logs fork: the line that says so, and those of both records there
-    pub record IsForkText (place : ℕ) (text : List ℕ) : Type 0 where
-      pub of_old : List ℕ
-      pub is_old : IsNamedLine (codes "old") old place of_old
-      pub of_new : List ℕ
-      pub is_new : IsNamedLine (codes "new") new place of_new
-      pub is : text ≡ fork_line id (contents old) (contents new) place ++ (of_old ++ of_new)
+  -- where two logs fork: the line that says so, and those of both records there
+  pub record IsForkText (id : List ℕ → RecordId) (old new : List EnvelopeData) (place : ℕ) (text : List ℕ) : Type 0 where
+    pub of_old : List ℕ
+    pub is_old : IsNamedLine (codes "old") old place of_old
+    pub of_new : List ℕ
+    pub is_new : IsNamedLine (codes "new") new place of_new
+    pub is : text ≡ fork_line id (contents old) (contents new) place ++ (of_old ++ of_new)
 
+  module _ (id : List ℕ → RecordId) (head : Option RecordId) (old new : List EnvelopeData) where
     -- how a log compares with an older copy, by the older one's head and the envelopes of both: it is the same, it goes on, it was
     -- rolled back, or they part
     abbrev pub IsComparisonPrinted : Comparison → Printout → Type 0
@@ -103,7 +103,7 @@ module _ (Says : List ℕ → RecordWords → Type 0) where
         printed ≡ yes (codes "goes on " ++ (decimal (length old) ++ (codes " " ++ (decimal (length new) ++ codes "\n"))))
     IsComparisonPrinted (RightIsPrefix place) printed =
         printed ≡ no (codes "rolled back " ++ (decimal (length old) ++ (codes " " ++ (decimal (length new) ++ codes "\n"))))
-    IsComparisonPrinted (Fork place) printed = (text : List ℕ) × IsForkText place text × (printed ≡ no text)
+    IsComparisonPrinted (Fork place) printed = (text : List ℕ) × IsForkText id old new place text × (printed ≡ no text)
     IsComparisonPrinted (Collision here there) printed = printed ≡ no (collision_line id (contents old) here there)
 
 -- the lists have items at the places where they part
