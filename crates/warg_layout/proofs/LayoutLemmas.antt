@@ -82,7 +82,7 @@ shown-release width rest x =
     let parts = shown-cut rest x in
     let version : List ℕ = before_first is_space rest in
     let onward : IsPrintable (drop (length version) rest) =
-        subst (λ (n : ℕ). IsPrintable (drop n rest)) (sym (length-prefix_len (λ (b : ℕ). not (is_space b)) rest)) parts.onward in
+    subst (λ (n : ℕ). IsPrintable (drop n rest)) (sym (length-prefix_len (λ (b : ℕ). not (is_space b)) rest)) parts.onward in
     shown-append (codes "release ") (version ++ (spaces (width - length version) ++ drop (length version) rest))
     (shown-sign 114 _ (omega arith) (omega arith)
     (shown-sign 101 _ (omega arith) (omega arith)

@@ -43,7 +43,7 @@ words-more f done word old text middle new so_far parted more =
     let laid : List (List ℕ) = map f words in
     let parting : List ℕ = parting_behind done in
     let all : map f (map (λ (it : Bor (List ℕ)). it.now) (done ++ word ∷ [])) ≡ laid ++ f word.now ∷ [] =
-        ap (map f) (map-append (λ (it : Bor (List ℕ)). it.now) done (word ∷ [])) ∙ map-append f words (word.now ∷ []) in
+    ap (map f) (map-append (λ (it : Bor (List ℕ)). it.now) done (word ∷ [])) ∙ map-append f words (word.now ∷ []) in
     let same : parting_behind laid ≡ parting = parting-map f words ∙ parting-map (λ (it : Bor (List ℕ)). it.now) done in
     more ∙ ap (λ (t : List ℕ). t ++ f word.now) (parted ∙ ap (λ (t : List ℕ). t ++ parting) so_far)
     ∙ append_assoc (old ++ join_with_byte 32 laid) parting (f word.now)
@@ -111,7 +111,7 @@ chain-more look ls yielded x place line text new at so_far more =
     let n = length yielded in
     let done : List (List ℕ) = take n ls in
     let cut : take (length (yielded ++ x ∷ [])) ls ≡ done ++ line ∷ [] =
-        ap (λ (k : ℕ). take k ls) (length_push yielded x) ∙ take_more ls n line at.0 ∙ ap (λ (l : List ℕ). done ++ l ∷ []) (sym at.2) in
+    ap (λ (k : ℕ). take k ls) (length_push yielded x) ∙ take_more ls n line at.0 ∙ ap (λ (l : List ℕ). done ++ l ∷ []) (sym at.2) in
     let count : length done ≡ n = let l = length-take n ls in omega arith in
     let here : place ≡ 0 + length done = let p = at.1 in omega arith in
     more ∙ ap (λ (t : List ℕ). t ++ (chain_line look place line ++ codes "\n")) so_far

@@ -26,7 +26,7 @@ at_place : (ls : List (List ℕ)) (n : ℕ) (line : List ℕ) → n < length ls 
 at_place ls n line below at =
     let next : suc n ≡ n + 1 = omega arith in
     let cut : drop n ls ≡ line ∷ drop (n + 1) ls =
-        drop-cons ls n line below ∙ ap (λ (l : List ℕ). l ∷ drop (suc n) ls) (sym at) ∙ ap (λ (k : ℕ). line ∷ drop k ls) next in
+    drop-cons ls n line below ∙ ap (λ (l : List ℕ). l ∷ drop (suc n) ls) (sym at) ∙ ap (λ (k : ℕ). line ∷ drop k ls) next in
     ap (names_from (n + 1)) cut
 
 -- where the line at a place says names

@@ -172,7 +172,7 @@ split-char c rest false e shown some = record {
   first = encode_utf8 c ++ some.first;
   more = some.more;
   are = split-past (encode_utf8 c) rest (none-space c (nat_lt c 128) refl e) ∙ ap (onto_front (encode_utf8 c)) some.are
-    ∙ onto_front-cons (encode_utf8 c) some.first some.more;
+      ∙ onto_front-cons (encode_utf8 c) some.first some.more;
   shown = shown-append (encode_utf8 c) some.first (shown-char c shown) some.shown;
   others = some.others;
 }

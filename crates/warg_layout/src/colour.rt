@@ -11,8 +11,19 @@ fn colour_of(word: &str) -> Option<&'static str>
     ensures { option_map (λ it. it.now) result ≡ colour_of word.now }
 {
     match word {
-        "refused" | "bad" | "too" | "empty" | "other" | "none" | "unknown" | "rolled" | "fork" | "collision"
-        | "does" | "no" | "busy" => Some("31"),
+        "refused"
+        | "bad"
+        | "too"
+        | "empty"
+        | "other"
+        | "none"
+        | "unknown"
+        | "rolled"
+        | "fork"
+        | "collision"
+        | "does"
+        | "no"
+        | "busy" => Some("31"),
         "ok" | "same" | "goes" | "holds" => Some("32"),
         "head" | "key" | "release" | "namespace" => Some("1"),
         "why:" | "try:" | "entry:" => Some("33"),

@@ -12,11 +12,7 @@ use std::alloc::AllocError;
 fn short(text: &str) -> &str
     ensures { result.now ≡ short text.now }
 {
-    if is_digest(text) {
-        &text[..19]
-    } else {
-        text
-    }
+    if is_digest(text) { &text[..19] } else { text }
 }
 
 // The name of the key whose id a text is; else the text, shortened unless whole ids are wanted.

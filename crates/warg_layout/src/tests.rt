@@ -6,6 +6,7 @@ use std::test::Fail;
 
 // The ids of two keys, of which the first is that of `toy:YWxpY2U=`.
 const ALICE: &str = "sha256:6f03ae61d0fd3df261d400afe99bdcd613f266104552b6ad5281c7666633c6e2";
+
 const BOB: &str = "sha256:bbbbbbbbbbbbbbbbbbbbbbbbbbbbbbbbbbbbbbbbbbbbbbbbbbbbbbbbbbbbbbbb";
 
 // The names of these keys, of which the first is given by its text, and the second by its id.
@@ -72,7 +73,9 @@ fn faults_are_told(rt: HostRuntime) {
 fn logs_are_laid_out(rt: HostRuntime) -> Result<(), Fail> {
     let look = look(rt.alloc(), NAMES, false)?;
     let laid = log_layout(rt.alloc(), &look, LOG)?;
-    assert_eq!(rt; laid.as_str(), "\
+    assert_eq!(rt;
+        laid.as_str(),
+        "\
 0 sha256:0123456789ab 1970-01-01T00:00:01Z \
 alice at work grant toy:Ym9i release, release 1.0.0 sha256:999999999999, yank 1.0.0
 head sha256:0123456789ab
@@ -80,7 +83,8 @@ key bob toy:Ym9i release
 release 1.0.0  yanked by alice at work at 1970-01-01T00:00:04Z
 release 1.10.0 sha256:999999999999
 release 1.0.0-a.version.longer.than.24 sha256:999999999999
-");
+"
+    );
     Ok(())
 }
 
@@ -88,7 +92,9 @@ release 1.0.0-a.version.longer.than.24 sha256:999999999999
 fn ids_are_whole_if_wanted(rt: HostRuntime) -> Result<(), Fail> {
     let look = look(rt.alloc(), "", true)?;
     let laid = log_layout(rt.alloc(), &look, LOG)?;
-    assert_eq!(rt; laid.as_str(), "\
+    assert_eq!(rt;
+        laid.as_str(),
+        "\
 0 sha256:0123456789abcdef0123456789abcdef0123456789abcdef0123456789abcdef 1970-01-01T00:00:01Z \
 sha256:6f03ae61d0fd3df261d400afe99bdcd613f266104552b6ad5281c7666633c6e2 grant toy:Ym9i release, \
 release 1.0.0 sha256:9999999999999999999999999999999999999999999999999999999999999999, yank 1.0.0
@@ -97,7 +103,8 @@ key sha256:bbbbbbbbbbbbbbbbbbbbbbbbbbbbbbbbbbbbbbbbbbbbbbbbbbbbbbbbbbbbbbbb toy:
 release 1.0.0  yanked by sha256:6f03ae61d0fd3df261d400afe99bdcd613f266104552b6ad5281c7666633c6e2 at 1970-01-01T00:00:04Z
 release 1.10.0 sha256:9999999999999999999999999999999999999999999999999999999999999999
 release 1.0.0-a.version.longer.than.24 sha256:9999999999999999999999999999999999999999999999999999999999999999
-");
+"
+    );
     Ok(())
 }
 
@@ -105,10 +112,13 @@ release 1.0.0-a.version.longer.than.24 sha256:9999999999999999999999999999999999
 fn chains_are_laid_out(rt: HostRuntime) -> Result<(), Fail> {
     let look = look(rt.alloc(), NAMES, false)?;
     let laid = chain_layout(rt.alloc(), &look, CHAIN)?;
-    assert_eq!(rt; laid.as_str(), "\
+    assert_eq!(rt;
+        laid.as_str(),
+        "\
 0 0 1970-01-01T00:00:01Z alice at work to bob
   2 0 1970-01-01T00:00:01Z bob to sha256:999999999999
-");
+"
+    );
     Ok(())
 }
 
@@ -116,13 +126,16 @@ fn chains_are_laid_out(rt: HostRuntime) -> Result<(), Fail> {
 fn answers_are_painted(rt: HostRuntime) -> Result<(), Fail> {
     let text = "ok 3\nrefused 1\nhead x\nwhy: it is so\nit is ok\nbusy\n";
     let painted = painted(rt.alloc(), text)?;
-    assert_eq!(rt; painted.as_str(), "\
+    assert_eq!(rt;
+        painted.as_str(),
+        "\
 \u{1b}[32mok\u{1b}[0m 3
 \u{1b}[31mrefused\u{1b}[0m 1
 \u{1b}[1mhead\u{1b}[0m x
 \u{1b}[33mwhy:\u{1b}[0m it is so
 it is ok
 \u{1b}[31mbusy\u{1b}[0m
-");
+"
+    );
     Ok(())
 }

@@ -59,8 +59,7 @@ module _ {P : Type 0} (f : Effects P) where
       let low = at_place (IsWithin count) h chain.0 chain.1 all chain.2.at in
       (subst (λ (l : Link). l.record_index < count) chain.3 low, tt)
   chain_within count h k p (link ∷ next ∷ more) all chain =
-      let low = at_place (IsWithin count) h chain.0 chain.1 all chain.2.at in
-      (
+      let low = at_place (IsWithin count) h chain.0 chain.1 all chain.2.at in (
         subst (λ (l : Link). l.record_index < count) chain.3 low,
         chain_within count (take chain.0 h) chain.1.signer p (next ∷ more) (all_taken (IsWithin count) chain.0 h all) chain.5,
       )

@@ -86,12 +86,7 @@ fn refusal_text<L: ToolLog>(
 }
 
 // What is said of a record, on a line behind its place and its id.
-fn placed_line(
-    alloc: Global,
-    place: usize,
-    id: &RecordId,
-    said: &str,
-) -> Result<String, AllocError>
+fn placed_line(alloc: Global, place: usize, id: &RecordId, said: &str) -> Result<String, AllocError>
     ensures { IfOk result (λ line. string_bytes line ≡
         placed_line place (behind_id id.now said.now)) }
 {

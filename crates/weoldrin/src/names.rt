@@ -17,11 +17,7 @@ use warg_files::stop::{Stop, unusable};
 use warg_layout::{Look, NameFault, Names, NamesParseError};
 use warg_words::Invocation;
 
-fn name_sentence(
-    alloc: Global,
-    path: &str,
-    error: NamesParseError,
-) -> Result<String, AllocError> {
+fn name_sentence(alloc: Global, path: &str, error: NamesParseError) -> Result<String, AllocError> {
     let fault = format!(in alloc; "{}", error.fault)?;
     line_sentence(alloc, path, error.line.saturating_sub(1), fault.as_str())
 }

@@ -10,8 +10,8 @@ pub loop-word-preserved : goal.loop-word-preserved
 loop-word-preserved c = (
   parting-more c.loop-word.yielded c.in-Some.word,
   words-more (laid_word c.args.look.now) c.loop-word.yielded c.in-Some.word _ _ _ _ c.loop-word.invariant.1
-  (c.in_ok-push_str.ensures.bytes ∙ ap (λ (t : List ℕ). string_bytes c.loop-word.laid ++ t) c.loop-word.invariant.0)
-  c.in_ok-push_word.ensures,
+      (c.in_ok-push_str.ensures.bytes ∙ ap (λ (t : List ℕ). string_bytes c.loop-word.laid ++ t) c.loop-word.invariant.0)
+      c.in_ok-push_word.ensures,
 )
 
 pub returns : goal.returns

@@ -16,12 +16,11 @@ link_line-requires-clause-within g c =
 pub loop-link-preserved : goal.loop-link-preserved
 loop-link-preserved g c =
     let es = envelopes c.args.records.now in
-    let parts = c.in-Some.ensures.cases.0 in
-    (
+    let parts = c.in-Some.ensures.cases.0 in (
       (subst (AreWithin (length es)) parts c.loop-link.invariant.0).1,
       link_more g.L.ToolLog.says_words es c.args.key_id.now c.loop-link.rest.now c.in-Some.later.now c.args.links.now c.in-Some.link.now _ _
-      (string_bytes c.in_ok-line.line) _ parts c.receiver.ensures c.in_ok-line.ensures
-      (c.in_ok-push_str.ensures.bytes ∙ ap (λ line. string_bytes c.loop-link.text ++ line) c.as_str.ensures.value) c.loop-link.invariant.1,
+          (string_bytes c.in_ok-line.line) _ parts c.receiver.ensures c.in_ok-line.ensures
+          (c.in_ok-push_str.ensures.bytes ∙ ap (λ line. string_bytes c.loop-link.text ++ line) c.as_str.ensures.value) c.loop-link.invariant.1,
     )
 
 pub returns : goal.returns

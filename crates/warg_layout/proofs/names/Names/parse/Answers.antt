@@ -17,8 +17,7 @@ pub loop-place-preserved : goal.loop-place-preserved
 loop-place-preserved c =
     let ls = lines c.args.text.now in
     let turn = YieldsList-turn (YieldsList-from_enumerate (YieldsList-from_lines c.args.text.now (search rules)) (search rules)) c.loop-place.yielded _ c.loop-place.yielded_by _ _ (c.in-Some.place, c.in-Some.line) c.in-Some.is c.next.ensures.steps in
-    let at = at_turn ls (length c.loop-place.yielded) c.in-Some.place c.in-Some.line.now turn.0 turn.1 in
-    (
+    let at = at_turn ls (length c.loop-place.yielded) c.in-Some.place c.in-Some.line.now turn.0 turn.1 in (
       search rules,
       search rules,
       names-turn ls c.loop-place.yielded (c.in-Some.place, c.in-Some.line) _ _ _ _ _ at c.loop-place.invariant.2 c.in_default.ensures.added,
