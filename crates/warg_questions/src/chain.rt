@@ -116,6 +116,12 @@ fn chain_of<L: ToolLog>(
     }
 }
 
+// Why a word says no permission.
+fn permission_sentence(alloc: Global, word: &str) -> Result<String, AllocError> {
+    let said = format!(in alloc; "weoldrin: \"{word}\" is no permission of this kind of log")?;
+    printed_line(alloc, said.as_str())
+}
+
 /// The permission that the word says; the end of a command where it says none.
 pub fn wanted_permission<L: ToolLog>(alloc: Global, word: &str) -> Result<L::Permission, Stop>
     ensures ok { IfOk result (λ permission. L.text_of permission ≡ word.now) }
@@ -124,12 +130,7 @@ pub fn wanted_permission<L: ToolLog>(alloc: Global, word: &str) -> Result<L::Per
 {
     match permission_of::<L>(alloc, word)? {
         Some(permission) => Ok(permission),
-        None => {
-            let said = format!(in alloc;
-                "weoldrin: \"{word}\" is no permission of this kind of log"
-            )?;
-            Err(unusable(alloc, printed_line(alloc, said.as_str())))
-        }
+        None => Err(unusable(alloc, permission_sentence(alloc, word))),
     }
 }
 

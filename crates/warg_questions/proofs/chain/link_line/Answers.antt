@@ -5,15 +5,15 @@ use Rattle.warg_answers.proofs.PartingLemmas.{envelope_at, honest_at}
 use Rattle.warg_answers.specs.Texts.{link_text}
 use Rattle.warg_questions.proofs.chain.link_line.Goals as goal
 
-pub bounds-records-record_index : goal.bounds-records-record_index
-bounds-records-record_index g c = rw length-map at c.requires.within
+pub bounds-records-link : goal.bounds-records-link
+bounds-records-link g c = rw length-map at c.requires.within
 
 pub returns : goal.returns
 returns g c =
     let place = c.args.link.record_index in
     let low : place < length c.args.records.now = rw length-map at c.requires.within in
-    let it = c.index-records-record_index.result in
-    let is_there = c.index-records-record_index.is in
+    let it = c.index-records-link.result in
+    let is_there = c.index-records-link.is in
     let honest = honest_at c.args.records.now place it low is_there g.L.Record.Record.read g.L.Record.Record.meaning c.requires.honest in
     IfOk-weaker c.link_text.result _ _
     (λ text is. record {

@@ -3,4 +3,4 @@ use Rattle.warg_questions.proofs.chain.wanted_permission.Goals as goal
 
 pub returns-in-None-clause-stopped : goal.returns-in-None-clause-stopped
 returns-in-None-clause-stopped g c =
-    nothing_said _ c.unusable.result (rw c.in-None.is at c.in_ok-permission_of.ensures.none) c.unusable.ensures
+    nothing_said _ c.unusable.result (rw c.in-None.is at c.in_ok-permission.ensures.none) c.unusable.ensures
