@@ -260,8 +260,12 @@ def news(place: Place, faults: Faults) -> None:
     faults.expect("a yank", len(told) == 2 and told[1] == "1.0.0 yanked", told)
     told = place.tool.append(log, place.tool.make(log, 1_800_000_001, "grant bob release")).stdout.splitlines()
     faults.expect("no release", len(told) == 1 and told[0].startswith("ok 5 "), told)
-    told = place.tool.append(log, "").stdout.splitlines()
-    faults.expect("no record", len(told) == 1 and told[0].startswith("ok 5 "), told)
+    for lines in ("", "# nothing yet\n"):
+        before, new = log.read_bytes(), log.with_name("new.hex")
+        done = place.tool.append(log, lines)
+        faults.expect("no record", (done.returncode, done.stdout) == (1, "empty\n") and log.read_bytes() == before, done)
+        done = place.tool.append(new, lines)
+        faults.expect("no log of no record", (done.returncode, done.stdout) == (1, "empty\n") and beside(log) == [], (done, beside(log)))
 
 
 PLACES = [links, strange_files, modes, new_files, owners, busy, limit, outputs, full_disk, news]

@@ -1,6 +1,7 @@
 -- A log beside an older copy of it.
-use Rattle.std.proofs.Common.{◌≡◌, ℕ, List, length, sym, ap, ◌∙◌, codes, Option, Some, None, Result}
-use Rattle.warg_protocol.specs.Logs.{EnvelopeData, IsComparison, SignatureRelation, contents}
+use Rattle.std.proofs.Common.{◌≡◌, ℕ, Bool, true, false, List, length, sym, ap, ◌∙◌, codes, Option, Some, None, Result}
+use Rattle.std.proofs.lemmas.List.{length-map}
+use Rattle.warg_protocol.specs.Logs.{DecodedEnvelope, EnvelopeData, IsComparison, SignatureRelation, contents, envelopes}
 use Rattle.warg_protocol.specs.Records.{RecordId}
 use Rattle.warg_audited_log.specs.declared.comparison.Comparison.{Comparison}
 use Rattle.warg_audit.specs.LogAnswers.{LogDisplay, accepted_line, view_of}
@@ -12,7 +13,7 @@ use Rattle.warg_files.specs.declared.answer.Answer.{Answer}
 use Rattle.warg_files.specs.declared.stop.Stop.{Stop}
 use Rattle.warg_answers.specs.Verdicts.{IsLawful, IsNegative, envelopes_of}
 use Rattle.warg_answers.specs.Verdicts as verdicts
-use Rattle.warg_tasks.specs.Audits.{IsAudited, IsBeside, IsBesideLines, IsDemanded, beside, line_or, met, not_met, of_older, parted, unmet}
+use Rattle.warg_tasks.specs.Audits.{IsAudited, IsBeside, IsBesideLines, IsDemanded, beside, lacks_records, line_or, met, not_met, of_older, older_empty, parted, unmet}
 use Rattle.warg_words.specs.declared.request.Demands.{Demands}
 
 module _ {Meaning Fault View Offence : Type 0} (log : LogDisplay Meaning Fault View Offence) where
@@ -47,19 +48,38 @@ module _ {Meaning Fault View Offence : Type 0} (log : LogDisplay Meaning Fault V
       (λ printed is. beside_of_kept before strings old new here there head comparison count told printed olds news stood stands is_head counted same
       compares (is ∙ ap (line_or (accepted_line count (log.kind.head there) told)) e)) result h
 
+  -- whether records are lacking, by a count of those that stand for strings
+  of_count : {C : Type 0} (demands : Demands) (before : List (List ℕ)) (records : List (DecodedEnvelope C)) (count : ℕ) (lacks : Bool)
+      → envelopes records ≡ envelopes_of log before → count ≡ length records → lacks ≡ lacks_records demands count
+      → lacks_records demands (length (envelopes_of log before)) ≡ lacks
+  of_count demands before records count lacks olds counted e =
+      let same : length (envelopes_of log before) ≡ count = ap (λ (es : List EnvelopeData). length es) (sym olds) ∙ length-map _ _ ∙ sym counted in
+      ap (lacks_records demands) same ∙ sym e
+
   module _ (belongs : SignatureRelation) where
     -- the answer by the lines of the older copy
-    pub older_answers : (older before strings : List (List ℕ)) (result : Result Answer Stop) → IsLawful log belongs older before
-        → Answers (IsBeside log before strings) result → Answers (IsBesideLines log belongs older strings) result
-    older_answers older before strings result it h =
-        Answers-to (IsBeside log before strings) (IsBesideLines log belongs older strings) (λ printed is. beside before it is) result h
+    pub older_answers : {C : Type 0} (demands : Demands) (older before strings : List (List ℕ)) (records : List (DecodedEnvelope C)) (count : ℕ)
+        (result : Result Answer Stop) → IsLawful log belongs older before → envelopes records ≡ envelopes_of log before → count ≡ length records
+        → false ≡ lacks_records demands count → Answers (IsBeside log before strings) result
+        → Answers (IsBesideLines log belongs demands older strings) result
+    older_answers demands older before strings records count result it olds counted e h =
+        Answers-to (IsBeside log before strings) (IsBesideLines log belongs demands older strings)
+        (λ printed is. beside before it (of_count demands before records count false olds counted e) is) result h
 
-    pub older_stopped : (older strings : List (List ℕ)) (end : Stop)
+    -- the same, where that has no records
+    pub older_lacks : {C : Type 0} (demands : Demands) (older before strings : List (List ℕ)) (records : List (DecodedEnvelope C)) (count : ℕ)
+        (printed : Printout) → IsLawful log belongs older before → envelopes records ≡ envelopes_of log before → count ≡ length records
+        → true ≡ lacks_records demands count → printed ≡ side_text (codes "older") (no (codes "empty\n"))
+        → IsBesideLines log belongs demands older strings printed
+    older_lacks demands older before strings records count printed it olds counted e is =
+        older_empty before it (of_count demands before records count true olds counted e) is
+
+    pub older_stopped : (demands : Demands) (older strings : List (List ℕ)) (end : Stop)
         → IfStopped (λ printed. (it : Printout) × (IsNegative log belongs older it × (printed ≡ side_text (codes "older") it))) end
-        → IfStopped (IsBesideLines log belongs older strings) end
-    older_stopped older strings end h =
+        → IfStopped (IsBesideLines log belongs demands older strings) end
+    older_stopped demands older strings end h =
         IfStopped-to (λ printed. (it : Printout) × (IsNegative log belongs older it × (printed ≡ side_text (codes "older") it)))
-        (IsBesideLines log belongs older strings) (λ printed told. of_older told.0 told.1.0 told.1.1) end h
+        (IsBesideLines log belongs demands older strings) (λ printed told. of_older told.0 told.1.0 told.1.1) end h
 
     -- the answer by the demands on the log alone, beside an older copy
     pub unmet_beside : (demands : Demands) (older strings : List (List ℕ)) (new : List EnvelopeData) (count : ℕ) (head : Option RecordId) (there : View)
@@ -71,10 +91,10 @@ module _ {Meaning Fault View Offence : Type 0} (log : LogDisplay Meaning Fault V
 
     pub met_beside : (demands : Demands) (older strings : List (List ℕ)) (new : List EnvelopeData) (count : ℕ) (head : Option RecordId) (there : View)
         (result : Result Answer Stop) → new ≡ envelopes_of log strings → there ≡ log.kind.view_of new → head ≡ log.kind.head there
-        → count ≡ length strings → None ≡ unmet demands count head → Answers (IsBesideLines log belongs older strings) result
+        → count ≡ length strings → None ≡ unmet demands count head → Answers (IsBesideLines log belongs demands older strings) result
         → Answers (IsDemanded log belongs demands (Some older) strings) result
     met_beside demands older strings new count head there result news stands is_head counted e h =
-        Answers-to (IsBesideLines log belongs older strings) (IsDemanded log belongs demands (Some older) strings)
+        Answers-to (IsBesideLines log belongs demands older strings) (IsDemanded log belongs demands (Some older) strings)
         (λ printed is. met (sym (rw (is_head, stands, news, counted) at e)) is) result h
 
     -- the answer to the lines of both

@@ -1,5 +1,5 @@
 -- What is answered to the lines of a log of which something may be demanded.
-use Rattle.std.specs.Prelude.{◌≡◌, ◌==◌, ℕ, Bool, true, ◌&&◌, not, nat_le, if◌then◌else◌, List, [], ◌∷◌, ◌++◌, codes, length, Option, Some, None}
+use Rattle.std.specs.Prelude.{◌≡◌, ◌==◌, ℕ, Bool, true, false, ◌&&◌, not, nat_le, if◌then◌else◌, List, [], ◌∷◌, ◌++◌, codes, length, Option, Some, None}
 use Rattle.std.specs.Borrow.{Bor}
 use Rattle.std.specs.Fmt.{decimal}
 use Rattle.std.specs.Str.Lines.{lines}
@@ -83,21 +83,24 @@ module _ {Meaning Fault View Offence : Type 0} (log : LogDisplay Meaning Fault V
         (parted log.kind.id (log.kind.head (view_of log strings)) (contents (envelopes_of log before)) (contents (envelopes_of log strings)) comparison)
 
   module _ (belongs : SignatureRelation) where
-    -- the same by the lines of the older copy: of those, where they are no lawful log
-    pub data IsBesideLines (older strings : List (List ℕ)) (printed : Printout) : Type 0 where
-      of_older : (it : Printout) → IsNegative log belongs older it → printed ≡ side_text (codes "older") it → IsBesideLines older strings printed
-      beside : (before : List (List ℕ)) → IsLawful log belongs older before → IsBeside before strings printed → IsBesideLines older strings printed
+    -- the same by the lines of the older copy: of those, where they are no lawful log, or have no records, where there have to be some
+    pub data IsBesideLines (demands : Demands) (older strings : List (List ℕ)) (printed : Printout) : Type 0 where
+      of_older : (it : Printout) → IsNegative log belongs older it → printed ≡ side_text (codes "older") it → IsBesideLines demands older strings printed
+      older_empty : (before : List (List ℕ)) → IsLawful log belongs older before → lacks_records demands (length (envelopes_of log before)) ≡ true
+          → printed ≡ side_text (codes "older") (no (codes "empty\n")) → IsBesideLines demands older strings printed
+      beside : (before : List (List ℕ)) → IsLawful log belongs older before → lacks_records demands (length (envelopes_of log before)) ≡ false
+          → IsBeside before strings printed → IsBesideLines demands older strings printed
 
     -- the same, if there is an older copy; else the verdict
-    abbrev pub IsBesideAny : Option (List (List ℕ)) → List (List ℕ) → Printout → Type 0
-    IsBesideAny None strings printed = printed ≡ verdict_on strings
-    IsBesideAny (Some older) strings printed = IsBesideLines older strings printed
+    abbrev pub IsBesideAny : Demands → Option (List (List ℕ)) → List (List ℕ) → Printout → Type 0
+    IsBesideAny demands None strings printed = printed ≡ verdict_on strings
+    IsBesideAny demands (Some older) strings printed = IsBesideLines demands older strings printed
 
     -- what is printed of the strings of a lawful log: the first demand on it alone that is not met; else by the older copy
     pub data IsDemanded (demands : Demands) (older : Option (List (List ℕ))) (strings : List (List ℕ)) (printed : Printout) : Type 0 where
       not_met : (text : List ℕ) → unmet demands (length strings) (log.kind.head (view_of log strings)) ≡ Some text
           → printed ≡ no text → IsDemanded demands older strings printed
-      met : unmet demands (length strings) (log.kind.head (view_of log strings)) ≡ None → IsBesideAny older strings printed
+      met : unmet demands (length strings) (log.kind.head (view_of log strings)) ≡ None → IsBesideAny demands older strings printed
           → IsDemanded demands older strings printed
 
     -- the answer to the lines of a log: the audit's, where they are no lawful log

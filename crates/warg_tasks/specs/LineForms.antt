@@ -81,6 +81,9 @@ bare_new_record = a_tag (codes "side") (codes "new") (codes "new") ∷ a_text (c
 abbrev pub of_older : List PartView
 of_older = a_tag (codes "side") (codes "older:") (codes "older") ∷ a_tag (codes "verdict") (codes "refused") (codes "refused") ∷ a_number (codes "record") ∷ a_text (codes "offence") ∷ []
 
+abbrev pub empty_older : List PartView
+empty_older = a_tag (codes "side") (codes "older:") (codes "older") ∷ a_tag (codes "verdict") (codes "empty") (codes "empty") ∷ []
+
 abbrev pub message : List PartView
 message = the_rest (codes "message") ∷ []
 
@@ -103,9 +106,9 @@ line_forms =
     ∷ record {
       command = codes "audit";
       forms = ok_empty ∷ ok ∷ empty ∷ refused ∷ bad_line ∷ too_long ∷ no_head ∷ other_head ∷ too_short ∷ rolled_back ∷ fork ∷
-          collision ∷ of_older ∷ released ∷ yanked ∷ message ∷ [];
+          collision ∷ of_older ∷ empty_older ∷ released ∷ yanked ∷ message ∷ [];
     }
-    ∷ record { command = codes "append"; forms = ok ∷ ok_empty ∷ busy ∷ refused ∷ bad_line ∷ released ∷ yanked ∷ [] }
+    ∷ record { command = codes "append"; forms = ok ∷ ok_empty ∷ empty ∷ busy ∷ refused ∷ bad_line ∷ released ∷ yanked ∷ [] }
     ∷ record {
       command = codes "show";
       forms = refused ∷ bad_line ∷

@@ -12,7 +12,7 @@ ghost use Rattle.warg_answers.specs.Verdicts.{ForDisplay, envelopes_of};
 ghost use Rattle.warg_tasks.specs.Audits.{IsAudited, IsBeside, IsBesideLines, IsDemanded, parted};
 
 use crate::audit::line_or_verdict;
-use crate::demands::unmet;
+use crate::demands::{lacks_records, unmet};
 use std::alloc::{AllocError, Global};
 use warg_answers::judged::{Lent, counted};
 use warg_answers::kind::ToolLog;
@@ -80,10 +80,11 @@ fn beside_older<L: ToolLog, V: Verifier + Drop>(
     line_or_verdict(alloc, line, log.state(), count)
 }
 
-// The same by the older copy's file.
+// The same by the older copy's file, which demands nothing where it has no records, as after a download that failed.
 fn beside_file<L: ToolLog, V: Verifier + Drop>(
     alloc: Global,
     verifier: V,
+    demands: &Demands<'_>,
     older: Input<'_>,
     log: &AuditedLog<L, V>,
     count: usize,
@@ -91,11 +92,16 @@ fn beside_file<L: ToolLog, V: Verifier + Drop>(
     ensures { ForDisplay L.view L.kind L.Record.read L.Record.fault_of L.offence_of
         L.name_of L.lines_of (λ shown. (strings : List (List ℕ)) →
         envelopes log.now.records ≡ envelopes_of shown strings → count ≡ length strings →
-        Answers (IsBesideLines shown (V.belongs verifier)
+        Answers (IsBesideLines shown (V.belongs verifier) demands.now
         (record_lines older.entry.bytes.items) strings) result) }
 {
     match side::<L, V>(alloc, verifier, "older", older) {
-        Ok(older) => beside_older(alloc, &older, log, count),
+        Ok(older) => {
+            if lacks_records(demands, older.len()) {
+                return Ok(Answer::fixed(alloc, "older: empty\n", 1)?);
+            }
+            beside_older(alloc, &older, log, count)
+        }
         Err(stop) => Err(stop),
     }
 }
@@ -118,7 +124,7 @@ fn demanded_beside<L: ToolLog, V: Verifier + Drop>(
     let state = log.state();
     match unmet(alloc, demands, count, state.head_digest())? {
         Some(text) => Ok(Answer::new(alloc, text, 1)),
-        None => beside_file(alloc, verifier, older, log, count),
+        None => beside_file(alloc, verifier, demands, older, log, count),
     }
 }
 

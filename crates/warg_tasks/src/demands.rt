@@ -80,8 +80,8 @@ fn has_head(alloc: Global, word: Option<&str>, head: Option<&RecordId>) -> Resul
     }
 }
 
-// Whether there are no records, where there have to be some.
-fn lacks_records(demands: &Demands<'_>, count: usize) -> bool
+/// Whether there are no records, where there have to be some.
+pub(crate) fn lacks_records(demands: &Demands<'_>, count: usize) -> bool
     ensures { result ≡ lacks_records demands.now count }
 {
     !demands.allows_empty && count == 0

@@ -206,6 +206,13 @@ const OF_OLDER: Form = Form {
     ],
 };
 
+const EMPTY_OLDER: Form = Form {
+    parts: &[
+        Part::Tag("side", "older:", "older"),
+        Part::Tag("verdict", "empty", "empty"),
+    ],
+};
+
 const MESSAGE: Form = Form {
     parts: &[Part::Rest("message")],
 };
@@ -261,6 +268,7 @@ static LINE_FORMS: [CommandForms; 14] = [
             FORK,
             COLLISION,
             OF_OLDER,
+            EMPTY_OLDER,
             RELEASED,
             YANKED,
             MESSAGE,
@@ -268,7 +276,9 @@ static LINE_FORMS: [CommandForms; 14] = [
     },
     CommandForms {
         command: "append",
-        forms: &[OK, OK_EMPTY, BUSY, REFUSED, BAD_LINE, RELEASED, YANKED],
+        forms: &[
+            OK, OK_EMPTY, EMPTY, BUSY, REFUSED, BAD_LINE, RELEASED, YANKED,
+        ],
     },
     CommandForms {
         command: "show",
