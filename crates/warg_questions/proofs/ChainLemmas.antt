@@ -1,9 +1,8 @@
 -- The links of chains: their places, and their lines.
-use Rattle.std.proofs.Common.{◌≡◌, ◌<◌, ◌≤◌, ◌+◌, ℕ, zero, suc, List, [], ◌∷◌, ◌++◌, length, reverse, take, refl, subst, arith, append_assoc, append-nil, Option, Some, None}
+use Rattle.std.proofs.Common.{◌≡◌, ◌<◌, ◌≤◌, ◌+◌, ℕ, zero, suc, List, [], ◌∷◌, ◌++◌, length, reverse, take, refl, sym, subst, arith, append_assoc, append-nil, Option, Some, None}
 use Rattle.std.specs.List.{AllByRecursion, slice_get}
 use Rattle.std.specs.Option.{ForSome}
-use Rattle.std.proofs.Math.ListN.{reverse_aux}
-use Rattle.std.proofs.lemmas.List.{reverse-reverse}
+use Rattle.std.proofs.lemmas.List.{reverse-append, reverse-reverse}
 use Rattle.std.proofs.lemmas.Option.{none-some}
 use Rattle.warg_protocol.specs.Logs.{Effects, EnvelopeData, IsChainAnswer, IsGrantChain}
 use Rattle.warg_audited_log.specs.Chains.{Entry, IsChainBack, entries_from, entries_of, entry_at, first_entries}
@@ -29,9 +28,15 @@ module _ {X : Type 0} (P : X → Type 0) where
   at_place (y ∷ xs) zero x a e = let same : y ≡ x = cc in subst P same a.0
   at_place (y ∷ xs) (suc n) x a e = at_place xs n x a.1 e
 
-within_reversed : (count : ℕ) (xs ys : List Link) → AreWithin count xs → AreWithin count ys → AreWithin count (reverse_aux xs ys)
-within_reversed count [] ys a b = b
-within_reversed count (x ∷ xs) ys a b = within_reversed count xs (x ∷ ys) a.1 (a.0, b)
+within_joined : (count : ℕ) (xs ys : List Link) → AreWithin count xs → AreWithin count ys → AreWithin count (xs ++ ys)
+within_joined count [] ys a b = b
+within_joined count (x ∷ xs) ys a b = (a.0, within_joined count xs ys a.1 b)
+
+within_reversed : (count : ℕ) (links : List Link) → AreWithin count links → AreWithin count (reverse links)
+within_reversed count [] a = tt
+within_reversed count (link ∷ more) a =
+    subst (AreWithin count) (sym (reverse-append (link ∷ []) more))
+    (within_joined count (reverse more) (link ∷ []) (within_reversed count more a.1) (a.0, tt))
 
 -- ---- places
 
@@ -69,7 +74,7 @@ module _ {P : Type 0} (f : Effects P) where
   links_within es k p links chain =
       let all : 0 + length es ≤ length es = omega arith in
       let back = chain_within (length es) (entries_of f es) k p (reverse links) (of_records (length es) 0 es all) chain in
-      subst (AreWithin (length es)) (reverse-reverse links) (within_reversed (length es) (reverse links) [] back tt)
+      subst (AreWithin (length es)) (reverse-reverse links) (within_reversed (length es) (reverse links) back)
 
   pub answer_within : (es : List EnvelopeData) (k : List ℕ) (p : P) (chain : Option (List Link)) → IsChainAnswer f es k p chain
       → ForSome chain (AreWithin (length es))
