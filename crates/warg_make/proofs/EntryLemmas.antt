@@ -3,7 +3,7 @@ use Rattle.std.proofs.Common.{◌≡◌, ◌⊎◌, inl, inr, ℕ, List, codes, 
 use Rattle.warg_crypto.specs.NamedBytes.{NamedBytes}
 use Rattle.warg_permissions.specs.Permissions.{named_or}
 use Rattle.warg_permissions.specs.declared.permission.InvalidPermission.{InvalidPermission}
-use Rattle.warg_make.specs.Entries.{Lacks, LacksByParts, Names, NamesNone, SaysByParts, parts}
+use Rattle.warg_make.specs.Entries.{HasItsRest, Lacks, LacksByParts, Names, NamesNone, SaysByParts, SaysKey, Verbs, in_parts}
 use Rattle.warg_make.specs.KeyWords.{IsKeyOf}
 use Rattle.warg_make.specs.Words.{AreNamed, HasUnknown, behind_word, first_word, has_no_space}
 use Rattle.warg_make.specs.declared.error.EntryFault.{EntryFault}
@@ -22,12 +22,15 @@ module _ (text verb rest subject object : List ℕ) (it : (has_no_space text ≡
       (subst (λ (word : List ℕ). P (first_word text) word object) (named ∙ ap first_word it.2)
       (subst (λ (word : List ℕ). P word subject object) it.1 h))
 
-  pub said_by_parts : {T : Type 0} (Says : List ℕ → List ℕ → List ℕ → T → Type 0) (entry : T) → Says verb subject object entry → SaysByParts Says text entry
-  said_by_parts Says entry h = record { spaced = it.0; says = by_parts (λ v s o. Says v s o entry) h }
+  pub said_by_parts : (verbs : Verbs) {T : Type 0} (Says : List ℕ → List ℕ → List ℕ → T → Type 0) (entry : T) → HasItsRest verbs verb object
+      → Says verb subject object entry → SaysByParts verbs Says text entry
+  said_by_parts verbs Says entry fits h =
+      record { spaced = it.0; rest = by_parts (λ v s o. HasItsRest verbs v o) fits; says = by_parts (λ v s o. Says v s o entry) h }
 
-  pub lacks_by_parts : (Lacks : List ℕ → List ℕ → List ℕ → EntryFault → Type 0) (fault : EntryFault) → Lacks verb subject object fault
-      → LacksByParts Lacks text fault
-  lacks_by_parts Lacks fault h = parts it.0 (by_parts (λ v s o. Lacks v s o fault) h)
+  pub lacks_by_parts : (verbs : Verbs) (Lacks : List ℕ → List ℕ → List ℕ → EntryFault → Type 0) (fault : EntryFault) → HasItsRest verbs verb object
+      → Lacks verb subject object fault → LacksByParts verbs Lacks text fault
+  lacks_by_parts verbs Lacks fault fits h =
+      in_parts it.0 (by_parts (λ v s o. HasItsRest verbs v o) fits) (by_parts (λ v s o. Lacks v s o fault) h)
 
 -- ---- permissions
 
@@ -53,14 +56,14 @@ module _ {P : Type 0} (named : List ℕ → Option P) (text : List ℕ) where
 
 -- ---- what parts lack
 
-module _ {P : Type 0} (verbs : List (List ℕ)) (named : List ℕ → Option P) (verb subject object : List ℕ) where
+module _ {P : Type 0} (named : List ℕ → Option P) (verb subject object : List ℕ) where
   pub key_lacks : (it : EntryFault) → (verb ≡ codes "init") ⊎ (verb ≡ codes "grant")
-      → (it ≡ fault.OutOfMemory) ⊎ ((it ≡ fault.BadKey) × ((key : NamedBytes) → IsKeyOf subject key → ⊥)) → Lacks verbs named verb subject object it
+      → (it ≡ fault.OutOfMemory) ⊎ ((it ≡ fault.BadKey) × ((key : NamedBytes) → IsKeyOf subject key → ⊥)) → Lacks named verb subject object it
   key_lacks it is (inl memory) = rw memory tt
   key_lacks it is (inr bad) = rw bad.0 (is, bad.1)
 
-  pub permissions_lack : (it : EntryFault) → (verb ≡ codes "grant") ⊎ (verb ≡ codes "revoke")
+  pub permissions_lack : (it : EntryFault) → ((verb ≡ codes "grant") × SaysKey subject) ⊎ (verb ≡ codes "revoke")
       → (it ≡ fault.OutOfMemory) ⊎ ((it ≡ fault.BadPermission)
-      × HasUnknown (λ word. (error : InvalidPermission) × (Err error ≡ named_or (named word))) object) → Lacks verbs named verb subject object it
+      × HasUnknown (λ word. (error : InvalidPermission) × (Err error ≡ named_or (named word))) object) → Lacks named verb subject object it
   permissions_lack it is (inl memory) = rw memory tt
   permissions_lack it is (inr bad) = rw bad.0 (is, permission_unknown named object bad.1)

@@ -33,6 +33,10 @@ pub record IsNextWord (text word rest : List ℕ) : Type 0 where
   pub solid : NoCharPasses is_whitespace word
   pub ends : (more : List ℕ) × EmptyOrStartsWithPassing is_whitespace rest more
 
+-- the text has a word
+abbrev pub HasWord : List ℕ → Type 0
+HasWord text = (word : List ℕ) × (rest : List ℕ) × IsNextWord text word rest
+
 -- the words are the first of the text, in order, and the rest is left behind them
 abbrev pub AreFirstWords : List ℕ → List (List ℕ) → List ℕ → Type 0
 AreFirstWords text [] rest = text ≡ rest

@@ -44,7 +44,7 @@ fn toy_key(alloc: Global, name: &str) -> Result<PublicKey, AllocError>
         .try_clone()
 }
 
-/// The key that a word says: of a name without a colon the toy key, else the key's text.
+/// The key that a word says: of a name without a colon the toy key, else the key's text. That of an id is none.
 pub(crate) fn key(alloc: Global, word: &str) -> Result<PublicKey, EntryFault>
     ensures ok { IfOk result (IsKeyOf word.now) }
     ensures err { IfErr result (λ it. (it ≡ fault.OutOfMemory) ⊎
@@ -54,6 +54,7 @@ pub(crate) fn key(alloc: Global, word: &str) -> Result<PublicKey, EntryFault>
         return Ok(toy_key(alloc, word)?);
     }
     match PublicKey::parse(alloc, word) {
+        Ok(key) if key.algorithm() == "sha256" => Err(EntryFault::BadKey),
         Ok(key) => Ok(key),
         Err(KeyParseError::OutOfMemory) => Err(EntryFault::OutOfMemory),
         Err(_) => Err(EntryFault::BadKey),

@@ -17,6 +17,9 @@ pub enum EntryFault {
     /// A word is missing.
     #[error("a word is missing")]
     MissingWord,
+    /// A word is there that the entry does not have.
+    #[error("there is a word too many")]
+    ExtraWord,
     /// A word is neither a name nor a key's text.
     #[error("a word is no key")]
     BadKey,

@@ -6,6 +6,7 @@ mod error;
 mod making;
 mod operator_words;
 mod package_words;
+mod rest;
 mod sealed;
 mod time_words;
 mod worded;

@@ -1,7 +1,12 @@
 //! The words of an operator log's entries.
 
+ghost use Rattle.std.specs.Prelude.{◌≡◌, IfErr, IfOk};
+ghost use Rattle.warg_make.specs.Entries.{operator_verbs, HasItsRest, IsNoVerb, IsVerb, LacksItsRest};
+ghost use Rattle.warg_make.specs.declared.error.EntryFault.TheVariants as fault;
+
 use crate::entries::{first_word, key, key_id, permissions, word_and_rest};
 use crate::error::{EntryFault, MakeError};
+use crate::rest::{Rest, check};
 use crate::sealed::enveloped;
 use crate::worded::Worded;
 use std::alloc::Global;
@@ -10,8 +15,29 @@ use warg_protocol::operator::{LogState, OperatorEntry, OperatorRecord};
 use warg_protocol::signing::Signer;
 use warg_protocol::{ProtoEnvelope, Timestamp};
 
+// What an entry has behind its second word, by its first.
+fn rest_of(verb: &str) -> Result<Rest, EntryFault>
+    ensures ok { IfOk result (λ rest. IsVerb (λ it. it ≡ rest) operator_verbs verb.now) }
+    ensures err { IfErr result (λ it. (it ≡ fault.UnknownEntry) × IsNoVerb operator_verbs verb.now) }
+{
+    match verb {
+        "init" | "define" => Ok(Rest::Nothing),
+        "grant" | "revoke" => Ok(Rest::Words),
+        "import" => Ok(Rest::Word),
+        _ => Err(EntryFault::UnknownEntry),
+    }
+}
+
+// Whether the rest of the words is what the entry has there.
+fn check_rest(verb: &str, rest: &str) -> Result<(), EntryFault>
+    ensures ok { IfOk result (λ _. HasItsRest operator_verbs verb.now rest.now) }
+    ensures err { IfErr result (LacksItsRest operator_verbs verb.now rest.now) }
+{
+    check(rest_of(verb)?, rest)
+}
+
 impl Worded for LogState {
-    ghost use Rattle.std.specs.Prelude.{◌≡◌, map, IfErr, IfOk};
+    ghost use Rattle.std.specs.Prelude.{map};
     ghost use Rattle.std.specs.Option.{option_map};
     ghost use Rattle.warg_protocol.specs.Operator.{entry_data, view_of};
     ghost use Rattle.warg_make.specs.Entries.{LacksOperatorEntry, OperatorEntryData, SaysOperatorEntry};
@@ -35,6 +61,7 @@ impl Worded for LogState {
     fn entry(alloc: Global, words: &str) -> Result<OperatorEntry, EntryFault> {
         let (verb, rest) = first_word(words)?;
         let (subject, rest) = word_and_rest(rest);
+        check_rest(verb, rest)?;
         match verb {
             "init" => Ok(OperatorEntry::Init {
                 hash_algorithm: HashAlgorithm::Sha256,

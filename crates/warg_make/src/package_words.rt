@@ -3,10 +3,12 @@
 ghost use Rattle.std.specs.Prelude.{◌≡◌, ◌⊎◌, ◌↔◌, Ok, IfErr, IfOk, IsErr, IsTrue};
 ghost use Rattle.semver.specs.Identifiers.{parts_of};
 ghost use Rattle.semver.specs.Parse.{memory_error, version_parts};
+ghost use Rattle.warg_make.specs.Entries.{package_verbs, HasItsRest, IsNoVerb, IsVerb, LacksItsRest};
 ghost use Rattle.warg_make.specs.declared.error.EntryFault.TheVariants as fault;
 
 use crate::entries::{first_word, key, key_id, permissions, word_and_rest};
 use crate::error::{EntryFault, MakeError};
+use crate::rest::{Rest, check};
 use crate::sealed::enveloped;
 use crate::worded::Worded;
 use std::alloc::{AllocError, Global};
@@ -38,6 +40,27 @@ fn version(alloc: Global, text: &str) -> Result<Version, EntryFault>
     }
 }
 
+// What an entry has behind its second word, by its first.
+fn rest_of(verb: &str) -> Result<Rest, EntryFault>
+    ensures ok { IfOk result (λ rest. IsVerb (λ it. it ≡ rest) package_verbs verb.now) }
+    ensures err { IfErr result (λ it. (it ≡ fault.UnknownEntry) × IsNoVerb package_verbs verb.now) }
+{
+    match verb {
+        "init" | "yank" => Ok(Rest::Nothing),
+        "grant" | "revoke" => Ok(Rest::Words),
+        "release" => Ok(Rest::Text),
+        _ => Err(EntryFault::UnknownEntry),
+    }
+}
+
+// Whether the rest of the words is what the entry has there.
+fn check_rest(verb: &str, rest: &str) -> Result<(), EntryFault>
+    ensures ok { IfOk result (λ _. HasItsRest package_verbs verb.now rest.now) }
+    ensures err { IfErr result (LacksItsRest package_verbs verb.now rest.now) }
+{
+    check(rest_of(verb)?, rest)
+}
+
 impl Worded for LogState {
     ghost use Rattle.std.specs.Prelude.{map};
     ghost use Rattle.std.specs.Option.{option_map};
@@ -63,6 +86,7 @@ impl Worded for LogState {
     fn entry(alloc: Global, words: &str) -> Result<PackageEntry, EntryFault> {
         let (verb, rest) = first_word(words)?;
         let (subject, rest) = word_and_rest(rest);
+        check_rest(verb, rest)?;
         match verb {
             "init" => Ok(PackageEntry::Init {
                 hash_algorithm: HashAlgorithm::Sha256,
