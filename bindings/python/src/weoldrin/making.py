@@ -83,9 +83,9 @@ def entry_of(kind: Kind, words: str) -> bytes:
     verb, subject, rest = _split(words)
     if verb in ("init", "grant") and (":" not in subject or subject.startswith("sha256:")):
         raise NoRecord("a word is no key's text, as ecdsa-p256:BASE64")
-    if verb in ("grant", "revoke", "release", "import") and not rest:
+    if (verb in ("grant", "revoke") and not rest.split()) or (verb in ("release", "import") and not rest):
         raise NoRecord("a word is missing")
-    if verb in ("init", "yank", "define") and rest:
+    if (verb in ("init", "yank", "define") and rest) or (verb == "import" and " " in rest):
         raise NoRecord("there is a word too many")
     try:
         match verb, kind:
