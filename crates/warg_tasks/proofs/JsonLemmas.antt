@@ -18,10 +18,10 @@ none_left text e h = grind (arith, nat_tests)
 
 -- one line more
 pub objects_more : (command : List ℕ) (status : ℕ) (done : List (Bor (List ℕ))) (line : Bor (List ℕ)) (text new : List ℕ)
-    → text ≡ line_objects command status (map (λ it. it.now) done) → new ≡ text ++ line_object line_forms command status line.now
+    → text ≡ line_objects command status (map (λ it. it.now) done) → new ≡ text ++ line_object (line_forms command) command status line.now
     → new ≡ line_objects command status (map (λ it. it.now) (done ++ line ∷ []))
 objects_more command status done line text new so_far more =
-    let f : List ℕ → List ℕ = line_object line_forms command status in
+    let f : List ℕ → List ℕ = line_object (line_forms command) command status in
     let lines = map (λ (it : Bor (List ℕ)). it.now) done in
     more ∙ ap (λ t. t ++ f line.now) so_far ∙ sym (concat-append (map f lines) (f line.now))
     ∙ ap concat (sym (map-append f lines (line.now ∷ []))

@@ -103,8 +103,8 @@ same_line : (json : Bool) (path : List ℕ) (short whole : Printout) → first_o
     → short.status ≡ whole.status → audit_line json path short ≡ audit_line json path whole
 same_line false path short whole first status = ap (λ text. line (printable (path ++ (codes ": " ++ text)))) first
 same_line true path short whole first status =
-    ap (λ text. path_object line_forms (codes "audit") path short.status text) first
-    ∙ ap (λ n. path_object line_forms (codes "audit") path n (first_of (lines whole.text))) status
+    ap (λ text. path_object (line_forms (codes "audit")) (codes "audit") path short.status text) first
+    ∙ ap (λ n. path_object (line_forms (codes "audit")) (codes "audit") path n (first_of (lines whole.text))) status
 
 module _ (json : Bool) (kind : LogType) (belongs : SignatureRelation) (files : Option Files) (allows_empty : Bool) where
   -- one line more

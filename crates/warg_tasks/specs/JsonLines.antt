@@ -9,7 +9,7 @@ use Rattle.warg_tasks.specs.LineForms.{line_forms}
 
 -- the objects of lines that a command prints, one after another
 abbrev pub line_objects : List ℕ → ℕ → List (List ℕ) → List ℕ
-line_objects command status said = concat (map (line_object line_forms command status) said)
+line_objects command status said = concat (map (line_object (line_forms command) command status) said)
 
 -- the text is the object of each line that is printed, or, where none is, of the first line of what is told on standard error
 pub record IsJsonText (command : List ℕ) (printed : Printout) (told text : List ℕ) : Type 0 where

@@ -1,5 +1,6 @@
 -- The forms of the lines that commands print, by which their objects in JSON have members.
-use Rattle.std.specs.Prelude.{List, [], ◌∷◌, codes}
+use Rattle.std.specs.Prelude.{ℕ, Bool, ◌||◌, if◌then◌else◌, List, [], ◌∷◌, codes}
+use Rattle.std.specs.Str.{bytes_eq}
 use Rattle.warg_members.specs.Forms.{PartView, a_json, a_null, a_number, a_tag, a_text, a_word, the_rest, the_words}
 use Rattle.warg_members.specs.Objects.{RowView}
 
@@ -99,17 +100,10 @@ bad_state = a_tag (codes "verdict") (codes "bad") (codes "bad state") ∷ a_word
 abbrev pub state : List PartView
 state = a_json (codes "state") ∷ []
 
--- the forms of each command's lines, of which the first that fits is taken
-unfoldable pub line_forms : List RowView
-line_forms =
-    record { command = codes "id"; forms = refused ∷ bad_line ∷ (a_text (codes "id") ∷ []) ∷ [] }
-    ∷ record {
-      command = codes "audit";
-      forms = ok_empty ∷ ok ∷ empty ∷ refused ∷ bad_line ∷ too_long ∷ no_head ∷ other_head ∷ too_short ∷ rolled_back ∷ fork ∷
-          collision ∷ of_older ∷ empty_older ∷ released ∷ yanked ∷ message ∷ [];
-    }
-    ∷ record { command = codes "append"; forms = ok ∷ ok_empty ∷ empty ∷ busy ∷ refused ∷ bad_line ∷ released ∷ yanked ∷ [] }
-    ∷ record {
+-- the forms of the lines of commands that tell records, or where they are
+unfoldable pub record_forms : List RowView
+record_forms =
+    record {
       command = codes "show";
       forms = refused ∷ bad_line ∷
           (a_tag (codes "shows") (codes "head") (codes "head") ∷ a_null (codes "head") (codes "none") ∷ []) ∷
@@ -125,14 +119,6 @@ line_forms =
           (a_number (codes "record") ∷ a_text (codes "id") ∷ a_text (codes "time") ∷ a_text (codes "signer") ∷ the_rest (codes "entries") ∷ []) ∷
           (a_number (codes "record") ∷ a_text (codes "id") ∷ a_text (codes "time") ∷ a_text (codes "signer") ∷ []) ∷ [];
     }
-    ∷ record { command = codes "state"; forms = refused ∷ bad_line ∷ no_json ∷ state ∷ [] }
-    ∷ record { command = codes "resume"; forms = refused ∷ bad_line ∷ no_json ∷ bad_state ∷ state ∷ [] }
-    ∷ record { command = codes "latest"; forms = refused ∷ bad_line ∷ none ∷ (a_text (codes "release") ∷ a_text (codes "content") ∷ []) ∷ [] }
-    ∷ record {
-      command = codes "permissions";
-      forms = refused ∷ bad_line ∷ (a_tag (codes "verdict") (codes "unknown") (codes "unknown") ∷ []) ∷
-          (a_text (codes "permission") ∷ []) ∷ [];
-    }
     ∷ record {
       command = codes "chain";
       forms = refused ∷ bad_line ∷ none ∷
@@ -142,6 +128,26 @@ line_forms =
       command = codes "compare";
       forms = same_empty ∷ same ∷ goes_on ∷ rolled_back ∷ fork ∷ old_record ∷ bare_old_record ∷ new_record ∷ bare_new_record ∷
           collision ∷ of_old ∷ of_new ∷ [];
+    }
+    ∷ []
+
+-- those of the other commands
+unfoldable pub other_forms : List RowView
+other_forms =
+    record { command = codes "id"; forms = refused ∷ bad_line ∷ (a_text (codes "id") ∷ []) ∷ [] }
+    ∷ record {
+      command = codes "audit";
+      forms = ok_empty ∷ ok ∷ empty ∷ refused ∷ bad_line ∷ too_long ∷ no_head ∷ other_head ∷ too_short ∷ rolled_back ∷ fork ∷
+          collision ∷ of_older ∷ empty_older ∷ released ∷ yanked ∷ message ∷ [];
+    }
+    ∷ record { command = codes "append"; forms = ok ∷ ok_empty ∷ empty ∷ busy ∷ refused ∷ bad_line ∷ released ∷ yanked ∷ [] }
+    ∷ record { command = codes "state"; forms = refused ∷ bad_line ∷ no_json ∷ state ∷ [] }
+    ∷ record { command = codes "resume"; forms = refused ∷ bad_line ∷ no_json ∷ bad_state ∷ state ∷ [] }
+    ∷ record { command = codes "latest"; forms = refused ∷ bad_line ∷ none ∷ (a_text (codes "release") ∷ a_text (codes "content") ∷ []) ∷ [] }
+    ∷ record {
+      command = codes "permissions";
+      forms = refused ∷ bad_line ∷ (a_tag (codes "verdict") (codes "unknown") (codes "unknown") ∷ []) ∷
+          (a_text (codes "permission") ∷ []) ∷ [];
     }
     ∷ record { command = codes "claims"; forms = refused ∷ bad_line ∷ (a_text (codes "key") ∷ a_text (codes "message") ∷ a_text (codes "signature") ∷ []) ∷ [] }
     ∷ record {
@@ -156,3 +162,11 @@ line_forms =
           (a_tag (codes "verdict") (codes "does") (codes "does not hold") ∷ a_word (codes "not") ∷ a_word (codes "hold") ∷ []) ∷ [];
     }
     ∷ []
+
+-- whether a command tells records, or where they are
+abbrev pub tells_records : List ℕ → Bool
+tells_records command = bytes_eq command (codes "show") || (bytes_eq command (codes "chain") || bytes_eq command (codes "compare"))
+
+-- the forms of a command's lines, in a table, of which the first that fits is taken
+abbrev pub line_forms : List ℕ → List RowView
+line_forms command = if tells_records command then record_forms else other_forms

@@ -23,7 +23,7 @@ use Rattle.warg_files.specs.declared.input.ReadFault.TheVariants.{Missing}
 -- the line of one log of many, as text or in JSON: its path, and the first line of its verdict
 abbrev pub audit_line : Bool → List ℕ → Printout → List ℕ
 audit_line false path verdict = line (printable (path ++ (codes ": " ++ first_of (lines verdict.text))))
-audit_line true path verdict = path_object line_forms (codes "audit") path verdict.status (first_of (lines verdict.text))
+audit_line true path verdict = path_object (line_forms (codes "audit")) (codes "audit") path verdict.status (first_of (lines verdict.text))
 
 -- whether a line of a list names a log: an empty one does not
 abbrev pub is_path : List ℕ → Bool
@@ -32,7 +32,7 @@ is_path line = not (length line == 0)
 -- the line of a list that names no log
 abbrev pub empty_list_line : Bool → List ℕ → List ℕ
 empty_list_line false list = codes "empty\n"
-empty_list_line true list = path_object line_forms (codes "audit") list 1 (codes "empty")
+empty_list_line true list = path_object (line_forms (codes "audit")) (codes "audit") list 1 (codes "empty")
 
 -- the verdict on the log in the file of a path, by its lines, or why it can't be read
 pub data IsVerdictOn (files : Option Files) (P : List (List ℕ) → Printout → Type 0) (path : List ℕ) (verdict : Printout) : Type 0 where

@@ -21,9 +21,9 @@ fn object_of_line(
     line: &str,
 ) -> Result<String, AllocError>
     ensures { IfOk result (λ object. string_bytes object ≡
-        line_object line_forms command.now status line.now) }
+        line_object (line_forms command.now) command.now status line.now) }
 {
-    line_object(alloc, line_forms(), command, status, line)
+    line_object(alloc, line_forms(command), command, status, line)
 }
 
 /// The object of a line on the file of a path.
@@ -35,9 +35,9 @@ pub(crate) fn object_of_path(
     line: &str,
 ) -> Result<String, AllocError>
     ensures { IfOk result (λ object. string_bytes object ≡
-        path_object line_forms command.now path.now status line.now) }
+        path_object (line_forms command.now) command.now path.now status line.now) }
 {
-    path_object(alloc, line_forms(), command, path, status, line)
+    path_object(alloc, line_forms(command), command, path, status, line)
 }
 
 // The object of each line of an answer's text.

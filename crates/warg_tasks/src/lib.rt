@@ -14,6 +14,7 @@ mod latest;
 mod line_forms;
 mod making;
 mod many_audits;
+mod record_forms;
 mod task;
 
 pub use audit::id_answer;

@@ -2,11 +2,12 @@
 
 ghost use Rattle.std.specs.Prelude.{◌≡◌, map};
 ghost use Rattle.warg_members.specs.Objects.{row_view};
-ghost use Rattle.warg_tasks.specs.LineForms.{line_forms};
+ghost use Rattle.warg_tasks.specs.LineForms.{line_forms, other_forms, tells_records};
 
+use crate::record_forms::record_forms;
 use warg_members::{CommandForms, Form, Part};
 
-const REFUSED: Form = Form {
+pub(crate) const REFUSED: Form = Form {
     parts: &[
         Part::Tag("verdict", "refused", "refused"),
         Part::Number("record"),
@@ -14,7 +15,7 @@ const REFUSED: Form = Form {
     ],
 };
 
-const BAD_LINE: Form = Form {
+pub(crate) const BAD_LINE: Form = Form {
     parts: &[
         Part::Tag("verdict", "bad", "bad line"),
         Part::Word("line"),
@@ -26,7 +27,7 @@ const TOO_LONG: Form = Form {
     parts: &[Part::Tag("verdict", "too", "too long"), Part::Word("long")],
 };
 
-const NONE: Form = Form {
+pub(crate) const NONE: Form = Form {
     parts: &[Part::Tag("verdict", "none", "none")],
 };
 
@@ -93,32 +94,7 @@ const YANKED: Form = Form {
     ],
 };
 
-const SAME_EMPTY: Form = Form {
-    parts: &[
-        Part::Tag("verdict", "same", "same"),
-        Part::Number("records"),
-        Part::Null("head", "none"),
-    ],
-};
-
-const SAME: Form = Form {
-    parts: &[
-        Part::Tag("verdict", "same", "same"),
-        Part::Number("records"),
-        Part::Text("head"),
-    ],
-};
-
-const GOES_ON: Form = Form {
-    parts: &[
-        Part::Tag("verdict", "goes", "goes on"),
-        Part::Word("on"),
-        Part::Number("old"),
-        Part::Number("new"),
-    ],
-};
-
-const ROLLED_BACK: Form = Form {
+pub(crate) const ROLLED_BACK: Form = Form {
     parts: &[
         Part::Tag("verdict", "rolled", "rolled back"),
         Part::Word("back"),
@@ -127,7 +103,7 @@ const ROLLED_BACK: Form = Form {
     ],
 };
 
-const FORK: Form = Form {
+pub(crate) const FORK: Form = Form {
     parts: &[
         Part::Tag("verdict", "fork", "fork"),
         Part::Number("record"),
@@ -136,64 +112,12 @@ const FORK: Form = Form {
     ],
 };
 
-const COLLISION: Form = Form {
+pub(crate) const COLLISION: Form = Form {
     parts: &[
         Part::Tag("verdict", "collision", "collision"),
         Part::Number("old"),
         Part::Number("new"),
         Part::Text("id"),
-    ],
-};
-
-const OF_OLD: Form = Form {
-    parts: &[
-        Part::Tag("side", "old:", "old"),
-        Part::Tag("verdict", "refused", "refused"),
-        Part::Number("record"),
-        Part::Text("offence"),
-    ],
-};
-
-const OF_NEW: Form = Form {
-    parts: &[
-        Part::Tag("side", "new:", "new"),
-        Part::Tag("verdict", "refused", "refused"),
-        Part::Number("record"),
-        Part::Text("offence"),
-    ],
-};
-
-const OLD_RECORD: Form = Form {
-    parts: &[
-        Part::Tag("side", "old", "old"),
-        Part::Text("time"),
-        Part::Text("signer"),
-        Part::Rest("entries"),
-    ],
-};
-
-const BARE_OLD_RECORD: Form = Form {
-    parts: &[
-        Part::Tag("side", "old", "old"),
-        Part::Text("time"),
-        Part::Text("signer"),
-    ],
-};
-
-const NEW_RECORD: Form = Form {
-    parts: &[
-        Part::Tag("side", "new", "new"),
-        Part::Text("time"),
-        Part::Text("signer"),
-        Part::Rest("entries"),
-    ],
-};
-
-const BARE_NEW_RECORD: Form = Form {
-    parts: &[
-        Part::Tag("side", "new", "new"),
-        Part::Text("time"),
-        Part::Text("signer"),
     ],
 };
 
@@ -241,7 +165,7 @@ const STATE: Form = Form {
     parts: &[Part::Json("state")],
 };
 
-static LINE_FORMS: [CommandForms; 14] = [
+static OTHER_FORMS: [CommandForms; 11] = [
     CommandForms {
         command: "id",
         forms: &[
@@ -281,90 +205,6 @@ static LINE_FORMS: [CommandForms; 14] = [
         ],
     },
     CommandForms {
-        command: "show",
-        forms: &[
-            REFUSED,
-            BAD_LINE,
-            Form {
-                parts: &[
-                    Part::Tag("shows", "head", "head"),
-                    Part::Null("head", "none"),
-                ],
-            },
-            Form {
-                parts: &[Part::Tag("shows", "head", "head"), Part::Text("head")],
-            },
-            Form {
-                parts: &[
-                    Part::Tag("shows", "key", "key"),
-                    Part::Text("id"),
-                    Part::Text("key"),
-                    Part::Words("permissions"),
-                ],
-            },
-            Form {
-                parts: &[
-                    Part::Tag("shows", "release", "release"),
-                    Part::Text("release"),
-                    Part::Tag("state", "yanked", "yanked"),
-                    Part::Word("by"),
-                    Part::Text("by"),
-                    Part::Word("at"),
-                    Part::Text("time"),
-                ],
-            },
-            Form {
-                parts: &[
-                    Part::Tag("shows", "release", "release"),
-                    Part::Text("release"),
-                    Part::Text("content"),
-                ],
-            },
-            Form {
-                parts: &[
-                    Part::Tag("shows", "namespace", "namespace"),
-                    Part::Text("namespace"),
-                    Part::Tag("state", "defined", "defined"),
-                ],
-            },
-            Form {
-                parts: &[
-                    Part::Tag("shows", "namespace", "namespace"),
-                    Part::Text("namespace"),
-                    Part::Tag("state", "imported", "imported"),
-                    Part::Word("from"),
-                    Part::Text("registry"),
-                ],
-            },
-            Form {
-                parts: &[Part::Tag("shows", "why:", "why"), Part::Rest("why")],
-            },
-            Form {
-                parts: &[Part::Tag("shows", "entry:", "entry"), Part::Number("entry")],
-            },
-            Form {
-                parts: &[Part::Tag("shows", "try:", "try"), Part::Rest("try")],
-            },
-            Form {
-                parts: &[
-                    Part::Number("record"),
-                    Part::Text("id"),
-                    Part::Text("time"),
-                    Part::Text("signer"),
-                    Part::Rest("entries"),
-                ],
-            },
-            Form {
-                parts: &[
-                    Part::Number("record"),
-                    Part::Text("id"),
-                    Part::Text("time"),
-                    Part::Text("signer"),
-                ],
-            },
-        ],
-    },
-    CommandForms {
         command: "state",
         forms: &[REFUSED, BAD_LINE, NO_JSON, STATE],
     },
@@ -394,41 +234,6 @@ static LINE_FORMS: [CommandForms; 14] = [
             Form {
                 parts: &[Part::Text("permission")],
             },
-        ],
-    },
-    CommandForms {
-        command: "chain",
-        forms: &[
-            REFUSED,
-            BAD_LINE,
-            NONE,
-            Form {
-                parts: &[
-                    Part::Number("record"),
-                    Part::Number("entry"),
-                    Part::Text("time"),
-                    Part::Text("signer"),
-                    Part::Word("to"),
-                    Part::Text("key"),
-                ],
-            },
-        ],
-    },
-    CommandForms {
-        command: "compare",
-        forms: &[
-            SAME_EMPTY,
-            SAME,
-            GOES_ON,
-            ROLLED_BACK,
-            FORK,
-            OLD_RECORD,
-            BARE_OLD_RECORD,
-            NEW_RECORD,
-            BARE_NEW_RECORD,
-            COLLISION,
-            OF_OLD,
-            OF_NEW,
         ],
     },
     CommandForms {
@@ -485,10 +290,28 @@ static LINE_FORMS: [CommandForms; 14] = [
     },
 ];
 
-/// The forms of each command's lines, of which the first that fits is taken.
-#[tactic(auto, unfolding(crate::specs::LineForms::line_forms))]
-pub(crate) fn line_forms() -> &'static [CommandForms]
-    ensures { map row_view result.now ≡ line_forms }
+// The forms of the lines of commands that tell no records.
+#[tactic(auto, unfolding(crate::specs::LineForms::other_forms))]
+fn other_forms() -> &'static [CommandForms]
+    ensures { map row_view result.now ≡ other_forms }
 {
-    &LINE_FORMS
+    &OTHER_FORMS
+}
+
+// Whether a command tells records, or where they are.
+fn tells_records(command: &str) -> bool
+    ensures { result ≡ tells_records command.now }
+{
+    command == "show" || (command == "chain" || command == "compare")
+}
+
+/// The forms of a command's lines, in a table, of which the first that fits is taken.
+pub(crate) fn line_forms(command: &str) -> &'static [CommandForms]
+    ensures { map row_view result.now ≡ line_forms command.now }
+{
+    if tells_records(command) {
+        record_forms()
+    } else {
+        other_forms()
+    }
 }
