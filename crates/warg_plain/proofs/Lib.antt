@@ -1,0 +1,4 @@
+pub mod PlainLemmas
+pub mod ByteLemmas
+pub mod WordLemmas
+pub mod VersionLemmas
