@@ -1,0 +1,62 @@
+-- Answers by what words and files say: where they can't be used, nothing is printed.
+use Rattle.std.proofs.Common.{◌≡◌, ◌⊎◌, ℕ, List, codes, inl, inr, Option, refl}
+use Rattle.warg_files.specs.Answers.{IsFailed, IsUnanswered, IsUnusable}
+use Rattle.warg_files.specs.Changes.{IsUnheld, unheld}
+use Rattle.warg_files.specs.Files.{Files, Reads}
+use Rattle.warg_files.specs.Printouts.{Printout}
+use Rattle.warg_files.specs.ReadFaults.{IsLogUnread, IsUnread, unread_text}
+use Rattle.warg_files.specs.RecordLines.{record_lines}
+use Rattle.warg_files.specs.Texts.{silent}
+use Rattle.warg_files.specs.Unusable.{IfUsable, IsOfFile, IsOfLines, IsOfWord, no_word, read, unread, word}
+use Rattle.warg_files.specs.declared.change.HoldFault.{HoldFault}
+use Rattle.warg_files.specs.declared.change.HoldFault.TheVariants as hold
+use Rattle.warg_printable.specs.Lines.{IsPrintedText}
+use Rattle.warg_printable.proofs.LineLemmas.{no_lines}
+use Rattle.warg_printed.proofs.LineLemmas.{IsClean, clean_same, line_text, plain_line}
+
+-- nothing is printed
+pub silent_clean : (status : ℕ) (printed : Printout) → printed ≡ silent status → IsClean printed
+silent_clean status printed h = clean_same printed (silent status) h no_lines
+
+pub unanswered_clean : (printed : Printout) → IsUnanswered printed → IsClean printed
+unanswered_clean printed (inl unusable) = silent_clean 2 printed unusable
+unanswered_clean printed (inr failed) = silent_clean 3 printed failed
+
+pub unread_clean : (files : Option Files) (path : List ℕ) (printed : Printout) → IsUnread files path printed → IsClean printed
+unread_clean files path printed h = silent_clean (unread_text h.why).status printed h.is
+
+pub log_unread_clean : (printed : Printout) → IsLogUnread printed → IsClean printed
+log_unread_clean printed h = silent_clean (unread_text h.why).status printed h.is
+
+fault_clean : (fault : HoldFault) → IsPrintedText (unheld fault).text
+fault_clean (hold.Unread fault) = no_lines
+fault_clean hold.Busy = line_text (codes "busy\n") (plain_line (codes "busy") refl)
+fault_clean hold.Special = no_lines
+fault_clean hold.ManyNames = no_lines
+fault_clean hold.ReadOnly = no_lines
+fault_clean hold.DeadLink = no_lines
+fault_clean hold.NoFolder = no_lines
+fault_clean hold.Unlocked = no_lines
+
+pub unheld_clean : (printed : Printout) → IsUnheld printed → IsClean printed
+unheld_clean printed h = clean_same printed (unheld h.0) h.1 (fault_clean h.0)
+
+pub usable_clean : (P : Printout → Type 0) → ((printed : Printout) → P printed → IsClean printed) → (printed : Printout)
+    → IfUsable P printed → IsClean printed
+usable_clean P each printed (inl unanswered) = unanswered_clean printed unanswered
+usable_clean P each printed (inr h) = each printed h
+
+pub word_clean : {A : Type 0} (Says : A → Type 0) (P : A → Printout → Type 0) → ((value : A) (printed : Printout) → P value printed → IsClean printed)
+    → (printed : Printout) → IsOfWord Says P printed → IsClean printed
+word_clean Says P each printed (no_word unusable) = silent_clean 2 printed unusable
+word_clean Says P each printed (word value says h) = each value printed h
+
+module _ (files : Option Files) (path : List ℕ) where
+  pub file_clean : (P : List ℕ → Printout → Type 0) → ((bytes : List ℕ) (printed : Printout) → P bytes printed → IsClean printed)
+      → (printed : Printout) → IsOfFile files path P printed → IsClean printed
+  file_clean P each printed (unread h) = unread_clean files path printed h
+  file_clean P each printed (read bytes reads h) = each bytes printed h
+
+  pub lines_clean : (P : List (List ℕ) → Printout → Type 0) → ((lines : List (List ℕ)) (printed : Printout) → P lines printed → IsClean printed)
+      → (printed : Printout) → IsOfLines files path P printed → IsClean printed
+  lines_clean P each printed h = file_clean (λ bytes. P (record_lines bytes)) (λ bytes it. each (record_lines bytes) it) printed h
