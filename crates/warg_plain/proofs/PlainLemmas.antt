@@ -1,14 +1,12 @@
 -- Plain texts, put together, and that no hidden character stands in them.
-use Rattle.std.proofs.Common.{◌≡◌, ℕ, ◌≤◌, ◌<◌, Bool, true, false, ◌&&◌, nat_le, List, [], ◌∷◌, ◌++◌, length, slice_index, zero, suc, codes, refl, sym, ap, ◌∙◌, arith, append_assoc, encode_utf8_all}
+use Rattle.std.proofs.Common.{◌≡◌, ℕ, ◌≤◌, ◌<◌, Bool, true, false, ◌&&◌, nat_le, List, [], ◌∷◌, ◌++◌, length, slice_index, zero, suc, refl, arith}
 use Rattle.std.specs.List.{list_all}
 use Rattle.std.specs.Str.{NonePass}
 use Rattle.std.proofs.lemmas.Bool.{lt-leb}
 use Rattle.std.proofs.lemmas.Bool.Decides.{nat_tests}
-use Rattle.warg_printable.specs.Characters.{is_from, is_hidden}
-use Rattle.warg_printable.specs.Lines.{IsPrintedText}
+use Rattle.warg_printable.specs.Characters.{is_hidden}
 use Rattle.warg_printable.specs.Printable.{IsPrintable}
 use Rattle.warg_printable.proofs.CharacterLemmas.{ascii_shown}
-use Rattle.warg_printable.proofs.LineLemmas.{one_shown}
 use Rattle.warg_printable.proofs.ShownLemmas.{encodes-ascii}
 use Rattle.warg_plain.specs.Plain.{is_plain, is_sign}
 

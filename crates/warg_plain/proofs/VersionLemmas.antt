@@ -1,12 +1,12 @@
 -- Versions whose texts read back are plain.
-use Rattle.std.proofs.Common.{◌≡◌, ℕ, ◌<◌, Bool, true, false, List, [], ◌∷◌, ◌++◌, length, Ok, refl, subst, arith}
-use Rattle.std.specs.Prelude.{nat_lt, not}
+use Rattle.std.proofs.Common.{◌≡◌, ℕ, Bool, true, List, [], ◌∷◌, ◌++◌, length, Ok, refl, subst, arith}
+use Rattle.std.specs.Prelude.{nat_lt}
 use Rattle.std.specs.Fmt.{decimal}
 use Rattle.std.specs.List.{list_all}
 use Rattle.std.proofs.lemmas.Bool.Decides.{nat_tests}
-use Rattle.semver.specs.Grammar.{IsValid, has_leading_zero, is_build, is_build_identifier, is_identifier_byte, is_pre_identifier, is_pre_release}
+use Rattle.semver.specs.Grammar.{IsValid, is_build, is_build_identifier, is_identifier_byte, is_pre_identifier, is_pre_release}
 use Rattle.semver.specs.Identifiers.{marked, parts_text}
-use Rattle.semver.specs.Order.{is_numeric, parts}
+use Rattle.semver.specs.Order.{parts}
 use Rattle.semver.specs.OrderLaws.{join-parts, join_dots}
 use Rattle.semver.specs.Parse.{Parts, version_parts}
 use Rattle.semver.proofs.Grammar.{version_parts-sound}

@@ -1,28 +1,26 @@
 -- What is answered to logs that are audited.
-use Rattle.std.proofs.Common.{◌≡◌, ◌⊎◌, ℕ, Bool, true, false, List, [], ◌∷◌, ◌++◌, codes, length, Option, Some, None, refl, inl, inr, subst, sym}
+use Rattle.std.proofs.Common.{◌≡◌, ℕ, Bool, true, false, List, [], ◌∷◌, ◌++◌, codes, length, Option, Some, None, refl}
 use Rattle.std.specs.Prelude.{filter, if◌then◌else◌, not}
 use Rattle.std.specs.Borrow.{Bor}
 use Rattle.std.specs.Fmt.{decimal}
-use Rattle.std.specs.List.{list_any}
 use Rattle.std.specs.Str.Lines.{lines}
-use Rattle.warg_protocol.specs.Logs.{EnvelopeData, SignatureRelation, contents}
-use Rattle.warg_protocol.specs.Records.{RecordId, hash_text}
+use Rattle.warg_protocol.specs.Logs.{SignatureRelation, contents}
+use Rattle.warg_protocol.specs.Records.{RecordId}
 use Rattle.warg_audited_log.specs.declared.comparison.Comparison.{Comparison}
 use Rattle.warg_audited_log.specs.declared.comparison.Comparison.TheVariants.{Collision, Fork, LeftIsPrefix, RightIsPrefix, Same}
 use Rattle.warg_audit.specs.LogAnswers.{LogDisplay, head_text, view_of}
 use Rattle.warg_audit.specs.LogTypes.{operator_log, package_log}
 use Rattle.warg_audit.specs.Printouts.{Printout}
-use Rattle.warg_answers.specs.Verdicts.{IsLawful, IsNegative, envelopes_of}
-use Rattle.warg_files.specs.Files.{Files, Lacks, Reads}
-use Rattle.warg_files.specs.RecordLines.{record_lines}
+use Rattle.warg_answers.specs.Verdicts.{envelopes_of}
+use Rattle.warg_files.specs.Files.{Files}
 use Rattle.warg_files.specs.Texts.{no, side_text}
 use Rattle.warg_log_type.specs.declared.LogType.{LogType}
 use Rattle.warg_log_type.specs.declared.LogType.TheVariants.{Operator, Package}
 use Rattle.warg_members.specs.Forms.{line_members, text_member}
 use Rattle.warg_members.specs.Objects.{forms_of}
-use Rattle.warg_tasks.specs.Audits.{IsAuditOf, IsAudited, IsBeside, IsBesideAny, IsBesideLines, IsDemanded, SaysHead, beside, first_of, has_head, has_least, lacks_records, line_or, met, not_met, of_older, parted, records_alone, unmet, verdict_on}
+use Rattle.warg_tasks.specs.Audits.{IsAuditOf, IsAudited, IsBeside, IsBesideAny, IsBesideLines, IsDemanded, beside, first_of, has_head, has_least, lacks_records, line_or, met, not_met, of_older, parted, unmet, verdict_on}
 use Rattle.warg_tasks.specs.LineForms.{line_forms}
-use Rattle.warg_tasks.specs.ManyAudits.{IsByOlder, IsManyAnswer, IsOneAnswer, IsPathLine, IsShownBy, IsVerdictOn, IsWith, IsWithAll, IsWithListed, IsWithNamed, IsWithPaths, IsWithWords, audit_line, empty_list_line, is_path, itself, listed, no_id, none, of_log, some}
+use Rattle.warg_tasks.specs.ManyAudits.{IsByOlder, IsManyAnswer, IsOneAnswer, IsShownBy, IsWith, IsWithAll, IsWithNamed, IsWithPaths, IsWithWords, audit_line, empty_list_line, is_path, itself, listed, no_id, none, of_log, some}
 use Rattle.warg_words.specs.declared.request.Demands.{Demands}
 use Rattle.warg_plain.specs.Plain.{is_plain}
 use Rattle.warg_plain.proofs.WordLemmas.{decimal_plain}
@@ -30,7 +28,7 @@ use Rattle.warg_printable.specs.Lines.{IsPrintedText}
 use Rattle.warg_printable.proofs.LineLemmas.{both_lines, no_lines, one_line}
 use Rattle.warg_printed.proofs.FileLemmas.{lines_clean, silent_clean, usable_clean}
 use Rattle.warg_printed.proofs.KindLemmas.{operator_plain, package_plain}
-use Rattle.warg_printed.proofs.LineLemmas.{IfLine, IsClean, IsOneLine, clean_line, clean_same, if_line, line_if, line_text, plain_front, plain_line, word_front}
+use Rattle.warg_printed.proofs.LineLemmas.{IfLine, IsClean, clean_line, clean_same, if_line, line_if, line_text, plain_front, plain_line, word_front}
 use Rattle.warg_printed.proofs.LogLemmas.{IsPlainLog, collision_one, fork_one, lawful_clean, negative_one, side_one, verdict_clean}
 use Rattle.warg_printed.proofs.ObjectLemmas.{object_clean}
 

@@ -1,8 +1,7 @@
 -- What is answered of a registry's checkpoints.
-use Rattle.std.proofs.Common.{◌≡◌, ◌⊎◌, ◌<◌, ◌≤◌, ℕ, Bool, true, false, ◌||◌, List, [], ◌∷◌, ◌++◌, codes, length, Option, Some, None, Ok, refl, sym, ap, subst, ◌∙◌, inl, inr, arith}
+use Rattle.std.proofs.Common.{◌≡◌, ◌<◌, ℕ, Bool, true, false, ◌||◌, List, [], ◌∷◌, ◌++◌, codes, length, Option, Some, None, refl, sym, subst, inl, inr, arith}
 use Rattle.std.specs.Prelude.{◌==◌, if◌then◌else◌, nat_le, nat_lt}
 use Rattle.std.specs.Fmt.{decimal}
-use Rattle.std.proofs.lemmas.Bool.{eqb-true, lt-ltb}
 use Rattle.std.proofs.lemmas.Bool.Decides.{nat_tests}
 use Rattle.json.specs.Print.{escape, escape_byte, quoted}
 use Rattle.serde_json.specs.Data.{member, no_members, number, object, string, unsigned}
@@ -11,8 +10,6 @@ use Rattle.sha2.specs.Sha256.{sha256}
 use Rattle.warg_crypto.specs.HashText.{hash_text}
 use Rattle.warg_files.specs.Files.{Files}
 use Rattle.warg_files.specs.Printouts.{Printout}
-use Rattle.warg_files.specs.Texts.{line, no, yes}
-use Rattle.warg_merkle.specs.Trees.{Side, tree_hash}
 use Rattle.warg_registry.specs.RegistryJson.{checkpoint_json}
 use Rattle.warg_registry.specs.declared.checkpoint.Checkpoint.{Checkpoint}
 use Rattle.warg_registry.specs.declared.leaf.LogLeaf.{LogLeaf}
@@ -22,7 +19,7 @@ use Rattle.warg_transparency.specs.MapTree.{way_of}
 use Rattle.warg_transparency.specs.Texts.{log_proof_text, map_proof_text}
 use Rattle.warg_checkpoints.specs.ProofTexts.{Asks, IsByLeaves, IsByWords, IsCheckpointText, IsConsistencyText, IsHeadText, IsInclusionText, IsProofAnswer, IsProved, by_value, checkpoint_line, consistency_of, inclusion_of, no_leaf, of_leaves, unsaid}
 use Rattle.warg_checkpoints.specs.Proofs.{IsStatementVerdict, IsVerdict, log_proof_line, map_proof_line}
-use Rattle.warg_checkpoints.specs.RegistryLeaves.{IsCheckpointOf, entries_of}
+use Rattle.warg_checkpoints.specs.RegistryLeaves.{entries_of}
 use Rattle.warg_words.specs.declared.statement.Statement.{Statement}
 use Rattle.warg_words.specs.declared.statement.Statement.TheVariants as statement
 use Rattle.warg_words.specs.declared.statement.Wanted.{Wanted}

@@ -1,5 +1,5 @@
 -- The messages that the claims of a log are on are of bytes.
-use Rattle.std.proofs.Common.{◌≡◌, ◌<◌, ℕ, zero, suc, Bool, true, false, ◌&&◌, List, [], ◌∷◌, ◌++◌, length, Option, Some, None, Result, Ok, Err, refl, sym, ap, ◌∙◌, arith}
+use Rattle.std.proofs.Common.{◌≡◌, ℕ, suc, Bool, true, List, [], ◌∷◌, ◌++◌, length, Option, Some, None, Result, Ok, Err, refl, ap, ◌∙◌, arith}
 use Rattle.std.specs.Prelude.{nat_lt}
 use Rattle.std.specs.List.{AllByRecursion, list_all, slice_get}
 use Rattle.std.specs.Option.{option_map, option_map_or, option_or}
@@ -20,7 +20,6 @@ use Rattle.warg_records.specs.Kinds.{Kind, SignatureRelation}
 use Rattle.warg_records.specs.RecordData.{RecordData}
 use Rattle.warg_verified.specs.Claims.{ClaimData}
 use Rattle.warg_plain.specs.Plain.{AreBytes}
-use Rattle.warg_plain.proofs.ByteLemmas.{bytes_append}
 use Rattle.warg_plain.proofs.PlainLemmas.{and_both, and_first, and_then}
 
 -- ---- bytes, as a test

@@ -1,24 +1,22 @@
 -- What lines of hex spell is bytes, and so are the contents of the envelopes in it.
-use Rattle.std.proofs.Common.{◌≡◌, ℕ, Bool, true, false, List, [], ◌∷◌, ◌++◌, length, map, take, zero, suc, Result, Ok, Err, refl, sym, ap, subst}
+use Rattle.std.proofs.Common.{◌≡◌, ℕ, Bool, true, false, List, [], ◌∷◌, ◌++◌, take, zero, suc, Result, Ok, Err, refl, sym, subst}
 use Rattle.std.specs.Prelude.{◌==◌, if◌then◌else◌}
 use Rattle.std.specs.List.{AllByRecursion}
-use Rattle.hex.specs.declared.error.FromHexError.{FromHexError}
 use Rattle.warg_crypto.specs.NamedBytes.{NamedBytes}
 use Rattle.warg_crypto.specs.Keys.{signature_of}
 use Rattle.warg_crypto.specs.declared.signing.error.SignatureParseError.{SignatureParseError}
 use Rattle.warg_envelope.specs.EnvelopeData.{EnvelopeData}
-use Rattle.warg_envelope.specs.Envelopes.{EnvelopeFault, enclosed_data, envelope_of, opened_data, signed_data}
+use Rattle.warg_envelope.specs.Envelopes.{enclosed_data, envelope_of, opened_data, signed_data}
 use Rattle.warg_files.specs.Lines.{Spell, string_of, without_return}
 use Rattle.warg_protobuf.specs.Envelope as outer
 use Rattle.warg_protobuf.specs.Envelope.{EnvelopeValue, IsEnvelope, IsEnvelopeOf, envelope_from, envelope_table}
 use Rattle.warg_protobuf.specs.Field.{Bytes, Eight, Field, Four, Holds, IsField, IsFields, Number, Payload}
-use Rattle.warg_protobuf.specs.Meaning.{Computes}
-use Rattle.warg_protobuf.specs.Values.{bytes_in, field_contents, last_bytes, last_from}
+use Rattle.warg_protobuf.specs.Values.{bytes_in, field_contents, last_from}
 use Rattle.warg_protobuf.specs.declared.error.WireError.{WireError}
 use Rattle.warg_protobuf.proofs.Decoding.{computes}
 use Rattle.warg_protobuf.proofs.EnvelopeLaws.{envelope_agrees}
 use Rattle.warg_plain.specs.Plain.{AreBytes}
-use Rattle.warg_plain.proofs.ByteLemmas.{bytes_append, decoded_bytes}
+use Rattle.warg_plain.proofs.ByteLemmas.{decoded_bytes}
 
 -- ---- what lines spell
 

@@ -1,8 +1,8 @@
 -- Answers by what words and files say: where they can't be used, nothing is printed.
-use Rattle.std.proofs.Common.{◌≡◌, ◌⊎◌, ℕ, List, codes, inl, inr, Option, refl}
-use Rattle.warg_files.specs.Answers.{IsFailed, IsUnanswered, IsUnusable}
+use Rattle.std.proofs.Common.{◌≡◌, ℕ, List, codes, inl, inr, Option, refl}
+use Rattle.warg_files.specs.Answers.{IsUnanswered}
 use Rattle.warg_files.specs.Changes.{IsUnheld, unheld}
-use Rattle.warg_files.specs.Files.{Files, Reads}
+use Rattle.warg_files.specs.Files.{Files}
 use Rattle.warg_files.specs.Printouts.{Printout}
 use Rattle.warg_files.specs.ReadFaults.{IsLogUnread, IsUnread, unread_text}
 use Rattle.warg_files.specs.RecordLines.{record_lines}

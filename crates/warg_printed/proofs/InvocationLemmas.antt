@@ -1,6 +1,6 @@
 -- What is answered to invocations: laid out for people, or in JSON.
-use Rattle.std.proofs.Common.{◌≡◌, ◌⊎◌, ℕ, Bool, true, false, List, [], Option, Some, None, inl, inr, refl, subst}
-use Rattle.std.specs.Prelude.{IfOk, Ok}
+use Rattle.std.proofs.Common.{◌≡◌, ℕ, Bool, true, false, List, [], Option, Some, None, inl, inr, subst}
+use Rattle.std.specs.Prelude.{IfOk}
 use Rattle.std.specs.Borrow.{Bor}
 use Rattle.std.specs.Str.Lines.{lines}
 use Rattle.warg_protocol.specs.Logs.{SignatureRelation}
@@ -16,7 +16,7 @@ use Rattle.warg_layout.proofs.LayoutLemmas.{shown-chain_layout, shown-log_layout
 use Rattle.warg_layout.proofs.NameLemmas.{shown-names}
 use Rattle.warg_verified.specs.Claims.{is_claimed}
 use Rattle.weoldrin.specs.Looks.{IsNamed, IsUnnamed, ListNoNames, as_it_is, laid_out, layout_of, layout_of_question}
-use Rattle.weoldrin.specs.Requests.{IsAnswerIn, IsGiven, IsGivenAs, IsGivenTo, IsInvocationAnswer, IsRequestAnswer, IsResponse, IsUnder, is_many}
+use Rattle.weoldrin.specs.Requests.{IsAnswerIn, IsGivenAs, IsGivenTo, IsInvocationAnswer, IsRequestAnswer, IsResponse, IsUnder, is_many}
 use Rattle.weoldrin.specs.Schemes.{asked_belongs}
 use Rattle.warg_words.specs.declared.request.Invocation.{Invocation}
 use Rattle.warg_words.specs.declared.request.Question.{Question}

@@ -1,10 +1,9 @@
 -- Logs of both kinds are plain: their hashes are of bytes, and the versions of releases were read from texts.
-use Rattle.std.proofs.Common.{◌≡◌, ℕ, ◌<◌, zero, suc, true, List, [], ◌∷◌, ◌++◌, codes, length, map, Option, Some, None, Ok, refl, arith}
-use Rattle.std.specs.List.{AllByRecursion, last_or}
+use Rattle.std.proofs.Common.{◌≡◌, ℕ, true, List, [], ◌∷◌, ◌++◌, codes, map, Option, Some, None, refl}
+use Rattle.std.specs.List.{last_or}
 use Rattle.std.specs.Option.{option_map}
 use Rattle.semver.specs.Identifiers.{parts_text}
 use Rattle.warg_crypto.specs.HashText.{hash_text}
-use Rattle.warg_crypto.specs.declared.hash.AnyHash.{AnyHash}
 use Rattle.warg_audit.specs.LogAnswers.{head_text}
 use Rattle.warg_audit.specs.LogTypes.{operator_log, package_log}
 use Rattle.warg_audit.specs.ReleaseLines.{release_line, release_lines, release_state_text}
@@ -30,7 +29,7 @@ use Rattle.warg_envelope.specs.Envelopes.{envelope_of}
 use Rattle.warg_records.specs.OperatorReading.{operator_record_of}
 use Rattle.warg_records.specs.RecordHashes.{operator_record_message, package_record_message}
 use Rattle.warg_records.specs.declared.record_id.RecordId.{RecordId}
-use Rattle.warg_plain.specs.Plain.{AreBytes, is_plain}
+use Rattle.warg_plain.specs.Plain.{is_plain}
 use Rattle.warg_plain.proofs.ByteLemmas.{sha256_bytes}
 use Rattle.warg_plain.proofs.PlainLemmas.{plain_append}
 use Rattle.warg_plain.proofs.VersionLemmas.{version_plain}
@@ -40,7 +39,7 @@ use Rattle.warg_printable.proofs.LineLemmas.{both_lines, no_lines}
 use Rattle.warg_printed.proofs.ClaimLemmas.{claims_bytes, from_test}
 use Rattle.warg_printed.proofs.ContentBytes.{envelope_bytes}
 use Rattle.warg_printed.proofs.ContentLemmas.{HaveBytes, StateHasBytes, contents_read, open_package}
-use Rattle.warg_printed.proofs.LineLemmas.{IsOneLine, line_text, plain_front, plain_line}
+use Rattle.warg_printed.proofs.LineLemmas.{line_text, plain_front, plain_line}
 use Rattle.warg_printed.proofs.LogLemmas.{IsPlainLog}
 use Rattle.warg_printed.proofs.NameLemmas.{namespace_offence_plain, offence_plain, record_fault_plain, release_offence_plain}
 

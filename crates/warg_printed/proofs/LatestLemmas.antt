@@ -5,7 +5,6 @@ use Rattle.std.specs.List.{AllByRecursion, Contains}
 use Rattle.semver.specs.Identifiers.{parts_text}
 use Rattle.semver.specs.Parse.{version_parts}
 use Rattle.semver.specs.declared.Comparator.{Comparator}
-use Rattle.warg_crypto.specs.declared.hash.AnyHash.{AnyHash}
 use Rattle.warg_audit.specs.Answers.{IsEnvelopeAnswer, IsIdAnswer, bad_digits, has_fault, is_read, no_line, one_line, record_id_of, second_line}
 use Rattle.warg_audit.specs.Printouts.{Printout, bad_line, record_id, refused_line}
 use Rattle.warg_answers.specs.Verdicts.{envelopes_of}
@@ -21,8 +20,8 @@ use Rattle.warg_package_log.specs.declared.release.ReleaseState.{ReleaseState}
 use Rattle.warg_package_log.specs.declared.release.ReleaseState.TheVariants.{Released, Yanked}
 use Rattle.warg_protocol.specs.Records.{hash_text}
 use Rattle.warg_records.specs.RecordHashes.{operator_record_message, package_record_message}
-use Rattle.warg_tasks.specs.Latest.{IsLatestOf, IsLatestText, content_text, latest_text}
-use Rattle.warg_plain.specs.Plain.{AreBytes, is_plain}
+use Rattle.warg_tasks.specs.Latest.{IsLatestOf, content_text, latest_text}
+use Rattle.warg_plain.specs.Plain.{is_plain}
 use Rattle.warg_plain.proofs.ByteLemmas.{sha256_bytes}
 use Rattle.warg_plain.proofs.VersionLemmas.{version_plain}
 use Rattle.warg_plain.proofs.WordLemmas.{hash_plain}

@@ -6,11 +6,11 @@ use Rattle.std.proofs.lemmas.Str.{NoCharPasses-append}
 use Rattle.warg_files.specs.Printouts.{Printout}
 use Rattle.warg_files.specs.Texts.{all_lines, line}
 use Rattle.warg_plain.specs.Plain.{is_plain}
-use Rattle.warg_plain.proofs.PlainLemmas.{plain_append, plain_shown}
+use Rattle.warg_plain.proofs.PlainLemmas.{plain_shown}
 use Rattle.warg_printable.specs.Characters.{is_hidden}
 use Rattle.warg_printable.specs.Lines.{IsPrintedText}
-use Rattle.warg_printable.specs.Printable.{IsPrintable, printable}
-use Rattle.warg_printable.proofs.LineLemmas.{both_lines, no_lines, one_line, one_shown, same_lines}
+use Rattle.warg_printable.specs.Printable.{IsPrintable}
+use Rattle.warg_printable.proofs.LineLemmas.{both_lines, no_lines, one_shown, same_lines}
 
 -- the text is one line with no hidden character in it, and its end
 abbrev pub IsOneLine : List ℕ → Type 0

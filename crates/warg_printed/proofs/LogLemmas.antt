@@ -1,5 +1,5 @@
 -- What is printed of a log whose names and hashes are plain: the audit's lines, and how two copies part.
-use Rattle.std.proofs.Common.{◌≡◌, ℕ, Bool, true, false, List, [], ◌∷◌, ◌++◌, codes, length, Option, Some, None, refl, sym, ap, subst}
+use Rattle.std.proofs.Common.{◌≡◌, ℕ, true, List, [], ◌++◌, codes, Option, refl}
 use Rattle.std.specs.Fmt.{decimal}
 use Rattle.std.specs.Prelude.{slice_index_or}
 use Rattle.std.specs.List.{AllByRecursion}
@@ -10,14 +10,14 @@ use Rattle.warg_protocol.specs.Records.{RecordId, hash_text}
 use Rattle.warg_audit.specs.LogAnswers.{IsRefused, LogDisplay, accepted_start, cause_name, head_text, log_shown, refusal}
 use Rattle.warg_audit.specs.Printouts.{Printout, bad_line, refused_line}
 use Rattle.warg_answers.specs.Texts.{collision_line, fork_line, id_text_at}
-use Rattle.warg_answers.specs.Verdicts.{IsLawful, IsNegative, IsPrintedOf, first_bad, first_refused, lawful, negative}
+use Rattle.warg_answers.specs.Verdicts.{IsNegative, IsPrintedOf, first_bad, first_refused, lawful, negative}
 use Rattle.warg_files.specs.Texts.{side_text}
 use Rattle.warg_plain.specs.Plain.{AreBytes, is_plain}
 use Rattle.warg_plain.proofs.PlainLemmas.{plain_append}
 use Rattle.warg_plain.proofs.WordLemmas.{decimal_plain}
 use Rattle.warg_printable.specs.Lines.{IsPrintedText}
 use Rattle.warg_printable.proofs.LineLemmas.{both_lines}
-use Rattle.warg_printed.proofs.LineLemmas.{IsClean, IsOneLine, clean_line, clean_same, line_same, line_text, plain_front, plain_line, word_front}
+use Rattle.warg_printed.proofs.LineLemmas.{IsClean, IsOneLine, line_same, line_text, plain_front, plain_line, word_front}
 use Rattle.warg_printed.proofs.NameLemmas.{envelope_fault_plain}
 
 -- the names of what may be wrong with a kind's logs are plain, so are the hashes of its records, what it shows are lines, and the

@@ -1,6 +1,5 @@
 -- Answers in JSON: objects, each a line with no hidden character.
-use Rattle.std.proofs.Common.{◌≡◌, ℕ, ◌<◌, ◌+◌, zero, suc, List, [], ◌∷◌, ◌++◌, codes, length, map, refl, arith}
-use Rattle.std.specs.List.{concat}
+use Rattle.std.proofs.Common.{◌≡◌, ℕ, ◌<◌, List, [], ◌∷◌, codes, length, refl, arith}
 use Rattle.std.specs.Str.Lines.{lines}
 use Rattle.warg_audit.specs.Printouts.{Printout}
 use Rattle.warg_members.specs.Forms.{line_members, text_member}

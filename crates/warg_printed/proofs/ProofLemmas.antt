@@ -4,7 +4,7 @@ use Rattle.std.specs.Prelude.{◌==◌, if◌then◌else◌, nat_lt, slice_index
 use Rattle.std.specs.List.{AllByRecursion, concat}
 use Rattle.std.specs.Str.{bytes_eq}
 use Rattle.sha2.specs.Sha256.{sha256}
-use Rattle.warg_map_proof.specs.ShortForms.{is_left_out, mark_at, marks_byte, marks_from, others_of, short_form_of}
+use Rattle.warg_map_proof.specs.ShortForms.{is_left_out, mark_at, marks_from, others_of, short_form_of}
 use Rattle.warg_merkle.specs.Extensions.{consistency_path, consistency_proof, extension, extension_within, start_index, subproof}
 use Rattle.warg_merkle.specs.Trees.{Left, Right, Side, inclusion_path, inclusion_path_within, leaf_input, left_size, node_input, tree_hash, tree_hash_within}
 use Rattle.warg_sparse_map.specs.Maps.{empty_root, map_path, map_root, value_input}

@@ -8,21 +8,21 @@ use Rattle.warg_protocol.specs.Records.{RecordId, hash_text}
 use Rattle.warg_audited_log.specs.declared.comparison.Comparison.{Comparison}
 use Rattle.warg_audited_log.specs.declared.comparison.Comparison.TheVariants.{Collision, Fork, LeftIsPrefix, RightIsPrefix, Same}
 use Rattle.warg_audited_log.specs.declared.link.Link.{Link}
-use Rattle.warg_audit.specs.LogAnswers.{LogDisplay, head_text, refusal}
+use Rattle.warg_audit.specs.LogAnswers.{head_text, refusal}
 use Rattle.warg_audit.specs.Printouts.{Printout, bad_line}
 use Rattle.warg_answers.specs.ShownWords.{RecordWords}
-use Rattle.warg_answers.specs.Texts.{AreLinkLines, IsChainPrinted, IsComparisonPrinted, IsForkText, IsLinkLine, IsNamedLine, collision_line, fork_line, json_text, permissions_text, receiver}
+use Rattle.warg_answers.specs.Texts.{AreLinkLines, IsChainPrinted, IsComparisonPrinted, IsForkText, IsLinkLine, IsNamedLine, fork_line, json_text, permissions_text, receiver}
 use Rattle.warg_answers.specs.Verdicts.{IsPrintedOf, envelopes_of}
 use Rattle.warg_answers.specs.Words.{IsByWord, by_value, unsaid}
 use Rattle.warg_files.specs.Files.{Files}
-use Rattle.warg_files.specs.Texts.{all_lines, no, side_text, yes}
+use Rattle.warg_files.specs.Texts.{no, side_text, yes}
 use Rattle.warg_json.specs.declared.error.Incoherence.{Incoherence}
 use Rattle.warg_json.specs.declared.error.Incoherence.TheVariants as case
 use Rattle.warg_json.specs.declared.error.JsonError.{JsonError as ValueError}
 use Rattle.warg_json.specs.declared.error.JsonError.TheVariants as value
 use Rattle.warg_saved.specs.declared.error.JsonTextError.TheVariants as text
 use Rattle.warg_questions.specs.QuestionAnswers.{Askable, IsQuestionAnswer}
-use Rattle.warg_questions.specs.Questions.{ArePermissionsTold, IsChainText, IsCompared, IsComparedWith, IsComparisonText, IsPermissionsText, IsStateText, both, by_new, of_new, of_old}
+use Rattle.warg_questions.specs.Questions.{IsChainText, IsCompared, IsComparedWith, IsComparisonText, IsPermissionsText, IsStateText, both, by_new, of_new, of_old}
 use Rattle.warg_questions.specs.Resumption.{IsGoneOn, IsResumed, first_bad, first_refused, gone_on, no_state, resumed}
 use Rattle.warg_questions.specs.StateFaults.{bad_state, case_name, state_fault_name, value_name}
 use Rattle.warg_words.specs.declared.request.Question.{Question}

@@ -1,5 +1,5 @@
 -- What is printed of logs in words, and why a record is refused.
-use Rattle.std.proofs.Common.{◌≡◌, ℕ, ◌+◌, List, [], ◌∷◌, ◌++◌, codes, take, Option, Some, None}
+use Rattle.std.proofs.Common.{ℕ, ◌+◌, List, [], ◌∷◌, ◌++◌, codes, take, Option, Some, None}
 use Rattle.std.specs.Fmt.{decimal}
 use Rattle.warg_protocol.specs.Logs.{Cause, EnvelopeData, EnvelopeFault, SignatureRelation}
 use Rattle.warg_protocol.specs.Records.{RecordId}

@@ -11,7 +11,6 @@ use Rattle.warg_audit.specs.LogAnswers.{LogDisplay, refusal}
 use Rattle.warg_audit.specs.LogTypes.{operator_log, package_log}
 use Rattle.warg_audit.specs.Printouts.{Printout, bad_line}
 use Rattle.warg_answers.specs.Verdicts.{envelopes_of, lawful, negative}
-use Rattle.warg_files.specs.Answers.{IsUnusable}
 use Rattle.warg_files.specs.Files.{Files}
 use Rattle.warg_files.specs.RecordLines.{record_lines}
 use Rattle.warg_files.specs.Texts.{all_lines, line}
@@ -21,7 +20,7 @@ use Rattle.warg_make.specs.Entries.{LacksOperatorEntry, LacksPackageEntry, SaysO
 use Rattle.warg_make.specs.NextRecords.{operator_content, operator_prefix, package_content, package_prefix}
 use Rattle.warg_make.specs.declared.error.EntryFault.{EntryFault}
 use Rattle.warg_tasks.specs.ClaimTexts.{IsClaimList, IsClaimsAnswer, cut, first_bad, listed, whole}
-use Rattle.warg_tasks.specs.MadeRecords.{IsMade, IsMadeAfter, IsMadeBy, IsMadeByToy, IsMadeForKey, IsMadeForText, IsMadeOf, IsPrintedNext, IsRefusedNext, IsUnsaid, no_file, no_key, of_key, of_log, refused, signed, signed_line, taken, to_be_signed, unsaid, unsaid_for_key, unsigned_line}
+use Rattle.warg_tasks.specs.MadeRecords.{IsMade, IsMadeBy, IsMadeByToy, IsMadeForKey, IsMadeForText, IsMadeOf, IsRefusedNext, IsUnsaid, no_file, no_key, of_key, of_log, refused, signed, signed_line, taken, to_be_signed, unsaid, unsaid_for_key, unsigned_line}
 use Rattle.warg_tasks.specs.Tasks.{IsDoneAnswer, IsTaskAnswer}
 use Rattle.warg_verified.specs.Claims.{ClaimData, claim_text, named_word}
 use Rattle.warg_words.specs.declared.task.Draft.{Draft}
@@ -43,7 +42,7 @@ use Rattle.warg_printed.proofs.ContentBytes.{spelled_bytes, taken_bytes}
 use Rattle.warg_printed.proofs.FileLemmas.{lines_clean, log_unread_clean, silent_clean}
 use Rattle.warg_printed.proofs.HexLemmas.{front_no_nul, hex_no_nul, rest_no_nul}
 use Rattle.warg_printed.proofs.KindLemmas.{operator_plain, package_plain}
-use Rattle.warg_printed.proofs.LineLemmas.{IsClean, clean_line, clean_same, line_text, plain_line}
+use Rattle.warg_printed.proofs.LineLemmas.{IsClean, clean_line, clean_same, plain_line}
 use Rattle.warg_printed.proofs.LogLemmas.{IsPlainLog, bad_one, negative_clean, refusal_one}
 
 -- ---- claims
