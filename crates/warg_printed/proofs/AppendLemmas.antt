@@ -14,15 +14,15 @@ use Rattle.warg_audit.specs.Printouts.{Printout, bad_line}
 use Rattle.warg_answers.specs.Verdicts.{envelopes_of}
 use Rattle.warg_files.specs.Files.{Files}
 use Rattle.warg_files.specs.RecordLines.{record_lines}
-use Rattle.warg_files.specs.Texts.{all_lines}
+use Rattle.warg_files.specs.Texts.{all_lines, no}
 use Rattle.warg_tasks.specs.Additions.{IsAddition, IsAllOrNone, IsPutOf, IsRefusal, addition_text, believed, file_refused, is_none_of, new_lines, put, refused, taken, too_long, unflushed, unwritten, whole_refused, with_lines}
-use Rattle.warg_tasks.specs.Appends.{IsAddedTo, IsAppended, bad, no_file, no_lines as lines_unread, no_log, of_lines, to_log}
+use Rattle.warg_tasks.specs.Appends.{IsAddedTo, IsAppended, bad, no_file, no_lines as lines_unread, no_log, no_record, of_lines, to_log}
 use Rattle.warg_printable.specs.Lines.{IsPrintedText, with_ends}
 use Rattle.warg_printable.specs.Printable.{IsPrintable}
 use Rattle.warg_printable.proofs.LineLemmas.{both_lines}
 use Rattle.warg_printable.proofs.ShownLemmas.{shown_byte}
 use Rattle.warg_printed.proofs.FileLemmas.{silent_clean, unheld_clean, unread_clean}
-use Rattle.warg_printed.proofs.LineLemmas.{IsClean, all_filtered, clean_line, clean_same, line_text, shown_lines}
+use Rattle.warg_printed.proofs.LineLemmas.{IsClean, all_filtered, clean_line, clean_same, line_text, plain_line, shown_lines}
 use Rattle.warg_printed.proofs.LogLemmas.{IsPlainLog, bad_one, negative_clean, start_one}
 
 -- ---- the lines of a printed text
@@ -105,8 +105,9 @@ module _ {Meaning Fault View Offence : Type 0} (log : LogDisplay Meaning Fault V
 
   to_clean : (old new : Option Files) (path added : List ℕ) (printed : Printout) → IsAddedTo log belongs old new path added printed → IsClean printed
   to_clean old new path added printed (bad index at is same) = clean_line printed (bad_line index) is (bad_one index)
-  to_clean old new path added printed (no_log strings spell unheld same) = unheld_clean printed unheld
-  to_clean old new path added printed (to_log strings spell file reads h) = all_clean path file added old new printed h
+  to_clean old new path added printed (no_record spell is same) = clean_line printed (no (codes "empty\n")) is (plain_line (codes "empty") refl)
+  to_clean old new path added printed (no_log strings spell some unheld same) = unheld_clean printed unheld
+  to_clean old new path added printed (to_log strings spell some file reads h) = all_clean path file added old new printed h
 
   -- the answer to lines that are added
   pub append_clean : (old new : Option Files) (path lines : List ℕ) (printed : Printout) → IsAppended log belongs old new path lines printed

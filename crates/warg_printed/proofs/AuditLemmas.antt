@@ -18,7 +18,7 @@ use Rattle.warg_log_type.specs.declared.LogType.{LogType}
 use Rattle.warg_log_type.specs.declared.LogType.TheVariants.{Operator, Package}
 use Rattle.warg_members.specs.Forms.{line_members, text_member}
 use Rattle.warg_members.specs.Objects.{forms_of}
-use Rattle.warg_tasks.specs.Audits.{IsAuditOf, IsAudited, IsBeside, IsBesideAny, IsBesideLines, IsDemanded, beside, first_of, has_head, has_least, lacks_records, line_or, met, not_met, of_older, parted, unmet, verdict_on}
+use Rattle.warg_tasks.specs.Audits.{IsAuditOf, IsAudited, IsBeside, IsBesideAny, IsBesideLines, IsDemanded, beside, first_of, has_head, has_least, lacks_records, line_or, met, not_met, of_older, older_empty, parted, unmet, verdict_on}
 use Rattle.warg_tasks.specs.LineForms.{line_forms}
 use Rattle.warg_tasks.specs.ManyAudits.{IsByOlder, IsManyAnswer, IsOneAnswer, IsShownBy, IsWith, IsWithAll, IsWithNamed, IsWithPaths, IsWithWords, audit_line, empty_list_line, is_path, itself, listed, no_id, none, of_log, some}
 use Rattle.warg_words.specs.declared.request.Demands.{Demands}
@@ -73,15 +73,19 @@ module _ {Meaning Fault View Offence : Type 0} (log : LogDisplay Meaning Fault V
         (parted_line (log.kind.head (view_of log strings)) (plain.heads (envelopes_of log strings)) (contents (envelopes_of log before))
         (contents (envelopes_of log strings)) h.comparison))
 
-    older_clean : (older strings : List (List ℕ)) (printed : Printout) → IsBesideLines log belongs older strings printed → IsClean printed
-    older_clean older strings printed (of_older it h is) =
-        clean_line printed (side_text (codes "older") it) is (side_one (codes "older") it refl (negative_one log plain belongs older it h))
-    older_clean older strings printed (beside before is_lawful h) = beside_clean before strings printed h
-
-    any_clean : (older : Option (List (List ℕ))) (strings : List (List ℕ)) (printed : Printout) → IsBesideAny log belongs older strings printed
+    older_clean : (demands : Demands) (older strings : List (List ℕ)) (printed : Printout) → IsBesideLines log belongs demands older strings printed
         → IsClean printed
-    any_clean None strings printed h = clean_same printed (verdict_on log strings) h (on_clean strings)
-    any_clean (Some older) strings printed h = older_clean older strings printed h
+    older_clean demands older strings printed (of_older it h is) =
+        clean_line printed (side_text (codes "older") it) is (side_one (codes "older") it refl (negative_one log plain belongs older it h))
+    older_clean demands older strings printed (older_empty before is_lawful lacks is) =
+        clean_line printed (side_text (codes "older") (no (codes "empty\n"))) is
+        (side_one (codes "older") (no (codes "empty\n")) refl (plain_line (codes "empty") refl))
+    older_clean demands older strings printed (beside before is_lawful has h) = beside_clean before strings printed h
+
+    any_clean : (demands : Demands) (older : Option (List (List ℕ))) (strings : List (List ℕ)) (printed : Printout)
+        → IsBesideAny log belongs demands older strings printed → IsClean printed
+    any_clean demands None strings printed h = clean_same printed (verdict_on log strings) h (on_clean strings)
+    any_clean demands (Some older) strings printed h = older_clean demands older strings printed h
 
     demanded_clean : (demands : Demands) (older : Option (List (List ℕ))) (strings : List (List ℕ)) (printed : Printout)
         → IsDemanded log belongs demands older strings printed → IsClean printed
@@ -90,7 +94,7 @@ module _ {Meaning Fault View Offence : Type 0} (log : LogDisplay Meaning Fault V
         clean_line printed (no text) is
         (line_if (unmet demands (length strings) head) text is_unmet
         (unmet_line demands (length strings) head (plain.heads (envelopes_of log strings))))
-    demanded_clean demands older strings printed (met is_met h) = any_clean older strings printed h
+    demanded_clean demands older strings printed (met is_met h) = any_clean demands older strings printed h
 
     pub audited_clean : (demands : Demands) (older : Option (List (List ℕ))) (lines : List (List ℕ)) (printed : Printout)
         → IsAudited log belongs demands older lines printed → IsClean printed
@@ -107,12 +111,12 @@ audit_clean Operator belongs demands older lines printed h = audited_clean opera
 path_line : (json : Bool) (path : List ℕ) (verdict : Printout) → IsPrintedText (audit_line json path verdict)
 path_line false path verdict = one_line (path ++ (codes ": " ++ first_of (lines verdict.text)))
 path_line true path verdict =
-    object_clean (codes "audit") (text_member (codes "path") path ++ line_members (forms_of line_forms (codes "audit")) (first_of (lines verdict.text))) verdict.status
+    object_clean (codes "audit") (text_member (codes "path") path ++ line_members (forms_of (line_forms (codes "audit")) (codes "audit")) (first_of (lines verdict.text))) verdict.status
 
 empty_line : (json : Bool) (list : List ℕ) → IsPrintedText (empty_list_line json list)
 empty_line false list = line_text (codes "empty\n") (plain_line (codes "empty") refl)
 empty_line true list =
-    object_clean (codes "audit") (text_member (codes "path") list ++ line_members (forms_of line_forms (codes "audit")) (codes "empty")) 1
+    object_clean (codes "audit") (text_member (codes "path") list ++ line_members (forms_of (line_forms (codes "audit")) (codes "audit")) (codes "empty")) 1
 
 module _ (json : Bool) (files : Option Files) where
   shown_clean : (P : List (List ℕ) → Printout → Type 0) → ((lines : List (List ℕ)) (printed : Printout) → P lines printed → IsClean printed)

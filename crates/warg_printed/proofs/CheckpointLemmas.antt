@@ -17,21 +17,20 @@ use Rattle.warg_registry.specs.declared.log_id.LogId.{LogId}
 use Rattle.warg_saved.specs.Texts.{text_of}
 use Rattle.warg_transparency.specs.MapTree.{way_of}
 use Rattle.warg_transparency.specs.Texts.{log_proof_text, map_proof_text}
-use Rattle.warg_checkpoints.specs.ProofTexts.{Asks, IsByLeaves, IsByWords, IsCheckpointText, IsConsistencyText, IsHeadText, IsInclusionText, IsProofAnswer, IsProved, by_value, checkpoint_line, consistency_of, inclusion_of, no_leaf, of_leaves, unsaid}
-use Rattle.warg_checkpoints.specs.Proofs.{IsStatementVerdict, IsVerdict, log_proof_line, map_proof_line}
+use Rattle.warg_checkpoints.specs.ProofTexts.{IsByLeaves, IsCheckpointText, IsConsistencyText, IsHeadText, IsInclusionText, IsProofAnswer, IsProved, checkpoint_line, consistency_of, inclusion_of, no_leaf, of_leaves}
+use Rattle.warg_checkpoints.specs.Proofs.{IsAbsenceVerdict, IsConsistencyVerdict, IsHeadVerdict, IsInclusionVerdict, IsStatementVerdict, IsVerdict, log_proof_line, map_proof_line}
 use Rattle.warg_checkpoints.specs.RegistryLeaves.{entries_of}
 use Rattle.warg_words.specs.declared.statement.Statement.{Statement}
 use Rattle.warg_words.specs.declared.statement.Statement.TheVariants as statement
 use Rattle.warg_words.specs.declared.statement.Wanted.{Wanted}
 use Rattle.warg_words.specs.declared.statement.Wanted.TheVariants as wanted
-use Rattle.warg_files.specs.Unusable.{IsOfLines}
 use Rattle.warg_merkle.specs.Extensions.{consistency_proof}
 use Rattle.warg_merkle.specs.Trees.{inclusion_path}
 use Rattle.warg_plain.specs.Plain.{AreBytes, is_plain, is_sign}
 use Rattle.warg_plain.proofs.PlainLemmas.{and_first, and_then, plain_append, plain_cons}
 use Rattle.warg_plain.proofs.WordLemmas.{decimal_plain, hash_plain}
 use Rattle.warg_printable.specs.Lines.{IsPrintedText}
-use Rattle.warg_printed.proofs.FileLemmas.{lines_clean, silent_clean}
+use Rattle.warg_printed.proofs.FileLemmas.{by_file_clean, lines_clean, silent_clean, words_clean}
 use Rattle.warg_printed.proofs.LineLemmas.{IsClean, clean_line, clean_same, line_text, plain_line}
 use Rattle.warg_printed.proofs.ProofLemmas.{AllBytes, consistency_bytes, inclusion_bytes, log_proof_plain, map_proof_plain, root_bytes, tree_bytes, way_bytes}
 
@@ -41,12 +40,42 @@ verdict_clean : (S : Type 0) (printed : Printout) → IsVerdict S printed → Is
 verdict_clean S printed (inl h) = clean_line printed _ h.1 (plain_line (codes "holds") refl)
 verdict_clean S printed (inr h) = clean_line printed _ h.1 (plain_line (codes "does not hold") refl)
 
--- whether a statement holds
-pub statement_clean : (files : Option Files) (it : Statement) (printed : Printout) → IsStatementVerdict files it printed → IsClean printed
-statement_clean files (statement.Inclusion checkpoint place leaf proof) printed h = verdict_clean _ printed h.is
-statement_clean files (statement.Consistency old new proof) printed h = verdict_clean _ printed h.is
-statement_clean files (statement.Head checkpoint leaf proof) printed h = verdict_clean _ printed h.is
-statement_clean files (statement.Absence checkpoint log_id proof) printed h = verdict_clean _ printed h.is
+module _ (files : Option Files) where
+  inclusion_said : (checkpoint place log_id record_id proof : List ℕ) (printed : Printout)
+      → IsInclusionVerdict files checkpoint place log_id record_id proof printed → IsClean printed
+  inclusion_said checkpoint place log_id record_id proof printed h =
+      words_clean printed h (λ leaf is_leaf by_leaf.
+      words_clean printed by_leaf (λ index is_index by_place.
+      by_file_clean files checkpoint printed by_place (λ view by_view.
+      by_file_clean files proof printed by_view (λ hashes. verdict_clean _ printed))))
+
+  consistency_said : (old new proof : List ℕ) (printed : Printout) → IsConsistencyVerdict files old new proof printed → IsClean printed
+  consistency_said old new proof printed h =
+      by_file_clean files old printed h (λ before by_old.
+      by_file_clean files new printed by_old (λ after by_both.
+      by_file_clean files proof printed by_both (λ hashes. verdict_clean _ printed)))
+
+  head_said : (checkpoint log_id record_id proof : List ℕ) (printed : Printout) → IsHeadVerdict files checkpoint log_id record_id proof printed
+      → IsClean printed
+  head_said checkpoint log_id record_id proof printed h =
+      words_clean printed h (λ leaf is_leaf by_leaf.
+      by_file_clean files checkpoint printed by_leaf (λ view by_view.
+      by_file_clean files proof printed by_view (λ siblings. verdict_clean _ printed)))
+
+  absence_said : (checkpoint log_id proof : List ℕ) (printed : Printout) → IsAbsenceVerdict files checkpoint log_id proof printed → IsClean printed
+  absence_said checkpoint log_id proof printed h =
+      words_clean printed h (λ log is_log by_log.
+      by_file_clean files checkpoint printed by_log (λ view by_view.
+      by_file_clean files proof printed by_view (λ siblings. verdict_clean _ printed)))
+
+  -- whether a statement holds
+  pub statement_clean : (it : Statement) (printed : Printout) → IsStatementVerdict files it printed → IsClean printed
+  statement_clean (statement.Inclusion checkpoint place leaf proof) printed h =
+      inclusion_said checkpoint.now place.now leaf.log_id.now leaf.record_id.now proof.now printed h
+  statement_clean (statement.Consistency old new proof) printed h = consistency_said old.now new.now proof.now printed h
+  statement_clean (statement.Head checkpoint leaf proof) printed h =
+      head_said checkpoint.now leaf.log_id.now leaf.record_id.now proof.now printed h
+  statement_clean (statement.Absence checkpoint log_id proof) printed h = absence_said checkpoint.now log_id.now proof.now printed h
 
 -- ---- the JSON of a checkpoint
 
@@ -136,27 +165,24 @@ leaves_clean : (P : List LogLeaf → Printout → Type 0) → ((leaves : List Lo
 leaves_clean P each lines printed (no_leaf none unusable) = silent_clean 2 printed unusable
 leaves_clean P each lines printed (of_leaves leaves said h) = each leaves printed h
 
--- the answer by what words say
-words_clean : {A : Type 0} (Says : A → Type 0) (P : A → Printout → Type 0) → ((it : A) → Says it → (printed : Printout) → P it printed → IsClean printed)
-    → (printed : Printout) → IsByWords Says P printed → IsClean printed
-words_clean Says P each printed (unsaid h) = silent_clean 2 printed h.unusable
-words_clean Says P each printed (by_value it said h) = each it said printed h
-
 -- the answer to what is wanted
 pub proof_clean : (files : Option Files) (words : Wanted) (path : List ℕ) (printed : Printout) → IsProofAnswer files words path printed → IsClean printed
 proof_clean files wanted.Checkpoint path printed h =
-    words_clean (Asks wanted.Checkpoint) (λ it. IsOfLines files path (IsByLeaves (IsProved it)))
-    (λ it said. lines_clean files path (IsByLeaves (IsProved it))
-    (leaves_clean (IsProved it) (λ leaves answer is. checkpoint_of_clean leaves answer (subst (λ x. IsProved x leaves answer) said is)))) printed h
+    words_clean printed h (λ it said by_lines.
+    lines_clean files path (IsByLeaves (IsProved it))
+    (leaves_clean (IsProved it) (λ leaves answer is. checkpoint_of_clean leaves answer (subst (λ x. IsProved x leaves answer) said is))) printed by_lines)
 proof_clean files (wanted.Inclusion place) path printed h =
-    words_clean (Asks (wanted.Inclusion place)) (λ it. IsOfLines files path (IsByLeaves (IsProved it)))
-    (λ it said. lines_clean files path (IsByLeaves (IsProved it))
-    (leaves_clean (IsProved it) (λ leaves answer is. inclusion_clean leaves said.0 answer (subst (λ x. IsProved x leaves answer) said.1 is)))) printed h
+    words_clean printed h (λ it said by_lines.
+    lines_clean files path (IsByLeaves (IsProved it))
+    (leaves_clean (IsProved it) (λ leaves answer is. inclusion_clean leaves said.0 answer (subst (λ x. IsProved x leaves answer) said.1 is)))
+    printed by_lines)
 proof_clean files (wanted.Consistency older) path printed h =
-    words_clean (Asks (wanted.Consistency older)) (λ it. IsOfLines files path (IsByLeaves (IsProved it)))
-    (λ it said. lines_clean files path (IsByLeaves (IsProved it))
-    (leaves_clean (IsProved it) (λ leaves answer is. consistency_clean leaves said.0 answer (subst (λ x. IsProved x leaves answer) said.1 is)))) printed h
+    words_clean printed h (λ it said by_lines.
+    lines_clean files path (IsByLeaves (IsProved it))
+    (leaves_clean (IsProved it) (λ leaves answer is. consistency_clean leaves said.0 answer (subst (λ x. IsProved x leaves answer) said.1 is)))
+    printed by_lines)
 proof_clean files (wanted.Head log_id) path printed h =
-    words_clean (Asks (wanted.Head log_id)) (λ it. IsOfLines files path (IsByLeaves (IsProved it)))
-    (λ it said. lines_clean files path (IsByLeaves (IsProved it))
-    (leaves_clean (IsProved it) (λ leaves answer is. head_clean leaves said.0 answer (subst (λ x. IsProved x leaves answer) said.1 is)))) printed h
+    words_clean printed h (λ it said by_lines.
+    lines_clean files path (IsByLeaves (IsProved it))
+    (leaves_clean (IsProved it) (λ leaves answer is. head_clean leaves said.0 answer (subst (λ x. IsProved x leaves answer) said.1 is)))
+    printed by_lines)

@@ -7,9 +7,10 @@ use Rattle.warg_files.specs.Printouts.{Printout}
 use Rattle.warg_files.specs.ReadFaults.{IsLogUnread, IsUnread, unread_text}
 use Rattle.warg_files.specs.RecordLines.{record_lines}
 use Rattle.warg_files.specs.Texts.{silent}
-use Rattle.warg_files.specs.Unusable.{IfUsable, IsOfFile, IsOfLines, IsOfWord, no_word, read, unread, word}
+use Rattle.warg_files.specs.Unusable.{IfUsable, IsOfFile, IsOfLines, read, unread}
 use Rattle.warg_files.specs.declared.change.HoldFault.{HoldFault}
 use Rattle.warg_files.specs.declared.change.HoldFault.TheVariants as hold
+use Rattle.warg_checkpoints.specs.Words.{IsByFile, IsByWords, IsUnsaid, IsUnsaidIn, by_value, unsaid}
 use Rattle.warg_printable.specs.Lines.{IsPrintedText}
 use Rattle.warg_printable.proofs.LineLemmas.{no_lines}
 use Rattle.warg_printed.proofs.LineLemmas.{IsClean, clean_same, line_text, plain_line}
@@ -18,7 +19,7 @@ use Rattle.warg_printed.proofs.LineLemmas.{IsClean, clean_same, line_text, plain
 pub silent_clean : (status : ℕ) (printed : Printout) → printed ≡ silent status → IsClean printed
 silent_clean status printed h = clean_same printed (silent status) h no_lines
 
-pub unanswered_clean : (printed : Printout) → IsUnanswered printed → IsClean printed
+unanswered_clean : (printed : Printout) → IsUnanswered printed → IsClean printed
 unanswered_clean printed (inl unusable) = silent_clean 2 printed unusable
 unanswered_clean printed (inr failed) = silent_clean 3 printed failed
 
@@ -46,10 +47,11 @@ pub usable_clean : (P : Printout → Type 0) → ((printed : Printout) → P pri
 usable_clean P each printed (inl unanswered) = unanswered_clean printed unanswered
 usable_clean P each printed (inr h) = each printed h
 
-pub word_clean : {A : Type 0} (Says : A → Type 0) (P : A → Printout → Type 0) → ((value : A) (printed : Printout) → P value printed → IsClean printed)
-    → (printed : Printout) → IsOfWord Says P printed → IsClean printed
-word_clean Says P each printed (no_word unusable) = silent_clean 2 printed unusable
-word_clean Says P each printed (word value says h) = each value printed h
+-- the answer by what words say
+pub words_clean : {A : Type 0} {Says : A → Type 0} {P : A → Printout → Type 0} (printed : Printout) → IsByWords Says P printed
+    → ((it : A) → Says it → P it printed → IsClean printed) → IsClean printed
+words_clean printed (unsaid h) each = silent_clean 2 printed h.unusable
+words_clean printed (by_value it said h) each = each it said h
 
 module _ (files : Option Files) (path : List ℕ) where
   pub file_clean : (P : List ℕ → Printout → Type 0) → ((bytes : List ℕ) (printed : Printout) → P bytes printed → IsClean printed)
@@ -60,3 +62,13 @@ module _ (files : Option Files) (path : List ℕ) where
   pub lines_clean : (P : List (List ℕ) → Printout → Type 0) → ((lines : List (List ℕ)) (printed : Printout) → P lines printed → IsClean printed)
       → (printed : Printout) → IsOfLines files path P printed → IsClean printed
   lines_clean P each printed h = file_clean (λ bytes. P (record_lines bytes)) (λ bytes it. each (record_lines bytes) it) printed h
+
+  -- the answer by what a file says
+  pub by_file_clean : {A : Type 0} {Says : List ℕ → A → Type 0} {P : A → Printout → Type 0} (printed : Printout) → IsByFile files path Says P printed
+      → ((it : A) → P it printed → IsClean printed) → IsClean printed
+  by_file_clean printed (unread h) each = unread_clean files path printed h
+  by_file_clean printed (read bytes reads h) each = words_clean printed h (λ it said. each it)
+
+  -- a file that says nothing
+  pub unsaid_clean : {A : Type 0} (Says : List ℕ → A → Type 0) (printed : Printout) → IsUnsaidIn files path Says printed → IsClean printed
+  unsaid_clean Says printed h = file_clean (λ bytes. IsUnsaid (Says bytes)) (λ bytes it none. silent_clean 2 it none.unusable) printed h

@@ -5,7 +5,8 @@ use Rattle.std.specs.Borrow.{Bor}
 use Rattle.std.specs.Str.Lines.{lines}
 use Rattle.warg_protocol.specs.Logs.{SignatureRelation}
 use Rattle.warg_audit.specs.Printouts.{Printout}
-use Rattle.warg_files.specs.Answers.{IsUnanswered, IsUnusable}
+use Rattle.warg_files.specs.Answers.{IsUnusable}
+use Rattle.warg_checkpoints.specs.Words.{IsUnsaidIn}
 use Rattle.warg_files.specs.Files.{Files}
 use Rattle.warg_layout.specs.Chains.{chain_lines}
 use Rattle.warg_layout.specs.KeyNames.{ArePrintable, KeyName}
@@ -16,7 +17,7 @@ use Rattle.warg_layout.proofs.LayoutLemmas.{shown-chain_layout, shown-log_layout
 use Rattle.warg_layout.proofs.NameLemmas.{shown-names}
 use Rattle.warg_verified.specs.Claims.{is_claimed}
 use Rattle.weoldrin.specs.Looks.{IsNamed, IsUnnamed, ListNoNames, as_it_is, laid_out, layout_of, layout_of_question}
-use Rattle.weoldrin.specs.Requests.{IsAnswerIn, IsGivenAs, IsGivenTo, IsInvocationAnswer, IsRequestAnswer, IsResponse, IsUnder, is_many}
+use Rattle.weoldrin.specs.Requests.{IsAnswerIn, IsGivenAs, IsGivenTo, IsInvocationAnswer, IsRequestAnswer, IsResponse, IsUnder, SaysClaims, is_many}
 use Rattle.weoldrin.specs.Schemes.{asked_belongs}
 use Rattle.warg_words.specs.declared.request.Invocation.{Invocation}
 use Rattle.warg_words.specs.declared.request.Question.{Question}
@@ -26,7 +27,7 @@ use Rattle.warg_words.specs.declared.request.Request.TheVariants as request
 use Rattle.warg_printable.specs.Lines.{IsPrintedText}
 use Rattle.warg_printed.specs.Premises.{IfMakes}
 use Rattle.warg_printed.proofs.AppendLemmas.{lines_shown}
-use Rattle.warg_printed.proofs.FileLemmas.{file_clean, silent_clean, unanswered_clean}
+use Rattle.warg_printed.proofs.FileLemmas.{file_clean, silent_clean, unsaid_clean}
 use Rattle.warg_printed.proofs.LineLemmas.{IsClean, clean_same}
 use Rattle.warg_printed.proofs.ObjectLemmas.{json_clean}
 use Rattle.warg_printed.proofs.RequestLemmas.{request_clean}
@@ -104,10 +105,11 @@ unnamed_clean files path printed h =
 
 module _ (old new : Option Files) (it : Invocation) (told : List ℕ) (printed : Printout) where
   under_clean : (look : Look) → ArePrintable look.names → (verified : Option (Bor (List ℕ)))
-      → IsUnder old it.toy verified (IsGivenAs it.json it.command.now as_it_is IsUnanswered told printed)
+      → IsUnder old it.toy verified (λ path. IsGivenAs it.json it.command.now as_it_is (IsUnsaidIn old path SaysClaims) told printed)
       (λ belongs. IsResponse it.json it.command.now look belongs old new it.request told printed) → IfMakes it.request printed.text → IsClean printed
   under_clean look names None h made = response_clean it.json it.command.now look names (asked_belongs it.toy) old new it.request told printed h made
-  under_clean look names (Some path) (inl none) made = as_it_is_clean it.json it.command.now IsUnanswered unanswered_clean told printed none
+  under_clean look names (Some path) (inl none) made =
+      as_it_is_clean it.json it.command.now (IsUnsaidIn old path.now SaysClaims) (unsaid_clean old path.now SaysClaims) told printed none
   under_clean look names (Some path) (inr h) made = response_clean it.json it.command.now look names (is_claimed h.0) old new it.request told printed h.2 made
 
   named_clean : (path : Option (Bor (List ℕ)))

@@ -21,8 +21,8 @@ object_clean command members status =
 objects_clean : (command : List ℕ) (status : ℕ) (said : List (List ℕ)) → IsPrintedText (line_objects command status said)
 objects_clean command status [] = no_lines
 objects_clean command status (line ∷ more) =
-    both_lines (line_object line_forms command status line) (line_objects command status more)
-    (object_clean command (line_members (forms_of line_forms command) line) status) (objects_clean command status more)
+    both_lines (line_object (line_forms command) command status line) (line_objects command status more)
+    (object_clean command (line_members (forms_of (line_forms command) command) line) status) (objects_clean command status more)
 
 text_clean : (command : List ℕ) (printed : Printout) (said told text : List ℕ) → printed.text ≡ said → IsJsonText command printed told text
     → IsPrintedText text

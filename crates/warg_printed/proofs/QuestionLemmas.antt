@@ -106,7 +106,7 @@ module _ (Says : List ℕ → RecordWords → Type 0) where
 
   module _ (id : List ℕ → RecordId) (ids : (content : List ℕ) → is_plain (hash_text (id content).hash) ≡ true)
       (head : Option RecordId) (head_is : is_plain (head_text head) ≡ true) (old new : List EnvelopeData) where
-    fork_clean : (place : ℕ) (text : List ℕ) → IsForkText Says id head old new place text → IsPrintedText text
+    fork_clean : (place : ℕ) (text : List ℕ) → IsForkText Says id old new place text → IsPrintedText text
     fork_clean place text h =
         same_lines text _ h.is
         (both_lines (fork_line id (contents old) (contents new) place) (h.of_old ++ h.of_new)

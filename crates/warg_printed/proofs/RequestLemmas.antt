@@ -7,7 +7,6 @@ use Rattle.warg_permissions.specs.declared.operator.Permission.{Permission as Op
 use Rattle.warg_permissions.specs.declared.operator.Permission.TheVariants as operator_permission
 use Rattle.warg_permissions.specs.declared.package.Permission.{Permission as PackagePermission}
 use Rattle.warg_permissions.specs.declared.package.Permission.TheVariants as package_permission
-use Rattle.semver.specs.declared.Comparator.{Comparator}
 use Rattle.warg_protocol.specs.Json.{in_text, text_of}
 use Rattle.warg_protocol.specs.Logs.{SignatureRelation}
 use Rattle.warg_protocol.specs.Operator as operators
@@ -22,7 +21,6 @@ use Rattle.warg_files.specs.Files.{Files}
 use Rattle.warg_files.specs.RecordLines.{texts}
 use Rattle.warg_log_type.specs.declared.LogType.{LogType}
 use Rattle.warg_log_type.specs.declared.LogType.TheVariants as log_type
-use Rattle.warg_checkpoints.specs.Proofs.{IsStatementVerdict}
 use Rattle.warg_show.specs.ShownLogs.{IsShown}
 use Rattle.warg_show.proofs.LineLemmas.{namespaces_text, releases_text}
 use Rattle.warg_tasks.specs.Latest.{IsLatestOf}
@@ -34,7 +32,7 @@ use Rattle.warg_plain.specs.Plain.{is_plain}
 use Rattle.warg_printed.specs.Premises.{IfMakes}
 use Rattle.warg_printed.proofs.AuditLemmas.{many_clean, one_clean}
 use Rattle.warg_printed.proofs.CheckpointLemmas.{proof_clean, statement_clean}
-use Rattle.warg_printed.proofs.FileLemmas.{lines_clean, usable_clean, word_clean}
+use Rattle.warg_printed.proofs.FileLemmas.{lines_clean, words_clean}
 use Rattle.warg_printed.proofs.KindLemmas.{operator_plain, package_plain}
 use Rattle.warg_printed.proofs.LatestLemmas.{id_clean, latest_of_clean}
 use Rattle.warg_printed.proofs.LineLemmas.{IsClean}
@@ -97,9 +95,9 @@ shown_clean log_type.Operator belongs files path printed h =
 pub latest_clean : (belongs : SignatureRelation) (files : Option Files) (requirement path : List ℕ) (printed : Printout)
     → IsLatestAnswer belongs files requirement path printed → IsClean printed
 latest_clean belongs files requirement path printed h =
-    word_clean _ _
-    (λ (wanted : List Comparator) it. lines_clean files path (IsPrintedOf package_log belongs (IsLatestOf wanted))
-    (lawful_clean package_log package_plain belongs (IsLatestOf wanted) (latest_of_clean wanted)) it) printed h
+    words_clean printed h (λ wanted said by_lines.
+    lines_clean files path (IsPrintedOf package_log belongs (IsLatestOf wanted))
+    (lawful_clean package_log package_plain belongs (IsLatestOf wanted) (latest_of_clean wanted)) printed by_lines)
 
 -- the answer to a request
 pub request_clean : (json : Bool) (belongs : SignatureRelation) (old new : Option Files) (it : Request) (printed : Printout)
@@ -110,6 +108,6 @@ request_clean json belongs old new (request.Audits kind paths allows_empty) prin
 request_clean json belongs old new (request.Show kind path) printed h made = shown_clean kind belongs old path.now printed h
 request_clean json belongs old new (request.Latest requirement path) printed h made = latest_clean belongs old requirement.now path.now printed h
 request_clean json belongs old new (request.Prove wanted path) printed h made = proof_clean old wanted path.now printed h
-request_clean json belongs old new (request.Verify statement) printed h made = usable_clean (IsStatementVerdict old statement) (statement_clean old statement) printed h
+request_clean json belongs old new (request.Verify statement) printed h made = statement_clean old statement printed h
 request_clean json belongs old new (request.Ask kind question) printed h made = asked_clean kind belongs old question printed h
 request_clean json belongs old new (request.Do kind it) printed h made = done_clean kind belongs old new it printed h made
