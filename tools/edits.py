@@ -130,7 +130,10 @@ def has_function(path: str, name: str) -> bool:
 
 
 def mutants_below(path: str) -> Iterator[Edit]:
-    """The edits at or below a path of mutants/."""
+    """The edits at or below a path of mutants/; one edit, where the path names it without its suffix."""
+    if os.path.isfile(f"{ROOT}/mutants/{path}.edit"):
+        parts = path.split("/")[:-1]
+        yield Edit(f"{ROOT}/mutants/{path}.edit", parts[0], "::".join(parts))
     for folder, _, names in sorted(os.walk(f"{ROOT}/mutants/{path}")):
         parts = os.path.relpath(folder, f"{ROOT}/mutants").split("/")
         for name in sorted(it for it in names if it.endswith(".edit")):
@@ -145,8 +148,17 @@ def must_fail_of(crate: str) -> Iterator[Edit]:
             yield Edit(f"{folder}/{name}", crate, None)
 
 
+def promises() -> list[str]:
+    """The paths below mutants/ of the edits that turn a promise, without their suffix: the test command tries these."""
+    return read(f"{ROOT}/mutants/promises").split()
+
+
+def crates_with_mutants() -> list[str]:
+    return sorted(it.name for it in os.scandir(f"{ROOT}/mutants") if it.is_dir())
+
+
 def all_edits() -> Iterator[Edit]:
-    for path in sorted(os.listdir(f"{ROOT}/mutants")):
-        yield from mutants_below(path)
+    for crate in crates_with_mutants():
+        yield from mutants_below(crate)
     for crate in sorted(os.listdir(f"{ROOT}/crates")):
         yield from must_fail_of(crate)
