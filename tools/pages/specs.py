@@ -1,23 +1,23 @@
-"""The definitions of the .antt files in crates/*/specs: what a file has, what its names stand for, and what a text names.
+"""The definitions of the .antt files in crates/*/specs: what a file has, what its names stand for, what a text names.
 
-A name is known by its place: `warg_log.specs.Rules` and `View`. A constructor is known by its type. What is of the toolchain's
-own library is known by its path alone.
+A name is known by its place: `warg_log.specs.Rules` and `View`. A constructor is known by its type. What is of the
+toolchain's own library is known by its path alone.
 """
 import functools
 import re
 from collections.abc import Iterable, Iterator
 from typing import NamedTuple
 
-import items
-from common import ROOT
-from items import Item
+from . import items
+from .items import Item
+from .shared import ROOT
 
 MODIFIERS = ("abbrev", "pub", "unfoldable", "pattern", "data", "record", "axiom")
 
 
 class Place(NamedTuple):
-    """Where a name leads: a definition (its module and name), an item of a .rt file (`rust`, its file and name), a module
-    (with no name), or a name of the toolchain's library (`kit`, its module and name)."""
+    """Where a name leads: a definition (its module and name), an item of a .rt file (`rust`, its file and name), a
+    module (with no name), or a name of the toolchain's library (`kit`, its module and name)."""
 
     kind: str
     module: str
@@ -29,8 +29,8 @@ Scope = dict[str, Place]
 
 
 class Definition(NamedTuple):
-    """A definition: its kind and name, its comment, its lines, the lines of the sections that it stands in, its constructors,
-    and its line in the file."""
+    """A definition: its kind and name, its comment, its lines, the lines of the sections that it stands in, its
+    constructors, and its line in the file."""
 
     module: str
     kind: str
@@ -68,7 +68,8 @@ class Reader:
 
     def __init__(self, module: str):
         self.module, self.found, self.uses = module, {}, []
-        # The comment lines above the next line, the sections that are open, the last definition, and the fixity of the next.
+        # The comment lines above the next line, the sections that are open, the last definition, and the next one's
+        # fixity.
         self.comment, self.sections, self.current, self.fixity = [], [], None, []
 
     def read(self, lines: list[str]) -> "Reader":
@@ -113,7 +114,8 @@ class Reader:
             self.fixity = [line]
         elif name_in(text):
             kind, name = name_in(text)
-            self.found[name] = Definition(self.module, kind, name, self.comment, [*self.fixity, line], tuple(self.sections), (), number)
+            lines, sections = [*self.fixity, line], tuple(self.sections)
+            self.found[name] = Definition(self.module, kind, name, self.comment, lines, sections, (), number)
             self.comment, self.current, self.fixity = [], name, []
         else:
             self.add(line, number)

@@ -2,13 +2,13 @@
 import re
 from collections.abc import Iterable
 
-from specs import Definition, Place, Scope, absolute, definition, member, scope_of
+from .specs import Definition, Place, Scope, absolute, definition, member, scope_of
 
 WORD = re.compile(r'--[^\n]*|"(?:[^"\\]|\\.)*"|⟦[^⟧]*⟧|[(){}\[\];,]|[^\s(){}\[\];,"⟦⟧]+')
 # What is built into the language.
 BUILT_IN = set(
-    ": = → × ← ↦ | λ λ. _ . let in do where elim as record data pub Type abbrev mutual unfolding open use tt Unit ⊥ absurd"
-    " rw simp search assumption cc omega grind hlevel first_of grw".split()
+    ": = → × ← ↦ | λ λ. _ . let in do where elim as record data pub Type abbrev mutual unfolding open use tt Unit"
+    " ⊥ absurd rw simp search assumption cc omega grind hlevel first_of grw".split()
 )
 # Constructors of the toolchain's library that are not written with a capital.
 CONSTRUCTORS = {"zero", "suc", "pos", "negsuc", "[]", "∷", "◌∷◌", "true", "false", "tt", "refl"}
@@ -181,7 +181,7 @@ def names_of(scope: Scope, text: str, variables: Iterable[str] = ()) -> Names:
 
 
 def pieces(it: Definition) -> list[str]:
-    """The definition in pieces, each with the variables that are bound in all of it: its type, and each of its clauses."""
+    """The definition in pieces, each with the variables that are bound in all of it: its type, and each clause."""
     indent = 2 * len(it.sections)
     texts = []
     for line in it.lines:
@@ -232,7 +232,7 @@ class Parts:
         return bound
 
     def members(self, text: str, bound: set[str]) -> None:
-        """Of a record or a data type: its header, then each field or constructor. A field is bound in those after it."""
+        """Of a record or a data type: its header, then each field or constructor. A field is bound in later ones."""
         lines = text.split("\n")
         end = next(i for i, line in enumerate(lines) if line.rstrip().endswith("where") or i == len(lines) - 1)
         header = "\n".join(lines[: end + 1]).strip().removesuffix("where").split(self.it.name, 1)[1]
