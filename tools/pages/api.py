@@ -135,7 +135,8 @@ def item_section(name: str, item: Item, seen: dict) -> Iterator[str]:
 def about(file: str) -> list[str]:
     """The comment at the head of a file."""
     lines = (ROOT / file).read_text(encoding="utf-8").split("\n")
-    return fitted([without_links(line.removeprefix("//!").removeprefix(" ")) for line in lines if line.startswith("//!")])
+    said = [line.removeprefix("//!").removeprefix(" ") for line in lines if line.startswith("//!")]
+    return fitted([without_links(line) for line in said])
 
 
 def about_module(module: Module) -> Iterator[str]:
