@@ -115,17 +115,23 @@ def drawn(name: str) -> str:
     return subprocess.run(["dot", "-Tsvg", name], cwd=ROOT, capture_output=True, text=True, check=True).stdout
 
 
+def shown(picture: str) -> str:
+    """What a picture shows, wherever on it that stands, which depends on the machine's fonts."""
+    return re.sub(r"-?[\d.]+", "0", re.sub(r' (d|points)="[^"]*"', "", picture))
+
+
 def pictures(is_compared: bool) -> Iterator[int]:
     """Draws the pictures, or compares them where the version of Graphviz is that which drew them."""
     here = version()
     for picture, name in PICTURES.items():
         path = ROOT / picture
-        made = VERSION.search(path.read_text(encoding="utf-8")) if path.is_file() else None
+        there = path.read_text(encoding="utf-8") if path.is_file() else ""
+        made = VERSION.search(there)
         if here is None:
             print(f"left out: {picture}, since Graphviz is missing")
         elif is_compared and made and made[1] != here:
             print(f"left out: {picture}, which Graphviz {made[1]} drew, and not {here}")
-        else:
+        elif not is_compared or shown(drawn(name)) != shown(there):
             yield write_or_compare(picture, drawn(name), is_compared)
 
 
