@@ -166,11 +166,18 @@ def file_of(module: Module) -> str:
     return f"{module.path.removeprefix(f'{CRATE}::').replace('::', '.')}.md"
 
 
+def first_sentence(module: Module) -> str:
+    text = " ".join(about(module.file)).split("  ")[0]
+    return re.split(r"(?<=[.:]) (?=[A-Z`])", text)[0]
+
+
 def contents(module: Module) -> list[str]:
-    """A module's line in the list of modules: its items, types first."""
+    """A module's lines in the list of modules: what it is, and its items, types first."""
     names = sorted((name for name, _ in module.items), key=lambda name: (not name[0].isupper(), name))
-    text = f"- [`{module.path}`](api/{file_of(module)})"
-    return wrapped(text + (": " if names else "") + ", ".join(f"`{name}`" for name in names), "  ")
+    about_it = first_sentence(module)
+    lines = wrapped(f"- [`{module.path}`](api/{file_of(module)})" + (f": {about_it}" if about_it else ""), "  ")
+    items_of_it = ", ".join(f"`{name}`" for name in names)
+    return lines + (wrapped(f"  Has {items_of_it}.", "  ") if names else [])
 
 
 def pages() -> dict[str, str]:
