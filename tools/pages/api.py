@@ -5,7 +5,7 @@ from collections.abc import Iterator
 
 from . import items
 from .items import Item
-from .public import Module, impls_of, is_shown, modules, said_in
+from .public import Module, Seen, impls_of, is_shown, modules, said_in
 from .shared import ROOT, write_or_compare
 
 INDEX, FOLDER = "docs/API.md", "docs/api"
@@ -103,7 +103,7 @@ def impl_lines(item: Item) -> list[str]:
     return [*lines, "}"] if len(lines) > 1 else [f"{lines[0]}}}"]
 
 
-def type_section(name: str, item: Item, seen: dict) -> Iterator[str]:
+def type_section(name: str, item: Item, seen: Seen) -> Iterator[str]:
     """A type, its methods, and its traits."""
     yield from paragraph(item)
     yield from block(type_lines(item) if item.kind != "trait" else trait_lines(item))
@@ -123,7 +123,7 @@ def type_section(name: str, item: Item, seen: dict) -> Iterator[str]:
         yield from block([line for lines in traits for line in ("", *lines)][1:])
 
 
-def item_section(name: str, item: Item, seen: dict) -> Iterator[str]:
+def item_section(name: str, item: Item, seen: Seen) -> Iterator[str]:
     kind = {"fn": "function", "type": "type", "const": "constant"}.get(item.kind, item.kind)
     yield from ["", f"## {kind} `{name}`", ""]
     if item.kind == "fn":
@@ -150,7 +150,7 @@ def about_module(module: Module) -> Iterator[str]:
         yield from ["", *wrapped(f"Re-exported from the toolchain's library: {names}.")]
 
 
-def module_page(module: Module, seen: dict) -> str:
+def module_page(module: Module, seen: Seen) -> str:
     lines = [*about_module(module), "", "[All modules](../API.md)"]
     for name, item in module.items:
         lines += item_section(name, item, seen)
@@ -182,7 +182,7 @@ def contents(module: Module) -> list[str]:
 
 def pages() -> dict[str, str]:
     """The text of each page, by its name from the root."""
-    seen = {}
+    seen: Seen = {}
     found = list(modules(CRATE, f"crates/{CRATE}/src/lib.rt", seen))
     index = INTRODUCTION + "\n" + "\n".join(line for module in found for line in contents(module)) + "\n"
     return {INDEX: index, **{f"{FOLDER}/{file_of(module)}": module_page(module, seen) for module in found}}

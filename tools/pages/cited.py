@@ -5,7 +5,7 @@ from collections.abc import Iterator
 from . import items, specs
 from .items import Item
 from .names import names_of
-from .public import impls_of, is_shown, modules, said_in
+from .public import Seen, impls_of, is_shown, modules, said_in
 from .shared import ROOT
 from .specs import Place
 
@@ -15,7 +15,7 @@ FOLDER = "crates/warg_protocol/specs"
 
 def reachable() -> set[Place]:
     """The definitions and the types that the specs of warg_protocol re-export."""
-    found = set()
+    found: set[Place] = set()
     for path in sorted((ROOT / FOLDER).glob("*.antt")):
         _, uses = specs.read(f"warg_protocol.specs.{path.stem}")
         for text in uses:
@@ -45,7 +45,7 @@ def cited(file: str, within: Item | None, members: list[Item]) -> Iterator[tuple
                 yield place, item
 
 
-def public_members(item: Item, seen: dict) -> Iterator[tuple[str, Item | None, list[Item]]]:
+def public_members(item: Item, seen: Seen) -> Iterator[tuple[str, Item | None, list[Item]]]:
     """The public items that may have clauses, each with its file and the impl or the trait that it stands in."""
     if item.kind == "fn":
         yield item.file, None, [item]
@@ -61,15 +61,17 @@ def public_members(item: Item, seen: dict) -> Iterator[tuple[str, Item | None, l
 
 def missing() -> tuple[dict[Place, set[str]], dict[Place, set[str]]]:
     """Each place that is cited and can't be reached, with what cites it: in clauses, and in ghost members of impls."""
-    seen, known = {}, reachable()
-    in_clauses, in_impls = {}, {}
+    seen: Seen = {}
+    known = reachable()
+    in_clauses: dict[Place, set[str]] = {}
+    in_impls: dict[Place, set[str]] = {}
     for module in list(modules("warg_protocol", "crates/warg_protocol/src/lib.rt", seen)):
         for name, item in module.items:
             for file, within, members in public_members(item, seen):
                 for place, member in cited(file, within, members):
                     if place.kind == "kit" or place in known or (place.module, place.name) in seen:
                         continue
-                    is_said = member.kind == "ghost" and within.kind == "impl"
+                    is_said = member.kind == "ghost" and within is not None and within.kind == "impl"
                     by = f"{module.path}::{name}" + (f"::{member.name}" if member.name != name else "")
                     (in_impls if is_said else in_clauses).setdefault(place, set()).add(by)
     return in_clauses, {place: by for place, by in in_impls.items() if place not in in_clauses}

@@ -11,8 +11,11 @@ class Closure:
     """All that the roots name, and what that names in turn, callees first."""
 
     def __init__(self, roots: Iterable[Place]):
-        self.seen, self.order, self.kit = set(), [], set()
-        self.words, self.parts = {}, {}
+        self.seen: set[Place] = set()
+        self.kit: set[Place] = set()
+        self.order: list[Place] = []
+        self.words: dict[Place, dict[str, Place]] = {}
+        self.parts: dict[Place, set[Place]] = {}
         for place in roots:
             self.visit(place)
 
@@ -56,10 +59,11 @@ def group_of(place: Place) -> tuple[str, str]:
 
 def in_files(closure: Closure) -> list[tuple[str, list[Place]]]:
     """The definitions by crate and file, callees first: a file stands below those that its definitions name."""
-    groups = {}
+    groups: dict[tuple[str, str], list[Place]] = {}
     for place in closure.order:
         groups.setdefault(group_of(place), []).append(place)
-    done, entered = [], set()
+    done: list[tuple[str, str]] = []
+    entered: set[tuple[str, str]] = set()
 
     def visit(group: tuple[str, str]) -> None:
         if group in entered:

@@ -108,7 +108,8 @@ def version() -> str | None:
     if not shutil.which("dot"):
         return None
     said = subprocess.run(["dot", "-V"], capture_output=True, text=True, check=True)
-    return VERSION.search(said.stdout + said.stderr)[1]
+    found = VERSION.search(said.stdout + said.stderr)
+    return found[1] if found else None
 
 
 def drawn(name: str) -> str:

@@ -81,7 +81,7 @@ def item(file: str, lines: list[str], name: str) -> list[str]:
     at = next((i for i, it in enumerate(lines) if re.match(head, it)), None)
     if at is None:
         raise SystemExit(f"{file} has no item {name}")
-    indent = re.match(r" *", lines[at])[0]
+    indent = " " * (len(lines[at]) - len(lines[at].lstrip(" ")))
     start = at
     while start and re.match(indent + r"(///? |#\[)", lines[start - 1]):
         start -= 1

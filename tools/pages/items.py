@@ -59,8 +59,9 @@ def end_of(lines: list[str], at: int, indent: int) -> int:
 
 def items_in(file: str, lines: list[str], indent: int, first: int = 0) -> Iterator[Item]:
     """The items of these lines that begin at the indentation."""
-    at, comments = 0, []
-    attributes = []
+    at = 0
+    comments: list[str] = []
+    attributes: list[str] = []
     while at < len(lines):
         text = lines[at].strip()
         is_here = len(lines[at]) - len(lines[at].lstrip()) == indent
@@ -98,6 +99,14 @@ def members_of(item: Item) -> list[Item]:
     return list(items_in(item.file, lines[opened + 1 : -1], 4, item.line + opened))
 
 
+def ghost_text(item: Item) -> str:
+    """What stands between the braces of a ghost member: what it is, or what its type is."""
+    found = re.search(r"[=:] \{ (.*) \};$", " ".join(item.lines))
+    if found is None:
+        raise SystemExit(f"{item.file}: line {item.line} is no ghost member")
+    return found[1]
+
+
 def head_of(item: Item) -> list[str]:
     """The lines of a function without its body: its signature and its clauses."""
     head = []
@@ -128,11 +137,11 @@ def use_paths(text: str) -> Iterator[tuple[list[str], str]]:
     text = " ".join(text.split())
     found = re.match(r"([\w:]*?)(?:::)?\{(.*)\}$", text)
     if not found:
-        path, _, alias = text.partition(" as ")
-        path = path.split("::")
-        yield path, (alias or path[-1])
+        whole, _, alias = text.partition(" as ")
+        words = whole.split("::")
+        yield words, (alias or words[-1])
         return
-    depth, word, words = 0, "", []
+    depth, word, words = 0, "", list[str]()
     for c in found[2] + ",":
         depth += (c == "{") - (c == "}")
         if c == "," and depth == 0:

@@ -1,4 +1,5 @@
 """How definitions and types are laid out on docs/HEADLINE.md."""
+import functools
 import re
 import textwrap
 from collections.abc import Iterator
@@ -19,7 +20,7 @@ def plain(line: str) -> str:
 def joined(lines: list[str], indent: int) -> list[str]:
     """The lines, with those that go on from the one above joined to it while they fit. The steps of a `do` stay
     apart."""
-    found = []
+    found: list[str] = []
     for line in lines:
         goes_on = found and (len(line) - len(line.lstrip()) > indent or line.strip() == "}")
         above = found[-1] if found else ""
@@ -72,14 +73,16 @@ class Meanings:
     """What each name means to a reader who takes the last one above, and where that is not what is meant."""
 
     def __init__(self, closure: Closure):
-        self.words, self.last, self.types = closure.words, {}, {}
+        self.words = closure.words
+        self.last: dict[str, Place] = {}
+        self.types: dict[str, Place] = {}
         names = [place.name for place in closure.kit] + [name for place in closure.order for name in titles(place)]
         self.kit_doubles = {place.name for place in closure.kit if names.count(place.name) > 1}
 
     def notes(self, places: list[Place]) -> list[str]:
         """What the words of these definitions mean where that is not plain: the names for other files, and those that
         stand for another definition than the last one above."""
-        found = {}
+        found: dict[str, dict[str, None]] = {}
         for place in places:
             self.last.update(dict.fromkeys(titles(place), place))
             if place.kind == "rust":
@@ -103,7 +106,7 @@ class Meanings:
 
 def file_lines(places: list[Place]) -> Iterator[str]:
     """What is taken of a file, each section's line above the definitions that stand in it."""
-    within = ()
+    within: tuple = ()
     for place in places:
         if place.kind == "rust":
             yield from type_lines(place)
@@ -130,8 +133,8 @@ def definitions(files: list[tuple[str, list[Place]]], closure: Closure) -> Itera
         if file != last:
             yield f"-- {file}"
         if about := "; ".join(meanings.notes(places)):
-            indents = {"initial_indent": "-- Here ", "subsequent_indent": "--    "}
-            yield from textwrap.wrap(about, WIDTH, break_on_hyphens=False, **indents)
+            wrapped = functools.partial(textwrap.wrap, width=WIDTH, break_on_hyphens=False)
+            yield from wrapped(about, initial_indent="-- Here ", subsequent_indent="--    ")
         last = file
         yield from file_lines(places)
     yield "```"

@@ -20,7 +20,7 @@ def value_of(place: Place) -> tuple[str, Names] | None:
         return None
     members = items.members_of(model)
     value = next(it for it in members if it.kind == "ghost" and it.name == "Value")
-    text = re.search(r"\{ (.*) \};$", " ".join(value.lines))[1]
+    text = items.ghost_text(value)
     scope = ghost_scope([*items.items_of(place.module), *members])
     return text, names_of(scope, text)
 

@@ -36,9 +36,11 @@ class Names:
 
     def __init__(self, scope: Scope, variables: Iterable[str] = ()):
         self.scope, self.fixed = scope, set(variables)
-        self.found, self.unknown = {}, []
+        self.found: dict[str, Place] = {}
+        self.unknown: list[str] = []
         # The variables, each with the count of brackets around its binder, and the brackets that are open.
-        self.bound, self.brackets = [], []
+        self.bound: list[tuple[str, int]] = []
+        self.brackets: list[str] = []
 
     @property
     def depth(self) -> int:
@@ -204,7 +206,8 @@ class Parts:
 
     def __init__(self, it: Definition):
         self.it, self.scope = it, scope_of(it.module)
-        self.found, self.unknown = {}, []
+        self.found: dict[str, Place] = {}
+        self.unknown: list[str] = []
         bound = self.sections()
         first, *clauses = pieces(it)
         if it.kind == "definition":
@@ -223,7 +226,7 @@ class Parts:
 
     def sections(self) -> set[str]:
         """The heads of the sections that it stands in. The result is what they bind."""
-        bound = set()
+        bound: set[str] = set()
         for _, lines in self.it.sections:
             text = "\n".join(lines).strip().removeprefix("module _").removesuffix("where")
             if not text.endswith("mutual"):
@@ -252,7 +255,7 @@ class Parts:
             if is_mark(word):
                 continue
             place = look.look_up(word)
-            if is_constructor(place, word) or (place and "◌" in place.name):
+            if place and (is_constructor(place, word) or "◌" in place.name):
                 self.found[word] = place
             else:
                 variables.add(word)

@@ -7,6 +7,8 @@ from . import items
 from .items import Item
 from .shared import ROOT, crates_below, stands_on
 
+# The path of each item and module that was met, by its file and name, or by its file.
+Seen = dict[tuple[str, str] | str, str]
 KINDS = ("struct", "enum", "trait", "type", "fn", "const")
 # Members of impls that are proofs, or repeat what another member says.
 PROOFS = re.compile(
@@ -36,10 +38,13 @@ class Module:
     """A module as users name it: its path, its file, and its items."""
 
     def __init__(self, path: str, file: str):
-        self.path, self.file, self.items, self.kit, self.again = path, file, [], [], []
+        self.path, self.file = path, file
+        self.items: list[tuple[str, Item]] = []
+        self.kit: list[str] = []
+        self.again: list[tuple[str, str]] = []
 
 
-def modules(path: str, file: str, seen: dict) -> Iterator[Module]:
+def modules(path: str, file: str, seen: Seen) -> Iterator[Module]:
     """The module and those below it, each item and each module once, where it comes first."""
     module, below = Module(path, file), []
     for name, leads_to in sorted(exports(file), key=lambda it: (isinstance(it[1], str), it[0])):
@@ -107,7 +112,7 @@ def is_public(impl: Item, member: Item) -> bool:
     return member.name == "Value" or not re.match(r"(<.*> )?Model for ", impl.name)
 
 
-def is_shown(trait: str, item: Item, seen: dict) -> bool:
+def is_shown(trait: str, item: Item, seen: Seen) -> bool:
     """Whether users can name the trait and the types in it: such as warg_protocol has, or as the toolchain's library
     has. `Drop` says nothing to them."""
     named = [items.resolve(item.file, path.split("::")) for path in re.findall(r"[\w:]+", trait)]

@@ -67,10 +67,15 @@ class Reader:
     """Reads the declarations of a file, line by line."""
 
     def __init__(self, module: str):
-        self.module, self.found, self.uses = module, {}, []
+        self.module = module
+        self.found: dict[str, Definition] = {}
+        self.uses: list[str] = []
         # The comment lines above the next line, the sections that are open, the last definition, and the next one's
         # fixity.
-        self.comment, self.sections, self.current, self.fixity = [], [], None, []
+        self.comment: list[str] = []
+        self.sections: list[tuple] = []
+        self.current: str | None = None
+        self.fixity: list[str] = []
 
     def read(self, lines: list[str]) -> "Reader":
         at = 0
@@ -112,8 +117,8 @@ class Reader:
             self.comment = []
         elif re.match(r"infix[lr]? ", text):
             self.fixity = [line]
-        elif name_in(text):
-            kind, name = name_in(text)
+        elif declares := name_in(text):
+            kind, name = declares
             lines, sections = [*self.fixity, line], tuple(self.sections)
             self.found[name] = Definition(self.module, kind, name, self.comment, lines, sections, (), number)
             self.comment, self.current, self.fixity = [], name, []
@@ -208,7 +213,7 @@ def brought(text: str) -> Iterator[tuple[str, Place]]:
 def scope_of(module: str) -> Scope:
     """What each name means within a module."""
     found, uses = read(module)
-    scope = {}
+    scope: Scope = {}
     for text in uses:
         if not re.match(r"(pub )?mod ", text):
             scope.update(brought(text))
@@ -251,7 +256,7 @@ def absolute(word: str) -> Place | None:
 
 def ghost_scope(uses: Iterable[Item]) -> Scope:
     """What each name means in the clauses below these `ghost use` lines of a .rt file."""
-    scope = {}
+    scope: Scope = {}
     for item in uses:
         if item.kind == "ghost use":
             scope.update(brought(" ".join(item.lines).removeprefix("ghost ")))

@@ -24,15 +24,12 @@ def impl_of(file: str, head: str) -> Item:
     return next(it for it in items.items_of(file) if it.kind == "impl" and it.name == head)
 
 
-def ghost_text(item: Item) -> str:
-    return re.search(r"[=:] \{ (.*) \};$", " ".join(item.lines))[1]
-
-
 class Statements:
     """The statements as text, and the names that their clauses cite."""
 
-    def __init__(self):
-        self.roots, self.lines = {}, []
+    def __init__(self) -> None:
+        self.roots: dict[Place, None] = {}
+        self.lines: list[str] = []
 
     def cite(self, scope: Scope, text: str, bound: Iterable[str]) -> Names:
         names = names_of(scope, text, bound)
@@ -51,7 +48,7 @@ class Statements:
         head = items.head_of(item)
         scope = specs.ghost_scope(uses)
         bound = items.variables([owner or "", *head])
-        cited = {}
+        cited: dict[str, list[str]] = {}
         for text in items.clauses(head):
             names = self.cite(scope, text, bound)
             self.cite_types(file, names.unknown)
@@ -59,8 +56,8 @@ class Statements:
                 if place.kind != "kit":
                     cited.setdefault(source(place), []).append(word)
         about = "; ".join(f"{', '.join(dict.fromkeys(words))} of {where}" for where, words in sorted(cited.items()))
-        indents = {"initial_indent": "// Here ", "subsequent_indent": "//    "}
-        lines = textwrap.wrap(about, WIDTH, break_on_hyphens=False, **indents)
+        wrapped = functools.partial(textwrap.wrap, width=WIDTH, break_on_hyphens=False)
+        lines = wrapped(about, initial_indent="// Here ", subsequent_indent="//    ")
         self.lines += ["", "```rust", f"// {file}", *lines, *item.comments, *head, "```"]
 
     def cite_types(self, file: str, words: list[str]) -> None:
@@ -71,11 +68,11 @@ class Statements:
                 raise SystemExit(f"{file}: a clause names what is not known: {word}")
             self.roots[Place("rust", item.file, item.name)] = None
 
-    def members(self, letter: str, file: str, trait: str, wanted: Sequence[str], kinds: Sequence[tuple]) -> None:
+    def members(self, letter: str, file: str, trait: str, wanted: Sequence[str], kinds: Sequence[tuple[str, str]]) -> None:
         """An item of the list for each member of the trait: what it is of each kind."""
         for member in trait_members(file, trait, wanted):
             about = " ".join(line.removeprefix("//").strip() for line in member.comments)
-            cells = [self.member(*kind, member.name) for kind in kinds]
+            cells = [self.member(of, head, member.name) for of, head in kinds]
             self.member_lines(f"{letter}.{member.name}", about, cells)
 
     def member_lines(self, name: str, about: str, cells: Sequence[str]) -> None:
@@ -88,7 +85,7 @@ class Statements:
     def member(self, file: str, head: str, name: str) -> str:
         members = items.members_of(impl_of(file, head))
         item = next(it for it in members if it.kind == "ghost" and it.name == name)
-        text = ghost_text(item)
+        text = items.ghost_text(item)
         scope = specs.ghost_scope([*items.items_of(file), *members])
         self.cite(scope, text, ())
         place = Names(scope).look_up(text)
@@ -119,12 +116,12 @@ def statements() -> Statements:
     states = [file.replace("validator.rt", "state.rt") for file, _ in kinds]
     cells = [it.member(file, "Model for LogState", "Value") for file in states]
     it.member_lines("L", "What a state itself is seen as.", cells)
-    wanted = ("View", "Offence", "kind", "view", "offence_of")
-    it.members("L", "crates/warg_validator/src/validator.rt", "Validator", wanted, kinds)
-    wanted = ("Meaning", "Fault", "read", "fault_of")
-    it.members("L.Record", "crates/warg_envelope/src/lib.rt", "Record", wanted, (PACKAGE_RECORD, OPERATOR_RECORD))
+    members = ("View", "Offence", "kind", "view", "offence_of")
+    it.members("L", "crates/warg_validator/src/validator.rt", "Validator", members, kinds)
+    of_record = ("Meaning", "Fault", "read", "fault_of")
+    it.members("L.Record", "crates/warg_envelope/src/lib.rt", "Record", of_record, (PACKAGE_RECORD, OPERATOR_RECORD))
     belongs = trait_members("crates/warg_crypto/src/signing.rt", "Verifier", ["belongs"])[0]
     about = " ".join(line.removeprefix("//").strip() for line in belongs.comments)
     it.member_lines("V.belongs", about, ["any", "any"])
-    it.cite(specs.ghost_scope(items.items_of("crates/warg_crypto/src/signing.rt")), ghost_text(belongs), {"Self"})
+    it.cite(specs.ghost_scope(items.items_of("crates/warg_crypto/src/signing.rt")), items.ghost_text(belongs), {"Self"})
     return it
