@@ -68,7 +68,9 @@ class Statements:
                 raise SystemExit(f"{file}: a clause names what is not known: {word}")
             self.roots[Place("rust", item.file, item.name)] = None
 
-    def members(self, letter: str, file: str, trait: str, wanted: Sequence[str], kinds: Sequence[tuple[str, str]]) -> None:
+    def members(
+        self, letter: str, file: str, trait: str, wanted: Sequence[str], kinds: Sequence[tuple[str, str]]
+    ) -> None:
         """An item of the list for each member of the trait: what it is of each kind."""
         for member in trait_members(file, trait, wanted):
             about = " ".join(line.removeprefix("//").strip() for line in member.comments)
