@@ -1,10 +1,10 @@
 """The types of the code, as the definitions see them: their cases and fields, or what their values are seen as."""
 import re
 
-import items
-from items import Item
-from names import Names, names_of
-from specs import Place, ghost_scope
+from . import items
+from .items import Item
+from .names import Names, names_of
+from .specs import Place, ghost_scope
 
 
 def model_of(place: Place) -> Item | None:
@@ -20,13 +20,14 @@ def value_of(place: Place) -> tuple[str, Names] | None:
         return None
     members = items.members_of(model)
     value = next(it for it in members if it.kind == "ghost" and it.name == "Value")
-    text = re.search(r"\{ (.*) \};$", " ".join(value.lines))[1]
+    text = items.ghost_text(value)
     scope = ghost_scope([*items.items_of(place.module), *members])
     return text, names_of(scope, text)
 
 
 def item_of(place: Place) -> Item:
-    return next(it for it in items.items_of(place.module) if it.name == place.name and it.kind in ("struct", "enum", "type"))
+    found = (it for it in items.items_of(place.module) if it.name == place.name)
+    return next(it for it in found if it.kind in ("struct", "enum", "type"))
 
 
 def body_of(place: Place) -> str:

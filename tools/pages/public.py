@@ -3,21 +3,23 @@ import functools
 import re
 from collections.abc import Iterator
 
-import items
-from common import ROOT, stands_on
-from items import Item
-from pages import crates_below
+from . import items
+from .items import Item
+from .shared import ROOT, crates_below, stands_on
 
+# The path of each item and module that was met, by its file and name, or by its file.
+Seen = dict[tuple[str, str] | str, str]
 KINDS = ("struct", "enum", "trait", "type", "fn", "const")
 # Members of impls that are proofs, or repeat what another member says.
 PROOFS = re.compile(
-    r"(laws|inverse|styled_output|one_\w+|equal_errors|equals|versions_written|versions_read|equivalent_\w+|held_by_effects|gives_what_is_held"
-    r"|decodes_reading|memory_\w+|respects_\w+|matches_\w+|total)$"
+    r"(laws|inverse|styled_output|one_\w+|equal_errors|equals|versions_written|versions_read|equivalent_\w+"
+    r"|held_by_effects|gives_what_is_held|decodes_reading|memory_\w+|respects_\w+|matches_\w+|total)$"
 )
 
 
 def target(file: str, name: str) -> Item | str | None:
-    """What a name that a file exports leads to: an item, the file of a module, or None where it is of the toolchain's library."""
+    """What a name that a file exports leads to: an item, the file of a module, or None where it is of the toolchain's
+    library."""
     path, _ = items.uses_of(file).get(name, (None, None))
     return items.resolve(file, path) if path else items.find_in(file, name)
 
@@ -36,10 +38,13 @@ class Module:
     """A module as users name it: its path, its file, and its items."""
 
     def __init__(self, path: str, file: str):
-        self.path, self.file, self.items, self.kit, self.again = path, file, [], [], []
+        self.path, self.file = path, file
+        self.items: list[tuple[str, Item]] = []
+        self.kit: list[str] = []
+        self.again: list[tuple[str, str]] = []
 
 
-def modules(path: str, file: str, seen: dict) -> Iterator[Module]:
+def modules(path: str, file: str, seen: Seen) -> Iterator[Module]:
     """The module and those below it, each item and each module once, where it comes first."""
     module, below = Module(path, file), []
     for name, leads_to in sorted(exports(file), key=lambda it: (isinstance(it[1], str), it[0])):
@@ -107,15 +112,16 @@ def is_public(impl: Item, member: Item) -> bool:
     return member.name == "Value" or not re.match(r"(<.*> )?Model for ", impl.name)
 
 
-def is_shown(trait: str, item: Item, seen: dict) -> bool:
-    """Whether users can name the trait and the types in it: such as warg_protocol has, or as the toolchain's library has. `Drop`
-    says nothing to them."""
+def is_shown(trait: str, item: Item, seen: Seen) -> bool:
+    """Whether users can name the trait and the types in it: such as warg_protocol has, or as the toolchain's library
+    has. `Drop` says nothing to them."""
     named = [items.resolve(item.file, path.split("::")) for path in re.findall(r"[\w:]+", trait)]
     return trait != "Drop" and all(key(it) in seen for it in named if isinstance(it, Item))
 
 
 def said_in(impl: Item) -> Iterator[Item]:
-    """The members of an impl that say something beyond its trait: types, ghost members, and functions with clauses of their own."""
+    """The members of an impl that say something beyond its trait: types, ghost members, and functions with clauses of
+    their own."""
     for it in items.members_of(impl):
         is_ghost = it.kind == "ghost" and not PROOFS.match(it.name) and is_public(impl, it)
         has_clauses = it.kind == "fn" and any(re.match(r"\s+(requires|ensures) ", line) for line in items.head_of(it))

@@ -1,19 +1,21 @@
 """What definitions rest on: all that they name, and what that names in turn."""
 from collections.abc import Iterable
 
-import models
-import specs
-from names import Parts
-from pages import crates_below
-from specs import Place
+from . import models, specs
+from .names import Parts
+from .shared import crates_below
+from .specs import Place
 
 
 class Closure:
     """All that the roots name, and what that names in turn, callees first."""
 
     def __init__(self, roots: Iterable[Place]):
-        self.seen, self.order, self.kit = set(), [], set()
-        self.words, self.parts = {}, {}
+        self.seen: set[Place] = set()
+        self.kit: set[Place] = set()
+        self.order: list[Place] = []
+        self.words: dict[Place, dict[str, Place]] = {}
+        self.parts: dict[Place, set[Place]] = {}
         for place in roots:
             self.visit(place)
 
@@ -50,17 +52,18 @@ def line_of(place: Place) -> int:
 
 
 def group_of(place: Place) -> tuple[str, str]:
-    """What is kept together: a file of definitions, or a type of the code, since a file of code may stand below and above one
-    of definitions."""
+    """What is kept together: a file of definitions, or a type of the code, since a file of code may stand below and
+    above one of definitions."""
     return (file_of(place), place.name if place.kind == "rust" else "")
 
 
 def in_files(closure: Closure) -> list[tuple[str, list[Place]]]:
     """The definitions by crate and file, callees first: a file stands below those that its definitions name."""
-    groups = {}
+    groups: dict[tuple[str, str], list[Place]] = {}
     for place in closure.order:
         groups.setdefault(group_of(place), []).append(place)
-    done, entered = [], set()
+    done: list[tuple[str, str]] = []
+    entered: set[tuple[str, str]] = set()
 
     def visit(group: tuple[str, str]) -> None:
         if group in entered:
@@ -86,7 +89,8 @@ def check_order(files: list[tuple[str, list[Place]]], closure: Closure) -> None:
             below = closure.parts[place] - printed - {place}
             below = {part for part in below if not is_mutual(place, part)}
             if below:
-                raise SystemExit(f"{file}: {place.name} names what is not above it: {', '.join(sorted(it.name for it in below))}")
+                missing = ", ".join(sorted(it.name for it in below))
+                raise SystemExit(f"{file}: {place.name} names what is not above it: {missing}")
             printed.add(place)
 
 
@@ -95,4 +99,16 @@ def is_mutual(place: Place, other: Place) -> bool:
     if place.kind != "definition" or other.kind != "definition" or place.module != other.module:
         return False
     sections = specs.definition(place).sections
-    return bool(sections) and sections == specs.definition(other).sections and sections[-1][1][0].strip().endswith("mutual")
+    if not sections or sections != specs.definition(other).sections:
+        return False
+    return sections[-1][1][0].strip().endswith("mutual")
+
+
+def source(place: Place) -> str:
+    """A short name of where a definition is."""
+    if place.kind == "kit":
+        return place.module
+    crate, _, *rest = file_of(place).removeprefix("crates/").split("/")
+    if place.kind != "rust":
+        return f"{crate}/{rest[-1].removesuffix('.antt')}"
+    return f"{place.name} ({crate}/{rest[-1]})" if place.name in ("Permission", "ValidationError") else place.name

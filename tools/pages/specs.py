@@ -1,23 +1,23 @@
-"""The definitions of the .antt files in crates/*/specs: what a file has, what its names stand for, and what a text names.
+"""The definitions of the .antt files in crates/*/specs: what a file has, what its names stand for, what a text names.
 
-A name is known by its place: `warg_log.specs.Rules` and `View`. A constructor is known by its type. What is of the toolchain's
-own library is known by its path alone.
+A name is known by its place: `warg_log.specs.Rules` and `View`. A constructor is known by its type. What is of the
+toolchain's own library is known by its path alone.
 """
 import functools
 import re
 from collections.abc import Iterable, Iterator
 from typing import NamedTuple
 
-import items
-from common import ROOT
-from items import Item
+from . import items
+from .items import Item
+from .shared import ROOT
 
 MODIFIERS = ("abbrev", "pub", "unfoldable", "pattern", "data", "record", "axiom")
 
 
 class Place(NamedTuple):
-    """Where a name leads: a definition (its module and name), an item of a .rt file (`rust`, its file and name), a module
-    (with no name), or a name of the toolchain's library (`kit`, its module and name)."""
+    """Where a name leads: a definition (its module and name), an item of a .rt file (`rust`, its file and name), a
+    module (with no name), or a name of the toolchain's library (`kit`, its module and name)."""
 
     kind: str
     module: str
@@ -29,8 +29,8 @@ Scope = dict[str, Place]
 
 
 class Definition(NamedTuple):
-    """A definition: its kind and name, its comment, its lines, the lines of the sections that it stands in, its constructors,
-    and its line in the file."""
+    """A definition: its kind and name, its comment, its lines, the lines of the sections that it stands in, its
+    constructors, and its line in the file."""
 
     module: str
     kind: str
@@ -67,9 +67,15 @@ class Reader:
     """Reads the declarations of a file, line by line."""
 
     def __init__(self, module: str):
-        self.module, self.found, self.uses = module, {}, []
-        # The comment lines above the next line, the sections that are open, the last definition, and the fixity of the next.
-        self.comment, self.sections, self.current, self.fixity = [], [], None, []
+        self.module = module
+        self.found: dict[str, Definition] = {}
+        self.uses: list[str] = []
+        # The comment lines above the next line, the sections that are open, the last definition, and the next one's
+        # fixity.
+        self.comment: list[str] = []
+        self.sections: list[tuple] = []
+        self.current: str | None = None
+        self.fixity: list[str] = []
 
     def read(self, lines: list[str]) -> "Reader":
         at = 0
@@ -111,9 +117,10 @@ class Reader:
             self.comment = []
         elif re.match(r"infix[lr]? ", text):
             self.fixity = [line]
-        elif name_in(text):
-            kind, name = name_in(text)
-            self.found[name] = Definition(self.module, kind, name, self.comment, [*self.fixity, line], tuple(self.sections), (), number)
+        elif declares := name_in(text):
+            kind, name = declares
+            lines, sections = [*self.fixity, line], tuple(self.sections)
+            self.found[name] = Definition(self.module, kind, name, self.comment, lines, sections, (), number)
             self.comment, self.current, self.fixity = [], name, []
         else:
             self.add(line, number)
@@ -206,7 +213,7 @@ def brought(text: str) -> Iterator[tuple[str, Place]]:
 def scope_of(module: str) -> Scope:
     """What each name means within a module."""
     found, uses = read(module)
-    scope = {}
+    scope: Scope = {}
     for text in uses:
         if not re.match(r"(pub )?mod ", text):
             scope.update(brought(text))
@@ -249,7 +256,7 @@ def absolute(word: str) -> Place | None:
 
 def ghost_scope(uses: Iterable[Item]) -> Scope:
     """What each name means in the clauses below these `ghost use` lines of a .rt file."""
-    scope = {}
+    scope: Scope = {}
     for item in uses:
         if item.kind == "ghost use":
             scope.update(brought(" ".join(item.lines).removeprefix("ghost ")))

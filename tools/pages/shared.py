@@ -1,11 +1,16 @@
-"""What the tools share that write a page of docs/ from the sources."""
-from common import ROOT
+"""What the modules of this package share: the repository's root, its crates in order, and how a page is written.
+
+All that the package takes from the other tools is imported here.
+"""
+from common import ROOT, stands_on, words_of
+
+__all__ = ["ROOT", "crates_below", "stands_on", "words_of", "write_or_compare"]
 
 
 def crates_below() -> list[str]:
     """The crates of crates.txt, each after those that it stands on."""
     lines = (ROOT / "crates.txt").read_text(encoding="utf-8").splitlines()
-    return [line.partition(":")[0] for line in lines if line and not line.startswith("#")]
+    return [line.partition(":")[0].split()[0] for line in lines if line and not line.startswith("#")]
 
 
 def write_or_compare(name: str, text: str, is_compared: bool) -> int:

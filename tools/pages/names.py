@@ -2,13 +2,13 @@
 import re
 from collections.abc import Iterable
 
-from specs import Definition, Place, Scope, absolute, definition, member, scope_of
+from .specs import Definition, Place, Scope, absolute, definition, member, scope_of
 
 WORD = re.compile(r'--[^\n]*|"(?:[^"\\]|\\.)*"|⟦[^⟧]*⟧|[(){}\[\];,]|[^\s(){}\[\];,"⟦⟧]+')
 # What is built into the language.
 BUILT_IN = set(
-    ": = → × ← ↦ | λ λ. _ . let in do where elim as record data pub Type abbrev mutual unfolding open use tt Unit ⊥ absurd"
-    " rw simp search assumption cc omega grind hlevel first_of grw".split()
+    ": = → × ← ↦ | λ λ. _ . let in do where elim as record data pub Type abbrev mutual unfolding open use tt Unit"
+    " ⊥ absurd rw simp search assumption cc omega grind hlevel first_of grw".split()
 )
 # Constructors of the toolchain's library that are not written with a capital.
 CONSTRUCTORS = {"zero", "suc", "pos", "negsuc", "[]", "∷", "◌∷◌", "true", "false", "tt", "refl"}
@@ -36,9 +36,11 @@ class Names:
 
     def __init__(self, scope: Scope, variables: Iterable[str] = ()):
         self.scope, self.fixed = scope, set(variables)
-        self.found, self.unknown = {}, []
+        self.found: dict[str, Place] = {}
+        self.unknown: list[str] = []
         # The variables, each with the count of brackets around its binder, and the brackets that are open.
-        self.bound, self.brackets = [], []
+        self.bound: list[tuple[str, int]] = []
+        self.brackets: list[str] = []
 
     @property
     def depth(self) -> int:
@@ -181,7 +183,7 @@ def names_of(scope: Scope, text: str, variables: Iterable[str] = ()) -> Names:
 
 
 def pieces(it: Definition) -> list[str]:
-    """The definition in pieces, each with the variables that are bound in all of it: its type, and each of its clauses."""
+    """The definition in pieces, each with the variables that are bound in all of it: its type, and each clause."""
     indent = 2 * len(it.sections)
     texts = []
     for line in it.lines:
@@ -204,7 +206,8 @@ class Parts:
 
     def __init__(self, it: Definition):
         self.it, self.scope = it, scope_of(it.module)
-        self.found, self.unknown = {}, []
+        self.found: dict[str, Place] = {}
+        self.unknown: list[str] = []
         bound = self.sections()
         first, *clauses = pieces(it)
         if it.kind == "definition":
@@ -223,7 +226,7 @@ class Parts:
 
     def sections(self) -> set[str]:
         """The heads of the sections that it stands in. The result is what they bind."""
-        bound = set()
+        bound: set[str] = set()
         for _, lines in self.it.sections:
             text = "\n".join(lines).strip().removeprefix("module _").removesuffix("where")
             if not text.endswith("mutual"):
@@ -232,7 +235,7 @@ class Parts:
         return bound
 
     def members(self, text: str, bound: set[str]) -> None:
-        """Of a record or a data type: its header, then each field or constructor. A field is bound in those after it."""
+        """Of a record or a data type: its header, then each field or constructor. A field is bound in later ones."""
         lines = text.split("\n")
         end = next(i for i, line in enumerate(lines) if line.rstrip().endswith("where") or i == len(lines) - 1)
         header = "\n".join(lines[: end + 1]).strip().removesuffix("where").split(self.it.name, 1)[1]
@@ -252,7 +255,7 @@ class Parts:
             if is_mark(word):
                 continue
             place = look.look_up(word)
-            if is_constructor(place, word) or (place and "◌" in place.name):
+            if place and (is_constructor(place, word) or "◌" in place.name):
                 self.found[word] = place
             else:
                 variables.add(word)
