@@ -53,12 +53,12 @@ PRODUCTS = {
 BUILT = PRODUCTS["warg_audit"].built()["warg_audit"]
 
 
-def words_of(doc: str | None) -> argparse.ArgumentParser:
+def argument_parser(doc: str | None) -> argparse.ArgumentParser:
     """A parser of a tool's words, whose help is the tool's docstring."""
     return argparse.ArgumentParser(description=doc, formatter_class=argparse.RawDescriptionHelpFormatter)
 
 
-def stands_on(name, found=None):
+def dependencies(name, found=None):
     """The crate and all crates of the repository that it stands on, by crates.txt."""
     found = set() if found is None else found
     lines = (line.partition(":") for line in (ROOT / "crates.txt").read_text(encoding="utf-8").splitlines())
@@ -66,7 +66,7 @@ def stands_on(name, found=None):
     if name in below and name not in found:
         found.add(name)
         for word in below[name]:
-            stands_on(word, found)
+            dependencies(word, found)
     return found
 
 
@@ -81,7 +81,7 @@ def copied(crates, to):
     shutil.copy(ROOT / "HANDLES", to)
 
 
-def room_of(name):
+def cache_folder(name):
     """A folder of this name in the user's cache, one for each checkout."""
     cache = pathlib.Path(os.environ.get("XDG_CACHE_HOME") or pathlib.Path.home() / ".cache")
     return cache / "weoldrin" / f"{name}-{hashlib.sha256(str(ROOT).encode()).hexdigest()[:16]}"
@@ -90,7 +90,7 @@ def room_of(name):
 def is_older(program, name):
     """Whether a source of the program, or of a crate that it stands on, is newer than it."""
     made = program.stat().st_mtime
-    folders = [ROOT / "crates" / crate / part for crate in stands_on(name) for part in ("src", "specs", "proofs")]
+    folders = [ROOT / "crates" / crate / part for crate in dependencies(name) for part in ("src", "specs", "proofs")]
     return any(path.stat().st_mtime > made for folder in folders for path in folder.rglob("*") if path.is_file())
 
 
@@ -114,8 +114,8 @@ def built(name):
 
 def program_of(name, stands, line):
     """The built program of a folder beside this tool, over a copy of the crates that it stands on."""
-    folder, sources = room_of(name), sorted((ROOT / "tools" / name).glob("*.rs"))
-    crates = set().union(*(stands_on(it) for it in stands))
+    folder, sources = cache_folder(name), sorted((ROOT / "tools" / name).glob("*.rs"))
+    crates = set().union(*(dependencies(it) for it in stands))
     newest = max(path.stat().st_mtime for it in crates for path in (ROOT / "crates" / it / "src").rglob("*.rt"))
     made = folder / f"crates/{name}/out/{name}"
     if not made.exists() or made.stat().st_mtime < max(newest, *(it.stat().st_mtime for it in sources)):

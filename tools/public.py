@@ -4,7 +4,7 @@ import re
 from collections.abc import Iterator
 
 import items
-from common import ROOT, stands_on
+from common import ROOT, dependencies
 from items import Item
 from pages import crates_below
 
@@ -92,7 +92,7 @@ def impls(crate: str) -> list[tuple[str, tuple[str, str] | str, Item]]:
 
 @functools.cache
 def crates() -> list[str]:
-    below = stands_on("warg_protocol")
+    below = dependencies("warg_protocol")
     return [crate for crate in crates_below() if crate in below]
 
 

@@ -11,9 +11,8 @@ import subprocess
 import time
 from typing import NamedTuple
 
-from common import ROOT
-
 from append.bench import Done, Faults, Place, beside
+from common import ROOT
 
 # What the calls of break.c do, by the number in BREAK_FAILS.
 KILLS, FAILS, STOPS = "0", "1", "2"

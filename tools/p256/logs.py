@@ -9,7 +9,6 @@ import pathlib
 from types import ModuleType
 
 from common import ROOT
-
 from p256.curve import BASE, ORDER, multiple
 from p256.forms import compressed, signature_of, uncompressed
 
