@@ -35,7 +35,9 @@ def span_at(file: str, lines: list[str], at: int) -> Span | None:
     for start in range(at, -1, -1):
         head = re.match(r"( *)(?:pub(?:\([a-z]+\))? )?(?:const )?(?:extern \"C\" )?fn (\w+)", lines[start])
         if head:
-            ends = (i for i in range(start, len(lines)) if re.match(head[1] + r"}|" + head[1] + r"\S.*(;|})$", lines[i]))
+            ends = (
+                i for i in range(start, len(lines)) if re.match(head[1] + r"}|" + head[1] + r"\S.*(;|})$", lines[i])
+            )
             end = next(ends, len(lines))
             return Span(file, start + 1, end + 1, head[2]) if at <= end else None
     return None

@@ -34,7 +34,11 @@ class Answer(NamedTuple):
         if proofs is None or folder == proofs:
             return True
         module, name = os.path.split(proofs)
-        return os.path.dirname(folder) == module and os.path.basename(folder).startswith("+") and self.goal.startswith(f"{name}-")
+        return (
+            os.path.dirname(folder) == module
+            and os.path.basename(folder).startswith("+")
+            and self.goal.startswith(f"{name}-")
+        )
 
 
 class Said:
@@ -46,7 +50,8 @@ class Said:
         self.impls = dict(re.findall(r"^impl (\S+): (.*)", text, re.M))
         self.unread = set(re.findall(UNREAD, text, re.M))
         self.kept = [
-            Answer(path, goal, re.search(GONE, f"`{goal}`: {fault}") is not None, "`goal." in fault) for path, goal, fault in re.findall(KEPT, text, re.M)
+            Answer(path, goal, re.search(GONE, f"`{goal}`: {fault}") is not None, "`goal." in fault)
+            for path, goal, fault in re.findall(KEPT, text, re.M)
         ]
         self.open = [(file, int(line), FALSE in rest) for file, line, rest in re.findall(OPEN, text, re.M)]
 
