@@ -1,4 +1,5 @@
-"""What the tools share: their help, the built programs, the examples, the logs of make_log, and runs that are measured."""
+"""What the tools share: their help, the built programs, the examples, the logs of make_log, and runs that are
+measured."""
 import argparse
 import hashlib
 import os
@@ -15,8 +16,8 @@ ROOT = pathlib.Path(__file__).resolve().parent.parent
 
 
 class Product(NamedTuple):
-    """What dist/ has: its name, its files there, the crate that they are built from and what is built of it in that crate's
-    out/, its manifest in dist/, and the source that names its version."""
+    """What dist/ has: its name, its files there, the crate that they are built from and what is built of it in that
+    crate's out/, its manifest in dist/, and the source that names its version."""
 
     name: str
     files: tuple[str, ...]
@@ -109,8 +110,8 @@ def is_older(program: pathlib.Path, name: str) -> bool:
 
 
 def built(name: str) -> pathlib.Path:
-    """The program of this crate, proved and built first where it is not there yet. One that is older than its sources is
-    taken as it is, with a warning."""
+    """The program of this crate, proved and built first where it is not there yet. One that is older than its sources
+    is taken as it is, with a warning."""
     program = ROOT / f"crates/{name}/out/{name}"
     if not program.exists():
         print(f"{name} is not built: it is proved and built first", file=sys.stderr)
@@ -132,8 +133,8 @@ def run_silently(command: list[str], folder: pathlib.Path) -> None:
 
 
 def bench_program(part: str, words: str) -> pathlib.Path:
-    """The built program of a folder of tools/bench, over a copy of the crates that it uses. The words are those of its line in
-    crates.txt."""
+    """The built program of a folder of tools/bench, over a copy of the crates that it uses. The words are those of its
+    line in crates.txt."""
     name = f"bench_{part}"
     folder, sources = cache_folder(name), sorted((ROOT / "tools/bench" / part).glob("*.rs"))
     crates = dependencies("warg_protocol")
@@ -201,8 +202,8 @@ class Run(NamedTuple):
 
 
 def measured(command: Sequence[str | pathlib.Path], name: str) -> Run:
-    """Runs the command on the file of this name. Who calls this must not hold much: a program's peak of memory is at least
-    that of the process that starts it."""
+    """Runs the command on the file of this name. Who calls this must not hold much: a program's peak of memory is at
+    least that of the process that starts it."""
     with open(name, "rb") as given, tempfile.TemporaryFile() as printed:
         process = subprocess.Popen(command, stdin=given, stdout=printed)
         _, status, used = os.wait4(process.pid, 0)

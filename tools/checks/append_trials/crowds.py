@@ -9,7 +9,8 @@ import time
 
 from append_trials.trials import Done, Faults, Tool
 
-# What two publishers may take for all their releases, and how long one of them waits at most before it tries again, in seconds.
+# What two publishers may take for all their releases, and how long one of them waits at most before it tries again, in
+# seconds.
 BOUND = 300
 PAUSE = 0.02
 

@@ -1,4 +1,5 @@
-"""The program is killed, or a call of it fails, at each step of an append. The log has to be the old one or the new one, whole."""
+"""The program is killed, or a call of it fails, at each step of an append. The log has to be the old one or the new
+one, whole."""
 from __future__ import annotations
 
 import collections
@@ -80,13 +81,14 @@ def broken_calls(place: Place, faults: Faults) -> None:
 
 
 def paused(place: Place, faults: Faults) -> None:
-    """While an append is stopped at any of its steps, another one is told so at once, or is done before it; a killed one holds nothing."""
+    """While an append is stopped at any of its steps, another one is told so at once, or is done before it; a killed
+    one holds nothing."""
     preload = library(place.folder / "unbroken")
     calls = broken(place, preload, place.log("counted"), 0, KILLS).calls
     for call in range(1, calls + 1):
         log = place.log(f"stop{call}")
         kept = {**os.environ, "LD_PRELOAD": str(preload), "BROKEN": "2", "BREAK": str(call), "BREAK_FAILS": STOPS}
-        words = [place.tool.program, "append", "package", log, "--toy"]
+        words = [str(place.tool.program), "append", "package", str(log), "--toy"]
         with subprocess.Popen(
             words, stdin=subprocess.PIPE, stdout=subprocess.PIPE, stderr=subprocess.DEVNULL, text=True, env=kept
         ) as first:
@@ -116,7 +118,7 @@ def killed_everywhere(place: Place, faults: Faults) -> None:
     """Each call of the system, by strace."""
     strace = shutil.which("strace")
     traced = place.folder / "traced"
-    words = [place.tool.program, "append", "package", place.log("strace"), "--toy"]
+    words = [str(place.tool.program), "append", "package", str(place.log("strace")), "--toy"]
     tried = strace and subprocess.run(
         [strace, "-qq", "-o", traced, *words],
         input=place.lines[2],

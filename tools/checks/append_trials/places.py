@@ -2,6 +2,7 @@
 from __future__ import annotations
 
 import fcntl
+import functools
 import os
 import pathlib
 import socket
@@ -251,8 +252,15 @@ def limit(place: Place, faults: Faults) -> None:
             faults.expect(f"{name}: it is read", place.tool.run("audit", "package", log, "--toy").returncode == 0, log)
 
 
+def close(streams: list[int]) -> None:
+    """Closes these."""
+    for it in streams:
+        os.close(it)
+
+
 def outputs(place: Place, faults: Faults) -> None:
-    """Where the answer can't be written, standard error says that the record stands; a reader that went away is no trouble."""
+    """Where the answer can't be written, standard error says that the record stands; a reader that went away is no
+    trouble."""
 
     def answered(name: str, output: int | None, before: Callable[[], None] | None = None) -> tuple[pathlib.Path, Done]:
         log = place.log(name)
@@ -271,8 +279,8 @@ def outputs(place: Place, faults: Faults) -> None:
         log, done = answered("full", full.fileno())
     expect_stands = done.returncode == 3 and "stand in the log's file" in done.stderr
     faults.expect("an answer to a full disk", expect_stands and log.read_text(encoding="utf-8") == place.text(3), done)
-    for name, closed in (("stdout_closed", (1,)), ("both_closed", (0, 1)), ("all_closed", (0, 1, 2))):
-        log, done = answered(name, None, lambda numbers=closed: [os.close(it) for it in numbers] and None)  # type: ignore[misc]
+    for name, closed in (("stdout_closed", [1]), ("both_closed", [0, 1]), ("all_closed", [0, 1, 2])):
+        log, done = answered(name, None, functools.partial(close, closed))
         if 0 in closed:
             faults.expect(
                 f"standard streams {closed} closed",
@@ -289,7 +297,7 @@ def outputs(place: Place, faults: Faults) -> None:
     faults.expect("a reader that went away", (done.returncode, done.stderr) == (0, ""), done)
     faults.expect("the record stands", log.read_text(encoding="utf-8") == place.text(3), log)
     for text, status in ((place.text(3), 0), (place.text(1) + place.lines[2], 1)):
-        audit = [place.tool.program, "audit", "package", "--toy"]
+        audit = [str(place.tool.program), "audit", "package", "--toy"]
         audited = subprocess.run(
             audit, input=text, text=True, stdout=writes, stderr=subprocess.PIPE, check=False, timeout=60
         )
