@@ -4,7 +4,7 @@ would prove once more."""
 import pathlib
 import subprocess
 
-from common import ROOT, stands_on
+from common import ROOT, dependencies
 
 
 class NoLibraries(Exception):
@@ -26,7 +26,7 @@ def named(crate: str) -> list[str]:
 def library_words(crate: str) -> list[str]:
     """The words by which the toolchain's compiler takes the crate's libraries: those of `rt ci`, and its own."""
     folder = kit()
-    left = {it: ROOT / "crates" / it / "out/rlib" for it in sorted(stands_on(crate) - {crate})}
+    left = {it: ROOT / "crates" / it / "out/rlib" for it in sorted(dependencies(crate) - {crate})}
     lacking = [it for it, where in left.items() if not (where / f"{it}.rlib/format").exists()]
     if lacking:
         raise NoLibraries(f"`rt ci` left no library of {', '.join(lacking)}")
