@@ -1,4 +1,5 @@
 pub mod Audited
+pub mod AuditedWords
 pub mod Chains
 pub mod Comparisons
 pub mod Extinction

@@ -11,3 +11,5 @@ pub mod Mentions
 pub mod EnvelopeRelations
 pub mod EnvelopeJson
 pub mod SignedVersionLaws
+pub mod Readings
+pub mod ReadingWords

@@ -9,6 +9,7 @@ ghost use Rattle.warg_envelope.specs.declared.coding.DecodeError.TheVariants as 
 ghost use Rattle.warg_crypto.specs.declared.hash.AnyHash.{AnyHash};
 ghost use Rattle.warg_envelope.specs.Faults.{IsReading};
 ghost use Rattle.warg_envelope.specs.Mentions.{distinct};
+ghost use Rattle.warg_envelope.specs.Readings.{Reading};
 
 mod coding;
 pub mod laws;
@@ -43,6 +44,9 @@ pub trait Record: Decode + Drop {
 
     // What content bytes say, or their first fault.
     ghost read: { List ℕ → Result Meaning Fault };
+
+    // The three above, as one word for contracts.
+    ghost reading: { Reading read meaning fault_of };
 
     // The hashes that a record mentions as its content, in order.
     ghost mentions: { Meaning → List AnyHash };

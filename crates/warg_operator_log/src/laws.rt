@@ -12,14 +12,15 @@ ghost use Rattle.warg_records.specs.OperatorEntries.{OperatorOwnEntry};
 ghost use Rattle.warg_permissions.specs.declared.operator.Permission.{Permission};
 ghost use Rattle.warg_log.specs.Rules.{SignedRecord};
 ghost use Rattle.warg_log.specs.PossibleOffences.{IsPossible};
-ghost use Rattle.warg_operator_log.specs.StateLaws.{kind, AreEquivalent};
+ghost use Rattle.warg_operator_log.specs.StateLaws.{kind, operator_log, AreEquivalent};
 ghost use Rattle.warg_operator_log.specs.declared.namespace.NamespaceState.{NamespaceState};
 ghost use Rattle.warg_operator_log.specs.declared.error.ValidationError.{ValidationError};
 ghost use Rattle.warg_operator_log.specs.declared.error.ValidationError.TheVariants.{OutOfMemory};
-ghost use Rattle.warg_envelope.specs.Envelopes.{envelope_of, envelope_fault_of};
-ghost use Rattle.warg_envelope.specs.Faults.{fault_of};
+ghost use Rattle.warg_envelope.specs.ReadingWords.{envelope_in};
 ghost use Rattle.warg_records.specs.OperatorReading.{operator_record_of};
-ghost use Rattle.warg_validator.specs.OutcomeRuns.{IsRun, IfStarted, cause_named_by};
+ghost use Rattle.warg_records.specs.Readings.{operator_reading};
+ghost use Rattle.warg_validator.specs.LogWords.{IsRun};
+ghost use Rattle.warg_validator.specs.OutcomeRuns.{IfStarted};
 ghost use Rattle.warg_validator.specs.Strings.{read_all};
 ghost use Rattle.warg_validator.specs.declared.replay.RunError.{RunError};
 ghost use Rattle.warg_log.specs.Admissions.{NoKeyBringsItselfIn};
@@ -71,14 +72,12 @@ pub fn states_tell_history()
     ensures stands { (s : State (AuthorityData Permission) (List (List ℕ × Namespace)))
         (es : List EnvelopeData) →
         StandsFor kind view_of s es → TellsHistory s es }
-    ensures run { let read = envelope_of operator_record_of in
-        let named_by = cause_named_by (envelope_fault_of fault_of) offence_of in
-        (b : SignatureRelation) (strings : List (List ℕ))
+    ensures run { (b : SignatureRelation) (strings : List (List ℕ))
         (answer : Result (State (AuthorityData Permission) (List (List ℕ × Namespace)))
         (RunError ValidationError)) →
-        IfStarted (IsRun kind b read kind.view_of view_of named_by ◌≡◌ strings) answer →
-        IfOk answer (λ s. IsAccepted kind b (read_all read strings) ×
-        TellsHistory s (read_all read strings)) }
+        IfStarted (IsRun operator_log operator_reading b strings) answer →
+        IfOk answer (λ s. let es = read_all (envelope_in operator_reading) strings in
+        IsAccepted kind b es × TellsHistory s es) }
 {}
 
 /// What is wrong with a record is never out of memory within another error, nor a second algorithm:

@@ -1,12 +1,13 @@
 //! Laws over all package logs. They have no effect.
 ghost use Rattle.std.specs.Prelude.{◌≡◌, ◌↔◌, ◌≤◌, List, ◌++◌, None, true, ◌<◌, ℕ, length, Result, IfOk, IsOk, All, IfSome};
-ghost use Rattle.warg_envelope.specs.Envelopes.{envelope_of, envelope_fault_of};
-ghost use Rattle.warg_envelope.specs.Faults.{fault_of};
+ghost use Rattle.warg_envelope.specs.ReadingWords.{envelope_in};
 ghost use Rattle.warg_envelope.specs.EnvelopeData.{EnvelopeData};
 ghost use Rattle.warg_records.specs.PackageReading.{package_record_of};
+ghost use Rattle.warg_records.specs.Readings.{package_reading};
 ghost use Rattle.warg_permissions.specs.declared.package.Permission.{Permission};
 ghost use Rattle.warg_records.specs.Kinds.{SignatureRelation, IsAccepted, StandsFor};
-ghost use Rattle.warg_validator.specs.OutcomeRuns.{IsRun, IfStarted, cause_named_by};
+ghost use Rattle.warg_validator.specs.LogWords.{IsRun};
+ghost use Rattle.warg_validator.specs.OutcomeRuns.{IfStarted};
 ghost use Rattle.warg_validator.specs.Strings.{read_all};
 ghost use Rattle.warg_validator.specs.declared.replay.RunError.{RunError};
 ghost use Rattle.warg_log.specs.Admissions.{NoKeyBringsItselfIn};
@@ -23,7 +24,7 @@ ghost use Rattle.warg_package_log.specs.State.{offence_of, view_of, View, record
 ghost use Rattle.warg_records.specs.PackageEntries.{PackageOwnEntry};
 ghost use Rattle.warg_log.specs.Rules.{SignedRecord};
 ghost use Rattle.warg_log.specs.PossibleOffences.{IsPossible};
-ghost use Rattle.warg_package_log.specs.StateLaws.{kind, AreEquivalent};
+ghost use Rattle.warg_package_log.specs.StateLaws.{kind, package_log, AreEquivalent};
 ghost use Rattle.warg_package_log.specs.declared.release.Release.{Release};
 ghost use Rattle.warg_package_log.specs.declared.release.ReleaseState.{ReleaseState};
 ghost use Rattle.warg_package_log.specs.declared.error.ValidationError.{ValidationError};
@@ -78,14 +79,12 @@ pub fn states_tell_history()
     ensures stands { (s : State (AuthorityData Permission) (List ReleaseView))
         (es : List EnvelopeData) →
         StandsFor kind view_of s es → TellsHistory s es }
-    ensures run { let read = envelope_of package_record_of in
-        let named_by = cause_named_by (envelope_fault_of fault_of) offence_of in
-        (b : SignatureRelation) (strings : List (List ℕ))
+    ensures run { (b : SignatureRelation) (strings : List (List ℕ))
         (answer : Result (State (AuthorityData Permission) (List ReleaseView))
         (RunError ValidationError)) →
-        IfStarted (IsRun kind b read kind.view_of view_of named_by ◌≡◌ strings) answer →
-        IfOk answer (λ s. IsAccepted kind b (read_all read strings) ×
-        TellsHistory s (read_all read strings)) }
+        IfStarted (IsRun package_log package_reading b strings) answer →
+        IfOk answer (λ s. let es = read_all (envelope_in package_reading) strings in
+        IsAccepted kind b es × TellsHistory s es) }
 {}
 
 /// What is wrong with a record is never out of memory within another error, nor a second algorithm:

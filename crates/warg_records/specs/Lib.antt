@@ -21,3 +21,4 @@ pub mod Effects
 pub mod Enclosed
 pub mod OutcomeOffences
 pub mod Asked
+pub mod Readings

@@ -83,6 +83,8 @@ impl Record for OperatorRecord {
 
     ghost read = { operator_record_of };
 
+    ghost reading = { record {} };
+
     ghost decodes_reading = { λ b r h. decoded_is_read record_data (operator_record_of b) r h };
 
     ghost memory_tells_none = { refl };

@@ -87,6 +87,8 @@ impl Record for PackageRecord {
 
     ghost read = { package_record_of };
 
+    ghost reading = { record {} };
+
     ghost decodes_reading = { λ b r h. decoded_is_read record_data (package_record_of b) r h };
 
     ghost memory_tells_none = { refl };

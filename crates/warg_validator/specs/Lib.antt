@@ -1,3 +1,5 @@
+pub mod LogWords
+pub mod Logs
 pub mod Messages
 pub mod OutcomeRuns
 pub mod Strings

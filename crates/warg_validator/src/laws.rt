@@ -2,11 +2,12 @@
 ghost use Rattle.std.specs.Prelude.{◌≡◌, ◌==◌, ◌&&◌, ◌↔◌, ℕ, ◌+◌, List, [], ◌∷◌, ◌++◌, length, map, take, Option, Some, None, true};
 ghost use Rattle.std.specs.List.{slice_get};
 ghost use Rattle.warg_json.specs.Json.{AreReadBack};
-ghost use Rattle.warg_envelope.specs.Envelopes.{EnvelopeFault, envelope_of};
+ghost use Rattle.warg_envelope.specs.Envelopes.{EnvelopeFault};
 ghost use Rattle.warg_envelope.specs.EnvelopeData.{EnvelopeData};
 ghost use Rattle.warg_records.specs.Kinds.{SignatureRelation, accepted_by_either, IsAccepted, StandsFor, last_id};
-ghost use Rattle.warg_validator.specs.OutcomeRuns.{same_cause, HasNoOffence, IsFirstOffence, IsFoundBy, first_offence_from};
-ghost use Rattle.warg_validator.specs.Strings.{Cause, read_all};
+ghost use Rattle.warg_validator.specs.LogWords.{HasNoOffence, HasNoOffenceAfter, IsFirstOffence, IsFirstOffenceAfter, IsFoundBy, envelopes_said, first_offence_from};
+ghost use Rattle.warg_validator.specs.OutcomeRuns.{same_cause};
+ghost use Rattle.warg_validator.specs.Strings.{Cause};
 ghost use Rattle.warg_validator.specs.declared.replay.RunCause.{RunCause};
 ghost use Rattle.warg_validator.specs.declared.replay.RunError.{RunError};
 
@@ -67,8 +68,8 @@ pub fn saved_versions<L: Validator>()
 /// Strings without offence are an accepted log.
 pub fn strings_are_accepted<L: Validator>()
     ensures { (b : SignatureRelation) (ss : List (List ℕ)) →
-        HasNoOffence L.kind b (envelope_of L.Record.read) L.kind.view_of ss →
-        IsAccepted L.kind b (read_all (envelope_of L.Record.read) ss) }
+        HasNoOffence L.log L.Record.reading b ss →
+        IsAccepted L.kind b (envelopes_said L.Record.reading ss) }
 {}
 
 /// The first offence is one place and one cause, or there is none: a search from the front, view by
@@ -76,25 +77,22 @@ pub fn strings_are_accepted<L: Validator>()
 pub fn first_offence<L: Validator>()
     ensures { (b : SignatureRelation) (ss : List (List ℕ))
         (o : Option (ℕ × Cause (EnvelopeFault L.Record.Fault) L.Offence)) →
-        IsFoundBy L.kind b (envelope_of L.Record.read) L.kind.view_of ss o ↔
-        (first_offence_from L.kind b (envelope_of L.Record.read) L.kind.start ss ≡ o) }
+        IsFoundBy L.log L.Record.reading b ss o ↔
+        (first_offence_from L.log L.Record.reading b L.kind.start ss ≡ o) }
 {}
 
 /// A log in two parts: the whole has no offence exactly if neither the first part has one nor the
 /// second after the first, and an offence of the second is one of the whole, as many places later.
 pub fn resumption<L: Validator>()
     ensures lawful { (b : SignatureRelation) (ss ts : List (List ℕ)) →
-        HasNoOffence L.kind b (envelope_of L.Record.read) L.kind.view_of (ss ++ ts) ↔
-        (HasNoOffence L.kind b (envelope_of L.Record.read) L.kind.view_of ss ×
-        HasNoOffence L.kind b (envelope_of L.Record.read)
-        (λ fs. L.kind.view_of (read_all (envelope_of L.Record.read) ss ++ fs)) ts) }
+        HasNoOffence L.log L.Record.reading b (ss ++ ts) ↔
+        (HasNoOffence L.log L.Record.reading b ss ×
+        HasNoOffenceAfter L.log L.Record.reading (envelopes_said L.Record.reading ss) b ts) }
     ensures first { (b : SignatureRelation) (ss ts : List (List ℕ)) →
-        HasNoOffence L.kind b (envelope_of L.Record.read) L.kind.view_of ss →
+        HasNoOffence L.log L.Record.reading b ss →
         (i : ℕ) (c : Cause (EnvelopeFault L.Record.Fault) L.Offence) →
-        IsFirstOffence L.kind b (envelope_of L.Record.read)
-        (λ fs. L.kind.view_of (read_all (envelope_of L.Record.read) ss ++ fs)) ts i c →
-        IsFirstOffence L.kind b (envelope_of L.Record.read) L.kind.view_of
-        (ss ++ ts) (length ss + i) c }
+        IsFirstOffenceAfter L.log L.Record.reading (envelopes_said L.Record.reading ss) b ts i c →
+        IsFirstOffence L.log L.Record.reading b (ss ++ ts) (length ss + i) c }
 {}
 
 /// A log whose front one verifier accepted, and whose other strings another: one that takes whatever
@@ -102,8 +100,8 @@ pub fn resumption<L: Validator>()
 pub fn two_verifiers<L: Validator>()
     ensures { (d b : SignatureRelation) (es : List EnvelopeData) (ss : List (List ℕ)) →
         IsAccepted L.kind d es →
-        HasNoOffence L.kind b (envelope_of L.Record.read) (λ fs. L.kind.view_of (es ++ fs)) ss →
-        IsAccepted L.kind (accepted_by_either d b) (es ++ read_all (envelope_of L.Record.read) ss) }
+        HasNoOffenceAfter L.log L.Record.reading es b ss →
+        IsAccepted L.kind (accepted_by_either d b) (es ++ envelopes_said L.Record.reading ss) }
 {}
 
 /// When `==` is true: of refusals exactly where their places and causes are equal; of causes exactly where both are
