@@ -45,7 +45,7 @@ PRODUCTS = {
     it.name: it
     for it in [
         Product("warg_audit", ("warg_audit",), "warg_audit_main", "", "MANIFEST", "crates/warg_audit/src/information.rt"),
-        Product("weoldrin", ("weoldrin",), "weoldrin_main", "", "MANIFEST.weoldrin", "crates/warg_words/src/version.rt"),
+        Product("weoldrin", ("weoldrin",), "weoldrin_main", "", "MANIFEST.weoldrin", "crates/tool_words/src/version.rt"),
         Product("libwarg", ("libwarg.a", "libwarg.so", "warg.pc"), "warg_c", "c", "MANIFEST.libwarg", "crates/warg_c/src/exports/version.rt"),
     ]
 }

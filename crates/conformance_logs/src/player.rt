@@ -10,7 +10,7 @@
 use crate::questions::ask;
 use crate::steps::{advance, check_state};
 use conformance_rows::{Block, Fail, Line, Report, Row};
-use conformance_scripts::{Scripted, check, next_string};
+use crate::scripts::{Scripted, check, next_string};
 use std::alloc::Global;
 use std::mem;
 use warg_protocol::toy::ToyVerifier;

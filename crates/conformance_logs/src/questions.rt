@@ -3,7 +3,7 @@ use crate::effect::effect_of;
 use crate::player::Log;
 use crate::written::{permissions_written, value_written, written};
 use conformance_rows::{Answer, Fail};
-use conformance_scripts::{Scripted, check, id, none, words_of};
+use crate::scripts::{Scripted, check, id, none, words_of};
 use std::alloc::{AllocError, Global};
 use warg_protocol::toy::ToyVerifier;
 use warg_protocol::{AuditedLog, Comparison, HeadComparison, Link};

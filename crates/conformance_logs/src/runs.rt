@@ -2,7 +2,7 @@
 //! refused and the cause, or questions about the state that they add up to.
 use crate::written::written;
 use conformance_rows::{Answer, Block, Fail, Line, Report, Row};
-use conformance_scripts::{Scripted, cause_words, check, string_of};
+use crate::scripts::{Scripted, cause_words, check, string_of};
 use std::alloc::Global;
 use warg_protocol::toy::ToyVerifier;
 use warg_protocol::{AuditedLog, RunError, run};

@@ -2,7 +2,7 @@
 //! that is kept.
 use crate::player::Log;
 use conformance_rows::Fail;
-use conformance_scripts::{Scripted, cause_words, check};
+use crate::scripts::{Scripted, cause_words, check};
 use std::alloc::Global;
 use std::slice;
 use warg_protocol::toy::ToyVerifier;

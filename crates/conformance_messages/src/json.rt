@@ -6,10 +6,10 @@ use serde_json::Value;
 use std::alloc::Global;
 use warg_crypto::hash::AnyHash;
 use warg_envelope::{ProtoEnvelopeBody, PublishedProtoEnvelopeBody, SerdeEnvelope};
-use warg_json::JsonValue;
-use warg_records::{operator, package};
+use warg_crypto::json::JsonValue;
+use warg_log_records::{operator, package};
 use warg_registry::Checkpoint;
-use warg_time::Timestamp;
+use warg_crypto::time::Timestamp;
 
 /// A value in its JSON.
 #[derive(Drop, PartialEq)]

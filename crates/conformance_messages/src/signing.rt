@@ -5,10 +5,11 @@ use conformance_rows::{Answer, Fail, Words, bytes, hex};
 use std::alloc::Global;
 use warg_crypto::Signable;
 use warg_crypto::toy::ToySigner;
-use warg_envelope::{Decode, ProtoEnvelope, SerdeEnvelope};
-use warg_json::JsonValue;
-use warg_records::operator::OperatorRecord;
-use warg_records::package::PackageRecord;
+use warg_crypto::Decode;
+use warg_envelope::{ProtoEnvelope, SerdeEnvelope};
+use warg_crypto::json::JsonValue;
+use warg_log_records::operator::OperatorRecord;
+use warg_log_records::package::PackageRecord;
 use warg_registry::TimestampedCheckpoint;
 
 fn signed<C: Signable + Decode>(

@@ -5,18 +5,16 @@ ghost use Rattle.warg_crypto.specs.Keys.{signature_of};
 ghost use Rattle.warg_crypto.specs.NamedBytes.{named_bytes_text};
 ghost use Rattle.warg_envelope.specs.EnvelopeData.{DecodedEnvelope, EnvelopeData};
 ghost use Rattle.warg_envelope.specs.Envelopes.{IsHonest, envelope_message, envelope_of};
-ghost use Rattle.warg_envelope.specs.declared.coding.DecodeError.{DecodeError};
-ghost use Rattle.warg_envelope.specs.declared.coding.WireFault.{WireFault};
+ghost use Rattle.warg_crypto.specs.declared.coding.DecodeError.{DecodeError};
+ghost use Rattle.warg_crypto.specs.declared.coding.WireFault.{WireFault};
 ghost use Rattle.warg_envelope.specs.declared.proto_envelope.body.PublishedProtoEnvelope.{PublishedProtoEnvelope};
 ghost use Rattle.warg_envelope.specs.declared.proto_envelope.body.PublishedProtoEnvelopeBody.{PublishedProtoEnvelopeBody};
 ghost use Rattle.warg_envelope.specs.declared.proto_envelope.error.ParseEnvelopeError.{ParseEnvelopeError};
 ghost use Rattle.warg_envelope.specs.declared.serde_envelope.SerdeEnvelope.{SerdeEnvelope};
 ghost use Rattle.warg_protobuf.specs.Envelope.{IsEnvelope};
 
-use crate::{
-    DecodeError, ParseEnvelopeError, ProtoEnvelope, ProtoEnvelopeBody, PublishedProtoEnvelope,
-    PublishedProtoEnvelopeBody, Record, SerdeEnvelope, WireFault,
-};
+use warg_crypto::{DecodeError, WireFault};
+use crate::{ParseEnvelopeError, ProtoEnvelope, ProtoEnvelopeBody, PublishedProtoEnvelope, PublishedProtoEnvelopeBody, Record, SerdeEnvelope};
 use warg_crypto::laws::byte_range;
 use warg_protobuf::laws::decoding_computes;
 

@@ -15,7 +15,8 @@ mod body;
 mod error;
 mod name;
 
-use crate::{DecodeError, Record};
+use warg_crypto::DecodeError;
+use crate::Record;
 pub use body::{ProtoEnvelopeBody, PublishedProtoEnvelope, PublishedProtoEnvelopeBody};
 pub use error::ParseEnvelopeError;
 use std::alloc::{AllocError, Global};

@@ -3,6 +3,6 @@
 pub use warg_operator_log::{
     Head, KeyEntry, Keys, LogState, NamespaceState, Namespaces, ValidationError, laws,
 };
-pub use warg_records::operator::{
+pub use warg_log_records::operator::{
     OPERATOR_RECORD_VERSION, OperatorEntry, OperatorRecord, Permission,
 };
