@@ -105,8 +105,8 @@ def statements() -> Statements:
     it.lines += ["## The statements", "", "`run`, for each kind of log `L` and each verifier `V`:"]
     it.function("crates/warg_replay/src/replay.rt", None, "run")
     it.lines += ["", "Equal heads, as a law of all accepted logs, and as what a program is told of two logs:"]
-    it.function("crates/warg_audited_log/src/laws.rt", None, "equal_heads")
-    file = "crates/warg_audited_log/src/audited_log.rt"
+    it.function("crates/warg_replay/src/audited_log/laws.rt", None, "equal_heads")
+    file = "crates/warg_replay/src/audited_log/audited_log.rt"
     it.function(file, "<L: Validator, V: Verifier + Drop> AuditedLog<L, V>", "compare_heads")
     it.roots[Place("rust", file, "AuditedLog")] = None
     it.lines += ["", "With P-256: `run` for signatures that are verified here, and what is proved of their test:"]
