@@ -8,8 +8,8 @@ mod texts;
 use conformance_rows::{Answer, Fail, Words};
 use std::alloc::Global;
 
-/// The answer to a row of one of this crate's topics, or `None` where it has no such topic. Of the topic `parse` it has the
-/// proofs alone.
+/// The answer to a row of one of these topics, or `None` where the row has another. Of the topic `parse` it has the proofs
+/// alone.
 pub fn answer(alloc: Global, topic: &str, words: &str) -> Result<Option<Answer>, Fail> {
     let words = Words::new(words);
     let answer = match topic {

@@ -1,4 +1,4 @@
-//! Tests of `warg_crypto`, `warg_json` and `warg_time`: copies, fakes that refuse or count, clocks, and the examples of the
+//! Tests of `warg_crypto`, its JSON and its times: copies, fakes that refuse or count, clocks, and the examples of the
 //! documentation.
 mod clocks;
 mod copies;
