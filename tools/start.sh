@@ -25,7 +25,8 @@ is_older() {
     for crate in $crates; do
         for file in "$root/crates/$crate"/src "$root/crates/$crate"/src/*.rt "$root/crates/$crate"/src/*/ \
             "$root/crates/$crate"/src/*/*.rt "$root/crates/$crate"/src/*/*/ "$root/crates/$crate"/src/*/*/*.rt \
-            "$root/crates/$crate"/specs "$root/crates/$crate"/specs/*.antt; do
+            "$root/crates/$crate"/specs "$root/crates/$crate"/specs/*.antt "$root/crates/$crate"/specs/*/ \
+            "$root/crates/$crate"/specs/*/*.antt; do
             [ "$file" -nt "$1" ] && return 0
         done
     done
