@@ -8,7 +8,7 @@ __all__ = ["ROOT", "crates_below", "stands_on", "words_of", "write_or_compare"]
 
 
 def crates_below() -> list[str]:
-    """The crates of crates.txt, each after those that it stands on."""
+    """The crates in the order of crates.txt, in which definitions rest on those of crates above theirs."""
     lines = (ROOT / "crates.txt").read_text(encoding="utf-8").splitlines()
     return [line.partition(":")[0].split()[0] for line in lines if line and not line.startswith("#")]
 
