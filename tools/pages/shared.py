@@ -8,7 +8,7 @@ __all__ = ["ROOT", "crates_below", "stands_on", "words_of", "write_or_compare"]
 
 
 def crates_below() -> list[str]:
-    """The crates in the order of crates.txt, in which definitions rest on those of crates above theirs."""
+    """The crates in the order of crates.txt, in which definitions rest on those of crates before theirs."""
     lines = (ROOT / "crates.txt").read_text(encoding="utf-8").splitlines()
     return [line.partition(":")[0].split()[0] for line in lines if line and not line.startswith("#")]
 
