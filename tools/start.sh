@@ -1,7 +1,7 @@
-# Read by the commands of bin/, which set root, the repository's folder; name, of the program in dist/; crate, which it is built
-# from; and manifest, its file in dist/. Runs the program with the command's words, its standard input and its exit status passed
-# through: the program that bin/prove built here, or else the one of dist/. Says on standard error where the sources were changed
-# since.
+# Read by the commands of bin/, which set root, the repository's folder; name, of the program in dist/; crate, which it
+# is built from; and manifest, its file in dist/. Runs the program with the command's words, its standard input and its
+# exit status passed through: the program that bin/prove built here, or else the one of dist/. Says on standard error
+# where the sources were changed since.
 built=$root/crates/$crate/out/$crate
 manifest=$root/dist/$manifest
 
@@ -19,8 +19,8 @@ crates= program=none
 done <"$manifest"
 released=$root/dist/$program
 
-# Whether code or a definition is newer than this file, or a folder of these, as one is where a file was removed. It starts no
-# other program, so that it takes a few milliseconds.
+# Whether code or a definition is newer than this file, or a folder of these, as one is where a file was removed. It
+# starts no other program, so that it takes a few milliseconds.
 is_older() {
     for crate in $crates; do
         for file in "$root/crates/$crate"/src "$root/crates/$crate"/src/*.rt "$root/crates/$crate"/src/*/ \
@@ -33,11 +33,12 @@ is_older() {
     return 1
 }
 
-# Whether the sources are those of the manifest: by their times, or else by their hash. If the hash is the same, the next
-# call sees it by the times.
+# Whether the sources are those of the manifest: by their times, or else by their hash. If the hash is the same, the
+# next call sees it by the times.
 is_released() {
     is_older "$manifest" || return 0
-    [ "$("$root/tools/sources_hash" "${manifest##*/}" 2>/dev/null)" = "$(sed -n 's/^sources: //p' "$manifest")" ] || return 1
+    hash=$("$root/tools/sources_hash" "${manifest##*/}" 2>/dev/null)
+    [ "$hash" = "$(sed -n 's/^sources: //p' "$manifest")" ] || return 1
     touch -c "$manifest" 2>/dev/null
     return 0
 }
@@ -58,7 +59,8 @@ if is_system && [ -x "$released" ]; then
     [ -x "$built" ] || built=$released
 fi
 if [ ! -x "$built" ]; then
-    tell "dist/ has the program for Linux on x86-64 alone. bin/prove $name proves and builds it, with the toolchain that README.md names"
+    tell "dist/ has the program for Linux on x86-64 alone. bin/prove $name proves and builds it," \
+        "with the toolchain that README.md names"
     exit 3
 fi
 tell "the sources were changed since this program was built: bin/prove $name proves and builds it anew"
