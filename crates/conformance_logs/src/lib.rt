@@ -12,8 +12,8 @@ mod steps;
 mod texts;
 mod written;
 
-use conformance_rows::{Answer, Block, Fail, Report};
 use crate::scripts::{Scripted, words_of};
+use conformance_rows::{Answer, Block, Fail, Report};
 use player::play_log;
 use runs::play_run;
 use std::alloc::Global;

@@ -5,7 +5,9 @@ use crate::errors::contents_fault;
 use conformance_rows::{Answer, Fail, Words};
 use std::alloc::Global;
 use warg_crypto::DecodeError;
-use warg_envelope::{ProtoEnvelope, ProtoEnvelopeBody, PublishedProtoEnvelope, PublishedProtoEnvelopeBody, Record};
+use warg_envelope::{
+    ProtoEnvelope, ProtoEnvelopeBody, PublishedProtoEnvelope, PublishedProtoEnvelopeBody, Record,
+};
 use warg_log_records::operator::OperatorRecord;
 use warg_log_records::package::PackageRecord;
 

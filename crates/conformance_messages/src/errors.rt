@@ -1,9 +1,9 @@
 //! The names of faults, and the texts of errors.
 use conformance_rows::{Answer, Fail, Words};
 use std::alloc::Global;
+use warg_crypto::DecodeError;
 use warg_crypto::hash::AnyHashError;
 use warg_crypto::signing::SignatureParseError;
-use warg_crypto::DecodeError;
 use warg_envelope::ParseEnvelopeError;
 use warg_protobuf::WireError;
 

@@ -9,6 +9,7 @@ use crate::kind::ToolLog;
 use crate::resealed::resealed;
 use crate::wording::{EntryWords, key_lines, permission_words, record_line, time_words};
 use std::alloc::{AllocError, Global};
+use warg_log_records::laws::equality;
 use warg_permissions::LogPermission;
 use warg_printable::printed_line;
 use warg_protocol::operator::{
@@ -17,7 +18,6 @@ use warg_protocol::operator::{
 };
 use warg_protocol::signing::KeyID;
 use warg_protocol::{Encode, JsonError, JsonTextError, ProtoEnvelope};
-use warg_log_records::laws::equality;
 
 impl EntryWords for OperatorEntry {
     ghost use Rattle.warg_protocol.specs.Operator.{entry_data};

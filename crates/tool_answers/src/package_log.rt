@@ -10,6 +10,7 @@ use crate::kind::ToolLog;
 use crate::resealed::resealed;
 use crate::wording::{EntryWords, key_lines, permission_words, record_line, time_words};
 use std::alloc::{AllocError, Global};
+use warg_log_records::laws::equality;
 use warg_permissions::LogPermission;
 use warg_printable::printed_line;
 use warg_protocol::hash::AnyHash;
@@ -19,7 +20,6 @@ use warg_protocol::package::{
 };
 use warg_protocol::signing::KeyID;
 use warg_protocol::{Encode, JsonError, JsonTextError, ProtoEnvelope, Version};
-use warg_log_records::laws::equality;
 
 impl EntryWords for PackageEntry {
     ghost use Rattle.warg_protocol.specs.Package.{entry_data};

@@ -15,15 +15,15 @@ use std::alloc::Global;
 use tool_answers::judged::judged;
 use tool_answers::kind::ToolLog;
 use tool_answers::reply::answer_of_reply;
-use warg_audit::{LogType, accepted_first_line, accepted_reply, id_reply};
+use tool_words::Demands;
 use warg_audit::files::answer::Answer;
 use warg_audit::files::input::Input;
 use warg_audit::files::record_lines::record_text;
 use warg_audit::files::stop::Stop;
+use warg_audit::{LogType, accepted_first_line, accepted_reply, id_reply};
 use warg_protocol::registry::RecordId;
 use warg_protocol::signing::Verifier;
 use warg_protocol::{operator, package};
-use tool_words::Demands;
 
 /// The id of the one record in a file.
 pub fn id_answer(alloc: Global, kind: LogType, input: Input<'_>) -> Result<Answer, Stop>

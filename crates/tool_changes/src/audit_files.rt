@@ -12,12 +12,12 @@ use crate::audit::audit_answer;
 use crate::demands::test_words;
 use crate::many_audits::one_line;
 use std::alloc::{AllocError, Global};
+use tool_words::Demands;
 use warg_audit::LogType;
 use warg_audit::files::answer::Answer;
 use warg_audit::files::input::{Input, ReadFault, Store, read_input};
 use warg_audit::files::stop::{Stop, settled};
 use warg_protocol::signing::Verifier;
-use tool_words::Demands;
 
 /// How the log in a file is audited: its kind, what is demanded of it, and how its answer is shown.
 #[derive(Clone, Copy, Debug)]

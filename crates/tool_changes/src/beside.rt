@@ -18,13 +18,13 @@ use tool_answers::judged::{Lent, counted};
 use tool_answers::kind::ToolLog;
 use tool_answers::parting::{collision_text, fork_text};
 use tool_answers::side::side;
+use tool_words::Demands;
 use warg_audit::files::answer::Answer;
 use warg_audit::files::input::Input;
 use warg_audit::files::stop::Stop;
 use warg_protocol::registry::RecordId;
 use warg_protocol::signing::Verifier;
 use warg_protocol::{AuditedLog, Comparison, ProtoEnvelope};
-use tool_words::Demands;
 
 // The line of a log that was rolled back, which has so many records and this head.
 fn rolled_back(alloc: Global, count: usize, head: Option<&RecordId>) -> Result<String, AllocError>

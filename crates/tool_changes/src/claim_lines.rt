@@ -13,14 +13,14 @@ ghost use Rattle.warg_audit.specs.Files.Texts.{all_lines, line, no};
 use std::alloc::{AllocError, Global};
 use tool_answers::judged::{file_strings, refusal_sentence};
 use tool_answers::kind::ToolLog;
-use warg_audit::refusal_reply;
-use warg_claims::{LogClaims, claims};
 use warg_audit::files::answer::Answer;
 use warg_audit::files::input::Input;
 use warg_audit::files::stop::Stop;
+use warg_audit::refusal_reply;
+use warg_claims::verified::Claim;
+use warg_claims::{LogClaims, claims};
 use warg_protocol::{ParseEnvelopeError, RunCause, RunError};
 use warg_replay::host::Hosted;
-use warg_claims::verified::Claim;
 
 // Appends the line of a claim.
 fn append_claim(alloc: Global, claim: &Claim, text: &mut String) -> Result<(), AllocError>

@@ -9,9 +9,9 @@ ghost use Rattle.tool_changes.specs.Audits.{SaysHead, has_head, has_least, lacks
 
 use std::alloc::{AllocError, Global};
 use tool_answers::id_word::{begins_as_said, is_id_word};
+use tool_words::Demands;
 use warg_audit::files::stop::{Stop, unusable};
 use warg_protocol::registry::RecordId;
-use tool_words::Demands;
 
 /// No more is demanded of a log than records, unless it may have none.
 pub(crate) fn records_alone<'a>(allows_empty: bool) -> Demands<'a>

@@ -10,8 +10,8 @@ ghost use Rattle.tool_changes.specs.LineForms.{line_forms};
 use crate::line_forms::line_forms;
 use crate::many_audits::first_line;
 use std::alloc::{AllocError, Global};
-use warg_audit::files::answer::Answer;
 use tool_layout::members::{line_object, message_object, path_object};
+use warg_audit::files::answer::Answer;
 
 // The object of a line that a command prints.
 fn object_of_line(

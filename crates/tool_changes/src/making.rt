@@ -11,20 +11,20 @@ ghost use Rattle.tool_changes.specs.declared.make.error.MakeError.TheVariants.{O
 ghost use Rattle.tool_changes.specs.MadeRecords.{IsMadeBy, IsMadeByToy, IsMadeForKey, IsMadeForText, IsMadeOf, IsPrintedNext, IsRefusedNext, signed_line, unsigned_line};
 ghost use Rattle.tool_answers.specs.Verdicts.{ForDisplay};
 
+use crate::make::{MakeError, UnsignedRecord, Worded, make, make_unsigned};
 use std::alloc::{AllocError, Global};
 use std::slice;
 use tool_answers::judged::{judged, refusal_sentence};
 use tool_answers::kind::ToolLog;
 use tool_answers::reply::answer_of_reply;
-use warg_audit::refusal_reply;
+use tool_words::{Draft, Signer};
 use warg_audit::files::answer::Answer;
 use warg_audit::files::input::Input;
 use warg_audit::files::stop::{Stop, unusable};
-use crate::make::{MakeError, UnsignedRecord, Worded, make, make_unsigned};
+use warg_audit::refusal_reply;
 use warg_protocol::RunError;
 use warg_protocol::signing::{KeyParseError, PublicKey, Signature, SignatureError, Verifier};
 use warg_replay::run_from;
-use tool_words::{Draft, Signer};
 
 /// Takes each signature.
 #[derive(Clone, Copy, Debug)]

@@ -11,16 +11,16 @@ ghost use Rattle.tool_answers.specs.Verdicts.{ForDisplay};
 
 use crate::append::append_answer;
 use crate::claim_lines::claims_answer;
+use crate::make::Worded;
 use crate::making::make_answer;
 use std::alloc::Global;
 use tool_answers::kind::ToolLog;
+use tool_words::{Draft, Task};
 use warg_audit::files::answer::Answer;
 use warg_audit::files::input::{Store, read_input, read_log};
 use warg_audit::files::stop::Stop;
-use crate::make::Worded;
 use warg_protocol::signing::Verifier;
 use warg_replay::host::Hosted;
-use tool_words::{Draft, Task};
 
 // The claims of the log in a file.
 fn claims_of_file<L: ToolLog + Hosted, S: Store>(

@@ -17,13 +17,13 @@ ghost use Rattle.warg_audit.specs.Files.Unusable.{IsOfLines};
 use crate::leaves::{Trees, trees_of};
 use crate::read_words::{log_id_of, number_of};
 use std::alloc::{AllocError, Global};
+use tool_words::Wanted;
 use warg_audit::files::answer::Answer;
 use warg_audit::files::input::{Input, Store, read_input};
 use warg_audit::files::stop::Stop;
 use warg_crypto::json::{JsonError, JsonValue};
 use warg_registry::{Checkpoint, LogId};
 use warg_transparency::{LogProof, MapProof, OfTrees};
-use tool_words::Wanted;
 
 /// What is asked of a registry, as words say it.
 #[derive(Drop)]

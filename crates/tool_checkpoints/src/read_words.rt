@@ -18,8 +18,8 @@ use std::str::FromStr;
 use warg_audit::files::input::{Input, Store, file_stop, read_input};
 use warg_audit::files::stop::{Stop, unusable};
 use warg_crypto::json::{JsonError, JsonValue};
-use warg_printable::printed_line;
 use warg_log_records::RecordId;
+use warg_printable::printed_line;
 use warg_registry::{Checkpoint, LogId, LogLeaf};
 use warg_transparency::{LogProof, MapProof, ProofTextError};
 

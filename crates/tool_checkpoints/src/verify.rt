@@ -14,6 +14,7 @@ use crate::read_words::{
     leaf_of, log_id_of, number_of, read_checkpoint, read_log_proof, read_map_proof,
 };
 use std::alloc::{AllocError, Global};
+use tool_words::{LeafIds, Statement};
 use warg_audit::files::answer::Answer;
 use warg_audit::files::input::Store;
 use warg_audit::files::stop::Stop;
@@ -21,7 +22,6 @@ use warg_registry::{Checkpoint, LogId, LogLeaf};
 use warg_transparency::{
     LogProof, MapProof, verify_absence, verify_consistency, verify_head, verify_inclusion,
 };
-use tool_words::{LeafIds, Statement};
 
 // What is said of a statement.
 fn verdict(alloc: Global, holds: bool) -> Result<Answer, AllocError>

@@ -17,11 +17,11 @@ use crate::resume::resume_answer;
 use crate::state::state_answer;
 use std::alloc::Global;
 use tool_answers::kind::ToolLog;
+use tool_words::Question;
 use warg_audit::files::answer::Answer;
 use warg_audit::files::input::{Input, Store, read_input};
 use warg_audit::files::stop::Stop;
 use warg_protocol::signing::Verifier;
-use tool_words::Question;
 
 fn state_of_file<L: ToolLog, V: Verifier, S: Store>(
     alloc: Global,

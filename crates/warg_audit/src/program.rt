@@ -14,13 +14,13 @@ use crate::command::{Command, parse_command};
 use crate::identify::id_reply;
 use crate::input::Input;
 use crate::log::log_reply;
+use crate::log_type::LogType;
 use crate::output::Output;
 use crate::reading::{InputError, read_all};
 use crate::reply::Reply;
 use std::alloc::{AllocError, Global};
 use std::io::{Read, Write};
 use warg_crypto::toy::ToyVerifier;
-use crate::log_type::LogType;
 use warg_operator_log::LogState as OperatorLog;
 use warg_package_log::LogState as PackageLog;
 

@@ -7,11 +7,11 @@ ghost use Rattle.warg_claims.specs.Claimed.{AreClaims, AsksClaim, EndsAt, IsTake
 ghost use Rattle.warg_envelope.specs.declared.proto_envelope.error.ParseEnvelopeError.TheVariants.{OutOfMemory};
 ghost use Rattle.warg_replay.specs.declared.replay.RunCause.TheVariants.{Parse};
 
+use crate::verified::Claim;
 use std::alloc::Global;
 use warg_envelope::ParseEnvelopeError;
 use warg_replay::RunCause;
 use warg_replay::host::{Hosted, Question, Told, append, ask};
-use crate::verified::Claim;
 
 /// The claims of a log's records, in order: the triple of which a host has to say whether it belongs together.
 #[derive(Drop)]

@@ -11,7 +11,10 @@ ghost use Rattle.warg_envelope.specs.declared.proto_envelope.error.ParseEnvelope
 ghost use Rattle.warg_envelope.specs.declared.serde_envelope.SerdeEnvelope.{SerdeEnvelope};
 ghost use Rattle.warg_protobuf.specs.Envelope.{IsEnvelope};
 
-use crate::{ParseEnvelopeError, ProtoEnvelope, ProtoEnvelopeBody, PublishedProtoEnvelope, PublishedProtoEnvelopeBody, Record, SerdeEnvelope};
+use crate::{
+    ParseEnvelopeError, ProtoEnvelope, ProtoEnvelopeBody, PublishedProtoEnvelope,
+    PublishedProtoEnvelopeBody, Record, SerdeEnvelope,
+};
 use warg_crypto::laws::byte_range;
 use warg_protobuf::laws::decoding_computes;
 

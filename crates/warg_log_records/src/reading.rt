@@ -16,10 +16,10 @@ use std::alloc::Global;
 use std::str::FromStr;
 use warg_crypto::hash::{AnyHash, HashAlgorithm};
 use warg_crypto::signing::{KeyID, PublicKey};
+use warg_crypto::time::Timestamp;
 use warg_crypto::{DecodeError, WireFault};
 use warg_permissions::LogPermission;
 use warg_protobuf::{GrantFlat, Init, RevokeFlat, TimestampPair, WireError};
-use warg_crypto::time::Timestamp;
 
 /// The permission of a number.
 fn read_permission<P: LogPermission>(number: i32) -> Result<P, DecodeError>

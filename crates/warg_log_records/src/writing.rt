@@ -14,9 +14,9 @@ use std::alloc::{AllocError, Global};
 use std::fmt;
 use warg_crypto::hash::HashAlgorithm;
 use warg_crypto::signing::{KeyID, PublicKey};
+use warg_crypto::time::Timestamp;
 use warg_permissions::LogPermission;
 use warg_protobuf::{GrantFlat, Init, RevokeFlat, TimestampPair};
-use warg_crypto::time::Timestamp;
 
 /// A part of a record that is written as its message.
 pub(crate) trait ToMessage {

@@ -26,13 +26,13 @@ use indexmap::IndexMap;
 use std::alloc::{AllocError, Global};
 use std::marker::Model;
 use warg_crypto::hash::Sha256;
+use warg_crypto::time::Timestamp;
 use warg_envelope::ProtoEnvelope;
-use warg_permissions::key_maps::put_all;
 use warg_log::{EntryRef, Origin, OwnState, RecordRef, Refusal};
 use warg_log_records::RecordId;
 use warg_log_records::operator::{OperatorEntry, OperatorRecord, Permission};
+use warg_permissions::key_maps::put_all;
 use warg_registry::PackageName;
-use warg_crypto::time::Timestamp;
 
 /// The namespaces of a log, by name.
 #[derive(Debug, Drop)]

@@ -6,8 +6,8 @@ use crate::visits::visit_hash;
 use std::alloc::{AllocError, Global};
 use warg_crypto::hash::AnyHash;
 use warg_crypto::prefix::{PrefixEncodeVisitor, VisitPrefixEncode};
-use warg_crypto::{ByteVisitor, Encode, Signable, VisitBytes};
 use warg_crypto::time::{Clock, TimeError, Timestamp};
+use warg_crypto::{ByteVisitor, Encode, Signable, VisitBytes};
 
 /// What a registry's log and map stand at: the root of the log, its length in leaves, the root of
 /// the map.

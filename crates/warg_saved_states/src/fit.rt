@@ -10,8 +10,8 @@ use crate::value::SavedValue;
 use indexmap::IndexMap;
 use std::alloc::Global;
 use warg_crypto::hash::HashAlgorithm;
-use warg_crypto::signing::{KeyID, PublicKey};
 use warg_crypto::json::{Incoherence, JsonError};
+use warg_crypto::signing::{KeyID, PublicKey};
 
 /// Refuses an algorithm without a head, and a head without an algorithm. Of the head its version is given.
 pub fn check_begun(algorithm: &Option<HashAlgorithm>, version: Option<u32>) -> Result<(), JsonError>

@@ -15,9 +15,9 @@ use indexmap::IndexMap;
 use serde_json::{Map, Value};
 use std::alloc::Global;
 use warg_crypto::hash::HashAlgorithm;
-use warg_crypto::signing::{KeyID, PublicKey};
 use warg_crypto::json::JsonError;
 use warg_crypto::json::members::{optional_member, put_value};
+use warg_crypto::signing::{KeyID, PublicKey};
 
 /// Puts the algorithm, if there is one. Where that fails, the object is as it was.
 pub fn put_algorithm(

@@ -11,8 +11,8 @@ ghost use Rattle.warg_saved_states.specs.NameLaws.{text_back, version_back, vers
 use semver::Version;
 use std::alloc::{AllocError, Global};
 use std::hash::Hash;
-use warg_crypto::signing::KeyID;
 use warg_crypto::json::JsonError;
+use warg_crypto::signing::KeyID;
 
 /// A key of a map, which names a member of an object.
 pub trait SavedName: Eq + Hash + Drop {

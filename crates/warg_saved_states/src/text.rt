@@ -23,9 +23,9 @@ use serde_json::Value;
 use std::alloc::Global;
 use std::collections::BTreeMap;
 use std::marker::Model;
-use warg_crypto::signing::{KeyID, PublicKey};
 use warg_crypto::json::members::text_value;
 use warg_crypto::json::{JsonError, JsonValue};
+use warg_crypto::signing::{KeyID, PublicKey};
 
 /// The members of an object, each as its text: the object's text is joined of them, and no value of the whole object is
 /// ever held.

@@ -12,8 +12,8 @@ ghost use Rattle.warg_saved_states.specs.Writes.{WritesText};
 use json::Writer;
 use serde_json::Value;
 use std::alloc::Global;
-use warg_crypto::signing::PublicKey;
 use warg_crypto::json::{JsonError, JsonValue};
+use warg_crypto::signing::PublicKey;
 
 /// A value of a map of a saved state. A set, which is no type of this repository's, is one too.
 pub trait SavedValue: Drop {

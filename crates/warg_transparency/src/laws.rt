@@ -20,10 +20,10 @@ ghost use Rattle.warg_merkle.specs.SparseMap.Maps as maps;
 ghost use Rattle.warg_transparency.specs.Heads.{head_leaf, ShowsHead, ShowsLeaf, path_inputs_for};
 ghost use Rattle.warg_transparency.specs.Views.{GoesOn, IsLogOf};
 
-use warg_replay::audited_log::laws::equal_heads;
 use warg_merkle::consistency_paths;
 use warg_registry::laws::no_encoding_begins_another;
 use warg_replay::Validator;
+use warg_replay::audited_log::laws::equal_heads;
 
 /// What an accepted proof of hashes of 32 bytes says of every log of the length and root, and of every map of the root: what
 /// it shows is so, and it is the log's or the map's own proof, or what is hashed for the two collides.

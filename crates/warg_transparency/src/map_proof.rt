@@ -50,7 +50,10 @@ fn fault_of(error: MapProofError) -> ProofTextError
 }
 
 // Whether the short forms are of one path: a path has one short form.
-fn is_same(short: &warg_merkle::map_proof::MapProof, other: &warg_merkle::map_proof::MapProof) -> bool
+fn is_same(
+    short: &warg_merkle::map_proof::MapProof,
+    other: &warg_merkle::map_proof::MapProof,
+) -> bool
     ensures { result ≡ pointwise bytes_eq short.now other.now }
 {
     short.as_bytes() == other.as_bytes()

@@ -5,7 +5,10 @@ use std::alloc::{AllocError, Global};
 use std::process::Abort;
 use std::test::Fail;
 use warg_crypto::{Decode, DecodeError};
-use warg_envelope::{ProtoEnvelope, ProtoEnvelopeBody, PublishedProtoEnvelope, PublishedProtoEnvelopeBody, Record, SerdeEnvelope};
+use warg_envelope::{
+    ProtoEnvelope, ProtoEnvelopeBody, PublishedProtoEnvelope, PublishedProtoEnvelopeBody, Record,
+    SerdeEnvelope,
+};
 use warg_log_records::operator::OperatorRecord;
 use warg_log_records::package::PackageRecord;
 

@@ -5,10 +5,10 @@ ghost use Rattle.std.specs.Prelude.{◌≡◌};
 use crate::samples::empty_hash;
 use std::alloc::{AllocError, Global};
 use std::process::Abort;
+use warg_crypto::time::{Clock, TimeError, Timestamp};
 use warg_crypto::{ByteVisitor, VisitBytes};
 use warg_log_records::RecordId;
 use warg_registry::{Checkpoint, LogId, LogLeaf, MapLeaf, PackageName, TimestampedCheckpoint};
-use warg_crypto::time::{Clock, TimeError, Timestamp};
 
 fn checkpoint() -> Checkpoint {
     Checkpoint {

@@ -3,11 +3,11 @@
 use crate::samples::{alice, empty_hash};
 use std::alloc::Global;
 use std::test::Fail;
-use warg_crypto::signing::{KeyID, Signature};
-use warg_envelope::SerdeEnvelope;
 use warg_crypto::json::{JsonError, JsonValue};
-use warg_registry::{Checkpoint, TimestampedCheckpoint};
+use warg_crypto::signing::{KeyID, Signature};
 use warg_crypto::time::Timestamp;
+use warg_envelope::SerdeEnvelope;
+use warg_registry::{Checkpoint, TimestampedCheckpoint};
 
 fn timestamped() -> TimestampedCheckpoint {
     TimestampedCheckpoint {

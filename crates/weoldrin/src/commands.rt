@@ -13,20 +13,20 @@ ghost use Rattle.tool_answers.specs.Verdicts.{IsPrintedOf};
 
 use crate::looks::laid_out;
 use std::alloc::{AllocError, Global};
-use warg_audit::LogType;
-use tool_checkpoints::{prove_answer, verify_answer};
-use warg_audit::files::answer::Answer;
-use warg_audit::files::input::{Store, read_input};
-use warg_audit::files::stop::{Stop, settled};
-use tool_layout::Look;
-use warg_protocol::signing::Verifier;
-use warg_protocol::{VersionReq, operator, package};
-use tool_questions::question_answer;
-use tool_questions::show::show_of_file;
 use tool_changes::{
     Audit, audits_answer, id_answer, json_answer, latest_answer, requirement_of, task_answer,
 };
+use tool_checkpoints::{prove_answer, verify_answer};
+use tool_layout::Look;
+use tool_questions::question_answer;
+use tool_questions::show::show_of_file;
 use tool_words::{Invocation, Question, Request, Task};
+use warg_audit::LogType;
+use warg_audit::files::answer::Answer;
+use warg_audit::files::input::{Store, read_input};
+use warg_audit::files::stop::{Stop, settled};
+use warg_protocol::signing::Verifier;
+use warg_protocol::{VersionReq, operator, package};
 
 // The log of a kind in words.
 fn shown_answer<V: Verifier, S: Store>(

@@ -5,9 +5,9 @@ ghost use Rattle.warg_audit.specs.Files.Answers.{answer_view};
 ghost use Rattle.weoldrin.specs.Looks.{coloured, laid_out, layout_of, layout_of_question};
 
 use std::alloc::{AllocError, Global};
-use warg_audit::files::answer::Answer;
 use tool_layout::{Look, chain_layout, log_layout, painted};
 use tool_words::{Question, Request};
+use warg_audit::files::answer::Answer;
 
 // The text that a question is answered, laid out.
 fn question_layout(

@@ -11,11 +11,11 @@ ghost use Rattle.weoldrin.specs.Requests.{InvocationLeaves, IsInvocationAnswer};
 use crate::verified::{answer_in, given_end};
 use std::alloc::{AllocError, Global};
 use std::str;
+use tool_layout::{Look, NameFault, Names, NamesParseError};
+use tool_words::Invocation;
 use warg_audit::files::answer::Answer;
 use warg_audit::files::input::{Input, Store, file_stop, line_sentence, read_input};
 use warg_audit::files::stop::{Stop, unusable};
-use tool_layout::{Look, NameFault, Names, NamesParseError};
-use tool_words::Invocation;
 
 fn name_sentence(alloc: Global, path: &str, error: NamesParseError) -> Result<String, AllocError> {
     let fault = format!(in alloc; "{}", error.fault)?;

@@ -14,13 +14,13 @@ use crate::commands::{given, respond};
 use crate::schemes::KnownSchemes;
 use std::alloc::{AllocError, Global};
 use std::str;
+use tool_layout::Look;
+use tool_words::Invocation;
 use warg_audit::files::answer::Answer;
 use warg_audit::files::input::{Input, Store, file_stop, line_sentence, read_input};
 use warg_audit::files::stop::{Stop, unusable};
-use tool_layout::Look;
-use warg_protocol::p256::KnownKeys;
 use warg_claims::verified::{ClaimParseError, Verified, VerifiedParseError};
-use tool_words::Invocation;
+use warg_protocol::p256::KnownKeys;
 
 fn claim_sentence(
     alloc: Global,

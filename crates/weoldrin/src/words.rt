@@ -10,8 +10,8 @@ ghost use Rattle.weoldrin.specs.Requests.{IsGivenAs};
 
 use crate::commands::given;
 use std::alloc::{AllocError, Global};
-use warg_audit::files::answer::{Answer, UNUSABLE};
 use tool_words::{Invocation, Said, asks_for_json, named_command};
+use warg_audit::files::answer::{Answer, UNUSABLE};
 
 /// What the words say: a request, or what is answered at once, as help.
 #[derive(Debug, Drop)]

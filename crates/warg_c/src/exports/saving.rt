@@ -22,8 +22,8 @@ use std::alloc::Global;
 use warg_crypto::json::JsonError;
 use warg_operator_log::LogState as OperatorState;
 use warg_package_log::LogState as PackageState;
-use warg_saved_states::JsonTextError;
 use warg_replay::PersistentState;
+use warg_saved_states::JsonTextError;
 
 // A state as a text of JSON.
 fn state_text<L: PersistentState>(alloc: Global, state: &L) -> Result<Vec<u8>, Failure>

@@ -15,8 +15,8 @@ use serde_json::{Map, Value};
 use std::alloc::Global;
 use warg_crypto::json::members::{member_in, members_in, object_value, put_value};
 use warg_crypto::json::{JsonError, JsonValue};
-use warg_log_records::RecordId;
 use warg_crypto::time::Timestamp;
+use warg_log_records::RecordId;
 
 /// Puts the version, unless it is 0.
 fn put_version(map: &mut Map<String, Value>, alloc: Global, version: u32) -> Result<(), JsonError>

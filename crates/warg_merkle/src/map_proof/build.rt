@@ -6,10 +6,10 @@ ghost use Rattle.sha2.specs.Sha256.{sha256};
 ghost use Rattle.warg_merkle.specs.SparseMap.Maps.{empty_root};
 ghost use Rattle.warg_merkle.specs.MapProof.ShortForms.{is_left_out, others_of};
 
-use sha2::{Digest, Sha256};
-use std::alloc::AllocError;
 use crate::node_hash;
 use crate::sparse_map::is_right;
+use sha2::{Digest, Sha256};
+use std::alloc::AllocError;
 
 // Whether the hashes are equal.
 pub(crate) fn is_same_hash(left: &[u8; 32], right: &[u8; 32]) -> bool

@@ -5,9 +5,9 @@ ghost use Rattle.sha2.specs.Sha256.{sha256};
 ghost use Rattle.warg_merkle.specs.MapProof.ShortForms.{others_count, IsCanonical};
 
 use crate::map_proof::build::is_same_hash;
-use sha2::{Digest, Sha256};
 use crate::node_hash;
 use crate::sparse_map::is_right;
+use sha2::{Digest, Sha256};
 
 // How many siblings the bits do not leave out.
 pub(crate) fn others_count(left_out: &[u8; 32]) -> usize

@@ -8,9 +8,9 @@ ghost use Rattle.warg_merkle.specs.SparseMap.Maps.{is_right, sides_up, map_root,
 ghost use Rattle.warg_merkle.specs.MapProof.ShortForms.{is_left_out, others_above};
 
 use crate::map_proof::map_proof::MapProof;
-use sha2::{Digest, Sha256};
-use crate::{leaf_hash, node_hash};
 use crate::sparse_map::is_right;
+use crate::{leaf_hash, node_hash};
+use sha2::{Digest, Sha256};
 
 // The hash above a hash on the key's way up and its sibling; the depth is the node's from the root.
 fn hash_above(key: &[u8; 32], depth: usize, hash: &[u8; 32], sibling: &[u8; 32]) -> [u8; 32]

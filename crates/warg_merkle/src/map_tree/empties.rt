@@ -4,9 +4,9 @@ ghost use Rattle.std.specs.Prelude.{◌≡◌, IfOk};
 ghost use Rattle.sha2.specs.Sha256.{sha256};
 ghost use Rattle.warg_merkle.specs.MapTree.Nodes.{empty_roots};
 
+use crate::node_hash;
 use sha2::{Digest, Sha256};
 use std::alloc::{AllocError, Global};
-use crate::node_hash;
 
 // The roots of empty subtrees of each height up to 256.
 pub(crate) fn empty_roots(alloc: Global) -> Result<Vec<[u8; 32]>, AllocError>

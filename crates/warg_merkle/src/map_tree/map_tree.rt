@@ -8,10 +8,10 @@ ghost use Rattle.warg_merkle.specs.SparseMap.Maps.{way_down, map_root, map_path,
 ghost use Rattle.warg_merkle.specs.MapTree.Nodes.{empty_roots, map_count, Sets};
 ghost use Rattle.warg_merkle.specs.MapTree.Stored.{IsHashed, IsHashed-prop, leaf_count};
 
+use crate::map_proof::MapProof;
 use crate::map_tree::empties::empty_roots;
 use crate::map_tree::node::Node;
 use std::alloc::{AllocError, Global};
-use crate::map_proof::MapProof;
 
 /// A map from keys of 256 bits to bytes, as a sparse Merkle tree whose nodes are stored.
 ///

@@ -8,10 +8,10 @@ ghost use Rattle.warg_merkle.specs.SparseMap.Maps.{map_path, empty_root};
 ghost use Rattle.warg_merkle.specs.MapTree.Nodes.{empty_roots, below, side_at, way_from, Sets};
 ghost use Rattle.warg_merkle.specs.MapTree.Stored.{value_at, leaf_count, stored_root, IsHashed};
 
+use crate::sparse_map::is_right;
+use crate::{leaf_hash, node_hash};
 use std::alloc::{AllocError, Global};
 use std::mem;
-use crate::{leaf_hash, node_hash};
-use crate::sparse_map::is_right;
 
 // A subtree: an empty one has no node.
 #[cycle(node)]

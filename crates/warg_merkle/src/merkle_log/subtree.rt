@@ -6,9 +6,9 @@ ghost use Rattle.warg_merkle.specs.Trees.{left_size, tree_hash, inclusion_path};
 ghost use Rattle.warg_merkle.specs.Extensions.{subproof};
 ghost use Rattle.warg_merkle.specs.MerkleLog.Logs.{hash_of_nodes, whole_roots};
 
+use crate::node_hash;
 use sha2::{Digest, Sha256};
 use std::alloc::{AllocError, Global};
-use crate::node_hash;
 
 // How many leaves stand in the left part of a tree: the largest power of two below their number.
 pub fn left_size(size: usize) -> usize

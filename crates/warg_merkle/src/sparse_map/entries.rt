@@ -5,8 +5,8 @@ ghost use Rattle.sha2.specs.Sha256.{sha256};
 ghost use Rattle.warg_merkle.specs.Trees.{Side, climb};
 ghost use Rattle.warg_merkle.specs.SparseMap.Maps.{is_right, sides_up, map_root, Leads, IsOwn};
 
-use sha2::{Digest, Sha256};
 use crate::{leaf_hash, node_hash};
+use sha2::{Digest, Sha256};
 
 /// Whether the key goes right at that depth, counted from the root: the first bit of the first byte is at the root.
 pub fn is_right(key: &[u8; 32], depth: usize) -> bool

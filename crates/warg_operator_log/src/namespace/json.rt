@@ -13,7 +13,9 @@ ghost use Rattle.warg_saved_states.specs.Writes.{WritesText};
 use crate::namespace::NamespaceState;
 use serde_json::{Map, Value};
 use std::alloc::Global;
-use warg_crypto::json::members::{member_in, object_value, put_member, put_value, text_in, text_value};
+use warg_crypto::json::members::{
+    member_in, object_value, put_member, put_value, text_in, text_value,
+};
 use warg_crypto::json::{JsonError, JsonValue};
 use warg_saved_states::{SavedValue, Writer};
 

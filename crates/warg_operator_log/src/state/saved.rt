@@ -24,12 +24,12 @@ use indexmap::IndexMap;
 use serde_json::{Map, Value};
 use std::alloc::Global;
 use warg_crypto::hash::HashAlgorithm;
-use warg_crypto::signing::{KeyID, PublicKey};
 use warg_crypto::json::members::object_value;
 use warg_crypto::json::{Incoherence, JsonError, JsonValue};
+use warg_crypto::signing::{KeyID, PublicKey};
 use warg_log::{Head, Log, head_member, head_version, put_head, put_head_text};
-use warg_permissions::PermissionSet;
 use warg_log_records::operator::Permission;
+use warg_permissions::PermissionSet;
 use warg_registry::PackageName;
 use warg_saved_states::{
     JsonTextError, MemberTexts, algorithm_member, are_no_keys, check_begun, check_empty,

@@ -18,14 +18,14 @@ use semver::Version;
 use serde_json::{Map, Value};
 use std::alloc::Global;
 use warg_crypto::hash::AnyHash;
-use warg_crypto::signing::KeyID;
 use warg_crypto::json::members::{
     member_in, object_value, put_member, put_value, string_value, text_in, text_value,
 };
 use warg_crypto::json::{JsonError, JsonValue};
+use warg_crypto::signing::KeyID;
+use warg_crypto::time::Timestamp;
 use warg_log_records::RecordId;
 use warg_saved_states::SavedName;
-use warg_crypto::time::Timestamp;
 
 /// The text of the version.
 fn version_value(alloc: Global, version: &Version) -> Result<Value, JsonError>

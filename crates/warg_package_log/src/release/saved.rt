@@ -15,10 +15,10 @@ use crate::release::{Release, ReleaseState};
 use serde_json::Value;
 use std::alloc::Global;
 use warg_crypto::hash::AnyHash;
-use warg_crypto::signing::KeyID;
 use warg_crypto::json::{JsonError, JsonValue};
-use warg_saved_states::{SavedValue, Writer};
+use warg_crypto::signing::KeyID;
 use warg_crypto::time::Timestamp;
+use warg_saved_states::{SavedValue, Writer};
 
 /// Refuses a time before the epoch.
 fn check_time(time: &Timestamp) -> Result<(), JsonError>

@@ -8,6 +8,7 @@ ghost use Rattle.std.specs.Option.{option_map};
 ghost use Rattle.std.specs.Str.{bytes_eq};
 ghost use Rattle.warg_permissions.specs.KeyMaps.KeyEntries.{key_data};
 
+use crate::{LogPermission, PermissionSet};
 use indexmap::map::Iter;
 use indexmap::{IndexMap, IndexSet};
 use std::alloc::AllocError;
@@ -15,7 +16,6 @@ use std::fmt;
 use std::iter::FusedIterator;
 use std::marker::Model;
 use warg_crypto::signing::{KeyID, PublicKey};
-use crate::{LogPermission, PermissionSet};
 
 /// A key of a log.
 #[derive(Clone, Copy, Debug)]

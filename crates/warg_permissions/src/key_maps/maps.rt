@@ -15,10 +15,10 @@ ghost use Rattle.warg_permissions.specs.KeyMaps.Rights.{value_over, held_over, h
 use crate::key_maps::keys::Keys;
 use crate::key_maps::map_changes::{lay_over, make_room};
 use crate::key_maps::rights::{self, Standing};
+use crate::{LogPermission, PermissionSet};
 use indexmap::IndexMap;
 use std::alloc::{AllocError, Global};
 use warg_crypto::signing::{KeyID, PublicKey};
-use crate::{LogPermission, PermissionSet};
 
 /// The maps of an authority, or of changes of one: by key id, the permissions and the keys.
 #[derive(Drop)]

@@ -9,10 +9,10 @@ ghost use Rattle.warg_permissions.specs.Permissions.{lists};
 ghost use Rattle.warg_permissions.specs.KeyMaps.Rights.{is_listed, holds_in, value_over, held_over, has_entry_over, first_missing};
 
 use crate::key_maps::sharing::{find_shared, share};
+use crate::{LogPermission, PermissionSet};
 use indexmap::{IndexMap, IndexSet};
 use std::alloc::{AllocError, Global};
 use warg_crypto::signing::KeyID;
-use crate::{LogPermission, PermissionSet};
 
 /// The permissions that stand before a record, by key id, and the sets that keys share.
 #[derive(Clone, Copy)]

@@ -1,9 +1,9 @@
 //! Sets of permissions that keys share.
 ghost use Rattle.std.specs.Prelude.{◌≡◌, IfOk, IfSome};
 
+use crate::{LogPermission, PermissionSet};
 use indexmap::IndexSet;
 use std::alloc::{AllocError, Global};
-use crate::{LogPermission, PermissionSet};
 
 /// The first of the sets that lists just these permissions, in this order.
 fn find_set<'a, P: LogPermission>(

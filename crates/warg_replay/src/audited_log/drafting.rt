@@ -10,10 +10,10 @@ ghost use Rattle.warg_replay.specs.AuditedLog.Ledgers.{number_at, number_over, I
 
 use crate::audited_log::ledger::{Gift, Holdings, Ledger, number_of, put_number};
 use crate::audited_log::link::Link;
+use crate::{Effect, Validator};
 use std::alloc::{AllocError, Global};
 use warg_crypto::signing::KeyID;
 use warg_envelope::ProtoEnvelope;
-use crate::{Effect, Validator};
 
 /// The number of the gift by which the signer holds the permission of each event, if it does.
 fn signer_numbers<P: Copy + Eq>(

@@ -13,10 +13,10 @@ ghost use Rattle.warg_replay.specs.declared.audited_log.comparison.Comparison.{C
 ghost use Rattle.warg_replay.specs.declared.audited_log.heads.HeadComparison.{HeadComparison};
 ghost use Rattle.warg_replay.specs.declared.audited_log.link.Link.{Link};
 
+use crate::Validator;
 use crate::audited_log::comparison::Comparison;
 use crate::audited_log::heads::HeadComparison;
 use crate::audited_log::link::Link;
-use crate::Validator;
 
 /// Accepted logs with equal heads have equal content bytes, record for record, or two of their records
 /// collide, whoever verified them.

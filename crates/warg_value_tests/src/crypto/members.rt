@@ -2,7 +2,9 @@
 
 use crate::crypto::values::is;
 use serde_json::Map;
-use warg_crypto::json::members::{object_value, optional, put_member, put_optional, put_value, text_value};
+use warg_crypto::json::members::{
+    object_value, optional, put_member, put_optional, put_value, text_value,
+};
 
 #[test]
 fn put_members(rt: HostRuntime) {

@@ -3,9 +3,9 @@
 use crate::crypto::values::is;
 use std::alloc::AllocError;
 use std::process::Abort;
+use warg_crypto::json::JsonError;
 use warg_crypto::signing::{KeyParseError, SignatureError, SignatureParseError};
 use warg_crypto::{DecodeError, WireFault};
-use warg_crypto::json::JsonError;
 
 fn wire_becomes(rt: &impl Abort, fault: WireFault, want: DecodeError) {
     is(rt, DecodeError::from(fault), want);

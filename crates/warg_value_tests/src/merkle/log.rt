@@ -3,8 +3,8 @@
 use crate::merkle::known::{ENTRIES, PATH_2_OF_3, PATH_5_OF_8, is_path, root};
 use std::alloc::{AllocError, Global};
 use std::test::Fail;
-use warg_merkle::{verify_consistency, verify_inclusion};
 use warg_merkle::merkle_log::LogTree;
+use warg_merkle::{verify_consistency, verify_inclusion};
 
 // A log of the first entries.
 fn log_of(alloc: Global, count: usize) -> Result<LogTree, AllocError> {

@@ -13,9 +13,11 @@ use base64::DecodeAllocError;
 use base64::engine::general_purpose::STANDARD;
 use serde_json::{Map, Value};
 use std::alloc::Global;
-use warg_crypto::signing::{KeyID, Signature};
-use warg_crypto::json::members::{member_in, object_value, put_member, put_value, string_value, text_in};
+use warg_crypto::json::members::{
+    member_in, object_value, put_member, put_value, string_value, text_in,
+};
 use warg_crypto::json::{JsonError, JsonValue};
+use warg_crypto::signing::{KeyID, Signature};
 
 /// The bytes as a text in base64.
 fn bytes_value(alloc: Global, bytes: &[u8]) -> Result<Value, JsonError>
