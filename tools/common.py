@@ -1,4 +1,5 @@
-"""What the tools share: their help, the built programs, the examples, the logs of make_log, and runs that are measured."""
+"""What the tools share: their help, the built programs, the examples, the logs of make_log, and runs that are
+measured."""
 import argparse
 import hashlib
 import os
@@ -8,14 +9,15 @@ import shutil
 import subprocess
 import sys
 import tempfile
-from typing import NamedTuple
+from collections.abc import Sequence
+from typing import IO, NamedTuple
 
 ROOT = pathlib.Path(__file__).resolve().parent.parent
 
 
 class Product(NamedTuple):
-    """What dist/ has: its name, its files there, the crate that they are built from and what is built of it in that crate's
-    out/, its manifest in dist/, and the source that names its version."""
+    """What dist/ has: its name, its files there, the crate that they are built from and what is built of it in that
+    crate's out/, its manifest in dist/, and the source that names its version."""
 
     name: str
     files: tuple[str, ...]
@@ -44,65 +46,78 @@ class Product(NamedTuple):
 PRODUCTS = {
     it.name: it
     for it in [
-        Product("warg_audit", ("warg_audit",), "warg_audit_main", "", "MANIFEST", "crates/warg_audit/src/information.rt"),
-        Product("weoldrin", ("weoldrin",), "weoldrin_main", "", "MANIFEST.weoldrin", "crates/tool_words/src/version.rt"),
-        Product("libwarg", ("libwarg.a", "libwarg.so", "warg.pc"), "warg_c", "c", "MANIFEST.libwarg", "crates/warg_c/src/exports/version.rt"),
+        Product(
+            "warg_audit", ("warg_audit",), "warg_audit_main", "", "MANIFEST", "crates/warg_audit/src/information.rt"
+        ),
+        Product(
+            "weoldrin", ("weoldrin",), "weoldrin_main", "", "MANIFEST.weoldrin", "crates/tool_words/src/version.rt"
+        ),
+        Product(
+            "libwarg",
+            ("libwarg.a", "libwarg.so", "warg.pc"),
+            "warg_c",
+            "c",
+            "MANIFEST.libwarg",
+            "crates/warg_c/src/exports/version.rt",
+        ),
     ]
 }
 # The program that the examples, the fuzzer and the benchmarks run.
 BUILT = PRODUCTS["warg_audit"].built()["warg_audit"]
 
 
-def words_of(doc: str | None) -> argparse.ArgumentParser:
+def argument_parser(doc: str | None) -> argparse.ArgumentParser:
     """A parser of a tool's words, whose help is the tool's docstring."""
     return argparse.ArgumentParser(description=doc, formatter_class=argparse.RawDescriptionHelpFormatter)
 
 
-def stands_on(name, found=None):
-    """The crate and all crates of the repository that it stands on, by crates.txt."""
+def dependencies(name: str, found: set[str] | None = None) -> set[str]:
+    """The crate and all crates of the repository that it uses, directly or not, by crates.txt."""
     found = set() if found is None else found
     lines = (line.partition(":") for line in (ROOT / "crates.txt").read_text(encoding="utf-8").splitlines())
     below = {crate.split()[0]: words.split() for crate, colon, words in lines if colon}
     if name in below and name not in found:
         found.add(name)
         for word in below[name]:
-            stands_on(word, found)
+            dependencies(word, found)
     return found
 
 
-def copied(crates, to):
+def copied(crates: set[str], to: pathlib.Path) -> None:
     """Lays a repository of these crates alone anew in a folder, without their must-fail edits."""
     shutil.rmtree(to, ignore_errors=True)
     (to / "crates").mkdir(parents=True)
     for crate in crates:
-        shutil.copytree(ROOT / "crates" / crate, to / "crates" / crate, ignore=shutil.ignore_patterns("out", "must-fail"))
+        ignored = shutil.ignore_patterns("out", "must-fail")
+        shutil.copytree(ROOT / "crates" / crate, to / "crates" / crate, ignore=ignored)
     lines = (ROOT / "crates.txt").read_text(encoding="utf-8").splitlines(keepends=True)
-    (to / "crates.txt").write_text("".join(it for it in lines if it.partition(":")[0].partition(" ")[0] in crates), encoding="utf-8")
+    kept = (it for it in lines if it.partition(":")[0].partition(" ")[0] in crates)
+    (to / "crates.txt").write_text("".join(kept), encoding="utf-8")
     shutil.copy(ROOT / "HANDLES", to)
 
 
-def room_of(name):
+def cache_folder(name: str) -> pathlib.Path:
     """A folder of this name in the user's cache, one for each checkout."""
     cache = pathlib.Path(os.environ.get("XDG_CACHE_HOME") or pathlib.Path.home() / ".cache")
     return cache / "weoldrin" / f"{name}-{hashlib.sha256(str(ROOT).encode()).hexdigest()[:16]}"
 
 
-def is_older(program, name):
-    """Whether a source of the program, or of a crate that it stands on, is newer than it."""
+def is_older(program: pathlib.Path, name: str) -> bool:
+    """Whether a source of the program, or of a crate that it uses, is newer than it."""
     made = program.stat().st_mtime
-    folders = [ROOT / "crates" / crate / part for crate in stands_on(name) for part in ("src", "specs", "proofs")]
+    folders = [ROOT / "crates" / crate / part for crate in dependencies(name) for part in ("src", "specs", "proofs")]
     return any(path.stat().st_mtime > made for folder in folders for path in folder.rglob("*") if path.is_file())
 
 
-def built(name):
-    """The program of this crate, proved and built first where it does not stand there yet. One that is older than its sources
-    is taken as it stands, with a warning."""
+def built(name: str) -> pathlib.Path:
+    """The program of this crate, proved and built first where it is not there yet. One that is older than its sources
+    is taken as it is, with a warning."""
     program = ROOT / f"crates/{name}/out/{name}"
     if not program.exists():
         print(f"{name} is not built: it is proved and built first", file=sys.stderr)
-        command = [ROOT / "bin/prove"] if name == "warg_audit_main" else ["rt", "run"]
+        command = [str(ROOT / "bin/prove")] if name == "warg_audit_main" else ["rt", "run"]
         try:
-            subprocess.run(command, cwd=ROOT / f"crates/{name}", stdin=subprocess.DEVNULL, stdout=subprocess.DEVNULL, check=False)
+            run_silently(command, ROOT / f"crates/{name}")
         except OSError as error:
             print(error, file=sys.stderr)
     if not program.exists():
@@ -112,10 +127,17 @@ def built(name):
     return program
 
 
-def program_of(name, stands, line):
-    """The built program of a folder beside this tool, over a copy of the crates that it stands on."""
-    folder, sources = room_of(name), sorted((ROOT / "tools" / name).glob("*.rs"))
-    crates = set().union(*(stands_on(it) for it in stands))
+def run_silently(command: list[str], folder: pathlib.Path) -> None:
+    """Runs a command in a folder, with what it says on standard error passed on alone."""
+    subprocess.run(command, cwd=folder, stdin=subprocess.DEVNULL, stdout=subprocess.DEVNULL, check=False)
+
+
+def bench_program(part: str, words: str) -> pathlib.Path:
+    """The built program of a folder of tools/bench, over a copy of the crates that it uses. The words are those of its
+    line in crates.txt."""
+    name = f"bench_{part}"
+    folder, sources = cache_folder(name), sorted((ROOT / "tools/bench" / part).glob("*.rs"))
+    crates = dependencies("warg_protocol")
     newest = max(path.stat().st_mtime for it in crates for path in (ROOT / "crates" / it / "src").rglob("*.rt"))
     made = folder / f"crates/{name}/out/{name}"
     if not made.exists() or made.stat().st_mtime < max(newest, *(it.stat().st_mtime for it in sources)):
@@ -123,9 +145,9 @@ def program_of(name, stands, line):
         (folder / f"crates/{name}/src").mkdir(parents=True)
         for it in sources:
             shutil.copy(it, folder / f"crates/{name}/src" / it.with_suffix(".rt").name)
-        with open(folder / "crates.txt", "a", encoding="utf-8") as it:
-            it.write(f"{name}: {line}\n")
-        subprocess.run(["rt", "run"], cwd=made.parent.parent, stdin=subprocess.DEVNULL, stdout=subprocess.DEVNULL, check=False)
+        with open(folder / "crates.txt", "a", encoding="utf-8") as lines:
+            lines.write(f"{name}: {words}\n")
+        run_silently(["rt", "run"], made.parent.parent)
     if not made.exists():
         raise SystemExit(f"{name} could not be built")
     return made
@@ -135,31 +157,39 @@ class Example(NamedTuple):
     """An example: its name, the program's words, its input, what is printed, and the exit status."""
 
     name: str
-    words: list
+    words: list[str]
     data: bytes
     printed: bytes
     status: int
 
 
-def examples():
+def examples() -> list[Example]:
     """The examples in the order of their names. Their exit statuses are those of the table in examples/README.md."""
     folder = ROOT / "examples"
     table = (folder / "README.md").read_text(encoding="utf-8")
     statuses = dict(re.findall(r"^\| `(\w+)` \|.*\| (\d+) \|$", table, re.M))
     names = {path.stem for path in folder.glob("*.hex")}
     if names != statuses.keys():
-        raise SystemExit(f"not both a file and a row of examples/README.md: {', '.join(sorted(names ^ statuses.keys()))}")
+        alone = ", ".join(sorted(names ^ statuses.keys()))
+        raise SystemExit(f"not both a file and a row of examples/README.md: {alone}")
     return [example(folder / name, int(statuses[name])) for name in sorted(names)]
 
 
-def example(path, status):
+def example(path: pathlib.Path, status: int) -> Example:
+    """The example of this path without a suffix."""
     words = path.with_suffix(".args").read_text(encoding="utf-8").split()
-    return Example(path.name, words, path.with_suffix(".hex").read_bytes(), path.with_suffix(".out").read_bytes(), status)
+    data, printed = path.with_suffix(".hex").read_bytes(), path.with_suffix(".out").read_bytes()
+    return Example(path.name, words, data, printed, status)
 
 
-def make_log(*words, to=subprocess.PIPE):
-    """What make_log prints for these words, or nothing where it is written to a file."""
-    return subprocess.run([ROOT / "tools/make_log", *words], stdout=to, check=True).stdout
+def make_log(*words: str) -> bytes:
+    """What make_log prints for these words."""
+    return subprocess.run([ROOT / "tools/make_log", *words], stdout=subprocess.PIPE, check=True).stdout
+
+
+def write_log(to: IO[bytes], *words: str) -> None:
+    """Writes what make_log prints for these words to a file."""
+    subprocess.run([ROOT / "tools/make_log", *words], stdout=to, check=True)
 
 
 class Run(NamedTuple):
@@ -171,9 +201,9 @@ class Run(NamedTuple):
     memory: float
 
 
-def measured(command, name):
-    """Runs the command on the file of this name. Who calls this must not hold much: a program's peak of memory is at least
-    that of the process that starts it."""
+def measured(command: Sequence[str | pathlib.Path], name: str) -> Run:
+    """Runs the command on the file of this name. Who calls this must not hold much: a program's peak of memory is at
+    least that of the process that starts it."""
     with open(name, "rb") as given, tempfile.TemporaryFile() as printed:
         process = subprocess.Popen(command, stdin=given, stdout=printed)
         _, status, used = os.wait4(process.pid, 0)

@@ -35,14 +35,17 @@ def span_at(file: str, lines: list[str], at: int) -> Span | None:
     for start in range(at, -1, -1):
         head = re.match(r"( *)(?:pub(?:\([a-z]+\))? )?(?:const )?(?:extern \"C\" )?fn (\w+)", lines[start])
         if head:
-            ends = (i for i in range(start, len(lines)) if re.match(head[1] + r"}|" + head[1] + r"\S.*(;|})$", lines[i]))
+            ends = (
+                i for i in range(start, len(lines)) if re.match(head[1] + r"}|" + head[1] + r"\S.*(;|})$", lines[i])
+            )
             end = next(ends, len(lines))
             return Span(file, start + 1, end + 1, head[2]) if at <= end else None
     return None
 
 
 class Edit:
-    """A wrong body: its name, its crate, the function that its path names, if any, and the texts that it changes by file."""
+    """A wrong body: its name, its crate, the function that its path names, if any, and the texts that it changes by
+    file."""
 
     def __init__(self, path: str, crate: str, function: str | None) -> None:
         self.name, self.crate, self.function = os.path.relpath(path, ROOT), crate, function
@@ -77,7 +80,8 @@ class Edit:
 
     @functools.cached_property
     def span(self) -> Span | None:
-        """The one function that holds all lines of the edit but those of its own proof, if one does. The edit was made before."""
+        """The one function that holds all lines of the edit but those of its own proof, if one does. The edit was made
+        before."""
         own = f"proofs/{self.proofs()}/"
         places = [it for it in self.places if not it[0].startswith(own)]
         spans = {span_at(file, text.split("\n"), text.count("\n", 0, at)) for file, text, at in places}
@@ -102,8 +106,9 @@ class Edit:
         return "/".join(self.function.split("::")[1:]) if self.function else None
 
     def check(self, folder: str) -> None:
-        """Refuses an edit that does not apply, or whose path names a function that is not there, or another than the one that
-        it changes. An edit of lines outside any function, as of a derive or a clause, changes more than one."""
+        """Refuses an edit that does not apply, or whose path names a function that is not there, or another than the
+        one that it changes. An edit of lines outside any function, as of a derive or a clause, changes more than
+        one."""
         self.made(folder)
         if not self.function:
             return

@@ -13,15 +13,15 @@ KEPT = r"^(?:\./)?proofs/(\S+)\.antt:\d+:\d+: error: (?:`([^`]+)`: )?(.*)"
 GONE = r"`goal\.[^`]*`: module .* has no |record .* has no field |no name that rattle asks for"
 OPEN = r"^note: (src/\S+?):(\d+):\d+: it is not proved (.*)"
 FALSE = "the facts known there allow values at which this goal is false"
-# What a function says that was not tried, since another was not proved. One that calls such a function is tried, by that
-# one's contract, and what is open in it is its own.
+# What a function says that was not tried, since another was not proved. One that calls such a function is tried, by
+# that one's contract, and what is open in it is its own.
 WAITS = r"which (is|are) not proved|it waits for the proof of|\Acould not tell"
 UNFOUND = "`search` did not prove"
 
 
 class Answer(NamedTuple):
-    """An error in a kept proof: its file below proofs/, the goal that it answers, if that was said, and whether it names
-    what is gone."""
+    """An error in a kept proof: its file below proofs/, the goal that it answers, if that was said, and whether it
+    names what is gone."""
 
     path: str
     goal: str
@@ -29,12 +29,17 @@ class Answer(NamedTuple):
     is_goal_gone: bool
 
     def is_of(self, edit: Edit) -> bool:
-        """Whether it is kept for the edit's function. Functions that call each other in a circle keep theirs in one folder."""
+        """Whether it is kept for the edit's function. Functions that call each other in a circle keep theirs in one
+        folder."""
         proofs, folder = edit.proofs(), os.path.dirname(self.path)
         if proofs is None or folder == proofs:
             return True
         module, name = os.path.split(proofs)
-        return os.path.dirname(folder) == module and os.path.basename(folder).startswith("+") and self.goal.startswith(f"{name}-")
+        return (
+            os.path.dirname(folder) == module
+            and os.path.basename(folder).startswith("+")
+            and self.goal.startswith(f"{name}-")
+        )
 
 
 class Said:
@@ -46,7 +51,8 @@ class Said:
         self.impls = dict(re.findall(r"^impl (\S+): (.*)", text, re.M))
         self.unread = set(re.findall(UNREAD, text, re.M))
         self.kept = [
-            Answer(path, goal, re.search(GONE, f"`{goal}`: {fault}") is not None, "`goal." in fault) for path, goal, fault in re.findall(KEPT, text, re.M)
+            Answer(path, goal, re.search(GONE, f"`{goal}`: {fault}") is not None, "`goal." in fault)
+            for path, goal, fault in re.findall(KEPT, text, re.M)
         ]
         self.open = [(file, int(line), FALSE in rest) for file, line, rest in re.findall(OPEN, text, re.M)]
 
@@ -67,7 +73,8 @@ class Said:
         return re.search(WAITS, text) is not None and UNFOUND not in text and not self.is_open(edit)
 
     def verdict_by_kept(self, edit: Edit) -> str:
-        """refused or MISFIT: it is one where the kept proof names what is gone, and nothing else is open than what it lost."""
+        """refused or MISFIT: it is one where the kept proof names what is gone, and nothing else is open than what it
+        lost."""
         own = [it for it in self.kept if it.is_of(edit)]
         gone = [it for it in own if it.is_gone]
         if any(it.path.endswith("Invariants") for it in gone):
@@ -86,13 +93,15 @@ class Said:
         return any(is_false for file, line, is_false in self.open if is_within((file, line, is_false), edit.span))
 
     def doubtful_answers(self, edit: Edit) -> list[Answer]:
-        """The answers of the edit's function that are refused, where nothing else shows that its contract is not met."""
+        """The answers of the edit's function that are refused, where nothing else shows that its contract is not
+        met."""
         own = [it for it in self.kept if it.is_of(edit)]
         is_by_answers = own and all(it.path.endswith("/Answers") for it in own) and self.is_open_by_kept(edit)
         return own if is_by_answers else []
 
     def refuted_laws(self) -> list[str]:
-        """The laws that are not proved, though all that they cite is: functions of laws, and impls, which have those of their trait."""
+        """The laws that are not proved, though all that they cite is: functions of laws, and impls, which have those of
+        their trait."""
         laws = {name: text for name, text in self.functions.items() if "laws" in name.split("::")} | self.impls
         return [name for name, text in laws.items() if text != "proved" and not re.search(WAITS, text)]
 

@@ -9,17 +9,20 @@ import os
 import pathlib
 import tomllib
 import zipfile
+from typing import Any
 
 HERE = pathlib.Path(__file__).resolve().parent
 LIBRARY = HERE.parent.parent / "dist/x86_64-linux/libwarg.so"
 TAG = "py3-none-linux_x86_64"
+Project = dict[str, Any]
 
 
-def _project() -> dict:
-    return tomllib.loads((HERE / "pyproject.toml").read_text(encoding="utf-8"))["project"]
+def _project() -> Project:
+    project: Project = tomllib.loads((HERE / "pyproject.toml").read_text(encoding="utf-8"))["project"]
+    return project
 
 
-def _metadata(project: dict) -> str:
+def _metadata(project: Project) -> str:
     lines = [
         "Metadata-Version: 2.1",
         f"Name: {project['name']}",
@@ -32,10 +35,11 @@ def _metadata(project: dict) -> str:
         lines.append(f"Provides-Extra: {extra}")
         lines += [f'Requires-Dist: {it}; extra == "{extra}"' for it in needed]
     lines.append("Description-Content-Type: text/markdown")
-    return "\n".join(lines) + "\n\n" + (HERE / project["readme"]).read_text(encoding="utf-8")
+    description = pathlib.Path(HERE, project["readme"]).read_text(encoding="utf-8")
+    return "\n".join(lines) + "\n\n" + description
 
 
-def _files(project: dict) -> dict[str, bytes]:
+def _files(project: Project) -> dict[str, bytes]:
     """All files of the wheel but the list of them."""
     library = pathlib.Path(os.environ.get("WEOLDRIN_LIBRARY") or LIBRARY)
     if not library.is_file():

@@ -5,9 +5,9 @@ from collections.abc import Iterator
 
 from p256.curve import ORDER
 from p256.forms import INTEGER, SEQUENCE, contents_of, element, integer, numbers_of, signature_of
+from p256.number_cases import some_points
 from p256.programs import Case
 from p256.signers import Group, case_for, some_signer
-from p256.number_cases import some_points
 
 
 def signed_cases(some: random.Random) -> list[Case]:

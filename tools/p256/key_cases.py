@@ -3,7 +3,7 @@ import hashlib
 import random
 from collections.abc import Callable, Iterator
 
-from p256.curve import B, ORDER, PRIME, lifted, multiple
+from p256.curve import ORDER, PRIME, B, lifted, multiple
 from p256.forms import compressed, public_key_info, signature_of, uncompressed
 from p256.programs import Case
 from p256.signers import Group, Signer, inverse, point_of_secret, some_signer

@@ -9,7 +9,6 @@ import pathlib
 from types import ModuleType
 
 from common import ROOT
-
 from p256.curve import BASE, ORDER, multiple
 from p256.forms import compressed, signature_of, uncompressed
 
@@ -65,11 +64,12 @@ class Key:
 
 
 class Line:
-    """A record's line in its parts: the content bytes, the id of the key, and the signature's bytes, of which there are none in
-    a record that is to be signed."""
+    """A record's line in its parts: the content bytes, the id of the key, and the signature's bytes, of which there are
+    none in a record that is to be signed."""
 
     def __init__(self, line: str) -> None:
         envelope = bytes.fromhex(line.split()[0])
+        self.content: bytes
         self.content, behind = sign.cut_field(1, envelope)
         key_id, behind = sign.cut_field(2, behind)
         signature = sign.cut_field(3, behind)[0] if behind else b""

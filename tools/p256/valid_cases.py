@@ -3,8 +3,8 @@ import random
 from collections.abc import Iterator, Sequence
 
 from p256.curve import ORDER
-from p256.mutations import Cases
 from p256.forms import signature_of
+from p256.mutations import Cases
 from p256.programs import Case, Program, Task
 from p256.signers import Group, Signer, some_signer
 

@@ -101,7 +101,8 @@ def is_mutual(place: Place, other: Place) -> bool:
     sections = specs.definition(place).sections
     if not sections or sections != specs.definition(other).sections:
         return False
-    return sections[-1][1][0].strip().endswith("mutual")
+    header: str = sections[-1][1][0]
+    return header.strip().endswith("mutual")
 
 
 def source(place: Place) -> str:

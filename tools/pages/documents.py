@@ -40,7 +40,7 @@ def texts() -> Iterator[Path]:
             yield path
 
 
-def without(pattern: re.Pattern, text: str) -> str:
+def without(pattern: re.Pattern[str], text: str) -> str:
     """The text with empty lines in place of what the pattern finds."""
     return pattern.sub(lambda it: "\n" * it[0].count("\n"), text)
 

@@ -23,8 +23,8 @@ class Item(NamedTuple):
     kind: str
     name: str
     is_public: bool
-    comments: list
-    lines: list
+    comments: list[str]
+    lines: list[str]
     file: str
     line: int
 

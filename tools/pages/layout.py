@@ -3,6 +3,7 @@ import functools
 import re
 import textwrap
 from collections.abc import Iterator
+from typing import Any
 
 from . import models, specs
 from .closure import Closure, source
@@ -106,7 +107,7 @@ class Meanings:
 
 def file_lines(places: list[Place]) -> Iterator[str]:
     """What is taken of a file, each section's line above the definitions that stand in it."""
-    within: tuple = ()
+    within: tuple[Any, ...] = ()
     for place in places:
         if place.kind == "rust":
             yield from type_lines(place)

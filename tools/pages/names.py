@@ -241,8 +241,8 @@ class Parts:
         header = "\n".join(lines[: end + 1]).strip().removesuffix("where").split(self.it.name, 1)[1]
         self.add(header, bound)
         inner = bound | params(header)
-        for member in joined_members(lines[end + 1 :], 2 * len(self.it.sections) + 2):
-            name, _, rest = member.strip().removeprefix("pub ").partition(" :")
+        for line in joined_members(lines[end + 1 :], 2 * len(self.it.sections) + 2):
+            name, _, rest = line.strip().removeprefix("pub ").partition(" :")
             self.add(rest, inner)
             if self.it.kind == "record":
                 inner = inner | {name}

@@ -5,7 +5,7 @@ from collections.abc import Iterator
 
 from . import items
 from .items import Item
-from .shared import ROOT, crates_below, stands_on
+from .shared import ROOT, crates_below, dependencies
 
 # The path of each item and module that was met, by its file and name, or by its file.
 Seen = dict[tuple[str, str] | str, str]
@@ -97,7 +97,7 @@ def impls(crate: str) -> list[tuple[str, tuple[str, str] | str, Item]]:
 
 @functools.cache
 def crates() -> list[str]:
-    below = stands_on("warg_protocol")
+    below = dependencies("warg_protocol")
     return [crate for crate in crates_below() if crate in below]
 
 

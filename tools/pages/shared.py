@@ -2,9 +2,9 @@
 
 All that the package takes from the other tools is imported here.
 """
-from common import ROOT, stands_on, words_of
+from common import ROOT, argument_parser, dependencies
 
-__all__ = ["ROOT", "crates_below", "stands_on", "words_of", "write_or_compare"]
+__all__ = ["ROOT", "crates_below", "dependencies", "argument_parser", "write_or_compare"]
 
 
 def crates_below() -> list[str]:

@@ -6,7 +6,7 @@ toolchain's own library is known by its path alone.
 import functools
 import re
 from collections.abc import Iterable, Iterator
-from typing import NamedTuple
+from typing import Any, NamedTuple
 
 from . import items
 from .items import Item
@@ -35,10 +35,10 @@ class Definition(NamedTuple):
     module: str
     kind: str
     name: str
-    comment: list
-    lines: list
-    sections: tuple
-    constructors: tuple
+    comment: list[str]
+    lines: list[str]
+    sections: tuple[Any, ...]
+    constructors: tuple[Any, ...]
     line: int
 
 
@@ -73,7 +73,7 @@ class Reader:
         # The comment lines above the next line, the sections that are open, the last definition, and the next one's
         # fixity.
         self.comment: list[str] = []
-        self.sections: list[tuple] = []
+        self.sections: list[tuple[Any, ...]] = []
         self.current: str | None = None
         self.fixity: list[str] = []
 

@@ -1,6 +1,5 @@
 """The statements of docs/HEADLINE.md: the functions with their clauses, and what the members of traits are."""
 import functools
-import re
 import textwrap
 from collections.abc import Iterable, Sequence
 

@@ -8,19 +8,7 @@ import sys
 import tempfile
 import unittest
 
-from weoldrin import (
-    Kind,
-    PackageLog,
-    Refusal,
-    Refused,
-    Verdict,
-    audit,
-    audit_many,
-    audit_new,
-    p256,
-    processes,
-    records,
-)
+from weoldrin import Kind, PackageLog, Refusal, Refused, Verdict, audit, audit_many, audit_new, p256, processes, records
 
 from . import published, toy
 

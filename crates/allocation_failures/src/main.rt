@@ -1,5 +1,5 @@
 //! Makes calls that take memory on a log of three records, and prints a line for each: what it answers, or the name of its
-//! error. `tools/check_refused_memory` runs it again and again, with another one of its requests for memory refused each time.
+//! error. `tools/checks/refused_memory` runs it again and again, with another one of its requests for memory refused each time.
 #![tactic(auto)]
 
 mod logs;

@@ -1,29 +1,8 @@
 """Checks the logs of a Warg package registry by a proved library, which verifies signatures of ECDSA P-256."""
 
 from .auditing import Refusal, Verdict, append_all, audit, audit_many, envelopes_of, processes
-from .errors import (
-    BadArgument,
-    Busy,
-    Error,
-    Forked,
-    NoEnvelope,
-    NotOpen,
-    OutOfMemory,
-    Refused,
-    UnknownAlgorithm,
-)
-from .faults import (
-    BadLine,
-    Empty,
-    Fault,
-    Missing,
-    RolledBack,
-    Rewritten,
-    SpoiledState,
-    Unfinished,
-    Unreadable,
-    Unsaved,
-)
+from .errors import BadArgument, Busy, Error, Forked, NoEnvelope, NotOpen, OutOfMemory, Refused, UnknownAlgorithm
+from .faults import BadLine, Empty, Fault, Missing, Rewritten, RolledBack, SpoiledState, Unfinished, Unreadable, Unsaved
 from .incremental import NewRecords, audit_new
 from .logs import (
     Comparison,

@@ -1,6 +1,7 @@
 """The words of the commands."""
 
 import argparse
+from collections.abc import Sequence
 from typing import Any, NoReturn
 
 from .printing import printable
@@ -9,8 +10,8 @@ from .printing import printable
 class Words(argparse.ArgumentParser):
     """Options have their whole names. Of words that can't be used a sentence is printed, whatever stands in them."""
 
-    def __init__(self, *words: Any, **kept: Any) -> None:
-        super().__init__(*words, allow_abbrev=False, **kept)
+    def __init__(self, **kept: Any) -> None:
+        super().__init__(allow_abbrev=False, **kept)
 
     def error(self, message: str) -> NoReturn:
         super().error(printable(message))
@@ -20,7 +21,11 @@ class Once(argparse.Action):
     """The value of an option that is given once."""
 
     def __call__(
-        self, parser: argparse.ArgumentParser, found: argparse.Namespace, value: Any, option: str | None = None
+        self,
+        parser: argparse.ArgumentParser,
+        found: argparse.Namespace,
+        value: str | Sequence[Any] | None,
+        option: str | None = None,
     ) -> None:
         """Keeps the value, unless there is one."""
         if getattr(found, self.dest) is not None:

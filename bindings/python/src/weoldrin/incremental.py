@@ -11,7 +11,7 @@ from typing import NamedTuple
 from ._files import RecordLine, held_beside, lines_of, open_regular, record_lines, replace
 from .auditing import Refusal, append_all, envelope_of, fault_of, with_cause
 from .errors import BadArgument
-from .faults import Empty, Fault, RolledBack, Rewritten, SpoiledState, Unfinished, Unsaved
+from .faults import Empty, Fault, Rewritten, RolledBack, SpoiledState, Unfinished, Unsaved
 from .logs import Kind, Log, Verify, class_of, kind_of
 from .printing import printable
 

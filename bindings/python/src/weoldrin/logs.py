@@ -6,7 +6,7 @@ import operator
 import os
 import threading
 from collections.abc import Callable, Iterator
-from typing import Any, ClassVar, NamedTuple, Self, TypeVar
+from typing import Any, ClassVar, NamedTuple, NoReturn, Self, TypeVar
 
 from . import _library
 from ._library import CALLS, Buffer, Bytes, bytes_of, checked, text_bytes
@@ -164,7 +164,7 @@ class Log:
         if hasattr(self, "_is_called"):
             self.close()
 
-    def __reduce__(self) -> Any:
+    def __reduce__(self) -> NoReturn:
         raise TypeError("a log is not copied: save its state by to_json")
 
     # Appending

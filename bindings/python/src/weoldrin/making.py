@@ -16,7 +16,7 @@ from collections.abc import Iterable
 from typing import TYPE_CHECKING
 
 from . import records
-from ._words import Once
+from ._words import Once, Words
 from .auditing import append_all, envelopes_of
 from .errors import Error, Refused
 from .logs import Kind, Log, log_of
@@ -158,7 +158,7 @@ def _read(path: str) -> list[bytes]:
         raise NoRecord(f"{path}: {error}") from None
 
 
-def add_command(commands: "argparse._SubParsersAction[argparse.ArgumentParser]") -> None:
+def add_command(commands: "argparse._SubParsersAction[Words]") -> None:
     """Adds the command `make` to those of a parser."""
     command = commands.add_parser(
         "make",

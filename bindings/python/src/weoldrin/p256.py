@@ -17,17 +17,19 @@ ALGORITHM = "ecdsa-p256"
 # A longer text is that of no key and of no signature.
 _LONGEST = 1024
 
+__all__ = ["ALGORITHM", "SigningKey", "text_of", "verify", "verify_by_cryptography"]
+
 if TYPE_CHECKING:
-    from ._cryptography import SigningKey as SigningKey
+    from ._cryptography import SigningKey
 else:
 
     def __getattr__(name: str) -> object:
         """`SigningKey`, which needs the package `cryptography`, as verifying does not."""
         if name != "SigningKey":
             raise AttributeError(f"module {__name__!r} has no attribute {name!r}")
-        from ._cryptography import SigningKey
+        from . import _cryptography
 
-        return SigningKey
+        return _cryptography.SigningKey
 
 
 def verify(question: Question) -> bool:

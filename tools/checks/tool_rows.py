@@ -44,7 +44,11 @@ def wanted_of(row: Row) -> tuple[str, str, int]:
 def misses(row: Row, folder: pathlib.Path) -> list[str]:
     """The files that are not left as the row says; one that it says nothing of is to be missing."""
     left = {folder / name: None if value is None else text_of(value) for name, value in row.get("leaves", {}).items()}
-    return [path.name for path, text in left.items() if (path.read_text(encoding="utf-8") if path.is_file() else None) != text]
+    return [
+        path.name
+        for path, text in left.items()
+        if (path.read_text(encoding="utf-8") if path.is_file() else None) != text
+    ]
 
 
 def rows_of_tool() -> list[Row]:

@@ -1,4 +1,5 @@
-"""The program is killed, or a call of it fails, at each step of an append. The log has to be the old one or the new one, whole."""
+"""The program is killed, or a call of it fails, at each step of an append. The log has to be the old one or the new
+one, whole."""
 from __future__ import annotations
 
 import collections
@@ -11,11 +12,10 @@ import subprocess
 import time
 from typing import NamedTuple
 
+from append_trials.trials import Done, Faults, Place, beside
 from common import ROOT
 
-from append.bench import Done, Faults, Place, beside
-
-# What the calls of break.c do, by the number in BREAK_FAILS.
+# What the calls of fault_file_calls.c do, by the number in BREAK_FAILS.
 KILLS, FAILS, STOPS = "0", "1", "2"
 
 
@@ -27,9 +27,12 @@ class Broken(NamedTuple):
 
 
 def library(folder: pathlib.Path) -> pathlib.Path:
-    """tools/break.c, compiled."""
-    built = folder / "break.so"
-    subprocess.run(["cc", "-Wall", "-Wextra", "-shared", "-fPIC", "-o", built, ROOT / "tools/break.c", "-ldl"], check=True)
+    """tools/checks/fault_file_calls.c, compiled."""
+    built = folder / "fault_file_calls.so"
+    subprocess.run(
+        ["cc", "-Wall", "-Wextra", "-shared", "-fPIC", "-o", built, ROOT / "tools/checks/fault_file_calls.c", "-ldl"],
+        check=True,
+    )
     return built
 
 
@@ -55,7 +58,11 @@ def expect_whole(place: Place, faults: Faults, what: str, log: pathlib.Path, don
         faults.expect(f"{what}: what is said is true", stands == (count == 3), (count, done))
         faults.expect(f"{what}: nothing is left beside", not beside(log), beside(log))
     again = place.tool.append(log, place.lines[count])
-    faults.expect(f"{what}: the next append", again.returncode == 0 and log.read_text(encoding="utf-8") == place.text(count + 1), again)
+    faults.expect(
+        f"{what}: the next append",
+        again.returncode == 0 and log.read_text(encoding="utf-8") == place.text(count + 1),
+        again,
+    )
 
 
 def broken_calls(place: Place, faults: Faults) -> None:
@@ -74,14 +81,17 @@ def broken_calls(place: Place, faults: Faults) -> None:
 
 
 def paused(place: Place, faults: Faults) -> None:
-    """While an append is stopped at any of its steps, another one is told so at once, or is done before it; a killed one holds nothing."""
+    """While an append is stopped at any of its steps, another one is told so at once, or is done before it; a killed
+    one holds nothing."""
     preload = library(place.folder / "unbroken")
     calls = broken(place, preload, place.log("counted"), 0, KILLS).calls
     for call in range(1, calls + 1):
         log = place.log(f"stop{call}")
         kept = {**os.environ, "LD_PRELOAD": str(preload), "BROKEN": "2", "BREAK": str(call), "BREAK_FAILS": STOPS}
-        words = [place.tool.program, "append", "package", log, "--toy"]
-        with subprocess.Popen(words, stdin=subprocess.PIPE, stdout=subprocess.PIPE, stderr=subprocess.DEVNULL, text=True, env=kept) as first:
+        words = [str(place.tool.program), "append", "package", str(log), "--toy"]
+        with subprocess.Popen(
+            words, stdin=subprocess.PIPE, stdout=subprocess.PIPE, stderr=subprocess.DEVNULL, text=True, env=kept
+        ) as first:
             assert first.stdin is not None
             first.stdin.write(place.lines[2])
             first.stdin.close()
@@ -89,7 +99,11 @@ def paused(place: Place, faults: Faults) -> None:
             faults.expect(f"stopped at call {call}", os.WIFSTOPPED(status), status)
             begun = time.monotonic()
             second = place.tool.append(log, place.lines[2])
-            faults.expect(f"an append beside one that is stopped at call {call} waits for nothing", time.monotonic() - begun < 10, second)
+            faults.expect(
+                f"an append beside one that is stopped at call {call} waits for nothing",
+                time.monotonic() - begun < 10,
+                second,
+            )
             told = (second.returncode, second.stdout) == (3, "busy\n") or second.returncode in (0, 1)
             faults.expect(f"an append beside one that is stopped at call {call}", told, second)
             first.kill()
@@ -104,9 +118,15 @@ def killed_everywhere(place: Place, faults: Faults) -> None:
     """Each call of the system, by strace."""
     strace = shutil.which("strace")
     traced = place.folder / "traced"
-    words = [place.tool.program, "append", "package", place.log("strace"), "--toy"]
+    words = [str(place.tool.program), "append", "package", str(place.log("strace")), "--toy"]
     tried = strace and subprocess.run(
-        [strace, "-qq", "-o", traced, *words], input=place.lines[2], text=True, capture_output=True, check=False, timeout=60)
+        [strace, "-qq", "-o", traced, *words],
+        input=place.lines[2],
+        text=True,
+        capture_output=True,
+        check=False,
+        timeout=60,
+    )
     if not strace or not tried or tried.returncode != 0:
         print("left out: a kill at each call of the system, for want of strace, or of the leave to trace")
         return
@@ -118,6 +138,12 @@ def killed_everywhere(place: Place, faults: Faults) -> None:
         log = place.log(f"{name}{when}")
         kill = [strace, "-qq", "-o", os.devnull, "-e", f"trace={name}", "-e", f"inject={name}:signal=KILL:when={when}"]
         done = subprocess.run(
-            [*kill, place.tool.program, "append", "package", log, "--toy"], input=place.lines[2], text=True, capture_output=True, check=False, timeout=60)
+            [*kill, place.tool.program, "append", "package", log, "--toy"],
+            input=place.lines[2],
+            text=True,
+            capture_output=True,
+            check=False,
+            timeout=60,
+        )
         expect_whole(place, faults, f"killed at {name} {when}", log, done)
     print(f"{len(calls)} calls of the system, killed at each")

@@ -39,7 +39,9 @@ class Tool:
         """Runs the program on these words and this standard input, bounded in time."""
         command = [self.program, *words]
         try:
-            return subprocess.run(command, input=given, text=True, capture_output=True, check=False, timeout=BOUND, **kept)
+            return subprocess.run(
+                command, input=given, text=True, capture_output=True, check=False, timeout=BOUND, **kept
+            )
         except subprocess.TimeoutExpired:
             return Done(command, TIMED_OUT, "", "it did not end in time")
 

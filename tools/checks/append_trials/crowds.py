@@ -7,9 +7,10 @@ import random
 import re
 import time
 
-from append.bench import Done, Faults, Tool
+from append_trials.trials import Done, Faults, Tool
 
-# What two publishers may take for all their releases, and how long one of them waits at most before it tries again, in seconds.
+# What two publishers may take for all their releases, and how long one of them waits at most before it tries again, in
+# seconds.
 BOUND = 300
 PAUSE = 0.02
 
@@ -44,7 +45,9 @@ def check(faults: Faults, what: str, tool: Tool, log: pathlib.Path, answers: dic
     stand = [line.split()[0] for line in audit[1:]]
     places = {version: done.stdout.split()[1:2] for version, done in told.items()}
     in_order = {version: [str(place)] for place, version in enumerate(stand, 2)}
-    faults.expect(f"{what}: what was acknowledged stands once, where it was told", places == in_order, (places, audit[:3]))
+    faults.expect(
+        f"{what}: what was acknowledged stands once, where it was told", places == in_order, (places, audit[:3])
+    )
     count = audit[0].split()[1:2] if audit else []
     faults.expect(f"{what}: nothing else stands", count == [str(1 + len(told))], (count, len(told)))
 

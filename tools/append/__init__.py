@@ -1,1 +1,0 @@
-"""What tools/check_append tries of `weoldrin append`."""

@@ -1,0 +1,1 @@
+"""What tools/checks/append tries of `weoldrin append`."""
