@@ -1,0 +1,5 @@
+pub mod Messages
+pub mod OutcomeRuns
+pub mod Strings
+pub mod Telling
+pub mod AuditedLog

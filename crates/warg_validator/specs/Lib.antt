@@ -1,4 +1,0 @@
-pub mod Messages
-pub mod OutcomeRuns
-pub mod Strings
-pub mod Telling
