@@ -1,6 +1,6 @@
 //! What logs and maps give: roots and proofs.
 
-use crate::proofs::ProofsLemmas::parts::{log_of, map_of, next_log_id, next_number};
+use crate::proofs::parts::{log_of, map_of, next_log_id, next_number};
 use conformance_rows::{Answer, Fail, Words};
 use std::alloc::Global;
 use warg_transparency::LogProof;

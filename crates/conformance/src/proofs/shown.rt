@@ -1,8 +1,6 @@
 //! What proofs show: `ok`, the fault `Refused`, or the fault of a text that is no proof.
 
-use crate::proofs::ProofsLemmas::parts::{
-    next_hash, next_leaf, next_length, next_log_id, next_number,
-};
+use crate::proofs::parts::{next_hash, next_leaf, next_length, next_log_id, next_number};
 use conformance_rows::{Answer, Fail, Words};
 use std::alloc::Global;
 use warg_registry::{Checkpoint, MapLeaf};

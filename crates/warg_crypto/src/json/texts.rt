@@ -9,12 +9,12 @@ ghost use Rattle.warg_crypto.specs.Json.Json.{Returns};
 ghost use Rattle.warg_crypto.specs.Json.JsonTexts.{algorithm_in, algorithm_json, hash_in, hash_json, key_id_in, key_id_json, key_in, key_json, signature_in, signature_json};
 ghost use Rattle.warg_crypto.specs.NamedBytes.{NamedBytes};
 
+use crate::hash::{AnyHash, HashAlgorithm};
 use crate::json::members::{string_value, text_in, text_value};
 use crate::json::{JsonError, JsonValue};
+use crate::signing::{KeyID, KeyParseError, PublicKey, Signature, SignatureParseError};
 use serde_json::Value;
 use std::alloc::Global;
-use crate::hash::{AnyHash, HashAlgorithm};
-use crate::signing::{KeyID, KeyParseError, PublicKey, Signature, SignatureParseError};
 
 impl JsonValue for HashAlgorithm {
     ghost Plain = { HashAlgorithm };

@@ -7,11 +7,11 @@ ghost use Rattle.warg_crypto.specs.Json.Json.{Returns};
 ghost use Rattle.warg_crypto.specs.Time.TimeJson.{time_in, time_json};
 ghost use Rattle.warg_crypto.specs.Time.Times.{Time};
 
+use crate::json::members::{string_value, text_in};
+use crate::json::{JsonError, JsonValue};
 use crate::time::time::Timestamp;
 use serde_json::Value;
 use std::alloc::Global;
-use crate::json::members::{string_value, text_in};
-use crate::json::{JsonError, JsonValue};
 
 impl JsonValue for Timestamp {
     ghost Plain = { Time };

@@ -4,10 +4,10 @@ ghost use Rattle.std.specs.Prelude.{◌≡◌, ◌^◌, Ok, IfOk, string_bytes};
 ghost use Rattle.warg_crypto.specs.Json.Json.{Returns, ReturnsOrNoMemory};
 ghost use Rattle.warg_crypto.specs.Time.TimeText.{time_with_carry, number_of, time_of, time_sides, time_text};
 
+use crate::json::JsonError;
 use crate::time::ranges::signed_range;
 use crate::time::time::Timestamp;
 use std::alloc::Global;
-use crate::json::JsonError;
 
 const NANOS: u32 = 1_000_000_000;
 
