@@ -50,7 +50,7 @@ PRODUCTS = {
             "warg_audit", ("warg_audit",), "warg_audit_main", "", "MANIFEST", "crates/warg_audit/src/information.rt"
         ),
         Product(
-            "weoldrin", ("weoldrin",), "weoldrin_main", "", "MANIFEST.weoldrin", "crates/warg_words/src/version.rt"
+            "weoldrin", ("weoldrin",), "weoldrin_main", "", "MANIFEST.weoldrin", "crates/tool_words/src/version.rt"
         ),
         Product(
             "libwarg",

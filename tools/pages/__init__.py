@@ -5,7 +5,7 @@
 - `public`: what `warg_protocol` shows; `api` and `headline` write the pages of it; `cited` finds names that it lacks
 - `crates`: the crates as a list and as a picture; `documents`: what is checked of the pages that are written by hand
 
-The programs `tools/api`, `tools/headline`, `tools/crates_picture`, `tools/check_names` and `tools/check_documents` call
+The programs `tools/api`, `tools/headline`, `tools/pictures`, `tools/check_names` and `tools/check_documents` call
 these.
 """
 from .shared import write_or_compare

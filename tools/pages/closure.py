@@ -110,6 +110,7 @@ def source(place: Place) -> str:
     if place.kind == "kit":
         return place.module
     crate, _, *rest = file_of(place).removeprefix("crates/").split("/")
+    path = "/".join(rest)
     if place.kind != "rust":
-        return f"{crate}/{rest[-1].removesuffix('.antt')}"
-    return f"{place.name} ({crate}/{rest[-1]})" if place.name in ("Permission", "ValidationError") else place.name
+        return f"{crate}/{path.removesuffix('.antt')}"
+    return f"{place.name} ({crate}/{path})" if place.name in ("Permission", "ValidationError") else place.name

@@ -8,7 +8,7 @@ __all__ = ["ROOT", "crates_below", "dependencies", "argument_parser", "write_or_
 
 
 def crates_below() -> list[str]:
-    """The crates of crates.txt, each after those that it stands on."""
+    """The crates in the order of crates.txt, in which definitions rest on those of crates before theirs."""
     lines = (ROOT / "crates.txt").read_text(encoding="utf-8").splitlines()
     return [line.partition(":")[0].split()[0] for line in lines if line and not line.startswith("#")]
 

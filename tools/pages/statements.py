@@ -95,17 +95,17 @@ class Statements:
 
 PACKAGE = ("crates/warg_package_log/src/validator.rt", "Validator for LogState")
 OPERATOR = ("crates/warg_operator_log/src/validator.rt", "Validator for LogState")
-PACKAGE_RECORD = ("crates/warg_records/src/package.rt", "Record for PackageRecord")
-OPERATOR_RECORD = ("crates/warg_records/src/operator.rt", "Record for OperatorRecord")
+PACKAGE_RECORD = ("crates/warg_log_records/src/package.rt", "Record for PackageRecord")
+OPERATOR_RECORD = ("crates/warg_log_records/src/operator.rt", "Record for OperatorRecord")
 
 
 def statements() -> Statements:
     it = Statements()
     it.lines += ["## The statements", "", "`run`, for each kind of log `L` and each verifier `V`:"]
-    it.function("crates/warg_validator/src/replay.rt", None, "run")
+    it.function("crates/warg_replay/src/replay.rt", None, "run")
     it.lines += ["", "Equal heads, as a law of all accepted logs, and as what a program is told of two logs:"]
-    it.function("crates/warg_audited_log/src/laws.rt", None, "equal_heads")
-    file = "crates/warg_audited_log/src/audited_log.rt"
+    it.function("crates/warg_replay/src/audited_log/laws.rt", None, "equal_heads")
+    file = "crates/warg_replay/src/audited_log/audited_log.rt"
     it.function(file, "<L: Validator, V: Verifier + Drop> AuditedLog<L, V>", "compare_heads")
     it.roots[Place("rust", file, "AuditedLog")] = None
     it.lines += ["", "With P-256: `run` for signatures that are verified here, and what is proved of their test:"]
@@ -118,7 +118,7 @@ def statements() -> Statements:
     cells = [it.member(file, "Model for LogState", "Value") for file in states]
     it.member_lines("L", "What a state itself is seen as.", cells)
     members = ("View", "Offence", "kind", "view", "offence_of")
-    it.members("L", "crates/warg_validator/src/validator.rt", "Validator", members, kinds)
+    it.members("L", "crates/warg_replay/src/validator.rt", "Validator", members, kinds)
     of_record = ("Meaning", "Fault", "read", "fault_of")
     it.members("L.Record", "crates/warg_envelope/src/lib.rt", "Record", of_record, (PACKAGE_RECORD, OPERATOR_RECORD))
     belongs = trait_members("crates/warg_crypto/src/signing.rt", "Verifier", ["belongs"])[0]

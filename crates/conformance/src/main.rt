@@ -3,6 +3,7 @@
 
 mod play;
 mod program;
+mod proofs;
 mod tally;
 
 use std::env;

@@ -67,7 +67,7 @@ fn play_row(alloc: Global, block: &Block, report: &mut Report) -> Result<(), Fai
 
 // The answer of the library that has the topic. The one of proofs has two kinds of the topic `parse`, and leaves the others.
 fn answer(alloc: Global, topic: &str, words: &str) -> Result<Option<Answer>, Fail> {
-    if let Some(answer) = conformance_proofs::answer(alloc, topic, words)? {
+    if let Some(answer) = crate::proofs::answer(alloc, topic, words)? {
         return Ok(Some(answer));
     }
     if let Some(answer) = conformance_values::answer(alloc, topic, words)? {

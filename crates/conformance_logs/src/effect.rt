@@ -1,6 +1,6 @@
 //! What the entries of a record do to permissions.
+use crate::scripts::{Scripted, id, words_of};
 use conformance_rows::Fail;
-use conformance_scripts::{Scripted, id, words_of};
 use std::alloc::Global;
 use warg_protocol::signing::KeyID;
 use warg_protocol::{Effect, ProtoEnvelope};

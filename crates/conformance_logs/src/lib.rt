@@ -7,12 +7,13 @@ mod player;
 mod questions;
 mod runs;
 mod saved;
+pub mod scripts;
 mod steps;
 mod texts;
 mod written;
 
+use crate::scripts::{Scripted, words_of};
 use conformance_rows::{Answer, Block, Fail, Report};
-use conformance_scripts::{Scripted, words_of};
 use player::play_log;
 use runs::play_run;
 use std::alloc::Global;

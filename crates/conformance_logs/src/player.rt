@@ -8,9 +8,9 @@
 //! - `resume`: the state is saved and read back, and the log goes on from what was read.
 //! - `aside`: the log is put aside, and a new one begins, which is compared with it.
 use crate::questions::ask;
+use crate::scripts::{Scripted, check, next_string};
 use crate::steps::{advance, check_state};
 use conformance_rows::{Block, Fail, Line, Report, Row};
-use conformance_scripts::{Scripted, check, next_string};
 use std::alloc::Global;
 use std::mem;
 use warg_protocol::toy::ToyVerifier;

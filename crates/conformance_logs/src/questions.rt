@@ -1,9 +1,9 @@
 //! What is asked of a log on the way.
 use crate::effect::effect_of;
 use crate::player::Log;
+use crate::scripts::{Scripted, check, id, none, words_of};
 use crate::written::{permissions_written, value_written, written};
 use conformance_rows::{Answer, Fail};
-use conformance_scripts::{Scripted, check, id, none, words_of};
 use std::alloc::{AllocError, Global};
 use warg_protocol::toy::ToyVerifier;
 use warg_protocol::{AuditedLog, Comparison, HeadComparison, Link};

@@ -1,8 +1,8 @@
 //! Strings that are read as a whole: `run KIND TITLE:`, strings, and `! 1 KeyIDNotRecognized bob`, the first that is
 //! refused and the cause, or questions about the state that they add up to.
+use crate::scripts::{Scripted, cause_words, check, string_of};
 use crate::written::written;
 use conformance_rows::{Answer, Block, Fail, Line, Report, Row};
-use conformance_scripts::{Scripted, cause_words, check, string_of};
 use std::alloc::Global;
 use warg_protocol::toy::ToyVerifier;
 use warg_protocol::{AuditedLog, RunError, run};

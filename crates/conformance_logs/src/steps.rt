@@ -1,8 +1,8 @@
 //! One string more at a log, which is taken or refused the same on every way: by `validate`, by `run_from`, and by the log
 //! that is kept.
 use crate::player::Log;
+use crate::scripts::{Scripted, cause_words, check};
 use conformance_rows::Fail;
-use conformance_scripts::{Scripted, cause_words, check};
 use std::alloc::Global;
 use std::slice;
 use warg_protocol::toy::ToyVerifier;

@@ -1,6 +1,6 @@
 //! What errors say, whatever options they are printed under.
+use crate::scripts::{Scripted, check};
 use conformance_rows::{Answer, Fail, Words};
-use conformance_scripts::{Scripted, check};
 use std::alloc::Global;
 use std::fmt::Display;
 use warg_protocol::{

@@ -1,6 +1,6 @@
 //! States as JSON, by way of values and of texts, which have to say the same.
+use crate::scripts::{Scripted, check};
 use conformance_rows::{Answer, Fail};
-use conformance_scripts::{Scripted, check};
 use serde_json::Value;
 use std::alloc::Global;
 use warg_protocol::{JsonTextError, JsonValue};

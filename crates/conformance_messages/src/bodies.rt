@@ -4,12 +4,12 @@ use crate::envelopes::opened;
 use crate::errors::contents_fault;
 use conformance_rows::{Answer, Fail, Words};
 use std::alloc::Global;
+use warg_crypto::DecodeError;
 use warg_envelope::{
-    DecodeError, ProtoEnvelope, ProtoEnvelopeBody, PublishedProtoEnvelope,
-    PublishedProtoEnvelopeBody, Record,
+    ProtoEnvelope, ProtoEnvelopeBody, PublishedProtoEnvelope, PublishedProtoEnvelopeBody, Record,
 };
-use warg_records::operator::OperatorRecord;
-use warg_records::package::PackageRecord;
+use warg_log_records::operator::OperatorRecord;
+use warg_log_records::package::PackageRecord;
 
 impl Shown for ProtoEnvelopeBody {
     fn text(&self, alloc: Global) -> Result<String, Fail> {

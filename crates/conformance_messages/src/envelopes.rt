@@ -6,9 +6,9 @@ use conformance_rows::{Answer, Fail, Words, bytes, hex};
 use std::alloc::Global;
 use warg_crypto::hash::Sha256;
 use warg_envelope::{ProtoEnvelope, Record};
-use warg_records::RecordId;
-use warg_records::operator::OperatorRecord;
-use warg_records::package::PackageRecord;
+use warg_log_records::RecordId;
+use warg_log_records::operator::OperatorRecord;
+use warg_log_records::package::PackageRecord;
 
 impl<C: Record + Shown> Shown for ProtoEnvelope<C> {
     fn text(&self, alloc: Global) -> Result<String, Fail> {

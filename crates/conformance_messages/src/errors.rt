@@ -1,9 +1,10 @@
 //! The names of faults, and the texts of errors.
 use conformance_rows::{Answer, Fail, Words};
 use std::alloc::Global;
+use warg_crypto::DecodeError;
 use warg_crypto::hash::AnyHashError;
 use warg_crypto::signing::SignatureParseError;
-use warg_envelope::{DecodeError, ParseEnvelopeError};
+use warg_envelope::ParseEnvelopeError;
 use warg_protobuf::WireError;
 
 /// The cases of the fault from the outside in, joined by dots, and the number of a permission behind them.

@@ -5,11 +5,11 @@ use conformance_rows::{Answer, Fail, Words};
 use serde_json::Value;
 use std::alloc::Global;
 use warg_crypto::hash::AnyHash;
+use warg_crypto::json::JsonValue;
+use warg_crypto::time::Timestamp;
 use warg_envelope::{ProtoEnvelopeBody, PublishedProtoEnvelopeBody, SerdeEnvelope};
-use warg_json::JsonValue;
-use warg_records::{operator, package};
+use warg_log_records::{operator, package};
 use warg_registry::Checkpoint;
-use warg_time::Timestamp;
 
 /// A value in its JSON.
 #[derive(Drop, PartialEq)]

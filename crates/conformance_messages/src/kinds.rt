@@ -6,9 +6,9 @@ use crate::records::{Content, FromMessage};
 use conformance_rows::{Answer, Fail, Words};
 use std::alloc::Global;
 use warg_envelope::ProtoEnvelope;
+use warg_log_records::operator::{OperatorEntry, OperatorRecord};
+use warg_log_records::package::{PackageEntry, PackageRecord};
 use warg_protobuf as message;
-use warg_records::operator::{OperatorEntry, OperatorRecord};
-use warg_records::package::{PackageEntry, PackageRecord};
 
 /// The answer to `decode`, `both-ways`, `encode`, `digest` and `equal`. The words are a group of values, a kind of its
 /// values, and what says a value.

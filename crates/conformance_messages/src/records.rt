@@ -5,12 +5,12 @@ use crate::coded::{Coded, Shown};
 use crate::errors::contents_fault;
 use conformance_rows::{Answer, Fail, Words, bytes, hex};
 use std::alloc::Global;
-use warg_crypto::Encode;
-use warg_envelope::{Decode, DecodeError, Record};
+use warg_crypto::{Decode, DecodeError, Encode};
+use warg_envelope::Record;
+use warg_log_records::operator::{OperatorEntry, OperatorRecord};
+use warg_log_records::package::{PackageEntry, PackageRecord};
 use warg_protobuf as message;
 use warg_protobuf::Message;
-use warg_records::operator::{OperatorEntry, OperatorRecord};
-use warg_records::package::{PackageEntry, PackageRecord};
 
 /// What is read from a message, and written as one.
 pub(crate) trait ByMessage: Sized {

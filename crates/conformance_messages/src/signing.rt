@@ -3,12 +3,12 @@ use crate::coded::Shown;
 use crate::json::value_of;
 use conformance_rows::{Answer, Fail, Words, bytes, hex};
 use std::alloc::Global;
-use warg_crypto::Signable;
+use warg_crypto::json::JsonValue;
 use warg_crypto::toy::ToySigner;
-use warg_envelope::{Decode, ProtoEnvelope, SerdeEnvelope};
-use warg_json::JsonValue;
-use warg_records::operator::OperatorRecord;
-use warg_records::package::PackageRecord;
+use warg_crypto::{Decode, Signable};
+use warg_envelope::{ProtoEnvelope, SerdeEnvelope};
+use warg_log_records::operator::OperatorRecord;
+use warg_log_records::package::PackageRecord;
 use warg_registry::TimestampedCheckpoint;
 
 fn signed<C: Signable + Decode>(

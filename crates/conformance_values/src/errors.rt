@@ -5,12 +5,12 @@ use conformance_rows::{Answer, Fail, Words};
 use std::alloc::Global;
 use std::fmt::{Debug, Display};
 use warg_crypto::hash::{AnyHashError, UnknownAlgorithm};
+use warg_crypto::json::{Incoherence, JsonError};
 use warg_crypto::signing::{KeyParseError, SignatureError, SignatureParseError};
-use warg_envelope::{DecodeError, WireFault};
-use warg_json::{Incoherence, JsonError};
+use warg_crypto::time::TimeError;
+use warg_crypto::{DecodeError, WireFault};
 use warg_permissions::{InvalidPermission, PermissionParseError};
 use warg_registry::PackageNameError;
-use warg_time::TimeError;
 
 const HASH: &[AnyHashError] = &[
     AnyHashError::MissingAlgorithm,

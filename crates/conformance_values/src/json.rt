@@ -5,11 +5,11 @@ use conformance_rows::{Answer, Fail, Words};
 use serde_json::Value;
 use std::alloc::Global;
 use warg_crypto::hash::{AnyHash, HashAlgorithm};
+use warg_crypto::json::JsonValue;
 use warg_crypto::signing::{KeyID, PublicKey, Signature};
-use warg_json::JsonValue;
-use warg_records::{RecordId, operator, package};
+use warg_crypto::time::Timestamp;
+use warg_log_records::{RecordId, operator, package};
 use warg_registry::{Checkpoint, LogId, LogLeaf, PackageName, TimestampedCheckpoint};
-use warg_time::Timestamp;
 
 /// `to-json KIND WORDS..`: the JSON of the value.
 pub(crate) fn to_json(alloc: Global, mut words: Words<'_>) -> Result<Answer, Fail> {

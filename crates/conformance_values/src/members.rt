@@ -3,8 +3,8 @@
 use conformance_rows::{Answer, Fail, Words};
 use serde_json::Value;
 use std::alloc::Global;
-use warg_json::members::{items_in, member_in, optional_member};
-use warg_json::{JsonError, JsonValue};
+use warg_crypto::json::members::{items_in, member_in, optional_member};
+use warg_crypto::json::{JsonError, JsonValue};
 
 /// `member NAME JSON`: the number, below 2^32, that is the object's member of that name.
 pub(crate) fn member(alloc: Global, mut words: Words<'_>) -> Result<Answer, Fail> {

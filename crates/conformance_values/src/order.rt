@@ -6,9 +6,9 @@ use std::alloc::Global;
 use std::hash::{FoldHasher, Hash, Hasher};
 use warg_crypto::hash::AnyHash;
 use warg_crypto::signing::{KeyID, PublicKey, Signature};
-use warg_records::RecordId;
+use warg_crypto::time::Timestamp;
+use warg_log_records::RecordId;
 use warg_registry::{LogId, PackageName};
-use warg_time::Timestamp;
 
 // The two values that the words say, none of which may be left.
 fn pair_of<T: Worded>(alloc: Global, mut words: Words<'_>) -> Result<(T, T), Fail> {

@@ -4,8 +4,8 @@ use crate::worded::{Worded, no_such_kind, value_of};
 use conformance_rows::{Answer, Fail, Words};
 use std::alloc::Global;
 use std::fmt::Display;
+use warg_log_records::{operator, package};
 use warg_permissions::{LogPermission, PermissionParseError};
-use warg_records::{operator, package};
 
 /// `permissions KIND`: all permissions of the kind, in order.
 pub(crate) fn permissions(alloc: Global, mut words: Words<'_>) -> Result<Answer, Fail> {

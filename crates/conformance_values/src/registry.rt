@@ -6,8 +6,8 @@ use conformance_rows::{Answer, Fail, Words};
 use std::alloc::Global;
 use warg_crypto::Encode;
 use warg_crypto::hash::Sha256;
+use warg_crypto::time::Timestamp;
 use warg_registry::{Checkpoint, LogId, PackageName, TimestampedCheckpoint};
-use warg_time::Timestamp;
 
 /// `operator-log-id`: the id of the operator log.
 pub(crate) fn operator_log_id(alloc: Global, words: Words<'_>) -> Result<Answer, Fail> {

@@ -7,9 +7,9 @@ use std::alloc::Global;
 use std::fmt::{Debug, Display};
 use warg_crypto::hash::{AnyHash, HashAlgorithm};
 use warg_crypto::signing::{KeyID, PublicKey, Signature};
-use warg_records::{RecordId, operator, package};
+use warg_crypto::time::Timestamp;
+use warg_log_records::{RecordId, operator, package};
 use warg_registry::{LogId, PackageName, PackageNameError};
-use warg_time::Timestamp;
 
 /// `parse KIND TEXT`: the value that the text says, in words.
 pub(crate) fn parse(alloc: Global, mut words: Words<'_>) -> Result<Answer, Fail> {

@@ -3,7 +3,7 @@
 use crate::worded::{answer_of, value_of};
 use conformance_rows::{Answer, Fail, Words};
 use std::alloc::Global;
-use warg_time::Timestamp;
+use warg_crypto::time::Timestamp;
 
 /// `time SECONDS NANOS`: the time so many seconds and nanoseconds after the epoch, or before it.
 pub(crate) fn time(alloc: Global, mut words: Words<'_>) -> Result<Answer, Fail> {

@@ -5,9 +5,9 @@ use std::alloc::Global;
 use std::fmt::Debug;
 use warg_crypto::hash::{AnyHash, HashAlgorithm};
 use warg_crypto::signing::{KeyID, PublicKey, Signature};
-use warg_records::{RecordId, operator, package};
+use warg_crypto::time::Timestamp;
+use warg_log_records::{RecordId, operator, package};
 use warg_registry::{Checkpoint, LogId, LogLeaf, MapLeaf, PackageName, TimestampedCheckpoint};
-use warg_time::Timestamp;
 
 /// A kind of value that stands in rows as words.
 pub(crate) trait Worded: Drop {

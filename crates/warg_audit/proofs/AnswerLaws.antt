@@ -5,8 +5,8 @@ use Rattle.hex.specs.declared.error.FromHexError.{FromHexError}
 use Rattle.warg_protobuf.specs.Envelope.{envelope_table, EnvelopeValue, IsEnvelope, envelope_of}
 use Rattle.warg_protobuf.specs.Meaning.{Computes}
 use Rattle.warg_protobuf.specs.declared.error.WireError.{WireError}
-use Rattle.warg_log_type.specs.declared.LogType.{LogType}
-use Rattle.warg_files.specs.Lines.{string_of}
+use Rattle.warg_audit.specs.declared.log_type.LogType.{LogType}
+use Rattle.warg_audit.specs.Files.Lines.{string_of}
 use Rattle.warg_audit.specs.Answers.{IsEnvelopeAnswer, is_read, has_fault, IsIdAnswer, no_line, bad_digits, second_line, one_line, envelope_answer, string_answer, id_answer}
 use Rattle.warg_audit.specs.Printouts.{Printout}
 

@@ -1,14 +1,14 @@
 -- The answers to an input, by what was found of its lines.
 use Rattle.std.proofs.Common.{◌≡◌, ◌≢◌, ◌<◌, ◌≤◌, ℕ, Bool, true, false, cond, List, [], ◌∷◌, length, refl, ◌∙◌, ap, arith, zero, suc, Option, Some, None, IfSome, Ok, IsErr}
 use Rattle.std.specs.Io.KnownBytes.{Appends}
-use Rattle.warg_log_type.specs.declared.LogType.{LogType}
+use Rattle.warg_audit.specs.declared.log_type.LogType.{LogType}
 use Rattle.warg_audit.specs.declared.command.Command.{Command}
 use Rattle.warg_audit.specs.Commands.{command_of}
-use Rattle.warg_files.specs.Lines.{lines_of, string_of, is_line_feed, onto}
+use Rattle.warg_audit.specs.Files.Lines.{lines_of, string_of, is_line_feed, onto}
 use Rattle.warg_audit.specs.Answers.{IsEnvelopeAnswer, IsIdAnswer, bad_digits, second_line, one_line, IsCommandAnswer, other_words, over_limit, of_lines}
 use Rattle.warg_audit.specs.Printouts.{Printout, usage, too_long, bad_line}
 use Rattle.warg_audit.specs.Replies.{IsReply, answer, unread, memory_refused, IsAnswered}
-use Rattle.warg_files.proofs.LineLemmas.{lines_of-are}
+use Rattle.warg_audit.proofs.FilesLemmas.LineLemmas.{lines_of-are}
 
 -- ---- the lines behind the first one
 

@@ -6,13 +6,13 @@ use Rattle.std.proofs.lemmas.List.Elements.{filter_map-append}
 use Rattle.std.proofs.lemmas.Option.{slice_get_within}
 use Rattle.std.specs.List.{slice_get}
 use Rattle.warg_envelope.specs.EnvelopeData.{EnvelopeData}
-use Rattle.warg_records.specs.Kinds.{SignatureRelation, Kind}
-use Rattle.warg_validator.specs.Strings.{Cause, read_all}
-use Rattle.warg_validator.specs.OutcomeRuns.{HasNoOffence, IsFirstOffence, IsRefusal, IsRun, IfNamed}
-use Rattle.warg_validator.specs.declared.replay.RunCause.{RunCause}
-use Rattle.warg_validator.specs.declared.replay.RunError.{RunError}
-use Rattle.warg_files.specs.Lines.{string_of}
-use Rattle.warg_files.proofs.StringLemmas.{IsReadTo, none_read, one_read}
+use Rattle.warg_log_records.specs.Kinds.{SignatureRelation, Kind}
+use Rattle.warg_replay.specs.Strings.{Cause, read_all}
+use Rattle.warg_replay.specs.OutcomeRuns.{HasNoOffence, IsFirstOffence, IsRefusal, IsRun, IfNamed}
+use Rattle.warg_replay.specs.declared.replay.RunCause.{RunCause}
+use Rattle.warg_replay.specs.declared.replay.RunError.{RunError}
+use Rattle.warg_audit.specs.Files.Lines.{string_of}
+use Rattle.warg_audit.proofs.FilesLemmas.StringLemmas.{IsReadTo, none_read, one_read}
 
 slice_get-front : {X : Type 0} (xs ys : List X) (i : ℕ) → i < length xs
     → slice_get (xs ++ ys) i ≡ slice_get xs i

@@ -5,3 +5,4 @@ pub mod JudgeLemmas
 pub mod LogLemmas
 pub mod NameLemmas
 pub mod WholeAnswers
+pub mod FilesLemmas

@@ -2,24 +2,24 @@
 use Rattle.std.proofs.Common.{◌≡◌, ℕ, Bool, true, false, cond, nat_lt, List, length, refl, sym, ◌∙◌, ◌↔◌, ap, Option, Some, None, Result, Ok, Err}
 use Rattle.std.proofs.lemmas.Bool.{ltb-true, ltb-false, lt-ltb, le-ltb}
 use Rattle.warg_envelope.specs.Envelopes.{EnvelopeFault, envelope_of}
-use Rattle.warg_records.specs.Kinds.{SignatureRelation}
-use Rattle.warg_validator.specs.OutcomeRuns.{IsFoundBy, first_offence_from}
-use Rattle.warg_validator.specs.Strings.{Cause}
+use Rattle.warg_log_records.specs.Kinds.{SignatureRelation}
+use Rattle.warg_replay.specs.OutcomeRuns.{IsFoundBy, first_offence_from}
+use Rattle.warg_replay.specs.Strings.{Cause}
 use Rattle.warg_crypto.specs.Signed.{toy_belongs}
-use Rattle.warg_log_type.specs.declared.LogType.{LogType}
-use Rattle.warg_log_type.specs.declared.LogType.TheVariants.{Package, Operator}
+use Rattle.warg_audit.specs.declared.log_type.LogType.{LogType}
+use Rattle.warg_audit.specs.declared.log_type.LogType.TheVariants.{Package, Operator}
 use Rattle.warg_audit.specs.declared.command.Command.{Command}
 use Rattle.warg_audit.specs.declared.command.Command.TheVariants.{Id, Audit}
-use Rattle.warg_files.specs.declared.lines.LineError.{LineError}
-use Rattle.warg_files.specs.declared.lines.LineError.TheVariants.{Bad, OutOfMemory}
+use Rattle.warg_audit.specs.declared.files.lines.LineError.{LineError}
+use Rattle.warg_audit.specs.declared.files.lines.LineError.TheVariants.{Bad, OutOfMemory}
 use Rattle.warg_audit.specs.Answers.{IsIdAnswer, id_answer, IsCommandAnswer, command_answer, IsAnswer, other_words, over_limit, of_lines, asked_answer, answer_of}
 use Rattle.warg_audit.specs.Commands.{command_of}
 use Rattle.warg_audit.specs.LogTypes.{package_log, operator_log, IsLogTypeAnswer, log_type_answer}
-use Rattle.warg_files.specs.Lines.{lines_of, strings_of}
+use Rattle.warg_audit.specs.Files.Lines.{lines_of, strings_of}
 use Rattle.warg_audit.specs.LogAnswers.{LogDisplay, IsLogAnswer, all_lawful, first_refused, IsAuditAnswer, first_bad, all_spelled, found_answer, log_answer, spelled_answer, audit_answer}
 use Rattle.warg_audit.specs.Printouts.{Printout, too_long}
-use Rattle.warg_files.proofs.LineLemmas.{lines_of-are, lines_of-only}
-use Rattle.warg_files.proofs.StringLemmas as spelled
+use Rattle.warg_audit.proofs.FilesLemmas.LineLemmas.{lines_of-are, lines_of-only}
+use Rattle.warg_audit.proofs.FilesLemmas.StringLemmas as spelled
 
 -- the first offence of strings is what the search from the front finds
 abbrev pub IsSearched : {Meaning Fault View Offence : Type 0} → LogDisplay Meaning Fault View Offence → Type 0

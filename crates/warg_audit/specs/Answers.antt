@@ -5,16 +5,16 @@ use Rattle.warg_protobuf.specs.Envelope.{envelope_table, EnvelopeValue, IsEnvelo
 use Rattle.warg_protobuf.specs.Table.{HasFault}
 use Rattle.warg_protobuf.specs.declared.error.WireError.{WireError}
 use Rattle.warg_envelope.specs.FaultNames.{error_name}
-use Rattle.warg_records.specs.RecordIds.{package_record_id_of, operator_record_id_of}
-use Rattle.warg_records.specs.declared.record_id.RecordId.{RecordId}
+use Rattle.warg_log_records.specs.RecordIds.{package_record_id_of, operator_record_id_of}
+use Rattle.warg_log_records.specs.declared.record_id.RecordId.{RecordId}
 use Rattle.warg_envelope.specs.declared.proto_envelope.error.ParseEnvelopeError.TheVariants.{ProtobufEnvelope}
-use Rattle.warg_log_type.specs.declared.LogType.{LogType}
-use Rattle.warg_log_type.specs.declared.LogType.TheVariants.{Package, Operator}
+use Rattle.warg_audit.specs.declared.log_type.LogType.{LogType}
+use Rattle.warg_audit.specs.declared.log_type.LogType.TheVariants.{Package, Operator}
 use Rattle.warg_audit.specs.declared.command.Command.{Command}
 use Rattle.warg_audit.specs.declared.command.Command.TheVariants.{Id, Audit}
 use Rattle.warg_audit.specs.Commands.{command_of}
 use Rattle.warg_audit.specs.LogTypes.{IsLogTypeAnswer, log_type_answer}
-use Rattle.warg_files.specs.Lines.{AreLines, string_of, lines_of}
+use Rattle.warg_audit.specs.Files.Lines.{AreLines, string_of, lines_of}
 use Rattle.warg_audit.specs.Printouts.{Printout, usage, too_long, bad_line, record_id, refused_line}
 
 -- the id of a record of a log of this type, from its content bytes

@@ -1,8 +1,8 @@
 -- What the program's words ask for.
 use Rattle.std.specs.Prelude.{ℕ, List, [], ◌∷◌, if◌then◌else◌, codes, Option, Some, None}
 use Rattle.std.specs.Str.{bytes_eq}
-use Rattle.warg_log_type.specs.declared.LogType.{LogType}
-use Rattle.warg_log_type.specs.declared.LogType.TheVariants.{Package, Operator}
+use Rattle.warg_audit.specs.declared.log_type.LogType.{LogType}
+use Rattle.warg_audit.specs.declared.log_type.LogType.TheVariants.{Package, Operator}
 use Rattle.warg_audit.specs.declared.command.Command.{Command}
 use Rattle.warg_audit.specs.declared.command.Command.TheVariants.{Id, Audit}
 use Rattle.warg_audit.specs.declared.information.Information.{Information}

@@ -6,3 +6,4 @@ pub mod LogTypes
 pub mod Answers
 pub mod Replies
 pub mod Meters
+pub mod Files

@@ -3,24 +3,24 @@ use Rattle.std.specs.Prelude.{ℕ, List, []}
 use Rattle.warg_crypto.specs.Signed.{toy_belongs}
 use Rattle.warg_envelope.specs.FaultNames.{record_fault_name}
 use Rattle.warg_envelope.specs.Faults.{RecordFault}
-use Rattle.warg_records.specs.RecordData.{RecordData}
-use Rattle.warg_records.specs.OperatorEntries.{OperatorOwnEntry}
-use Rattle.warg_records.specs.OperatorReading.{operator_record_of}
+use Rattle.warg_log_records.specs.RecordData.{RecordData}
+use Rattle.warg_log_records.specs.OperatorEntries.{OperatorOwnEntry}
+use Rattle.warg_log_records.specs.OperatorReading.{operator_record_of}
 use Rattle.warg_permissions.specs.declared.operator.Permission.{Permission as OperatorPermission}
 use Rattle.warg_operator_log.specs.Namespaces.{OwnOffence as NamespaceOffence}
 use Rattle.warg_operator_log.specs.OffenceNames.{offence_name as namespace_offence_name}
 use Rattle.warg_operator_log.specs.State.{View as OperatorView}
 use Rattle.warg_operator_log.specs.StateLaws.{kind as operator_kind}
-use Rattle.warg_records.specs.PackageEntries.{PackageOwnEntry}
-use Rattle.warg_records.specs.PackageReading.{package_record_of}
+use Rattle.warg_log_records.specs.PackageEntries.{PackageOwnEntry}
+use Rattle.warg_log_records.specs.PackageReading.{package_record_of}
 use Rattle.warg_permissions.specs.declared.package.Permission.{Permission as PackagePermission}
 use Rattle.warg_package_log.specs.OffenceNames.{offence_name as release_offence_name}
 use Rattle.warg_package_log.specs.Releases.{OwnOffence as ReleaseOffence}
 use Rattle.warg_package_log.specs.State.{View as PackageView}
 use Rattle.warg_package_log.specs.StateLaws.{kind as package_kind}
 use Rattle.warg_log.specs.Rules.{LogOffence}
-use Rattle.warg_log_type.specs.declared.LogType.{LogType}
-use Rattle.warg_log_type.specs.declared.LogType.TheVariants.{Package, Operator}
+use Rattle.warg_audit.specs.declared.log_type.LogType.{LogType}
+use Rattle.warg_audit.specs.declared.log_type.LogType.TheVariants.{Package, Operator}
 use Rattle.warg_audit.specs.LogAnswers.{LogDisplay, IsAuditAnswer, audit_answer}
 use Rattle.warg_audit.specs.Printouts.{Printout}
 use Rattle.warg_audit.specs.ReleaseLines.{release_lines}

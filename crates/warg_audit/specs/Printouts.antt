@@ -2,8 +2,8 @@
 use Rattle.std.specs.Prelude.{ℕ, List, ◌++◌, codes}
 use Rattle.std.specs.Fmt.{decimal}
 use Rattle.warg_crypto.specs.HashText.{hash_text}
-use Rattle.warg_records.specs.declared.record_id.RecordId.{RecordId}
-pub use Rattle.warg_files.specs.Printouts.{Printout}
+use Rattle.warg_log_records.specs.declared.record_id.RecordId.{RecordId}
+pub use Rattle.warg_audit.specs.Files.Printouts.{Printout}
 
 -- what is printed where the words ask for nothing that the program knows
 abbrev pub usage : Printout

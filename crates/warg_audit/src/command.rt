@@ -3,7 +3,7 @@
 ghost use Rattle.std.specs.Prelude.{◌≡◌, map, string_bytes};
 ghost use Rattle.warg_audit.specs.Commands.{command_of, log_type_of};
 
-use warg_log_type::LogType;
+use crate::log_type::LogType;
 
 /// What the program's words ask for.
 #[derive(Clone, Copy, Debug, PartialEq, Eq)]

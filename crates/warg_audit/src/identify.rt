@@ -5,17 +5,17 @@ ghost use Rattle.warg_envelope.specs.FaultNames.{error_name};
 ghost use Rattle.warg_envelope.specs.declared.proto_envelope.error.ParseEnvelopeError.TheVariants.{ProtobufEnvelope};
 ghost use Rattle.warg_audit.specs.Answers.{record_id_of, IsEnvelopeAnswer, IsIdAnswer};
 ghost use Rattle.warg_audit.specs.Printouts.{refused_line};
-ghost use Rattle.warg_files.specs.Lines.{lines_of};
+ghost use Rattle.warg_audit.specs.Files.Lines.{lines_of};
 ghost use Rattle.warg_audit.specs.Replies.{printed_of};
 
+use crate::files::lines::{cut_line, decode_line};
+use crate::log_type::LogType;
 use crate::reply::{Reply, bad_line_reply, refused_reply};
 use std::alloc::{AllocError, Global};
 use warg_crypto::hash::Sha256;
 use warg_envelope::ParseEnvelopeError;
-use warg_files::lines::{cut_line, decode_line};
-use warg_log_type::LogType;
+use warg_log_records::RecordId;
 use warg_protobuf::{Envelope, WireError};
-use warg_records::RecordId;
 
 // The id of a record of a log of this type, from its content bytes.
 fn record_id(log_type: LogType, content: &[u8]) -> RecordId

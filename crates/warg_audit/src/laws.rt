@@ -3,12 +3,12 @@
 ghost use Rattle.std.specs.Prelude.{◌≡◌, ℕ, List};
 ghost use Rattle.warg_audit.specs.Answers.{IsIdAnswer, id_answer, IsAnswer, answer_of};
 ghost use Rattle.warg_audit.specs.LogTypes.{IsLogTypeAnswer, log_type_answer};
-ghost use Rattle.warg_log_type.specs.declared.LogType.{LogType};
+ghost use Rattle.warg_audit.specs.declared.log_type.LogType.{LogType};
 ghost use Rattle.warg_audit.specs.Printouts.{Printout};
-ghost use Rattle.warg_files.specs.Lines.{AreLines, lines_of};
+ghost use Rattle.warg_audit.specs.Files.Lines.{AreLines, lines_of};
 
 use warg_protobuf::laws::decoding_computes;
-use warg_validator::laws::first_offence;
+use warg_replay::laws::first_offence;
 
 /// Each text has lines, and no other ones.
 pub fn one_list_of_lines()

@@ -1,12 +1,15 @@
-//! The program `warg_audit` as a function of its words, its reader and its writer.
+//! The program `warg_audit` as a function of its words, its reader and its writer. `files` has what other programs share with
+//! it: lines of hex digits, the lines that stand for records, and what a command answers.
 #![tactic(auto)]
 
 mod command;
+pub mod files;
 mod identify;
 mod information;
 mod input;
 pub mod laws;
 mod log;
+mod log_type;
 mod operator_log;
 mod output;
 mod package_log;
@@ -20,9 +23,9 @@ pub use identify::id_reply;
 pub use information::{Information, parse_information};
 pub use input::Input;
 pub use log::{accepted_first_line, accepted_reply, cause_name, judge, log_reply, refusal_reply};
+pub use log_type::LogType;
 pub use output::Output;
 pub use program::{OUT_OF_MEMORY, USAGE, audit, make_reply};
 pub use reading::{InputError, MAX_INPUT, read_all};
 pub use reply::{Reply, bad_line_reply, refused_reply};
 pub use report::Report;
-pub use warg_log_type::LogType;

@@ -6,7 +6,7 @@ ghost use Rattle.warg_audit.specs.Answers.{IsCommandAnswer};
 ghost use Rattle.warg_audit.specs.Printouts.{usage, read_fault};
 ghost use Rattle.warg_audit.specs.Commands.{command_of};
 ghost use Rattle.warg_audit.specs.LogTypes.{IsLogTypeAnswer};
-ghost use Rattle.warg_files.specs.Lines.{lines_of};
+ghost use Rattle.warg_audit.specs.Files.Lines.{lines_of};
 ghost use Rattle.warg_audit.specs.Meters.{bytes_left, bytes_held, ReadsToEnd, ReadFailed, WriteFailed};
 ghost use Rattle.warg_audit.specs.Replies.{printed_of, IsReply, IsPrintedOrFailed, IsAnswered, IsFailure};
 
@@ -14,13 +14,13 @@ use crate::command::{Command, parse_command};
 use crate::identify::id_reply;
 use crate::input::Input;
 use crate::log::log_reply;
+use crate::log_type::LogType;
 use crate::output::Output;
 use crate::reading::{InputError, read_all};
 use crate::reply::Reply;
 use std::alloc::{AllocError, Global};
 use std::io::{Read, Write};
 use warg_crypto::toy::ToyVerifier;
-use warg_log_type::LogType;
 use warg_operator_log::LogState as OperatorLog;
 use warg_package_log::LogState as PackageLog;
 

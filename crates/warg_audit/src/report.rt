@@ -4,7 +4,7 @@ ghost use Rattle.std.specs.Prelude.{◌≡◌, ◌++◌, ℕ, List, Option, OnOk
 ghost use Rattle.std.specs.Option.{option_copied};
 
 use std::alloc::{AllocError, Global};
-use warg_validator::Validator;
+use warg_replay::Validator;
 
 /// A state of a log that the program reports.
 pub trait Report: Validator {

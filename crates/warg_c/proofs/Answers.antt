@@ -2,9 +2,9 @@
 use Rattle.std.proofs.Common.{◌≡◌, ◌≤◌, ℕ, List, Bool, Option, Some, Result, Ok, Err, sym, ◌∙◌, ap, subst}
 use Rattle.std.specs.Prelude.{OnOk, OnErr, IfErr}
 use Rattle.warg_p256.specs.Scheme.{p256_belongs}
-use Rattle.warg_records.specs.Kinds.{SignatureRelation, AcceptsNoMore}
-use Rattle.warg_validator.specs.Telling.{Holds}
-use Rattle.warg_validator.specs.declared.host.told.Told.{Told}
+use Rattle.warg_log_records.specs.Kinds.{SignatureRelation, AcceptsNoMore}
+use Rattle.warg_replay.specs.Telling.{Holds}
+use Rattle.warg_replay.specs.declared.host.told.Told.{Told}
 use Rattle.warg_c.specs.declared.failure.Failure.{Failure}
 use Rattle.warg_c.specs.declared.failure.Failure.TheVariants.{NotOpen, OutOfMemory, TooSmall, NoEnvelope, Refused, Absent, BadArgument, UnknownAlgorithm}
 use Rattle.warg_c.specs.declared.held.Held.{Held}

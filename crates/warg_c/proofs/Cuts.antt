@@ -6,7 +6,7 @@ use Rattle.std.proofs.lemmas.List.{append_assoc, length-append}
 use Rattle.std.proofs.Math.Seq.{take-append_seam, drop-append_seam, take-length}
 use Rattle.warg_crypto.specs.Keys.{public_key_of, signature_of}
 use Rattle.warg_crypto.specs.NamedBytes.{named_bytes_text}
-use Rattle.warg_records.specs.declared.question.Question.{Question}
+use Rattle.warg_log_records.specs.declared.question.Question.{Question}
 use Rattle.warg_c.specs.Questions.{Says, Spells, lengths_of}
 use Rattle.warg_c.specs.declared.question.Asked.{Asked}
 

@@ -5,12 +5,12 @@ use Rattle.std.specs.Option.{option_map}
 use Rattle.warg_envelope.specs.EnvelopeData.{EnvelopeData}
 use Rattle.warg_envelope.specs.Faults.{NamesFault}
 use Rattle.warg_p256.specs.Scheme.{p256_belongs}
-use Rattle.warg_records.specs.Kinds.{SignatureRelation, Kind}
-use Rattle.warg_validator.specs.OutcomeRuns.{IfNamed}
-use Rattle.warg_validator.specs.Strings.{Cause, Unread, Unlawful}
-use Rattle.warg_validator.specs.declared.replay.RunCause.{RunCause}
-use Rattle.warg_validator.specs.Telling.{Asks}
-use Rattle.warg_records.specs.declared.question.Question.{Question}
+use Rattle.warg_log_records.specs.Kinds.{SignatureRelation, Kind}
+use Rattle.warg_replay.specs.OutcomeRuns.{IfNamed}
+use Rattle.warg_replay.specs.Strings.{Cause, Unread, Unlawful}
+use Rattle.warg_replay.specs.declared.replay.RunCause.{RunCause}
+use Rattle.warg_replay.specs.Telling.{Asks}
+use Rattle.warg_log_records.specs.declared.question.Question.{Question}
 use Rattle.warg_c.specs.declared.failure.Failure.{Failure}
 use Rattle.warg_c.specs.declared.failure.Failure.TheVariants.{NotOpen, OutOfMemory, TooSmall, NoEnvelope, Refused, Absent, BadArgument, UnknownAlgorithm}
 use Rattle.warg_c.specs.declared.question.Asked.{Asked}

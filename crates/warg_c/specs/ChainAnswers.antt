@@ -1,13 +1,13 @@
 -- By which entries keys came to hold permissions.
 use Rattle.std.specs.Prelude.{◌≡◌, ◌⊎◌, List, ℕ, map, Option, Some, None, IsSome}
-use Rattle.warg_audited_log.specs.Chains.{IsChainAnswer}
-use Rattle.warg_audited_log.specs.Log.{StateAndRecords, envelopes}
-use Rattle.warg_audited_log.specs.declared.link.Link as whole
+use Rattle.warg_replay.specs.AuditedLog.Chains.{IsChainAnswer}
+use Rattle.warg_replay.specs.AuditedLog.Log.{StateAndRecords, envelopes}
+use Rattle.warg_replay.specs.declared.audited_log.link.Link as whole
 use Rattle.warg_operator_log.specs.StateLaws as operator_laws
 use Rattle.warg_package_log.specs.StateLaws as package_laws
 use Rattle.warg_permissions.specs.OperatorPermissions as operator_permission
 use Rattle.warg_permissions.specs.PackagePermissions as package_permission
-use Rattle.warg_records.specs.Effects.{Effects}
+use Rattle.warg_log_records.specs.Effects.{Effects}
 use Rattle.warg_c.specs.declared.exports.chains.Link.{Link}
 use Rattle.warg_c.specs.declared.held.Held.{Held}
 use Rattle.warg_c.specs.declared.held.Held.TheVariants.{Package, Operator}

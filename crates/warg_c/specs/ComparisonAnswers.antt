@@ -1,14 +1,14 @@
 -- How two logs compare.
 use Rattle.std.specs.Prelude.{◌≡◌, ◌⊎◌, ℕ, Option, Some, None}
-use Rattle.warg_audited_log.specs.Comparisons.{IsComparison}
-use Rattle.warg_audited_log.specs.Log.{StateAndRecords, envelopes, contents}
-use Rattle.warg_audited_log.specs.declared.comparison.Comparison as whole
-use Rattle.warg_audited_log.specs.declared.comparison.Comparison.TheVariants as is
+use Rattle.warg_replay.specs.AuditedLog.Comparisons.{IsComparison}
+use Rattle.warg_replay.specs.AuditedLog.Log.{StateAndRecords, envelopes, contents}
+use Rattle.warg_replay.specs.declared.audited_log.comparison.Comparison as whole
+use Rattle.warg_replay.specs.declared.audited_log.comparison.Comparison.TheVariants as is
 use Rattle.warg_operator_log.specs.State as operators
 use Rattle.warg_operator_log.specs.StateLaws as operator_laws
 use Rattle.warg_package_log.specs.State as packages
 use Rattle.warg_package_log.specs.StateLaws as package_laws
-use Rattle.warg_records.specs.Kinds.{Kind}
+use Rattle.warg_log_records.specs.Kinds.{Kind}
 use Rattle.warg_c.specs.declared.exports.comparing.Comparison.{Comparison}
 use Rattle.warg_c.specs.declared.held.Held.{Held}
 use Rattle.warg_c.specs.declared.held.Held.TheVariants.{Package, Operator}

@@ -2,9 +2,9 @@
 use Rattle.std.specs.Prelude.{◌≡◌, ℕ, zero, suc, Bool, List, Option, Some, None, Result, Ok, Err}
 use Rattle.warg_envelope.specs.Envelopes.{envelope_of, envelope_fault_of}
 use Rattle.warg_envelope.specs.Faults.{fault_of}
-use Rattle.warg_key_maps.specs.AuthorityData.{AuthorityData}
+use Rattle.warg_permissions.specs.KeyMaps.AuthorityData.{AuthorityData}
 use Rattle.warg_log.specs.States.{State}
-use Rattle.warg_validator.specs.declared.host.told.Told.{Told}
+use Rattle.warg_replay.specs.declared.host.told.Told.{Told}
 use Rattle.warg_operator_log.specs.Namespaces.{Namespace}
 use Rattle.warg_operator_log.specs.ErrorTexts as operator_texts
 use Rattle.warg_operator_log.specs.OffenceNames as operator_names
@@ -17,14 +17,14 @@ use Rattle.warg_package_log.specs.State as packages
 use Rattle.warg_package_log.specs.StateLaws as package_laws
 use Rattle.warg_permissions.specs.declared.operator.Permission as operator_permission
 use Rattle.warg_permissions.specs.declared.package.Permission as package_permission
-use Rattle.warg_records.specs.OperatorEntries as operator_records
-use Rattle.warg_records.specs.OperatorReading.{operator_record_of}
-use Rattle.warg_records.specs.PackageEntries as package_records
-use Rattle.warg_records.specs.PackageReading.{package_record_of}
+use Rattle.warg_log_records.specs.OperatorEntries as operator_records
+use Rattle.warg_log_records.specs.OperatorReading.{operator_record_of}
+use Rattle.warg_log_records.specs.PackageEntries as package_records
+use Rattle.warg_log_records.specs.PackageReading.{package_record_of}
 use Rattle.warg_p256.specs.Scheme.{p256_belongs}
-use Rattle.warg_records.specs.Kinds.{SignatureRelation, AcceptsNoMore}
-use Rattle.warg_validator.specs.OutcomeRuns.{cause_named_by}
-use Rattle.warg_validator.specs.Telling.{told_belongs}
+use Rattle.warg_log_records.specs.Kinds.{SignatureRelation, AcceptsNoMore}
+use Rattle.warg_replay.specs.OutcomeRuns.{cause_named_by}
+use Rattle.warg_replay.specs.Telling.{told_belongs}
 use Rattle.warg_c.specs.declared.failure.Failure.{Failure}
 use Rattle.warg_c.specs.declared.failure.Failure.TheVariants.{NotOpen, OutOfMemory, TooSmall, NoEnvelope, Refused, Absent, BadArgument, UnknownAlgorithm}
 use Rattle.warg_c.specs.declared.held.Kind.{Kind}

@@ -11,12 +11,12 @@ use Rattle.warg_package_log.specs.ErrorTexts as package_texts
 use Rattle.warg_package_log.specs.OffenceNames as package_names
 use Rattle.warg_package_log.specs.State as packages
 use Rattle.warg_package_log.specs.StateLaws as package_laws
-use Rattle.warg_records.specs.OperatorReading.{operator_record_of}
-use Rattle.warg_records.specs.PackageReading.{package_record_of}
-use Rattle.warg_records.specs.Kinds.{Kind}
-use Rattle.warg_validator.specs.OutcomeRuns.{cause_named_by}
-use Rattle.warg_validator.specs.Strings.{Cause, Unread}
-use Rattle.warg_validator.specs.declared.replay.RunCause.{RunCause}
+use Rattle.warg_log_records.specs.OperatorReading.{operator_record_of}
+use Rattle.warg_log_records.specs.PackageReading.{package_record_of}
+use Rattle.warg_log_records.specs.Kinds.{Kind}
+use Rattle.warg_replay.specs.OutcomeRuns.{cause_named_by}
+use Rattle.warg_replay.specs.Strings.{Cause, Unread}
+use Rattle.warg_replay.specs.declared.replay.RunCause.{RunCause}
 use Rattle.warg_c.specs.declared.failure.Failure.{Failure}
 use Rattle.warg_c.specs.declared.failure.Failure.TheVariants.{NotOpen, OutOfMemory, TooSmall, NoEnvelope, Refused, Absent, BadArgument, UnknownAlgorithm}
 use Rattle.warg_c.specs.Logs.{HasErrorText}

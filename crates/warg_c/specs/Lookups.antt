@@ -2,7 +2,7 @@
 use Rattle.std.specs.Prelude.{◌≡◌, ℕ, List, ◌++◌, length, Option, Some, None, IsSome}
 use Rattle.std.specs.List.{slice_get}
 use Rattle.std.specs.Option.{option_map}
-use Rattle.warg_audited_log.specs.Log.{StateAndRecords}
+use Rattle.warg_replay.specs.AuditedLog.Log.{StateAndRecords}
 use Rattle.warg_crypto.specs.HashText.{hash_text}
 use Rattle.warg_envelope.specs.EnvelopeData.{EnvelopeData, DecodedEnvelope}
 use Rattle.warg_envelope.specs.Envelopes.{envelope_message}
@@ -11,8 +11,8 @@ use Rattle.warg_operator_log.specs.StateLaws as operator_laws
 use Rattle.warg_package_log.specs.State as packages
 use Rattle.warg_package_log.specs.StateLaws as package_laws
 use Rattle.warg_protobuf.specs.Envelope.{envelope_bytes}
-use Rattle.warg_records.specs.declared.record_id.RecordId.{RecordId}
-use Rattle.warg_records.specs.Kinds.{Kind}
+use Rattle.warg_log_records.specs.declared.record_id.RecordId.{RecordId}
+use Rattle.warg_log_records.specs.Kinds.{Kind}
 use Rattle.warg_c.specs.declared.exports.records.KeptLengths.{KeptLengths}
 use Rattle.warg_c.specs.declared.held.Held.{Held}
 use Rattle.warg_c.specs.declared.held.Held.TheVariants.{Package, Operator}

@@ -8,7 +8,7 @@ use Rattle.warg_registry.specs.PrefixEncodings.{log_leaf_encoding_of, map_leaf_e
 use Rattle.warg_registry.specs.declared.leaf.LogLeaf.{LogLeaf}
 use Rattle.warg_merkle.specs.Trees.{Includes}
 use Rattle.warg_merkle.specs.Extensions.{IsConsistent}
-use Rattle.warg_sparse_map.specs.Maps.{Leads}
+use Rattle.warg_merkle.specs.SparseMap.Maps.{Leads}
 use Rattle.warg_transparency.specs.Heads.{head_leaf}
 use Rattle.warg_transparency.specs.Texts.{log_proof_of, map_proof_of}
 use Rattle.warg_c.specs.declared.failure.Failure.{Failure}

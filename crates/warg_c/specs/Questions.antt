@@ -3,8 +3,8 @@ use Rattle.std.specs.Prelude.{◌≡◌, ◌+◌, ◌≤◌, ℕ, List, ◌++◌
 use Rattle.std.specs.Str.{IsUtf8}
 use Rattle.warg_crypto.specs.Keys.{public_key_of, signature_of}
 use Rattle.warg_crypto.specs.NamedBytes.{named_bytes_text}
-use Rattle.warg_records.specs.declared.question.Question.{Question}
-use Rattle.warg_records.specs.Kinds.{SignatureRelation}
+use Rattle.warg_log_records.specs.declared.question.Question.{Question}
+use Rattle.warg_log_records.specs.Kinds.{SignatureRelation}
 use Rattle.warg_c.specs.declared.question.Asked.{Asked}
 
 abbrev pub key_part : Asked → List ℕ → List ℕ

@@ -10,7 +10,7 @@ use Rattle.warg_package_log.specs.Latest.{IsGreatest, shows_candidate, shown_cmp
 use Rattle.warg_package_log.specs.Releases.{ReleaseView, find_parts}
 use Rattle.warg_package_log.specs.declared.release.ReleaseState.{ReleaseState}
 use Rattle.warg_package_log.specs.declared.release.ReleaseState.TheVariants.{Released, Yanked}
-use Rattle.warg_records.specs.PackageEntries.{VersionParts}
+use Rattle.warg_log_records.specs.PackageEntries.{VersionParts}
 use Rattle.warg_c.specs.declared.held.Held.{Held}
 use Rattle.warg_c.specs.declared.held.Held.TheVariants.{Package, Operator}
 use Rattle.warg_c.specs.declared.release_text.ShownRelease.{ShownRelease}

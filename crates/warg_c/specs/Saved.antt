@@ -1,17 +1,17 @@
 -- Saved states.
 use Rattle.std.specs.Prelude.{◌≡◌, ◌⊎◌, ℕ, List, Result, Ok, Err, codes}
 use Rattle.std.specs.Str.{IsUtf8}
-use Rattle.warg_json.specs.Json.{AreReadBack}
-use Rattle.warg_json.specs.declared.error.JsonError.{JsonError}
-use Rattle.warg_json.specs.declared.error.JsonError.TheVariants as value
+use Rattle.warg_crypto.specs.Json.Json.{AreReadBack}
+use Rattle.warg_crypto.specs.declared.json.error.JsonError.{JsonError}
+use Rattle.warg_crypto.specs.declared.json.error.JsonError.TheVariants as value
 use Rattle.warg_operator_log.specs.SavedBack as operators_back
 use Rattle.warg_operator_log.specs.SavedState as operators
 use Rattle.warg_package_log.specs.SavedBack as packages_back
 use Rattle.warg_package_log.specs.SavedState as packages
-use Rattle.warg_saved.specs.JsonText.{in_text, TextReadsBack}
-use Rattle.warg_saved.specs.Texts.{text_of}
-use Rattle.warg_saved.specs.declared.error.JsonTextError.{JsonTextError}
-use Rattle.warg_saved.specs.declared.error.JsonTextError.TheVariants as json
+use Rattle.warg_saved_states.specs.JsonText.{in_text, TextReadsBack}
+use Rattle.warg_saved_states.specs.Texts.{text_of}
+use Rattle.warg_saved_states.specs.declared.error.JsonTextError.{JsonTextError}
+use Rattle.warg_saved_states.specs.declared.error.JsonTextError.TheVariants as json
 use Rattle.warg_c.specs.declared.failure.Failure.{Failure}
 use Rattle.warg_c.specs.declared.held.Held.{Held}
 use Rattle.warg_c.specs.declared.held.Held.TheVariants.{Package, Operator}

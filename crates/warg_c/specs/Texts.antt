@@ -1,9 +1,9 @@
 -- Texts for the caller.
 use Rattle.std.specs.Prelude.{◌≡◌, ◌≢◌, ◌⊎◌, ◌<◌, ◌≤◌, ℕ, List, ◌∷◌, ◌++◌, length, take, Option, Some, None, IfSome, Result, Ok, Err}
 use Rattle.warg_envelope.specs.ErrorTexts.{error_text}
-use Rattle.warg_validator.specs.Messages.{cause_name, cause_text}
-use Rattle.warg_validator.specs.Strings.{Cause, Unread, Unlawful}
-use Rattle.warg_validator.specs.declared.replay.RunCause.{RunCause}
+use Rattle.warg_replay.specs.Messages.{cause_name, cause_text}
+use Rattle.warg_replay.specs.Strings.{Cause, Unread, Unlawful}
+use Rattle.warg_replay.specs.declared.replay.RunCause.{RunCause}
 use Rattle.warg_c.specs.Statuses.{code_of}
 use Rattle.warg_c.specs.declared.failure.Failure.{Failure}
 use Rattle.warg_c.specs.declared.failure.Failure.TheVariants.{NotOpen, OutOfMemory, TooSmall, NoEnvelope, Refused, Absent, BadArgument, UnknownAlgorithm}

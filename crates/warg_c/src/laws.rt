@@ -4,7 +4,7 @@ ghost use Rattle.warg_c.specs.Held.{IsNew};
 ghost use Rattle.warg_c.specs.Runs.{AreVerified, Call, IsRun, HoldsOfAll, appends_all, is_log_of, envelopes_taken};
 ghost use Rattle.warg_c.specs.declared.held.Held.{Held};
 ghost use Rattle.warg_p256.specs.Scheme.{p256_belongs};
-ghost use Rattle.warg_records.specs.Kinds.{SignatureRelation};
+ghost use Rattle.warg_log_records.specs.Kinds.{SignatureRelation};
 
 /// A run of `warg_append` and `warg_append_signed`, under every relation that holds of all that the caller said yes to,
 /// and of all signatures of `ecdsa-p256` where the library verified one.

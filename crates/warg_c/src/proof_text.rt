@@ -9,7 +9,7 @@ ghost use Rattle.warg_c.specs.Texts.{Always, FailsAs};
 use crate::failure::Failure;
 use std::alloc::Global;
 use warg_crypto::hash::AnyHash;
-use warg_records::RecordId;
+use warg_log_records::RecordId;
 use warg_registry::{LogId, LogLeaf};
 use warg_transparency::{LogProof, MapProof, ProofTextError};
 

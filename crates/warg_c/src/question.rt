@@ -13,7 +13,7 @@ use std::alloc::{AllocError, Global};
 use warg_crypto::laws::{public_key_reads_back, signature_reads_back};
 use warg_crypto::signing::{KeyParseError, PublicKey, Signature, SignatureParseError};
 use warg_p256::ALGORITHM;
-use warg_validator::host::{Question, Told};
+use warg_replay::host::{Question, Told};
 
 /// How many bytes of a question are the key's text, the message, and the signature's text. They stand one behind the other.
 #[repr(C)]

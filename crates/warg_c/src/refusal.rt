@@ -1,7 +1,7 @@
 //! The texts of refusals.
 ghost use Rattle.std.specs.Prelude.{◌≡◌, ◌≢◌, ◌⊎◌, ◌++◌, ◌∷◌, ◌≤◌, None, IfErr, IfOk, OnOk, length, drop, string_bytes};
 ghost use Rattle.warg_envelope.specs.Envelopes.{envelope_fault_of};
-ghost use Rattle.warg_validator.specs.OutcomeRuns.{cause_named_by};
+ghost use Rattle.warg_replay.specs.OutcomeRuns.{cause_named_by};
 ghost use Rattle.warg_c.specs.Texts.{IsErrorLine, IsErrorText, IsNameOrLine, SaysCause, failure_by};
 ghost use Rattle.warg_c.specs.declared.failure.Failure.TheVariants.{NoEnvelope, OutOfMemory, Refused, TooSmall};
 
@@ -10,7 +10,7 @@ use crate::given::give_if_room;
 use std::alloc::{AllocError, Global};
 use std::fmt;
 use warg_envelope::ParseEnvelopeError;
-use warg_validator::{Named, RunCause, Validator};
+use warg_replay::{Named, RunCause, Validator};
 
 /// What kind of failure a cause is.
 pub(crate) fn failure_of<L: Validator>(cause: &RunCause<L::Error>) -> Failure

@@ -7,7 +7,7 @@ use crate::failure::Failure;
 use crate::question::{Asked, told};
 use std::alloc::Global;
 use std::marker::Model;
-use warg_validator::host::{Question, Told};
+use warg_replay::host::{Question, Told};
 
 /// A question, and the bytes that spell it.
 #[derive(Drop)]

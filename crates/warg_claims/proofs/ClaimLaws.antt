@@ -6,14 +6,14 @@ use Rattle.std.specs.Option.{option_map}
 use Rattle.std.proofs.lemmas.List.{length-take-le, length_push, take-append-le, take-take, take_all, take_at}
 use Rattle.std.proofs.lemmas.Option.{slice_get_cases, slice_get_past, slice_get_within}
 use Rattle.warg_envelope.specs.EnvelopeData.{EnvelopeData}
-use Rattle.warg_records.specs.Kinds.{IsAccepted, AcceptsNoMore, Kind, KindLaws, SignatureRelation, StandsFor}
-use Rattle.warg_validator.specs.OutcomeRuns.{HasNoOffence, IfNamed, IsFirstOffence, cause_next}
-use Rattle.warg_validator.proofs.OutcomeLaws.{IfNamed-map}
-use Rattle.warg_validator.specs.Strings.{Cause, Unlawful, cause_of, ok, read_all}
+use Rattle.warg_log_records.specs.Kinds.{IsAccepted, AcceptsNoMore, Kind, KindLaws, SignatureRelation, StandsFor}
+use Rattle.warg_replay.specs.OutcomeRuns.{HasNoOffence, IfNamed, IsFirstOffence, cause_next}
+use Rattle.warg_replay.proofs.OutcomeLaws.{IfNamed-map}
+use Rattle.warg_replay.specs.Strings.{Cause, Unlawful, cause_of, ok, read_all}
 use Rattle.warg_claims.specs.Claimed.{AreClaims, AsksClaim, HoldsOf, IsRefusedAnyway, IsTaken, RefusesAnyway, any_signature, seen_before}
-use Rattle.warg_validator.specs.Telling.{IsNext}
+use Rattle.warg_replay.specs.Telling.{IsNext}
 use Rattle.warg_claims.proofs.Places.{at-push, slice_get-take}
-use Rattle.warg_verified.specs.Claims.{ClaimData}
+use Rattle.warg_claims.specs.Verified.Claims.{ClaimData}
 
 none_inside : {A B : Type 0} (f : A → B) (o : Option A) → option_map f o ≡ None → o ≡ None
 none_inside f None h = refl

@@ -3,11 +3,11 @@ use Rattle.std.proofs.Common.{◌≡◌, ℕ, true, List, Contains, Some}
 use Rattle.std.specs.List.{slice_get}
 use Rattle.std.proofs.lemmas.Map.Views.{Contains-from_any, list_any-from_Contains}
 use Rattle.std.proofs.lemmas.Option.{get_or_from_slice_get, slice_get_within}
-use Rattle.warg_records.specs.Kinds.{AcceptsNoMore, SignatureRelation}
+use Rattle.warg_log_records.specs.Kinds.{AcceptsNoMore, SignatureRelation}
 use Rattle.warg_claims.specs.Claimed.{HoldsOf}
-use Rattle.warg_verified.specs.Claims.{ClaimData, is_claimed}
-use Rattle.warg_verified.specs.SameClaims.{same_claim_equiv}
-use Rattle.warg_verified.proofs.SameLemmas.{same_claim-one}
+use Rattle.warg_claims.specs.Verified.Claims.{ClaimData, is_claimed}
+use Rattle.warg_claims.specs.Verified.SameClaims.{same_claim_equiv}
+use Rattle.warg_claims.proofs.VerifiedLemmas.SameLemmas.{same_claim-one}
 
 -- an element at a place is one of the list
 contains-at : {X : Type 0} (xs : List X) (i : ℕ) (x : X) → slice_get xs i ≡ Some x → Contains xs x

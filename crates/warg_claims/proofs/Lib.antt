@@ -1,3 +1,4 @@
 pub mod ClaimLaws
 pub mod HeldClaims
 pub mod Places
+pub mod VerifiedLemmas

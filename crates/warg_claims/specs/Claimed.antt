@@ -2,12 +2,12 @@
 use Rattle.std.specs.Prelude.{◌≡◌, ℕ, true, List, length, take, Option, Some, None, Result, Ok, Err}
 use Rattle.std.specs.List.{slice_get}
 use Rattle.warg_envelope.specs.EnvelopeData.{EnvelopeData}
-use Rattle.warg_records.specs.Asked.{AsksFor}
-use Rattle.warg_validator.specs.Telling.{IsNext}
-use Rattle.warg_records.specs.Kinds.{IsAccepted, Kind, SignatureRelation, StandsFor}
-use Rattle.warg_validator.specs.OutcomeRuns.{IfNamed, cause_next}
-use Rattle.warg_validator.specs.Strings.{Cause, read_all}
-use Rattle.warg_verified.specs.Claims.{ClaimData}
+use Rattle.warg_log_records.specs.Asked.{AsksFor}
+use Rattle.warg_replay.specs.Telling.{IsNext}
+use Rattle.warg_log_records.specs.Kinds.{IsAccepted, Kind, SignatureRelation, StandsFor}
+use Rattle.warg_replay.specs.OutcomeRuns.{IfNamed, cause_next}
+use Rattle.warg_replay.specs.Strings.{Cause, read_all}
+use Rattle.warg_claims.specs.Verified.Claims.{ClaimData}
 
 -- each signature is taken to belong
 abbrev pub any_signature : SignatureRelation

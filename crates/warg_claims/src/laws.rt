@@ -2,14 +2,14 @@
 ghost use Rattle.std.specs.Prelude.{◌≡◌, ◌↔◌, ℕ, List, Contains, length, take, true};
 ghost use Rattle.warg_envelope.specs.Envelopes.{EnvelopeFault, envelope_of};
 ghost use Rattle.warg_envelope.specs.EnvelopeData.{EnvelopeData};
-ghost use Rattle.warg_records.specs.Kinds.{SignatureRelation, IsAccepted, StandsFor};
-ghost use Rattle.warg_validator.specs.OutcomeRuns.{HasNoOffence, IsFirstOffence};
-ghost use Rattle.warg_validator.specs.Strings.{Cause};
+ghost use Rattle.warg_log_records.specs.Kinds.{SignatureRelation, IsAccepted, StandsFor};
+ghost use Rattle.warg_replay.specs.OutcomeRuns.{HasNoOffence, IsFirstOffence};
+ghost use Rattle.warg_replay.specs.Strings.{Cause};
 ghost use Rattle.warg_claims.specs.Claimed.{AreClaims, HoldsOf, IsRefusedAnyway};
-ghost use Rattle.warg_verified.specs.Claims.{ClaimData, is_claimed};
+ghost use Rattle.warg_claims.specs.Verified.Claims.{ClaimData, is_claimed};
 
-use warg_validator::Validator;
-use warg_validator::host::Hosted;
+use warg_replay::Validator;
+use warg_replay::host::Hosted;
 
 /// A log of which each string has its claim is accepted exactly under the relations that hold of all its claims.
 pub fn claims_decide<L: Hosted>()

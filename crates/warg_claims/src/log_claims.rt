@@ -2,16 +2,16 @@
 ghost use Rattle.std.specs.Prelude.{◌≡◌, IfOk, IfErr, OnOk, Some, length, map, take};
 ghost use Rattle.std.specs.Vec.{vec_items};
 ghost use Rattle.warg_envelope.specs.Envelopes.{envelope_of, envelope_fault_of};
-ghost use Rattle.warg_validator.specs.OutcomeRuns.{cause_named_by};
+ghost use Rattle.warg_replay.specs.OutcomeRuns.{cause_named_by};
 ghost use Rattle.warg_claims.specs.Claimed.{AreClaims, AsksClaim, EndsAt, IsTaken, RefusesAnyway};
 ghost use Rattle.warg_envelope.specs.declared.proto_envelope.error.ParseEnvelopeError.TheVariants.{OutOfMemory};
-ghost use Rattle.warg_validator.specs.declared.replay.RunCause.TheVariants.{Parse};
+ghost use Rattle.warg_replay.specs.declared.replay.RunCause.TheVariants.{Parse};
 
+use crate::verified::Claim;
 use std::alloc::Global;
 use warg_envelope::ParseEnvelopeError;
-use warg_validator::RunCause;
-use warg_validator::host::{Hosted, Question, Told, append, ask};
-use warg_verified::Claim;
+use warg_replay::RunCause;
+use warg_replay::host::{Hosted, Question, Told, append, ask};
 
 /// The claims of a log's records, in order: the triple of which a host has to say whether it belongs together.
 #[derive(Drop)]

@@ -2,3 +2,5 @@ pub mod Visits
 pub mod PrefixLemmas
 pub mod Grammars
 pub mod DigitLemmas
+pub mod JsonLemmas
+pub mod TimeLemmas

@@ -10,3 +10,6 @@ pub mod Keys
 pub mod Signed
 pub mod OutcomeResults
 pub mod Prefix
+pub mod Json
+pub mod Time
+pub mod Coding

@@ -6,6 +6,8 @@ ghost use Rattle.warg_crypto.specs.HashText.{hash_of, hash_text, IsHashText};
 ghost use Rattle.warg_crypto.specs.Keys.{public_key_of, signature_of};
 ghost use Rattle.warg_crypto.specs.Prefix.{IsLeb128, str_of, unsigned_of};
 ghost use Rattle.warg_crypto.specs.NamedBytes.{IsKeyText, IsName, NamedBytes, named_bytes_text};
+ghost use Rattle.warg_crypto.specs.declared.coding.DecodeError.{DecodeError};
+ghost use Rattle.warg_crypto.specs.declared.coding.WireFault.{WireFault};
 ghost use Rattle.warg_crypto.specs.declared.hash.AnyHash.{AnyHash};
 ghost use Rattle.warg_crypto.specs.declared.hash.AnyHashError.{AnyHashError};
 ghost use Rattle.warg_crypto.specs.declared.hash.HashAlgorithm.{HashAlgorithm};
@@ -26,6 +28,7 @@ use crate::signing::{
 };
 use crate::toy::{ToySigner, ToyVerifier};
 use crate::visit::VisitBytes;
+use crate::{DecodeError, WireFault};
 pub use hashing::{feed_id, feed_key, feed_signature};
 pub use order::{compare_algorithms, compare_hashes, compare_ids, compare_typed_hashes};
 use std::alloc::{AllocError, Global};
@@ -132,6 +135,9 @@ pub fn equality()
         (⟦<SignatureParseError as PartialEq>⟧.eq a b ≡ true) ↔ (a ≡ b) }
     ensures signature_errors { (a b : SignatureError) →
         (⟦<SignatureError as PartialEq>⟧.eq a b ≡ true) ↔ (a ≡ b) }
+    ensures wire_faults { (a b : WireFault) → (⟦<WireFault as PartialEq>⟧.eq a b ≡ true) ↔ (a ≡ b) }
+    ensures decode_errors { (a b : DecodeError) →
+        (⟦<DecodeError as PartialEq>⟧.eq a b ≡ true) ↔ (a ≡ b) }
 {}
 
 /// `==` of hashes whose type names their digest is true exactly where their bytes are identical.

@@ -1,16 +1,21 @@
-//! Hashes, keys and signatures, the visitors that take bytes in, and prefix encoding.
+//! Hashes, keys and signatures, the visitors that take bytes in, prefix encoding, what is written as bytes and read from
+//! them, JSON of values (`json`), and times (`time`).
 #![tactic(auto)]
 
 mod coding;
 pub mod digits;
 pub mod hash;
+pub mod json;
 pub mod laws;
 pub mod prefix;
 mod ranges;
 pub mod signing;
+pub mod time;
 pub mod toy;
 mod visit;
 
-pub use coding::Encode;
+pub use coding::{Decode, DecodeError, Encode, WireFault};
+pub use json::{Incoherence, JsonError, JsonValue};
 pub use signing::Signable;
+pub use time::{Clock, SystemClock, TimeError, Timestamp};
 pub use visit::{ByteVisitor, VisitBytes};

@@ -2,12 +2,12 @@
 use Rattle.std.specs.Prelude.{◌≡◌, codes, Result, Ok, refl}
 use Rattle.std.proofs.Common.{sym, subst, ap, ◌∙◌}
 use Rattle.serde_json.specs.Data.{Data, Members, no_members, object, put}
-use Rattle.warg_json.specs.Json.{ReadsBack}
-use Rattle.warg_json.specs.JsonTexts.{key_id_in, signature_in}
-use Rattle.warg_json.specs.declared.error.JsonError.{JsonError}
+use Rattle.warg_crypto.specs.Json.Json.{ReadsBack}
+use Rattle.warg_crypto.specs.Json.JsonTexts.{key_id_in, signature_in}
+use Rattle.warg_crypto.specs.declared.json.error.JsonError.{JsonError}
 use Rattle.warg_envelope.specs.EnvelopeData.{EnvelopeData}
 use Rattle.warg_envelope.specs.EnvelopeJson.{AreBodyMembers, AreEquivalentSigned, SignedContents, body_in, bytes_in, published_in, signed_in}
-use Rattle.warg_json.specs.Numbers.{number_in}
+use Rattle.warg_crypto.specs.Json.Numbers.{number_in}
 use Rattle.warg_envelope.specs.declared.proto_envelope.body.PublishedProtoEnvelopeBody.{PublishedProtoEnvelopeBody}
 
 signed_read : {A : Type 0} (reads : Data → Result A JsonError) (y : SignedContents A) (a b c : Data)

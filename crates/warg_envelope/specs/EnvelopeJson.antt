@@ -3,12 +3,12 @@ use Rattle.std.specs.Prelude.{◌≡◌, ℕ, List, codes, Result, Ok}
 use Rattle.base64.specs.Engines.{standard}
 use Rattle.base64.specs.GeneralPurpose.{decode_of, encode_of}
 use Rattle.serde_json.specs.Data.{Data, Members, no_members, object, put, string}
-use Rattle.warg_json.specs.Json.{◌>>=◌, member_in, or_bad_text, text_in, json_result}
-use Rattle.warg_json.specs.JsonTexts.{key_id_in, key_id_json, signature_in, signature_json}
-use Rattle.warg_json.specs.Members.{put_json}
+use Rattle.warg_crypto.specs.Json.Json.{◌>>=◌, member_in, or_bad_text, text_in, json_result}
+use Rattle.warg_crypto.specs.Json.JsonTexts.{key_id_in, key_id_json, signature_in, signature_json}
+use Rattle.warg_crypto.specs.Json.Members.{put_json}
 use Rattle.warg_crypto.specs.NamedBytes.{NamedBytes}
-use Rattle.warg_json.specs.Numbers.{number_in, number_json}
-use Rattle.warg_json.specs.declared.error.JsonError.{JsonError}
+use Rattle.warg_crypto.specs.Json.Numbers.{number_in, number_json}
+use Rattle.warg_crypto.specs.declared.json.error.JsonError.{JsonError}
 use Rattle.warg_envelope.specs.EnvelopeData.{EnvelopeData}
 use Rattle.warg_envelope.specs.declared.proto_envelope.body.PublishedProtoEnvelopeBody.{PublishedProtoEnvelopeBody}
 

@@ -2,7 +2,7 @@
 use Rattle.std.specs.Prelude.{◌≡◌, ℕ, List, Option, Some, None, Result, Ok, Err}
 use Rattle.warg_crypto.specs.Keys.{signature_of}
 use Rattle.warg_crypto.specs.NamedBytes.{NamedBytes, named_bytes_text}
-use Rattle.warg_envelope.specs.declared.coding.DecodeError.{DecodeError}
+use Rattle.warg_crypto.specs.declared.coding.DecodeError.{DecodeError}
 use Rattle.warg_crypto.specs.declared.hash.AnyHashError.{AnyHashError}
 use Rattle.warg_crypto.specs.declared.signing.error.SignatureParseError.{SignatureParseError}
 use Rattle.warg_protobuf.specs.Envelope.{EnvelopeValue}

@@ -1,9 +1,9 @@
 -- Laws of the errors that name faults.
 use Rattle.std.specs.Prelude.{◌≡◌, Option, Some, None, Result, Ok, Err}
 use Rattle.std.proofs.Common.{◌∙◌, ap, inl, inr, refl, subst, sym}
-use Rattle.warg_envelope.specs.Coding.{IsDecoded}
-use Rattle.warg_envelope.specs.declared.coding.DecodeError.{DecodeError}
-use Rattle.warg_envelope.specs.declared.coding.DecodeError.TheVariants as error
+use Rattle.warg_crypto.specs.Coding.{IsDecoded}
+use Rattle.warg_crypto.specs.declared.coding.DecodeError.{DecodeError}
+use Rattle.warg_crypto.specs.declared.coding.DecodeError.TheVariants as error
 use Rattle.warg_envelope.specs.Faults.{RecordFault, IsReading, NamesFault, decode_result, error_of, fault_of}
 
 -- the error that names what an error names

@@ -1,8 +1,8 @@
 -- The names of faults: the names of their cases, from the outside in, joined by dots, without fields.
 use Rattle.std.specs.Prelude.{ℕ, List, ◌++◌, codes, unwrap_or}
 use Rattle.std.specs.Option.{option_map}
-use Rattle.warg_envelope.specs.declared.coding.WireFault.{WireFault}
-use Rattle.warg_envelope.specs.declared.coding.WireFault.TheVariants as fault
+use Rattle.warg_crypto.specs.declared.coding.WireFault.{WireFault}
+use Rattle.warg_crypto.specs.declared.coding.WireFault.TheVariants as fault
 use Rattle.warg_crypto.specs.declared.hash.AnyHashError.{AnyHashError}
 use Rattle.warg_crypto.specs.declared.hash.AnyHashError.TheVariants as hash
 use Rattle.warg_crypto.specs.declared.signing.error.KeyParseError.{KeyParseError}

@@ -1,8 +1,8 @@
 -- Why bytes are no record or no envelope. Out of memory is none of these.
 use Rattle.std.specs.Prelude.{◌≡◌, ℤ, Option, Some, None, IsSomeAnd, Result, Ok, Err, MatchResult}
-use Rattle.warg_envelope.specs.declared.coding.WireFault.{WireFault}
-use Rattle.warg_envelope.specs.declared.coding.DecodeError.{DecodeError}
-use Rattle.warg_envelope.specs.declared.coding.DecodeError.TheVariants as error
+use Rattle.warg_crypto.specs.declared.coding.WireFault.{WireFault}
+use Rattle.warg_crypto.specs.declared.coding.DecodeError.{DecodeError}
+use Rattle.warg_crypto.specs.declared.coding.DecodeError.TheVariants as error
 use Rattle.warg_crypto.specs.declared.hash.AnyHashError.{AnyHashError}
 use Rattle.warg_crypto.specs.declared.signing.error.KeyParseError.{KeyParseError}
 

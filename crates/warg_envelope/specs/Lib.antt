@@ -1,4 +1,3 @@
-pub mod Coding
 pub mod Faults
 pub mod FaultLaws
 pub mod EnvelopeData

@@ -1,6 +1,6 @@
 -- Which error of an envelope a part's error is. Out of memory stays out of memory.
-use Rattle.warg_envelope.specs.declared.coding.DecodeError.{DecodeError}
-use Rattle.warg_envelope.specs.declared.coding.DecodeError.TheVariants as contents
+use Rattle.warg_crypto.specs.declared.coding.DecodeError.{DecodeError}
+use Rattle.warg_crypto.specs.declared.coding.DecodeError.TheVariants as contents
 use Rattle.warg_crypto.specs.declared.signing.error.SignatureParseError.{SignatureParseError}
 use Rattle.warg_crypto.specs.declared.signing.error.SignatureParseError.TheVariants as signature
 use Rattle.warg_protobuf.specs.declared.error.WireError.{WireError}

@@ -4,7 +4,7 @@ use Rattle.warg_envelope.specs.EnvelopeData.{EnvelopeData, DecodedEnvelope}
 use Rattle.warg_envelope.specs.Envelopes as envelope
 use Rattle.warg_envelope.specs.Envelopes.{EnvelopeFault}
 use Rattle.warg_envelope.specs.Readings.{Reading}
-use Rattle.warg_envelope.specs.declared.coding.DecodeError.{DecodeError}
+use Rattle.warg_crypto.specs.declared.coding.DecodeError.{DecodeError}
 use Rattle.warg_envelope.specs.declared.proto_envelope.error.ParseEnvelopeError.{ParseEnvelopeError}
 
 module _ {C M F : Type 0} {read : List ℕ → Result M F} {meaning : C → M} {fault_of : DecodeError → Option F} (reading : Reading read meaning fault_of) where

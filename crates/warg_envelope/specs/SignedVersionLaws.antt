@@ -3,14 +3,14 @@ use Rattle.std.specs.Prelude.{◌≡◌, List, codes, Some, Result, Ok, refl}
 use Rattle.std.proofs.Common.{◌∙◌, ap, subst}
 use Rattle.serde_json.specs.Data.{Data, Members, no_members, object, put, string}
 use Rattle.serde_json.specs.Find.{get_member}
-use Rattle.warg_json.specs.Json.{AreReadBack, Version, member_in, json_result}
-use Rattle.warg_json.specs.JsonTexts.{key_id_in, signature_in}
-use Rattle.warg_json.specs.Members.{put_json}
+use Rattle.warg_crypto.specs.Json.Json.{AreReadBack, Version, member_in, json_result}
+use Rattle.warg_crypto.specs.Json.JsonTexts.{key_id_in, signature_in}
+use Rattle.warg_crypto.specs.Json.Members.{put_json}
 use Rattle.warg_crypto.specs.NamedBytes.{named_bytes_text}
-use Rattle.warg_json.specs.JsonLaws.{bind_ok, ok_same}
-use Rattle.warg_json.specs.Within.{AreWithin}
-use Rattle.warg_json.specs.WithinLaws.{member_within}
-use Rattle.warg_json.specs.declared.error.JsonError.{JsonError}
+use Rattle.warg_crypto.specs.Json.JsonLaws.{bind_ok, ok_same}
+use Rattle.warg_crypto.specs.Json.Within.{AreWithin}
+use Rattle.warg_crypto.specs.Json.WithinLaws.{member_within}
+use Rattle.warg_crypto.specs.declared.json.error.JsonError.{JsonError}
 use Rattle.warg_envelope.specs.EnvelopeJson.{SignedContents, signed_in, signed_json}
 
 module _ {A : Type 0} (writes : A → Result Data JsonError) (versions : A → List Version)

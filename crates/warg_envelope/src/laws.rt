@@ -5,8 +5,6 @@ ghost use Rattle.warg_crypto.specs.Keys.{signature_of};
 ghost use Rattle.warg_crypto.specs.NamedBytes.{named_bytes_text};
 ghost use Rattle.warg_envelope.specs.EnvelopeData.{DecodedEnvelope, EnvelopeData};
 ghost use Rattle.warg_envelope.specs.Envelopes.{IsHonest, envelope_message, envelope_of};
-ghost use Rattle.warg_envelope.specs.declared.coding.DecodeError.{DecodeError};
-ghost use Rattle.warg_envelope.specs.declared.coding.WireFault.{WireFault};
 ghost use Rattle.warg_envelope.specs.declared.proto_envelope.body.PublishedProtoEnvelope.{PublishedProtoEnvelope};
 ghost use Rattle.warg_envelope.specs.declared.proto_envelope.body.PublishedProtoEnvelopeBody.{PublishedProtoEnvelopeBody};
 ghost use Rattle.warg_envelope.specs.declared.proto_envelope.error.ParseEnvelopeError.{ParseEnvelopeError};
@@ -14,8 +12,8 @@ ghost use Rattle.warg_envelope.specs.declared.serde_envelope.SerdeEnvelope.{Serd
 ghost use Rattle.warg_protobuf.specs.Envelope.{IsEnvelope};
 
 use crate::{
-    DecodeError, ParseEnvelopeError, ProtoEnvelope, ProtoEnvelopeBody, PublishedProtoEnvelope,
-    PublishedProtoEnvelopeBody, Record, SerdeEnvelope, WireFault,
+    ParseEnvelopeError, ProtoEnvelope, ProtoEnvelopeBody, PublishedProtoEnvelope,
+    PublishedProtoEnvelopeBody, Record, SerdeEnvelope,
 };
 use warg_crypto::laws::byte_range;
 use warg_protobuf::laws::decoding_computes;
@@ -44,8 +42,7 @@ pub fn envelopes_read_back<C: Record>()
 /// When `==` is true. Of envelopes: exactly where it is of their records, and the content bytes, the key ids and the
 /// signatures are identical; of those that keep no bytes, exactly where it is of their contents, and the key ids and the
 /// signatures are identical. Of published envelopes: exactly where it is of the envelopes, and the places are one. Of those
-/// whose content bytes are not read yet, and of why bytes are no message, no record or no envelope: exactly where both are
-/// identical.
+/// whose content bytes are not read yet, and of why bytes are no envelope: exactly where both are identical.
 pub fn equality<C: Eq>()
     ensures envelopes { (a b : DecodedEnvelope C) →
         (⟦<ProtoEnvelope<C> as PartialEq>⟧.eq a b ≡ true) ↔
@@ -62,9 +59,6 @@ pub fn equality<C: Eq>()
         (⟦<SerdeEnvelope<C> as PartialEq>⟧.eq a b ≡ true) ↔
         ((C.eq a.contents b.contents ≡ true) × (a.key_id ≡ b.key_id) ×
         (a.signature ≡ b.signature)) }
-    ensures wire_faults { (a b : WireFault) → (⟦<WireFault as PartialEq>⟧.eq a b ≡ true) ↔ (a ≡ b) }
-    ensures decode_errors { (a b : DecodeError) →
-        (⟦<DecodeError as PartialEq>⟧.eq a b ≡ true) ↔ (a ≡ b) }
     ensures parse_errors { (a b : ParseEnvelopeError) →
         (⟦<ParseEnvelopeError as PartialEq>⟧.eq a b ≡ true) ↔ (a ≡ b) }
 {}

@@ -3,20 +3,18 @@
 #![tactic(auto)]
 
 ghost use Rattle.std.specs.Prelude.{◌≡◌, ◌≢◌, ◌↔◌, ℕ, List, Result, Ok, Err, Option, None, IfOk};
-ghost use Rattle.warg_envelope.specs.Coding.{IsDecoded};
-ghost use Rattle.warg_envelope.specs.declared.coding.DecodeError.{DecodeError};
-ghost use Rattle.warg_envelope.specs.declared.coding.DecodeError.TheVariants as error;
+ghost use Rattle.warg_crypto.specs.Coding.{IsDecoded};
+ghost use Rattle.warg_crypto.specs.declared.coding.DecodeError.{DecodeError};
+ghost use Rattle.warg_crypto.specs.declared.coding.DecodeError.TheVariants as error;
 ghost use Rattle.warg_crypto.specs.declared.hash.AnyHash.{AnyHash};
 ghost use Rattle.warg_envelope.specs.Faults.{IsReading};
 ghost use Rattle.warg_envelope.specs.Mentions.{distinct};
 ghost use Rattle.warg_envelope.specs.Readings.{Reading};
 
-mod coding;
 pub mod laws;
 mod proto_envelope;
 mod serde_envelope;
 
-pub use coding::{Decode, DecodeError, WireFault};
 use indexmap::IndexSet;
 pub use proto_envelope::{
     ParseEnvelopeError, ProtoEnvelope, ProtoEnvelopeBody, PublishedProtoEnvelope,
@@ -25,6 +23,7 @@ pub use proto_envelope::{
 pub use serde_envelope::SerdeEnvelope;
 use std::alloc::{AllocError, Global};
 use warg_crypto::hash::AnyHash;
+use warg_crypto::{Decode, DecodeError};
 
 /// A place in a registry's log of all records, from 0.
 pub type RegistryIndex = usize;

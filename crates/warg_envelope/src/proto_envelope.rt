@@ -15,14 +15,14 @@ mod body;
 mod error;
 mod name;
 
-use crate::{DecodeError, Record};
+use crate::Record;
 pub use body::{ProtoEnvelopeBody, PublishedProtoEnvelope, PublishedProtoEnvelopeBody};
 pub use error::ParseEnvelopeError;
 use std::alloc::{AllocError, Global};
 use std::fmt;
 use std::marker::Model;
-use warg_crypto::Signable;
 use warg_crypto::signing::{KeyID, Signature, SignatureError, Signer};
+use warg_crypto::{DecodeError, Signable};
 use warg_protobuf::{Envelope, Message};
 
 /// A record with its bytes as they came, who signed them, and the signature. The bytes are kept since other bytes

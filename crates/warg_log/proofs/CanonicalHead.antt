@@ -3,13 +3,13 @@ use Rattle.std.specs.Prelude.{◌≡◌, ◌<◌, ◌^◌, ◌==◌, ℕ, Bool, 
 use Rattle.std.proofs.Common.{subst}
 use Rattle.serde_json.specs.Data.{Members, no_members, object, put, string}
 use Rattle.warg_crypto.specs.HashText.{hash_text}
-use Rattle.warg_json.specs.Json.{◌>>=◌, json_result}
-use Rattle.warg_time.specs.TimeJson.{time_json}
-use Rattle.warg_json.specs.Members.{put_json, put_option}
-use Rattle.warg_json.specs.Numbers.{number_json}
-use Rattle.warg_time.specs.TimeText.{time_text}
-use Rattle.warg_saved.specs.Canonical.{IsCanonical, WritesCanonical}
-use Rattle.warg_saved.specs.CanonicalLaws.{member_canonical, none_canonical, option_canonical, put_canonical, text_canonical, then_canonical}
+use Rattle.warg_crypto.specs.Json.Json.{◌>>=◌, json_result}
+use Rattle.warg_crypto.specs.Time.TimeJson.{time_json}
+use Rattle.warg_crypto.specs.Json.Members.{put_json, put_option}
+use Rattle.warg_crypto.specs.Json.Numbers.{number_json}
+use Rattle.warg_crypto.specs.Time.TimeText.{time_text}
+use Rattle.warg_saved_states.specs.Canonical.{IsCanonical, WritesCanonical}
+use Rattle.warg_saved_states.specs.CanonicalLaws.{member_canonical, none_canonical, option_canonical, put_canonical, text_canonical, then_canonical}
 use Rattle.warg_log.specs.HeadJson.{head_json, unless_zero}
 use Rattle.warg_log.specs.declared.head.Head.{Head}
 

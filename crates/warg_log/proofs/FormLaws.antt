@@ -10,15 +10,15 @@ use Rattle.std.proofs.lemmas.List.Elements.{filter-append, filter_map-append, Al
 use Rattle.std.proofs.lemmas.List.Kept.{AllPairs-cons}
 use Rattle.std.proofs.lemmas.List.MinMax.{ranks_by}
 use Rattle.warg_crypto.specs.Signed.{signed_message}
-use Rattle.warg_time.specs.Times.{Time}
-use Rattle.warg_time.specs.TimesLaws.{time_cmp_total}
+use Rattle.warg_crypto.specs.Time.Times.{Time}
+use Rattle.warg_crypto.specs.Time.TimesLaws.{time_cmp_total}
 use Rattle.warg_envelope.specs.EnvelopeData.{EnvelopeData}
-use Rattle.warg_records.specs.RecordData.{Init, GrantFlat, RevokeFlat, EntryData, RecordData}
-use Rattle.warg_records.specs.declared.record_id.RecordId.{RecordId}
-use Rattle.warg_records.specs.Kinds.{SignatureRelation, KindLaws, AllLawful, IsAccepted, view_after}
-use Rattle.warg_records.specs.Walks as walk
-use Rattle.warg_records.proofs.KindWalks.{accepted-lawful}
-use Rattle.warg_key_maps.specs.AuthorityData.{AccessView, empty_access}
+use Rattle.warg_log_records.specs.RecordData.{Init, GrantFlat, RevokeFlat, EntryData, RecordData}
+use Rattle.warg_log_records.specs.declared.record_id.RecordId.{RecordId}
+use Rattle.warg_log_records.specs.Kinds.{SignatureRelation, KindLaws, AllLawful, IsAccepted, view_after}
+use Rattle.warg_log_records.specs.Walks as walk
+use Rattle.warg_log_records.proofs.KindWalks.{accepted-lawful}
+use Rattle.warg_permissions.specs.KeyMaps.AuthorityData.{AccessView, empty_access}
 use Rattle.warg_log.specs.SignedEntries.{after}
 use Rattle.warg_log.specs.Forms.{TimesNeverFall, FirstAloneHasNoPrev, is_init, inits, OneInitFirst, EntriesHaveKeys, HasForm}
 use Rattle.warg_log.specs.History.{PlacedEvent, placed_in, record_history, history_of}

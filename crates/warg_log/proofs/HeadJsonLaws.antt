@@ -2,14 +2,14 @@
 use Rattle.std.specs.Prelude.{◌≡◌, ◌^◌, ℕ, codes, OnOk, Option, Some, None, Result, Ok, Err, refl}
 use Rattle.std.proofs.Common.{ap, subst}
 use Rattle.serde_json.specs.Data.{Data, Members, no_members, object, put}
-use Rattle.warg_json.specs.Json.{ReadsBack, json_result}
-use Rattle.warg_time.specs.TimeJson.{time_in}
-use Rattle.warg_json.specs.MemberLaws.{read_again}
-use Rattle.warg_json.specs.Members.{put_some}
-use Rattle.warg_json.specs.Numbers.{number_below}
-use Rattle.warg_json.specs.JsonLaws.{ok_same}
-use Rattle.warg_json.specs.declared.error.JsonError.{JsonError}
-use Rattle.warg_records.specs.RecordIdJson.{record_id_in}
+use Rattle.warg_crypto.specs.Json.Json.{ReadsBack, json_result}
+use Rattle.warg_crypto.specs.Time.TimeJson.{time_in}
+use Rattle.warg_crypto.specs.Json.MemberLaws.{read_again}
+use Rattle.warg_crypto.specs.Json.Members.{put_some}
+use Rattle.warg_crypto.specs.Json.Numbers.{number_below}
+use Rattle.warg_crypto.specs.Json.JsonLaws.{ok_same}
+use Rattle.warg_crypto.specs.declared.json.error.JsonError.{JsonError}
+use Rattle.warg_log_records.specs.RecordIdJson.{record_id_in}
 use Rattle.warg_log.specs.HeadJson.{head_in, version_or_zero}
 use Rattle.warg_log.specs.declared.head.Head.{Head}
 

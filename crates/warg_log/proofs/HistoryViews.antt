@@ -5,20 +5,20 @@ use Rattle.std.specs.List.{filter_map, last_or, list_any, cons_option, flat_map,
 use Rattle.std.specs.Option.{option_map, option_and_then}
 use Rattle.std.proofs.lemmas.List.Elements.{filter_map-append}
 use Rattle.std.proofs.lemmas.List.Concat.{flat_map-append, flat_map-cons}
-use Rattle.warg_records.specs.Walks.{view_after, AllLawful, IsStepwise}
+use Rattle.warg_log_records.specs.Walks.{view_after, AllLawful, IsStepwise}
 use Rattle.warg_crypto.specs.NamedBytes.{NamedBytes}
-use Rattle.warg_key_maps.specs.AuthorityData.{empty_access}
+use Rattle.warg_permissions.specs.KeyMaps.AuthorityData.{empty_access}
 use Rattle.warg_log.specs.SignedEntries.{SignedEntry, after, signed_entry_on, enters, signed_entry_key, signed_entry_algorithm}
-use Rattle.warg_records.specs.RecordData.{EntryData}
+use Rattle.warg_log_records.specs.RecordData.{EntryData}
 use Rattle.warg_log.specs.Rules.{SignedRecord, Event, View, StateView, LogOffence, Rules, signed_entry_in, signed_entry_of, own_of, events_of, record_events, head_of, state_view_after, start, entry_offence, entry_fault, events_offence, unsigned_offence, record_offence, after_record}
 use Rattle.warg_log.specs.Offences.{required_offence, not_begun}
 use Rattle.warg_log.specs.RecordOffences.{link_offence, version_offence, time_offence}
 use Rattle.warg_log.specs.History.{PlacedEvent, placed_in, record_history, history_of, entry_on, entry_enters, entry_key, entry_algorithm, access_view_of, own_events, view_of, own_after, own_offence}
 use Rattle.warg_log.proofs.Firsts.{or_first, or_second, unmapped}
-use Rattle.warg_key_maps.proofs.AccessLaws.{same_access_view}
+use Rattle.warg_permissions.proofs.KeyMapsLemmas.AccessLaws.{same_access_view}
 use Rattle.warg_log.proofs.SignedEntryLaws.{after-append, map-join}
-use Rattle.warg_records.specs.declared.record_id.RecordId.{RecordId}
-use Rattle.warg_time.specs.Times.{Time}
+use Rattle.warg_log_records.specs.declared.record_id.RecordId.{RecordId}
+use Rattle.warg_crypto.specs.Time.Times.{Time}
 
 -- a filter of what a map gives
 filter_map-of : {A B C : Type 0} (m : A → B) (g : B → Option C) (xs : List A) → filter_map (λ x. g (m x)) xs ≡ filter_map g (map m xs)

@@ -4,16 +4,16 @@ use Rattle.std.specs.Prelude.{IfSome, ◌==◌, is_some, is_none, not, ◌||◌}
 use Rattle.std.specs.Option.{option_map, option_or, option_map_or}
 use Rattle.std.specs.Str.{bytes_eq}
 use Rattle.warg_crypto.specs.NamedBytes.{NamedBytes, fingerprint_of}
-use Rattle.warg_time.specs.Times.{Time}
+use Rattle.warg_crypto.specs.Time.Times.{Time}
 use Rattle.warg_crypto.specs.Signed.{signed_message}
 use Rattle.warg_crypto.specs.declared.signing.error.SignatureError.TheVariants.{Refused}
-use Rattle.warg_records.specs.RecordData.{EntryData, SharedEntry, Init, GrantFlat, RevokeFlat}
-use Rattle.warg_records.specs.declared.record_id.RecordId.{RecordId}
-use Rattle.warg_key_maps.specs.AuthorityData.{AccessView}
+use Rattle.warg_log_records.specs.RecordData.{EntryData, SharedEntry, Init, GrantFlat, RevokeFlat}
+use Rattle.warg_log_records.specs.declared.record_id.RecordId.{RecordId}
+use Rattle.warg_permissions.specs.KeyMaps.AuthorityData.{AccessView}
 use Rattle.warg_log.specs.Rules.{Rules, LogOffence, StateView, View, SignedRecord, Event, state_view_after, record_events, entry_fault, entry_offence, events_offence, unsigned_offence, record_offence}
 use Rattle.warg_log.specs.Offences.{Offence, unless, not_begun, empty_grant, required_offence, first_unauthorized, shared_entry_offence, InitialRecordDoesNotInit, KeyIDNotRecognized, UnauthorizedAction, PermissionNotFoundToRevoke, WrongSignature}
 use Rattle.warg_log.specs.RecordOffences.{link_offence, version_offence, time_offence, same_id}
-use Rattle.warg_key_maps.specs.Rights.{first_missing}
+use Rattle.warg_permissions.specs.KeyMaps.Rights.{first_missing}
 use Rattle.warg_log.specs.PossibleOffences.{is_possible_offence, IsPossible}
 use Rattle.warg_log.specs.declared.head.Head.{Head}
 

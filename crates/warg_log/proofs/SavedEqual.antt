@@ -7,12 +7,12 @@ use Rattle.std.specs.Option.{option_eq}
 use Rattle.std.specs.Str.{bytes_eq}
 use Rattle.warg_crypto.specs.NamedBytes.{same_named_bytes}
 use Rattle.warg_crypto.specs.SameLaws.{same_named_bytes_equiv}
-use Rattle.warg_key_maps.specs.AuthorityData.{AuthorityData}
+use Rattle.warg_permissions.specs.KeyMaps.AuthorityData.{AuthorityData}
 use Rattle.warg_permissions.specs.PermissionSets.{same_sets}
 use Rattle.warg_permissions.specs.PermissionSetLaws.{sets_equiv}
-use Rattle.warg_key_maps.specs.Equal.{same_algorithm, same_maps}
+use Rattle.warg_permissions.specs.KeyMaps.Equal.{same_algorithm, same_maps}
 use Rattle.warg_log.specs.Equal.{same_head, same_states}
-use Rattle.warg_key_maps.specs.EqualLaws.{maps_from_get}
+use Rattle.warg_permissions.specs.KeyMaps.EqualLaws.{maps_from_get}
 use Rattle.warg_log.specs.EqualLaws.{head_equiv}
 use Rattle.warg_log.specs.States.{State}
 

@@ -5,10 +5,10 @@ use Rattle.std.proofs.Common.{ap, sym, subst, ◌∙◌}
 use Rattle.serde_json.specs.Data.{Data, Members, put}
 use Rattle.serde_json.specs.Find.{get_member}
 use Rattle.serde_json.proofs.Views.{get_member-put}
-use Rattle.warg_json.specs.declared.error.JsonError.{JsonError}
-use Rattle.warg_json.specs.Json.{ReturnsOrNoMemory, IsReadBack, ReadsBack}
-use Rattle.warg_json.specs.Members.{put_json}
-use Rattle.warg_json.specs.JsonLaws.{bind_ok, ok_same}
+use Rattle.warg_crypto.specs.declared.json.error.JsonError.{JsonError}
+use Rattle.warg_crypto.specs.Json.Json.{ReturnsOrNoMemory, IsReadBack, ReadsBack}
+use Rattle.warg_crypto.specs.Json.Members.{put_json}
+use Rattle.warg_crypto.specs.Json.JsonLaws.{bind_ok, ok_same}
 
 same_option : {A : Type 0} (o : Option A) → option_map (λ x. x) o ≡ o
 same_option None = refl

@@ -5,14 +5,14 @@ use Rattle.std.specs.Option.{option_map, option_or}
 use Rattle.indexmap.specs.IndexMap.{IndexMap}
 use Rattle.warg_crypto.specs.NamedBytes.{NamedBytes, fingerprint_of}
 use Rattle.warg_permissions.specs.Permissions.{lists}
-use Rattle.warg_key_maps.specs.Rights.{value_over, held_over, has_entry_over, first_missing}
-use Rattle.warg_records.specs.RecordData.{SharedEntry, Init, GrantFlat, RevokeFlat}
+use Rattle.warg_permissions.specs.KeyMaps.Rights.{value_over, held_over, has_entry_over, first_missing}
+use Rattle.warg_log_records.specs.RecordData.{SharedEntry, Init, GrantFlat, RevokeFlat}
 use Rattle.warg_log.specs.SignedEntries.{after}
-use Rattle.warg_key_maps.specs.AuthorityData.{AuthorityData, access_view_over, authority_data}
+use Rattle.warg_permissions.specs.KeyMaps.AuthorityData.{AuthorityData, access_view_over, authority_data}
 use Rattle.warg_log.specs.Offences.{Offence, PermissionNotFoundToRevoke}
-use Rattle.warg_key_maps.proofs.AccessLaws.{same_access_view}
+use Rattle.warg_permissions.proofs.KeyMapsLemmas.AccessLaws.{same_access_view}
 use Rattle.warg_log.proofs.SignedEntryLaws.{latest-one, or-none}
-use Rattle.warg_key_maps.proofs.AuthorityDataLemmas.{stands-over}
+use Rattle.warg_permissions.proofs.KeyMapsLemmas.AuthorityDataLemmas.{stands-over}
 use Rattle.warg_crypto.specs.declared.hash.HashAlgorithm.{HashAlgorithm}
 
 or-false : (a b : Bool) → (a || b) ≡ (a || (b || false))

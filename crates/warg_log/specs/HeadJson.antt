@@ -2,12 +2,12 @@
 use Rattle.std.specs.Prelude.{◌^◌, ℕ, ◌==◌, codes, if◌then◌else◌, Option, Some, None, Result, Ok}
 use Rattle.serde_json.specs.Data.{Data, no_members, object}
 use Rattle.serde_json.specs.Find.{get_member}
-use Rattle.warg_json.specs.Json.{◌>>=◌, member_in, members_in, json_result}
-use Rattle.warg_time.specs.TimeJson.{time_in, time_json}
-use Rattle.warg_json.specs.Members.{put_json, put_option}
-use Rattle.warg_json.specs.Numbers.{number_below, number_json}
-use Rattle.warg_json.specs.declared.error.JsonError.{JsonError}
-use Rattle.warg_records.specs.RecordIdJson.{record_id_in, record_id_json}
+use Rattle.warg_crypto.specs.Json.Json.{◌>>=◌, member_in, members_in, json_result}
+use Rattle.warg_crypto.specs.Time.TimeJson.{time_in, time_json}
+use Rattle.warg_crypto.specs.Json.Members.{put_json, put_option}
+use Rattle.warg_crypto.specs.Json.Numbers.{number_below, number_json}
+use Rattle.warg_crypto.specs.declared.json.error.JsonError.{JsonError}
+use Rattle.warg_log_records.specs.RecordIdJson.{record_id_in, record_id_json}
 use Rattle.warg_log.specs.declared.head.Head.{Head}
 
 -- 0 is left out

@@ -3,10 +3,10 @@ ghost use Rattle.std.specs.Prelude.{◌≡◌, OnOk, OnErr, IfOk, IfSome, is_som
 ghost use Rattle.std.specs.Cmp.{partial_equiv_from_equiv};
 ghost use Rattle.std.specs.Option.{option_copied, option_eq};
 ghost use Rattle.indexmap.specs.IndexSet.{contains};
-ghost use Rattle.warg_key_maps.specs.AuthorityData.{AuthorityData, empty_access, rights_at, access_view, access_view_over};
-ghost use Rattle.warg_key_maps.specs.Equal.{same_authority_data, same_algorithm};
-ghost use Rattle.warg_key_maps.specs.EqualLaws.{authority_data_equiv};
-ghost use Rattle.warg_key_maps.specs.Keys.{AreKeysOf, authority_keys};
+ghost use Rattle.warg_permissions.specs.KeyMaps.AuthorityData.{AuthorityData, empty_access, rights_at, access_view, access_view_over};
+ghost use Rattle.warg_permissions.specs.KeyMaps.Equal.{same_authority_data, same_algorithm};
+ghost use Rattle.warg_permissions.specs.KeyMaps.EqualLaws.{authority_data_equiv};
+ghost use Rattle.warg_permissions.specs.KeyMaps.Keys.{AreKeysOf, authority_keys};
 
 mod saved;
 
@@ -17,7 +17,7 @@ use std::fmt;
 use std::marker::Model;
 use warg_crypto::hash::HashAlgorithm;
 use warg_crypto::signing::{KeyID, PublicKey};
-use warg_key_maps::{Keys, Maps, rights};
+use warg_permissions::key_maps::{Keys, Maps, rights};
 use warg_permissions::{LogPermission, PermissionSet};
 
 /// Who may do what in a log, and whose key is which.
@@ -29,7 +29,7 @@ pub struct Authority<P: LogPermission> {
 }
 
 impl<P: LogPermission> Model for Authority<P> {
-    ghost use Rattle.warg_key_maps.specs.AuthorityData.{AuthorityData, authority_data};
+    ghost use Rattle.warg_permissions.specs.KeyMaps.AuthorityData.{AuthorityData, authority_data};
 
     ghost Value = { AuthorityData P };
 

@@ -5,11 +5,11 @@ ghost use Rattle.std.specs.Prelude.{◌≡◌, ◌||◌, [], ◌∷◌, OnOk, If
 ghost use Rattle.std.specs.Str.{bytes_eq};
 ghost use Rattle.std.specs.Option.{option_copied};
 ghost use Rattle.warg_crypto.specs.NamedBytes.{fingerprint_of};
-ghost use Rattle.warg_records.specs.RecordData.{Init, GrantFlat, RevokeFlat};
+ghost use Rattle.warg_log_records.specs.RecordData.{Init, GrantFlat, RevokeFlat};
 ghost use Rattle.warg_log.specs.SignedEntries.{after};
-ghost use Rattle.warg_key_maps.specs.AuthorityData.{rights_at, access_view_over};
-ghost use Rattle.warg_records.specs.OutcomeOffences.{ReturnsOffence};
-ghost use Rattle.warg_key_maps.specs.Rights.{is_listed};
+ghost use Rattle.warg_permissions.specs.KeyMaps.AuthorityData.{rights_at, access_view_over};
+ghost use Rattle.warg_log_records.specs.OutcomeOffences.{ReturnsOffence};
+ghost use Rattle.warg_permissions.specs.KeyMaps.Rights.{is_listed};
 ghost use Rattle.warg_log.specs.Offences.{offence_of, first_unauthorized, permission_offence, required_offence, not_begun, unless, KeyIDNotRecognized, empty_grant, init_offence, grant_offence, revoke_offence};
 
 use crate::authority::Authority;
@@ -18,7 +18,7 @@ use crate::refusal::Refusal;
 use std::alloc::Global;
 use warg_crypto::hash::HashAlgorithm;
 use warg_crypto::signing::{KeyID, PublicKey};
-use warg_key_maps::rights;
+use warg_permissions::key_maps::rights;
 use warg_permissions::{LogPermission, PermissionSet};
 
 /// Refuses an Init whose signer has to own its key, and does not.

@@ -17,4 +17,4 @@ pub use head::{Head, head_member, head_version, put_head, put_head_text};
 pub use log::Log;
 pub use own_state::{EntryRef, Origin, OwnState, RecordRef};
 pub use refusal::Refusal;
-pub use warg_key_maps::{KeyEntry, Keys};
+pub use warg_permissions::key_maps::{KeyEntry, Keys};

@@ -6,10 +6,10 @@ use Rattle.std.proofs.lemmas.List.{reverse-reverse}
 use Rattle.std.proofs.lemmas.List.Elements.{All-from_recursion}
 use Rattle.std.proofs.lemmas.List.Kept.{AllPairs-cons}
 use Rattle.warg_envelope.specs.EnvelopeData.{EnvelopeData}
-use Rattle.warg_records.specs.RecordData.{EntryData, Init, GrantFlat, RevokeFlat, RecordData}
-use Rattle.warg_records.specs.Kinds.{SignatureRelation, KindLaws, IsAccepted}
-use Rattle.warg_audited_log.specs.declared.link.Link.{Link}
-use Rattle.warg_audited_log.specs.Chains.{Entry, first_place, IsLastGift, IsChainBack, IsChainAnswer}
+use Rattle.warg_log_records.specs.RecordData.{EntryData, Init, GrantFlat, RevokeFlat, RecordData}
+use Rattle.warg_log_records.specs.Kinds.{SignatureRelation, KindLaws, IsAccepted}
+use Rattle.warg_replay.specs.declared.audited_log.link.Link.{Link}
+use Rattle.warg_replay.specs.AuditedLog.Chains.{Entry, first_place, IsLastGift, IsChainBack, IsChainAnswer}
 use Rattle.warg_log.specs.Forms.{is_init, OneInitFirst}
 use Rattle.warg_log.specs.History.{PlacedEvent, history_of}
 use Rattle.warg_log.specs.Listings.{IsGift}

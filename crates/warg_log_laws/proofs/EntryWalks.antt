@@ -6,20 +6,20 @@ use Rattle.std.specs.Option.{option_map, option_or}
 use Rattle.std.proofs.lemmas.List.Elements.{filter_map-append}
 use Rattle.std.proofs.lemmas.List.{take-append-drop}
 use Rattle.warg_crypto.specs.NamedBytes.{fingerprint_of}
-use Rattle.warg_time.specs.Times.{Time}
+use Rattle.warg_crypto.specs.Time.Times.{Time}
 use Rattle.warg_permissions.specs.Permissions.{lists}
 use Rattle.warg_envelope.specs.EnvelopeData.{EnvelopeData}
-use Rattle.warg_records.specs.RecordData.{EntryData, Init, GrantFlat, RevokeFlat, RecordData}
-use Rattle.warg_records.specs.declared.record_id.RecordId.{RecordId}
-use Rattle.warg_records.specs.Kinds.{SignatureRelation, Kind, IsAccepted}
-use Rattle.warg_records.specs.Walks as walk
-use Rattle.warg_records.proofs.WalkLaws as walks
+use Rattle.warg_log_records.specs.RecordData.{EntryData, Init, GrantFlat, RevokeFlat, RecordData}
+use Rattle.warg_log_records.specs.declared.record_id.RecordId.{RecordId}
+use Rattle.warg_log_records.specs.Kinds.{SignatureRelation, Kind, IsAccepted}
+use Rattle.warg_log_records.specs.Walks as walk
+use Rattle.warg_log_records.proofs.WalkLaws as walks
 use Rattle.warg_log.specs.History.{PlacedEvent, record_history, history_of, access_view_of, own_events, own_after, own_offence}
 use Rattle.warg_log.specs.KindOfRules.{kind_of, signed_record_of}
 use Rattle.warg_log.specs.Offences.{required_offence, not_begun, empty_grant, UnauthorizedAction}
 use Rattle.warg_log.specs.Rules.{SignedRecord, Event, Rules, StateView, View, LogOffence, signed_entry_of, own_of, record_events, state_view_after, entry_fault, events_offence}
 use Rattle.warg_log.specs.Rules as rule
-use Rattle.warg_key_maps.specs.AuthorityData.{empty_access}
+use Rattle.warg_permissions.specs.KeyMaps.AuthorityData.{empty_access}
 use Rattle.warg_log.specs.SignedEntries.{after}
 use Rattle.warg_log.proofs.AcceptedOwnEvents.{accepted-own_events, own_events-listed}
 use Rattle.warg_log.proofs.Firsts.{or_first, or_second, unmapped}

@@ -4,12 +4,12 @@ use Rattle.std.specs.Prelude.{◌↔◌, slice_get}
 use Rattle.std.specs.List.{AllZip, cons_option}
 use Rattle.std.specs.Option.{option_map}
 use Rattle.warg_envelope.specs.EnvelopeData.{EnvelopeData}
-use Rattle.warg_records.specs.Kinds.{SignatureRelation, Kind, KindLaws}
-use Rattle.warg_validator.specs.OutcomeRuns.{IfNamed, cause_next, HasNoOffence, IsFirstOffence, IsRun, IfStarted}
-use Rattle.warg_validator.specs.Strings.{Cause, Unread, Unlawful, ok, read_all, cause_of}
-use Rattle.warg_validator.specs.declared.replay.RunCause.{RunCause}
-use Rattle.warg_validator.specs.declared.replay.RunError.{RunError}
-use Rattle.warg_validator.proofs.LogLaws.{strings-accepted}
+use Rattle.warg_log_records.specs.Kinds.{SignatureRelation, Kind, KindLaws}
+use Rattle.warg_replay.specs.OutcomeRuns.{IfNamed, cause_next, HasNoOffence, IsFirstOffence, IsRun, IfStarted}
+use Rattle.warg_replay.specs.Strings.{Cause, Unread, Unlawful, ok, read_all, cause_of}
+use Rattle.warg_replay.specs.declared.replay.RunCause.{RunCause}
+use Rattle.warg_replay.specs.declared.replay.RunError.{RunError}
+use Rattle.warg_replay.proofs.LogLaws.{strings-accepted}
 use Rattle.warg_log_laws.specs.Grammars.{IsCause, IsLog, IsReading}
 use Rattle.warg_log_laws.proofs.ListLemmas.{same_item, no_item, take-take}
 

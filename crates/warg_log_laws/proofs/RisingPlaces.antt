@@ -3,9 +3,9 @@ use Rattle.std.proofs.Common.{◌≡◌, ◌⊎◌, inl, inr, ℕ, zero, suc, �
 use Rattle.std.specs.Prelude.{slice_get}
 use Rattle.std.specs.List.{AllByRecursion, flat_map, enumerate_from}
 use Rattle.std.proofs.lemmas.List.Concat.{flat_map-cons}
-use Rattle.warg_records.specs.RecordData.{EntryData}
-use Rattle.warg_records.specs.declared.record_id.RecordId.{RecordId}
-use Rattle.warg_audited_log.specs.declared.link.Link.{Link}
+use Rattle.warg_log_records.specs.RecordData.{EntryData}
+use Rattle.warg_log_records.specs.declared.record_id.RecordId.{RecordId}
+use Rattle.warg_replay.specs.declared.audited_log.link.Link.{Link}
 use Rattle.warg_log.specs.History.{PlacedEvent, placed_in, record_history, history_of}
 use Rattle.warg_log.specs.Rules.{SignedRecord}
 use Rattle.warg_log_laws.specs.GrantChains.{place_of, IsBefore}

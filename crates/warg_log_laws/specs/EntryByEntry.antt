@@ -1,6 +1,6 @@
 -- A log read entry by entry, wherever its records end.
 use Rattle.std.specs.Prelude.{ℕ, List, Bool, Option}
-use Rattle.warg_records.specs.RecordData.{EntryData}
+use Rattle.warg_log_records.specs.RecordData.{EntryData}
 use Rattle.warg_log.specs.History.{PlacedEvent, access_view_of, own_events}
 use Rattle.warg_log.specs.Rules.{Event, Rules, StateView, LogOffence}
 use Rattle.warg_log.specs.Rules as rule

@@ -3,11 +3,11 @@
 use Rattle.std.specs.Prelude.{◌≡◌, ℕ, ◌<◌, List, length, take, Option, Some, Result, Ok, Err, slice_get}
 use Rattle.std.specs.List.{AllZip}
 use Rattle.warg_envelope.specs.EnvelopeData.{EnvelopeData}
-use Rattle.warg_records.specs.Kinds.{SignatureRelation, Kind, IsAccepted, StandsFor}
-use Rattle.warg_validator.specs.OutcomeRuns.{IfNamed}
-use Rattle.warg_validator.specs.Strings.{Cause, Unread, Unlawful}
-use Rattle.warg_validator.specs.declared.replay.RunCause.{RunCause}
-use Rattle.warg_validator.specs.declared.replay.RunError.{RunError}
+use Rattle.warg_log_records.specs.Kinds.{SignatureRelation, Kind, IsAccepted, StandsFor}
+use Rattle.warg_replay.specs.OutcomeRuns.{IfNamed}
+use Rattle.warg_replay.specs.Strings.{Cause, Unread, Unlawful}
+use Rattle.warg_replay.specs.declared.replay.RunCause.{RunCause}
+use Rattle.warg_replay.specs.declared.replay.RunError.{RunError}
 
 module _ {View Offence F : Type 0} (k : Kind View Offence) (b : SignatureRelation) (IsEnvelope : List ℕ → EnvelopeData → Type 0) (HasFault : List ℕ → F → Type 0) where
   -- why the string can't come after the view: it has the fault, or is an envelope with the offence

@@ -2,8 +2,8 @@
 use Rattle.std.specs.Prelude.{◌≡◌, ◌⊎◌, ℕ, ◌<◌, List, [], ◌∷◌, map, Bool, true, Some, All, AllPairs, Contains, slice_get}
 use Rattle.warg_crypto.specs.NamedBytes.{fingerprint_of}
 use Rattle.warg_permissions.specs.Permissions.{lists}
-use Rattle.warg_records.specs.RecordData.{EntryData, Init, GrantFlat, RevokeFlat}
-use Rattle.warg_audited_log.specs.declared.link.Link.{Link}
+use Rattle.warg_log_records.specs.RecordData.{EntryData, Init, GrantFlat, RevokeFlat}
+use Rattle.warg_replay.specs.declared.audited_log.link.Link.{Link}
 use Rattle.warg_log.specs.Forms.{inits}
 use Rattle.warg_log.specs.History.{PlacedEvent}
 

@@ -1,11 +1,11 @@
 //! Laws over all operator logs. They have no effect.
 ghost use Rattle.std.specs.Prelude.{◌≡◌, ◌↔◌, ◌++◌, ℕ, List, [], length, map, take, Option, Some, None, is_some, true, false, Result, slice_get};
 ghost use Rattle.std.specs.Option.{option_map};
-ghost use Rattle.warg_audited_log.specs.Audited.{IsAudited};
-ghost use Rattle.warg_audited_log.specs.Chains.{IsChainAnswer};
-ghost use Rattle.warg_audited_log.specs.Extinction.{IsExtinct};
-ghost use Rattle.warg_audited_log.specs.Log.{envelopes};
-ghost use Rattle.warg_audited_log.specs.declared.link.Link.{Link};
+ghost use Rattle.warg_replay.specs.AuditedLog.Audited.{IsAudited};
+ghost use Rattle.warg_replay.specs.AuditedLog.Chains.{IsChainAnswer};
+ghost use Rattle.warg_replay.specs.AuditedLog.Extinction.{IsExtinct};
+ghost use Rattle.warg_replay.specs.AuditedLog.Log.{envelopes};
+ghost use Rattle.warg_replay.specs.declared.audited_log.link.Link.{Link};
 ghost use Rattle.warg_envelope.specs.EnvelopeData.{EnvelopeData};
 ghost use Rattle.warg_envelope.specs.Envelopes.{EnvelopeFault, envelope_of, envelope_fault_of};
 ghost use Rattle.warg_envelope.specs.Faults.{RecordFault, fault_of};
@@ -23,20 +23,20 @@ ghost use Rattle.warg_operator_log.specs.StateLaws.{kind, effects};
 ghost use Rattle.warg_operator_log.specs.declared.error.ValidationError.{ValidationError};
 ghost use Rattle.warg_permissions.specs.OperatorPermissions.{same_permission};
 ghost use Rattle.warg_permissions.specs.declared.operator.Permission.{Permission};
-ghost use Rattle.warg_records.specs.OperatorEntries.{OperatorOwnEntry, record_data};
-ghost use Rattle.warg_records.specs.OperatorReading.{operator_record_of};
-ghost use Rattle.warg_records.specs.RecordData.{EntryData};
-ghost use Rattle.warg_records.specs.Effects.{holds, GivesWhatIsHeld, HoldsByEffects};
-ghost use Rattle.warg_records.specs.Kinds.{SignatureRelation, KindLaws, IsAccepted, StandsFor};
-ghost use Rattle.warg_validator.specs.OutcomeRuns.{IsRun, IfStarted, cause_next, cause_named_by};
-ghost use Rattle.warg_validator.specs.Strings.{Cause};
-ghost use Rattle.warg_records.specs.Walks.{IsFound, IsAccepted as AllLawful};
-ghost use Rattle.warg_records.specs.declared.effect.Effect.TheVariants.{Gives};
-ghost use Rattle.warg_validator.specs.declared.replay.RunError.{RunError};
+ghost use Rattle.warg_log_records.specs.OperatorEntries.{OperatorOwnEntry, record_data};
+ghost use Rattle.warg_log_records.specs.OperatorReading.{operator_record_of};
+ghost use Rattle.warg_log_records.specs.RecordData.{EntryData};
+ghost use Rattle.warg_log_records.specs.Effects.{holds, GivesWhatIsHeld, HoldsByEffects};
+ghost use Rattle.warg_log_records.specs.Kinds.{SignatureRelation, KindLaws, IsAccepted, StandsFor};
+ghost use Rattle.warg_replay.specs.OutcomeRuns.{IsRun, IfStarted, cause_next, cause_named_by};
+ghost use Rattle.warg_replay.specs.Strings.{Cause};
+ghost use Rattle.warg_log_records.specs.Walks.{IsFound, IsAccepted as AllLawful};
+ghost use Rattle.warg_log_records.specs.declared.effect.Effect.TheVariants.{Gives};
+ghost use Rattle.warg_replay.specs.declared.replay.RunError.{RunError};
 
 pub mod audited;
 
-use warg_records::laws::envelope_reading_computes;
+use warg_log_records::laws::envelope_reading_computes;
 
 /// Who holds what is one thing: what the effects of a log's entries leave, what its history says, and what a
 /// state says that stands for the log.

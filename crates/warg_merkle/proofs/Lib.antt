@@ -12,3 +12,7 @@ pub mod Lengths
 pub mod ExtensionPaths
 pub mod Subproofs
 pub mod Consistent
+pub mod SparseMapLemmas
+pub mod MerkleLogLemmas
+pub mod MapProofLemmas
+pub mod MapTreeLemmas

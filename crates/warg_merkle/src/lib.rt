@@ -1,10 +1,16 @@
-//! Merkle trees over SHA-256: their roots, and proofs that a leaf is in a tree.
+//! Merkle trees of RFC 9162, section 2.1, over SHA-256: their roots, and proofs that a leaf is in a tree and that one
+//! tree goes on from another. A log that grows is in `merkle_log`. Sparse maps of depth 256 are in `sparse_map`, their
+//! proofs in short form in `map_proof`, and the map with stored nodes in `map_tree`.
 #![tactic(auto)]
 
 mod extension;
 mod hashes;
 mod inclusion;
 mod laws;
+pub mod map_proof;
+pub mod map_tree;
+pub mod merkle_log;
+pub mod sparse_map;
 mod tree;
 
 pub use extension::verify_consistency;

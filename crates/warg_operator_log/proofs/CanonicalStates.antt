@@ -2,17 +2,17 @@
 use Rattle.std.specs.Prelude.{◌≡◌, ◌≤◌, ℕ, List, codes, Some}
 use Rattle.std.proofs.Common.{arith}
 use Rattle.serde_json.specs.Data.{no_members, object}
-use Rattle.warg_json.specs.Json.{json_result}
-use Rattle.warg_json.specs.JsonTexts.{algorithm_json, key_json}
-use Rattle.warg_json.specs.Members.{put_option}
+use Rattle.warg_crypto.specs.Json.Json.{json_result}
+use Rattle.warg_crypto.specs.Json.JsonTexts.{algorithm_json, key_json}
+use Rattle.warg_crypto.specs.Json.Members.{put_option}
 use Rattle.warg_permissions.specs.OperatorPermissions.{permission_text}
 use Rattle.warg_permissions.specs.declared.operator.Permission.{Permission}
-use Rattle.warg_saved.specs.Canonical.{WritesCanonical}
-use Rattle.warg_saved.specs.CanonicalLaws.{none_canonical, option_canonical, pairs_canonical, texts_canonical, then_canonical}
-use Rattle.warg_saved.specs.Maps.{put_pairs}
-use Rattle.warg_saved.specs.MapNames.{text_name}
-use Rattle.warg_saved.specs.SavedPermissions.{permissions_json}
-use Rattle.warg_key_maps.specs.AuthorityData.{AuthorityData}
+use Rattle.warg_saved_states.specs.Canonical.{WritesCanonical}
+use Rattle.warg_saved_states.specs.CanonicalLaws.{none_canonical, option_canonical, pairs_canonical, texts_canonical, then_canonical}
+use Rattle.warg_saved_states.specs.Maps.{put_pairs}
+use Rattle.warg_saved_states.specs.MapNames.{text_name}
+use Rattle.warg_saved_states.specs.SavedPermissions.{permissions_json}
+use Rattle.warg_permissions.specs.KeyMaps.AuthorityData.{AuthorityData}
 use Rattle.warg_log.specs.HeadJson.{head_json}
 use Rattle.warg_log.specs.States.{State}
 use Rattle.warg_log.specs.declared.head.Head.{Head}

@@ -5,8 +5,8 @@ use Rattle.std.specs.Option.{option_or}
 use Rattle.std.specs.Str.{bytes_eq}
 use Rattle.std.proofs.lemmas.Slice.Eq.{bytes_eq-Decides}
 use Rattle.warg_registry.specs.KebabNames.{is_kebab_name}
-use Rattle.warg_records.specs.OperatorEntries.{OperatorOwnEntry, DefineNamespace, ImportNamespace}
-use Rattle.warg_records.specs.Walks.{view_after, AllLawful}
+use Rattle.warg_log_records.specs.OperatorEntries.{OperatorOwnEntry, DefineNamespace, ImportNamespace}
+use Rattle.warg_log_records.specs.Walks.{view_after, AllLawful}
 use Rattle.warg_log.specs.Rules.{Event}
 use Rattle.warg_log.specs.Offences.{unless}
 use Rattle.warg_log.proofs.SignedEntryLaws.{latest-one}

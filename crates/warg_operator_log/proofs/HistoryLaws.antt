@@ -4,14 +4,14 @@ use Rattle.std.specs.Prelude.{IfOk}
 use Rattle.warg_envelope.specs.Envelopes.{envelope_of, envelope_fault_of}
 use Rattle.warg_envelope.specs.Faults.{fault_of}
 use Rattle.warg_envelope.specs.EnvelopeData.{EnvelopeData}
-use Rattle.warg_records.specs.OperatorReading.{operator_record_of}
+use Rattle.warg_log_records.specs.OperatorReading.{operator_record_of}
 use Rattle.warg_permissions.specs.declared.operator.Permission.{Permission}
-use Rattle.warg_validator.specs.declared.replay.RunError.{RunError}
-use Rattle.warg_records.specs.Kinds.{SignatureRelation, IsAccepted, StandsFor}
-use Rattle.warg_validator.specs.OutcomeRuns.{IsRun, IfStarted, cause_named_by}
-use Rattle.warg_validator.specs.Strings.{read_all}
-use Rattle.warg_validator.proofs.RunLaws.{run-then}
-use Rattle.warg_key_maps.specs.AuthorityData.{AuthorityData}
+use Rattle.warg_replay.specs.declared.replay.RunError.{RunError}
+use Rattle.warg_log_records.specs.Kinds.{SignatureRelation, IsAccepted, StandsFor}
+use Rattle.warg_replay.specs.OutcomeRuns.{IsRun, IfStarted, cause_named_by}
+use Rattle.warg_replay.specs.Strings.{read_all}
+use Rattle.warg_replay.proofs.RunLaws.{run-then}
+use Rattle.warg_permissions.specs.KeyMaps.AuthorityData.{AuthorityData}
 use Rattle.warg_log.specs.States.{State}
 use Rattle.warg_operator_log.specs.Namespaces.{Namespace}
 use Rattle.warg_operator_log.specs.State.{View, view_of, offence_of}

@@ -4,8 +4,8 @@ use Rattle.std.specs.Prelude.{unwrap_or, is_none}
 use Rattle.std.specs.List.{filter_map, cons_option, last_or}
 use Rattle.std.specs.Str.{bytes_eq}
 use Rattle.std.proofs.lemmas.Slice.Eq.{bytes_eq-Decides}
-use Rattle.warg_records.specs.OperatorEntries.{OperatorOwnEntry, DefineNamespace, ImportNamespace}
-use Rattle.warg_records.specs.Walks.{AllLawful}
+use Rattle.warg_log_records.specs.OperatorEntries.{OperatorOwnEntry, DefineNamespace, ImportNamespace}
+use Rattle.warg_log_records.specs.Walks.{AllLawful}
 use Rattle.warg_log.specs.Rules.{Event}
 use Rattle.warg_log.proofs.Firsts.{or_second, unless_holds}
 use Rattle.warg_operator_log.specs.Namespaces.{NamespaceAlreadyDefined, Namespace, Defined, Imported, Names, name_offence, own_offence, namespace_made_by_entry, namespace_made_by_event, names_after, own_after, event_offence}

@@ -5,9 +5,9 @@ use Rattle.std.specs.declared.alloc.Global.{Global}
 use Rattle.serde_json.specs.Data.{Data}
 use Rattle.serde_json.specs.View.{members_view}
 use Rattle.serde_json.specs.declared.value.Value.{Value}
-use Rattle.warg_json.specs.Json.{AreReadBack, ReturnsOrNoMemory, ReadsBack, json_result}
-use Rattle.warg_json.specs.Pairs.{names_of}
-use Rattle.warg_json.specs.declared.error.JsonError.{JsonError}
+use Rattle.warg_crypto.specs.Json.Json.{AreReadBack, ReturnsOrNoMemory, ReadsBack, json_result}
+use Rattle.warg_crypto.specs.Json.Pairs.{names_of}
+use Rattle.warg_crypto.specs.declared.json.error.JsonError.{JsonError}
 use Rattle.warg_operator_log.specs.NamespaceJson.{namespace_in, namespace_json, saved_namespace_in, saved_namespace_json}
 use Rattle.warg_operator_log.specs.Namespaces.{Namespace, Defined, Imported}
 

@@ -2,7 +2,7 @@
 use Rattle.std.proofs.Common.{◌≡◌, ℕ, List, [], ◌∷◌, Bool, true, false, ◌||◌, not, None, refl}
 use Rattle.std.specs.List.{list_any}
 use Rattle.warg_registry.specs.KebabNames.{is_kebab_name}
-use Rattle.warg_saved.proofs.Cases.{negated, no_case}
+use Rattle.warg_saved_states.proofs.Cases.{negated, no_case}
 use Rattle.warg_operator_log.specs.NamespaceMap.{HasKebabNames}
 use Rattle.warg_operator_log.specs.Namespaces.{Namespace}
 use Rattle.warg_operator_log.specs.SavedState.{is_misnamed, namespaces_case}

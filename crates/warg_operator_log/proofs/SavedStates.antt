@@ -2,8 +2,8 @@
 use Rattle.std.proofs.Common.{◌≡◌, ◌&&◌, None, ap}
 use Rattle.std.specs.Cmp.{first_so, second_so}
 use Rattle.warg_permissions.specs.OperatorPermissions.{same_permission}
-use Rattle.warg_saved.specs.Fit.{begun_case, empty_case, is_nil, keys_case, rights_case, version_case}
-use Rattle.warg_saved.proofs.Cases.{begun_both, empty_then, head_taken, nil, no_case, none_first, none_rest}
+use Rattle.warg_saved_states.specs.Fit.{begun_case, empty_case, is_nil, keys_case, rights_case, version_case}
+use Rattle.warg_saved_states.proofs.Cases.{begun_both, empty_then, head_taken, nil, no_case, none_first, none_rest}
 use Rattle.warg_log.specs.Rules.{IsCoherent}
 use Rattle.warg_log.specs.declared.head.Head.{Head}
 use Rattle.warg_log.proofs.SavedParts.{coherent_parts}

@@ -1,10 +1,10 @@
 -- The JSON of a namespace is canonical.
 use Rattle.std.specs.Prelude.{codes}
 use Rattle.serde_json.specs.Data.{Members, no_members, object, put, string}
-use Rattle.warg_json.specs.Json.{json_result}
-use Rattle.warg_json.specs.Members.{put_json}
-use Rattle.warg_saved.specs.Canonical.{WritesCanonical, value_depth}
-use Rattle.warg_saved.specs.CanonicalLaws.{member_canonical, none_canonical, put_canonical, then_canonical}
+use Rattle.warg_crypto.specs.Json.Json.{json_result}
+use Rattle.warg_crypto.specs.Json.Members.{put_json}
+use Rattle.warg_saved_states.specs.Canonical.{WritesCanonical, value_depth}
+use Rattle.warg_saved_states.specs.CanonicalLaws.{member_canonical, none_canonical, put_canonical, then_canonical}
 use Rattle.warg_operator_log.specs.NamespaceJson.{namespace_json, saved_namespace_json}
 use Rattle.warg_operator_log.specs.Namespaces.{Namespace, Defined, Imported}
 

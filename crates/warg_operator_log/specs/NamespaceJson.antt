@@ -3,11 +3,11 @@ use Rattle.std.specs.Prelude.{ℕ, ◌==◌, List, length, codes, if◌then◌el
 use Rattle.std.specs.Str.{bytes_eq}
 use Rattle.serde_json.specs.Data.{Data, Members, no_members, object, put, string}
 use Rattle.serde_json.specs.Find.{as_object, as_str}
-use Rattle.warg_json.specs.Json.{◌>>=◌, member_in, or_bad_text, text_in, json_result}
-use Rattle.warg_json.specs.Members.{put_json}
-use Rattle.warg_json.specs.Pairs.{names_of}
-use Rattle.warg_json.specs.declared.error.JsonError.{JsonError}
-use Rattle.warg_json.specs.declared.error.JsonError.TheVariants as fault
+use Rattle.warg_crypto.specs.Json.Json.{◌>>=◌, member_in, or_bad_text, text_in, json_result}
+use Rattle.warg_crypto.specs.Json.Members.{put_json}
+use Rattle.warg_crypto.specs.Json.Pairs.{names_of}
+use Rattle.warg_crypto.specs.declared.json.error.JsonError.{JsonError}
+use Rattle.warg_crypto.specs.declared.json.error.JsonError.TheVariants as fault
 use Rattle.warg_operator_log.specs.Namespaces.{Namespace, Defined, Imported}
 
 -- `"defined"`, or `{"imported":{"registry":..}}`

@@ -7,7 +7,7 @@ use Rattle.std.specs.Cmp.Lexicographic.{nat_list_eq_equiv}
 use Rattle.std.specs.Option.{option_eq}
 use Rattle.std.specs.Str.{bytes_eq}
 use Rattle.std.proofs.lemmas.Slice.Eq.{bytes_eq-Decides}
-use Rattle.warg_key_maps.specs.EqualLaws.{maps_from_get, get_from_maps}
+use Rattle.warg_permissions.specs.KeyMaps.EqualLaws.{maps_from_get, get_from_maps}
 use Rattle.warg_operator_log.specs.Namespaces.{Namespace, Defined, Imported, names}
 use Rattle.warg_operator_log.specs.NamespaceMap.{namespace_view}
 use Rattle.warg_operator_log.specs.SameNamespaces.{same_namespace, same_namespaces}

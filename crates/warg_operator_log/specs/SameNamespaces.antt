@@ -1,7 +1,7 @@
 -- When two namespaces are the same, and when two lists of them are: by what they answer for each name.
 use Rattle.std.specs.Prelude.{ℕ, List, Bool, true, false}
 use Rattle.std.specs.Str.{bytes_eq}
-use Rattle.warg_key_maps.specs.Equal.{same_maps}
+use Rattle.warg_permissions.specs.KeyMaps.Equal.{same_maps}
 use Rattle.warg_operator_log.specs.Namespaces.{Namespace, Defined, Imported}
 
 -- whether both are defined, or both are imported from the same registry

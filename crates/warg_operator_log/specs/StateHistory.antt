@@ -3,12 +3,12 @@ use Rattle.std.specs.Prelude.{◌≡◌, ◌≤◌, ℕ, List, length, map, None
 use Rattle.std.specs.List.{filter_map, last_or}
 use Rattle.std.specs.Option.{option_map}
 use Rattle.warg_envelope.specs.EnvelopeData.{EnvelopeData}
-use Rattle.warg_records.specs.OperatorEntries.{OperatorOwnEntry}
+use Rattle.warg_log_records.specs.OperatorEntries.{OperatorOwnEntry}
 use Rattle.warg_permissions.specs.OperatorPermissions.{same_permission}
-use Rattle.warg_records.specs.OperatorReading.{operator_record_of}
-use Rattle.warg_records.specs.RecordData.{EntryData}
+use Rattle.warg_log_records.specs.OperatorReading.{operator_record_of}
+use Rattle.warg_log_records.specs.RecordData.{EntryData}
 use Rattle.warg_permissions.specs.declared.operator.Permission.{Permission}
-use Rattle.warg_key_maps.specs.AuthorityData.{AuthorityData}
+use Rattle.warg_permissions.specs.KeyMaps.AuthorityData.{AuthorityData}
 use Rattle.warg_log.specs.History.{PlacedEvent, history_of, holds, has_entry, key_of, algorithm_of, own_events}
 use Rattle.warg_log.specs.Rules.{SignedRecord, head_of}
 use Rattle.warg_log.specs.KindOfRules.{signed_record_of}

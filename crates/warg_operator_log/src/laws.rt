@@ -1,14 +1,14 @@
 //! Laws over all operator logs. They have no effect.
 ghost use Rattle.std.specs.Prelude.{◌≡◌, ◌↔◌, ◌≤◌, ℕ, List, ◌++◌, None, Some, true, ◌<◌, length, Result, IfOk, IsOk, All, IfSome};
 ghost use Rattle.warg_envelope.specs.EnvelopeData.{EnvelopeData};
-ghost use Rattle.warg_records.specs.Kinds.{SignatureRelation, IsAccepted, StandsFor};
+ghost use Rattle.warg_log_records.specs.Kinds.{SignatureRelation, IsAccepted, StandsFor};
 ghost use Rattle.std.specs.Prelude.{Option};
 ghost use Rattle.warg_log.specs.RecordOffences.{version_offence};
 ghost use Rattle.warg_log.specs.declared.head.Head.{Head};
 ghost use Rattle.warg_operator_log.specs.NamespaceMap.{namespace_view};
 ghost use Rattle.warg_operator_log.specs.Namespaces.{Namespace, record_id_of};
 ghost use Rattle.warg_operator_log.specs.State.{offence_of, view_of, View, record_offence};
-ghost use Rattle.warg_records.specs.OperatorEntries.{OperatorOwnEntry};
+ghost use Rattle.warg_log_records.specs.OperatorEntries.{OperatorOwnEntry};
 ghost use Rattle.warg_permissions.specs.declared.operator.Permission.{Permission};
 ghost use Rattle.warg_log.specs.Rules.{SignedRecord};
 ghost use Rattle.warg_log.specs.PossibleOffences.{IsPossible};
@@ -17,20 +17,20 @@ ghost use Rattle.warg_operator_log.specs.declared.namespace.NamespaceState.{Name
 ghost use Rattle.warg_operator_log.specs.declared.error.ValidationError.{ValidationError};
 ghost use Rattle.warg_operator_log.specs.declared.error.ValidationError.TheVariants.{OutOfMemory};
 ghost use Rattle.warg_envelope.specs.ReadingWords.{envelope_in};
-ghost use Rattle.warg_records.specs.OperatorReading.{operator_record_of};
-ghost use Rattle.warg_records.specs.Readings.{operator_reading};
-ghost use Rattle.warg_validator.specs.LogWords.{IsRun};
-ghost use Rattle.warg_validator.specs.OutcomeRuns.{IfStarted};
-ghost use Rattle.warg_validator.specs.Strings.{read_all};
-ghost use Rattle.warg_validator.specs.declared.replay.RunError.{RunError};
+ghost use Rattle.warg_log_records.specs.OperatorReading.{operator_record_of};
+ghost use Rattle.warg_log_records.specs.Readings.{operator_reading};
+ghost use Rattle.warg_replay.specs.LogWords.{IsRun};
+ghost use Rattle.warg_replay.specs.OutcomeRuns.{IfStarted};
+ghost use Rattle.warg_replay.specs.Strings.{read_all};
+ghost use Rattle.warg_replay.specs.declared.replay.RunError.{RunError};
 ghost use Rattle.warg_log.specs.Admissions.{NoKeyBringsItselfIn};
-ghost use Rattle.warg_key_maps.specs.AuthorityData.{AuthorityData};
+ghost use Rattle.warg_permissions.specs.KeyMaps.AuthorityData.{AuthorityData};
 ghost use Rattle.warg_log.specs.Forms.{HasForm};
 ghost use Rattle.warg_log.specs.States.{State};
 ghost use Rattle.warg_operator_log.specs.StateHistory.{TellsHistory, OneEntryEach, records_of, history};
 
 use warg_log::Head;
-use warg_records::operator::OPERATOR_RECORD_VERSION;
+use warg_log_records::operator::OPERATOR_RECORD_VERSION;
 
 /// Each namespace of an accepted log keeps its state in each accepted log that goes on from it.
 pub fn extension()

@@ -4,7 +4,7 @@ ghost use Rattle.std.specs.Prelude.{◌≡◌};
 ghost use Rattle.warg_operator_log.specs.OffenceNames.{error_name};
 
 use crate::error::ValidationError;
-use warg_validator::Named;
+use warg_replay::Named;
 
 impl ValidationError {
     /// The name of the error's case, without its fields, as the program prints it. `OutOfMemory` is the name

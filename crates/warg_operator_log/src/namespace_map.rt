@@ -7,8 +7,8 @@ ghost use Rattle.std.specs.Option.{option_copied, option_map};
 ghost use Rattle.std.specs.Cmp.{partial_equiv_from_equiv};
 ghost use Rattle.indexmap.specs.IndexMap.{get_by_text};
 ghost use Rattle.warg_registry.specs.KebabNames.{IsKebabName, is_kebab_name};
-ghost use Rattle.warg_records.specs.OperatorEntries.{OperatorOwnEntry, entry_data, record_data};
-ghost use Rattle.warg_records.specs.OutcomeOffences.{ReturnsOffence};
+ghost use Rattle.warg_log_records.specs.OperatorEntries.{OperatorOwnEntry, entry_data, record_data};
+ghost use Rattle.warg_log_records.specs.OutcomeOffences.{ReturnsOffence};
 ghost use Rattle.warg_log.specs.Offences as shared;
 ghost use Rattle.warg_log.specs.Rules.{LogOffence};
 ghost use Rattle.warg_operator_log.specs.Namespaces.{OwnOffence, Names, Namespace, names, names_over, name_offence, rules, names-none, names-append, equivalent_names_offence, equivalent_names_after};
@@ -26,13 +26,13 @@ use indexmap::IndexMap;
 use std::alloc::{AllocError, Global};
 use std::marker::Model;
 use warg_crypto::hash::Sha256;
+use warg_crypto::time::Timestamp;
 use warg_envelope::ProtoEnvelope;
-use warg_key_maps::put_all;
 use warg_log::{EntryRef, Origin, OwnState, RecordRef, Refusal};
-use warg_records::RecordId;
-use warg_records::operator::{OperatorEntry, OperatorRecord, Permission};
+use warg_log_records::RecordId;
+use warg_log_records::operator::{OperatorEntry, OperatorRecord, Permission};
+use warg_permissions::key_maps::put_all;
 use warg_registry::PackageName;
-use warg_time::Timestamp;
 
 /// The namespaces of a log, by name.
 #[derive(Debug, Drop)]

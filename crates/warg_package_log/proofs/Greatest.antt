@@ -11,7 +11,7 @@ use Rattle.std.proofs.lemmas.Cmp.{upto}
 use Rattle.std.proofs.lemmas.List.Elements.{Contains-push, Contains-push_cases, Contains-append_cases, Contains-append_left, Contains-append_right}
 use Rattle.semver.specs.OrderLaws.{pre_total, build_total}
 use Rattle.semver.specs.Identifiers.{parts_of}
-use Rattle.warg_records.specs.PackageEntries.{VersionParts}
+use Rattle.warg_log_records.specs.PackageEntries.{VersionParts}
 use Rattle.warg_package_log.specs.Latest.{IsGreatest, greater_of, parts_cmp, release_cmp}
 use Rattle.warg_package_log.specs.declared.release.Release.{Release}
 

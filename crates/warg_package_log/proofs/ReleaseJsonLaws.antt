@@ -3,11 +3,11 @@ use Rattle.std.specs.Prelude.{◌≡◌, ℕ, List, codes, Ok, refl}
 use Rattle.std.proofs.Common.{subst}
 use Rattle.serde_json.specs.Data.{Data, no_members, object, put}
 use Rattle.warg_crypto.specs.declared.hash.AnyHash.{AnyHash}
-use Rattle.warg_json.specs.Json.{ReadsBack}
-use Rattle.warg_json.specs.JsonTexts.{hash_in, key_id_in}
-use Rattle.warg_time.specs.TimeJson.{time_in}
-use Rattle.warg_time.specs.Times.{Time}
-use Rattle.warg_records.specs.RecordIdJson.{record_id_in}
+use Rattle.warg_crypto.specs.Json.Json.{ReadsBack}
+use Rattle.warg_crypto.specs.Json.JsonTexts.{hash_in, key_id_in}
+use Rattle.warg_crypto.specs.Time.TimeJson.{time_in}
+use Rattle.warg_crypto.specs.Time.Times.{Time}
+use Rattle.warg_log_records.specs.RecordIdJson.{record_id_in}
 use Rattle.warg_package_log.specs.ReleaseJson.{release_in, release_state_in, status_member, version_in}
 use Rattle.warg_package_log.specs.Releases.{ReleaseView}
 use Rattle.warg_package_log.specs.declared.release.ReleaseState.TheVariants.{Released, Yanked}

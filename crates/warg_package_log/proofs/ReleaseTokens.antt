@@ -3,8 +3,8 @@ use Rattle.std.specs.Prelude.{◌≡◌, ℕ, List, codes, Ok, refl}
 use Rattle.semver.specs.Identifiers.{parts_text}
 use Rattle.serde_json.specs.Data.{Data, no_members, member, object, string}
 use Rattle.warg_crypto.specs.HashText.{hash_text}
-use Rattle.warg_time.specs.TimeText.{time_text}
-use Rattle.warg_time.specs.Times.{Time}
+use Rattle.warg_crypto.specs.Time.TimeText.{time_text}
+use Rattle.warg_crypto.specs.Time.Times.{Time}
 use Rattle.warg_package_log.specs.ReleaseJson.{release_json, release_state_json}
 use Rattle.warg_package_log.specs.Releases.{ReleaseView}
 use Rattle.warg_package_log.specs.declared.release.ReleaseState.TheVariants.{Yanked}

@@ -4,16 +4,16 @@ use Rattle.std.proofs.Common.{true≢false, subst, ap, ◌∙◌}
 use Rattle.std.specs.Int.{is_negative}
 use Rattle.semver.specs.Identifiers.{parts_text}
 use Rattle.serde_json.specs.Data.{Data, Members, no_members, object, put, string}
-use Rattle.warg_json.specs.Json.{◌>>=◌, AreReadBack, IsReadBack, or_bad_text, json_result}
-use Rattle.warg_json.specs.JsonTexts.{hash_in, hash_json}
-use Rattle.warg_time.specs.TimeJson.{time_in, time_json}
-use Rattle.warg_json.specs.MemberLaws.{read_again}
-use Rattle.warg_json.specs.Members.{put_json}
+use Rattle.warg_crypto.specs.Json.Json.{◌>>=◌, AreReadBack, IsReadBack, or_bad_text, json_result}
+use Rattle.warg_crypto.specs.Json.JsonTexts.{hash_in, hash_json}
+use Rattle.warg_crypto.specs.Time.TimeJson.{time_in, time_json}
+use Rattle.warg_crypto.specs.Json.MemberLaws.{read_again}
+use Rattle.warg_crypto.specs.Json.Members.{put_json}
 use Rattle.warg_crypto.specs.HashText.{hash_text}
-use Rattle.warg_json.specs.JsonLaws.{bind_ok, ok_same}
-use Rattle.warg_time.specs.TimeText.{time_text}
-use Rattle.warg_time.specs.TimeTextLaws.{time_of-seconds_text}
-use Rattle.warg_time.specs.Times.{Time}
+use Rattle.warg_crypto.specs.Json.JsonLaws.{bind_ok, ok_same}
+use Rattle.warg_crypto.specs.Time.TimeText.{time_text}
+use Rattle.warg_crypto.specs.Time.TimeTextLaws.{time_of-seconds_text}
+use Rattle.warg_crypto.specs.Time.Times.{Time}
 use Rattle.warg_package_log.specs.ReleaseJson.{release_in, release_json, release_state_in, release_state_json, status_member}
 use Rattle.warg_package_log.specs.Releases.{ReleaseView}
 use Rattle.warg_package_log.specs.declared.release.ReleaseState.TheVariants.{Released, Yanked}

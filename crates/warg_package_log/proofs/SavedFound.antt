@@ -4,11 +4,11 @@ use Rattle.std.specs.Prelude.{ℕ, List, [], ◌∷◌, map, Bool, true, false, 
 use Rattle.std.specs.List.{AllByRecursion, list_all, list_any}
 use Rattle.std.specs.Str.{bytes_eq}
 use Rattle.std.proofs.lemmas.Slice.Eq.{bytes_eq-Decides}
-use Rattle.warg_json.specs.Json.{AreReadBack, Version}
-use Rattle.warg_json.specs.Pairs.{value_at}
-use Rattle.warg_json.specs.JsonLaws.{ok_same}
-use Rattle.warg_saved.specs.Backs.{AreVersionsBack, IsBack}
-use Rattle.warg_saved.specs.MapNames.{version_name, version_named}
+use Rattle.warg_crypto.specs.Json.Json.{AreReadBack, Version}
+use Rattle.warg_crypto.specs.Json.Pairs.{value_at}
+use Rattle.warg_crypto.specs.Json.JsonLaws.{ok_same}
+use Rattle.warg_saved_states.specs.Backs.{AreVersionsBack, IsBack}
+use Rattle.warg_saved_states.specs.MapNames.{version_name, version_named}
 use Rattle.warg_log.proofs.SavedEqual.{option_self}
 use Rattle.warg_package_log.specs.ReleaseJson.{release_in, release_json}
 use Rattle.warg_package_log.specs.Releases.{ReleaseView, find_parts, versions}

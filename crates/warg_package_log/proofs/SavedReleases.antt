@@ -4,10 +4,10 @@ use Rattle.std.specs.List.{AllByRecursion, IsDistinct, list_any}
 use Rattle.std.specs.Map.{keys_of}
 use Rattle.semver.specs.declared.Version.{Version}
 use Rattle.semver.specs.Identifiers.{parts_of}
-use Rattle.warg_json.specs.Pairs.{plain_pairs}
-use Rattle.warg_records.specs.PackageEntries.{VersionParts}
-use Rattle.warg_json.specs.declared.error.Incoherence.{Incoherence}
-use Rattle.warg_saved.specs.Fit.{case_if}
+use Rattle.warg_crypto.specs.Json.Pairs.{plain_pairs}
+use Rattle.warg_log_records.specs.PackageEntries.{VersionParts}
+use Rattle.warg_crypto.specs.declared.json.error.Incoherence.{Incoherence}
+use Rattle.warg_saved_states.specs.Fit.{case_if}
 use Rattle.warg_package_log.specs.ReleaseMap.{AreDistinct, IsReleaseMap, IsUnderVersions, release_view, views}
 use Rattle.warg_package_log.specs.Releases.{versions}
 use Rattle.warg_package_log.specs.SameReleaseLaws.{exact_parts}

@@ -1,15 +1,15 @@
 -- The JSON of a state, by the members that were put one after another.
 use Rattle.std.specs.Prelude.{◌≡◌, List, codes, Ok, Err, refl}
 use Rattle.serde_json.specs.Data.{Members, no_members, object}
-use Rattle.warg_json.specs.JsonTexts.{algorithm_json, key_json}
-use Rattle.warg_json.specs.Members.{put_option}
-use Rattle.warg_json.specs.declared.error.JsonError.{JsonError}
+use Rattle.warg_crypto.specs.Json.JsonTexts.{algorithm_json, key_json}
+use Rattle.warg_crypto.specs.Json.Members.{put_option}
+use Rattle.warg_crypto.specs.declared.json.error.JsonError.{JsonError}
 use Rattle.warg_permissions.specs.PackagePermissions.{permission_text}
 use Rattle.warg_permissions.specs.declared.package.Permission.{Permission}
-use Rattle.warg_saved.specs.Maps.{put_pairs}
-use Rattle.warg_saved.specs.MapNames.{text_name, version_name}
-use Rattle.warg_saved.specs.SavedPermissions.{permissions_json}
-use Rattle.warg_key_maps.specs.AuthorityData.{AuthorityData}
+use Rattle.warg_saved_states.specs.Maps.{put_pairs}
+use Rattle.warg_saved_states.specs.MapNames.{text_name, version_name}
+use Rattle.warg_saved_states.specs.SavedPermissions.{permissions_json}
+use Rattle.warg_permissions.specs.KeyMaps.AuthorityData.{AuthorityData}
 use Rattle.warg_log.specs.HeadJson.{head_json}
 use Rattle.warg_log.specs.States.{State}
 use Rattle.warg_package_log.specs.ReleaseJson.{release_json}

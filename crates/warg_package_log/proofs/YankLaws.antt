@@ -4,10 +4,10 @@ use Rattle.std.specs.Prelude.{find}
 use Rattle.std.specs.List.{filter_map, cons_option}
 use Rattle.std.specs.Option.{option_map, option_map_or, option_or}
 use Rattle.std.proofs.lemmas.List.Folds.{find-append}
-use Rattle.warg_time.specs.Times.{Time}
-use Rattle.warg_records.specs.PackageEntries.{VersionParts, PackageOwnEntry, Release, Yank}
-use Rattle.warg_records.specs.declared.record_id.RecordId.{RecordId}
-use Rattle.warg_records.specs.Walks.{AllLawful}
+use Rattle.warg_crypto.specs.Time.Times.{Time}
+use Rattle.warg_log_records.specs.PackageEntries.{VersionParts, PackageOwnEntry, Release, Yank}
+use Rattle.warg_log_records.specs.declared.record_id.RecordId.{RecordId}
+use Rattle.warg_log_records.specs.Walks.{AllLawful}
 use Rattle.warg_log.specs.Rules.{Event}
 use Rattle.warg_log.proofs.SignedEntryLaws.{latest-one}
 use Rattle.warg_package_log.specs.EquivalentReleaseLaws.{find-with_later_yanks}

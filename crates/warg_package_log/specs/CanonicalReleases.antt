@@ -3,12 +3,12 @@ use Rattle.std.specs.Prelude.{ℕ, List, codes}
 use Rattle.semver.specs.Identifiers.{parts_text}
 use Rattle.serde_json.specs.Data.{Members, no_members, object, put, string}
 use Rattle.warg_crypto.specs.HashText.{hash_text}
-use Rattle.warg_json.specs.Json.{◌>>=◌, json_result}
-use Rattle.warg_time.specs.TimeJson.{time_json}
-use Rattle.warg_json.specs.Members.{put_json}
-use Rattle.warg_time.specs.TimeText.{time_text}
-use Rattle.warg_saved.specs.Canonical.{IsCanonical, WritesCanonical, value_depth}
-use Rattle.warg_saved.specs.CanonicalLaws.{member_canonical, none_canonical, put_canonical, text_canonical, then_canonical}
+use Rattle.warg_crypto.specs.Json.Json.{◌>>=◌, json_result}
+use Rattle.warg_crypto.specs.Time.TimeJson.{time_json}
+use Rattle.warg_crypto.specs.Json.Members.{put_json}
+use Rattle.warg_crypto.specs.Time.TimeText.{time_text}
+use Rattle.warg_saved_states.specs.Canonical.{IsCanonical, WritesCanonical, value_depth}
+use Rattle.warg_saved_states.specs.CanonicalLaws.{member_canonical, none_canonical, put_canonical, text_canonical, then_canonical}
 use Rattle.warg_package_log.specs.ReleaseJson.{release_json, release_state_json, status_member}
 use Rattle.warg_package_log.specs.Releases.{ReleaseView}
 use Rattle.warg_package_log.specs.declared.release.ReleaseState.{ReleaseState}

@@ -5,7 +5,7 @@ use Rattle.std.specs.Option.{option_map, option_or}
 use Rattle.std.proofs.lemmas.List.Folds.{find-append}
 use Rattle.warg_log.specs.Offences.{unless}
 use Rattle.warg_log.specs.Rules.{Event}
-use Rattle.warg_records.specs.PackageEntries.{VersionParts, PackageOwnEntry, Release, Yank}
+use Rattle.warg_log_records.specs.PackageEntries.{VersionParts, PackageOwnEntry, Release, Yank}
 use Rattle.warg_package_log.specs.Versions.{same_parts}
 use Rattle.warg_package_log.specs.Releases.{ReleaseView, ReleaseOfReleased, with_later_yanks, releases_made, releases_after, find_parts, own_offence, unyankable}
 use Rattle.warg_package_log.specs.SameReleases.{AreEquivalentReleases}

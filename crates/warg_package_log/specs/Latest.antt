@@ -7,7 +7,7 @@ use Rattle.semver.specs.Order.{pre_cmp, build_cmp}
 use Rattle.semver.specs.Identifiers.{parts_of}
 use Rattle.semver.specs.Eval.{matches_all}
 use Rattle.semver.specs.declared.Comparator.{Comparator}
-use Rattle.warg_records.specs.PackageEntries.{VersionParts}
+use Rattle.warg_log_records.specs.PackageEntries.{VersionParts}
 use Rattle.semver.specs.EvalViews.{matches_views}
 use Rattle.semver.specs.Identifiers.{comparator_view}
 use Rattle.warg_package_log.specs.Releases.{ReleaseView, is_yanked}

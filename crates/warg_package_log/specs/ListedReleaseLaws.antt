@@ -6,11 +6,11 @@ use Rattle.std.specs.Option.{option_map, option_or}
 use Rattle.std.proofs.lemmas.Bool.{cases_Bool}
 use Rattle.std.proofs.lemmas.List.Folds.{find-append}
 use Rattle.std.proofs.lemmas.List.Elements.{filter_map-append}
-use Rattle.warg_time.specs.Times.{Time}
-use Rattle.warg_records.specs.PackageEntries.{VersionParts, PackageOwnEntry, Release, Yank}
-use Rattle.warg_records.specs.declared.record_id.RecordId.{RecordId}
-use Rattle.warg_records.specs.Walks.{view_after, AllLawful, IsStepwise}
-use Rattle.warg_records.proofs.WalkLaws.{lawful-view}
+use Rattle.warg_crypto.specs.Time.Times.{Time}
+use Rattle.warg_log_records.specs.PackageEntries.{VersionParts, PackageOwnEntry, Release, Yank}
+use Rattle.warg_log_records.specs.declared.record_id.RecordId.{RecordId}
+use Rattle.warg_log_records.specs.Walks.{view_after, AllLawful, IsStepwise}
+use Rattle.warg_log_records.proofs.WalkLaws.{lawful-view}
 use Rattle.warg_log.specs.SignedEntries.{latest}
 use Rattle.warg_log.specs.Offences.{unless}
 use Rattle.warg_log.specs.Rules.{Event}

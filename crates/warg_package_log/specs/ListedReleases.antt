@@ -2,7 +2,7 @@
 use Rattle.std.specs.Prelude.{List, [], ◌∷◌, Option, None, unwrap_or}
 use Rattle.std.specs.List.{filter_map, last_or}
 use Rattle.std.specs.Option.{option_map}
-use Rattle.warg_records.specs.PackageEntries.{PackageOwnEntry}
+use Rattle.warg_log_records.specs.PackageEntries.{PackageOwnEntry}
 use Rattle.warg_log.specs.Rules.{Event}
 use Rattle.warg_package_log.specs.Releases.{ReleaseView, OwnOffence, release_made_by_event, state_if_yanked, releases_after, own_offence}
 

@@ -4,14 +4,14 @@ use Rattle.std.specs.Str.{bytes_eq}
 use Rattle.semver.specs.Identifiers.{parts_text}
 use Rattle.semver.specs.Parse.{version_parts}
 use Rattle.serde_json.specs.Data.{Data, Members, no_members, object, put, string}
-use Rattle.warg_json.specs.Json.{◌>>=◌, member_in, or_bad_text, text_in, json_result}
-use Rattle.warg_json.specs.JsonTexts.{hash_in, hash_json, key_id_in, key_id_json}
-use Rattle.warg_time.specs.TimeJson.{time_in, time_json}
-use Rattle.warg_json.specs.Members.{put_json}
-use Rattle.warg_json.specs.declared.error.JsonError.{JsonError}
-use Rattle.warg_json.specs.declared.error.JsonError.TheVariants as fault
-use Rattle.warg_records.specs.PackageEntries.{VersionParts}
-use Rattle.warg_records.specs.RecordIdJson.{record_id_in, record_id_json}
+use Rattle.warg_crypto.specs.Json.Json.{◌>>=◌, member_in, or_bad_text, text_in, json_result}
+use Rattle.warg_crypto.specs.Json.JsonTexts.{hash_in, hash_json, key_id_in, key_id_json}
+use Rattle.warg_crypto.specs.Time.TimeJson.{time_in, time_json}
+use Rattle.warg_crypto.specs.Json.Members.{put_json}
+use Rattle.warg_crypto.specs.declared.json.error.JsonError.{JsonError}
+use Rattle.warg_crypto.specs.declared.json.error.JsonError.TheVariants as fault
+use Rattle.warg_log_records.specs.PackageEntries.{VersionParts}
+use Rattle.warg_log_records.specs.RecordIdJson.{record_id_in, record_id_json}
 use Rattle.warg_package_log.specs.Releases.{ReleaseView}
 use Rattle.warg_package_log.specs.declared.release.ReleaseState.{ReleaseState}
 use Rattle.warg_package_log.specs.declared.release.ReleaseState.TheVariants.{Released, Yanked}

@@ -7,15 +7,15 @@ use Rattle.semver.specs.Parse.{version_parts}
 use Rattle.semver.specs.declared.error.Error.{Error}
 use Rattle.serde_json.specs.Data.{Data, Members, no_members, object, put, string}
 use Rattle.serde_json.specs.Find.{get_member}
-use Rattle.warg_json.specs.Json.{◌>>=◌, AreReadBack, Version, member_in, or_bad_text, text_in, json_result}
+use Rattle.warg_crypto.specs.Json.Json.{◌>>=◌, AreReadBack, Version, member_in, or_bad_text, text_in, json_result}
 use Rattle.warg_crypto.specs.HashText.{hash_text}
-use Rattle.warg_json.specs.JsonTexts.{key_id_in}
-use Rattle.warg_time.specs.TimeJson.{time_in, time_json}
-use Rattle.warg_json.specs.Members.{put_json}
-use Rattle.warg_json.specs.JsonLaws.{bind_ok, ok_same}
-use Rattle.warg_json.specs.Within.{AreWithin}
-use Rattle.warg_json.specs.WithinLaws.{member_within}
-use Rattle.warg_records.specs.RecordIdJson.{record_id_in}
+use Rattle.warg_crypto.specs.Json.JsonTexts.{key_id_in}
+use Rattle.warg_crypto.specs.Time.TimeJson.{time_in, time_json}
+use Rattle.warg_crypto.specs.Json.Members.{put_json}
+use Rattle.warg_crypto.specs.Json.JsonLaws.{bind_ok, ok_same}
+use Rattle.warg_crypto.specs.Json.Within.{AreWithin}
+use Rattle.warg_crypto.specs.Json.WithinLaws.{member_within}
+use Rattle.warg_log_records.specs.RecordIdJson.{record_id_in}
 use Rattle.warg_package_log.specs.ReleaseJson.{release_in, release_json, release_state_in, release_state_json, version_in}
 use Rattle.warg_package_log.specs.Releases.{ReleaseView}
 

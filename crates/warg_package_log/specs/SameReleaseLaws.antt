@@ -12,13 +12,13 @@ use Rattle.std.proofs.lemmas.Bool.Decides.{Decides-eqb, Decides-int_eq}
 use Rattle.std.proofs.lemmas.Cmp.{nat_eq_equiv}
 use Rattle.std.proofs.lemmas.Slice.Eq.{bytes_eq-Decides}
 use Rattle.std.specs.Ordering.{int_eq}
-use Rattle.warg_time.specs.Times.{same_time, Time}
+use Rattle.warg_crypto.specs.Time.Times.{same_time, Time}
 use Rattle.warg_crypto.specs.declared.hash.HashAlgorithm.{HashAlgorithm}
 use Rattle.warg_crypto.specs.declared.hash.HashAlgorithm.TheVariants.{Sha256}
-use Rattle.warg_records.specs.declared.record_id.RecordId.{RecordId}
+use Rattle.warg_log_records.specs.declared.record_id.RecordId.{RecordId}
 use Rattle.warg_log.specs.RecordOffences.{same_id}
 use Rattle.warg_crypto.specs.declared.hash.AnyHash.{AnyHash}
-use Rattle.warg_records.specs.PackageEntries.{VersionParts}
+use Rattle.warg_log_records.specs.PackageEntries.{VersionParts}
 use Rattle.warg_package_log.specs.ReleaseMap.{release_view}
 use Rattle.warg_package_log.specs.Versions.{same_parts}
 use Rattle.warg_package_log.specs.Releases.{ReleaseView, find_parts, versions}

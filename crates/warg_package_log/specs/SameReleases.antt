@@ -3,10 +3,10 @@ use Rattle.std.specs.Prelude.{◌≡◌, List, Bool, ◌&&◌, false}
 use Rattle.std.specs.List.{list_all}
 use Rattle.std.specs.Option.{option_eq}
 use Rattle.std.specs.Str.{bytes_eq}
-use Rattle.warg_time.specs.Times.{same_time}
+use Rattle.warg_crypto.specs.Time.Times.{same_time}
 use Rattle.warg_crypto.specs.declared.hash.AnyHash.{AnyHash}
 use Rattle.warg_log.specs.RecordOffences.{same_id}
-use Rattle.warg_records.specs.PackageEntries.{VersionParts}
+use Rattle.warg_log_records.specs.PackageEntries.{VersionParts}
 use Rattle.warg_package_log.specs.Versions.{same_parts}
 use Rattle.warg_package_log.specs.Releases.{ReleaseView, find_parts, versions}
 use Rattle.warg_package_log.specs.declared.release.ReleaseState.{ReleaseState}

@@ -8,22 +8,22 @@ use Rattle.semver.specs.Identifiers.{parts_text}
 use Rattle.serde_json.specs.Data.{Data, Members, no_members, object, put}
 use Rattle.serde_json.specs.Find.{get_member}
 use Rattle.serde_json.proofs.Views.{get_member-put, get_member-put_other}
-use Rattle.warg_json.specs.Json.{AreReadBack, Version, json_result}
-use Rattle.warg_json.specs.JsonTexts.{algorithm_in, algorithm_json, key_in, key_json}
-use Rattle.warg_json.specs.Members.{optional_member, put_option, put_some}
-use Rattle.warg_json.specs.Pairs.{pairs_json, pairs_member, some_pairs_json}
-use Rattle.warg_json.specs.PairsReadLaws.{values_read}
-use Rattle.warg_json.specs.JsonLaws.{bind_ok, ok_same}
-use Rattle.warg_json.specs.Within.{AreWithin, IsWithin}
-use Rattle.warg_json.specs.WithinLaws.{member_within, names_within}
-use Rattle.warg_json.specs.declared.error.Incoherence.{Incoherence}
+use Rattle.warg_crypto.specs.Json.Json.{AreReadBack, Version, json_result}
+use Rattle.warg_crypto.specs.Json.JsonTexts.{algorithm_in, algorithm_json, key_in, key_json}
+use Rattle.warg_crypto.specs.Json.Members.{optional_member, put_option, put_some}
+use Rattle.warg_crypto.specs.Json.Pairs.{pairs_json, pairs_member, some_pairs_json}
+use Rattle.warg_crypto.specs.Json.PairsReadLaws.{values_read}
+use Rattle.warg_crypto.specs.Json.JsonLaws.{bind_ok, ok_same}
+use Rattle.warg_crypto.specs.Json.Within.{AreWithin, IsWithin}
+use Rattle.warg_crypto.specs.Json.WithinLaws.{member_within, names_within}
+use Rattle.warg_crypto.specs.declared.json.error.Incoherence.{Incoherence}
 use Rattle.warg_permissions.specs.PackagePermissions.{permission_in, permission_text, same_permission}
 use Rattle.warg_permissions.specs.declared.package.Permission.{Permission}
-use Rattle.warg_saved.specs.Fit.{unless_case}
-use Rattle.warg_saved.specs.Maps.{put_pairs}
-use Rattle.warg_saved.specs.MapNames.{text_name, text_named, version_name, version_named}
-use Rattle.warg_saved.specs.SavedPermissions.{permissions_in, permissions_json}
-use Rattle.warg_key_maps.specs.AuthorityData.{AuthorityData}
+use Rattle.warg_saved_states.specs.Fit.{unless_case}
+use Rattle.warg_saved_states.specs.Maps.{put_pairs}
+use Rattle.warg_saved_states.specs.MapNames.{text_name, text_named, version_name, version_named}
+use Rattle.warg_saved_states.specs.SavedPermissions.{permissions_in, permissions_json}
+use Rattle.warg_permissions.specs.KeyMaps.AuthorityData.{AuthorityData}
 use Rattle.warg_log.specs.HeadJson.{head_in, head_json}
 use Rattle.warg_log.specs.States.{State}
 use Rattle.warg_package_log.specs.ReleaseJson.{release_in, release_json}

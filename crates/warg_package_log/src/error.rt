@@ -8,7 +8,7 @@ use std::fmt;
 use warg_crypto::hash::HashAlgorithm;
 use warg_crypto::signing::{KeyID, SignatureError};
 use warg_log::Refusal;
-use warg_records::package::Permission;
+use warg_log_records::package::Permission;
 
 /// Why a record of a package log is refused.
 #[derive(Debug, Drop, PartialEq, Eq)]

@@ -2,8 +2,8 @@
 use crate::error::ValidationError;
 use crate::state::LogState;
 use warg_envelope::ProtoEnvelope;
-use warg_records::package::PackageRecord;
-use warg_validator::host::{Hosted, Question};
+use warg_log_records::package::PackageRecord;
+use warg_replay::host::{Hosted, Question};
 
 impl Hosted for LogState {
     ghost use Rattle.warg_package_log.specs.StateLaws as law;

@@ -2,16 +2,16 @@
 ghost use Rattle.std.specs.Prelude.{◌≡◌, ◌↔◌, ◌≤◌, List, ◌++◌, None, true, ◌<◌, ℕ, length, Result, IfOk, IsOk, All, IfSome};
 ghost use Rattle.warg_envelope.specs.ReadingWords.{envelope_in};
 ghost use Rattle.warg_envelope.specs.EnvelopeData.{EnvelopeData};
-ghost use Rattle.warg_records.specs.PackageReading.{package_record_of};
-ghost use Rattle.warg_records.specs.Readings.{package_reading};
+ghost use Rattle.warg_log_records.specs.PackageReading.{package_record_of};
+ghost use Rattle.warg_log_records.specs.Readings.{package_reading};
 ghost use Rattle.warg_permissions.specs.declared.package.Permission.{Permission};
-ghost use Rattle.warg_records.specs.Kinds.{SignatureRelation, IsAccepted, StandsFor};
-ghost use Rattle.warg_validator.specs.LogWords.{IsRun};
-ghost use Rattle.warg_validator.specs.OutcomeRuns.{IfStarted};
-ghost use Rattle.warg_validator.specs.Strings.{read_all};
-ghost use Rattle.warg_validator.specs.declared.replay.RunError.{RunError};
+ghost use Rattle.warg_log_records.specs.Kinds.{SignatureRelation, IsAccepted, StandsFor};
+ghost use Rattle.warg_replay.specs.LogWords.{IsRun};
+ghost use Rattle.warg_replay.specs.OutcomeRuns.{IfStarted};
+ghost use Rattle.warg_replay.specs.Strings.{read_all};
+ghost use Rattle.warg_replay.specs.declared.replay.RunError.{RunError};
 ghost use Rattle.warg_log.specs.Admissions.{NoKeyBringsItselfIn};
-ghost use Rattle.warg_key_maps.specs.AuthorityData.{AuthorityData};
+ghost use Rattle.warg_permissions.specs.KeyMaps.AuthorityData.{AuthorityData};
 ghost use Rattle.warg_log.specs.Forms.{HasForm};
 ghost use Rattle.warg_log.specs.States.{State};
 ghost use Rattle.std.specs.Prelude.{Option};
@@ -21,7 +21,7 @@ ghost use Rattle.warg_package_log.specs.ReleaseMap.{AreDistinct, release_view};
 ghost use Rattle.warg_package_log.specs.Extensions.{IsExtension};
 ghost use Rattle.warg_package_log.specs.Releases.{versions, ReleaseView, record_id_of};
 ghost use Rattle.warg_package_log.specs.State.{offence_of, view_of, View, record_offence};
-ghost use Rattle.warg_records.specs.PackageEntries.{PackageOwnEntry};
+ghost use Rattle.warg_log_records.specs.PackageEntries.{PackageOwnEntry};
 ghost use Rattle.warg_log.specs.Rules.{SignedRecord};
 ghost use Rattle.warg_log.specs.PossibleOffences.{IsPossible};
 ghost use Rattle.warg_package_log.specs.StateLaws.{kind, package_log, AreEquivalent};
@@ -32,7 +32,7 @@ ghost use Rattle.warg_package_log.specs.declared.error.ValidationError.TheVarian
 ghost use Rattle.warg_package_log.specs.StateHistory.{TellsHistory, OneYankEach, records_of, history};
 
 use warg_log::Head;
-use warg_records::package::PACKAGE_RECORD_VERSION;
+use warg_log_records::package::PACKAGE_RECORD_VERSION;
 
 /// The releases of an accepted log are the front of those of each accepted log that goes on from
 /// it: none is lost, moved or changed, but that one that stood may have been yanked.

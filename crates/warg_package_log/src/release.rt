@@ -10,8 +10,8 @@ use semver::Version;
 use std::alloc::AllocError;
 use warg_crypto::hash::AnyHash;
 use warg_crypto::signing::KeyID;
-use warg_records::RecordId;
-use warg_time::Timestamp;
+use warg_crypto::time::Timestamp;
+use warg_log_records::RecordId;
 
 /// What became of a release.
 #[derive(Debug, Drop)]

@@ -3,9 +3,9 @@ use Rattle.std.proofs.Common.{◌≡◌, ℕ, List, Option, Some, Result, Ok, Er
 use Rattle.serde_json.specs.Data.{string}
 use Rattle.serde_json.specs.View.{view}
 use Rattle.serde_json.specs.declared.value.Value.{Value}
-use Rattle.warg_json.specs.Json.{ReturnsOrNoMemory, ReadsBack, json_result}
-use Rattle.warg_json.specs.JsonLaws.{ok_same}
-use Rattle.warg_json.specs.declared.error.JsonError.{JsonError}
+use Rattle.warg_crypto.specs.Json.Json.{ReturnsOrNoMemory, ReadsBack, json_result}
+use Rattle.warg_crypto.specs.Json.JsonLaws.{ok_same}
+use Rattle.warg_crypto.specs.declared.json.error.JsonError.{JsonError}
 use Rattle.warg_permissions.specs.PermissionJson.{permission_from}
 
 pub permission_back : {P : Type 0} (text_of : P → List ℕ) (named : List ℕ → Option P) (p : P) (r : Result Value JsonError) → named (text_of p) ≡ Some p

@@ -1,3 +1,4 @@
 pub mod Equality
 pub mod JsonLemmas
 pub mod Distinct
+pub mod KeyMapsLemmas

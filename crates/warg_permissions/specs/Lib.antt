@@ -4,3 +4,4 @@ pub mod OperatorPermissions
 pub mod PermissionJson
 pub mod PermissionSets
 pub mod PermissionSetLaws
+pub mod KeyMaps

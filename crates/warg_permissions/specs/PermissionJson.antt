@@ -1,8 +1,8 @@
 -- The JSON of permissions: their text.
 use Rattle.std.specs.Prelude.{ℕ, List, Option, Result}
 use Rattle.serde_json.specs.Data.{Data, string}
-use Rattle.warg_json.specs.Json.{◌>>=◌, or_bad_text, text_in, json_result}
-use Rattle.warg_json.specs.declared.error.JsonError.{JsonError}
+use Rattle.warg_crypto.specs.Json.Json.{◌>>=◌, or_bad_text, text_in, json_result}
+use Rattle.warg_crypto.specs.declared.json.error.JsonError.{JsonError}
 use Rattle.warg_permissions.specs.Permissions.{named_or}
 
 -- a permission: its text

@@ -1,19 +1,19 @@
 -- JSON: what `to_value` and `from_value` answer, and when what was written reads back.
-pub use Rattle.warg_json.specs.Json.{Returns, ReturnsOrNoMemory, ReadsBack, IsReadBack, Version, AreReadBack}
-pub use Rattle.warg_json.specs.declared.error.JsonError.{JsonError}
+pub use Rattle.warg_crypto.specs.Json.Json.{Returns, ReturnsOrNoMemory, ReadsBack, IsReadBack, Version, AreReadBack}
+pub use Rattle.warg_crypto.specs.declared.json.error.JsonError.{JsonError}
 -- that the texts of versions stand in what is written
-pub use Rattle.warg_json.specs.Within.{AreWithin}
+pub use Rattle.warg_crypto.specs.Json.Within.{AreWithin}
 -- what JSON is read as, of the values that take no memory
-pub use Rattle.warg_json.specs.JsonTexts.{algorithm_in, hash_in}
-pub use Rattle.warg_time.specs.TimeJson.{time_in}
+pub use Rattle.warg_crypto.specs.Json.JsonTexts.{algorithm_in, hash_in}
+pub use Rattle.warg_crypto.specs.Time.TimeJson.{time_in}
 pub use Rattle.warg_permissions.specs.PermissionJson.{permission_from}
 pub use Rattle.warg_log.specs.HeadJson.{head_in}
 -- the members of objects: what is found, what is written, and what an optional one reads back as
-pub use Rattle.warg_json.specs.Json.{items_in, member_in, members_in, text_in, json_result}
-pub use Rattle.warg_json.specs.Members.{option_json, optional, optional_member, put_json, put_option}
-pub use Rattle.warg_json.specs.Members.{OptionReadsBack}
+pub use Rattle.warg_crypto.specs.Json.Json.{items_in, member_in, members_in, text_in, json_result}
+pub use Rattle.warg_crypto.specs.Json.Members.{option_json, optional, optional_member, put_json, put_option}
+pub use Rattle.warg_crypto.specs.Json.Members.{OptionReadsBack}
 -- what `to_json` writes: the JSON's text, and what that is read as
-pub use Rattle.warg_saved.specs.Texts.{IsReadAs, text_of}
+pub use Rattle.warg_saved_states.specs.Texts.{IsReadAs, text_of}
 -- what `from_json` answers: what is read of the text's JSON, which error of a text a fault of its value is, and what reads back
-pub use Rattle.warg_saved.specs.JsonText.{ReturnsOfText, TextReadsBack, in_text, text_fault}
-pub use Rattle.warg_saved.specs.declared.error.JsonTextError.{JsonTextError}
+pub use Rattle.warg_saved_states.specs.JsonText.{ReturnsOfText, TextReadsBack, in_text, text_fault}
+pub use Rattle.warg_saved_states.specs.declared.error.JsonTextError.{JsonTextError}

@@ -1,2 +1,2 @@
 -- The cases of `RunCause`.
-pub use Rattle.warg_validator.specs.declared.replay.RunCause.TheVariants.{Parse, Validation}
+pub use Rattle.warg_replay.specs.declared.replay.RunCause.TheVariants.{Parse, Validation}

@@ -2,7 +2,7 @@
 -- trees of leaves, their roots and paths; what an accepted proof says; collisions by their place
 pub use Rattle.warg_merkle.specs.Trees.{Side, Includes, IsOwn, HaveCollision, leaf_input, tree_hash, inclusion_path}
 pub use Rattle.warg_merkle.specs.Extensions.{IsConsistent, IsBeginning, consistency_proof}
-pub use Rattle.warg_merkle_log.specs.Logs.{ForLeaves}
+pub use Rattle.warg_merkle.specs.MerkleLog.Logs.{ForLeaves}
 -- what stands in a registry's log, and checkpoints that go on from one another
 pub use Rattle.warg_registry.specs.PrefixEncodings.{log_leaf_encoding_of}
 pub use Rattle.warg_transparency.specs.Standings.{IsOfTrees}

@@ -1,3 +1,3 @@
 //! Logs whose signatures are verified elsewhere: what is to be verified is asked, and what came of it is told.
 
-pub use warg_validator::host::{Hosted, Question, Told, append, ask};
+pub use warg_replay::host::{Hosted, Question, Told, append, ask};

@@ -1,4 +1,4 @@
 //! JSON of values, over `serde_json`'s `Value`. To implement [`JsonValue`] for a type of your own, use [`members`];
-//! maps are in the crate `warg_saved`.
+//! maps are in the crate `warg_saved_states`.
 
-pub use warg_json::{Incoherence, JsonError, JsonValue, laws, members};
+pub use warg_crypto::json::{Incoherence, JsonError, JsonValue, laws, members};

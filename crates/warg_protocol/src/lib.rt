@@ -17,20 +17,21 @@ pub mod transparency;
 
 pub use indexmap::IndexSet;
 pub use semver::Error as VersionParseError;
-pub use warg_audited_log::{AuditedLog, Comparison, HeadComparison, HostedLog, Link};
+pub use warg_crypto::json::{Incoherence, JsonError, JsonValue};
+pub use warg_crypto::time::{Clock, SystemClock, TimeError, Timestamp};
 pub use warg_crypto::{
-    ByteVisitor, Encode, Signable, VisitBytes, digits, hash, prefix, signing, toy,
+    ByteVisitor, Decode, DecodeError, Encode, Signable, VisitBytes, WireFault, digits, hash,
+    prefix, signing, toy,
 };
 pub use warg_envelope::{
-    Decode, DecodeError, ParseEnvelopeError, ProtoEnvelope, ProtoEnvelopeBody,
-    PublishedProtoEnvelope, PublishedProtoEnvelopeBody, Record, SerdeEnvelope, WireFault,
+    ParseEnvelopeError, ProtoEnvelope, ProtoEnvelopeBody, PublishedProtoEnvelope,
+    PublishedProtoEnvelopeBody, Record, SerdeEnvelope,
 };
-pub use warg_json::{Incoherence, JsonError, JsonValue};
+pub use warg_log_records::{LogRecord, Version, VersionReq};
 pub use warg_permissions::{InvalidPermission, PermissionParseError};
 pub use warg_protobuf::{Envelope, EnvelopeView, Message, WireError};
-pub use warg_records::{LogRecord, Version, VersionReq};
-pub use warg_saved::JsonTextError;
-pub use warg_time::{Clock, SystemClock, TimeError, Timestamp};
-pub use warg_validator::{
+pub use warg_replay::audited_log::{AuditedLog, Comparison, HeadComparison, HostedLog, Link};
+pub use warg_replay::{
     Effect, Named, PersistentState, RunCause, RunError, Validator, run, run_from,
 };
+pub use warg_saved_states::JsonTextError;

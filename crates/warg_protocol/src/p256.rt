@@ -3,12 +3,12 @@
 ghost use Rattle.std.specs.Prelude.{◌≡◌, map};
 ghost use Rattle.std.specs.Vec.{vec_items};
 ghost use Rattle.warg_envelope.specs.Envelopes.{envelope_of, envelope_fault_of};
-ghost use Rattle.warg_validator.specs.OutcomeRuns.{IsRun, IfStarted, cause_named_by};
+ghost use Rattle.warg_replay.specs.OutcomeRuns.{IsRun, IfStarted, cause_named_by};
 ghost use Rattle.warg_p256.specs.Scheme.{p256_belongs};
 
 use std::alloc::Global;
 pub use warg_p256::{ALGORITHM, KnownKeys, P256Verifier, laws, verify};
-use warg_validator::{RunError, Validator, run};
+use warg_replay::{RunError, Validator, run};
 
 /// Reads a whole log whose records are signed by `ecdsa-p256` keys. The result is its state, or the first string that is refused, as of
 /// [`run`](crate::run). A signature by another algorithm is refused.

@@ -1,24 +1,16 @@
-//! The records of both kinds of log: read from bytes with the first fault named, written, and named by their ids.
+//! Records of both kinds of log in signed envelopes: re-exports of what the crates below prove. `warg_envelope` has the
+//! envelopes, `warg_log_records` the records and their ids, `warg_permissions` the permissions, and `warg_registry` the names
+//! of a registry.
 #![tactic(auto)]
 
-mod effect;
-mod entries;
-mod kept_fault;
-pub mod laws;
-mod log_record;
-mod mention;
 pub mod operator;
 pub mod package;
-mod question;
-mod reading;
-mod record_id;
-mod writing;
+pub mod registry;
 
-pub use effect::Effect;
-pub use log_record::LogRecord;
-pub use question::Question;
-pub use record_id::RecordId;
-pub use semver::{Version, VersionReq};
-
-/// The newest version of the protocol: that of new records of either kind.
-pub const RECORD_VERSION: u32 = 1;
+pub use warg_crypto::DecodeError;
+pub use warg_envelope::{
+    ParseEnvelopeError, ProtoEnvelope, ProtoEnvelopeBody, PublishedProtoEnvelope,
+    PublishedProtoEnvelopeBody, Record, SerdeEnvelope,
+};
+pub use warg_log_records::{LogRecord, Version, VersionReq};
+pub use warg_permissions::{InvalidPermission, PermissionParseError};

@@ -3,8 +3,8 @@ use Rattle.std.proofs.Common.{◌≡◌, ℕ, List, true, Result, Ok, Err, IfOk}
 use Rattle.serde_json.specs.Data.{string}
 use Rattle.serde_json.specs.View.{view}
 use Rattle.serde_json.specs.declared.value.Value.{Value}
-use Rattle.warg_json.specs.Json.{ReturnsOrNoMemory, ReadsBack, json_result}
-use Rattle.warg_json.specs.declared.error.JsonError.{JsonError}
+use Rattle.warg_crypto.specs.Json.Json.{ReturnsOrNoMemory, ReadsBack, json_result}
+use Rattle.warg_crypto.specs.declared.json.error.JsonError.{JsonError}
 use Rattle.warg_registry.specs.KebabNames.{is_package_name}
 use Rattle.warg_registry.specs.RegistryJson.{package_name_in}
 use Rattle.warg_registry.proofs.RegistryJsonLaws.{package_name_reads_back}

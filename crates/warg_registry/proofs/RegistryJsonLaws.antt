@@ -2,16 +2,16 @@
 use Rattle.std.specs.Prelude.{◌≡◌, ℕ, List, true, codes, Result, Ok, refl}
 use Rattle.std.proofs.Common.{subst}
 use Rattle.serde_json.specs.Data.{Data, no_members, object, put}
-use Rattle.warg_json.specs.Json.{ReadsBack}
-use Rattle.warg_json.specs.JsonTexts.{hash_in}
-use Rattle.warg_json.specs.JsonLaws.{ok_same}
-use Rattle.warg_json.specs.declared.error.JsonError.{JsonError}
+use Rattle.warg_crypto.specs.Json.Json.{ReadsBack}
+use Rattle.warg_crypto.specs.Json.JsonTexts.{hash_in}
+use Rattle.warg_crypto.specs.Json.JsonLaws.{ok_same}
+use Rattle.warg_crypto.specs.declared.json.error.JsonError.{JsonError}
 use Rattle.warg_registry.specs.declared.checkpoint.Checkpoint.{Checkpoint}
 use Rattle.warg_registry.specs.declared.checkpoint.TimestampedCheckpoint.{TimestampedCheckpoint}
 use Rattle.warg_registry.specs.declared.leaf.LogLeaf.{LogLeaf}
 use Rattle.warg_registry.specs.KebabNames.{is_package_name}
-use Rattle.warg_json.specs.Numbers.{number_in}
-use Rattle.warg_records.specs.RecordIdJson.{record_id_in}
+use Rattle.warg_crypto.specs.Json.Numbers.{number_in}
+use Rattle.warg_log_records.specs.RecordIdJson.{record_id_in}
 use Rattle.warg_registry.specs.RegistryJson.{checkpoint_in, log_id_in, log_leaf_in, package_name_in, package_name_json, timestamped_checkpoint_in}
 
 abbrev pub Back : {A : Type 0} → (Data → Result A JsonError) → A → Data → Type 0

@@ -1,8 +1,8 @@
 -- A checkpoint at a time.
 use Rattle.std.specs.Prelude.{ℤ, pos, negsuc, Result, Ok, Err}
-use Rattle.warg_time.specs.Times.{Time}
-use Rattle.warg_time.specs.declared.time.TimeError.{TimeError}
-use Rattle.warg_time.specs.declared.time.TimeError.TheVariants.{TimeBeforeEpoch}
+use Rattle.warg_crypto.specs.Time.Times.{Time}
+use Rattle.warg_crypto.specs.declared.time.time.TimeError.{TimeError}
+use Rattle.warg_crypto.specs.declared.time.time.TimeError.TheVariants.{TimeBeforeEpoch}
 use Rattle.warg_registry.specs.declared.checkpoint.Checkpoint.{Checkpoint}
 use Rattle.warg_registry.specs.declared.checkpoint.TimestampedCheckpoint.{TimestampedCheckpoint}
 

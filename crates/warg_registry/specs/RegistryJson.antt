@@ -1,17 +1,17 @@
 -- The JSON of what a registry names things by.
 use Rattle.std.specs.Prelude.{ℕ, List, codes, if◌then◌else◌, Result, Ok, Err}
 use Rattle.serde_json.specs.Data.{Data, no_members, object, string}
-use Rattle.warg_json.specs.Json.{◌>>=◌, member_in, text_in, json_result}
-use Rattle.warg_json.specs.JsonTexts.{hash_in, hash_json}
-use Rattle.warg_json.specs.Members.{put_json}
-use Rattle.warg_json.specs.Numbers.{number_in, number_json}
-use Rattle.warg_json.specs.declared.error.JsonError.{JsonError}
-use Rattle.warg_json.specs.declared.error.JsonError.TheVariants as fault
+use Rattle.warg_crypto.specs.Json.Json.{◌>>=◌, member_in, text_in, json_result}
+use Rattle.warg_crypto.specs.Json.JsonTexts.{hash_in, hash_json}
+use Rattle.warg_crypto.specs.Json.Members.{put_json}
+use Rattle.warg_crypto.specs.Json.Numbers.{number_in, number_json}
+use Rattle.warg_crypto.specs.declared.json.error.JsonError.{JsonError}
+use Rattle.warg_crypto.specs.declared.json.error.JsonError.TheVariants as fault
 use Rattle.warg_registry.specs.declared.checkpoint.Checkpoint.{Checkpoint}
 use Rattle.warg_registry.specs.declared.checkpoint.TimestampedCheckpoint.{TimestampedCheckpoint}
 use Rattle.warg_registry.specs.declared.leaf.LogLeaf.{LogLeaf}
 use Rattle.warg_registry.specs.declared.log_id.LogId.{LogId}
-use Rattle.warg_records.specs.RecordIdJson.{record_id_in, record_id_json}
+use Rattle.warg_log_records.specs.RecordIdJson.{record_id_in, record_id_json}
 use Rattle.warg_registry.specs.KebabNames.{is_package_name}
 
 -- the id of a log: the text of its hash

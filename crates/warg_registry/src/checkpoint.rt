@@ -6,8 +6,8 @@ use crate::visits::visit_hash;
 use std::alloc::{AllocError, Global};
 use warg_crypto::hash::AnyHash;
 use warg_crypto::prefix::{PrefixEncodeVisitor, VisitPrefixEncode};
+use warg_crypto::time::{Clock, TimeError, Timestamp};
 use warg_crypto::{ByteVisitor, Encode, Signable, VisitBytes};
-use warg_time::{Clock, TimeError, Timestamp};
 
 /// What a registry's log and map stand at: the root of the log, its length in leaves, the root of
 /// the map.
@@ -77,7 +77,7 @@ impl VisitBytes for Checkpoint {
 }
 
 impl TimestampedCheckpoint {
-    ghost use Rattle.warg_time.specs.Times.{Time};
+    ghost use Rattle.warg_crypto.specs.Time.Times.{Time};
     ghost use Rattle.warg_registry.specs.Checkpoints.{timestamped_checkpoint_of};
 
     /// The checkpoint at the time, in whole seconds: what is left of a second is dropped.

@@ -1,10 +1,10 @@
 //! JSON of ids, names, checkpoints and leaves.
 
 ghost use Rattle.std.specs.Prelude.{◌≡◌, List, [], ℕ, IfErr, IsOk};
-ghost use Rattle.warg_json.specs.EqualLaws.{same_equal};
+ghost use Rattle.warg_crypto.specs.Json.EqualLaws.{same_equal};
 ghost use Rattle.serde_json.specs.View.{view};
-ghost use Rattle.warg_json.specs.Json.{Returns, ReturnsOrNoMemory};
-ghost use Rattle.warg_json.specs.declared.error.JsonError.TheVariants.{OutOfMemory};
+ghost use Rattle.warg_crypto.specs.Json.Json.{Returns, ReturnsOrNoMemory};
+ghost use Rattle.warg_crypto.specs.declared.json.error.JsonError.TheVariants.{OutOfMemory};
 ghost use Rattle.warg_registry.specs.declared.checkpoint.Checkpoint.{Checkpoint};
 ghost use Rattle.warg_registry.specs.declared.checkpoint.TimestampedCheckpoint.{TimestampedCheckpoint};
 ghost use Rattle.warg_registry.specs.declared.leaf.LogLeaf.{LogLeaf};
@@ -15,9 +15,9 @@ use crate::{Checkpoint, LogId, LogLeaf, PackageName, TimestampedCheckpoint};
 use serde_json::{Map, Value};
 use std::alloc::Global;
 use warg_crypto::hash::AnyHash;
-use warg_json::members::{member_in, object_value, put_value, text_in, text_value};
-use warg_json::{JsonError, JsonValue};
-use warg_records::RecordId;
+use warg_crypto::json::members::{member_in, object_value, put_value, text_in, text_value};
+use warg_crypto::json::{JsonError, JsonValue};
+use warg_log_records::RecordId;
 
 impl JsonValue for LogId {
     ghost Plain = { LogId };

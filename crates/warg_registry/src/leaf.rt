@@ -7,7 +7,7 @@ use std::alloc::AllocError;
 use warg_crypto::hash::AnyHash;
 use warg_crypto::prefix::{PrefixEncodeVisitor, VisitPrefixEncode};
 use warg_crypto::{ByteVisitor, VisitBytes};
-use warg_records::RecordId;
+use warg_log_records::RecordId;
 
 /// A leaf of the map: the last record of a log.
 #[derive(Copy, Debug, PartialEq, Eq, Hash)]

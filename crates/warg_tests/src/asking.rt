@@ -1,5 +1,5 @@
 //! Asking the program.
-use conformance_scripts::strings_of;
+use conformance_logs::scripts::strings_of;
 use std::alloc::Global;
 use std::io::{Read, Write};
 use std::test::Fail;

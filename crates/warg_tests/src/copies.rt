@@ -1,6 +1,6 @@
 //! Copies, envelopes that are read back, and a time that is not saved.
 use crate::samples::{envelope, state};
-use conformance_scripts::Scripted;
+use conformance_logs::scripts::Scripted;
 use std::alloc::{AllocError, Global};
 use std::process::Abort;
 use std::test::Fail;

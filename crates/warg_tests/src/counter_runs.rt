@@ -1,10 +1,11 @@
 //! Strings of the least kind of log, read as a whole.
+use counting_log::counter::{CountError, Counter};
 use std::alloc::{AllocError, Global};
 use std::test::Fail;
+use warg_crypto::DecodeError;
 use warg_crypto::toy::ToyVerifier;
-use warg_envelope::{DecodeError, ParseEnvelopeError, ProtoEnvelope};
-use warg_protocol_tests::counter::{CountError, Counter};
-use warg_validator::{RunCause, RunError, Validator, run, run_from};
+use warg_envelope::{ParseEnvelopeError, ProtoEnvelope};
+use warg_replay::{RunCause, RunError, Validator, run, run_from};
 
 /// A string whose record says the number; at 255 one whose content is no record.
 fn line(alloc: Global, number: u8) -> Result<Vec<u8>, AllocError> {

@@ -4,7 +4,7 @@ ghost use Rattle.std.specs.Prelude.{⊤};
 ghost use Rattle.warg_protocol.specs.Records.{toy_belongs};
 
 use crate::samples::{envelope, strings};
-use conformance_scripts::{Scripted, signer};
+use conformance_logs::scripts::{Scripted, signer};
 use std::alloc::Global;
 use std::cell::Cell;
 use std::fmt::Debug;

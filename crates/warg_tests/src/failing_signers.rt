@@ -3,7 +3,7 @@ ghost use Rattle.std.specs.Prelude.{false, ⊤};
 ghost use Rattle.warg_protocol.specs.Records.{toy_belongs};
 
 use crate::samples::{envelope, told};
-use conformance_scripts::{Scripted, cause_words, signer};
+use conformance_logs::scripts::{Scripted, cause_words, signer};
 use std::alloc::Global;
 use std::cell::Cell;
 use std::process::Abort;

@@ -1,6 +1,6 @@
 //! A program that is written once for both kinds: it saves a state, reads it back, and goes on from it.
 use crate::samples::state;
-use conformance_scripts::signer;
+use conformance_logs::scripts::signer;
 use std::alloc::Global;
 use std::fmt::Debug;
 use std::process::Abort;

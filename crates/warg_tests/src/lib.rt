@@ -19,6 +19,7 @@ mod failures;
 mod keeping;
 #[cfg(test)]
 mod limits;
+pub mod log_laws;
 #[cfg(test)]
 mod operator_program;
 #[cfg(test)]

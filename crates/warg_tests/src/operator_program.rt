@@ -3,7 +3,7 @@ ghost use Rattle.std.specs.Prelude.{◌≡◌};
 ghost use Rattle.warg_protocol.specs.Operator.{view_of};
 
 use crate::samples::state;
-use conformance_scripts::id;
+use conformance_logs::scripts::id;
 use std::alloc::Global;
 use std::process::Abort;
 use std::test::Fail;

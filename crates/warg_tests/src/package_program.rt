@@ -10,7 +10,7 @@ ghost use Rattle.warg_protocol.specs.Package.{AreEqual, rules, same_permission, 
 ghost use Rattle.warg_protocol.specs.Package.{IsGreatest, shows_candidate, shown_cmp, release_view};
 
 use crate::samples::strings;
-use conformance_scripts::id;
+use conformance_logs::scripts::id;
 use serde_json::Value;
 use std::alloc::Global;
 use std::process::Abort;

@@ -1,5 +1,5 @@
 //! Logs in few words, as the scripts of the conformance suite have them.
-use conformance_scripts::{Scripted, envelope_of, strings_of};
+use conformance_logs::scripts::{Scripted, envelope_of, strings_of};
 use std::alloc::Global;
 use std::test::Fail;
 use warg_protocol::toy::ToyVerifier;

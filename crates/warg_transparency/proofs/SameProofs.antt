@@ -6,8 +6,8 @@ use Rattle.std.specs.Cmp.Lexicographic.{pointwise, pointwise_decides}
 use Rattle.std.specs.Str.{bytes_eq}
 use Rattle.std.proofs.lemmas.Slice.Eq.{bytes_eq-Decides}
 use Rattle.sha2.specs.Sha256.{sha256}
-use Rattle.warg_map_proof.specs.ShortForms.{path_in, short_form_of}
-use Rattle.warg_map_proof.specs.declared.error.MapProofError.{MapProofError}
+use Rattle.warg_merkle.specs.MapProof.ShortForms.{path_in, short_form_of}
+use Rattle.warg_merkle.specs.declared.map_proof.error.MapProofError.{MapProofError}
 
 path_same : (p q : List (List ℕ)) (r : Result (List (List ℕ)) MapProofError) → r ≡ Ok p → r ≡ Ok q → p ≡ q
 path_same p q r h k = cc (h, k)

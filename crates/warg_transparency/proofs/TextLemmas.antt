@@ -9,7 +9,7 @@ use Rattle.base64.specs.GeneralPurpose.{decode_of, encode_of}
 use Rattle.base64.specs.Rfc4648.{encode_symbols, padding_len}
 use Rattle.base64.proofs.RoundTrip.{length-encode_symbols}
 use Rattle.sha2.specs.Sha256.{sha256}
-use Rattle.warg_map_proof.specs.ShortForms.{path_in}
+use Rattle.warg_merkle.specs.MapProof.ShortForms.{path_in}
 use Rattle.warg_transparency.specs.Texts.{hashes_in, log_proof_of, map_proof_of, read_decoded, with_text_fault}
 use Rattle.warg_transparency.specs.declared.error.ProofTextError.{ProofTextError}
 use Rattle.warg_transparency.specs.declared.error.ProofTextError.TheVariants as text

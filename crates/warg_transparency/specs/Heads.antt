@@ -3,12 +3,12 @@ use Rattle.std.specs.Prelude.{◌≡◌, ℕ, List, length, Some}
 use Rattle.std.specs.List.{All}
 use Rattle.sha2.specs.Sha256.{sha256}
 use Rattle.warg_crypto.specs.declared.hash.AnyHash.{AnyHash}
-use Rattle.warg_records.specs.declared.record_id.RecordId.{RecordId}
+use Rattle.warg_log_records.specs.declared.record_id.RecordId.{RecordId}
 use Rattle.warg_registry.specs.PrefixEncodings.{IsHash, map_leaf_encoding_of}
 use Rattle.warg_registry.specs.declared.checkpoint.Checkpoint.{Checkpoint}
 use Rattle.warg_registry.specs.declared.leaf.MapLeaf.{MapLeaf}
 use Rattle.warg_registry.specs.declared.log_id.LogId.{LogId}
-use Rattle.warg_sparse_map.specs.Maps.{Leads, path_inputs}
+use Rattle.warg_merkle.specs.SparseMap.Maps.{Leads, path_inputs}
 
 -- the leaf of a log whose last record this is
 abbrev pub head_leaf : RecordId → MapLeaf

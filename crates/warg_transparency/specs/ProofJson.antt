@@ -1,8 +1,8 @@
 -- The JSON of proofs: their texts.
 use Rattle.std.specs.Prelude.{ℕ, List, Result}
 use Rattle.serde_json.specs.Data.{Data, string}
-use Rattle.warg_json.specs.Json.{◌>>=◌, or_bad_text, text_in, json_result}
-use Rattle.warg_json.specs.declared.error.JsonError.{JsonError}
+use Rattle.warg_crypto.specs.Json.Json.{◌>>=◌, or_bad_text, text_in, json_result}
+use Rattle.warg_crypto.specs.declared.json.error.JsonError.{JsonError}
 use Rattle.warg_transparency.specs.Texts.{log_proof_of, log_proof_text, map_proof_of, map_proof_text}
 
 -- a proof on a log: its text

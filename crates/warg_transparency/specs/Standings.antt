@@ -2,8 +2,8 @@
 use Rattle.std.specs.Prelude.{◌≡◌, length}
 use Rattle.sha2.specs.Sha256.{sha256}
 use Rattle.warg_merkle.specs.Trees.{tree_hash}
-use Rattle.warg_merkle_log.specs.Logs.{ForLeaves}
-use Rattle.warg_sparse_map.specs.Maps.{map_root}
+use Rattle.warg_merkle.specs.MerkleLog.Logs.{ForLeaves}
+use Rattle.warg_merkle.specs.SparseMap.Maps.{map_root}
 use Rattle.warg_registry.specs.declared.checkpoint.Checkpoint.{Checkpoint}
 use Rattle.warg_transparency.specs.declared.log_tree.LogTree.{LogTree}
 use Rattle.warg_transparency.specs.declared.map_tree.MapTree.{MapTree}

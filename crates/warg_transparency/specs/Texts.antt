@@ -6,9 +6,9 @@ use Rattle.base64.specs.declared.decode.DecodeError.{DecodeError}
 use Rattle.base64.specs.Engines.{standard}
 use Rattle.base64.specs.GeneralPurpose.{decode_of, encode_of}
 use Rattle.sha2.specs.Sha256.{sha256}
-use Rattle.warg_map_proof.specs.ShortForms.{path_in, short_form_of}
-use Rattle.warg_map_proof.specs.declared.error.MapProofError.{MapProofError}
-use Rattle.warg_map_proof.specs.declared.error.MapProofError.TheVariants.{TooShort, TooLong, EmptySibling, OutOfMemory}
+use Rattle.warg_merkle.specs.MapProof.ShortForms.{path_in, short_form_of}
+use Rattle.warg_merkle.specs.declared.map_proof.error.MapProofError.{MapProofError}
+use Rattle.warg_merkle.specs.declared.map_proof.error.MapProofError.TheVariants.{TooShort, TooLong, EmptySibling, OutOfMemory}
 use Rattle.warg_transparency.specs.declared.error.ProofTextError.{ProofTextError}
 use Rattle.warg_transparency.specs.declared.error.ProofTextError.TheVariants as text
 

@@ -5,7 +5,7 @@ ghost use Rattle.warg_transparency.specs.MapLeaves.{leaf_of_digits, leaf_read};
 
 use warg_crypto::digits::decode_pairs;
 use warg_crypto::hash::{AnyHash, HashAlgorithm};
-use warg_records::RecordId;
+use warg_log_records::RecordId;
 use warg_registry::MapLeaf;
 
 // The leaf of a map whose prefix encoding ends in these digits.

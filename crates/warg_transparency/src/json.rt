@@ -1,7 +1,7 @@
 //! JSON of proofs.
 
 ghost use Rattle.std.specs.Prelude.{◌≡◌, List, [], ℕ};
-ghost use Rattle.warg_json.specs.EqualLaws.{same_equal};
+ghost use Rattle.warg_crypto.specs.Json.EqualLaws.{same_equal};
 ghost use Rattle.warg_transparency.specs.ProofJson.{log_proof_in, log_proof_json, map_proof_in, map_proof_json};
 
 use crate::error::ProofTextError;
@@ -9,8 +9,8 @@ use crate::log_proof::LogProof;
 use crate::map_proof::MapProof;
 use serde_json::Value;
 use std::alloc::Global;
-use warg_json::members::{string_value, text_in};
-use warg_json::{JsonError, JsonValue};
+use warg_crypto::json::members::{string_value, text_in};
+use warg_crypto::json::{JsonError, JsonValue};
 
 impl JsonValue for LogProof {
     ghost Plain = { List (List ℕ) };

@@ -5,25 +5,25 @@ ghost use Rattle.std.specs.List.{All};
 ghost use Rattle.sha2.specs.Sha256.{sha256};
 ghost use Rattle.warg_crypto.specs.declared.hash.AnyHash.{AnyHash};
 ghost use Rattle.warg_envelope.specs.EnvelopeData.{EnvelopeData};
-ghost use Rattle.warg_records.specs.declared.record_id.RecordId.{RecordId};
+ghost use Rattle.warg_log_records.specs.declared.record_id.RecordId.{RecordId};
 ghost use Rattle.warg_registry.specs.declared.checkpoint.Checkpoint.{Checkpoint};
 ghost use Rattle.warg_registry.specs.PrefixEncodings.{log_leaf_encoding_of};
 ghost use Rattle.warg_registry.specs.declared.leaf.LogLeaf.{LogLeaf};
 ghost use Rattle.warg_registry.specs.declared.leaf.MapLeaf.{MapLeaf};
 ghost use Rattle.warg_registry.specs.declared.log_id.LogId.{LogId};
-ghost use Rattle.warg_records.specs.Kinds.{SignatureRelation, IsAccepted};
-ghost use Rattle.warg_audited_log.specs.Heads as records;
-ghost use Rattle.warg_audited_log.specs.Log.{contents};
+ghost use Rattle.warg_log_records.specs.Kinds.{SignatureRelation, IsAccepted};
+ghost use Rattle.warg_replay.specs.AuditedLog.Heads as records;
+ghost use Rattle.warg_replay.specs.AuditedLog.Log.{contents};
 ghost use Rattle.warg_merkle.specs.Trees.{HaveCollision, Includes, IsOwn, Side, tree_hash};
 ghost use Rattle.warg_merkle.specs.Extensions.{consistency_proof, IsBeginning};
-ghost use Rattle.warg_sparse_map.specs.Maps as maps;
+ghost use Rattle.warg_merkle.specs.SparseMap.Maps as maps;
 ghost use Rattle.warg_transparency.specs.Heads.{head_leaf, ShowsHead, ShowsLeaf, path_inputs_for};
 ghost use Rattle.warg_transparency.specs.Views.{GoesOn, IsLogOf};
 
-use warg_audited_log::laws::equal_heads;
 use warg_merkle::consistency_paths;
 use warg_registry::laws::no_encoding_begins_another;
-use warg_validator::Validator;
+use warg_replay::Validator;
+use warg_replay::audited_log::laws::equal_heads;
 
 /// What an accepted proof of hashes of 32 bytes says of every log of the length and root, and of every map of the root: what
 /// it shows is so, and it is the log's or the map's own proof, or what is hashed for the two collides.

@@ -3,14 +3,14 @@
 ghost use Rattle.std.specs.Prelude.{◌≡◌, ◌↔◌, ℕ, List, Option, IsTrue, Some, None};
 ghost use Rattle.sha2.specs.Sha256.{sha256};
 ghost use Rattle.warg_merkle.specs.Trees.{Side};
-ghost use Rattle.warg_sparse_map.specs.Maps.{map_root, Leads, IsOwn};
+ghost use Rattle.warg_merkle.specs.SparseMap.Maps.{map_root, Leads, IsOwn};
 ghost use Rattle.warg_registry.specs.PrefixEncodings.{map_leaf_encoding_of};
 ghost use Rattle.warg_transparency.specs.Heads.{head_leaf, ShowsHead, ShowsLeaf};
 
 use crate::encode::{hash_bytes, key_of, map_leaf_bytes};
 use crate::map_proof::MapProof;
 use warg_crypto::hash::AnyHash;
-use warg_records::RecordId;
+use warg_log_records::RecordId;
 use warg_registry::{Checkpoint, LogId, MapLeaf};
 
 /// Whether the proof leads from the leaf of the log to the map's root.
@@ -25,7 +25,7 @@ pub fn verify_presence(log_id: &LogId, leaf: &MapLeaf, proof: &MapProof, root: &
     ensures shown { IsTrue result → ShowsLeaf root.now log_id.now leaf.now proof.now }
 {
     let key = key_of(log_id);
-    warg_map_proof::verify_presence(
+    warg_merkle::map_proof::verify_presence(
         &key,
         &map_leaf_bytes(leaf),
         proof.short(),
@@ -43,7 +43,7 @@ pub fn verify_absence(log_id: &LogId, proof: &MapProof, root: &AnyHash) -> bool
         IsOwn sha256 m None log_id.now.hash.bytes proof.now }
 {
     let key = key_of(log_id);
-    warg_map_proof::verify_absence(&key, proof.short(), &hash_bytes(root))
+    warg_merkle::map_proof::verify_absence(&key, proof.short(), &hash_bytes(root))
 }
 
 /// Whether the proof shows that the record is the head of the log under the checkpoint.

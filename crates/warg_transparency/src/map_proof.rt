@@ -8,7 +8,7 @@ ghost use Rattle.base64.specs.Engines.{standard};
 ghost use Rattle.base64.specs.GeneralPurpose.{decode_of};
 ghost use Rattle.sha2.specs.Sha256.{sha256};
 ghost use Rattle.warg_crypto.specs.OutcomeResults.{ReturnsOr};
-ghost use Rattle.warg_map_proof.specs.ShortForms.{IsShortForm, short_form_len};
+ghost use Rattle.warg_merkle.specs.MapProof.ShortForms.{IsShortForm, short_form_len};
 ghost use Rattle.warg_transparency.specs.Texts.{map_proof_of, map_proof_text, text_fault_of};
 ghost use Rattle.warg_transparency.specs.declared.error.ProofTextError.TheVariants as fault;
 
@@ -18,7 +18,7 @@ use base64::engine::general_purpose::STANDARD;
 use std::alloc::{AllocError, Global};
 use std::fmt;
 use std::marker::Model;
-use warg_map_proof::MapProofError;
+use warg_merkle::map_proof::MapProofError;
 
 // The length of the text of 32 bytes and 256 hashes.
 const LONGEST_TEXT: usize = 10968;
@@ -27,7 +27,7 @@ const LONGEST_TEXT: usize = 10968;
 /// leaf up. Its text is the base64 (RFC 4648, with padding) of its short form, which leaves out the roots of empty subtrees.
 #[derive(Debug, Drop)]
 pub struct MapProof {
-    short: warg_map_proof::MapProof,
+    short: warg_merkle::map_proof::MapProof,
 }
 
 impl Model for MapProof {
@@ -50,7 +50,10 @@ fn fault_of(error: MapProofError) -> ProofTextError
 }
 
 // Whether the short forms are of one path: a path has one short form.
-fn is_same(short: &warg_map_proof::MapProof, other: &warg_map_proof::MapProof) -> bool
+fn is_same(
+    short: &warg_merkle::map_proof::MapProof,
+    other: &warg_merkle::map_proof::MapProof,
+) -> bool
     ensures { result ≡ pointwise bytes_eq short.now other.now }
 {
     short.as_bytes() == other.as_bytes()
@@ -58,14 +61,14 @@ fn is_same(short: &warg_map_proof::MapProof, other: &warg_map_proof::MapProof) -
 
 impl MapProof {
     // The proof of this short form.
-    pub(crate) fn of_short(short: warg_map_proof::MapProof) -> MapProof
+    pub(crate) fn of_short(short: warg_merkle::map_proof::MapProof) -> MapProof
         ensures { result ≡ short }
     {
         MapProof { short }
     }
 
     // The short form, as the verifiers take it.
-    pub(crate) fn short(&self) -> &warg_map_proof::MapProof
+    pub(crate) fn short(&self) -> &warg_merkle::map_proof::MapProof
         ensures { result.now ≡ self.now }
     {
         &self.short
@@ -92,7 +95,7 @@ impl MapProof {
             return Err(ProofTextError::TooLong);
         }
         let bytes = decode_base64(alloc, text)?;
-        match warg_map_proof::MapProof::decode(alloc, bytes.as_slice()) {
+        match warg_merkle::map_proof::MapProof::decode(alloc, bytes.as_slice()) {
             Ok(short) => Ok(MapProof { short }),
             Err(error) => Err(fault_of(error)),
         }

@@ -2,15 +2,15 @@
 use Rattle.std.proofs.Common.{◌≡◌, ◌⊎◌, inl, inr, ℕ, Bool, true, false, List, Option, Result, Ok, Err, IfErr, IsErr, refl, ap}
 use Rattle.std.proofs.lemmas.Bool.{false≢true}
 use Rattle.std.specs.Str.{IsUtf8}
-use Rattle.warg_files.specs.Answers.{IfStopped, IsUnusable}
-use Rattle.warg_files.specs.Files.{Files, Reads}
-use Rattle.warg_files.specs.Unusable.{read}
-use Rattle.warg_files.specs.declared.stop.Stop.{Stop}
-use Rattle.warg_files.specs.declared.stop.Stop.TheVariants as stop
-use Rattle.warg_files.proofs.AnswerLemmas.{IfStopped-to}
-use Rattle.warg_layout.specs.Names.{names_of}
-use Rattle.warg_layout.specs.declared.error.NameFault.TheVariants as fault
-use Rattle.warg_layout.specs.declared.error.NamesParseError.{NamesParseError}
+use Rattle.warg_audit.specs.Files.Answers.{IfStopped, IsUnusable}
+use Rattle.warg_audit.specs.Files.Files.{Files, Reads}
+use Rattle.warg_audit.specs.Files.Unusable.{read}
+use Rattle.warg_audit.specs.declared.files.stop.Stop.{Stop}
+use Rattle.warg_audit.specs.declared.files.stop.Stop.TheVariants as stop
+use Rattle.warg_audit.proofs.FilesLemmas.AnswerLemmas.{IfStopped-to}
+use Rattle.tool_layout.specs.Names.{names_of}
+use Rattle.tool_layout.specs.declared.error.NameFault.TheVariants as fault
+use Rattle.tool_layout.specs.declared.error.NamesParseError.{NamesParseError}
 use Rattle.weoldrin.specs.Looks.{IsUnnamed, ListNoNames}
 
 abbrev is_memory : Stop → Bool

@@ -7,18 +7,18 @@ use Rattle.std.proofs.lemmas.Bool.{false≢true}
 use Rattle.std.specs.declared.alloc.AllocError.{AllocError}
 use Rattle.warg_audit.specs.Printouts.{Printout}
 use Rattle.semver.specs.Parse.{req_of}
-use Rattle.warg_tasks.specs.Latest.{IsRequirement}
-use Rattle.warg_files.specs.Answers.{IfStopped, IsUnusable, answer_view}
-use Rattle.warg_files.specs.declared.answer.Answer.{Answer}
-use Rattle.warg_files.specs.declared.stop.Stop.{Stop}
-use Rattle.warg_files.specs.declared.stop.Stop.TheVariants as stop
-use Rattle.warg_checkpoints.specs.Words.{IsUnsaid}
-use Rattle.warg_checkpoints.proofs.WordLemmas.{unsaid_for}
-use Rattle.warg_tasks.specs.JsonLines.{IsInJson}
-use Rattle.warg_verified.specs.Claims.{ClaimData}
-use Rattle.warg_verified.specs.Lines.{claim_of}
-use Rattle.warg_verified.specs.Texts.{IsFirstFault, IsReadFrom}
-use Rattle.warg_verified.specs.declared.error.ClaimParseError.{ClaimParseError}
+use Rattle.tool_changes.specs.Latest.{IsRequirement}
+use Rattle.warg_audit.specs.Files.Answers.{IfStopped, IsUnusable, answer_view}
+use Rattle.warg_audit.specs.declared.files.answer.Answer.{Answer}
+use Rattle.warg_audit.specs.declared.files.stop.Stop.{Stop}
+use Rattle.warg_audit.specs.declared.files.stop.Stop.TheVariants as stop
+use Rattle.tool_checkpoints.specs.Words.{IsUnsaid}
+use Rattle.tool_checkpoints.proofs.WordLemmas.{unsaid_for}
+use Rattle.tool_changes.specs.JsonLines.{IsInJson}
+use Rattle.warg_claims.specs.Verified.Claims.{ClaimData}
+use Rattle.warg_claims.specs.Verified.Lines.{claim_of}
+use Rattle.warg_claims.specs.Verified.Texts.{IsFirstFault, IsReadFrom}
+use Rattle.warg_claims.specs.declared.verified.error.ClaimParseError.{ClaimParseError}
 use Rattle.weoldrin.specs.Looks.{as_it_is}
 use Rattle.weoldrin.specs.Requests.{IsGivenAs, IsGivenEnd, IsGivenTo}
 

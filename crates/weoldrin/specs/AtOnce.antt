@@ -1,8 +1,8 @@
 -- What the program's words say: an invocation, or what is answered by itself.
 use Rattle.std.specs.Prelude.{◌≡◌, ◌⊎◌, ℕ, true, false, List, None, Some, string_bytes}
 use Rattle.warg_audit.specs.Printouts.{Printout}
-use Rattle.warg_files.specs.Answers.{answer_view, IsUnusable}
-use Rattle.warg_words.specs.Invocations.{asks_for_json, asks_for_text, invocation_of, IsCalled, named_command}
+use Rattle.warg_audit.specs.Files.Answers.{answer_view, IsUnusable}
+use Rattle.tool_words.specs.Invocations.{asks_for_json, asks_for_text, invocation_of, IsCalled, named_command}
 use Rattle.weoldrin.specs.Looks.{as_it_is}
 use Rattle.weoldrin.specs.Requests.{IsGivenAs}
 use Rattle.weoldrin.specs.declared.words.Parsed.{Parsed}

@@ -2,20 +2,20 @@
 use Rattle.std.specs.Prelude.{◌≡◌, ◌⊎◌, ℕ, Bool, ◌&&◌, not, if◌then◌else◌, List, [], Option, Some, None, IsErr, Ok}
 use Rattle.std.specs.Borrow.{Bor}
 use Rattle.std.specs.Str.{IsUtf8}
-use Rattle.warg_files.specs.Answers.{IsUnusable}
-use Rattle.warg_files.specs.Files.{Files, Reads}
-use Rattle.warg_files.specs.Printouts.{Printout}
-use Rattle.warg_files.specs.Unusable.{IsOfFile}
-use Rattle.warg_layout.specs.Chains.{chain_layout}
-use Rattle.warg_layout.specs.Colours.{painted}
-use Rattle.warg_layout.specs.KeyNames.{KeyName}
-use Rattle.warg_layout.specs.Logs.{log_layout}
-use Rattle.warg_layout.specs.Names.{names_of}
-use Rattle.warg_layout.specs.declared.look.Look.{Look}
-use Rattle.warg_words.specs.declared.request.Question.{Question}
-use Rattle.warg_words.specs.declared.request.Question.TheVariants as question
-use Rattle.warg_words.specs.declared.request.Request.{Request}
-use Rattle.warg_words.specs.declared.request.Request.TheVariants as request
+use Rattle.warg_audit.specs.Files.Answers.{IsUnusable}
+use Rattle.warg_audit.specs.Files.Files.{Files, Reads}
+use Rattle.warg_audit.specs.Files.Printouts.{Printout}
+use Rattle.warg_audit.specs.Files.Unusable.{IsOfFile}
+use Rattle.tool_layout.specs.Chains.{chain_layout}
+use Rattle.tool_layout.specs.Colours.{painted}
+use Rattle.tool_layout.specs.KeyNames.{KeyName}
+use Rattle.tool_layout.specs.Logs.{log_layout}
+use Rattle.tool_layout.specs.Names.{names_of}
+use Rattle.tool_layout.specs.declared.look.Look.{Look}
+use Rattle.tool_words.specs.declared.request.Question.{Question}
+use Rattle.tool_words.specs.declared.request.Question.TheVariants as question
+use Rattle.tool_words.specs.declared.request.Request.{Request}
+use Rattle.tool_words.specs.declared.request.Request.TheVariants as request
 
 -- the names that the file of a path lists
 pub record AreNamesIn (files : Option Files) (path : List ℕ) (names : List KeyName) : Type 0 where

@@ -10,36 +10,36 @@ use Rattle.warg_protocol.specs.Operator as operators
 use Rattle.warg_protocol.specs.Package as packages
 use Rattle.warg_audit.specs.Answers.{IsIdAnswer}
 use Rattle.warg_audit.specs.LogTypes.{operator_log, package_log}
-use Rattle.warg_log_type.specs.declared.LogType.{LogType}
-use Rattle.warg_log_type.specs.declared.LogType.TheVariants as log_type
+use Rattle.warg_audit.specs.declared.log_type.LogType.{LogType}
+use Rattle.warg_audit.specs.declared.log_type.LogType.TheVariants as log_type
 use Rattle.warg_audit.specs.Printouts.{Printout}
-use Rattle.warg_verified.specs.Claims.{ClaimData, is_claimed}
-use Rattle.warg_verified.specs.Texts.{IsReadFrom}
-use Rattle.warg_files.specs.Files.{Files}
-use Rattle.warg_tasks.specs.JsonLines.{IsInJson}
-use Rattle.warg_tasks.specs.ManyAudits.{IsManyAnswer, IsOneAnswer}
-use Rattle.warg_checkpoints.specs.ProofTexts.{IsProofAnswer}
-use Rattle.warg_checkpoints.specs.Proofs.{IsStatementVerdict}
-use Rattle.warg_checkpoints.specs.Words.{IsByWords, IsIn, IsUnsaidIn}
-use Rattle.warg_tasks.specs.Latest.{IsLatestOf, IsRequirement}
-use Rattle.warg_questions.specs.QuestionAnswers.{IsQuestionAnswer}
-use Rattle.warg_files.specs.RecordLines.{texts}
-use Rattle.warg_answers.specs.Explanations.{explains_operator, explains_package}
-use Rattle.warg_answers.specs.ShownWords.{says_operator_words, says_package_words, shows_namespaces, shows_releases}
-use Rattle.warg_show.specs.ShownLogs.{IsShown}
-use Rattle.warg_tasks.specs.Tasks.{DoneLeaves, IsDoneAnswer}
-use Rattle.warg_files.specs.Unusable.{IsOfLines}
-use Rattle.warg_files.specs.Answers.{answer_view}
-use Rattle.warg_files.specs.declared.stop.Stop.{Stop}
-use Rattle.warg_files.specs.declared.stop.Stop.TheVariants as stop
-use Rattle.warg_answers.specs.Verdicts.{IsPrintedOf}
-use Rattle.warg_layout.specs.declared.look.Look.{Look}
+use Rattle.warg_claims.specs.Verified.Claims.{ClaimData, is_claimed}
+use Rattle.warg_claims.specs.Verified.Texts.{IsReadFrom}
+use Rattle.warg_audit.specs.Files.Files.{Files}
+use Rattle.tool_changes.specs.JsonLines.{IsInJson}
+use Rattle.tool_changes.specs.ManyAudits.{IsManyAnswer, IsOneAnswer}
+use Rattle.tool_checkpoints.specs.ProofTexts.{IsProofAnswer}
+use Rattle.tool_checkpoints.specs.Proofs.{IsStatementVerdict}
+use Rattle.tool_checkpoints.specs.Words.{IsByWords, IsIn, IsUnsaidIn}
+use Rattle.tool_changes.specs.Latest.{IsLatestOf, IsRequirement}
+use Rattle.tool_questions.specs.QuestionAnswers.{IsQuestionAnswer}
+use Rattle.warg_audit.specs.Files.RecordLines.{texts}
+use Rattle.tool_answers.specs.Explanations.{explains_operator, explains_package}
+use Rattle.tool_answers.specs.ShownWords.{says_operator_words, says_package_words, shows_namespaces, shows_releases}
+use Rattle.tool_questions.specs.Show.ShownLogs.{IsShown}
+use Rattle.tool_changes.specs.Tasks.{DoneLeaves, IsDoneAnswer}
+use Rattle.warg_audit.specs.Files.Unusable.{IsOfLines}
+use Rattle.warg_audit.specs.Files.Answers.{answer_view}
+use Rattle.warg_audit.specs.declared.files.stop.Stop.{Stop}
+use Rattle.warg_audit.specs.declared.files.stop.Stop.TheVariants as stop
+use Rattle.tool_answers.specs.Verdicts.{IsPrintedOf}
+use Rattle.tool_layout.specs.declared.look.Look.{Look}
 use Rattle.weoldrin.specs.Looks.{as_it_is, IsNamed, IsUnnamed, laid_out, layout_of}
 use Rattle.weoldrin.specs.Schemes.{asked_belongs}
-use Rattle.warg_words.specs.declared.request.Invocation.{Invocation}
-use Rattle.warg_words.specs.declared.request.Question.{Question}
-use Rattle.warg_words.specs.declared.request.Request.{Request}
-use Rattle.warg_words.specs.declared.request.Request.TheVariants as request
+use Rattle.tool_words.specs.declared.request.Invocation.{Invocation}
+use Rattle.tool_words.specs.declared.request.Question.{Question}
+use Rattle.tool_words.specs.declared.request.Request.{Request}
+use Rattle.tool_words.specs.declared.request.Request.TheVariants as request
 
 -- what is printed of the log of a kind in words
 abbrev pub IsShownAnswer : LogType → SignatureRelation → Option Files → List ℕ → Printout → Type 0

@@ -3,30 +3,30 @@
 ghost use Rattle.std.specs.Prelude.{◌≡◌, IfOk, string_bytes};
 ghost use Rattle.warg_audit.specs.Answers.{IsIdAnswer};
 ghost use Rattle.warg_audit.specs.LogTypes.{package_log};
-ghost use Rattle.warg_files.specs.Answers.{answer_view, Answers};
-ghost use Rattle.warg_tasks.specs.Latest.{IsLatestOf};
+ghost use Rattle.warg_audit.specs.Files.Answers.{answer_view, Answers};
+ghost use Rattle.tool_changes.specs.Latest.{IsLatestOf};
 ghost use Rattle.weoldrin.specs.Looks.{as_it_is, layout_of};
 ghost use Rattle.weoldrin.specs.Requests.{is_many, IsAskedAnswer, IsGiven, IsLatestAnswer, IsRequestAnswer, IsResponse, IsShownAnswer, RequestLeaves};
-ghost use Rattle.warg_tasks.specs.Tasks.{DoneLeaves, IsDoneAnswer};
-ghost use Rattle.warg_files.specs.Unusable.{IsOfLines};
-ghost use Rattle.warg_answers.specs.Verdicts.{IsPrintedOf};
+ghost use Rattle.tool_changes.specs.Tasks.{DoneLeaves, IsDoneAnswer};
+ghost use Rattle.warg_audit.specs.Files.Unusable.{IsOfLines};
+ghost use Rattle.tool_answers.specs.Verdicts.{IsPrintedOf};
 
 use crate::looks::laid_out;
 use std::alloc::{AllocError, Global};
-use warg_audit::LogType;
-use warg_checkpoints::{prove_answer, verify_answer};
-use warg_files::answer::Answer;
-use warg_files::input::{Store, read_input};
-use warg_files::stop::{Stop, settled};
-use warg_layout::Look;
-use warg_protocol::signing::Verifier;
-use warg_protocol::{VersionReq, operator, package};
-use warg_questions::question_answer;
-use warg_show::show_of_file;
-use warg_tasks::{
+use tool_changes::{
     Audit, audits_answer, id_answer, json_answer, latest_answer, requirement_of, task_answer,
 };
-use warg_words::{Invocation, Question, Request, Task};
+use tool_checkpoints::{prove_answer, verify_answer};
+use tool_layout::Look;
+use tool_questions::question_answer;
+use tool_questions::show::show_of_file;
+use tool_words::{Invocation, Question, Request, Task};
+use warg_audit::LogType;
+use warg_audit::files::answer::Answer;
+use warg_audit::files::input::{Store, read_input};
+use warg_audit::files::stop::{Stop, settled};
+use warg_protocol::signing::Verifier;
+use warg_protocol::{VersionReq, operator, package};
 
 // The log of a kind in words.
 fn shown_answer<V: Verifier, S: Store>(

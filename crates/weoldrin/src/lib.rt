@@ -12,12 +12,12 @@ pub use commands::respond;
 pub use looks::coloured;
 pub use names::invocation_answer;
 pub use schemes::KnownSchemes;
-pub use warg_audit::LogType;
-pub use warg_files::answer::Answer;
-pub use warg_files::change::{HoldFault, WriteCause, WriteFault};
-pub use warg_files::input::{ReadFault, Store};
-pub use warg_layout::{Look, NameFault, Names, NamesParseError};
-pub use warg_words::{
+pub use tool_layout::{Look, NameFault, Names, NamesParseError};
+pub use tool_words::{
     Demands, Draft, Invocation, LeafIds, Question, Request, Signer, Statement, Task, Wanted,
 };
+pub use warg_audit::LogType;
+pub use warg_audit::files::answer::Answer;
+pub use warg_audit::files::change::{HoldFault, WriteCause, WriteFault};
+pub use warg_audit::files::input::{ReadFault, Store};
 pub use words::{Parsed, parse_words};

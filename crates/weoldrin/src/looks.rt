@@ -1,13 +1,13 @@
 //! Answers laid out for people: names and short ids in what `show` and `chain` print, and colours on a terminal.
 
 ghost use Rattle.std.specs.Prelude.{◌≡◌, IfOk, string_bytes};
-ghost use Rattle.warg_files.specs.Answers.{answer_view};
+ghost use Rattle.warg_audit.specs.Files.Answers.{answer_view};
 ghost use Rattle.weoldrin.specs.Looks.{coloured, laid_out, layout_of, layout_of_question};
 
 use std::alloc::{AllocError, Global};
-use warg_files::answer::Answer;
-use warg_layout::{Look, chain_layout, log_layout, painted};
-use warg_words::{Question, Request};
+use tool_layout::{Look, chain_layout, log_layout, painted};
+use tool_words::{Question, Request};
+use warg_audit::files::answer::Answer;
 
 // The text that a question is answered, laid out.
 fn question_layout(

@@ -1,21 +1,21 @@
 //! The names of keys that a file lists, and the answers that have them.
 
 ghost use Rattle.std.specs.Prelude.{◌≡◌, IfErr, IfOk, IsErr, Ok, string_bytes};
-ghost use Rattle.warg_files.specs.Answers.{answer_view, IfStopped, IsUnusable};
-ghost use Rattle.warg_files.specs.declared.stop.Stop.TheVariants as stop;
-ghost use Rattle.warg_layout.specs.Names.{names_of};
-ghost use Rattle.warg_layout.specs.declared.error.NameFault.TheVariants as fault;
+ghost use Rattle.warg_audit.specs.Files.Answers.{answer_view, IfStopped, IsUnusable};
+ghost use Rattle.warg_audit.specs.declared.files.stop.Stop.TheVariants as stop;
+ghost use Rattle.tool_layout.specs.Names.{names_of};
+ghost use Rattle.tool_layout.specs.declared.error.NameFault.TheVariants as fault;
 ghost use Rattle.weoldrin.specs.Looks.{AreNamesIn, IsUnnamed, ListNoNames};
 ghost use Rattle.weoldrin.specs.Requests.{InvocationLeaves, IsInvocationAnswer};
 
 use crate::verified::{answer_in, given_end};
 use std::alloc::{AllocError, Global};
 use std::str;
-use warg_files::answer::Answer;
-use warg_files::input::{Input, Store, file_stop, line_sentence, read_input};
-use warg_files::stop::{Stop, unusable};
-use warg_layout::{Look, NameFault, Names, NamesParseError};
-use warg_words::Invocation;
+use tool_layout::{Look, NameFault, Names, NamesParseError};
+use tool_words::Invocation;
+use warg_audit::files::answer::Answer;
+use warg_audit::files::input::{Input, Store, file_stop, line_sentence, read_input};
+use warg_audit::files::stop::{Stop, unusable};
 
 fn name_sentence(alloc: Global, path: &str, error: NamesParseError) -> Result<String, AllocError> {
     let fault = format!(in alloc; "{}", error.fault)?;

@@ -2,11 +2,11 @@
 
 ghost use Rattle.std.specs.Prelude.{◌≡◌, IfOk, IfErr, string_bytes};
 ghost use Rattle.std.specs.Str.Lines.{lines};
-ghost use Rattle.warg_verified.specs.Texts.{IsReadFrom};
-ghost use Rattle.warg_verified.specs.declared.error.ClaimParseError.TheVariants.{OutOfMemory};
-ghost use Rattle.warg_files.specs.Answers.{answer_view, IfStopped, IsUnusable};
-ghost use Rattle.warg_files.specs.declared.stop.Stop.TheVariants as end;
-ghost use Rattle.warg_checkpoints.specs.Words.{IsIn, IsUnsaid, IsUnsaidIn};
+ghost use Rattle.warg_claims.specs.Verified.Texts.{IsReadFrom};
+ghost use Rattle.warg_claims.specs.declared.verified.error.ClaimParseError.TheVariants.{OutOfMemory};
+ghost use Rattle.warg_audit.specs.Files.Answers.{answer_view, IfStopped, IsUnusable};
+ghost use Rattle.warg_audit.specs.declared.files.stop.Stop.TheVariants as end;
+ghost use Rattle.tool_checkpoints.specs.Words.{IsIn, IsUnsaid, IsUnsaidIn};
 ghost use Rattle.weoldrin.specs.Requests.{AnswerLeaves, IsAnswerIn, IsGivenEnd, IsResponse, RequestLeaves, SaysClaims};
 ghost use Rattle.weoldrin.specs.Schemes.{asked_belongs};
 
@@ -14,13 +14,13 @@ use crate::commands::{given, respond};
 use crate::schemes::KnownSchemes;
 use std::alloc::{AllocError, Global};
 use std::str;
-use warg_files::answer::Answer;
-use warg_files::input::{Input, Store, file_stop, line_sentence, read_input};
-use warg_files::stop::{Stop, unusable};
-use warg_layout::Look;
+use tool_layout::Look;
+use tool_words::Invocation;
+use warg_audit::files::answer::Answer;
+use warg_audit::files::input::{Input, Store, file_stop, line_sentence, read_input};
+use warg_audit::files::stop::{Stop, unusable};
+use warg_claims::verified::{ClaimParseError, Verified, VerifiedParseError};
 use warg_protocol::p256::KnownKeys;
-use warg_verified::{ClaimParseError, Verified, VerifiedParseError};
-use warg_words::Invocation;
 
 fn claim_sentence(
     alloc: Global,

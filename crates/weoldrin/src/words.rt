@@ -1,17 +1,17 @@
 //! The words of the program, with what those are answered that ask for nothing.
 
 ghost use Rattle.std.specs.Prelude.{IfOk, string_bytes};
-ghost use Rattle.warg_files.specs.Answers.{answer_view, IsUnusable};
-ghost use Rattle.warg_words.specs.Invocations.{asks_for_json, named_command};
-ghost use Rattle.warg_words.specs.Requests.{texts};
+ghost use Rattle.warg_audit.specs.Files.Answers.{answer_view, IsUnusable};
+ghost use Rattle.tool_words.specs.Invocations.{asks_for_json, named_command};
+ghost use Rattle.tool_words.specs.Requests.{texts};
 ghost use Rattle.weoldrin.specs.AtOnce.{IsParsed};
 ghost use Rattle.weoldrin.specs.Looks.{as_it_is};
 ghost use Rattle.weoldrin.specs.Requests.{IsGivenAs};
 
 use crate::commands::given;
 use std::alloc::{AllocError, Global};
-use warg_files::answer::{Answer, UNUSABLE};
-use warg_words::{Invocation, Said, asks_for_json, named_command};
+use tool_words::{Invocation, Said, asks_for_json, named_command};
+use warg_audit::files::answer::{Answer, UNUSABLE};
 
 /// What the words say: a request, or what is answered at once, as help.
 #[derive(Debug, Drop)]
@@ -36,7 +36,7 @@ fn wrong_answer(alloc: Global, words: &[&str], fault: String) -> Result<Answer, 
 pub fn parse_words<'a>(alloc: Global, words: &'a [&'a str]) -> Result<Parsed<'a>, AllocError>
     ensures { IfOk result (IsParsed (texts words.now)) }
 {
-    match warg_words::parse_words(alloc, words)? {
+    match tool_words::parse_words(alloc, words)? {
         Said::Invocation(invocation) => Ok(Parsed::Invocation(invocation)),
         Said::Help(text) => Ok(Parsed::Answer(Answer::new(alloc, text, 0))),
         Said::Fault(text) => Ok(Parsed::Answer(wrong_answer(alloc, words, text)?)),

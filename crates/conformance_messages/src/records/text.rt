@@ -4,9 +4,9 @@ use crate::words::word;
 use conformance_rows::Fail;
 use std::alloc::Global;
 use std::fmt::Display;
-use warg_records::LogRecord;
-use warg_records::operator::OperatorEntry;
-use warg_records::package::PackageEntry;
+use warg_log_records::LogRecord;
+use warg_log_records::operator::OperatorEntry;
+use warg_log_records::package::PackageEntry;
 
 // A kind of entry, whom or what it is about, and a list of permissions.
 fn with_permissions<P: Display>(

@@ -1,8 +1,8 @@
 //! Appending, by what the caller says of a signature, or by what the library verifies itself.
 ghost use Rattle.std.specs.Prelude.{◌≡◌, ◌≢◌, ◌≤◌, IfOk, IfErr, OnOk, OnErr, length, take, drop};
-ghost use Rattle.warg_validator.specs.Telling.{Holds};
+ghost use Rattle.warg_replay.specs.Telling.{Holds};
 ghost use Rattle.warg_p256.specs.Scheme.{p256_belongs};
-ghost use Rattle.warg_records.specs.Kinds.{SignatureRelation, AcceptsNoMore};
+ghost use Rattle.warg_log_records.specs.Kinds.{SignatureRelation, AcceptsNoMore};
 ghost use Rattle.warg_c.specs.Held.{ask_tells, ask_fails, append_does, append_moves, append_fails, append_refuses};
 ghost use Rattle.warg_c.specs.Held.{may_come, signed_fails, signed_moves};
 ghost use Rattle.warg_c.specs.Questions.{HoldsOf};
@@ -20,7 +20,7 @@ use crate::misuse::Misuse;
 use crate::question::Asked;
 use crate::spelled::answer_for;
 use std::alloc::Global;
-use warg_validator::host::Told;
+use warg_replay::host::Told;
 
 fn ask_held(
     alloc: Global,

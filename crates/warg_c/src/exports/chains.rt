@@ -14,9 +14,9 @@ use crate::handle::WargLog;
 use crate::held::Held;
 use crate::kept_log::KeptLog;
 use std::alloc::{AllocError, Global};
-use warg_audited_log::Link as LogLink;
 use warg_permissions::LogPermission;
-use warg_validator::Validator;
+use warg_replay::Validator;
+use warg_replay::audited_log::Link as LogLink;
 
 /// The place of an entry, counted from 0: of its record in the log, and of the entry in the record.
 #[repr(C)]

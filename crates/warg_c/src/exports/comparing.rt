@@ -11,8 +11,8 @@ use crate::handle::WargLog;
 use crate::held::Held;
 use crate::kept_log::KeptLog;
 use std::alloc::Global;
-use warg_audited_log::Comparison as LogComparison;
-use warg_validator::Validator;
+use warg_replay::Validator;
+use warg_replay::audited_log::Comparison as LogComparison;
 
 /// How two logs compare, and where.
 #[repr(C)]

@@ -1,7 +1,7 @@
 //! The id of an envelope's record.
 ghost use Rattle.std.specs.Prelude.{◌≡◌, ◌≢◌, ◌≤◌, ◌⊎◌, Ok, Some, IfErr, OnOk, length, take, drop};
 ghost use Rattle.warg_envelope.specs.Envelopes.{envelope_of, envelope_fault_of};
-ghost use Rattle.warg_validator.specs.OutcomeRuns.{cause_named_by};
+ghost use Rattle.warg_replay.specs.OutcomeRuns.{cause_named_by};
 ghost use Rattle.warg_c.specs.Ids.{IsIdOf, IdFails, id_tells, id_fails};
 ghost use Rattle.warg_c.specs.Statuses.{IsStatusOf};
 ghost use Rattle.warg_c.specs.Texts.{IsWithin, SaysCause};
@@ -18,7 +18,7 @@ use std::fmt;
 use warg_envelope::ProtoEnvelope;
 use warg_operator_log::LogState as OperatorState;
 use warg_package_log::LogState as PackageState;
-use warg_validator::{Named, RunCause, Validator};
+use warg_replay::{Named, RunCause, Validator};
 
 // The text of the id of an envelope's record.
 fn id_in<L: Validator>(

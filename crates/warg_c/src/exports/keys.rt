@@ -24,12 +24,12 @@ use crate::kept_log::KeptLog;
 use crate::misuse::Misuse;
 use std::alloc::{AllocError, Global};
 use warg_crypto::signing::{KeyID, PublicKey};
+use warg_log_records::operator::Permission as OperatorPermission;
+use warg_log_records::package::Permission as PackagePermission;
 use warg_operator_log::LogState as OperatorState;
 use warg_package_log::LogState as PackageState;
 use warg_permissions::LogPermission;
-use warg_records::operator::Permission as OperatorPermission;
-use warg_records::package::Permission as PackagePermission;
-use warg_validator::Validator;
+use warg_replay::Validator;
 
 fn log_holds<L: Validator>(
     alloc: Global,

@@ -17,8 +17,8 @@ use crate::kept_log::KeptLog;
 use crate::misuse::Misuse;
 use std::alloc::{AllocError, Global};
 use warg_envelope::ProtoEnvelope;
-use warg_records::RecordId;
-use warg_validator::Validator;
+use warg_log_records::RecordId;
+use warg_replay::Validator;
 
 /// How many bytes of a kept record are its envelope, and the text of its id behind it.
 #[repr(C)]

@@ -1,10 +1,10 @@
 //! Saving a state, and going on from one.
 ghost use Rattle.std.specs.Prelude.{◌≡◌, ◌≢◌, ◌≤◌, ◌⊎◌, Err, IfOk, IfErr, IsOk, IsSomeAnd, length, take, drop};
 ghost use Rattle.std.specs.Str.{IsUtf8};
-ghost use Rattle.warg_json.specs.Json.{AreReadBack};
-ghost use Rattle.warg_saved.specs.JsonText.{TextReadsBack};
-ghost use Rattle.warg_saved.specs.Texts.{text_of};
-ghost use Rattle.warg_saved.specs.declared.error.JsonTextError.TheVariants as json;
+ghost use Rattle.warg_crypto.specs.Json.Json.{AreReadBack};
+ghost use Rattle.warg_saved_states.specs.JsonText.{TextReadsBack};
+ghost use Rattle.warg_saved_states.specs.Texts.{text_of};
+ghost use Rattle.warg_saved_states.specs.declared.error.JsonTextError.TheVariants as json;
 ghost use Rattle.warg_c.specs.declared.failure.Failure.TheVariants.{OutOfMemory, BadArgument};
 ghost use Rattle.warg_c.specs.Held.{IsNoKind, IsOfKind, kind_numbered};
 ghost use Rattle.warg_c.specs.Saved.{IsWritten, SaysNoState, fault_text, value_text, reads_back, save_tells};
@@ -19,11 +19,11 @@ use crate::held::{Held, Kind};
 use crate::kept_log::KeptLog;
 use crate::misuse::Misuse;
 use std::alloc::Global;
-use warg_json::JsonError;
+use warg_crypto::json::JsonError;
 use warg_operator_log::LogState as OperatorState;
 use warg_package_log::LogState as PackageState;
-use warg_saved::JsonTextError;
-use warg_validator::PersistentState;
+use warg_replay::PersistentState;
+use warg_saved_states::JsonTextError;
 
 // A state as a text of JSON.
 fn state_text<L: PersistentState>(alloc: Global, state: &L) -> Result<Vec<u8>, Failure>

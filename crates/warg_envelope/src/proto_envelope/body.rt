@@ -8,9 +8,10 @@ ghost use Rattle.warg_envelope.specs.SameEnvelopes.{same_envelope_data, same_env
 mod json;
 
 use crate::proto_envelope::{ProtoEnvelope, decode_contents};
-use crate::{DecodeError, Record, RegistryIndex};
+use crate::{Record, RegistryIndex};
 use std::alloc::{AllocError, Global};
 use std::marker::Model;
+use warg_crypto::DecodeError;
 use warg_crypto::signing::{KeyID, Signature};
 
 /// An envelope whose content bytes are not read yet.

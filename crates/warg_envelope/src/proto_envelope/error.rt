@@ -5,10 +5,10 @@ ghost use Rattle.warg_envelope.specs.ErrorTexts.{error_text};
 ghost use Rattle.warg_envelope.specs.ParseErrors.{wire_error, contents_error, signature_error};
 ghost use Rattle.warg_envelope.specs.declared.proto_envelope.error.ParseEnvelopeError.TheVariants as error;
 
-use crate::DecodeError;
 use std::alloc::AllocError;
 use std::error::Error;
 use std::fmt;
+use warg_crypto::DecodeError;
 use warg_crypto::hash::AnyHashError;
 use warg_crypto::signing::SignatureParseError;
 use warg_protobuf::WireError;

@@ -6,9 +6,9 @@ ghost use Rattle.warg_envelope.specs.FaultNames.{wire_name, wire_fault_name, has
 ghost use Rattle.warg_envelope.specs.Faults.{fault_of};
 
 use super::ParseEnvelopeError;
-use crate::{DecodeError, WireFault};
 use warg_crypto::hash::AnyHashError;
 use warg_crypto::signing::{KeyParseError, SignatureParseError};
+use warg_crypto::{DecodeError, WireFault};
 use warg_protobuf::WireError;
 
 impl ParseEnvelopeError {

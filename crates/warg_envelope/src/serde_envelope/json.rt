@@ -9,9 +9,9 @@ ghost use Rattle.warg_envelope.specs.SignedVersionLaws.{signed_versions, signed_
 use crate::serde_envelope::SerdeEnvelope;
 use serde_json::{Map, Value};
 use std::alloc::Global;
+use warg_crypto::json::members::{member_in, object_value, put_value};
+use warg_crypto::json::{JsonError, JsonValue};
 use warg_crypto::signing::{KeyID, Signature};
-use warg_json::members::{member_in, object_value, put_value};
-use warg_json::{JsonError, JsonValue};
 
 impl<C: JsonValue + Drop> JsonValue for SerdeEnvelope<C> {
     ghost Plain = { SignedContents C.Plain };

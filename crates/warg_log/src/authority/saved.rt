@@ -1,13 +1,13 @@
 //! An authority as its maps.
 ghost use Rattle.std.specs.Prelude.{◌≡◌};
-ghost use Rattle.warg_key_maps.specs.AuthorityData.{authority_data};
+ghost use Rattle.warg_permissions.specs.KeyMaps.AuthorityData.{authority_data};
 
 use crate::authority::Authority;
 use indexmap::IndexMap;
 use std::alloc::Global;
 use warg_crypto::hash::HashAlgorithm;
 use warg_crypto::signing::{KeyID, PublicKey};
-use warg_key_maps::Maps;
+use warg_permissions::key_maps::Maps;
 use warg_permissions::{LogPermission, PermissionSet};
 
 impl<P: LogPermission> Authority<P> {

@@ -3,20 +3,20 @@
 ghost use Rattle.std.specs.Prelude.{◌≡◌, [], codes, Ok, OnOk, OnErr, Option};
 ghost use Rattle.serde_json.specs.Data.{Data};
 ghost use Rattle.serde_json.specs.View.{members_view, view};
-ghost use Rattle.warg_json.specs.EqualLaws.{same_equal};
-ghost use Rattle.warg_json.specs.Json.{Returns, ReturnsOrNoMemory};
-ghost use Rattle.warg_json.specs.Members.{put_option, put_some};
-ghost use Rattle.warg_json.specs.Numbers.{number_json};
+ghost use Rattle.warg_crypto.specs.Json.EqualLaws.{same_equal};
+ghost use Rattle.warg_crypto.specs.Json.Json.{Returns, ReturnsOrNoMemory};
+ghost use Rattle.warg_crypto.specs.Json.Members.{put_option, put_some};
+ghost use Rattle.warg_crypto.specs.Json.Numbers.{number_json};
 ghost use Rattle.warg_log.specs.HeadJson.{head_in, head_json, unless_zero, version_in, version_or_zero};
 ghost use Rattle.warg_log.specs.declared.head.Head.{Head};
 
 use crate::head::Head;
 use serde_json::{Map, Value};
 use std::alloc::Global;
-use warg_json::members::{member_in, members_in, object_value, put_value};
-use warg_json::{JsonError, JsonValue};
-use warg_records::RecordId;
-use warg_time::Timestamp;
+use warg_crypto::json::members::{member_in, members_in, object_value, put_value};
+use warg_crypto::json::{JsonError, JsonValue};
+use warg_crypto::time::Timestamp;
+use warg_log_records::RecordId;
 
 /// Puts the version, unless it is 0.
 fn put_version(map: &mut Map<String, Value>, alloc: Global, version: u32) -> Result<(), JsonError>

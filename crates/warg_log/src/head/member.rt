@@ -2,18 +2,18 @@
 ghost use Rattle.std.specs.Prelude.{◌≡◌, OnErr, OnOk, Some, codes};
 ghost use Rattle.std.specs.Option.{option_map};
 ghost use Rattle.serde_json.specs.View.{members_view, view};
-ghost use Rattle.warg_json.specs.Json.{ReturnsOrNoMemory, IsReadBack};
-ghost use Rattle.warg_json.specs.Members.{optional_member, put_option};
-ghost use Rattle.warg_saved.specs.Texts.{PutsText};
+ghost use Rattle.warg_crypto.specs.Json.Json.{ReturnsOrNoMemory, IsReadBack};
+ghost use Rattle.warg_crypto.specs.Json.Members.{optional_member, put_option};
+ghost use Rattle.warg_saved_states.specs.Texts.{PutsText};
 ghost use Rattle.warg_log.specs.HeadJson.{head_in, head_json};
 ghost use Rattle.warg_log.specs.declared.head.Head.{Head as OfHead};
 
 use crate::head::Head;
 use serde_json::{Map, Value};
 use std::alloc::Global;
-use warg_json::JsonError;
-use warg_json::members::{optional_member, put_value};
-use warg_saved::MemberTexts;
+use warg_crypto::json::JsonError;
+use warg_crypto::json::members::{optional_member, put_value};
+use warg_saved_states::MemberTexts;
 
 /// Puts the head, if there is one. Where that fails, the object is as it was.
 pub fn put_head(

@@ -1,21 +1,23 @@
 //! JSON of what a namespace is.
 ghost use Rattle.std.specs.Prelude.{◌≡◌, ◌==◌, [], length, string_bytes};
 ghost use Rattle.serde_json.specs.View.{members_view, view};
-ghost use Rattle.warg_json.specs.Json.{Returns, ReturnsOrNoMemory};
-ghost use Rattle.warg_json.specs.Pairs.{names_of};
+ghost use Rattle.warg_crypto.specs.Json.Json.{Returns, ReturnsOrNoMemory};
+ghost use Rattle.warg_crypto.specs.Json.Pairs.{names_of};
 ghost use Rattle.warg_operator_log.specs.CanonicalNamespaces.{namespace_canonical};
 ghost use Rattle.warg_operator_log.specs.NamespaceJson.{defined_in, imported_in, namespace_in, namespace_json, only_imported, saved_namespace_in, saved_namespace_json};
 ghost use Rattle.warg_operator_log.specs.NamespaceMap.{namespace_view};
 ghost use Rattle.warg_operator_log.specs.Namespaces.{Namespace};
 ghost use Rattle.warg_operator_log.specs.SameNamespaceLaws.{namespace_decides};
-ghost use Rattle.warg_saved.specs.Writes.{WritesText};
+ghost use Rattle.warg_saved_states.specs.Writes.{WritesText};
 
 use crate::namespace::NamespaceState;
 use serde_json::{Map, Value};
 use std::alloc::Global;
-use warg_json::members::{member_in, object_value, put_member, put_value, text_in, text_value};
-use warg_json::{JsonError, JsonValue};
-use warg_saved::{SavedValue, Writer};
+use warg_crypto::json::members::{
+    member_in, object_value, put_member, put_value, text_in, text_value,
+};
+use warg_crypto::json::{JsonError, JsonValue};
+use warg_saved_states::{SavedValue, Writer};
 
 /// The JSON of an imported namespace.
 fn imported_value(alloc: Global, registry: &str) -> Result<Value, JsonError>

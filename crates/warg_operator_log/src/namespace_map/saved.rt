@@ -1,6 +1,6 @@
 //! The namespaces of a log as their map, which is saved and restored.
 ghost use Rattle.std.specs.Prelude.{◌≡◌, None, string_bytes};
-ghost use Rattle.warg_json.specs.Pairs.{plain_pairs};
+ghost use Rattle.warg_crypto.specs.Json.Pairs.{plain_pairs};
 ghost use Rattle.warg_operator_log.specs.NamespaceMap.{HasKebabNames, namespace_view};
 ghost use Rattle.warg_operator_log.specs.SavedState.{namespaces_case};
 

@@ -3,8 +3,8 @@
 ghost use Rattle.std.specs.Prelude.{◌≡◌, [], ◌∷◌, codes, Ok, IfOk};
 ghost use Rattle.semver.specs.Identifiers.{parts_of};
 ghost use Rattle.serde_json.specs.View.{members_view, view};
-ghost use Rattle.warg_json.specs.EqualLaws.{same_equal};
-ghost use Rattle.warg_json.specs.Json.{AreReadBack, ReturnsOrNoMemory, json_result};
+ghost use Rattle.warg_crypto.specs.Json.EqualLaws.{same_equal};
+ghost use Rattle.warg_crypto.specs.Json.Json.{AreReadBack, ReturnsOrNoMemory, json_result};
 ghost use Rattle.warg_package_log.specs.ReleaseMap.{release_view};
 ghost use Rattle.warg_package_log.specs.SameReleaseLaws.{release_decides};
 ghost use Rattle.warg_package_log.specs.ReleaseVersionLaws.{release_versions, release_within};
@@ -18,14 +18,14 @@ use semver::Version;
 use serde_json::{Map, Value};
 use std::alloc::Global;
 use warg_crypto::hash::AnyHash;
-use warg_crypto::signing::KeyID;
-use warg_json::members::{
+use warg_crypto::json::members::{
     member_in, object_value, put_member, put_value, string_value, text_in, text_value,
 };
-use warg_json::{JsonError, JsonValue};
-use warg_records::RecordId;
-use warg_saved::SavedName;
-use warg_time::Timestamp;
+use warg_crypto::json::{JsonError, JsonValue};
+use warg_crypto::signing::KeyID;
+use warg_crypto::time::Timestamp;
+use warg_log_records::RecordId;
+use warg_saved_states::SavedName;
 
 /// The text of the version.
 fn version_value(alloc: Global, version: &Version) -> Result<Value, JsonError>

@@ -1,24 +1,24 @@
 //! A release as a value of a map of a saved state.
 ghost use Rattle.std.specs.Prelude.{◌≡◌, ℕ, List, [], ◌∷◌, Ok, Err, OnOk, IfErr};
-ghost use Rattle.warg_json.specs.Json.{IsReadBack};
-ghost use Rattle.warg_json.specs.JsonTexts.{hash_in, hash_json};
-ghost use Rattle.warg_time.specs.TimeJson.{time_in, time_json};
-ghost use Rattle.warg_time.specs.TimeText.{time_text};
+ghost use Rattle.warg_crypto.specs.Json.Json.{IsReadBack};
+ghost use Rattle.warg_crypto.specs.Json.JsonTexts.{hash_in, hash_json};
+ghost use Rattle.warg_crypto.specs.Time.TimeJson.{time_in, time_json};
+ghost use Rattle.warg_crypto.specs.Time.TimeText.{time_text};
 ghost use Rattle.warg_package_log.specs.ReleaseMap.{release_view};
 ghost use Rattle.warg_package_log.specs.ReleaseJson.{release_in, release_json, release_state_json};
 ghost use Rattle.warg_package_log.specs.CanonicalReleases.{release_canonical};
 ghost use Rattle.warg_package_log.specs.Releases.{ReleaseView};
 ghost use Rattle.warg_package_log.specs.declared.release.ReleaseState.TheVariants.{Released, Yanked};
-ghost use Rattle.warg_saved.specs.Writes.{WritesText};
+ghost use Rattle.warg_saved_states.specs.Writes.{WritesText};
 
 use crate::release::{Release, ReleaseState};
 use serde_json::Value;
 use std::alloc::Global;
 use warg_crypto::hash::AnyHash;
+use warg_crypto::json::{JsonError, JsonValue};
 use warg_crypto::signing::KeyID;
-use warg_json::{JsonError, JsonValue};
-use warg_saved::{SavedValue, Writer};
-use warg_time::Timestamp;
+use warg_crypto::time::Timestamp;
+use warg_saved_states::{SavedValue, Writer};
 
 /// Refuses a time before the epoch.
 fn check_time(time: &Timestamp) -> Result<(), JsonError>

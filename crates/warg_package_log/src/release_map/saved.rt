@@ -1,7 +1,7 @@
 //! The releases of a log as their map, which is saved and restored.
 ghost use Rattle.std.specs.Prelude.{◌≡◌, None, map};
 ghost use Rattle.semver.specs.Identifiers.{parts_of};
-ghost use Rattle.warg_json.specs.Pairs.{plain_pairs};
+ghost use Rattle.warg_crypto.specs.Json.Pairs.{plain_pairs};
 ghost use Rattle.warg_package_log.specs.ReleaseMap.{release_view};
 ghost use Rattle.warg_package_log.specs.SavedState.{named_releases, releases_case};
 

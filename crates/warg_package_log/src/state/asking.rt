@@ -8,8 +8,8 @@ ghost use Rattle.warg_package_log.specs.State.{view_of, offence_of, envelope_as_
 use crate::error::ValidationError;
 use crate::state::LogState;
 use warg_envelope::ProtoEnvelope;
-use warg_records::package::PackageRecord;
-use warg_validator::host::Question;
+use warg_log_records::package::PackageRecord;
+use warg_replay::host::Question;
 
 impl LogState {
     /// Judges all of a record but its signature, which is left to the caller: the record is lawful exactly if the

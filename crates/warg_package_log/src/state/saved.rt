@@ -4,13 +4,13 @@ ghost use Rattle.std.specs.List.{list_any};
 ghost use Rattle.semver.specs.Identifiers.{parts_of};
 ghost use Rattle.serde_json.specs.Data.{object};
 ghost use Rattle.serde_json.specs.View.{members_view, view};
-ghost use Rattle.warg_json.specs.Json.{AreReadBack, ReturnsOrNoMemory};
-ghost use Rattle.warg_json.specs.Pairs.{plain_pairs};
+ghost use Rattle.warg_crypto.specs.Json.Json.{AreReadBack, ReturnsOrNoMemory};
+ghost use Rattle.warg_crypto.specs.Json.Pairs.{plain_pairs};
 ghost use Rattle.warg_permissions.specs.declared.package.Permission.{Permission as OfPermission};
-ghost use Rattle.warg_saved.specs.Fit.{RefusesCase, RefusesCaseOrNoMemory, first_case, is_nil, keys_case, rights_case, unless_case, version_case};
-ghost use Rattle.warg_saved.specs.JsonText.{ReturnsOfText, TextReadsBack, in_text};
-ghost use Rattle.warg_saved.specs.Texts.{IsReadAs, text_of};
-ghost use Rattle.warg_key_maps.specs.AuthorityData.{AuthorityData};
+ghost use Rattle.warg_saved_states.specs.Fit.{RefusesCase, RefusesCaseOrNoMemory, first_case, is_nil, keys_case, rights_case, unless_case, version_case};
+ghost use Rattle.warg_saved_states.specs.JsonText.{ReturnsOfText, TextReadsBack, in_text};
+ghost use Rattle.warg_saved_states.specs.Texts.{IsReadAs, text_of};
+ghost use Rattle.warg_permissions.specs.KeyMaps.AuthorityData.{AuthorityData};
 ghost use Rattle.warg_log.specs.States.{State};
 ghost use Rattle.warg_package_log.specs.ReleaseMap.{release_view};
 ghost use Rattle.warg_package_log.specs.Releases.{ReleaseView};
@@ -27,13 +27,13 @@ use semver::Version;
 use serde_json::{Map, Value};
 use std::alloc::Global;
 use warg_crypto::hash::HashAlgorithm;
+use warg_crypto::json::members::object_value;
+use warg_crypto::json::{Incoherence, JsonError, JsonValue};
 use warg_crypto::signing::{KeyID, PublicKey};
-use warg_json::members::object_value;
-use warg_json::{Incoherence, JsonError, JsonValue};
 use warg_log::{Head, Log, head_member, head_version, put_head, put_head_text};
+use warg_log_records::package::Permission;
 use warg_permissions::PermissionSet;
-use warg_records::package::Permission;
-use warg_saved::{
+use warg_saved_states::{
     JsonTextError, MemberTexts, algorithm_member, are_no_keys, check_begun, check_empty,
     check_keys, check_rights, check_version, is_empty, keys_member, map_member, put_algorithm,
     put_keys, put_map, read_apart, read_value,

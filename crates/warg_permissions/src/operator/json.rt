@@ -1,9 +1,9 @@
 //! JSON of permissions: their text.
 
 ghost use Rattle.std.specs.Prelude.{◌≡◌, []};
-ghost use Rattle.warg_json.specs.EqualLaws.{same_equal};
+ghost use Rattle.warg_crypto.specs.Json.EqualLaws.{same_equal};
 ghost use Rattle.serde_json.specs.View.{view};
-ghost use Rattle.warg_json.specs.Json.{Returns};
+ghost use Rattle.warg_crypto.specs.Json.Json.{Returns};
 ghost use Rattle.warg_permissions.specs.PermissionJson.{permission_from, permission_json};
 ghost use Rattle.warg_permissions.specs.OperatorPermissions.{permission_in, permission_text};
 ghost use Rattle.warg_permissions.specs.declared.operator.Permission.{Permission};
@@ -12,8 +12,8 @@ use crate::LogPermission;
 use crate::operator::Permission;
 use serde_json::Value;
 use std::alloc::Global;
-use warg_json::members::{text_in, text_value};
-use warg_json::{JsonError, JsonValue};
+use warg_crypto::json::members::{text_in, text_value};
+use warg_crypto::json::{JsonError, JsonValue};
 
 impl JsonValue for Permission {
     ghost Plain = { Permission };

@@ -1,10 +1,10 @@
 use Rattle.std.proofs.Common.{◌≡◌, ◌<◌, false, true, length, ap, arith, is_ok, Ok}
 use Rattle.std.proofs.lemmas.Grind.{common_steps}
 use Rattle.std.proofs.lemmas.Result.{IfOk-weaker}
-use Rattle.warg_files.specs.Lines.{string_of}
+use Rattle.warg_audit.specs.Files.Lines.{string_of}
 use Rattle.warg_audit.specs.Replies.{printed_of}
 use Rattle.warg_audit.proofs.IdAnswers.{bad_first, line_behind, only_line}
-use Rattle.warg_files.proofs.StringLemmas.{no_ok}
+use Rattle.warg_audit.proofs.FilesLemmas.StringLemmas.{no_ok}
 use Rattle.warg_audit.proofs.identify.id_reply.Goals as goal
 
 pub returns-then-not-branch : goal.returns-then-not-branch

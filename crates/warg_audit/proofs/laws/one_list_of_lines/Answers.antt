@@ -1,4 +1,4 @@
-use Rattle.warg_files.proofs.LineLemmas.{lines_of-are, lines_of-only}
+use Rattle.warg_audit.proofs.FilesLemmas.LineLemmas.{lines_of-are, lines_of-only}
 use Rattle.warg_audit.proofs.laws.one_list_of_lines.Goals as goal
 
 pub returns-clause-some : goal.returns-clause-some

@@ -1,10 +1,10 @@
 use Rattle.std.proofs.Common.{◌≡◌, true, [], ◌∷◌, ◌++◌, ◌+◌, Ok, ap, arith}
 use Rattle.std.proofs.lemmas.Grind.{common_steps}
 use Rattle.warg_envelope.specs.Envelopes.{envelope_of, envelope_fault_of}
-use Rattle.warg_validator.specs.OutcomeRuns.{cause_named_by}
-use Rattle.warg_files.specs.Lines.{lines_of, strings_from}
+use Rattle.warg_replay.specs.OutcomeRuns.{cause_named_by}
+use Rattle.warg_audit.specs.Files.Lines.{lines_of, strings_from}
 use Rattle.warg_audit.proofs.JudgeLemmas.{none_judged, one_judged, still_refused}
-use Rattle.warg_files.proofs.StringLemmas.{one_read, rest_read, some_strings}
+use Rattle.warg_audit.proofs.FilesLemmas.StringLemmas.{one_read, rest_read, some_strings}
 use Rattle.warg_audit.proofs.log.judge.Goals as goal
 
 pub loop-rest-init : goal.loop-rest-init

@@ -1,6 +1,6 @@
 use Rattle.std.proofs.Common.{◌+◌, ◌≤◌, length}
 use Rattle.warg_envelope.specs.Envelopes.{envelope_of}
-use Rattle.warg_files.specs.Lines.{lines_of}
+use Rattle.warg_audit.specs.Files.Lines.{lines_of}
 use Rattle.warg_audit.proofs.JudgeLemmas.{IsJudgedTo}
 use Rattle.warg_audit.proofs.log.judge.Given as goal
 

@@ -1,5 +1,5 @@
 use Rattle.std.proofs.lemmas.Result.{IfOk-weaker}
-use Rattle.warg_files.specs.Lines.{lines_of}
+use Rattle.warg_audit.specs.Files.Lines.{lines_of}
 use Rattle.warg_audit.specs.Replies.{printed_of}
 use Rattle.warg_audit.proofs.LogLemmas.{lawful_answers, refused_answers, spelled_answers, bad_answers}
 use Rattle.warg_audit.proofs.log.log_reply.Goals as goal

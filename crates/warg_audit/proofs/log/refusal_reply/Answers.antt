@@ -1,6 +1,6 @@
 use Rattle.std.proofs.lemmas.Result.{IfOk-weaker}
 use Rattle.warg_envelope.specs.Envelopes.{envelope_fault_of}
-use Rattle.warg_validator.specs.OutcomeRuns.{cause_named_by}
+use Rattle.warg_replay.specs.OutcomeRuns.{cause_named_by}
 use Rattle.warg_audit.specs.Replies.{printed_of}
 use Rattle.warg_audit.proofs.LogLemmas.{told_answers}
 use Rattle.warg_audit.proofs.log.refusal_reply.Goals as goal

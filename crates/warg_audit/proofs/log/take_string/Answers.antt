@@ -1,7 +1,7 @@
 use Rattle.std.proofs.Common.{[], ◌∷◌}
 use Rattle.warg_envelope.specs.Envelopes.{envelope_of, envelope_fault_of}
-use Rattle.warg_validator.specs.Strings.{read_all}
-use Rattle.warg_validator.specs.OutcomeRuns.{cause_named_by}
+use Rattle.warg_replay.specs.Strings.{read_all}
+use Rattle.warg_replay.specs.OutcomeRuns.{cause_named_by}
 use Rattle.warg_audit.proofs.JudgeLemmas.{next_lawful, next_refused}
 use Rattle.warg_audit.proofs.log.take_string.Goals as goal
 

@@ -1,6 +1,6 @@
 use Rattle.std.proofs.Common.{Some, subst}
 use Rattle.warg_envelope.specs.ErrorTexts.{error_text}
-use Rattle.warg_validator.specs.Messages.{cause_text}
+use Rattle.warg_replay.specs.Messages.{cause_text}
 use Rattle.warg_c.specs.Texts.{IsErrorText, IsNameOrLine}
 use Rattle.warg_c.proofs.refusal.refuse.Goals as goal
 

@@ -1,5 +1,5 @@
 use Rattle.warg_envelope.specs.Envelopes.{envelope_of}
-use Rattle.warg_verified.specs.Claims.{is_claimed}
+use Rattle.warg_claims.specs.Verified.Claims.{is_claimed}
 use Rattle.warg_claims.proofs.ClaimLaws.{strings-within}
 use Rattle.warg_claims.proofs.HeldClaims.{claimed-within}
 use Rattle.warg_claims.proofs.laws.more_claims.Goals as goal

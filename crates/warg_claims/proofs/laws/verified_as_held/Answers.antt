@@ -1,5 +1,5 @@
 use Rattle.warg_envelope.specs.Envelopes.{envelope_of}
-use Rattle.warg_verified.specs.Claims.{is_claimed}
+use Rattle.warg_claims.specs.Verified.Claims.{is_claimed}
 use Rattle.warg_claims.proofs.ClaimLaws.{judged-alike}
 use Rattle.warg_claims.proofs.HeldClaims.{held-holds, holds-held}
 use Rattle.warg_claims.proofs.laws.verified_as_held.Goals as goal

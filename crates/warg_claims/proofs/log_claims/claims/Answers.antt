@@ -3,8 +3,8 @@ use Rattle.std.specs.Vec.{vec_items}
 use Rattle.std.specs.List.{slice_get}
 use Rattle.std.proofs.lemmas.List.{length-map}
 use Rattle.warg_envelope.specs.Envelopes.{envelope_of, envelope_fault_of}
-use Rattle.warg_validator.specs.OutcomeRuns.{cause_named_by}
-use Rattle.warg_records.proofs.KindWalks.{lawful-accepted}
+use Rattle.warg_replay.specs.OutcomeRuns.{cause_named_by}
+use Rattle.warg_log_records.proofs.KindWalks.{lawful-accepted}
 use Rattle.warg_claims.specs.Claimed.{any_signature}
 use Rattle.warg_claims.proofs.ClaimLaws.{claims-front, claims-none, claims-step, claims-whole, refused-at}
 use Rattle.warg_claims.proofs.Places.{slice_get-map-at, take-map-next}

@@ -1,8 +1,8 @@
 use Rattle.std.proofs.Common.{map, take}
 use Rattle.std.specs.Vec.{vec_items}
 use Rattle.warg_envelope.specs.Envelopes.{envelope_of}
-use Rattle.warg_records.specs.Kinds.{IsAccepted, StandsFor}
-use Rattle.warg_validator.specs.Strings.{read_all}
+use Rattle.warg_log_records.specs.Kinds.{IsAccepted, StandsFor}
+use Rattle.warg_replay.specs.Strings.{read_all}
 use Rattle.warg_claims.specs.Claimed.{AreClaims, any_signature}
 use Rattle.warg_claims.proofs.log_claims.claims.Given as goal
 

@@ -2,8 +2,8 @@
 
 ghost use Rattle.std.specs.Prelude.{◌≡◌, [], IfOk, Ok};
 ghost use Rattle.serde_json.specs.View.{members_view, view};
-ghost use Rattle.warg_json.specs.EqualLaws.{same_equal};
-ghost use Rattle.warg_json.specs.Json.{ReturnsOrNoMemory};
+ghost use Rattle.warg_crypto.specs.Json.EqualLaws.{same_equal};
+ghost use Rattle.warg_crypto.specs.Json.Json.{ReturnsOrNoMemory};
 ghost use Rattle.warg_envelope.specs.EnvelopeData.{EnvelopeData};
 ghost use Rattle.warg_envelope.specs.EnvelopeJson.{AreBodyMembers, body_in, body_json, body_members, bytes_in, bytes_json, published_in, published_json};
 ghost use Rattle.warg_envelope.specs.declared.proto_envelope.body.PublishedProtoEnvelopeBody.{PublishedProtoEnvelopeBody};
@@ -13,9 +13,11 @@ use base64::DecodeAllocError;
 use base64::engine::general_purpose::STANDARD;
 use serde_json::{Map, Value};
 use std::alloc::Global;
+use warg_crypto::json::members::{
+    member_in, object_value, put_member, put_value, string_value, text_in,
+};
+use warg_crypto::json::{JsonError, JsonValue};
 use warg_crypto::signing::{KeyID, Signature};
-use warg_json::members::{member_in, object_value, put_member, put_value, string_value, text_in};
-use warg_json::{JsonError, JsonValue};
 
 /// The bytes as a text in base64.
 fn bytes_value(alloc: Global, bytes: &[u8]) -> Result<Value, JsonError>

@@ -1,6 +1,6 @@
 use Rattle.std.proofs.Common.{refl, [], sym, ap, ◌∙◌, length}
 use Rattle.warg_permissions.specs.OperatorPermissions.{same_permission}
-use Rattle.warg_records.specs.OperatorReading.{operator_record_of}
+use Rattle.warg_log_records.specs.OperatorReading.{operator_record_of}
 use Rattle.warg_log.specs.History.{record_history}
 use Rattle.warg_log.specs.Rules.{events_offence}
 use Rattle.warg_operator_log.specs.Namespaces.{rules, record_id_of, names-none, names-append}

@@ -1,6 +1,6 @@
 use Rattle.std.proofs.Common.{sym, ap, ◌∙◌}
 use Rattle.warg_permissions.specs.OperatorPermissions.{same_permission}
-use Rattle.warg_records.specs.OperatorReading.{operator_record_of}
+use Rattle.warg_log_records.specs.OperatorReading.{operator_record_of}
 use Rattle.warg_operator_log.specs.Namespaces.{rules}
 use Rattle.warg_operator_log.specs.State.{View, view_of}
 use Rattle.warg_operator_log.specs.StateLaws.{effects}

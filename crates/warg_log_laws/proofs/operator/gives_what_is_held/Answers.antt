@@ -1,5 +1,5 @@
 use Rattle.warg_permissions.specs.OperatorPermissions.{same_permission, same_permission-is}
-use Rattle.warg_records.specs.OperatorReading.{operator_record_of}
+use Rattle.warg_log_records.specs.OperatorReading.{operator_record_of}
 use Rattle.std.proofs.Common.{refl, take, ◌++◌}
 use Rattle.warg_log.specs.History.{record_history}
 use Rattle.warg_operator_log.specs.Namespaces.{rules, record_id_of, names-none, names-append}

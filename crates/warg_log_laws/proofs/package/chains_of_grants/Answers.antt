@@ -1,5 +1,5 @@
 use Rattle.warg_permissions.specs.PackagePermissions.{same_permission}
-use Rattle.warg_records.specs.PackageReading.{package_record_of}
+use Rattle.warg_log_records.specs.PackageReading.{package_record_of}
 use Rattle.warg_package_log.specs.ListedReleases.{listed_releases}
 use Rattle.warg_package_log.specs.Releases.{rules}
 use Rattle.warg_package_log.specs.StateLaws.{state_laws}

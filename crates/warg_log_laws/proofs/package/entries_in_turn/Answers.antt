@@ -1,6 +1,6 @@
 use Rattle.std.proofs.Common.{[], sym, ap, ◌∙◌, length}
 use Rattle.warg_permissions.specs.PackagePermissions.{same_permission}
-use Rattle.warg_records.specs.PackageReading.{package_record_of}
+use Rattle.warg_log_records.specs.PackageReading.{package_record_of}
 use Rattle.warg_log.specs.History.{record_history}
 use Rattle.warg_log.specs.Rules.{events_offence}
 use Rattle.warg_package_log.specs.ListedReleases.{listed_releases}

@@ -1,5 +1,5 @@
 use Rattle.warg_permissions.specs.PackagePermissions.{same_permission, same_permission-is}
-use Rattle.warg_records.specs.PackageReading.{package_record_of}
+use Rattle.warg_log_records.specs.PackageReading.{package_record_of}
 use Rattle.std.proofs.Common.{take, ◌++◌}
 use Rattle.warg_log.specs.History.{record_history}
 use Rattle.warg_package_log.specs.ListedReleases.{listed_releases}

@@ -1,6 +1,6 @@
 use Rattle.std.proofs.Common.{ap}
 use Rattle.warg_permissions.specs.PackagePermissions.{same_permission}
-use Rattle.warg_records.specs.PackageReading.{package_record_of}
+use Rattle.warg_log_records.specs.PackageReading.{package_record_of}
 use Rattle.warg_package_log.specs.Releases.{rules}
 use Rattle.warg_package_log.specs.State.{View}
 use Rattle.warg_log_laws.proofs.HistoryEntries.{effects-history}

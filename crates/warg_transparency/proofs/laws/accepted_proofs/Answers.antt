@@ -3,7 +3,7 @@ use Rattle.sha2.proofs.Facts256.{length-sha256}
 use Rattle.warg_merkle.proofs.Consistent.{consistent_or_collision}
 use Rattle.warg_merkle.proofs.Extending.{with_start_long}
 use Rattle.warg_merkle.proofs.Sound as log
-use Rattle.warg_sparse_map.proofs.Owning as map
+use Rattle.warg_merkle.proofs.SparseMapLemmas.Owning as map
 use Rattle.warg_registry.specs.PrefixEncodings.{log_leaf_encoding_of}
 use Rattle.warg_transparency.proofs.laws.accepted_proofs.Goals as goal
 

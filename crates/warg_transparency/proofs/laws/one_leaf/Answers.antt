@@ -2,7 +2,7 @@ use Rattle.std.proofs.Common.{◌≡◌, ◌∙◌, ◌++◌, [], inl, inr, appe
 use Rattle.sha2.specs.Sha256.{sha256}
 use Rattle.sha2.proofs.Facts256.{length-sha256}
 use Rattle.warg_merkle.proofs.Climbs as two
-use Rattle.warg_sparse_map.specs.Maps.{sides_up}
+use Rattle.warg_merkle.specs.SparseMap.Maps.{sides_up}
 use Rattle.warg_registry.specs.declared.leaf.MapLeaf.{MapLeaf}
 use Rattle.warg_registry.specs.PrefixEncodings.{MapLeafValue, map_leaf_encoding_of, prefix_encoding_of, IsHash, IsPrefixCode}
 use Rattle.warg_transparency.proofs.laws.one_leaf.Goals as goal

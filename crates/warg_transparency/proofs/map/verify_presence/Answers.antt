@@ -1,7 +1,7 @@
 use Rattle.std.proofs.Common.{rules, Some, sym}
 use Rattle.sha2.specs.Sha256.{sha256}
 use Rattle.warg_registry.specs.PrefixEncodings.{map_leaf_encoding_of}
-use Rattle.warg_sparse_map.specs.Maps.{Leads}
+use Rattle.warg_merkle.specs.SparseMap.Maps.{Leads}
 use Rattle.warg_transparency.proofs.map.verify_presence.Goals as goal
 
 pub returns-clause-shown : goal.returns-clause-shown

@@ -1,4 +1,4 @@
-use Rattle.warg_files.proofs.UnusableLemmas.{file_read, file_unread}
+use Rattle.warg_audit.proofs.FilesLemmas.UnusableLemmas.{file_read, file_unread}
 use Rattle.weoldrin.proofs.commands.latest_in_file.Goals as goal
 
 pub returns-in-Ok-clause-answered : goal.returns-in-Ok-clause-answered

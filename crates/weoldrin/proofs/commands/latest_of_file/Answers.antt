@@ -1,5 +1,5 @@
-use Rattle.warg_tasks.specs.Latest.{IsRequirement}
-use Rattle.warg_checkpoints.proofs.WordLemmas.{words_said, words_unsaid}
+use Rattle.tool_changes.specs.Latest.{IsRequirement}
+use Rattle.tool_checkpoints.proofs.WordLemmas.{words_said, words_unsaid}
 use Rattle.weoldrin.proofs.RequestLemmas.{no_requirement}
 use Rattle.weoldrin.proofs.commands.latest_of_file.Goals as goal
 

@@ -1,9 +1,9 @@
 use Rattle.std.proofs.Common.{sym}
 use Rattle.std.proofs.lemmas.Result.{IfOk-weaker}
-use Rattle.warg_files.specs.Answers.{answer_view}
+use Rattle.warg_audit.specs.Files.Answers.{answer_view}
 use Rattle.weoldrin.specs.Looks.{layout_of}
 use Rattle.weoldrin.specs.Requests.{IsRequestAnswer}
-use Rattle.warg_files.proofs.UnusableLemmas.{settled_is}
+use Rattle.warg_audit.proofs.FilesLemmas.UnusableLemmas.{settled_is}
 use Rattle.weoldrin.proofs.RequestLemmas.{given_many, given_one}
 use Rattle.weoldrin.proofs.commands.respond.Goals as goal
 

@@ -1,5 +1,5 @@
 use Rattle.std.proofs.lemmas.Result.{IfOk-weaker}
-use Rattle.warg_files.proofs.UnusableLemmas.{file_unread}
+use Rattle.warg_audit.proofs.FilesLemmas.UnusableLemmas.{file_unread}
 use Rattle.weoldrin.proofs.NameLemmas.{unlisted_file}
 use Rattle.weoldrin.proofs.names.read_names.Goals as goal
 

@@ -1,4 +1,4 @@
-use Rattle.warg_checkpoints.proofs.WordLemmas.{in_bytes, unread_bytes, unsaid_bytes}
+use Rattle.tool_checkpoints.proofs.WordLemmas.{in_bytes, unread_bytes, unsaid_bytes}
 use Rattle.weoldrin.specs.Requests.{SaysClaims}
 use Rattle.weoldrin.proofs.verified.read_verified.Goals as goal
 

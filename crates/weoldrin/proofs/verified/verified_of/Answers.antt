@@ -1,8 +1,8 @@
 use Rattle.std.proofs.Common.{◌≡◌}
 use Rattle.std.specs.Str.Lines.{lines}
-use Rattle.warg_verified.specs.Texts.{IsReadFrom}
-use Rattle.warg_verified.specs.declared.error.ClaimParseError.TheVariants.{OutOfMemory}
-use Rattle.warg_checkpoints.proofs.WordLemmas.{unsaid_unless}
+use Rattle.warg_claims.specs.Verified.Texts.{IsReadFrom}
+use Rattle.warg_claims.specs.declared.verified.error.ClaimParseError.TheVariants.{OutOfMemory}
+use Rattle.tool_checkpoints.proofs.WordLemmas.{unsaid_unless}
 use Rattle.weoldrin.proofs.RequestLemmas.{no_claims}
 use Rattle.weoldrin.proofs.verified.verified_of.Goals as goal
 

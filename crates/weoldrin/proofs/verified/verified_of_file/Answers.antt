@@ -1,7 +1,7 @@
 use Rattle.std.proofs.lemmas.Result.{IfOk-weaker}
 use Rattle.std.specs.Str.Lines.{lines}
-use Rattle.warg_verified.specs.Texts.{IsReadFrom}
-use Rattle.warg_checkpoints.proofs.WordLemmas.{unsaid_as, unsaid_if}
+use Rattle.warg_claims.specs.Verified.Texts.{IsReadFrom}
+use Rattle.tool_checkpoints.proofs.WordLemmas.{unsaid_as, unsaid_if}
 use Rattle.weoldrin.specs.Requests.{SaysClaims}
 use Rattle.weoldrin.proofs.verified.verified_of_file.Goals as goal
 

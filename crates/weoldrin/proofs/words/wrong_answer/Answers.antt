@@ -1,5 +1,5 @@
 use Rattle.std.proofs.lemmas.Result.{IfOk-weaker}
-use Rattle.warg_files.specs.Answers.{answer_view}
+use Rattle.warg_audit.specs.Files.Answers.{answer_view}
 use Rattle.weoldrin.proofs.words.wrong_answer.Goals as goal
 
 pub returns : goal.returns

@@ -1,7 +1,7 @@
 use Rattle.std.proofs.Common.{refl}
 use Rattle.warg_envelope.specs.Envelopes.{envelope_of, envelope_fault_of}
-use Rattle.warg_validator.specs.OutcomeRuns.{cause_named_by}
-use Rattle.warg_validator.specs.declared.replay.RunCause.TheVariants.{Parse}
+use Rattle.warg_replay.specs.OutcomeRuns.{cause_named_by}
+use Rattle.warg_replay.specs.declared.replay.RunCause.TheVariants.{Parse}
 use Rattle.warg_c.specs.Texts.{SaysCause}
 use Rattle.warg_c.proofs.Refusals.{id-fails}
 use Rattle.warg_c.proofs.exports.identifying.id_in.Goals as goal

@@ -1,6 +1,6 @@
 use Rattle.std.proofs.Common.{refl, ◌∙◌, rules}
-use Rattle.warg_key_maps.specs.Rights.{value_over}
-use Rattle.warg_key_maps.proofs.AuthorityDataLemmas.{made-over}
+use Rattle.warg_permissions.specs.KeyMaps.Rights.{value_over}
+use Rattle.warg_permissions.proofs.KeyMapsLemmas.AuthorityDataLemmas.{made-over}
 use Rattle.warg_log.proofs.authority.Authority.commit.Goals as goal
 
 pub returns-clause-made : goal.returns-clause-made

@@ -1,5 +1,5 @@
-use Rattle.warg_key_maps.specs.AuthorityData.{access_view}
-use Rattle.warg_key_maps.specs.Keys.{AreKeysOf}
+use Rattle.warg_permissions.specs.KeyMaps.AuthorityData.{access_view}
+use Rattle.warg_permissions.specs.KeyMaps.Keys.{AreKeysOf}
 use Rattle.std.proofs.Common.{subst}
 use Rattle.warg_log.proofs.authority.Authority.listed_keys.Goals as goal
 

@@ -1,6 +1,6 @@
 use Rattle.std.proofs.Common.{◌∙◌}
-use Rattle.warg_saved.proofs.MapsBack.{on_ok_then}
-use Rattle.warg_saved.proofs.Optional.{same_option}
+use Rattle.warg_saved_states.proofs.MapsBack.{on_ok_then}
+use Rattle.warg_saved_states.proofs.Optional.{same_option}
 use Rattle.warg_log.proofs.head.member.put_head_text.Goals as goal
 
 pub returns-clause-back : goal.returns-clause-back

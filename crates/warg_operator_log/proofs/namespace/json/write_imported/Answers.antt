@@ -1,5 +1,5 @@
 use Rattle.std.proofs.Common.{refl}
-use Rattle.warg_saved.specs.WriteLaws.{after, nothing}
+use Rattle.warg_saved_states.specs.WriteLaws.{after, nothing}
 use Rattle.warg_operator_log.proofs.namespace.json.write_imported.Goals as goal
 
 pub returns : goal.returns

@@ -1,7 +1,7 @@
 use Rattle.std.proofs.Common.{◌≡◌, codes, refl}
 use Rattle.std.specs.Prelude.{Ok}
 use Rattle.serde_json.specs.Data.{no_members, member, object}
-use Rattle.warg_saved.specs.WriteLaws.{after, after_all, nothing}
+use Rattle.warg_saved_states.specs.WriteLaws.{after, after_all, nothing}
 use Rattle.warg_operator_log.specs.NamespaceMap.{namespace_view}
 use Rattle.warg_operator_log.specs.NamespaceJson.{saved_namespace_json}
 use Rattle.warg_operator_log.proofs.namespace.json.write_saved.Goals as goal

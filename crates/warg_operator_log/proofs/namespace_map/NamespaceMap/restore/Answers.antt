@@ -1,5 +1,5 @@
 use Rattle.std.specs.Prelude.{string_bytes}
-use Rattle.warg_json.specs.Pairs.{plain_pairs}
+use Rattle.warg_crypto.specs.Json.Pairs.{plain_pairs}
 use Rattle.warg_operator_log.specs.NamespaceMap.{namespace_view}
 use Rattle.warg_operator_log.proofs.SavedNamespaces.{kebab_names}
 use Rattle.warg_operator_log.proofs.namespace_map.NamespaceMap.restore.Goals as goal

@@ -1,6 +1,6 @@
 use Rattle.std.proofs.Common.{ap}
 use Rattle.std.specs.Prelude.{string_bytes}
-use Rattle.warg_records.specs.OperatorEntries.{DefineNamespace, ImportNamespace, entry_data}
+use Rattle.warg_log_records.specs.OperatorEntries.{DefineNamespace, ImportNamespace, entry_data}
 use Rattle.warg_operator_log.proofs.namespace_map.NamespaceMapOwnState.entry_ref.Goals as goal
 
 pub returns-in-DefineNamespace : goal.returns-in-DefineNamespace

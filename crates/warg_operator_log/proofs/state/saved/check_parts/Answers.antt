@@ -1,6 +1,6 @@
 use Rattle.std.proofs.Common.{◌∙◌, ap, sym}
-use Rattle.warg_saved.specs.Fit.{begun_case, empty_case}
-use Rattle.warg_saved.proofs.Cases.{refuses_later}
+use Rattle.warg_saved_states.specs.Fit.{begun_case, empty_case}
+use Rattle.warg_saved_states.proofs.Cases.{refuses_later}
 use Rattle.warg_operator_log.proofs.state.saved.check_parts.Goals as goal
 
 pub returns : goal.returns

@@ -2,19 +2,19 @@ use Rattle.std.proofs.Common.{◌≡◌, ap, ◌∙◌, sym, codes, string_bytes
 use Rattle.std.specs.Prelude.{Ok}
 use Rattle.std.proofs.lemmas.Result.{err_from_is_err_and}
 use Rattle.serde_json.specs.Data.{no_members}
-use Rattle.warg_json.specs.JsonTexts.{algorithm_json, key_json, key_in}
-use Rattle.warg_json.specs.Members.{put_option}
+use Rattle.warg_crypto.specs.Json.JsonTexts.{algorithm_json, key_json, key_in}
+use Rattle.warg_crypto.specs.Json.Members.{put_option}
 use Rattle.warg_crypto.specs.NamedBytes.{NamedBytes}
 use Rattle.warg_permissions.specs.OperatorPermissions.{permission_text, permission_in, same_permission}
 use Rattle.warg_permissions.specs.declared.operator.Permission.{Permission}
-use Rattle.warg_saved.specs.Maps.{put_pairs}
-use Rattle.warg_saved.specs.MapNames.{text_name, text_named}
-use Rattle.warg_saved.specs.SavedPermissions.{permissions_json, permissions_in}
-use Rattle.warg_saved.specs.Backs.{AreBack}
-use Rattle.warg_saved.proofs.CanonicalTexts.{gives_reads}
-use Rattle.warg_saved.proofs.Optional.{same_option}
-use Rattle.warg_saved.proofs.TextSteps.{gives_fault, gives_text, written}
-use Rattle.warg_saved.proofs.MapsBack.{no_versions, always}
+use Rattle.warg_saved_states.specs.Maps.{put_pairs}
+use Rattle.warg_saved_states.specs.MapNames.{text_name, text_named}
+use Rattle.warg_saved_states.specs.SavedPermissions.{permissions_json, permissions_in}
+use Rattle.warg_saved_states.specs.Backs.{AreBack}
+use Rattle.warg_saved_states.proofs.CanonicalTexts.{gives_reads}
+use Rattle.warg_saved_states.proofs.Optional.{same_option}
+use Rattle.warg_saved_states.proofs.TextSteps.{gives_fault, gives_text, written}
+use Rattle.warg_saved_states.proofs.MapsBack.{no_versions, always}
 use Rattle.warg_log.specs.HeadJson.{head_json}
 use Rattle.warg_operator_log.specs.NamespaceJson.{saved_namespace_json, saved_namespace_in}
 use Rattle.warg_operator_log.specs.SavedState.{state_json}

@@ -1,12 +1,12 @@
 use Rattle.std.proofs.Common.{ℕ, List, subst, ◌∙◌}
-use Rattle.warg_json.specs.JsonTexts.{key_in, key_json}
+use Rattle.warg_crypto.specs.Json.JsonTexts.{key_in, key_json}
 use Rattle.warg_crypto.specs.NamedBytes.{NamedBytes}
 use Rattle.warg_permissions.specs.OperatorPermissions.{permission_in, permission_text, same_permission}
 use Rattle.warg_permissions.specs.declared.operator.Permission.{Permission}
-use Rattle.warg_saved.specs.Backs.{AreBack}
-use Rattle.warg_saved.specs.MapNames.{text_name, text_named}
-use Rattle.warg_saved.specs.SavedPermissions.{permissions_in, permissions_json}
-use Rattle.warg_saved.proofs.MapsBack.{no_versions}
+use Rattle.warg_saved_states.specs.Backs.{AreBack}
+use Rattle.warg_saved_states.specs.MapNames.{text_name, text_named}
+use Rattle.warg_saved_states.specs.SavedPermissions.{permissions_in, permissions_json}
+use Rattle.warg_saved_states.proofs.MapsBack.{no_versions}
 use Rattle.warg_operator_log.specs.NamespaceJson.{saved_namespace_in, saved_namespace_json}
 use Rattle.warg_operator_log.specs.NamespaceMap.{HasKebabNames}
 use Rattle.warg_operator_log.specs.Namespaces.{Namespace}

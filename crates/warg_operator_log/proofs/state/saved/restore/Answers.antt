@@ -1,7 +1,7 @@
 use Rattle.std.proofs.Common.{ℕ, List, sym, subst, ◌∙◌}
 use Rattle.warg_permissions.specs.OperatorPermissions.{same_permission}
 use Rattle.warg_permissions.specs.declared.operator.Permission.{Permission}
-use Rattle.warg_saved.proofs.Optional.{same_pairs}
+use Rattle.warg_saved_states.proofs.Optional.{same_pairs}
 use Rattle.warg_log.specs.Rules.{IsCoherent}
 use Rattle.warg_operator_log.specs.Namespaces.{Namespace, rules}
 use Rattle.warg_operator_log.specs.SavedParts.{parts_view}

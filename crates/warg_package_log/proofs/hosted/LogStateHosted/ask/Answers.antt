@@ -1,6 +1,6 @@
 use Rattle.warg_permissions.specs.PackagePermissions.{same_permission}
-use Rattle.warg_records.specs.PackageEntries.{record_data}
-use Rattle.warg_records.specs.PackageReading.{package_record_of}
+use Rattle.warg_log_records.specs.PackageEntries.{record_data}
+use Rattle.warg_log_records.specs.PackageReading.{package_record_of}
 use Rattle.warg_log.proofs.AskingLaws.{asks-honest, refused-honest}
 use Rattle.warg_package_log.specs.Releases.{rules}
 use Rattle.warg_package_log.specs.State.{view_of, offence_of}

@@ -1,9 +1,9 @@
 use Rattle.std.proofs.Common.{◌≡◌, sym, ◌∙◌, codes}
 use Rattle.serde_json.specs.Data.{object, put}
 use Rattle.serde_json.specs.View.{members_view, view}
-use Rattle.warg_json.specs.JsonTexts.{hash_in}
-use Rattle.warg_json.specs.MemberLaws.{read_again}
-use Rattle.warg_json.specs.JsonLaws.{ok_same}
+use Rattle.warg_crypto.specs.Json.JsonTexts.{hash_in}
+use Rattle.warg_crypto.specs.Json.MemberLaws.{read_again}
+use Rattle.warg_crypto.specs.Json.JsonLaws.{ok_same}
 use Rattle.warg_package_log.specs.ReleaseJson.{status_member}
 use Rattle.warg_package_log.proofs.ReleaseJsonLaws.{released_back}
 use Rattle.warg_package_log.proofs.release.json.released_value.Goals as goal

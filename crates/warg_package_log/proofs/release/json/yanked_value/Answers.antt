@@ -1,10 +1,10 @@
 use Rattle.std.proofs.Common.{◌≡◌, sym, ◌∙◌, codes}
 use Rattle.serde_json.specs.Data.{object, put}
 use Rattle.serde_json.specs.View.{members_view, view}
-use Rattle.warg_json.specs.JsonTexts.{key_id_in}
-use Rattle.warg_time.specs.TimeJson.{time_in}
-use Rattle.warg_json.specs.MemberLaws.{read_again}
-use Rattle.warg_json.specs.JsonLaws.{ok_same}
+use Rattle.warg_crypto.specs.Json.JsonTexts.{key_id_in}
+use Rattle.warg_crypto.specs.Time.TimeJson.{time_in}
+use Rattle.warg_crypto.specs.Json.MemberLaws.{read_again}
+use Rattle.warg_crypto.specs.Json.JsonLaws.{ok_same}
 use Rattle.warg_package_log.specs.ReleaseJson.{status_member}
 use Rattle.warg_package_log.proofs.ReleaseJsonLaws.{yanked_back}
 use Rattle.warg_package_log.proofs.release.json.yanked_value.Goals as goal

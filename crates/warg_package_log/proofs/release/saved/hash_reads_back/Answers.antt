@@ -1,5 +1,5 @@
 use Rattle.std.proofs.Common.{sym, ap, length, ◌∙◌}
-use Rattle.warg_json.proofs.JsonTextLaws.{hash_reads_back}
+use Rattle.warg_crypto.proofs.JsonLemmas.JsonTextLaws.{hash_reads_back}
 use Rattle.warg_package_log.proofs.release.saved.hash_reads_back.Goals as goal
 
 pub returns : goal.returns

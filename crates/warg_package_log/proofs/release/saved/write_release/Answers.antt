@@ -1,8 +1,8 @@
 use Rattle.std.proofs.Common.{◌++◌, ap, ◌∙◌, string_bytes}
 use Rattle.semver.specs.Identifiers.{parts_text}
 use Rattle.warg_crypto.specs.HashText.{hash_text}
-use Rattle.warg_saved.specs.WriteLaws.{after, after_all, nothing}
-use Rattle.warg_saved.specs.Writes.{tokens_of}
+use Rattle.warg_saved_states.specs.WriteLaws.{after, after_all, nothing}
+use Rattle.warg_saved_states.specs.Writes.{tokens_of}
 use Rattle.warg_package_log.specs.ReleaseMap.{release_view}
 use Rattle.warg_package_log.proofs.ReleaseTokens.{release_object, release_whole}
 use Rattle.warg_package_log.proofs.release.saved.write_release.Goals as goal

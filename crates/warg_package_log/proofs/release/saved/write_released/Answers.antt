@@ -1,7 +1,7 @@
 use Rattle.std.proofs.Common.{◌++◌, refl, ap, ◌∙◌, codes}
 use Rattle.serde_json.specs.Data.{no_members, member, object, string}
-use Rattle.warg_saved.specs.Writes.{tokens_of}
-use Rattle.warg_saved.specs.WriteLaws.{after, nothing}
+use Rattle.warg_saved_states.specs.Writes.{tokens_of}
+use Rattle.warg_saved_states.specs.WriteLaws.{after, nothing}
 use Rattle.warg_package_log.proofs.release.saved.write_released.Goals as goal
 
 pub returns : goal.returns

@@ -1,7 +1,7 @@
 use Rattle.std.proofs.Common.{◌++◌, ap, ◌∙◌, string_bytes}
-use Rattle.warg_saved.specs.Writes.{tokens_of}
+use Rattle.warg_saved_states.specs.Writes.{tokens_of}
 use Rattle.warg_package_log.proofs.ReleaseTokens.{yanked_object, yanked_whole}
-use Rattle.warg_saved.specs.WriteLaws.{after, nothing}
+use Rattle.warg_saved_states.specs.WriteLaws.{after, nothing}
 use Rattle.warg_package_log.proofs.release.saved.write_yanked.Goals as goal
 
 pub returns : goal.returns

@@ -1,7 +1,7 @@
 use Rattle.std.proofs.Common.{◌≡◌}
 use Rattle.std.specs.List.{list_any}
 use Rattle.semver.specs.Identifiers.{parts_of}
-use Rattle.warg_json.specs.Pairs.{plain_pairs}
+use Rattle.warg_crypto.specs.Json.Pairs.{plain_pairs}
 use Rattle.warg_package_log.specs.ReleaseMap.{release_view}
 use Rattle.warg_package_log.specs.SavedState.{is_misfiled}
 use Rattle.warg_package_log.proofs.state.saved.has_misfiled.Given as goal

@@ -1,13 +1,13 @@
 use Rattle.std.proofs.Common.{ℕ, List, [], ◌∷◌, ap, sym, subst, ◌∙◌}
-use Rattle.warg_json.specs.Json.{Version}
-use Rattle.warg_json.specs.JsonTexts.{key_in, key_json}
+use Rattle.warg_crypto.specs.Json.Json.{Version}
+use Rattle.warg_crypto.specs.Json.JsonTexts.{key_in, key_json}
 use Rattle.warg_crypto.specs.NamedBytes.{NamedBytes}
 use Rattle.warg_permissions.specs.PackagePermissions.{permission_in, permission_text, same_permission}
 use Rattle.warg_permissions.specs.declared.package.Permission.{Permission}
-use Rattle.warg_saved.specs.Backs.{AreBack, AreVersionsBack}
-use Rattle.warg_saved.specs.MapNames.{text_name, text_named, version_name, version_named}
-use Rattle.warg_saved.specs.SavedPermissions.{permissions_in, permissions_json}
-use Rattle.warg_saved.proofs.MapsBack.{no_versions}
+use Rattle.warg_saved_states.specs.Backs.{AreBack, AreVersionsBack}
+use Rattle.warg_saved_states.specs.MapNames.{text_name, text_named, version_name, version_named}
+use Rattle.warg_saved_states.specs.SavedPermissions.{permissions_in, permissions_json}
+use Rattle.warg_saved_states.proofs.MapsBack.{no_versions}
 use Rattle.warg_package_log.specs.ReleaseJson.{release_in, release_json}
 use Rattle.warg_package_log.specs.Releases.{ReleaseView}
 use Rattle.warg_package_log.specs.SavedState.{named_releases}

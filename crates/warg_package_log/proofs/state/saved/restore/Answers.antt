@@ -1,7 +1,7 @@
 use Rattle.std.proofs.Common.{ℕ, List, sym, subst, ◌∙◌}
 use Rattle.warg_permissions.specs.PackagePermissions.{same_permission}
 use Rattle.warg_permissions.specs.declared.package.Permission.{Permission}
-use Rattle.warg_saved.proofs.Optional.{same_pairs}
+use Rattle.warg_saved_states.proofs.Optional.{same_pairs}
 use Rattle.warg_log.specs.Rules.{IsCoherent}
 use Rattle.warg_package_log.specs.Releases.{ReleaseView, rules}
 use Rattle.warg_package_log.specs.SavedParts.{parts_view}

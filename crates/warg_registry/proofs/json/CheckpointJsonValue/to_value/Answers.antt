@@ -1,9 +1,9 @@
 use Rattle.std.proofs.Common.{◌≡◌, sym, ◌∙◌, rules, codes}
 use Rattle.serde_json.specs.Data.{no_members, object, put}
 use Rattle.serde_json.specs.View.{members_view, view}
-use Rattle.warg_json.specs.JsonTexts.{hash_in}
-use Rattle.warg_json.specs.MemberLaws.{read_again}
-use Rattle.warg_json.specs.Numbers.{number_in}
+use Rattle.warg_crypto.specs.Json.JsonTexts.{hash_in}
+use Rattle.warg_crypto.specs.Json.MemberLaws.{read_again}
+use Rattle.warg_crypto.specs.Json.Numbers.{number_in}
 use Rattle.warg_registry.proofs.RegistryJsonLaws.{checkpoint_back}
 use Rattle.warg_registry.proofs.json.CheckpointJsonValue.to_value.Goals as goal
 

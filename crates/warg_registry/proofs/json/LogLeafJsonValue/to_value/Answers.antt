@@ -1,8 +1,8 @@
 use Rattle.std.proofs.Common.{◌≡◌, sym, ◌∙◌, rules, codes}
 use Rattle.serde_json.specs.Data.{no_members, object, put}
 use Rattle.serde_json.specs.View.{members_view, view}
-use Rattle.warg_json.specs.MemberLaws.{read_again}
-use Rattle.warg_records.specs.RecordIdJson.{record_id_in}
+use Rattle.warg_crypto.specs.Json.MemberLaws.{read_again}
+use Rattle.warg_log_records.specs.RecordIdJson.{record_id_in}
 use Rattle.warg_registry.specs.RegistryJson.{log_id_in}
 use Rattle.warg_registry.proofs.RegistryJsonLaws.{log_leaf_back}
 use Rattle.warg_registry.proofs.json.LogLeafJsonValue.to_value.Goals as goal

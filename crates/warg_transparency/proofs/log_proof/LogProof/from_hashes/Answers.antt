@@ -4,7 +4,7 @@ use Rattle.std.specs.Simd.{first_chunks}
 use Rattle.std.proofs.lemmas.List.{take_more}
 use Rattle.std.proofs.Math.Seq.{take-length}
 use Rattle.warg_merkle.proofs.Sound.{each_long}
-use Rattle.warg_map_proof.proofs.Chunks.{length-concat, chunks-concat, concat-push}
+use Rattle.warg_merkle.proofs.MapProofLemmas.Chunks.{length-concat, chunks-concat, concat-push}
 use Rattle.warg_transparency.proofs.log_proof.LogProof.from_hashes.Goals as goal
 
 pub loop-hash-preserved : goal.loop-hash-preserved

@@ -2,7 +2,7 @@ use Rattle.std.proofs.Common.{◌≡◌, ◌*◌, ◌/◌, ◌≤◌, ℕ, zero,
 use Rattle.std.specs.List.{concat}
 use Rattle.std.specs.Simd.{first_chunks}
 use Rattle.std.proofs.lemmas.Result.{err_from_is_err_and}
-use Rattle.warg_map_proof.proofs.Chunks.{length-concat, concat-chunks}
+use Rattle.warg_merkle.proofs.MapProofLemmas.Chunks.{length-concat, concat-chunks}
 use Rattle.warg_transparency.specs.Texts.{hashes_in, log_proof_of, read_decoded}
 use Rattle.warg_transparency.proofs.TextLemmas.{hashes_many, hashes_part, hashes_read, log_read, log_too_long, not_decoded}
 use Rattle.warg_transparency.proofs.log_proof.LogProof.parse.Goals as goal

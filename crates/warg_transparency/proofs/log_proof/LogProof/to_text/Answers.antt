@@ -1,6 +1,6 @@
 use Rattle.std.proofs.Common.{◌≡◌, ◌/◌, ◌%◌, length, string_bytes, refl, sym, ◌∙◌, ap, arith}
 use Rattle.std.specs.List.{concat}
-use Rattle.warg_map_proof.proofs.Chunks.{concat-chunks}
+use Rattle.warg_merkle.proofs.MapProofLemmas.Chunks.{concat-chunks}
 use Rattle.warg_transparency.proofs.TextLemmas.{log_text_back}
 use Rattle.warg_transparency.proofs.log_proof.LogProof.to_text.Goals as goal
 

@@ -1,7 +1,7 @@
 use Rattle.std.proofs.Common.{◌≡◌, ◌/◌, ◌%◌, ℕ, List, length, sym, ◌∙◌, ap, arith}
 use Rattle.std.specs.List.{concat}
 use Rattle.std.specs.Simd.{first_chunks}
-use Rattle.warg_map_proof.proofs.Chunks.{concat-chunks}
+use Rattle.warg_merkle.proofs.MapProofLemmas.Chunks.{concat-chunks}
 use Rattle.warg_transparency.proofs.log_proof.LogProofDisplay.fmt.Goals as goal
 
 flat : (hashes : List (List ℕ)) (bytes : List ℕ) → length bytes % 32 ≡ 0 → first_chunks 32 (length bytes / 32) bytes ≡ hashes → concat hashes ≡ bytes

@@ -1,7 +1,7 @@
 use Rattle.std.proofs.Common.{Err, inl, inr, sym, ◌∙◌, ap, arith}
 use Rattle.std.proofs.lemmas.Result.{err_from_is_err_and}
 use Rattle.sha2.specs.Sha256.{sha256}
-use Rattle.warg_map_proof.specs.ShortForms.{path_in}
+use Rattle.warg_merkle.specs.MapProof.ShortForms.{path_in}
 use Rattle.warg_transparency.specs.Texts.{map_proof_of, read_decoded, text_fault_of, with_text_fault}
 use Rattle.warg_transparency.proofs.TextLemmas.{map_read, map_too_long, not_decoded}
 use Rattle.warg_transparency.proofs.map_proof.MapProof.parse.Goals as goal

@@ -1,8 +1,8 @@
 use Rattle.std.proofs.Common.{◌≡◌, ◌∙◌, Ok, rules, codes, subst, ap}
 use Rattle.serde_json.specs.Data.{no_members, put}
 use Rattle.serde_json.specs.View.{members_view, view}
-use Rattle.warg_json.specs.JsonTexts.{key_id_in, signature_in}
-use Rattle.warg_json.specs.MemberLaws.{read_again}
+use Rattle.warg_crypto.specs.Json.JsonTexts.{key_id_in, signature_in}
+use Rattle.warg_crypto.specs.Json.MemberLaws.{read_again}
 use Rattle.warg_envelope.specs.EnvelopeData.{EnvelopeData}
 use Rattle.warg_envelope.specs.EnvelopeJson.{AreBodyMembers}
 use Rattle.warg_envelope.proofs.proto_envelope.body.json.body_members.Goals as goal

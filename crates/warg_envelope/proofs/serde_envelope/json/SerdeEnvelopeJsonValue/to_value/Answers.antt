@@ -1,8 +1,8 @@
 use Rattle.std.proofs.Common.{◌≡◌, sym, ◌∙◌, rules, codes}
 use Rattle.serde_json.specs.Data.{no_members, object, put}
 use Rattle.serde_json.specs.View.{members_view, view}
-use Rattle.warg_json.specs.JsonTexts.{key_id_in, signature_in}
-use Rattle.warg_json.specs.MemberLaws.{read_again}
+use Rattle.warg_crypto.specs.Json.JsonTexts.{key_id_in, signature_in}
+use Rattle.warg_crypto.specs.Json.MemberLaws.{read_again}
 use Rattle.warg_envelope.specs.EnvelopeJson.{SignedContents}
 use Rattle.warg_envelope.proofs.EnvelopeJsonLaws.{signed_back}
 use Rattle.warg_envelope.proofs.serde_envelope.json.SerdeEnvelopeJsonValue.to_value.Goals as goal

@@ -1,10 +1,10 @@
 use Rattle.std.proofs.Common.{◌≡◌, sym, ◌∙◌, rules, codes}
 use Rattle.serde_json.specs.Data.{no_members, object, put}
 use Rattle.serde_json.specs.View.{members_view, view}
-use Rattle.warg_time.specs.TimeJson.{time_in}
-use Rattle.warg_json.specs.MemberLaws.{read_again}
-use Rattle.warg_json.specs.Members.{put_some}
-use Rattle.warg_records.specs.RecordIdJson.{record_id_in}
+use Rattle.warg_crypto.specs.Time.TimeJson.{time_in}
+use Rattle.warg_crypto.specs.Json.MemberLaws.{read_again}
+use Rattle.warg_crypto.specs.Json.Members.{put_some}
+use Rattle.warg_log_records.specs.RecordIdJson.{record_id_in}
 use Rattle.warg_log.proofs.HeadJsonLaws.{head_back}
 use Rattle.warg_log.proofs.head.json.HeadJsonValue.to_value.Goals as goal
 

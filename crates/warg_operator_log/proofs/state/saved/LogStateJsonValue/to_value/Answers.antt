@@ -1,8 +1,8 @@
 use Rattle.std.proofs.Common.{ℕ, List, [], ap, sym, subst, ◌∙◌}
 use Rattle.serde_json.specs.View.{view}
-use Rattle.warg_json.specs.Json.{AreReadBack, ReadsBack, json_result}
+use Rattle.warg_crypto.specs.Json.Json.{AreReadBack, ReadsBack, json_result}
 use Rattle.warg_permissions.specs.declared.operator.Permission.{Permission}
-use Rattle.warg_key_maps.specs.AuthorityData.{AuthorityData}
+use Rattle.warg_permissions.specs.KeyMaps.AuthorityData.{AuthorityData}
 use Rattle.warg_log.specs.States.{State}
 use Rattle.warg_operator_log.specs.Namespaces.{Namespace}
 use Rattle.warg_operator_log.specs.SavedBack.{AreEqual}

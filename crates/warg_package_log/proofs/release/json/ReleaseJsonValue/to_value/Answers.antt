@@ -1,10 +1,10 @@
 use Rattle.std.proofs.Common.{◌≡◌, sym, ◌∙◌, rules, codes}
 use Rattle.serde_json.specs.Data.{no_members, object, put}
 use Rattle.serde_json.specs.View.{members_view, view}
-use Rattle.warg_json.specs.JsonTexts.{key_id_in}
-use Rattle.warg_time.specs.TimeJson.{time_in}
-use Rattle.warg_json.specs.MemberLaws.{read_again}
-use Rattle.warg_records.specs.RecordIdJson.{record_id_in}
+use Rattle.warg_crypto.specs.Json.JsonTexts.{key_id_in}
+use Rattle.warg_crypto.specs.Time.TimeJson.{time_in}
+use Rattle.warg_crypto.specs.Json.MemberLaws.{read_again}
+use Rattle.warg_log_records.specs.RecordIdJson.{record_id_in}
 use Rattle.warg_package_log.specs.ReleaseMap.{release_view}
 use Rattle.warg_package_log.specs.ReleaseJson.{release_state_in}
 use Rattle.warg_package_log.proofs.ReleaseJsonLaws.{release_back}

@@ -2,8 +2,8 @@ use Rattle.std.proofs.Common.{refl, sym, subst}
 use Rattle.std.specs.Prelude.{◌≡◌}
 use Rattle.std.proofs.lemmas.Result.{on_ok_weaker}
 use Rattle.warg_crypto.specs.declared.hash.AnyHash.{AnyHash}
-use Rattle.warg_json.specs.Json.{IsReadBack}
-use Rattle.warg_json.specs.JsonTexts.{hash_in, hash_json}
+use Rattle.warg_crypto.specs.Json.Json.{IsReadBack}
+use Rattle.warg_crypto.specs.Json.JsonTexts.{hash_in, hash_json}
 use Rattle.warg_package_log.specs.ReleaseJson.{release_state_in, release_state_json}
 use Rattle.warg_package_log.specs.ReleaseMap.{release_view}
 use Rattle.warg_package_log.specs.declared.release.ReleaseState.{ReleaseState}

@@ -1,8 +1,8 @@
 use Rattle.std.proofs.Common.{List, ap, sym, subst, ◌∙◌}
 use Rattle.serde_json.specs.View.{view}
-use Rattle.warg_json.specs.Json.{AreReadBack, ReadsBack, json_result}
+use Rattle.warg_crypto.specs.Json.Json.{AreReadBack, ReadsBack, json_result}
 use Rattle.warg_permissions.specs.declared.package.Permission.{Permission}
-use Rattle.warg_key_maps.specs.AuthorityData.{AuthorityData}
+use Rattle.warg_permissions.specs.KeyMaps.AuthorityData.{AuthorityData}
 use Rattle.warg_log.specs.States.{State}
 use Rattle.warg_package_log.specs.Releases.{ReleaseView}
 use Rattle.warg_package_log.specs.SavedBack.{AreEqual, saved_versions}

@@ -1,8 +1,8 @@
 use Rattle.std.proofs.Common.{◌≡◌, sym, ◌∙◌, codes}
 use Rattle.serde_json.specs.Data.{object, put}
 use Rattle.serde_json.specs.View.{members_view, view}
-use Rattle.warg_json.specs.MemberLaws.{read_again}
-use Rattle.warg_json.specs.Numbers.{number_in}
+use Rattle.warg_crypto.specs.Json.MemberLaws.{read_again}
+use Rattle.warg_crypto.specs.Json.Numbers.{number_in}
 use Rattle.warg_envelope.proofs.EnvelopeJsonLaws.{published_back}
 use Rattle.warg_envelope.proofs.proto_envelope.body.json.PublishedProtoEnvelopeBodyJsonValue.to_value.Goals as goal
 

@@ -1,0 +1,188 @@
+//! What the commands say of operator logs.
+
+ghost use Rattle.std.specs.Prelude.{◌≡◌, string_bytes, IfOk};
+ghost use Rattle.warg_protocol.specs.Operator.{namespace_view};
+ghost use Rattle.tool_answers.specs.ShownWords.{namespace_line, namespace_lines, namespace_words};
+
+use crate::key_ids::key_ids;
+use crate::kind::ToolLog;
+use crate::resealed::resealed;
+use crate::wording::{EntryWords, key_lines, permission_words, record_line, time_words};
+use std::alloc::{AllocError, Global};
+use warg_log_records::laws::equality;
+use warg_permissions::LogPermission;
+use warg_printable::printed_line;
+use warg_protocol::operator::{
+    LogState, NamespaceState, Namespaces, OperatorEntry, OperatorRecord, Permission,
+    ValidationError,
+};
+use warg_protocol::signing::KeyID;
+use warg_protocol::{Encode, JsonError, JsonTextError, ProtoEnvelope};
+
+impl EntryWords for OperatorEntry {
+    ghost use Rattle.warg_protocol.specs.Operator.{entry_data};
+    ghost use Rattle.tool_answers.specs.ShownWords.{operator_entry_words};
+
+    ghost words_of = { λ entry. operator_entry_words (entry_data entry) };
+
+    fn words(&self, alloc: Global) -> Result<String, AllocError> {
+        match self {
+            OperatorEntry::Init { key, .. } => format!(in alloc; "init {key}"),
+            OperatorEntry::GrantFlat { key, permissions } => {
+                let permissions = permission_words(alloc, permissions.as_slice())?;
+                format!(in alloc; "grant {key}{permissions}")
+            }
+            OperatorEntry::RevokeFlat {
+                key_id,
+                permissions,
+            } => {
+                let permissions = permission_words(alloc, permissions.as_slice())?;
+                format!(in alloc; "revoke {key_id}{permissions}")
+            }
+            OperatorEntry::DefineNamespace { namespace } => {
+                format!(in alloc; "define {namespace}")
+            }
+            OperatorEntry::ImportNamespace {
+                namespace,
+                registry,
+            } => format!(in alloc; "import {namespace} {registry}"),
+        }
+    }
+}
+
+// What is said of a namespace: its name and what it is.
+fn namespace_words(alloc: Global, name: &str, state: &NamespaceState) -> Result<String, AllocError>
+    ensures { IfOk result (λ said. string_bytes said ≡
+        namespace_words name.now (namespace_view state.now)) }
+{
+    match state {
+        NamespaceState::Defined => format!(in alloc; "namespace {name} defined"),
+        NamespaceState::Imported { registry } => {
+            format!(in alloc; "namespace {name} imported from {registry}")
+        }
+    }
+}
+
+// The line of a namespace.
+fn namespace_line(alloc: Global, name: &str, state: &NamespaceState) -> Result<String, AllocError>
+    ensures { IfOk result (λ line. string_bytes line ≡
+        namespace_line name.now (namespace_view state.now)) }
+{
+    let said = namespace_words(alloc, name, state)?;
+    printed_line(alloc, said.as_str())
+}
+
+// A line for each namespace.
+fn namespace_lines(alloc: Global, namespaces: Namespaces<'_>) -> Result<String, AllocError>
+    ensures { IfOk result (λ text. string_bytes text ≡ namespace_lines namespaces.entry) }
+{
+    let mut text = String::new(alloc);
+    for (name, state) in namespaces {
+        let line = namespace_line(alloc, name, state)?;
+        text.push_str(line.as_str())?;
+    }
+    Ok(text)
+}
+
+impl ToolLog for LogState {
+    ghost use Rattle.std.proofs.Common.{ap, sym};
+    ghost use Rattle.std.proofs.lemmas.Simd.{map-map};
+    ghost use Rattle.std.specs.Prelude.{is_some, map};
+    ghost use Rattle.warg_protocol.specs.Json.{in_text, text_of as written_text};
+    ghost use Rattle.warg_protocol.specs.Operator.{entry_data, permission_text, record_data, state_in, state_json, view_of};
+    ghost use Rattle.warg_operator_log.specs.ErrorTexts.{error_text};
+    ghost use Rattle.tool_answers.specs.Explanations.{has_first_operator_entries};
+    ghost use Rattle.tool_answers.specs.ShownWords.{operator_entry_words, says_operator_words, shows_namespaces, words_at};
+    ghost use Rattle.tool_answers.specs.Words.{in_operator_order, operator_order};
+
+    ghost order = { operator_order };
+
+    ghost text_of = { permission_text };
+
+    ghost knows = { λ state key. (view_of state).state.authority.has_entry key };
+
+    ghost has_key = { λ state id. is_some ((view_of state).state.authority.key id) };
+
+    ghost json_of = { λ state. written_text (state_json state) };
+
+    ghost state_of = { in_text state_in };
+
+    ghost words_of = { λ it. record {
+      time = it.timestamp;
+      entries = map (λ entry. operator_entry_words (entry_data entry)) it.entries.items;
+    } };
+
+    ghost says_words = { says_operator_words };
+
+    ghost sentence_of = { error_text };
+
+    ghost has_first = { has_first_operator_entries };
+
+    ghost shows = { shows_namespaces };
+
+    fn permissions(alloc: Global) -> Result<Vec<Permission>, AllocError> {
+        Permission::all().to_vec(alloc)
+    }
+
+    fn permission_text(permission: Permission) -> &'static str {
+        permission.as_text()
+    }
+
+    fn has_entry(&self, key_id: &KeyID) -> bool {
+        self.key_permissions(key_id).is_some()
+    }
+
+    fn key_ids(&self, alloc: Global) -> Result<Vec<KeyID>, AllocError> {
+        key_ids(alloc, self.keys())
+    }
+
+    fn json_text(&self, alloc: Global) -> Result<String, JsonError> {
+        self.to_json(alloc)
+    }
+
+    fn of_json_text(alloc: Global, text: &str) -> Result<LogState, JsonTextError> {
+        LogState::from_json(alloc, text)
+    }
+
+    fn error_sentence(alloc: Global, error: &ValidationError) -> Result<String, AllocError> {
+        error.to_string(alloc)
+    }
+
+    fn time_text(alloc: Global, record: &OperatorRecord) -> Result<String, AllocError> {
+        time_words(alloc, record.timestamp)
+    }
+
+    fn record_line(
+        alloc: Global,
+        envelope: &ProtoEnvelope<OperatorRecord>,
+    ) -> Result<String, AllocError> {
+        record_line(alloc, envelope)
+    }
+
+    fn first_entries(
+        alloc: Global,
+        envelope: &ProtoEnvelope<OperatorRecord>,
+        count: usize,
+    ) -> Result<Option<ProtoEnvelope<OperatorRecord>>, AllocError> {
+        equality();
+        let mut record = envelope.contents().clone()?;
+        record.entries.truncate(count);
+        let content = record.encode(alloc)?;
+        resealed(alloc, &record, content, envelope)
+    }
+
+    fn state_text(&self, alloc: Global) -> Result<String, AllocError> {
+        let mut text = key_lines(alloc, self.keys())?;
+        let namespaces = namespace_lines(alloc, self.namespaces())?;
+        text.push_str(namespaces.as_str())?;
+        Ok(text)
+    }
+
+    ghost says_its_words = { λ it content e. (
+      record_data it,
+      e,
+      ap (words_at it.timestamp) (sym (map-map operator_entry_words entry_data it.entries.items)),
+    ) };
+
+    ghost in_order = { in_operator_order };
+}

@@ -1,0 +1,13 @@
+pub mod JsonLemmas
+pub mod AppendLemmas
+pub mod MadeLemmas
+pub mod FirstLineLemmas
+pub mod ManyAuditLemmas
+pub mod DemandLemmas
+pub mod AuditLemmas
+pub mod AuditFileLemmas
+pub mod BesideLemmas
+pub mod AddedLineLemmas
+pub mod AdditionLemmas
+pub mod ClaimLemmas
+pub mod MakeLemmas

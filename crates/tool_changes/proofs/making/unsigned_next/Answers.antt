@@ -1,0 +1,11 @@
+use Rattle.tool_changes.specs.MadeRecords.{taken}
+use Rattle.tool_changes.proofs.MadeLemmas.{refusal_printed}
+use Rattle.tool_changes.proofs.making.unsigned_next.Goals as goal
+
+pub returns-in_ok-unsigned_line-in-Ok : goal.returns-in_ok-unsigned_line-in-Ok
+returns-in_ok-unsigned_line-in-Ok g c = λ fault_name offence_name shown reports.
+    taken c.in-Ok.ensures.taken c.in_ok-unsigned_line-in-Ok.ensures
+
+pub returns-in-Err : goal.returns-in-Err
+returns-in-Err g c = λ fault_name offence_name shown reports.
+    refusal_printed _ _ _ _ _ c.in-Err.stop (c.in-Err.ensures.refused fault_name offence_name shown reports)

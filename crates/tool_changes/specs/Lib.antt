@@ -1,0 +1,11 @@
+pub mod LineForms
+pub mod JsonLines
+pub mod Audits
+pub mod Latest
+pub mod Additions
+pub mod Appends
+pub mod ManyAudits
+pub mod MadeRecords
+pub mod ClaimTexts
+pub mod Tasks
+pub mod Make

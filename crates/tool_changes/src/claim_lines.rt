@@ -1,0 +1,131 @@
+//! `claims`: what a host has to verify of a log, a line a record.
+
+ghost use Rattle.std.specs.Prelude.{◌≡◌, ◌++◌, false, IfOk, OnOk, is_none, map, string_bytes};
+ghost use Rattle.warg_protocol.specs.Logs.{cause_named_by, envelope_fault_of};
+ghost use Rattle.std.specs.Vec.{vec_items};
+ghost use Rattle.warg_claims.specs.Verified.Claims.{claim_text};
+ghost use Rattle.warg_protocol.specs.Logs.{envelope_of};
+ghost use Rattle.warg_audit.specs.Files.Answers.{Answers};
+ghost use Rattle.tool_changes.specs.ClaimTexts.{IsClaimList, IsClaimsAnswer};
+ghost use Rattle.warg_audit.specs.Files.RecordLines.{record_lines};
+ghost use Rattle.warg_audit.specs.Files.Texts.{all_lines, line, no};
+
+use std::alloc::{AllocError, Global};
+use tool_answers::judged::{file_strings, refusal_sentence};
+use tool_answers::kind::ToolLog;
+use warg_audit::files::answer::Answer;
+use warg_audit::files::input::Input;
+use warg_audit::files::stop::Stop;
+use warg_audit::refusal_reply;
+use warg_claims::verified::Claim;
+use warg_claims::{LogClaims, claims};
+use warg_protocol::{ParseEnvelopeError, RunCause, RunError};
+use warg_replay::host::Hosted;
+
+// Appends the line of a claim.
+fn append_claim(alloc: Global, claim: &Claim, text: &mut String) -> Result<(), AllocError>
+    ensures { OnOk result (string_bytes text.new ≡ string_bytes text.old ++
+        line (claim_text claim.now)) }
+{
+    let said = claim.to_string(alloc)?;
+    text.push_str(said.as_str())?;
+    text.push('\n')
+}
+
+// The claims, a line each.
+fn claim_lines(alloc: Global, claims: &[Claim]) -> Result<String, AllocError>
+    ensures { IfOk result (λ text. string_bytes text ≡ all_lines (map claim_text claims.now)) }
+{
+    let mut text = String::new(alloc);
+    for claim in claims {
+        append_claim(alloc, claim, &mut text)?;
+    }
+    Ok(text)
+}
+
+// Whether memory was refused, so that the cause names nothing.
+fn is_out_of_memory<L: Hosted>(cause: &RunCause<L::Error>) -> bool
+    ensures { result ≡ is_none (cause_named_by (envelope_fault_of L.Record.fault_of)
+        L.offence_of cause.now) }
+{
+    match cause {
+        RunCause::Parse(error) => is_memory_fault::<L>(error),
+        RunCause::Validation(error) => L::is_out_of_memory(error),
+    }
+}
+
+// Whether memory was refused while an envelope was read.
+fn is_memory_fault<L: Hosted>(error: &ParseEnvelopeError) -> bool
+    ensures { result ≡ is_none (envelope_fault_of L.Record.fault_of error.now) }
+{
+    match error {
+        ParseEnvelopeError::OutOfMemory => true,
+        ParseEnvelopeError::ProtobufEnvelope(_)
+        | ParseEnvelopeError::Contents(_)
+        | ParseEnvelopeError::KeyID(_)
+        | ParseEnvelopeError::Signature(_) => false,
+    }
+}
+
+// The audit's line on a refused record, and the error's sentence.
+fn told_refusal<L: ToolLog>(
+    alloc: Global,
+    path: &str,
+    error: &RunError<L::Error>,
+) -> Result<String, AllocError> {
+    let reply = refusal_reply::<L>(alloc, error)?;
+    let sentence = refusal_sentence::<L>(alloc, path, error)?;
+    let line = reply.text();
+    format!(in alloc; "{line}{sentence}")
+}
+
+// The claims before a record that can't come next whatever its signature, as an answer; why, on standard error.
+fn cut_answer<L: ToolLog + Hosted>(
+    alloc: Global,
+    path: &str,
+    text: String,
+    count: usize,
+    cause: RunCause<L::Error>,
+) -> Result<Answer, Stop>
+    ensures { Answers (λ printed. (printed ≡ no (string_bytes text)) ×
+        (is_none (cause_named_by (envelope_fault_of L.Record.fault_of) L.offence_of cause)
+        ≡ false)) result }
+{
+    if is_out_of_memory::<L>(&cause) {
+        return Err(Stop::OutOfMemory);
+    }
+    let error = RunError {
+        index: count,
+        cause,
+    };
+    let told = told_refusal::<L>(alloc, path, &error)?;
+    Ok(Answer::new(alloc, text, 1).with_sentence(told))
+}
+
+// The claims of strings, up to the first record that can't come next whatever its signature.
+fn list_answer<L: ToolLog + Hosted>(
+    alloc: Global,
+    path: &str,
+    strings: &[Vec<u8>],
+) -> Result<Answer, Stop>
+    ensures { Answers (IsClaimList L.kind (envelope_of L.Record.read) (map vec_items strings.now))
+        result }
+{
+    let LogClaims { claims, refusal } = claims::<L>(alloc, strings);
+    let text = claim_lines(alloc, claims.as_slice())?;
+    match refusal {
+        None => Ok(Answer::new(alloc, text, 0)),
+        Some(cause) => cut_answer::<L>(alloc, path, text, claims.len(), cause),
+    }
+}
+
+/// The claims of the log in a file, up to the first record that can't come next whatever its signature.
+pub fn claims_answer<L: ToolLog + Hosted>(alloc: Global, input: Input<'_>) -> Result<Answer, Stop>
+    ensures { Answers (IsClaimsAnswer L.kind (envelope_of L.Record.read)
+        (record_lines input.entry.bytes.items)) result }
+{
+    match file_strings(alloc, input.path, input.bytes) {
+        Ok(strings) => list_answer::<L>(alloc, input.path, strings.as_slice()),
+        Err(stop) => Err(stop),
+    }
+}

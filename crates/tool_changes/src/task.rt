@@ -1,0 +1,85 @@
+//! The commands that list what is to be verified, make records, and add to logs.
+
+ghost use Rattle.std.specs.Prelude.{◌≡◌};
+ghost use Rattle.warg_protocol.specs.Logs.{envelope_of};
+ghost use Rattle.warg_audit.specs.Files.Answers.{Answers};
+ghost use Rattle.tool_changes.specs.ClaimTexts.{IsClaimsAnswer};
+ghost use Rattle.tool_changes.specs.MadeRecords.{IsMade};
+ghost use Rattle.tool_changes.specs.Tasks.{IsTaskAnswer, Leaves};
+ghost use Rattle.warg_audit.specs.Files.Unusable.{IsOfLines};
+ghost use Rattle.tool_answers.specs.Verdicts.{ForDisplay};
+
+use crate::append::append_answer;
+use crate::claim_lines::claims_answer;
+use crate::make::Worded;
+use crate::making::make_answer;
+use std::alloc::Global;
+use tool_answers::kind::ToolLog;
+use tool_words::{Draft, Task};
+use warg_audit::files::answer::Answer;
+use warg_audit::files::input::{Store, read_input, read_log};
+use warg_audit::files::stop::Stop;
+use warg_protocol::signing::Verifier;
+use warg_replay::host::Hosted;
+
+// The claims of the log in a file.
+fn claims_of_file<L: ToolLog + Hosted, S: Store>(
+    alloc: Global,
+    log: &str,
+    store: &mut S,
+) -> Result<Answer, Stop>
+    ensures answered { Answers (IsOfLines (S.files store.old) log.now
+        (IsClaimsAnswer L.kind (envelope_of L.Record.read))) result }
+    ensures kept { S.files store.new ≡ S.files store.old }
+{
+    match read_input(alloc, store, log) {
+        Ok(input) => claims_answer::<L>(alloc, input),
+        Err(stop) => Err(stop),
+    }
+}
+
+// The record that comes next in the log in a file.
+fn made_for_file<L: ToolLog + Worded, V: Verifier, S: Store>(
+    alloc: Global,
+    verifier: &V,
+    log: &str,
+    draft: &Draft<'_>,
+    store: &mut S,
+) -> Result<Answer, Stop>
+    ensures answered { ForDisplay L.view L.kind L.Record.read L.Record.fault_of L.offence_of
+        L.name_of L.lines_of (λ shown. Answers
+        (IsMade L.says L.lacks L.content L.prefix shown draft.now (V.belongs verifier.now)
+        (S.files store.old) log.now) result) }
+    ensures kept { S.files store.new ≡ S.files store.old }
+{
+    match read_log(alloc, store, log) {
+        Ok(input) => make_answer::<L, V>(alloc, verifier, input, draft),
+        Err(stop) => Err(stop),
+    }
+}
+
+/// What is answered when the task is done.
+pub fn task_answer<L: ToolLog + Hosted + Worded, V: Verifier, S: Store>(
+    alloc: Global,
+    verifier: &V,
+    task: &Task<'_>,
+    store: &mut S,
+) -> Result<Answer, Stop>
+    ensures answered { ForDisplay L.view L.kind L.Record.read L.Record.fault_of L.offence_of
+        L.name_of L.lines_of (λ shown. Answers
+        (IsTaskAnswer L.says L.lacks L.content L.prefix shown (V.belongs verifier.now)
+        (S.files store.old) (S.files store.new) task.now) result) }
+    ensures files { ForDisplay L.view L.kind L.Record.read L.Record.fault_of L.offence_of
+        L.name_of L.lines_of (λ shown. Leaves shown (V.belongs verifier.now)
+        (S.files store.old) (S.files store.new) task.now) }
+{
+    match task {
+        Task::Claims { log } => claims_of_file::<L, S>(alloc, log, store),
+        Task::Make { log, draft } => {
+            made_for_file::<L, V, S>(alloc, verifier, log, draft, store)
+        }
+        Task::Append { log, lines } => {
+            append_answer::<L, V, S>(alloc, verifier, log, lines, store)
+        }
+    }
+}

@@ -1,0 +1,48 @@
+use Rattle.std.proofs.Common.{Err}
+use Rattle.std.proofs.lemmas.Result.{err_from_is_err_and}
+use Rattle.tool_checkpoints.specs.Proofs.{IsCheckpoint, IsLeafOf, IsLogProof}
+use Rattle.tool_checkpoints.specs.Words.{IsNumber, by_value}
+use Rattle.tool_checkpoints.proofs.WordLemmas.{by_file, file_said, file_unsaid, words_said, words_unsaid}
+use Rattle.tool_checkpoints.proofs.verify.inclusion_answer.Goals as goal
+
+pub returns-in_err-leaf-clause-answered : goal.returns-in_err-leaf-clause-answered
+returns-in_err-leaf-clause-answered g c =
+    let p = err_from_is_err_and c.from_residual.result c.from_residual.ensures.1 in
+    let end = c.in_err-leaf.field-0.0 in
+    rw (p.1, p.2) (
+    words_unsaid (IsLeafOf c.args.leaf.now.log_id.now c.args.leaf.now.record_id.now) _ end c.in_err-leaf.ensures.stopped)
+
+pub returns-in_err-place-clause-answered : goal.returns-in_err-place-clause-answered
+returns-in_err-place-clause-answered g c =
+    let p = err_from_is_err_and c.from_residual-in_err-place.result c.from_residual-in_err-place.ensures.1 in
+    let end = c.in_err-place.field-0.0 in
+    rw (p.1, p.2) (
+    words_said (IsLeafOf c.args.leaf.now.log_id.now c.args.leaf.now.record_id.now) _ c.in_ok-leaf.leaf (Err end) c.in_ok-leaf.ensures.ok (
+    words_unsaid (IsNumber c.args.place.now) _ end c.in_err-place.ensures.stopped))
+
+pub returns-in_err-checkpoint-clause-answered : goal.returns-in_err-checkpoint-clause-answered
+returns-in_err-checkpoint-clause-answered g c =
+    let p = err_from_is_err_and c.from_residual-in_err-checkpoint.result c.from_residual-in_err-checkpoint.ensures.1 in
+    let end = c.in_err-checkpoint.field-0.0 in
+    rw (p.1, p.2) (
+    words_said (IsLeafOf c.args.leaf.now.log_id.now c.args.leaf.now.record_id.now) _ c.in_ok-leaf.leaf (Err end) c.in_ok-leaf.ensures.ok (
+    words_said (IsNumber c.args.place.now) _ c.in_ok-place.place (Err end) c.in_ok-place.ensures.ok (
+    file_unsaid _ _ IsCheckpoint _ end c.in_err-checkpoint.ensures.stopped)))
+
+pub returns-in_err-proof-clause-answered : goal.returns-in_err-proof-clause-answered
+returns-in_err-proof-clause-answered g c =
+    let p = err_from_is_err_and c.from_residual-in_err-proof.result c.from_residual-in_err-proof.ensures.1 in
+    let end = c.in_err-proof.field-0.0 in
+    rw (p.1, p.2) (
+    words_said (IsLeafOf c.args.leaf.now.log_id.now c.args.leaf.now.record_id.now) _ c.in_ok-leaf.leaf (Err end) c.in_ok-leaf.ensures.ok (
+    words_said (IsNumber c.args.place.now) _ c.in_ok-place.place (Err end) c.in_ok-place.ensures.ok (
+    file_said _ _ IsCheckpoint _ c.in_ok-checkpoint.checkpoint (Err end) c.in_ok-checkpoint.ensures.ok (
+    file_unsaid _ _ IsLogProof _ end (rw c.in_ok-checkpoint.ensures.kept at c.in_err-proof.ensures.stopped)))))
+
+pub returns-clause-answered : goal.returns-clause-answered
+returns-clause-answered g c =
+    by_value c.in_ok-leaf.leaf c.in_ok-leaf.ensures.ok (
+    by_value c.in_ok-place.place c.in_ok-place.ensures.ok (
+    by_file _ _ IsCheckpoint _ c.in_ok-checkpoint.checkpoint c.in_ok-checkpoint.ensures.ok _ (
+    by_file _ _ IsLogProof _ c.in_ok-proof.proof (rw c.in_ok-checkpoint.ensures.kept at c.in_ok-proof.ensures.ok) _ (
+    c.in_ok-inclusion_verdict.ensures))))

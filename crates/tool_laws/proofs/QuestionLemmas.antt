@@ -1,0 +1,197 @@
+-- What is answered to questions about a log.
+use Rattle.std.proofs.Common.{◌≡◌, ℕ, Bool, true, false, List, [], ◌∷◌, ◌++◌, codes, length, map, Option, Some, None, Result, Ok, Err, refl}
+use Rattle.std.specs.Prelude.{filter}
+use Rattle.std.specs.Fmt.{decimal}
+use Rattle.warg_protocol.specs.Json.{JsonError, JsonTextError}
+use Rattle.warg_protocol.specs.Logs.{EnvelopeData, SignatureRelation, contents}
+use Rattle.warg_protocol.specs.Records.{RecordId, hash_text}
+use Rattle.warg_replay.specs.declared.audited_log.comparison.Comparison.{Comparison}
+use Rattle.warg_replay.specs.declared.audited_log.comparison.Comparison.TheVariants.{Collision, Fork, LeftIsPrefix, RightIsPrefix, Same}
+use Rattle.warg_replay.specs.declared.audited_log.link.Link.{Link}
+use Rattle.warg_audit.specs.LogAnswers.{head_text, refusal}
+use Rattle.warg_audit.specs.Printouts.{Printout, bad_line}
+use Rattle.tool_answers.specs.ShownWords.{RecordWords}
+use Rattle.tool_answers.specs.Texts.{AreLinkLines, IsChainPrinted, IsComparisonPrinted, IsForkText, IsLinkLine, IsNamedLine, fork_line, json_text, permissions_text, receiver}
+use Rattle.tool_answers.specs.Verdicts.{IsPrintedOf, envelopes_of}
+use Rattle.tool_answers.specs.Words.{IsByWord, by_value, unsaid}
+use Rattle.warg_audit.specs.Files.Files.{Files}
+use Rattle.warg_audit.specs.Files.Texts.{no, side_text, yes}
+use Rattle.warg_crypto.specs.declared.json.error.Incoherence.{Incoherence}
+use Rattle.warg_crypto.specs.declared.json.error.Incoherence.TheVariants as case
+use Rattle.warg_crypto.specs.declared.json.error.JsonError.{JsonError as ValueError}
+use Rattle.warg_crypto.specs.declared.json.error.JsonError.TheVariants as value
+use Rattle.warg_saved_states.specs.declared.error.JsonTextError.TheVariants as text
+use Rattle.tool_questions.specs.QuestionAnswers.{Askable, IsQuestionAnswer}
+use Rattle.tool_questions.specs.Questions.{IsChainText, IsCompared, IsComparedWith, IsComparisonText, IsPermissionsText, IsStateText, both, by_new, of_new, of_old}
+use Rattle.tool_questions.specs.Resumption.{IsGoneOn, IsResumed, first_bad, first_refused, gone_on, no_state, resumed}
+use Rattle.tool_questions.specs.StateFaults.{bad_state, case_name, state_fault_name, value_name}
+use Rattle.tool_words.specs.declared.request.Question.{Question}
+use Rattle.tool_words.specs.declared.request.Question.TheVariants as question
+use Rattle.tool_laws.specs.Plain.Plain.{is_plain}
+use Rattle.tool_laws.proofs.PlainLemmas.PlainLemmas.{plain_append, plain_shown}
+use Rattle.tool_laws.proofs.PlainLemmas.WordLemmas.{decimal_plain}
+use Rattle.warg_printable.specs.Json.{json_printable}
+use Rattle.warg_printable.specs.Lines.{IsPrintedText}
+use Rattle.warg_printable.specs.Printable.{IsPrintable}
+use Rattle.warg_printable.proofs.JsonLemmas.{json_shown}
+use Rattle.warg_printable.proofs.LineLemmas.{both_lines, no_lines, one_line, one_shown, same_lines}
+use Rattle.tool_laws.proofs.FileLemmas.{file_clean, lines_clean, silent_clean}
+use Rattle.tool_laws.proofs.LineLemmas.{IsClean, IsOneLine, all_mapped, clean_line, clean_same, line_text, plain_front, plain_line, shown_lines, word_front}
+use Rattle.tool_laws.proofs.LogLemmas.{IsPlainLog, bad_one, collision_one, fork_one, lawful_clean, negative_one, refusal_one, side_one}
+
+-- ---- states
+
+state_text_clean : (state : Result (List ℕ) JsonError) → IsPrintedText (json_text state).text
+state_text_clean (Ok text) = one_shown (json_printable text) (json_shown text)
+state_text_clean (Err fault) = line_text (codes "no json TimeBeforeEpoch\n") (plain_line (codes "no json TimeBeforeEpoch") refl)
+
+case_plain : (it : Incoherence) → is_plain (case_name it) ≡ true
+case_plain case.AlgorithmWithoutHead = refl
+case_plain case.HeadWithoutAlgorithm = refl
+case_plain case.StateWithoutInit = refl
+case_plain case.ReleaseUnderOtherVersion = refl
+case_plain case.KeyUnderOtherFingerprint = refl
+case_plain case.InvalidNamespace = refl
+case_plain case.PermissionsWithoutKey = refl
+case_plain case.UnsupportedVersion = refl
+
+value_plain : (it : ValueError) → is_plain (value_name it) ≡ true
+value_plain value.WrongType = refl
+value_plain value.Missing = refl
+value_plain value.BadText = refl
+value_plain value.TimeBeforeEpoch = refl
+value_plain value.TimeOutOfRange = refl
+value_plain (value.Incoherent it) = case_plain it
+value_plain value.OutOfMemory = refl
+
+fault_plain : (it : JsonTextError) → is_plain (state_fault_name it) ≡ true
+fault_plain text.NotJson = refl
+fault_plain (text.Value it) = value_plain it
+fault_plain text.OutOfMemory = refl
+
+bad_state_clean : (fault : JsonTextError) → IsPrintedText (bad_state fault).text
+bad_state_clean fault =
+    line_text (bad_state fault).text
+    (plain_line (codes "bad state " ++ state_fault_name fault) (plain_append (codes "bad state ") (state_fault_name fault) refl (fault_plain fault)))
+
+-- ---- permissions
+
+told_clean : {P : Type 0} (text_of : P → List ℕ) → ((p : P) → is_plain (text_of p) ≡ true) → (known : Bool) (order : List P) (held : P → Bool)
+    → IsPrintedText (permissions_text known order text_of held).text
+told_clean text_of plain true order held =
+    shown_lines (map text_of (filter held order)) (all_mapped IsPrintable text_of (λ p. plain_shown (text_of p) (plain p)) (filter held order))
+told_clean text_of plain false order held = line_text (codes "unknown\n") (plain_line (codes "unknown") refl)
+
+-- ---- chains and comparisons
+
+module _ (Says : List ℕ → RecordWords → Type 0) where
+  module _ (es : List EnvelopeData) where
+    links_clean : (key : List ℕ) (links : List Link) (text : List ℕ) → AreLinkLines Says es key links text → IsPrintedText text
+    links_clean key [] text none = same_lines text [] none no_lines
+    links_clean key (link ∷ more) text are =
+        let first : IsLinkLine Says es link (receiver es key more) are.0 = are.2 in
+        same_lines text (are.0 ++ are.1) are.3
+        (both_lines are.0 are.1
+        (same_lines are.0 _ first.is
+        (one_line (decimal link.record_index ++ (codes " " ++ (decimal link.entry_index ++ (codes " " ++ (first.time ++ (codes " " ++
+        (first.envelope.key_id ++ (codes " to " ++ receiver es key more))))))))))
+        (links_clean key more are.1 are.4))
+
+    chain_clean : (key : List ℕ) (chain : Option (List Link)) (printed : Printout) → IsChainPrinted Says es key chain printed → IsClean printed
+    chain_clean key None printed is = clean_line printed _ is (plain_line (codes "none") refl)
+    chain_clean key (Some links) printed h = clean_same printed (yes h.0) h.2 (links_clean key links h.0 h.1)
+
+  named_clean : (name : List ℕ) (es : List EnvelopeData) (place : ℕ) (text : List ℕ) → IsNamedLine Says name es place text → IsPrintedText text
+  named_clean name es place text h = same_lines text _ h.is (one_line (name ++ (codes " " ++ h.said)))
+
+  module _ (id : List ℕ → RecordId) (ids : (content : List ℕ) → is_plain (hash_text (id content).hash) ≡ true)
+      (head : Option RecordId) (head_is : is_plain (head_text head) ≡ true) (old new : List EnvelopeData) where
+    fork_clean : (place : ℕ) (text : List ℕ) → IsForkText Says id old new place text → IsPrintedText text
+    fork_clean place text h =
+        same_lines text _ h.is
+        (both_lines (fork_line id (contents old) (contents new) place) (h.of_old ++ h.of_new)
+        (line_text (fork_line id (contents old) (contents new) place) (fork_one id ids (contents old) (contents new) place))
+        (both_lines h.of_old h.of_new (named_clean (codes "old") old place h.of_old h.is_old) (named_clean (codes "new") new place h.of_new h.is_new)))
+
+    numbers_one : (word : List ℕ) → is_plain word ≡ true
+        → IsOneLine (word ++ (decimal (length old) ++ (codes " " ++ (decimal (length new) ++ codes "\n"))))
+    numbers_one word h =
+        let last : List ℕ = decimal (length new) ++ codes "\n" in
+        plain_front word (decimal (length old) ++ (codes " " ++ last)) h
+        (word_front (decimal (length old)) last (decimal_plain (length old)) (plain_line (decimal (length new)) (decimal_plain (length new))))
+
+    comparison_clean : (comparison : Comparison) (printed : Printout) → IsComparisonPrinted Says id head old new comparison printed → IsClean printed
+    comparison_clean Same printed is =
+        clean_line printed _ is
+        (plain_front (codes "same ") (decimal (length old) ++ (codes " " ++ (head_text head ++ codes "\n"))) refl
+        (word_front (decimal (length old)) (head_text head ++ codes "\n") (decimal_plain (length old)) (plain_line (head_text head) head_is)))
+    comparison_clean (LeftIsPrefix place) printed is = clean_line printed _ is (numbers_one (codes "goes on ") refl)
+    comparison_clean (RightIsPrefix place) printed is = clean_line printed _ is (numbers_one (codes "rolled back ") refl)
+    comparison_clean (Fork place) printed h = clean_same printed (no h.0) h.2 (fork_clean place h.0 h.1)
+    comparison_clean (Collision here there) printed is = clean_line printed _ is (collision_one id ids (contents old) here there)
+
+-- ---- questions
+
+by_word_clean : {A : Type 0} (Says : A → Type 0) (P : A → Printout → Type 0) → ((it : A) (printed : Printout) → P it printed → IsClean printed)
+    → (printed : Printout) → IsByWord Says P printed → IsClean printed
+by_word_clean Says P each printed (unsaid h) = silent_clean 2 printed h.unusable
+by_word_clean Says P each printed (by_value it says h) = each it printed h
+
+module _ {Meaning Fault View Offence S P : Type 0} (kind : Askable Meaning Fault View Offence S P) (Says : List ℕ → RecordWords → Type 0)
+    (plain : IsPlainLog kind.shown) (texts : (p : P) → is_plain (kind.text_of p) ≡ true) (belongs : SignatureRelation) where
+  state_clean : (strings : List (List ℕ)) (printed : Printout) → IsStateText kind.shown kind.view kind.json strings printed → IsClean printed
+  state_clean strings printed h = clean_same printed (json_text (kind.json h.state)) h.is (state_text_clean (kind.json h.state))
+
+  gone_clean : (state : S) (lines : List (List ℕ)) (printed : Printout) → IsGoneOn kind.shown belongs kind.view kind.json state lines printed
+      → IsClean printed
+  gone_clean state lines printed (first_bad index at is) = clean_line printed (bad_line index) is (bad_one index)
+  gone_clean state lines printed (first_refused strings spell index cause first is) =
+      clean_line printed (refusal kind.shown index cause) is (refusal_one kind.shown plain index cause)
+  gone_clean state lines printed (resumed strings spell lawful next stands is) =
+      clean_same printed (json_text (kind.json next)) is (state_text_clean (kind.json next))
+
+  resumed_clean : (saved : List ℕ) (lines : List (List ℕ)) (printed : Printout)
+      → IsResumed kind.shown belongs kind.view kind.json kind.reads saved lines printed → IsClean printed
+  resumed_clean saved lines printed (no_state fault is_fault is) = clean_same printed (bad_state fault) is (bad_state_clean fault)
+  resumed_clean saved lines printed (gone_on state reads h) = gone_clean state lines printed h
+
+  permissions_clean : (word : List ℕ) (strings : List (List ℕ)) (printed : Printout)
+      → IsPermissionsText kind.shown kind.view kind.has_key kind.knows kind.held kind.order kind.text_of word strings printed → IsClean printed
+  permissions_clean word strings printed h =
+      clean_same printed _ h.told.is
+      (told_clean kind.text_of texts (kind.knows h.state h.told.key) kind.order (kind.held (kind.view h.state) h.told.key))
+
+  chain_of_clean : (word : List ℕ) (it : P) (strings : List (List ℕ)) (printed : Printout)
+      → IsChainText kind.shown Says kind.view kind.has_key kind.effects word it strings printed → IsClean printed
+  chain_of_clean word it strings printed h =
+      chain_clean Says (envelopes_of kind.shown strings) h.key h.told.chain printed h.told.is
+
+  comparison_of_clean : (old new : List (List ℕ)) (printed : Printout) → IsComparisonText kind.shown Says old new printed → IsClean printed
+  comparison_of_clean old new printed h =
+      let before : List EnvelopeData = envelopes_of kind.shown old in
+      comparison_clean Says kind.shown.kind.id plain.ids (kind.shown.kind.head (kind.shown.kind.view_of before)) (plain.heads before) before
+      (envelopes_of kind.shown new) h.comparison printed h.is
+
+  with_clean : (before new : List (List ℕ)) (printed : Printout) → IsComparedWith kind.shown Says belongs before new printed → IsClean printed
+  with_clean before new printed (of_new it h is) =
+      clean_line printed (side_text (codes "new") it) is (side_one (codes "new") it refl (negative_one kind.shown plain belongs new it h))
+  with_clean before new printed (both after lawful h) = comparison_of_clean before after printed h
+
+  compared_clean : (old new : List (List ℕ)) (printed : Printout) → IsCompared kind.shown Says belongs old new printed → IsClean printed
+  compared_clean old new printed (of_old it h is) =
+      clean_line printed (side_text (codes "old") it) is (side_one (codes "old") it refl (negative_one kind.shown plain belongs old it h))
+  compared_clean old new printed (by_new before lawful h) = with_clean before new printed h
+
+  -- the answer to a question
+  pub question_clean : (files : Option Files) (it : Question) (printed : Printout) → IsQuestionAnswer kind Says belongs files it printed → IsClean printed
+  question_clean files (question.State log) printed h =
+      lines_clean files log.now (IsPrintedOf kind.shown belongs (IsStateText kind.shown kind.view kind.json))
+      (lawful_clean kind.shown plain belongs (IsStateText kind.shown kind.view kind.json) state_clean) printed h
+  question_clean files (question.Resume state log) printed h =
+      file_clean files state.now _ (λ saved it. lines_clean files log.now (IsResumed kind.shown belongs kind.view kind.json kind.reads saved) (resumed_clean saved) it) printed h
+  question_clean files (question.Permissions key_id log) printed h =
+      lines_clean files log.now _ (lawful_clean kind.shown plain belongs _ (permissions_clean key_id.now)) printed h
+  question_clean files (question.Chain key_id permission log) printed h =
+      by_word_clean _ _ (λ it p. lines_clean files log.now _ (lawful_clean kind.shown plain belongs _ (chain_of_clean key_id.now it)) p) printed h
+  question_clean files (question.Compare old new) printed h =
+      lines_clean files old.now _ (λ here it. lines_clean files new.now (IsCompared kind.shown Says belongs here) (compared_clean here) it) printed h

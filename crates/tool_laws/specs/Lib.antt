@@ -1,0 +1,2 @@
+pub mod Premises
+pub mod Plain

@@ -1,0 +1,22 @@
+use Rattle.std.proofs.Common.{length, rules}
+use Rattle.std.specs.Str.Lines.{lines}
+use Rattle.std.proofs.lemmas.Iterator.Consumers.{YieldsList-end, YieldsList-from_enumerate, YieldsList-turn}
+use Rattle.std.proofs.lemmas.Iterator.Splits.{YieldsList-from_lines}
+use Rattle.tool_layout.proofs.LineLemmas.{at_turn, chain-end, chain-more}
+use Rattle.tool_layout.proofs.chain.chain_layout.Goals as goal
+
+pub loop-place-preserved : goal.loop-place-preserved
+loop-place-preserved c =
+    let ls = lines c.args.text.now in
+    let turn = YieldsList-turn (YieldsList-from_enumerate (YieldsList-from_lines c.args.text.now (search rules)) (search rules)) c.loop-place.yielded _ c.loop-place.yielded_by _ _ (c.in-Some.place, c.in-Some.line) c.in-Some.is c.next.ensures.steps in
+    let at = at_turn ls (length c.loop-place.yielded) c.in-Some.place c.in-Some.line.now turn.0 turn.1 in (
+      search rules,
+      search rules,
+      chain-more c.args.look.now ls c.loop-place.yielded (c.in-Some.place, c.in-Some.line) c.in-Some.place c.in-Some.line.now _ _ at
+          c.loop-place.invariant.2 c.in_ok-push_chain_line.ensures,
+    )
+
+pub returns : goal.returns
+returns c =
+    let end = YieldsList-end (YieldsList-from_enumerate (YieldsList-from_lines c.args.text.now (search rules)) (search rules)) c.loop-place.yielded _ c.loop-place.yielded_by _ _ c.in-None.is c.next.ensures.steps in
+    chain-end c.args.look.now (lines c.args.text.now) (length c.loop-place.yielded) _ end.1 c.loop-place.invariant.2

@@ -1,0 +1,6 @@
+pub mod StateFaults
+pub mod AskedKeys
+pub mod Questions
+pub mod Resumption
+pub mod QuestionAnswers
+pub mod Show

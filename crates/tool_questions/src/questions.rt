@@ -1,0 +1,233 @@
+//! What is asked of logs of one kind, from the files that are named.
+
+ghost use Rattle.warg_audit.specs.Files.Answers.{Answers};
+ghost use Rattle.tool_questions.specs.Questions.{IsChainText, IsCompared, IsPermissionsText, IsStateText};
+ghost use Rattle.warg_audit.specs.Files.RecordLines.{record_lines};
+ghost use Rattle.tool_questions.specs.QuestionAnswers.{IsQuestionAnswer};
+ghost use Rattle.warg_audit.specs.Files.Unusable.{IsOfFile, IsOfLines};
+ghost use Rattle.tool_questions.specs.Resumption.{IsResumed};
+ghost use Rattle.tool_answers.specs.Verdicts.{ForDisplay, IsPrintedOf};
+ghost use Rattle.tool_answers.specs.Words.{IsByWord};
+ghost use Rattle.std.specs.Prelude.{◌≡◌};
+
+use crate::chain::{chain_answer, wanted_permission};
+use crate::compare::compare_answer;
+use crate::permissions::permissions_answer;
+use crate::resume::resume_answer;
+use crate::state::state_answer;
+use std::alloc::Global;
+use tool_answers::kind::ToolLog;
+use tool_words::Question;
+use warg_audit::files::answer::Answer;
+use warg_audit::files::input::{Input, Store, read_input};
+use warg_audit::files::stop::Stop;
+use warg_protocol::signing::Verifier;
+
+fn state_of_file<L: ToolLog, V: Verifier, S: Store>(
+    alloc: Global,
+    verifier: &V,
+    path: &str,
+    store: &mut S,
+) -> Result<Answer, Stop>
+    ensures answered { ForDisplay L.view L.kind L.Record.read L.Record.fault_of L.offence_of
+        L.name_of L.lines_of (λ log.
+        Answers (IsOfLines (S.files store.old) path.now
+        (IsPrintedOf log (V.belongs verifier.now) (IsStateText log L.view L.json_of))) result) }
+    ensures kept { S.files store.new ≡ S.files store.old }
+{
+    match read_input(alloc, store, path) {
+        Ok(input) => state_answer::<L, V>(alloc, verifier, input),
+        Err(stop) => Err(stop),
+    }
+}
+
+fn permissions_of_file<L: ToolLog, V: Verifier, S: Store>(
+    alloc: Global,
+    verifier: &V,
+    key_id: &str,
+    path: &str,
+    store: &mut S,
+) -> Result<Answer, Stop>
+    ensures answered { ForDisplay L.view L.kind L.Record.read L.Record.fault_of L.offence_of
+        L.name_of L.lines_of (λ log.
+        Answers (IsOfLines (S.files store.old) path.now (IsPrintedOf log (V.belongs verifier.now)
+        (IsPermissionsText log L.view L.has_key L.knows L.holds L.order L.text_of key_id.now)))
+        result) }
+    ensures kept { S.files store.new ≡ S.files store.old }
+{
+    match read_input(alloc, store, path) {
+        Ok(input) => permissions_answer::<L, V>(alloc, verifier, key_id, input),
+        Err(stop) => Err(stop),
+    }
+}
+
+fn chain_of_file<L: ToolLog, V: Verifier, S: Store>(
+    alloc: Global,
+    verifier: &V,
+    key_id: &str,
+    permission: L::Permission,
+    path: &str,
+    store: &mut S,
+) -> Result<Answer, Stop>
+    ensures answered { ForDisplay L.view L.kind L.Record.read L.Record.fault_of L.offence_of
+        L.name_of L.lines_of (λ log.
+        Answers (IsOfLines (S.files store.old) path.now
+        (IsPrintedOf log (V.belongs verifier.now)
+        (IsChainText log L.says_words L.view L.has_key L.effects key_id.now permission)))
+        result) }
+    ensures kept { S.files store.new ≡ S.files store.old }
+{
+    match read_input(alloc, store, path) {
+        Ok(input) => chain_answer::<L, V>(alloc, verifier, key_id, permission, input),
+        Err(stop) => Err(stop),
+    }
+}
+
+// The chain of a permission by its word.
+fn chain_of_word<L: ToolLog, V: Verifier, S: Store>(
+    alloc: Global,
+    verifier: &V,
+    key_id: &str,
+    word: &str,
+    path: &str,
+    store: &mut S,
+) -> Result<Answer, Stop>
+    ensures answered { ForDisplay L.view L.kind L.Record.read L.Record.fault_of L.offence_of
+        L.name_of L.lines_of (λ log.
+        Answers (IsByWord (λ permission. L.text_of permission ≡ word.now) (λ permission.
+        IsOfLines (S.files store.old) path.now
+        (IsPrintedOf log (V.belongs verifier.now)
+        (IsChainText log L.says_words L.view L.has_key L.effects key_id.now permission)))) result) }
+    ensures kept { S.files store.new ≡ S.files store.old }
+{
+    match wanted_permission::<L>(alloc, word) {
+        Ok(permission) => {
+            chain_of_file::<L, V, S>(alloc, verifier, key_id, permission, path, store)
+        }
+        Err(stop) => Err(stop),
+    }
+}
+
+fn resumed_from_file<L: ToolLog, V: Verifier, S: Store>(
+    alloc: Global,
+    verifier: &V,
+    saved: Input<'_>,
+    path: &str,
+    store: &mut S,
+) -> Result<Answer, Stop>
+    ensures answered { ForDisplay L.view L.kind L.Record.read L.Record.fault_of L.offence_of
+        L.name_of L.lines_of (λ log.
+        Answers (IsOfLines (S.files store.old) path.now
+        (IsResumed log (V.belongs verifier.now) L.view L.json_of L.state_of
+        saved.entry.bytes.items))
+        result) }
+    ensures kept { S.files store.new ≡ S.files store.old }
+{
+    match read_input(alloc, store, path) {
+        Ok(input) => resume_answer::<L, V>(alloc, verifier, saved, input),
+        Err(stop) => Err(stop),
+    }
+}
+
+fn resumed_from_files<L: ToolLog, V: Verifier, S: Store>(
+    alloc: Global,
+    verifier: &V,
+    state: &str,
+    path: &str,
+    store: &mut S,
+) -> Result<Answer, Stop>
+    ensures answered { ForDisplay L.view L.kind L.Record.read L.Record.fault_of L.offence_of
+        L.name_of L.lines_of (λ log.
+        Answers (IsOfFile (S.files store.old) state.now (λ saved.
+        IsOfLines (S.files store.old) path.now
+        (IsResumed log (V.belongs verifier.now) L.view L.json_of L.state_of saved))) result) }
+    ensures kept { S.files store.new ≡ S.files store.old }
+{
+    match read_input(alloc, store, state) {
+        Ok(saved) => resumed_from_file::<L, V, S>(alloc, verifier, saved, path, store),
+        Err(stop) => Err(stop),
+    }
+}
+
+fn compared_with_file<L: ToolLog, V: Verifier, S: Store>(
+    alloc: Global,
+    verifier: &V,
+    old: Input<'_>,
+    path: &str,
+    store: &mut S,
+) -> Result<Answer, Stop>
+    ensures answered { ForDisplay L.view L.kind L.Record.read L.Record.fault_of L.offence_of
+        L.name_of L.lines_of (λ log.
+        Answers (IsOfLines (S.files store.old) path.now
+        (IsCompared log L.says_words (V.belongs verifier.now) (record_lines old.entry.bytes.items)))
+        result) }
+    ensures kept { S.files store.new ≡ S.files store.old }
+{
+    match read_input(alloc, store, path) {
+        Ok(new) => compare_answer::<L, V>(alloc, verifier, old, new),
+        Err(stop) => Err(stop),
+    }
+}
+
+fn compared_files<L: ToolLog, V: Verifier, S: Store>(
+    alloc: Global,
+    verifier: &V,
+    old: &str,
+    new: &str,
+    store: &mut S,
+) -> Result<Answer, Stop>
+    ensures answered { ForDisplay L.view L.kind L.Record.read L.Record.fault_of L.offence_of
+        L.name_of L.lines_of (λ log.
+        Answers (IsOfLines (S.files store.old) old.now
+        (λ before. IsOfLines (S.files store.old) new.now
+        (IsCompared log L.says_words (V.belongs verifier.now) before))) result) }
+    ensures kept { S.files store.new ≡ S.files store.old }
+{
+    match read_input(alloc, store, old) {
+        Ok(old) => compared_with_file::<L, V, S>(alloc, verifier, old, new, store),
+        Err(stop) => Err(stop),
+    }
+}
+
+/// The answer to what is asked of logs of this kind.
+pub fn question_answer<L: ToolLog, V: Verifier, S: Store>(
+    alloc: Global,
+    verifier: &V,
+    question: &Question<'_>,
+    store: &mut S,
+) -> Result<Answer, Stop>
+    ensures answered { ForDisplay L.view L.kind L.Record.read L.Record.fault_of L.offence_of
+        L.name_of L.lines_of (λ log. Answers
+        (IsQuestionAnswer (record {
+          shown = log;
+          view = L.view;
+          json = L.json_of;
+          reads = L.state_of;
+          has_key = L.has_key;
+          knows = L.knows;
+          held = L.holds;
+          order = L.order;
+          text_of = L.text_of;
+          effects = L.effects;
+        })
+        L.says_words (V.belongs verifier.now) (S.files store.old) question.now) result) }
+    ensures kept { S.files store.new ≡ S.files store.old }
+{
+    match question {
+        Question::State { log } => state_of_file::<L, V, S>(alloc, verifier, log, store),
+        Question::Resume { state, log } => {
+            resumed_from_files::<L, V, S>(alloc, verifier, state, log, store)
+        }
+        Question::Permissions { key_id, log } => {
+            permissions_of_file::<L, V, S>(alloc, verifier, key_id, log, store)
+        }
+        Question::Chain {
+            key_id,
+            permission,
+            log,
+        } => chain_of_word::<L, V, S>(alloc, verifier, key_id, permission, log, store),
+        Question::Compare { old, new } => {
+            compared_files::<L, V, S>(alloc, verifier, old, new, store)
+        }
+    }
+}

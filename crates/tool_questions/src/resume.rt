@@ -1,0 +1,176 @@
+//! `resume`: the state after more records, from a saved one.
+
+ghost use Rattle.std.specs.Prelude.{◌≡◌, ℕ, List, map, Ok, IfOk, IfErr};
+ghost use Rattle.std.specs.Vec.{vec_items};
+ghost use Rattle.warg_audit.specs.Files.Lines.{strings_of};
+ghost use Rattle.warg_protocol.specs.Json.{JsonTextError as OfJsonTextError};
+ghost use Rattle.warg_saved_states.specs.JsonText.{ReturnsOfText};
+ghost use Rattle.warg_saved_states.specs.declared.error.JsonTextError.TheVariants as text;
+ghost use Rattle.warg_audit.specs.Files.Answers.{answer_view, Answers, IfStopped};
+ghost use Rattle.tool_questions.specs.Resumption.{IsGoneOn, IsResumed, read_state};
+ghost use Rattle.warg_audit.specs.Files.RecordLines.{record_lines};
+ghost use Rattle.tool_questions.specs.StateFaults.{bad_state, case_name, state_fault_name, value_name};
+ghost use Rattle.tool_answers.specs.Verdicts.{ForDisplay};
+
+use crate::state::json_answer;
+use std::alloc::{AllocError, Global};
+use std::str;
+use tool_answers::judged::{file_strings, refused};
+use tool_answers::kind::ToolLog;
+use warg_audit::files::answer::{Answer, UNUSABLE};
+use warg_audit::files::input::{Input, sentence};
+use warg_audit::files::stop::Stop;
+use warg_protocol::signing::Verifier;
+use warg_protocol::{Incoherence, JsonError, JsonTextError, run_from};
+
+fn case_name(case: Incoherence) -> &'static str
+    ensures { result.now ≡ case_name case }
+{
+    match case {
+        Incoherence::AlgorithmWithoutHead => "Value.Incoherent.AlgorithmWithoutHead",
+        Incoherence::HeadWithoutAlgorithm => "Value.Incoherent.HeadWithoutAlgorithm",
+        Incoherence::StateWithoutInit => "Value.Incoherent.StateWithoutInit",
+        Incoherence::ReleaseUnderOtherVersion => "Value.Incoherent.ReleaseUnderOtherVersion",
+        Incoherence::KeyUnderOtherFingerprint => "Value.Incoherent.KeyUnderOtherFingerprint",
+        Incoherence::InvalidNamespace => "Value.Incoherent.InvalidNamespace",
+        Incoherence::PermissionsWithoutKey => "Value.Incoherent.PermissionsWithoutKey",
+        Incoherence::UnsupportedVersion => "Value.Incoherent.UnsupportedVersion",
+    }
+}
+
+fn value_name(fault: JsonError) -> &'static str
+    ensures { result.now ≡ value_name fault }
+{
+    match fault {
+        JsonError::WrongType => "Value.WrongType",
+        JsonError::Missing => "Value.Missing",
+        JsonError::BadText => "Value.BadText",
+        JsonError::TimeBeforeEpoch => "Value.TimeBeforeEpoch",
+        JsonError::TimeOutOfRange => "Value.TimeOutOfRange",
+        JsonError::Incoherent(case) => case_name(case),
+        JsonError::OutOfMemory => "OutOfMemory",
+    }
+}
+
+// The names of the fault's cases, from the outside in, with dots between them.
+fn fault_name(fault: JsonTextError) -> &'static str
+    ensures { result.now ≡ state_fault_name fault }
+{
+    match fault {
+        JsonTextError::NotJson => "NotJson",
+        JsonTextError::Value(fault) => value_name(fault),
+        JsonTextError::OutOfMemory => "OutOfMemory",
+    }
+}
+
+// The answer to a file that holds no state.
+fn bad_state(alloc: Global, path: &str, fault: JsonTextError) -> Result<Answer, AllocError>
+    ensures { IfOk result (λ answer. answer_view answer ≡ bad_state fault) }
+{
+    let name = fault_name(fault);
+    let text = format!(in alloc; "bad state {name}\n")?;
+    let sentence = sentence(alloc, path, "not a saved state of this kind of log")?;
+    Ok(Answer::new(alloc, text, UNUSABLE).with_sentence(sentence))
+}
+
+// The state of a file's bytes.
+fn read_state<L: ToolLog>(alloc: Global, bytes: &[u8]) -> Result<L, JsonTextError>
+    ensures { ReturnsOfText (λ state. state) result (read_state L.state_of bytes.now) }
+{
+    match str::from_utf8(bytes) {
+        Ok(text) => L::of_json_text(alloc, text),
+        Err(_) => Err(JsonTextError::NotJson),
+    }
+}
+
+// The answer to a file that holds no state, as the end of a command.
+fn bad_state_stop(alloc: Global, path: &str, fault: JsonTextError) -> Stop
+    ensures { IfStopped (λ printed. printed ≡ bad_state fault) result }
+{
+    match bad_state(alloc, path, fault) {
+        Ok(answer) => Stop::Answer(answer),
+        Err(_) => Stop::OutOfMemory,
+    }
+}
+
+// Why a file holds no state, as the end of a command.
+fn state_stop(alloc: Global, path: &str, fault: JsonTextError) -> Stop
+    ensures told { IfStopped (λ printed. printed ≡ bad_state fault) result }
+    ensures memory { fault ≡ text.OutOfMemory → result ≡ Stop.OutOfMemory }
+{
+    match fault {
+        JsonTextError::OutOfMemory => Stop::OutOfMemory,
+        _ => bad_state_stop(alloc, path, fault),
+    }
+}
+
+// The state of a file.
+fn saved_state<L: ToolLog>(alloc: Global, input: &Input<'_>) -> Result<L, Stop>
+    ensures ok { IfOk result (λ state. read_state L.state_of input.now.bytes.items ≡ Ok state) }
+    ensures stopped { IfErr result (IfStopped (λ printed. (fault : OfJsonTextError) ×
+        ((read_state L.state_of input.now.bytes.items ≡ Err fault) ×
+        (printed ≡ bad_state fault)))) }
+{
+    match read_state::<L>(alloc, input.bytes.as_slice()) {
+        Ok(state) => Ok(state),
+        Err(fault) => Err(state_stop(alloc, input.path, fault)),
+    }
+}
+
+// The state after the records that strings are.
+fn state_after_strings<L: ToolLog, V: Verifier>(
+    alloc: Global,
+    verifier: &V,
+    state: L,
+    path: &str,
+    strings: &[Vec<u8>],
+) -> Result<Answer, Stop>
+    ensures { ForDisplay L.view L.kind L.Record.read L.Record.fault_of L.offence_of
+        L.name_of L.lines_of (λ log.
+        (lines : List (List ℕ)) → strings_of lines ≡ Ok (map vec_items strings.now) →
+        Answers (IsGoneOn log (V.belongs verifier.now) L.view L.json_of state lines) result) }
+{
+    match run_from(alloc, state, verifier, strings) {
+        Ok(next) => json_answer(alloc, &next),
+        Err(error) => Err(refused::<L>(alloc, path, &error)),
+    }
+}
+
+// The state after the records in a file.
+fn state_after<L: ToolLog, V: Verifier>(
+    alloc: Global,
+    verifier: &V,
+    state: L,
+    input: Input<'_>,
+) -> Result<Answer, Stop>
+    ensures { ForDisplay L.view L.kind L.Record.read L.Record.fault_of L.offence_of
+        L.name_of L.lines_of (λ log.
+        Answers (IsGoneOn log (V.belongs verifier.now) L.view L.json_of state
+        (record_lines input.entry.bytes.items)) result) }
+{
+    match file_strings(alloc, input.path, input.bytes) {
+        Ok(strings) => {
+            state_after_strings(alloc, verifier, state, input.path, strings.as_slice())
+        }
+        Err(stop) => Err(stop),
+    }
+}
+
+/// The state after the records in a file, from the one in another.
+pub fn resume_answer<L: ToolLog, V: Verifier>(
+    alloc: Global,
+    verifier: &V,
+    saved: Input<'_>,
+    input: Input<'_>,
+) -> Result<Answer, Stop>
+    ensures { ForDisplay L.view L.kind L.Record.read L.Record.fault_of L.offence_of
+        L.name_of L.lines_of (λ log.
+        Answers (IsResumed log (V.belongs verifier.now) L.view L.json_of L.state_of
+        saved.entry.bytes.items
+        (record_lines input.entry.bytes.items)) result) }
+{
+    match saved_state::<L>(alloc, &saved) {
+        Ok(state) => state_after(alloc, verifier, state, input),
+        Err(stop) => Err(stop),
+    }
+}

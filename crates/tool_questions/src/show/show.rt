@@ -1,0 +1,270 @@
+//! `show`: a log in words.
+
+ghost use Rattle.std.specs.Prelude.{◌≡◌, List, ℕ, IfOk, map, string_bytes};
+ghost use Rattle.std.specs.Option.{option_copied};
+ghost use Rattle.std.specs.Vec.{vec_items};
+ghost use Rattle.warg_protocol.specs.Logs.{EnvelopeData, SignatureRelation, envelope_of, envelope_fault_of, envelopes, cause_named_by, IsRefusal};
+ghost use Rattle.warg_audit.specs.Files.Answers.{answer_view, Answers};
+ghost use Rattle.tool_answers.specs.Explanations.{Explains};
+ghost use Rattle.warg_audit.specs.Files.RecordLines.{record_lines};
+ghost use Rattle.tool_questions.specs.Show.ShownLogs.{AreEnvelopeLines, behind_id, cause_words, entry_line, head_line, placed_line, IsCutText, IsLogText, IsRefusalText, IsShown, IsShownOf};
+ghost use Rattle.warg_audit.specs.Files.Texts.{no, yes};
+ghost use Rattle.warg_audit.specs.Files.Unusable.{IsOfLines};
+ghost use Rattle.tool_answers.specs.Verdicts.{ForDisplay};
+
+use crate::show::advice::advice;
+use crate::show::reason::reason_of;
+use std::alloc::{AllocError, Global};
+use tool_answers::judged::{Lent, file_strings};
+use tool_answers::kind::ToolLog;
+use warg_audit::files::answer::Answer;
+use warg_audit::files::input::{Input, Store, read_input};
+use warg_audit::files::stop::Stop;
+use warg_audit::{cause_name, refused_reply};
+use warg_printable::printed_line;
+use warg_protocol::registry::RecordId;
+use warg_protocol::signing::Verifier;
+use warg_protocol::{AuditedLog, ProtoEnvelope, RunError};
+
+// The line of the entry that an offence is of, if it is of one.
+fn entry_line(alloc: Global, entry: Option<usize>) -> Result<String, AllocError>
+    ensures { IfOk result (λ line. string_bytes line ≡ entry_line entry) }
+{
+    match entry {
+        Some(entry) => {
+            let said = format!(in alloc; "entry: {entry}")?;
+            printed_line(alloc, said.as_str())
+        }
+        None => Ok(String::new(alloc)),
+    }
+}
+
+// Why a record is refused, by its parts.
+fn cause_words(
+    alloc: Global,
+    why: &str,
+    entry: Option<usize>,
+    advice: &str,
+) -> Result<String, AllocError>
+    ensures { IfOk result (λ text. string_bytes text ≡ cause_words why.now entry advice.now) }
+{
+    let why = format!(in alloc; "why: {why}")?;
+    let advice = format!(in alloc; "try: {advice}")?;
+    let mut text = printed_line(alloc, why.as_str())?;
+    text.push_str(entry_line(alloc, entry)?.as_str())?;
+    text.push_str(printed_line(alloc, advice.as_str())?.as_str())?;
+    Ok(text)
+}
+
+// Why the next record is refused: the audit's line, and the cause in words. Refused memory is no cause.
+fn refusal_text<L: ToolLog>(
+    alloc: Global,
+    state: &L,
+    string: &[u8],
+    error: &RunError<L::Error>,
+) -> Result<String, AllocError>
+    ensures { ForDisplay L.view L.kind L.Record.read L.Record.fault_of L.offence_of
+        L.name_of L.lines_of (λ log.
+        IfOk result (λ text. (belongs : SignatureRelation) (seen : List EnvelopeData → L.View)
+        (strings : List (List ℕ)) →
+        IsRefusal L.kind belongs (envelope_of L.Record.read) seen
+        (cause_named_by (envelope_fault_of L.Record.fault_of) L.offence_of) strings error.now →
+        IsRefusalText log belongs
+        (Explains L.sentence_of L.Record.fault_of L.offence_of L.Record.read L.Record.meaning
+        L.count_of L.has_first L.record_rules.offence (L.view state.now) string.now)
+        seen strings error.now.index (string_bytes text))) }
+{
+    let Some(name) = cause_name::<L>(&error.cause) else {
+        return Err(AllocError);
+    };
+    let reply = refused_reply(alloc, error.index, name)?;
+    let reason = reason_of(alloc, state, string, &error.cause)?;
+    let words = cause_words(alloc, reason.sentence.as_str(), reason.entry, advice(name))?;
+    let mut all = String::from_str(alloc, reply.text())?;
+    all.push_str(words.as_str())?;
+    Ok(all)
+}
+
+// What is said of a record, on a line behind its place and its id.
+fn placed_line(alloc: Global, place: usize, id: &RecordId, said: &str) -> Result<String, AllocError>
+    ensures { IfOk result (λ line. string_bytes line ≡
+        placed_line place (behind_id id.now said.now)) }
+{
+    let said = format!(in alloc; "{place} {id} {said}")?;
+    printed_line(alloc, said.as_str())
+}
+
+// A line for each record, its place first, and its id.
+fn records_text<L: ToolLog>(
+    alloc: Global,
+    records: &[ProtoEnvelope<L::Record>],
+) -> Result<String, AllocError>
+    ensures { IfOk result (λ text. AreEnvelopeLines L.kind.id L.words_of records.now
+        (string_bytes text)) }
+{
+    let mut text = String::new(alloc);
+    for (place, envelope) in records.iter().enumerate() {
+        let said = L::record_line(alloc, envelope)?;
+        let line = placed_line(alloc, place, &L::record_id(envelope), said.as_str())?;
+        text.push_str(line.as_str())?;
+    }
+    Ok(text)
+}
+
+// The line of a head.
+fn head_line(alloc: Global, head: Option<&RecordId>) -> Result<String, AllocError>
+    ensures { IfOk result (λ line. string_bytes line ≡ head_line (option_copied head.entry)) }
+{
+    match head {
+        Some(id) => {
+            let said = format!(in alloc; "head {id}")?;
+            printed_line(alloc, said.as_str())
+        }
+        None => printed_line(alloc, "head none"),
+    }
+}
+
+// The text of a lawful log: its records, its head, and its state.
+fn log_text<L: ToolLog, V: Verifier + Drop>(
+    alloc: Global,
+    log: &AuditedLog<L, V>,
+) -> Result<String, AllocError>
+    ensures { IfOk result (λ text. IsLogText L.kind.id L.says_words
+        (L.kind.head (L.kind.view_of (envelopes log.now.records))) L.shows
+        (envelopes log.now.records) (string_bytes text)) }
+{
+    let mut text = records_text::<L>(alloc, log.records())?;
+    let head = head_line(alloc, log.head())?;
+    text.push_str(head.as_str())?;
+    let state = log.state().state_text(alloc)?;
+    text.push_str(state.as_str())?;
+    Ok(text)
+}
+
+// The records before the one that is refused, and why it is.
+fn cut_text<L: ToolLog, V: Verifier + Drop>(
+    alloc: Global,
+    log: &AuditedLog<L, V>,
+    string: &[u8],
+    error: &RunError<L::Error>,
+) -> Result<String, AllocError>
+    ensures { ForDisplay L.view L.kind L.Record.read L.Record.fault_of L.offence_of
+        L.name_of L.lines_of (λ shown.
+        IfOk result (λ text. (belongs : SignatureRelation) (seen : List EnvelopeData → L.View)
+        (strings : List (List ℕ)) →
+        IsRefusal L.kind belongs (envelope_of L.Record.read) seen
+        (cause_named_by (envelope_fault_of L.Record.fault_of) L.offence_of) strings error.now →
+        IsCutText L.kind.id L.says_words (IsRefusalText shown belongs
+        (Explains L.sentence_of L.Record.fault_of L.offence_of L.Record.read L.Record.meaning
+        L.count_of L.has_first L.record_rules.offence (L.kind.view_of (envelopes log.now.records)) string.now)
+        seen strings error.now.index)
+        (envelopes log.now.records) (string_bytes text))) }
+{
+    let mut text = records_text::<L>(alloc, log.records())?;
+    let refused = refusal_text(alloc, log.state(), string, error)?;
+    text.push_str(refused.as_str())?;
+    Ok(text)
+}
+
+// The answer to a lawful log.
+fn lawful_answer<L: ToolLog, V: Verifier + Drop>(
+    alloc: Global,
+    log: &AuditedLog<L, V>,
+) -> Result<Answer, AllocError>
+    ensures { IfOk result (λ answer. (text : List ℕ) × IsLogText L.kind.id L.says_words
+        (L.kind.head (L.kind.view_of (envelopes log.now.records))) L.shows
+        (envelopes log.now.records) text × (answer_view answer ≡ yes text)) }
+{
+    let text = log_text(alloc, log)?;
+    Ok(Answer::new(alloc, text, 0))
+}
+
+// The answer to strings of which one is refused, by the log of those before it.
+fn refused_answer<L: ToolLog, V: Verifier + Drop>(
+    alloc: Global,
+    log: &AuditedLog<L, V>,
+    string: &[u8],
+    error: &RunError<L::Error>,
+) -> Result<Answer, AllocError>
+    ensures { ForDisplay L.view L.kind L.Record.read L.Record.fault_of L.offence_of
+        L.name_of L.lines_of (λ shown.
+        IfOk result (λ answer. (belongs : SignatureRelation) (seen : List EnvelopeData → L.View)
+        (all : List (List ℕ)) →
+        IsRefusal L.kind belongs (envelope_of L.Record.read) seen
+        (cause_named_by (envelope_fault_of L.Record.fault_of) L.offence_of) all error.now →
+        (text : List ℕ) × IsCutText L.kind.id L.says_words (IsRefusalText shown belongs
+        (Explains L.sentence_of L.Record.fault_of L.offence_of L.Record.read L.Record.meaning
+        L.count_of L.has_first L.record_rules.offence (L.kind.view_of (envelopes log.now.records)) string.now)
+        seen all error.now.index) (envelopes log.now.records) text
+        × (answer_view answer ≡ no text))) }
+{
+    let text = cut_text(alloc, log, string, error)?;
+    Ok(Answer::new(alloc, text, 1))
+}
+
+// The answer to the strings of a log.
+fn strings_answer<L: ToolLog, V: Verifier + Drop>(
+    alloc: Global,
+    verifier: V,
+    strings: &[Vec<u8>],
+) -> Result<Answer, AllocError>
+    ensures { ForDisplay L.view L.kind L.Record.read L.Record.fault_of L.offence_of
+        L.name_of L.lines_of (λ log.
+        IfOk result (λ answer. IsShownOf log (V.belongs verifier) L.says_words L.shows
+        (Explains L.sentence_of L.Record.fault_of L.offence_of L.Record.read L.Record.meaning
+        L.count_of L.has_first L.record_rules.offence)
+        (map vec_items strings.now) (answer_view answer))) }
+{
+    let mut log = AuditedLog::<L, V>::new(alloc, verifier)?;
+    match log.append_all(strings) {
+        Ok(()) => lawful_answer(alloc, &log),
+        Err(error) => match strings.get(error.index) {
+            Some(string) => refused_answer(alloc, &log, string.as_slice(), &error),
+            None => Err(AllocError),
+        },
+    }
+}
+
+/// The log in a file, in words.
+pub fn show_answer<L: ToolLog, V: Verifier>(
+    alloc: Global,
+    verifier: &V,
+    input: Input<'_>,
+) -> Result<Answer, Stop>
+    ensures { ForDisplay L.view L.kind L.Record.read L.Record.fault_of L.offence_of
+        L.name_of L.lines_of (λ log.
+        Answers (IsShown log (V.belongs verifier.now) L.says_words L.shows
+        (Explains L.sentence_of L.Record.fault_of L.offence_of L.Record.read L.Record.meaning
+        L.count_of L.has_first L.record_rules.offence)
+        (record_lines input.entry.bytes.items)) result) }
+{
+    match file_strings(alloc, input.path, input.bytes) {
+        Ok(strings) => Ok(strings_answer::<L, Lent<'_, V>>(
+            alloc,
+            Lent(verifier),
+            strings.as_slice(),
+        )?),
+        Err(stop) => Err(stop),
+    }
+}
+
+/// The log in a file in words; of a refused one, the records before the first that is refused, and why that is.
+pub fn show_of_file<L: ToolLog, V: Verifier, S: Store>(
+    alloc: Global,
+    verifier: &V,
+    path: &str,
+    store: &mut S,
+) -> Result<Answer, Stop>
+    ensures answered { ForDisplay L.view L.kind L.Record.read L.Record.fault_of L.offence_of
+        L.name_of L.lines_of (λ log.
+        Answers (IsOfLines (S.files store.old) path.now
+        (IsShown log (V.belongs verifier.now) L.says_words L.shows
+        (Explains L.sentence_of L.Record.fault_of L.offence_of L.Record.read L.Record.meaning
+        L.count_of L.has_first L.record_rules.offence))) result) }
+    ensures kept { S.files store.new ≡ S.files store.old }
+{
+    match read_input(alloc, store, path) {
+        Ok(input) => show_answer::<L, V>(alloc, verifier, input),
+        Err(stop) => Err(stop),
+    }
+}

@@ -1,0 +1,50 @@
+//! `state`: the state that a log adds up to, as JSON.
+
+ghost use Rattle.warg_audit.specs.Files.Answers.{Answers};
+ghost use Rattle.tool_questions.specs.Questions.{IsStateText};
+ghost use Rattle.warg_audit.specs.Files.RecordLines.{record_lines};
+ghost use Rattle.tool_answers.specs.Texts.{json_text};
+ghost use Rattle.tool_answers.specs.Verdicts.{ForDisplay, IsPrintedOf};
+ghost use Rattle.std.specs.Prelude.{◌≡◌};
+
+use std::alloc::Global;
+use tool_answers::judged::judged;
+use tool_answers::kind::ToolLog;
+use warg_audit::files::answer::Answer;
+use warg_audit::files::input::Input;
+use warg_audit::files::stop::Stop;
+use warg_printable::json_printed;
+use warg_protocol::JsonError;
+use warg_protocol::signing::Verifier;
+
+/// The state's JSON on one line, with no hidden character in it. There is none where a time lies before the epoch.
+pub(crate) fn json_answer<L: ToolLog>(alloc: Global, state: &L) -> Result<Answer, Stop>
+    ensures { Answers (λ printed. printed ≡ json_text (L.json_of state.now)) result }
+{
+    match state.json_text(alloc) {
+        Ok(text) => {
+            let mut printed = json_printed(alloc, text.as_str())?;
+            printed.push('\n')?;
+            Ok(Answer::new(alloc, printed, 0))
+        }
+        Err(JsonError::OutOfMemory) => Err(Stop::OutOfMemory),
+        Err(_) => Ok(Answer::fixed(alloc, "no json TimeBeforeEpoch\n", 1)?),
+    }
+}
+
+/// The state of the log in a file.
+pub fn state_answer<L: ToolLog, V: Verifier>(
+    alloc: Global,
+    verifier: &V,
+    input: Input<'_>,
+) -> Result<Answer, Stop>
+    ensures { ForDisplay L.view L.kind L.Record.read L.Record.fault_of L.offence_of
+        L.name_of L.lines_of (λ log.
+        Answers (IsPrintedOf log (V.belongs verifier.now) (IsStateText log L.view L.json_of)
+        (record_lines input.entry.bytes.items)) result) }
+{
+    match judged::<L, V>(alloc, verifier, input) {
+        Ok((state, _)) => json_answer(alloc, &state),
+        Err(stop) => Err(stop),
+    }
+}

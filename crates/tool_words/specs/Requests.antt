@@ -1,0 +1,111 @@
+-- Which request a command with its places and options is.
+use Rattle.std.specs.Prelude.{◌≡◌, ℕ, Bool, true, false, List, [], ◌∷◌, codes, drop, map, Option, Some, None}
+use Rattle.std.specs.Borrow.{Bor}
+use Rattle.std.specs.Option.{option_map}
+use Rattle.tool_words.specs.Parts.{has, place, value}
+use Rattle.tool_words.specs.Rules.{is_one_log, key_text, kind_of, number_in, signer_in, SignerData, toy}
+use Rattle.tool_words.specs.declared.command.Command.{Command}
+use Rattle.tool_words.specs.declared.command.Command.TheVariants as command
+use Rattle.tool_words.specs.declared.command.Asking.TheVariants as asking
+use Rattle.tool_words.specs.declared.command.Doing.TheVariants as doing
+use Rattle.tool_words.specs.declared.command.Proving.TheVariants as proving
+use Rattle.tool_words.specs.declared.command.Verifying.TheVariants as verifying
+use Rattle.tool_words.specs.declared.request.Demands.{Demands}
+use Rattle.tool_words.specs.declared.request.Question.{Question}
+use Rattle.tool_words.specs.declared.request.Question.TheVariants as question
+use Rattle.tool_words.specs.declared.request.Request.{Request}
+use Rattle.tool_words.specs.declared.request.Request.TheVariants as request
+use Rattle.tool_words.specs.declared.statement.Statement.{Statement}
+use Rattle.tool_words.specs.declared.statement.Statement.TheVariants as statement
+use Rattle.tool_words.specs.declared.statement.Wanted.{Wanted}
+use Rattle.tool_words.specs.declared.statement.Wanted.TheVariants as wanted
+use Rattle.tool_words.specs.declared.task.Draft.{Draft}
+use Rattle.tool_words.specs.declared.task.Signer.{Signer}
+use Rattle.tool_words.specs.declared.task.Signer.TheVariants as signer
+use Rattle.tool_words.specs.declared.task.Task.{Task}
+use Rattle.tool_words.specs.declared.task.Task.TheVariants as task
+
+-- what texts are behind references
+abbrev pub texts : List (Bor (List ℕ)) → List (List ℕ)
+texts words = map (λ word. word.now) words
+
+-- what text is behind a reference, if there is one
+abbrev pub text_in : Option (Bor (List ℕ)) → Option (List ℕ)
+text_in word = option_map (λ it. it.now) word
+
+-- who signs, by the texts
+abbrev pub signer_view : Signer → SignerData
+signer_view (signer.Toy name) = toy name.now
+signer_view (signer.KeyText text) = key_text text.now
+
+-- the demands on one log
+pub record AreDemands (given : List (List ℕ × List ℕ)) (it : Demands) : Type 0 where
+  pub allows_empty : it.allows_empty ≡ has (codes "--allow-empty") given
+  pub head : text_in it.head ≡ value (codes "--expect-head") given
+  pub least : it.least ≡ number_in (value (codes "--at-least") given)
+  pub older : text_in it.older ≡ value (codes "--goes-on-from") given
+
+-- the record that is to be made
+pub record IsDraft (places : List (List ℕ)) (given : List (List ℕ × List ℕ)) (it : Draft) : Type 0 where
+  pub signer : Some (signer_view it.signer) ≡ signer_in given
+  pub clock : it.clock ≡ None
+  pub time : it.time.now ≡ place 2 places
+  pub entries : texts it.entries.items ≡ drop 3 places
+
+module _ (called : Command) (places : List (List ℕ)) (given : List (List ℕ × List ℕ)) where
+  -- the question on logs of one kind
+  abbrev pub IsQuestion : Question → Type 0
+  IsQuestion (question.State log) = (called ≡ command.Ask asking.State) × (log.now ≡ place 1 places)
+  IsQuestion (question.Resume state log) =
+      (called ≡ command.Ask asking.Resume) × (state.now ≡ place 1 places) × (log.now ≡ place 2 places)
+  IsQuestion (question.Permissions key_id log) =
+      (called ≡ command.Ask asking.Permissions) × (key_id.now ≡ place 1 places) × (log.now ≡ place 2 places)
+  IsQuestion (question.Chain key_id permission log) =
+      (called ≡ command.Ask asking.Chain) × (key_id.now ≡ place 1 places) × (permission.now ≡ place 2 places) × (log.now ≡ place 3 places)
+  IsQuestion (question.Compare old new) =
+      (called ≡ command.Ask asking.Compare) × (old.now ≡ place 1 places) × (new.now ≡ place 2 places)
+
+  -- what is done with a log
+  abbrev pub IsTask : Task → Type 0
+  IsTask (task.Claims log) = (called ≡ command.Do doing.Claims) × (log.now ≡ place 1 places)
+  IsTask (task.Make log draft) = (called ≡ command.Do doing.Make) × (log.now ≡ place 1 places) × IsDraft places given draft
+  IsTask (task.Append log lines) = (called ≡ command.Do doing.Append) × (log.now ≡ place 1 places) × (lines.now ≡ place 2 places)
+
+  -- what is proved
+  abbrev pub IsWanted : Wanted → List ℕ → Type 0
+  IsWanted wanted.Checkpoint leaves = (called ≡ command.Prove proving.Checkpoint) × (leaves ≡ place 0 places)
+  IsWanted (wanted.Inclusion at) leaves =
+      (called ≡ command.Prove proving.Inclusion) × (at.now ≡ place 0 places) × (leaves ≡ place 1 places)
+  IsWanted (wanted.Consistency length) leaves =
+      (called ≡ command.Prove proving.Consistency) × (length.now ≡ place 0 places) × (leaves ≡ place 1 places)
+  IsWanted (wanted.Head log_id) leaves =
+      (called ≡ command.Prove proving.Head) × (log_id.now ≡ place 0 places) × (leaves ≡ place 1 places)
+
+  -- what is verified
+  abbrev pub IsStatement : Statement → Type 0
+  IsStatement (statement.Inclusion checkpoint at leaf proof) =
+      (called ≡ command.Verify verifying.Inclusion) × (checkpoint.now ≡ place 0 places) × (at.now ≡ place 1 places)
+      × (leaf.log_id.now ≡ place 2 places) × (leaf.record_id.now ≡ place 3 places) × (proof.now ≡ place 4 places)
+  IsStatement (statement.Consistency old new proof) =
+      (called ≡ command.Verify verifying.Consistency) × (old.now ≡ place 0 places) × (new.now ≡ place 1 places) × (proof.now ≡ place 2 places)
+  IsStatement (statement.Head checkpoint leaf proof) =
+      (called ≡ command.Verify verifying.Head) × (checkpoint.now ≡ place 0 places) × (leaf.log_id.now ≡ place 1 places)
+      × (leaf.record_id.now ≡ place 2 places) × (proof.now ≡ place 3 places)
+  IsStatement (statement.Absence checkpoint log_id proof) =
+      (called ≡ command.Verify verifying.Absence) × (checkpoint.now ≡ place 0 places) × (log_id.now ≡ place 1 places) × (proof.now ≡ place 2 places)
+
+  -- what is asked
+  abbrev pub IsRequest : Request → Type 0
+  IsRequest (request.Id kind log) = (called ≡ command.Id) × (kind ≡ kind_of (place 0 places)) × (log.now ≡ place 1 places)
+  IsRequest (request.Audit kind log demands shows_path) =
+      (called ≡ command.Audit) × (is_one_log places ≡ true) × (kind ≡ kind_of (place 0 places)) × (log.now ≡ place 1 places)
+      × AreDemands given demands × (shows_path ≡ has (codes "--paths") given)
+  IsRequest (request.Audits kind logs allows_empty) =
+      (called ≡ command.Audit) × (is_one_log places ≡ false) × (kind ≡ kind_of (place 0 places)) × (texts logs.items ≡ drop 1 places)
+      × (allows_empty ≡ has (codes "--allow-empty") given)
+  IsRequest (request.Show kind log) = (called ≡ command.Show) × (kind ≡ kind_of (place 0 places)) × (log.now ≡ place 1 places)
+  IsRequest (request.Latest requirement log) = (called ≡ command.Latest) × (requirement.now ≡ place 0 places) × (log.now ≡ place 1 places)
+  IsRequest (request.Prove wanted leaves) = IsWanted wanted leaves.now
+  IsRequest (request.Verify statement) = IsStatement statement
+  IsRequest (request.Ask kind question) = (kind ≡ kind_of (place 0 places)) × IsQuestion question
+  IsRequest (request.Do kind task) = (kind ≡ kind_of (place 0 places)) × IsTask task

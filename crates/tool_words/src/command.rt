@@ -1,0 +1,179 @@
+//! The commands, by the names that they have in the table.
+
+ghost use Rattle.std.specs.Prelude.{◌≡◌, count_by, length};
+ghost use Rattle.tool_words.specs.Commands.{command_of, commands, forms, has_kind, has_more, is_needed, named, proofs, statements};
+
+/// What is asked of logs of one kind.
+#[derive(Clone, Copy, Debug, PartialEq, Eq)]
+pub(crate) enum Asking {
+    State,
+    Resume,
+    Permissions,
+    Chain,
+    Compare,
+}
+
+/// What is done with a log.
+#[derive(Clone, Copy, Debug, PartialEq, Eq)]
+pub(crate) enum Doing {
+    Claims,
+    Make,
+    Append,
+}
+
+/// What is proved.
+#[derive(Clone, Copy, Debug, PartialEq, Eq)]
+pub(crate) enum Proving {
+    Checkpoint,
+    Inclusion,
+    Consistency,
+    Head,
+}
+
+/// What is verified.
+#[derive(Clone, Copy, Debug, PartialEq, Eq)]
+pub(crate) enum Verifying {
+    Inclusion,
+    Consistency,
+    Head,
+    Absence,
+}
+
+/// A command.
+#[derive(Clone, Copy, Debug, PartialEq, Eq)]
+pub(crate) enum Command {
+    Id,
+    Audit,
+    Show,
+    Latest,
+    Ask(Asking),
+    Do(Doing),
+    Prove(Proving),
+    Verify(Verifying),
+}
+
+/// The command of this name that is in no group.
+pub(crate) fn of_name(name: &str) -> Option<Command>
+    ensures { result ≡ named name.now commands }
+{
+    match name {
+        "id" => Some(Command::Id),
+        "audit" => Some(Command::Audit),
+        "show" => Some(Command::Show),
+        "state" => Some(Command::Ask(Asking::State)),
+        "resume" => Some(Command::Ask(Asking::Resume)),
+        "latest" => Some(Command::Latest),
+        "permissions" => Some(Command::Ask(Asking::Permissions)),
+        "chain" => Some(Command::Ask(Asking::Chain)),
+        "compare" => Some(Command::Ask(Asking::Compare)),
+        "claims" => Some(Command::Do(Doing::Claims)),
+        "make" => Some(Command::Do(Doing::Make)),
+        "append" => Some(Command::Do(Doing::Append)),
+        _ => None,
+    }
+}
+
+fn proving_of(name: &str) -> Option<Proving>
+    ensures { result ≡ named name.now proofs }
+{
+    match name {
+        "checkpoint" => Some(Proving::Checkpoint),
+        "inclusion" => Some(Proving::Inclusion),
+        "consistency" => Some(Proving::Consistency),
+        "head" => Some(Proving::Head),
+        _ => None,
+    }
+}
+
+fn verifying_of(name: &str) -> Option<Verifying>
+    ensures { result ≡ named name.now statements }
+{
+    match name {
+        "inclusion" => Some(Verifying::Inclusion),
+        "consistency" => Some(Verifying::Consistency),
+        "head" => Some(Verifying::Head),
+        "absence" => Some(Verifying::Absence),
+        _ => None,
+    }
+}
+
+/// Whether a name is that of a group of commands.
+pub(crate) fn is_group(name: &str) -> bool {
+    name == "prove" || name == "verify"
+}
+
+impl Command {
+    /// The command that these two words name; the second is a part of the name within a group alone.
+    pub(crate) fn of(first: &str, second: &str) -> Option<Command>
+        ensures { result ≡ command_of first.now second.now }
+    {
+        match first {
+            "prove" => proving_of(second).map(|it| Command::Prove(it)),
+            "verify" => verifying_of(second).map(|it| Command::Verify(it)),
+            _ => of_name(first),
+        }
+    }
+
+    /// How many places have to be filled.
+    pub(crate) fn least(self) -> usize
+        ensures { result ≡ count_by is_needed (forms self) }
+    {
+        match self {
+            Command::Id | Command::Audit | Command::Show | Command::Latest => 1,
+            Command::Ask(Asking::State) => 1,
+            Command::Ask(Asking::Resume | Asking::Permissions) => 2,
+            Command::Ask(Asking::Chain | Asking::Compare) => 3,
+            Command::Do(Doing::Claims) => 1,
+            Command::Do(Doing::Make) => 3,
+            Command::Do(Doing::Append) => 2,
+            Command::Prove(Proving::Checkpoint) => 0,
+            Command::Prove(Proving::Inclusion | Proving::Consistency | Proving::Head) => 1,
+            Command::Verify(Verifying::Inclusion) => 5,
+            Command::Verify(Verifying::Consistency | Verifying::Absence) => 3,
+            Command::Verify(Verifying::Head) => 4,
+        }
+    }
+
+    /// How many places there are; more words may follow where `has_more` says so.
+    pub(crate) fn most(self) -> usize
+        ensures { result ≡ length (forms self) }
+    {
+        match self {
+            Command::Id | Command::Show | Command::Latest => 2,
+            Command::Audit => 3,
+            Command::Ask(Asking::State) => 2,
+            Command::Ask(Asking::Resume | Asking::Permissions | Asking::Compare) => 3,
+            Command::Ask(Asking::Chain) => 4,
+            Command::Do(Doing::Claims) => 2,
+            Command::Do(Doing::Make) => 4,
+            Command::Do(Doing::Append) => 3,
+            Command::Prove(Proving::Checkpoint) => 1,
+            Command::Prove(Proving::Inclusion | Proving::Consistency | Proving::Head) => 2,
+            Command::Verify(Verifying::Inclusion) => 5,
+            Command::Verify(Verifying::Consistency | Verifying::Absence) => 3,
+            Command::Verify(Verifying::Head) => 4,
+        }
+    }
+
+    /// Whether any number of words may stand from the last place on.
+    pub(crate) fn has_more(self) -> bool
+        ensures { result ≡ has_more (forms self) }
+    {
+        match self {
+            Command::Audit | Command::Do(Doing::Make) => true,
+            Command::Id | Command::Show | Command::Latest | Command::Ask(_) => false,
+            Command::Do(Doing::Claims | Doing::Append) => false,
+            Command::Prove(_) | Command::Verify(_) => false,
+        }
+    }
+
+    /// Whether the kind of the log comes first.
+    pub(crate) fn has_kind(self) -> bool
+        ensures { result ≡ has_kind (forms self) }
+    {
+        match self {
+            Command::Id | Command::Audit | Command::Show | Command::Ask(_) | Command::Do(_) => true,
+            Command::Latest | Command::Prove(_) | Command::Verify(_) => false,
+        }
+    }
+}

@@ -1,0 +1,184 @@
+//! Files, by their paths and bytes.
+
+ghost use Rattle.std.specs.Prelude.{◌≡◌, Option, Err, IfOk, IfErr, OnOk, ◌+◌, ◌-◌, ◌^◌, min, string_bytes};
+ghost use Rattle.warg_audit.specs.Files.Files.{Files, Lacks, Puts, Reads, ReadsLog};
+ghost use Rattle.warg_audit.specs.Files.Answers.{IfStopped, IsUnusable};
+ghost use Rattle.warg_audit.specs.Files.ReadFaults.{IsLogUnread, IsUnread, IsUnreadFor, unread_text};
+ghost use Rattle.warg_audit.specs.Files.Sentences.{line_sentence, sentence, shown_path};
+ghost use Rattle.warg_audit.specs.declared.files.change.WriteFault.TheVariants.{Unflushed, Unwritten};
+ghost use Rattle.warg_audit.specs.declared.files.input.ReadFault.TheVariants.{Missing};
+
+use crate::files::answer::Answer;
+use crate::files::change::{HoldFault, WriteCause, WriteFault};
+use crate::files::stop::{Stop, unusable};
+use std::alloc::{AllocError, Global};
+use warg_printable::printed_line;
+
+/// Why a file's bytes are not there.
+#[derive(Clone, Copy, Debug, PartialEq, Eq)]
+pub enum ReadFault {
+    /// There is no such file.
+    Missing,
+    /// It is a folder.
+    Folder,
+    /// It can't be opened.
+    Closed,
+    /// It has more bytes than the limit.
+    TooLong,
+    /// A read failed.
+    Failed,
+    /// Memory was refused.
+    OutOfMemory,
+}
+
+impl ReadFault {
+    /// The status of an answer for want of the file: 2 where the file is at fault, 3 for trouble.
+    pub fn status(self) -> u8
+        ensures { result ≡ (unread_text self).status }
+    {
+        match self {
+            ReadFault::Missing | ReadFault::Folder | ReadFault::Closed | ReadFault::TooLong => 2,
+            ReadFault::Failed | ReadFault::OutOfMemory => 3,
+        }
+    }
+
+    /// What is wrong, in words.
+    pub fn text(self) -> &'static str
+        ensures { result.now ≡ (unread_text self).text }
+    {
+        match self {
+            ReadFault::Missing => "there is no such file",
+            ReadFault::Folder => "it is a folder",
+            ReadFault::Closed => "it can't be opened",
+            ReadFault::TooLong => "it has more than 16777216 bytes",
+            ReadFault::Failed => "a read failed",
+            ReadFault::OutOfMemory => "out of memory",
+        }
+    }
+}
+
+/// Where files are read from, and written to.
+pub trait Store {
+    // What the files hold, by their paths, where it is known.
+    ghost files: { Self → Option Files };
+
+    /// The bytes of the file of this path; `-` is standard input.
+    fn read(&mut self, path: &str) -> Result<Vec<u8>, ReadFault>
+        ensures bytes { IfOk result (λ bytes. Reads (files self.old) path.now bytes.items) }
+        ensures missing { IfErr result (λ fault. fault ≡ Missing →
+            Lacks (files self.old) path.now) }
+        ensures kept { files self.new ≡ files self.old };
+
+    /// The bytes of the file of this path, or none where it is missing, which no one else that holds it changes from now on.
+    fn hold(&mut self, path: &str) -> Result<Vec<u8>, HoldFault>
+        ensures bytes { IfOk result (λ bytes. ReadsLog (files self.old) path.now bytes.items) }
+        ensures kept { files self.new ≡ files self.old };
+
+    /// Puts these bytes in the place of the file of this path, which is held.
+    fn replace(&mut self, path: &str, bytes: &[u8]) -> Result<(), WriteFault>
+        ensures written { OnOk result (Puts path.now bytes.now (files self.old) (files self.new)) }
+        ensures unflushed { result ≡ Err Unflushed →
+            Puts path.now bytes.now (files self.old) (files self.new) }
+        ensures kept { (cause : WriteCause) → result ≡ Err (Unwritten cause) →
+            files self.new ≡ files self.old };
+}
+
+/// A file's path and its bytes.
+#[derive(Debug, Drop)]
+pub struct Input<'a> {
+    /// The path; `-` is standard input.
+    pub path: &'a str,
+    /// The bytes.
+    pub bytes: Vec<u8>,
+}
+
+// The file's name in a sentence.
+fn shown_path(path: &str) -> &str
+    ensures { result.now ≡ shown_path path.now }
+{
+    if path == "-" { "standard input" } else { path }
+}
+
+/// A sentence that names the file.
+pub fn sentence(alloc: Global, path: &str, fault: &str) -> Result<String, AllocError>
+    ensures { IfOk result (λ text. string_bytes text ≡ sentence path.now fault.now) }
+{
+    let name = shown_path(path);
+    let said = format!(in alloc; "weoldrin: {name}: {fault}")?;
+    printed_line(alloc, said.as_str())
+}
+
+/// A sentence that names the file and a line of it, whose place is counted from 0 and printed from 1.
+pub fn line_sentence(
+    alloc: Global,
+    path: &str,
+    place: usize,
+    fault: &str,
+) -> Result<String, AllocError>
+    ensures { IfOk result (λ text. string_bytes text ≡
+        line_sentence path.now (min (place + 1) (2 ^ 64 - 1)) fault.now) }
+{
+    let name = shown_path(path);
+    let number = place.saturating_add(1);
+    let said = format!(in alloc; "weoldrin: {name}:{number}: {fault}")?;
+    printed_line(alloc, said.as_str())
+}
+
+/// The end of a command for a file that does not hold what it should.
+pub fn file_stop(alloc: Global, path: &str, fault: &str) -> Stop
+    ensures { IfStopped IsUnusable result }
+{
+    unusable(alloc, sentence(alloc, path, fault))
+}
+
+// What is answered where the file of this path can't be read.
+fn unread(alloc: Global, path: &str, fault: ReadFault) -> Stop
+    ensures { IfStopped (IsUnreadFor fault) result }
+{
+    if fault == ReadFault::OutOfMemory {
+        return Stop::OutOfMemory;
+    }
+    match sentence(alloc, path, fault.text()) {
+        Ok(sentence) => Stop::Answer(Answer::fault(alloc, sentence, fault.status())),
+        Err(_) => Stop::OutOfMemory,
+    }
+}
+
+/// The file of this path, or what is answered where it can't be read.
+pub fn read_input<'a, S: Store>(
+    alloc: Global,
+    store: &mut S,
+    path: &'a str,
+) -> Result<Input<'a>, Stop>
+    ensures path { IfOk result (λ input. input.path.now ≡ path.now) }
+    ensures bytes { IfOk result (λ input. Reads (S.files store.old) path.now input.bytes.items) }
+    ensures stopped { IfErr result (IfStopped (IsUnread (S.files store.old) path.now)) }
+    ensures kept { S.files store.new ≡ S.files store.old }
+{
+    match store.read(path) {
+        Ok(bytes) => Ok(Input { path, bytes }),
+        Err(fault) => Err(unread(alloc, path, fault)),
+    }
+}
+
+/// The same, of a log that may not be there yet: it has no records then.
+pub fn read_log<'a, S: Store>(
+    alloc: Global,
+    store: &mut S,
+    path: &'a str,
+) -> Result<Input<'a>, Stop>
+    ensures path { IfOk result (λ input. input.path.now ≡ path.now) }
+    ensures bytes { IfOk result (λ input.
+        ReadsLog (S.files store.old) path.now input.bytes.items) }
+    ensures stopped { IfErr result (IfStopped IsLogUnread) }
+    ensures kept { S.files store.new ≡ S.files store.old }
+{
+    match store.read(path) {
+        Ok(bytes) => Ok(Input { path, bytes }),
+        Err(ReadFault::Missing) => Ok(Input {
+            path,
+            bytes: Vec::new(alloc),
+        }),
+        Err(fault) => Err(unread(alloc, path, fault)),
+    }
+}

@@ -1,5 +1,0 @@
-use Rattle.warg_audited_log.proofs.ExtinctionLemmas.{extinction}
-use Rattle.warg_audited_log.proofs.laws.extinction.Goals as goal
-
-pub returns : goal.returns
-returns g c = λ b es fs lawful. extinction g.L.Validator.kind g.met.L.Validator.laws g.L.Validator.effects g.met.L.Validator.gives_what_is_held b es fs lawful

@@ -1,8 +1,0 @@
-use Rattle.warg_files.proofs.UnusableLemmas.{file_read, file_unread}
-use Rattle.warg_checkpoints.proofs.prove.answer_of_file.Goals as goal
-
-pub returns-in-Ok-clause-answered : goal.returns-in-Ok-clause-answered
-returns-in-Ok-clause-answered g c = file_read _ _ _ c.in-Ok.input.bytes.items c.leaves_answer.result c.in-Ok.ensures.bytes c.leaves_answer.ensures
-
-pub returns-in-Err-clause-answered : goal.returns-in-Err-clause-answered
-returns-in-Err-clause-answered g c = file_unread _ _ _ c.in-Err.stop c.in-Err.ensures.stopped

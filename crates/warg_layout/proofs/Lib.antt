@@ -1,6 +1,0 @@
-pub mod DigestLemmas
-pub mod LayoutLemmas
-pub mod LineLemmas
-pub mod NameLemmas
-pub mod PrintableLemmas
-pub mod WordLemmas

@@ -1,5 +1,0 @@
-use Rattle.warg_layout.proofs.NameLemmas.{shown-names}
-use Rattle.warg_layout.proofs.laws.names_are_printable.Goals as goal
-
-pub returns : goal.returns
-returns c = λ text. shown-names text

@@ -1,7 +1,0 @@
-use Rattle.std.proofs.Common.{◌≡◌, drop}
-use Rattle.warg_layout.specs.KeyNames.{name_of}
-use Rattle.warg_layout.proofs.names.name_of.Given as goal
-
--- no name so far is that of the key
-abbrev pub invariant-loop-it : goal.invariant-loop-it
-invariant-loop-it l = name_of (drop l.it-index l.names) l.id ≡ name_of l.names l.id

@@ -1,9 +1,0 @@
-use Rattle.std.proofs.Common.{rules}
-use Rattle.warg_make.proofs.WordLemmas.{no_rest, whole_word}
-use Rattle.warg_make.proofs.entries.word_and_rest.Goals as goal
-
-pub returns-in-None-clause-word : goal.returns-in-None-clause-word
-returns-in-None-clause-word c = whole_word c.args.text.now (search rules)
-
-pub returns-in-None-clause-rest : goal.returns-in-None-clause-rest
-returns-in-None-clause-rest c = no_rest c.args.text.now (search rules)

@@ -1,6 +1,0 @@
-use Rattle.std.proofs.Common.{length}
-use Rattle.warg_members.proofs.fit.+members_by.Given as goal
-
--- fewer parts are left
-abbrev pub decreases-members_by : goal.decreases-members_by
-decreases-members_by l = length l.parts.now

@@ -1,5 +1,0 @@
-use Rattle.std.proofs.Common.{length}
-use Rattle.warg_merkle_log.proofs.subtree.Subtree.+root.Given as goal
-
-abbrev pub decreases-root : goal.decreases-root
-decreases-root l = length l.self.now.leaves.now

@@ -1,7 +1,0 @@
-//! An appending Merkle log over SHA-256, which keeps the roots of its whole subtrees.
-#![tactic(auto)]
-
-mod log_tree;
-mod subtree;
-
-pub use log_tree::LogTree;

@@ -1,4 +1,0 @@
-//! Texts of the characters of ASCII that print: numbers, hashes, proofs and versions are such. Laws alone.
-#![tactic(auto)]
-
-pub mod laws;

@@ -1,6 +1,0 @@
-pub mod AskedLemmas
-pub mod TextLemmas
-pub mod ChainLemmas
-pub mod StateLemmas
-pub mod CompareLemmas
-pub mod ResumeLemmas

@@ -1,6 +1,0 @@
-use Rattle.warg_answers.proofs.WordLemmas.{nothing_said}
-use Rattle.warg_questions.proofs.chain.wanted_permission.Goals as goal
-
-pub returns-in-None-clause-stopped : goal.returns-in-None-clause-stopped
-returns-in-None-clause-stopped g c =
-    nothing_said _ c.unusable.result (rw c.in-None.is at c.in_ok-permission.ensures.none) c.unusable.ensures

@@ -1,5 +1,0 @@
-pub mod StateFaults
-pub mod AskedKeys
-pub mod Questions
-pub mod Resumption
-pub mod QuestionAnswers

@@ -1,0 +1,7 @@
+pub mod StringLaws
+pub mod LoopLaws
+pub mod OutcomeLaws
+pub mod LogLaws
+pub mod RunLaws
+pub mod Tellings
+pub mod AuditedLogLemmas

@@ -1,0 +1,7 @@
+pub mod LogWords
+pub mod Logs
+pub mod Messages
+pub mod OutcomeRuns
+pub mod Strings
+pub mod Telling
+pub mod AuditedLog

@@ -1,0 +1,14 @@
+use Rattle.std.proofs.Common.{◌≡◌}
+use Rattle.serde_json.specs.Data.{no_members}
+use Rattle.serde_json.specs.View.{members_view}
+use Rattle.warg_crypto.specs.Json.Pairs.{pairs_onto, plain_pairs}
+use Rattle.warg_saved_states.proofs.MapsBack.{AreValuesBack}
+use Rattle.warg_saved_states.proofs.map.map_value.Given as goal
+
+abbrev pub invariant-entries : goal.invariant-entries
+invariant-entries g l = record {
+  written : pairs_onto g.K.SavedName.name_of g.V.SavedValue.writes (members_view l.members.entries) (plain_pairs g.K.SavedName.plain g.V.SavedValue.plain l.key-iterator)
+      ≡ pairs_onto g.K.SavedName.name_of g.V.SavedValue.writes no_members (plain_pairs g.K.SavedName.plain g.V.SavedValue.plain l.fn.map.entries);
+  back : AreValuesBack g.K.SavedName.plain g.V.SavedValue.plain g.K.SavedName.name_of g.K.SavedName.key_named g.V.SavedValue.writes g.V.SavedValue.reads g.K.SavedName.versions g.V.SavedValue.versions l.key-iterator
+      → AreValuesBack g.K.SavedName.plain g.V.SavedValue.plain g.K.SavedName.name_of g.K.SavedName.key_named g.V.SavedValue.writes g.V.SavedValue.reads g.K.SavedName.versions g.V.SavedValue.versions l.fn.map.entries;
+}

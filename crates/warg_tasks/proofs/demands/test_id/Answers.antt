@@ -1,5 +1,0 @@
-use Rattle.warg_tasks.proofs.DemandLemmas.{not_said}
-use Rattle.warg_tasks.proofs.demands.test_id.Goals as goal
-
-pub returns-else-is_id_word-clause-stopped : goal.returns-else-is_id_word-clause-stopped
-returns-else-is_id_word-clause-stopped c = not_said _ c.unusable.result c.if-is_id_word.ensures c.unusable.ensures

@@ -1,5 +1,0 @@
-use Rattle.warg_time.specs.TimeTextLaws.{time_of-seconds_text}
-use Rattle.warg_time.proofs.laws.time_texts_read_back.Goals as goal
-
-pub returns : goal.returns
-returns c = λ t text own e. time_of-seconds_text t.seconds t.nanos text own.nanos own.seconds e

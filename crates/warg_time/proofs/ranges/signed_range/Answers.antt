@@ -1,6 +1,0 @@
-use Rattle.std.proofs.Common.{arith}
-use Rattle.std.proofs.lemmas.Int.{ints}
-use Rattle.warg_time.proofs.ranges.signed_range.Goals as goal
-
-pub returns : goal.returns
-returns c = λ n e. omega (arith, ints, c.ranges.number.sfits)

@@ -1,6 +1,0 @@
-pub mod StringLaws
-pub mod LoopLaws
-pub mod OutcomeLaws
-pub mod LogLaws
-pub mod RunLaws
-pub mod Tellings

@@ -1,6 +1,0 @@
-pub mod LogWords
-pub mod Logs
-pub mod Messages
-pub mod OutcomeRuns
-pub mod Strings
-pub mod Telling

@@ -1,0 +1,10 @@
+//! Tests of `warg_transparency` for what no row of the conformance suite says: checks under a checkpoint, what a map holds,
+//! JSON of proofs.
+#[cfg(test)]
+mod json;
+#[cfg(test)]
+mod known;
+#[cfg(test)]
+mod logs;
+#[cfg(test)]
+mod maps;

@@ -1,8 +1,0 @@
-use Rattle.std.proofs.Common.{◌≡◌, drop}
-use Rattle.warg_words.specs.Invocations.{has_help}
-use Rattle.warg_words.specs.Requests.{texts}
-use Rattle.warg_words.proofs.pleas.has_help.Given as goal
-
--- no word so far asks for help, nor ends the options
-abbrev pub invariant-loop-text : goal.invariant-loop-text
-invariant-loop-text l = has_help (texts l.words) ≡ has_help (texts (drop l.text-index l.words))
