@@ -41,10 +41,33 @@ def commented(lines: list[str], comment: list[str]) -> list[str]:
     return [*comment, *lines]
 
 
+def members_joined(lines: list[str]) -> list[str]:
+    """The head of a record or of a type by its cases, and what it has between braces. As it stands where a line has a
+    comment of its own."""
+    if any("--" in line for line in lines) or not lines[0].endswith(" where"):
+        return lines
+    indent = len(lines[0]) - len(lines[0].lstrip())
+    first = min((len(line) - len(line.lstrip()) for line in lines[1:]), default=0)
+    members: list[str] = []
+    for line in lines[1:]:
+        if len(line) - len(line.lstrip()) > first:
+            members[-1] += " " + line.strip()
+        else:
+            members.append(line.strip())
+    # A member stays on one line where it can.
+    words = " ".join(f"{it};".replace(" ", "\0") for it in members).removesuffix(";")
+    text = f"{lines[0].strip().removesuffix(' where')} {{ {words} }}"
+    start = " " * indent
+    wrapped = textwrap.wrap(text, WIDTH, initial_indent=start, subsequent_indent=f"{start}    ", break_long_words=False)
+    return [line.replace("\0", " ") for line in wrapped]
+
+
 def definition_lines(it: Definition) -> list[str]:
     lines = [plain(line) for line in it.lines]
     if it.kind == "definition":
         lines = joined(lines, 2 * len(it.sections))
+    else:
+        lines = members_joined(lines)
     return commented(lines, it.comment)
 
 
