@@ -1,5 +1,6 @@
-"""How definitions and types are laid out on docs/HEADLINE.md."""
+"""How definitions and types are laid out on the pages of the headline."""
 import functools
+import itertools
 import re
 import textwrap
 from collections.abc import Iterator
@@ -9,8 +10,8 @@ from . import models, specs
 from .closure import Closure, source
 from .specs import Definition, Place
 
-# How many columns a line may have to which others are joined: more than text has, so that a definition is one line.
-WIDTH = 150
+# How many columns a line may have to which others are joined.
+WIDTH = 120
 
 
 def plain(line: str) -> str:
@@ -86,6 +87,22 @@ def type_lines(place: Place) -> list[str]:
     return commented([line.replace("\0", " ") for line in lines], comment)
 
 
+def narrow(line: str) -> list[str]:
+    """The line, in several where it is too wide."""
+    if len(line) <= WIDTH:
+        return [line]
+    start = line[: len(line) - len(line.lstrip())]
+    further = f"{start}-- " if line.startswith(f"{start}--") else f"{start}    "
+    return textwrap.wrap(
+        line.strip(),
+        WIDTH,
+        initial_indent=start,
+        subsequent_indent=further,
+        break_long_words=False,
+        break_on_hyphens=False,
+    )
+
+
 def titles(place: Place) -> list[str]:
     """The names under which a definition may be found: its own, and those of its cases."""
     if place.kind == "rust":
@@ -144,10 +161,9 @@ def file_lines(places: list[Place]) -> Iterator[str]:
         yield from definition_lines(it)
 
 
-def definitions(files: list[tuple[str, list[Place]]], closure: Closure) -> Iterator[str]:
+def definitions(files: list[tuple[str, list[Place]]], meanings: Meanings) -> Iterator[str]:
+    """The definitions by crate and file. The same meanings go on from page to page."""
     crate, last = None, None
-    meanings = Meanings(closure)
-    yield from ["", "## The definitions"]
     for file, places in files:
         if file.split("/")[1] != crate:
             if crate:
@@ -160,5 +176,5 @@ def definitions(files: list[tuple[str, list[Place]]], closure: Closure) -> Itera
             wrapped = functools.partial(textwrap.wrap, width=WIDTH, break_on_hyphens=False)
             yield from wrapped(about, initial_indent="-- Here ", subsequent_indent="--    ")
         last = file
-        yield from file_lines(places)
+        yield from itertools.chain.from_iterable(map(narrow, file_lines(places)))
     yield "```"
