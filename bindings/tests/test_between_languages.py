@@ -16,9 +16,9 @@ import sys
 import unittest
 from typing import Any, NamedTuple
 
-ROOT = pathlib.Path(__file__).resolve().parents[2]
-sys.path.insert(0, str(ROOT / "tools"))
+sys.path.insert(0, str(pathlib.Path(__file__).resolve().parents[2] / "tools"))
 
+from common import ROOT
 from p256.logs import sign
 
 # A lawful log.

@@ -15,11 +15,11 @@ import tempfile
 import time
 import unittest
 
-TOOLS = pathlib.Path(__file__).resolve().parents[1]
-sys.path.insert(0, str(TOOLS))
+sys.path.insert(0, str(pathlib.Path(__file__).resolve().parents[1]))
 
 from runner import AT_ONCE, CI_ENDED, LAST, Check, jobs_of_ci
 
+TOOLS = pathlib.Path(__file__).resolve().parents[1]
 COMMAND = runpy.run_path(str(TOOLS / "test"))
 CHECKS: list[Check] = COMMAND["CHECKS"]
 PROGRAMS: list[pathlib.Path] = COMMAND["PROGRAMS"]
