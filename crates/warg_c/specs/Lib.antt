@@ -5,6 +5,7 @@ pub mod Misuses
 pub mod Questions
 pub mod Verifying
 pub mod Logs
+pub mod KeptWords
 pub mod Held
 pub mod Runs
 pub mod Lookups

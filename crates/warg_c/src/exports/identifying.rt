@@ -29,12 +29,10 @@ fn id_in<L: Validator>(
 ) -> Result<(), Failure>
 where
     L::Error: Named + fmt::Display,
-    ensures ok { OnOk result (IsIdOf L.kind (envelope_of L.Record.read) envelope.now
+    ensures ok { OnOk result (IsIdIn L.log L.Record.reading envelope.now
         (take used.new text.new)) }
-    ensures err { IfErr result (IdFails L.kind (envelope_of L.Record.read)
-        (cause_named_by (envelope_fault_of L.Record.fault_of) L.offence_of)
-        (SaysCause L.Error.name_of L.Error.output)
-        envelope.now text.old used.new text.new) }
+    ensures err { IfErr result (IdFailsIn L.log L.Record.reading
+        (SaysCause L.Error.name_of L.Error.output) envelope.now text.old used.new text.new) }
     ensures buffer { IfErr result (λ f. f ≡ TooSmall → text.new ≡ text.old) }
     ensures behind { used.old ≡ 0 → drop used.new text.new ≡ drop used.new text.old }
     ensures within { used.old ≡ 0 → IsWithin result used.new text.new }
