@@ -13,8 +13,8 @@ use Rattle.warg_replay.specs.LogWords.{named_cause}
 use Rattle.warg_replay.specs.Strings.{Cause, Unread}
 use Rattle.warg_replay.specs.declared.replay.RunCause.{RunCause}
 use Rattle.warg_c.specs.declared.failure.Failure.{Failure}
-use Rattle.warg_c.specs.declared.failure.Failure.TheVariants.{NotOpen, OutOfMemory, TooSmall, NoEnvelope, Refused, Absent, BadArgument, UnknownAlgorithm}
-use Rattle.warg_c.specs.Held.{operator_says, package_says}
+use Rattle.warg_c.specs.declared.failure.Failure.TheVariants.{OutOfMemory, TooSmall, NoEnvelope, BadArgument}
+use Rattle.warg_c.specs.AppendAnswers.{operator_says, package_says}
 use Rattle.warg_c.specs.Logs.{HasErrorText}
 use Rattle.warg_c.specs.Lookups.{IdText}
 use Rattle.warg_c.specs.Misuses.{misuse_text}
@@ -33,14 +33,10 @@ module _ {View Offence F : Type 0} (k : Kind View Offence) (read : List ℕ → 
 
     -- why there is no id; of bytes that are no envelope the error's text is given
     abbrev pub IdFails : List ℕ → List ℕ → ℕ → List ℕ → Failure → Type 0
-    IdFails envelope old used new NotOpen = ⊥
     IdFails envelope old used new OutOfMemory = Unit {0}
     IdFails envelope old used new TooSmall = NeedsRoom (IsIdOf envelope) used old
     IdFails envelope old used new NoEnvelope = IsNoEnvelope envelope used new
-    IdFails envelope old used new Refused = ⊥
-    IdFails envelope old used new Absent = ⊥
-    IdFails envelope old used new BadArgument = ⊥
-    IdFails envelope old used new UnknownAlgorithm = ⊥
+    IdFails envelope old used new f = ⊥
 
 -- the same in words that take the log and how its records are read
 module _ {S E View Offence C M F : Type 0} {kind : Kind View Offence} {view : S → View} {offence_of : E → Option Offence} {read : List ℕ → Result M F} {meaning : C → M} {fault_of : DecodeError → Option F} (log : LogOf kind view offence_of) (reading : Reading read meaning fault_of) where

@@ -7,6 +7,8 @@ pub mod Verifying
 pub mod Logs
 pub mod KeptWords
 pub mod Held
+pub mod AppendAnswers
+pub mod AppendFailures
 pub mod Runs
 pub mod Lookups
 pub mod ReleaseAnswers
