@@ -2,6 +2,8 @@
 -- messages, of keys and times, of a registry, of its log and its map, of errors, of JSON.
 pub mod Records
 pub mod Logs
+pub mod Words
+pub mod LogContracts
 pub mod History
 pub mod P256
 pub mod Package
