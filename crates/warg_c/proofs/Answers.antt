@@ -10,7 +10,8 @@ use Rattle.warg_c.specs.declared.failure.Failure.TheVariants.{NotOpen, OutOfMemo
 use Rattle.warg_c.specs.declared.held.Held.{Held}
 use Rattle.warg_c.specs.declared.held.Held.TheVariants.{Package, Operator}
 use Rattle.warg_c.specs.declared.question.Asked.{Asked}
-use Rattle.warg_c.specs.Held.{append_does, append_fails, append_moves, append_refuses, may_come, signed_moves}
+use Rattle.warg_c.specs.AppendAnswers.{append_does, append_moves, may_come, signed_moves}
+use Rattle.warg_c.specs.AppendFailures.{append_fails, append_refuses}
 use Rattle.warg_c.specs.Questions.{Says, HoldsOf}
 use Rattle.warg_c.specs.Runs.{Call, IsCall, HoldsOfWord}
 use Rattle.warg_c.specs.Statuses.{status_of, Answers}

@@ -13,3 +13,5 @@ pub mod Appending
 pub mod RunLemmas
 pub mod ProofOutcomes
 pub mod TextAnswers
+pub mod ByStatus
+pub mod HeldByStatus

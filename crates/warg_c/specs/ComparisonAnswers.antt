@@ -1,5 +1,5 @@
 -- How two logs compare.
-use Rattle.std.specs.Prelude.{◌≡◌, ◌⊎◌, ℕ, Option, Some, None}
+use Rattle.std.specs.Prelude.{◌≡◌, ◌⊎◌, ℕ, Option, Some, None, IsSomeAnd}
 use Rattle.warg_replay.specs.AuditedLog.Comparisons.{IsComparison}
 use Rattle.warg_replay.specs.AuditedLog.Log.{StateAndRecords, envelopes, contents}
 use Rattle.warg_replay.specs.declared.audited_log.comparison.Comparison as whole
@@ -43,6 +43,10 @@ compare_bad (Package l) (Package r) = (whole_of l ≡ None) ⊎ (whole_of r ≡ 
 compare_bad (Operator l) (Operator r) = (whole_of l ≡ None) ⊎ (whole_of r ≡ None)
 compare_bad (Package l) (Operator r) = Unit {0}
 compare_bad (Operator l) (Package r) = Unit {0}
+
+-- both handles hold a log, and this is so of the two
+abbrev pub AreBoth : Option Held → Option Held → (Held → Held → Type 0) → Type 0
+AreBoth left right P = IsSomeAnd left (λ l. IsSomeAnd right (λ r. P l r))
 
 -- the answer to what two handles hold; the status is 1 where one holds nothing
 abbrev pub compare_answers : ℕ → Option Held → Option Held → Comparison → Type 0

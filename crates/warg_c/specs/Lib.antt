@@ -5,7 +5,10 @@ pub mod Misuses
 pub mod Questions
 pub mod Verifying
 pub mod Logs
+pub mod KeptWords
 pub mod Held
+pub mod AppendAnswers
+pub mod AppendFailures
 pub mod Runs
 pub mod Lookups
 pub mod ReleaseAnswers

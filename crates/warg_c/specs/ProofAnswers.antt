@@ -12,7 +12,7 @@ use Rattle.warg_merkle.specs.SparseMap.Maps.{Leads}
 use Rattle.warg_transparency.specs.Heads.{head_leaf}
 use Rattle.warg_transparency.specs.Texts.{log_proof_of, map_proof_of}
 use Rattle.warg_c.specs.declared.failure.Failure.{Failure}
-use Rattle.warg_c.specs.declared.failure.Failure.TheVariants.{NotOpen, OutOfMemory, TooSmall, NoEnvelope, Refused, Absent, BadArgument, UnknownAlgorithm}
+use Rattle.warg_c.specs.declared.failure.Failure.TheVariants.{OutOfMemory, Refused, BadArgument}
 
 -- a text that is not UTF-8, or reads as nothing
 abbrev pub IsNoText : {X E : Type 0} → (List ℕ → Result X E) → List ℕ → Type 0
@@ -25,14 +25,10 @@ pub record AreLeafTexts (log_text record_text : List ℕ) (leaf : LogLeaf) : Typ
 
 -- why nothing is proved: no memory, where some is taken, the proof differs, or a text is not of its form
 abbrev pub ProofFails : Type 0 → Type 0 → Type 0 → Failure → Type 0
-ProofFails Takes Differs IsBad NotOpen = ⊥
 ProofFails Takes Differs IsBad OutOfMemory = Takes
-ProofFails Takes Differs IsBad TooSmall = ⊥
-ProofFails Takes Differs IsBad NoEnvelope = ⊥
 ProofFails Takes Differs IsBad Refused = Differs
-ProofFails Takes Differs IsBad Absent = ⊥
 ProofFails Takes Differs IsBad BadArgument = IsBad
-ProofFails Takes Differs IsBad UnknownAlgorithm = ⊥
+ProofFails Takes Differs IsBad f = ⊥
 
 -- the texts are of hashes, so that a proof's text is read
 abbrev pub AreHashes : (log_id record_id root : List ℕ) → Type 0

@@ -1,20 +1,58 @@
--- The statuses of outcomes.
-use Rattle.std.specs.Prelude.{◌≡◌, ◌≤◌, ℕ, zero, suc, List, codes, Option, Some, None, Result, Ok, Err}
+-- The statuses that calls return, by the names that the header gives them.
+use Rattle.std.specs.Prelude.{◌≡◌, ◌≢◌, ◌≤◌, ℕ, zero, suc, List, [], ◌∷◌, codes, Option, Some, None, Result, Ok, Err}
 use Rattle.warg_c.specs.declared.failure.Failure.{Failure}
 use Rattle.warg_c.specs.declared.failure.Failure.TheVariants.{NotOpen, OutOfMemory, TooSmall, NoEnvelope, Refused, Absent, BadArgument, UnknownAlgorithm}
 
-abbrev pub code_of : Failure → ℕ
-code_of NotOpen = 1
-code_of OutOfMemory = 2
-code_of TooSmall = 3
-code_of NoEnvelope = 4
-code_of Refused = 5
-code_of Absent = 6
-code_of BadArgument = 7
-code_of UnknownAlgorithm = 8
+abbrev pub WARG_OK : ℕ
+WARG_OK = 0
 
+abbrev pub WARG_NOT_OPEN : ℕ
+WARG_NOT_OPEN = 1
+
+abbrev pub WARG_OUT_OF_MEMORY : ℕ
+WARG_OUT_OF_MEMORY = 2
+
+abbrev pub WARG_TOO_SMALL : ℕ
+WARG_TOO_SMALL = 3
+
+abbrev pub WARG_NO_ENVELOPE : ℕ
+WARG_NO_ENVELOPE = 4
+
+abbrev pub WARG_REFUSED : ℕ
+WARG_REFUSED = 5
+
+abbrev pub WARG_NONE : ℕ
+WARG_NONE = 6
+
+abbrev pub WARG_BAD_ARGUMENT : ℕ
+WARG_BAD_ARGUMENT = 7
+
+abbrev pub WARG_UNKNOWN_ALGORITHM : ℕ
+WARG_UNKNOWN_ALGORITHM = 8
+
+-- the fact holds unless the status is one of these
+abbrev pub Unless : List ℕ → ℕ → Type 0 → Type 0
+Unless [] n P = P
+Unless (s ∷ ss) n P = n ≢ s → Unless ss n P
+
+-- the status is one of these
+abbrev pub IsOneOf : List ℕ → ℕ → Type 0
+IsOneOf ss n = Unless ss n ⊥
+
+-- the status of a failure
+abbrev pub code_of : Failure → ℕ
+code_of NotOpen = WARG_NOT_OPEN
+code_of OutOfMemory = WARG_OUT_OF_MEMORY
+code_of TooSmall = WARG_TOO_SMALL
+code_of NoEnvelope = WARG_NO_ENVELOPE
+code_of Refused = WARG_REFUSED
+code_of Absent = WARG_NONE
+code_of BadArgument = WARG_BAD_ARGUMENT
+code_of UnknownAlgorithm = WARG_UNKNOWN_ALGORITHM
+
+-- the status of an outcome
 abbrev pub status_of : {T : Type 0} → Result T Failure → ℕ
-status_of (Ok _) = 0
+status_of (Ok _) = WARG_OK
 status_of (Err f) = code_of f
 
 -- the name of a status
@@ -30,7 +68,7 @@ status_name (suc (suc (suc (suc (suc (suc (suc zero))))))) = Some (codes "BadArg
 status_name (suc (suc (suc (suc (suc (suc (suc (suc zero)))))))) = Some (codes "UnknownAlgorithm")
 status_name (suc (suc (suc (suc (suc (suc (suc (suc (suc n))))))))) = None
 
--- a status: P at 0, and Q of the failure at each other
+-- all of a call in one statement: P at 0, and Q of the failure at each other status
 abbrev pub IsStatusOf : ℕ → Type 0 → (Failure → Type 0) → Type 0
 IsStatusOf n P Q = (n ≤ 8) × (n ≡ 0 → P) × ((f : Failure) → n ≡ code_of f → Q f)
 

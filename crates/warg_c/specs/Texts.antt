@@ -6,7 +6,7 @@ use Rattle.warg_replay.specs.Strings.{Cause, Unread, Unlawful}
 use Rattle.warg_replay.specs.declared.replay.RunCause.{RunCause}
 use Rattle.warg_c.specs.Statuses.{code_of}
 use Rattle.warg_c.specs.declared.failure.Failure.{Failure}
-use Rattle.warg_c.specs.declared.failure.Failure.TheVariants.{NotOpen, OutOfMemory, TooSmall, NoEnvelope, Refused, Absent, BadArgument, UnknownAlgorithm}
+use Rattle.warg_c.specs.declared.failure.Failure.TheVariants.{OutOfMemory, TooSmall, NoEnvelope, Refused, Absent, BadArgument}
 
 -- what is said to be used lies within the buffer, unless that is too small
 abbrev pub IsWithin : {T A : Type 0} → Result T Failure → ℕ → List A → Type 0
@@ -65,22 +65,15 @@ FailsAs Takes Lacks IsBad f = ((f ≡ OutOfMemory) × Takes) ⊎ (((f ≡ Absent
 
 -- why a text is not given: the buffer is too small, or why nothing was found
 abbrev pub TextFails : {A : Type 0} → Type 0 → (List A → Type 0) → Type 0 → Type 0 → ℕ → List A → Failure → Type 0
-TextFails Takes Tells Lacks IsBad used out NotOpen = ⊥
 TextFails Takes Tells Lacks IsBad used out OutOfMemory = Takes
 TextFails Takes Tells Lacks IsBad used out TooSmall = NeedsRoom Tells used out
-TextFails Takes Tells Lacks IsBad used out NoEnvelope = ⊥
-TextFails Takes Tells Lacks IsBad used out Refused = ⊥
 TextFails Takes Tells Lacks IsBad used out Absent = Lacks
 TextFails Takes Tells Lacks IsBad used out BadArgument = IsBad
-TextFails Takes Tells Lacks IsBad used out UnknownAlgorithm = ⊥
+TextFails Takes Tells Lacks IsBad used out f = ⊥
 
 -- why a call that gives no text is not done
 abbrev pub CallFails : Type 0 → Type 0 → Type 0 → Failure → Type 0
-CallFails Takes Lacks IsBad NotOpen = ⊥
 CallFails Takes Lacks IsBad OutOfMemory = Takes
-CallFails Takes Lacks IsBad TooSmall = ⊥
-CallFails Takes Lacks IsBad NoEnvelope = ⊥
-CallFails Takes Lacks IsBad Refused = ⊥
 CallFails Takes Lacks IsBad Absent = Lacks
 CallFails Takes Lacks IsBad BadArgument = IsBad
-CallFails Takes Lacks IsBad UnknownAlgorithm = ⊥
+CallFails Takes Lacks IsBad f = ⊥

@@ -5,7 +5,7 @@ use Rattle.warg_crypto.specs.Keys.{public_key_of, signature_of}
 use Rattle.warg_crypto.specs.NamedBytes.{NamedBytes}
 use Rattle.warg_p256.specs.Scheme.{p256_belongs}
 use Rattle.warg_c.specs.declared.failure.Failure.{Failure}
-use Rattle.warg_c.specs.declared.failure.Failure.TheVariants.{NotOpen, OutOfMemory, TooSmall, NoEnvelope, Refused, Absent, BadArgument, UnknownAlgorithm}
+use Rattle.warg_c.specs.declared.failure.Failure.TheVariants.{OutOfMemory, Refused, BadArgument, UnknownAlgorithm}
 use Rattle.warg_c.specs.ProofAnswers.{IsNoText}
 
 -- the key is one of the algorithm that the library verifies
@@ -24,13 +24,18 @@ SaysSignature text P = (signature : NamedBytes) × IsUtf8 text × (signature_of 
 abbrev pub IsJudged : List ℕ → List ℕ → List ℕ → Bool → Type 0
 IsJudged key message signature answer = SaysKey key (λ k. IsP256Key k × SaysSignature signature (λ s. p256_belongs k message s ≡ answer))
 
+-- the key's text can't be read; or it is one of the library's algorithm, and the signature's can't be
+abbrev pub IsNotVerified : List ℕ → List ℕ → Type 0
+IsNotVerified key signature = IsNoText public_key_of key ⊎ (SaysKey key IsP256Key × IsNoText signature_of signature)
+
+-- the key is one of another algorithm
+abbrev pub IsOtherKey : List ℕ → Type 0
+IsOtherKey key = SaysKey key (λ k. ¬ IsP256Key k)
+
 -- why a signature is not taken: first the key's text, then its algorithm, then the signature's text
 abbrev pub VerifyFails : List ℕ → List ℕ → List ℕ → Failure → Type 0
-VerifyFails key message signature NotOpen = ⊥
 VerifyFails key message signature OutOfMemory = Unit {0}
-VerifyFails key message signature TooSmall = ⊥
-VerifyFails key message signature NoEnvelope = ⊥
 VerifyFails key message signature Refused = IsJudged key message signature false
-VerifyFails key message signature Absent = ⊥
-VerifyFails key message signature BadArgument = IsNoText public_key_of key ⊎ (SaysKey key IsP256Key × IsNoText signature_of signature)
-VerifyFails key message signature UnknownAlgorithm = SaysKey key (λ k. ¬ IsP256Key k)
+VerifyFails key message signature BadArgument = IsNotVerified key signature
+VerifyFails key message signature UnknownAlgorithm = IsOtherKey key
+VerifyFails key message signature f = ⊥

@@ -1,7 +1,6 @@
 //! The texts of refusals.
 ghost use Rattle.std.specs.Prelude.{◌≡◌, ◌≢◌, ◌⊎◌, ◌++◌, ◌∷◌, ◌≤◌, None, IfErr, IfOk, OnOk, length, drop, string_bytes};
-ghost use Rattle.warg_envelope.specs.Envelopes.{envelope_fault_of};
-ghost use Rattle.warg_replay.specs.OutcomeRuns.{cause_named_by};
+ghost use Rattle.warg_replay.specs.LogWords.{named_cause};
 ghost use Rattle.warg_c.specs.Texts.{IsErrorLine, IsErrorText, IsNameOrLine, SaysCause, failure_by};
 ghost use Rattle.warg_c.specs.declared.failure.Failure.TheVariants.{NoEnvelope, OutOfMemory, Refused, TooSmall};
 
@@ -14,8 +13,7 @@ use warg_replay::{Named, RunCause, Validator};
 
 /// What kind of failure a cause is.
 pub(crate) fn failure_of<L: Validator>(cause: &RunCause<L::Error>) -> Failure
-    ensures failure { result ≡ failure_by (cause_named_by (envelope_fault_of L.Record.fault_of)
-        L.offence_of cause.now) }
+    ensures failure { result ≡ failure_by (named_cause L.log L.Record.reading cause.now) }
     ensures other { result ≢ TooSmall }
     ensures kinds { (result ≡ OutOfMemory) ⊎ ((result ≡ NoEnvelope) ⊎ (result ≡ Refused)) }
 {
@@ -29,8 +27,7 @@ pub(crate) fn failure_of<L: Validator>(cause: &RunCause<L::Error>) -> Failure
 
 /// An error where the cause names nothing, as memory ran out.
 pub(crate) fn check_named<L: Validator>(cause: &RunCause<L::Error>) -> Result<(), Failure>
-    ensures named { OnOk result (cause_named_by (envelope_fault_of L.Record.fault_of)
-        L.offence_of cause.now ≢ None) }
+    ensures named { OnOk result (named_cause L.log L.Record.reading cause.now ≢ None) }
     ensures err { IfErr result (λ f. f ≡ OutOfMemory) }
 {
     if failure_of::<L>(cause) == Failure::OutOfMemory {
@@ -85,8 +82,7 @@ pub(crate) fn refuse<L: Validator>(
 ) -> Failure
 where
     L::Error: Named + fmt::Display,
-    ensures failure { result ≡ failure_by (cause_named_by (envelope_fault_of L.Record.fault_of)
-        L.offence_of cause.now) }
+    ensures failure { result ≡ failure_by (named_cause L.log L.Record.reading cause.now) }
     ensures other { result ≢ TooSmall }
     ensures text { result ≢ OutOfMemory →
         IsErrorText (SaysCause L.Error.name_of L.Error.output cause.now) used.new text.new }

@@ -1,15 +1,19 @@
 //! Appending, by what the caller says of a signature, or by what the library verifies itself.
-ghost use Rattle.std.specs.Prelude.{◌≡◌, ◌≢◌, ◌≤◌, IfOk, IfErr, OnOk, OnErr, length, take, drop};
-ghost use Rattle.warg_replay.specs.Telling.{Holds};
+ghost use Rattle.std.specs.Prelude.{◌≡◌, ◌≢◌, ◌≤◌, ◌↔◌, [], ◌∷◌, None, IfOk, IfErr, IsSomeAnd, OnOk, OnErr, length, take, drop};
+ghost use Rattle.warg_replay.specs.Telling.{Holds, told_belongs};
 ghost use Rattle.warg_p256.specs.Scheme.{p256_belongs};
 ghost use Rattle.warg_log_records.specs.Kinds.{SignatureRelation, AcceptsNoMore};
-ghost use Rattle.warg_c.specs.Held.{ask_tells, ask_fails, append_does, append_moves, append_fails, append_refuses};
-ghost use Rattle.warg_c.specs.Held.{may_come, signed_fails, signed_moves};
-ghost use Rattle.warg_c.specs.Questions.{HoldsOf};
-ghost use Rattle.warg_c.specs.Runs.{IsCall, ByCaller, ByLibrary};
-ghost use Rattle.warg_c.specs.Statuses.{Answers};
-ghost use Rattle.warg_c.specs.Texts.{IsQuiet, IsWithin};
+ghost use Rattle.warg_c.specs.AppendAnswers.{ask_tells, asks_other, may_come, append_does, told_moves, signed_moves};
+ghost use Rattle.warg_c.specs.AppendAnswers.{is_never_read, is_never_lawful, is_unread, is_unlawful, OfAnswer};
+ghost use Rattle.warg_c.specs.AppendFailures.{ask_fails, append_refuses, append_fails, signed_fails};
+ghost use Rattle.warg_c.specs.Misuses.{misuse_text};
+ghost use Rattle.warg_c.specs.Questions.{HoldsOf, SaysNone};
+ghost use Rattle.warg_c.specs.Runs.{IsCall, ByCaller, ByLibrary, call_of};
+ghost use Rattle.warg_c.specs.Statuses.{WARG_OK, WARG_NOT_OPEN, WARG_OUT_OF_MEMORY, WARG_TOO_SMALL, WARG_NO_ENVELOPE};
+ghost use Rattle.warg_c.specs.Statuses.{WARG_REFUSED, WARG_BAD_ARGUMENT, WARG_UNKNOWN_ALGORITHM, IsOneOf, Unless};
+ghost use Rattle.warg_c.specs.Texts.{IsGiven, IsQuiet, IsWithin, NeedsRoom};
 ghost use Rattle.warg_c.specs.declared.failure.Failure.TheVariants.{BadArgument, NoEnvelope, Refused, TooSmall};
+ghost use Rattle.warg_c.specs.declared.misuse.Misuse.TheVariants.{BadQuestion};
 
 use crate::asking::{append_log, append_signed_to, ask_log};
 use crate::failure::{Failure, status};
@@ -65,15 +69,24 @@ pub extern "C" fn warg_ask(
     used: &mut usize,
     asked: &mut Asked,
 ) -> u32
-    ensures answer { Answers result log.old.owned.kept
-        (λ held. ask_tells held envelope.now asked.new (take used.new bytes.new))
-        (λ held. ask_fails held envelope.now asked.new bytes.old used.new bytes.new) }
+    ensures statuses { IsOneOf (WARG_OK ∷ WARG_NOT_OPEN ∷ WARG_OUT_OF_MEMORY ∷ WARG_TOO_SMALL ∷
+        WARG_NO_ENVELOPE ∷ WARG_REFUSED ∷ []) result }
+    ensures not_open { (result ≡ WARG_NOT_OPEN) ↔ (log.old.owned.kept ≡ None) }
+    ensures ok { result ≡ WARG_OK → IsSomeAnd log.old.owned.kept (λ held.
+        ask_tells held envelope.now asked.new (take used.new bytes.new)) }
+    ensures too_small { result ≡ WARG_TOO_SMALL → IsSomeAnd log.old.owned.kept (λ held.
+        NeedsRoom (ask_tells held envelope.now asked.new) used.new bytes.old) }
+    ensures no_envelope { result ≡ WARG_NO_ENVELOPE → IsSomeAnd log.old.owned.kept (λ held.
+        is_never_read held envelope.now used.new bytes.new) }
+    ensures refused { result ≡ WARG_REFUSED → IsSomeAnd log.old.owned.kept (λ held.
+        is_never_lawful held envelope.now used.new bytes.new) }
     ensures unchanged { log.new.owned.kept ≡ log.old.owned.kept }
-    ensures buffer { result ≡ 3 → bytes.new ≡ bytes.old }
+    ensures buffer { result ≡ WARG_TOO_SMALL → bytes.new ≡ bytes.old }
     ensures behind { drop used.new bytes.new ≡ drop used.new bytes.old }
-    ensures kept { result ≢ 0 → result ≢ 3 → asked.new ≡ asked.old }
-    ensures used { result ≢ 0 → result ≢ 3 → result ≢ 4 → result ≢ 5 → used.new ≡ 0 }
-    ensures within { result ≢ 3 → used.new ≤ length bytes.new }
+    ensures kept { Unless (WARG_OK ∷ WARG_TOO_SMALL ∷ []) result (asked.new ≡ asked.old) }
+    ensures used { Unless (WARG_OK ∷ WARG_TOO_SMALL ∷ WARG_NO_ENVELOPE ∷ WARG_REFUSED ∷ []) result
+        (used.new ≡ 0) }
+    ensures within { result ≢ WARG_TOO_SMALL → used.new ≤ length bytes.new }
 {
     *used = 0;
     let Some(mut held) = log.take(alloc) else {
@@ -168,22 +181,32 @@ pub extern "C" fn warg_append(
     text: &mut [u8],
     used: &mut usize,
 ) -> u32
+    ensures statuses { IsOneOf (WARG_OK ∷ WARG_NOT_OPEN ∷ WARG_OUT_OF_MEMORY ∷ WARG_NO_ENVELOPE ∷
+        WARG_REFUSED ∷ WARG_BAD_ARGUMENT ∷ []) result }
+    ensures not_open { (result ≡ WARG_NOT_OPEN) ↔ (log.old.owned.kept ≡ None) }
+
     // Whatever relation holds of what the caller said to belong: what was accepted under it still is, with the record.
-    ensures answer { Answers result log.old.owned.kept
-        (λ held. (b : SignatureRelation) → HoldsOf b belongs asked.now question.now →
-        append_moves b envelope.now held log.new.owned.kept)
-        (λ held. append_fails held belongs asked.now question.now envelope.now used.new text.new) }
-    ensures unchanged { result ≢ 0 → log.new.owned.kept ≡ log.old.owned.kept }
-    ensures used { result ≢ 4 → result ≢ 5 → result ≢ 7 → used.new ≡ 0 }
+    ensures ok { result ≡ WARG_OK → IsSomeAnd log.old.owned.kept (λ held.
+        told_moves belongs asked.now question.now envelope.now held log.new.owned.kept) }
+
+    // Under the answer that the caller gave, as the only one.
+    ensures no_envelope { result ≡ WARG_NO_ENVELOPE → IsSomeAnd log.old.owned.kept (λ held.
+        OfAnswer belongs asked.now question.now (λ answer.
+        is_unread (told_belongs answer) held envelope.now used.new text.new)) }
+    ensures refused { result ≡ WARG_REFUSED → IsSomeAnd log.old.owned.kept (λ held.
+        OfAnswer belongs asked.now question.now (λ answer.
+        is_unlawful (told_belongs answer) held envelope.now used.new text.new)) }
+    ensures bad_argument { result ≡ WARG_BAD_ARGUMENT → SaysNone asked.now question.now ×
+        IsGiven (misuse_text BadQuestion) used.new text.new }
+    ensures unchanged { result ≢ WARG_OK → log.new.owned.kept ≡ log.old.owned.kept }
+    ensures used { Unless (WARG_NO_ENVELOPE ∷ WARG_REFUSED ∷ WARG_BAD_ARGUMENT ∷ []) result
+        (used.new ≡ 0) }
     ensures behind { drop used.new text.new ≡ drop used.new text.old }
     ensures within { used.new ≤ length text.new }
 
     // As `laws::runs` takes it, among other such calls.
-    ensures call { IsCall (record {
-      envelope = envelope.now;
-      word = ByCaller question.now asked.now belongs;
-      status = result;
-    }) log.old.owned.kept log.new.owned.kept }
+    ensures call { IsCall (call_of envelope.now (ByCaller question.now asked.now belongs) result)
+        log.old.owned.kept log.new.owned.kept }
 {
     *used = 0;
     let Some(mut held) = log.take(alloc) else {
@@ -239,22 +262,29 @@ pub extern "C" fn warg_append_signed(
     text: &mut [u8],
     used: &mut usize,
 ) -> u32
+    ensures statuses { IsOneOf (WARG_OK ∷ WARG_NOT_OPEN ∷ WARG_OUT_OF_MEMORY ∷ WARG_NO_ENVELOPE ∷
+        WARG_REFUSED ∷ WARG_UNKNOWN_ALGORITHM ∷ []) result }
+    ensures not_open { (result ≡ WARG_NOT_OPEN) ↔ (log.old.owned.kept ≡ None) }
+
     // The record is lawful by a signature of `ecdsa-p256`. Whatever relation holds of all such signatures: what was
     // accepted under it still is, with the record.
-    ensures answer { Answers result log.old.owned.kept
-        (λ held. signed_moves envelope.now held log.new.owned.kept)
-        (λ held. signed_fails held envelope.now used.new text.new) }
-    ensures unchanged { result ≢ 0 → log.new.owned.kept ≡ log.old.owned.kept }
-    ensures used { result ≢ 4 → result ≢ 5 → used.new ≡ 0 }
+    ensures ok { result ≡ WARG_OK → IsSomeAnd log.old.owned.kept (λ held.
+        signed_moves envelope.now held log.new.owned.kept) }
+    ensures no_envelope { result ≡ WARG_NO_ENVELOPE → IsSomeAnd log.old.owned.kept (λ held.
+        is_unread p256_belongs held envelope.now used.new text.new) }
+    ensures refused { result ≡ WARG_REFUSED → IsSomeAnd log.old.owned.kept (λ held.
+        is_unlawful p256_belongs held envelope.now used.new text.new ×
+        (¬ asks_other held envelope.now)) }
+    ensures unknown_algorithm { result ≡ WARG_UNKNOWN_ALGORITHM →
+        IsSomeAnd log.old.owned.kept (λ held. asks_other held envelope.now) }
+    ensures unchanged { result ≢ WARG_OK → log.new.owned.kept ≡ log.old.owned.kept }
+    ensures used { Unless (WARG_NO_ENVELOPE ∷ WARG_REFUSED ∷ []) result (used.new ≡ 0) }
     ensures behind { drop used.new text.new ≡ drop used.new text.old }
     ensures within { used.new ≤ length text.new }
 
     // As `laws::runs` takes it, among other such calls.
-    ensures call { IsCall (record {
-      envelope = envelope.now;
-      word = ByLibrary;
-      status = result;
-    }) log.old.owned.kept log.new.owned.kept }
+    ensures call { IsCall (call_of envelope.now ByLibrary result) log.old.owned.kept
+        log.new.owned.kept }
 {
     *used = 0;
     let Some(mut held) = log.take(alloc) else {

@@ -1,11 +1,13 @@
 //! By which entries keys came to hold permissions.
-ghost use Rattle.std.specs.Prelude.{◌≡◌, ◌≢◌, ◌≤◌, ◌⊎◌, None, IfErr, IfOk, IsSome, map, length, take, drop};
+ghost use Rattle.std.specs.Prelude.{◌≡◌, ◌≢◌, ◌≤◌, ◌⊎◌, ◌↔◌, [], ◌∷◌, None, IfErr, IfOk, IsSome, IsSomeAnd, map};
+ghost use Rattle.std.specs.Prelude.{length, take, drop};
 ghost use Rattle.warg_c.specs.ChainAnswers.{ChainIs, NoChain, chain_bad, chain_lacks, chain_takes};
 ghost use Rattle.warg_c.specs.ChainAnswers.{chain_tells, shown_link};
 ghost use Rattle.warg_c.specs.Keys.{IsNoPermission};
 ghost use Rattle.warg_c.specs.Logs.{whole_of};
-ghost use Rattle.warg_c.specs.Statuses.{Answers};
-ghost use Rattle.warg_c.specs.Texts.{FailsAs, TextFails};
+ghost use Rattle.warg_c.specs.Statuses.{WARG_OK, WARG_NOT_OPEN, WARG_OUT_OF_MEMORY, WARG_TOO_SMALL, WARG_NONE};
+ghost use Rattle.warg_c.specs.Statuses.{WARG_BAD_ARGUMENT, IsOneOf, Unless};
+ghost use Rattle.warg_c.specs.Texts.{FailsAs, NeedsRoom};
 
 use crate::argument::{key_id_of, permission_of};
 use crate::failure::{Failure, status};
@@ -107,16 +109,24 @@ pub extern "C" fn warg_chain(
     links: &mut [Link],
     used: &mut usize,
 ) -> u32
-    ensures answer { Answers result log.old.owned.kept
-        (λ held. chain_tells held key_id.now permission.now (take used.new links.new))
-        (λ held. TextFails (chain_takes held permission.now) (chain_tells held key_id.now permission.now)
-        (chain_lacks held key_id.now permission.now)
-        (chain_bad held key_id.now permission.now) used.new links.old) }
+    ensures statuses { IsOneOf (WARG_OK ∷ WARG_NOT_OPEN ∷ WARG_OUT_OF_MEMORY ∷ WARG_TOO_SMALL ∷
+        WARG_NONE ∷ WARG_BAD_ARGUMENT ∷ []) result }
+    ensures not_open { (result ≡ WARG_NOT_OPEN) ↔ (log.old.owned.kept ≡ None) }
+    ensures ok { result ≡ WARG_OK → IsSomeAnd log.old.owned.kept (λ held.
+        chain_tells held key_id.now permission.now (take used.new links.new)) }
+    ensures out_of_memory { result ≡ WARG_OUT_OF_MEMORY → IsSomeAnd log.old.owned.kept (λ held.
+        chain_takes held permission.now) }
+    ensures too_small { result ≡ WARG_TOO_SMALL → IsSomeAnd log.old.owned.kept (λ held.
+        NeedsRoom (chain_tells held key_id.now permission.now) used.new links.old) }
+    ensures none { result ≡ WARG_NONE → IsSomeAnd log.old.owned.kept (λ held.
+        chain_lacks held key_id.now permission.now) }
+    ensures bad_argument { result ≡ WARG_BAD_ARGUMENT → IsSomeAnd log.old.owned.kept (λ held.
+        chain_bad held key_id.now permission.now) }
     ensures unchanged { log.new.owned.kept ≡ log.old.owned.kept }
-    ensures buffer { result ≢ 0 → links.new ≡ links.old }
-    ensures used { result ≢ 0 → result ≢ 3 → used.new ≡ 0 }
+    ensures buffer { result ≢ WARG_OK → links.new ≡ links.old }
+    ensures used { Unless (WARG_OK ∷ WARG_TOO_SMALL ∷ []) result (used.new ≡ 0) }
     ensures behind { drop used.new links.new ≡ drop used.new links.old }
-    ensures within { result ≢ 3 → used.new ≤ length links.new }
+    ensures within { result ≢ WARG_TOO_SMALL → used.new ≤ length links.new }
 {
     *used = 0;
     let Some(held) = log.take(alloc) else {

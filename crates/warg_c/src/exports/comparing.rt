@@ -1,9 +1,9 @@
 //! Two logs.
-ghost use Rattle.std.specs.Prelude.{◌≡◌, ◌≢◌, ◌⊎◌, None, Some, IfOk, IfErr};
-ghost use Rattle.warg_c.specs.ComparisonAnswers.{ComparisonIs, compare_tells, compare_answers, compare_bad, shown_of};
+ghost use Rattle.std.specs.Prelude.{◌≡◌, ◌≢◌, ◌⊎◌, ◌↔◌, [], ◌∷◌, None, Some, IfOk, IfErr, IsSomeAnd};
+ghost use Rattle.warg_c.specs.ComparisonAnswers.{AreBoth, ComparisonIs, compare_tells, compare_bad, shown_of};
 ghost use Rattle.warg_c.specs.Logs.{whole_of};
-ghost use Rattle.warg_c.specs.Statuses.{Answers};
-ghost use Rattle.warg_c.specs.Texts.{CallFails, FailsAs};
+ghost use Rattle.warg_c.specs.Statuses.{WARG_OK, WARG_NOT_OPEN, WARG_BAD_ARGUMENT, IsOneOf};
+ghost use Rattle.warg_c.specs.Texts.{FailsAs};
 
 use crate::failure::{Failure, status};
 use crate::given::finish_value;
@@ -71,10 +71,13 @@ fn compare_held(left: &Held, right: &Held) -> Result<Comparison, Failure>
 
 // Compares a log that is open with a handle's.
 fn compare_with(alloc: Global, left: &Held, right: &mut WargLog, comparison: &mut Comparison) -> u32
-    ensures answer { Answers result right.old.owned.kept
-        (λ held. compare_tells left.now held comparison.new)
-        (λ held. CallFails ⊥ ⊥ (compare_bad left.now held)) }
-    ensures kept { result ≢ 0 → comparison.new ≡ comparison.old }
+    ensures statuses { IsOneOf (WARG_OK ∷ WARG_NOT_OPEN ∷ WARG_BAD_ARGUMENT ∷ []) result }
+    ensures not_open { (result ≡ WARG_NOT_OPEN) ↔ (right.old.owned.kept ≡ None) }
+    ensures ok { result ≡ WARG_OK → IsSomeAnd right.old.owned.kept (λ held.
+        compare_tells left.now held comparison.new) }
+    ensures bad_argument { result ≡ WARG_BAD_ARGUMENT → IsSomeAnd right.old.owned.kept (λ held.
+        compare_bad left.now held) }
+    ensures kept { result ≢ WARG_OK → comparison.new ≡ comparison.old }
     ensures unchanged { right.new.owned.kept ≡ right.old.owned.kept }
 {
     let Some(held) = right.take(alloc) else {
@@ -94,9 +97,14 @@ pub extern "C" fn warg_compare(
     right: &mut WargLog,
     comparison: &mut Comparison,
 ) -> u32
-    ensures answer { compare_answers result left.old.owned.kept
-        right.old.owned.kept comparison.new }
-    ensures kept { result ≢ 0 → comparison.new ≡ comparison.old }
+    ensures statuses { IsOneOf (WARG_OK ∷ WARG_NOT_OPEN ∷ WARG_BAD_ARGUMENT ∷ []) result }
+    ensures not_open { (result ≡ WARG_NOT_OPEN) ↔
+        ((left.old.owned.kept ≡ None) ⊎ (right.old.owned.kept ≡ None)) }
+    ensures ok { result ≡ WARG_OK → AreBoth left.old.owned.kept right.old.owned.kept (λ l r.
+        compare_tells l r comparison.new) }
+    ensures bad_argument { result ≡ WARG_BAD_ARGUMENT →
+        AreBoth left.old.owned.kept right.old.owned.kept compare_bad }
+    ensures kept { result ≢ WARG_OK → comparison.new ≡ comparison.old }
     ensures unchanged { (left.new.owned.kept ≡ left.old.owned.kept) ×
         (right.new.owned.kept ≡ right.old.owned.kept) }
 {

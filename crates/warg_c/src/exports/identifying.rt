@@ -1,11 +1,13 @@
 //! The id of an envelope's record.
-ghost use Rattle.std.specs.Prelude.{◌≡◌, ◌≢◌, ◌≤◌, ◌⊎◌, Ok, Some, IfErr, OnOk, length, take, drop};
-ghost use Rattle.warg_envelope.specs.Envelopes.{envelope_of, envelope_fault_of};
-ghost use Rattle.warg_replay.specs.OutcomeRuns.{cause_named_by};
-ghost use Rattle.warg_c.specs.Ids.{IsIdOf, IdFails, id_tells, id_fails};
-ghost use Rattle.warg_c.specs.Statuses.{IsStatusOf};
-ghost use Rattle.warg_c.specs.Texts.{IsWithin, SaysCause};
+ghost use Rattle.std.specs.Prelude.{◌≡◌, ◌≢◌, ◌≤◌, ◌⊎◌, [], ◌∷◌, Ok, Some, IfErr, IsOk, OnOk, length, take, drop};
+ghost use Rattle.warg_c.specs.Held.{IsNoKind, kind_numbered};
+ghost use Rattle.warg_c.specs.Ids.{IsIdIn, IdFailsIn, id_tells, id_fails, is_no_envelope};
+ghost use Rattle.warg_c.specs.Misuses.{misuse_text};
+ghost use Rattle.warg_c.specs.Statuses.{WARG_OK, WARG_OUT_OF_MEMORY, WARG_TOO_SMALL, WARG_NO_ENVELOPE, WARG_REFUSED};
+ghost use Rattle.warg_c.specs.Statuses.{WARG_BAD_ARGUMENT, IsOneOf, Unless};
+ghost use Rattle.warg_c.specs.Texts.{IsGiven, IsWithin, NeedsRoom, SaysCause};
 ghost use Rattle.warg_c.specs.declared.failure.Failure.TheVariants.{BadArgument, NoEnvelope, Refused, TooSmall};
+ghost use Rattle.warg_c.specs.declared.misuse.Misuse.TheVariants.{NoKind};
 
 use crate::exports::records::id_text;
 use crate::failure::{Failure, status};
@@ -29,12 +31,10 @@ fn id_in<L: Validator>(
 ) -> Result<(), Failure>
 where
     L::Error: Named + fmt::Display,
-    ensures ok { OnOk result (IsIdOf L.kind (envelope_of L.Record.read) envelope.now
+    ensures ok { OnOk result (IsIdIn L.log L.Record.reading envelope.now
         (take used.new text.new)) }
-    ensures err { IfErr result (IdFails L.kind (envelope_of L.Record.read)
-        (cause_named_by (envelope_fault_of L.Record.fault_of) L.offence_of)
-        (SaysCause L.Error.name_of L.Error.output)
-        envelope.now text.old used.new text.new) }
+    ensures err { IfErr result (IdFailsIn L.log L.Record.reading
+        (SaysCause L.Error.name_of L.Error.output) envelope.now text.old used.new text.new) }
     ensures buffer { IfErr result (λ f. f ≡ TooSmall → text.new ≡ text.old) }
     ensures behind { used.old ≡ 0 → drop used.new text.new ≡ drop used.new text.old }
     ensures within { used.old ≡ 0 → IsWithin result used.new text.new }
@@ -88,13 +88,21 @@ pub extern "C" fn warg_id(
     text: &mut [u8],
     used: &mut usize,
 ) -> u32
-    ensures answer { IsStatusOf result (id_tells kind envelope.now (take used.new text.new))
-        (id_fails kind envelope.now text.old used.new text.new) }
-    ensures buffer { result ≡ 3 → text.new ≡ text.old }
-    ensures used { result ≢ 0 → result ≢ 3 → result ≢ 4 → result ≢ 5 → result ≢ 7 →
-        used.new ≡ 0 }
+    ensures statuses { IsOneOf (WARG_OK ∷ WARG_OUT_OF_MEMORY ∷ WARG_TOO_SMALL ∷ WARG_NO_ENVELOPE ∷
+        WARG_BAD_ARGUMENT ∷ []) result }
+    ensures ok { result ≡ WARG_OK → id_tells kind envelope.now (take used.new text.new) }
+    ensures out_of_memory { result ≡ WARG_OUT_OF_MEMORY → IsOk (kind_numbered kind) }
+    ensures too_small { result ≡ WARG_TOO_SMALL →
+        NeedsRoom (id_tells kind envelope.now) used.new text.old }
+    ensures no_envelope { result ≡ WARG_NO_ENVELOPE →
+        is_no_envelope kind envelope.now used.new text.new }
+    ensures bad_argument { result ≡ WARG_BAD_ARGUMENT →
+        IsNoKind kind × IsGiven (misuse_text NoKind) used.new text.new }
+    ensures buffer { result ≡ WARG_TOO_SMALL → text.new ≡ text.old }
+    ensures used { Unless (WARG_OK ∷ WARG_TOO_SMALL ∷ WARG_NO_ENVELOPE ∷ WARG_REFUSED ∷
+        WARG_BAD_ARGUMENT ∷ []) result (used.new ≡ 0) }
     ensures behind { drop used.new text.new ≡ drop used.new text.old }
-    ensures within { result ≢ 3 → used.new ≤ length text.new }
+    ensures within { result ≢ WARG_TOO_SMALL → used.new ≤ length text.new }
 {
     *used = 0;
     status(id_of(alloc, kind, envelope, text, used))

@@ -1,7 +1,7 @@
 //! Keys, and what they may do. A key id is the fingerprint of a key, and permissions are `release` and `yank` of package logs, and
 //! `commit`, `defineNamespace` and `importNamespace` of operator logs.
-ghost use Rattle.std.specs.Prelude.{◌≡◌, ◌≢◌, ◌≤◌, ◌⊎◌, None, Some, true, false, Bool, IfOk, IfErr};
-ghost use Rattle.std.specs.Prelude.{IsSome, OnOk, take, drop, length};
+ghost use Rattle.std.specs.Prelude.{◌≡◌, ◌≢◌, ◌≤◌, ◌⊎◌, ◌↔◌, [], ◌∷◌, None, Some, true, false, Bool, IfOk, IfErr};
+ghost use Rattle.std.specs.Prelude.{IsSome, IsSomeAnd, OnOk, take, drop, length};
 ghost use Rattle.std.specs.Option.{option_copied};
 ghost use Rattle.std.specs.Str.{IsUtf8};
 ghost use Rattle.warg_c.specs.Keys.{HoldsIs, IsNoPermission, KeyText, with_name, holds_tells, holds_bad};
@@ -10,9 +10,10 @@ ghost use Rattle.warg_c.specs.Keys.{permissions_lack, package_permissions, opera
 ghost use Rattle.warg_operator_log.specs.State as operators;
 ghost use Rattle.warg_package_log.specs.State as packages;
 ghost use Rattle.warg_c.specs.Logs.{state_of};
-ghost use Rattle.warg_c.specs.Statuses.{Answers};
+ghost use Rattle.warg_c.specs.Statuses.{WARG_OK, WARG_NOT_OPEN, WARG_OUT_OF_MEMORY, WARG_TOO_SMALL, WARG_NONE};
+ghost use Rattle.warg_c.specs.Statuses.{WARG_BAD_ARGUMENT, IsOneOf, Unless};
 ghost use Rattle.warg_c.specs.Misuses.{misuse_text};
-ghost use Rattle.warg_c.specs.Texts.{Always, CallFails, FailsAs, IsGiven, TextFails};
+ghost use Rattle.warg_c.specs.Texts.{Always, FailsAs, IsGiven, NeedsRoom};
 ghost use Rattle.warg_c.specs.declared.misuse.Misuse.TheVariants.{NotUtf8};
 
 use crate::argument::{key_id_of, permission_of};
@@ -77,11 +78,17 @@ pub extern "C" fn warg_holds(
     key_id: &[u8],
     permission: &[u8],
 ) -> u32
-    ensures answer { Answers result log.old.owned.kept
-        (λ held. holds_tells held key_id.now permission.now true)
-        (λ held. CallFails (is_permission held permission.now)
-        (holds_tells held key_id.now permission.now false)
-        (holds_bad held key_id.now permission.now)) }
+    ensures statuses { IsOneOf (WARG_OK ∷ WARG_NOT_OPEN ∷ WARG_OUT_OF_MEMORY ∷ WARG_NONE ∷
+        WARG_BAD_ARGUMENT ∷ []) result }
+    ensures not_open { (result ≡ WARG_NOT_OPEN) ↔ (log.old.owned.kept ≡ None) }
+    ensures ok { result ≡ WARG_OK → IsSomeAnd log.old.owned.kept (λ held.
+        holds_tells held key_id.now permission.now true) }
+    ensures out_of_memory { result ≡ WARG_OUT_OF_MEMORY → IsSomeAnd log.old.owned.kept (λ held.
+        is_permission held permission.now) }
+    ensures none { result ≡ WARG_NONE → IsSomeAnd log.old.owned.kept (λ held.
+        holds_tells held key_id.now permission.now false) }
+    ensures bad_argument { result ≡ WARG_BAD_ARGUMENT → IsSomeAnd log.old.owned.kept (λ held.
+        holds_bad held key_id.now permission.now) }
     ensures unchanged { log.new.owned.kept ≡ log.old.owned.kept }
 {
     let Some(held) = log.take(alloc) else {
@@ -195,17 +202,23 @@ pub extern "C" fn warg_permissions(
     text: &mut [u8],
     used: &mut usize,
 ) -> u32
-    ensures answer { Answers result log.old.owned.kept
-        (λ held. permissions_tell held key_id.now (take used.new text.new))
-        (λ held. TextFails Always (permissions_tell held key_id.now)
-        (permissions_lack held key_id.now)
-        ((IsUtf8 key_id.now → ⊥) × IsGiven (misuse_text NotUtf8) used.new text.new)
-        used.new text.old) }
+    ensures statuses { IsOneOf (WARG_OK ∷ WARG_NOT_OPEN ∷ WARG_OUT_OF_MEMORY ∷ WARG_TOO_SMALL ∷
+        WARG_NONE ∷ WARG_BAD_ARGUMENT ∷ []) result }
+    ensures not_open { (result ≡ WARG_NOT_OPEN) ↔ (log.old.owned.kept ≡ None) }
+    ensures ok { result ≡ WARG_OK → IsSomeAnd log.old.owned.kept (λ held.
+        permissions_tell held key_id.now (take used.new text.new)) }
+    ensures too_small { result ≡ WARG_TOO_SMALL → IsSomeAnd log.old.owned.kept (λ held.
+        NeedsRoom (permissions_tell held key_id.now) used.new text.old) }
+    ensures none { result ≡ WARG_NONE → IsSomeAnd log.old.owned.kept (λ held.
+        permissions_lack held key_id.now) }
+    ensures bad_argument { result ≡ WARG_BAD_ARGUMENT →
+        (IsUtf8 key_id.now → ⊥) × IsGiven (misuse_text NotUtf8) used.new text.new }
     ensures unchanged { log.new.owned.kept ≡ log.old.owned.kept }
-    ensures buffer { result ≢ 0 → result ≢ 7 → text.new ≡ text.old }
-    ensures used { result ≢ 0 → result ≢ 3 → result ≢ 7 → used.new ≡ 0 }
+    ensures buffer { Unless (WARG_OK ∷ WARG_BAD_ARGUMENT ∷ []) result (text.new ≡ text.old) }
+    ensures used { Unless (WARG_OK ∷ WARG_TOO_SMALL ∷ WARG_BAD_ARGUMENT ∷ []) result
+        (used.new ≡ 0) }
     ensures behind { drop used.new text.new ≡ drop used.new text.old }
-    ensures within { result ≢ 3 → used.new ≤ length text.new }
+    ensures within { result ≢ WARG_TOO_SMALL → used.new ≤ length text.new }
 {
     *used = 0;
     let Some(held) = log.take(alloc) else {
@@ -252,17 +265,23 @@ pub extern "C" fn warg_key(
     text: &mut [u8],
     used: &mut usize,
 ) -> u32
-    ensures answer { Answers result log.old.owned.kept
-        (λ held. KeyText (key_of held key_id.now) (take used.new text.new))
-        (λ held. TextFails Always (KeyText (key_of held key_id.now))
-        (key_of held key_id.now ≡ None)
-        ((IsUtf8 key_id.now → ⊥) × IsGiven (misuse_text NotUtf8) used.new text.new)
-        used.new text.old) }
+    ensures statuses { IsOneOf (WARG_OK ∷ WARG_NOT_OPEN ∷ WARG_OUT_OF_MEMORY ∷ WARG_TOO_SMALL ∷
+        WARG_NONE ∷ WARG_BAD_ARGUMENT ∷ []) result }
+    ensures not_open { (result ≡ WARG_NOT_OPEN) ↔ (log.old.owned.kept ≡ None) }
+    ensures ok { result ≡ WARG_OK → IsSomeAnd log.old.owned.kept (λ held.
+        KeyText (key_of held key_id.now) (take used.new text.new)) }
+    ensures too_small { result ≡ WARG_TOO_SMALL → IsSomeAnd log.old.owned.kept (λ held.
+        NeedsRoom (KeyText (key_of held key_id.now)) used.new text.old) }
+    ensures none { result ≡ WARG_NONE → IsSomeAnd log.old.owned.kept (λ held.
+        key_of held key_id.now ≡ None) }
+    ensures bad_argument { result ≡ WARG_BAD_ARGUMENT →
+        (IsUtf8 key_id.now → ⊥) × IsGiven (misuse_text NotUtf8) used.new text.new }
     ensures unchanged { log.new.owned.kept ≡ log.old.owned.kept }
-    ensures buffer { result ≢ 0 → result ≢ 7 → text.new ≡ text.old }
-    ensures used { result ≢ 0 → result ≢ 3 → result ≢ 7 → used.new ≡ 0 }
+    ensures buffer { Unless (WARG_OK ∷ WARG_BAD_ARGUMENT ∷ []) result (text.new ≡ text.old) }
+    ensures used { Unless (WARG_OK ∷ WARG_TOO_SMALL ∷ WARG_BAD_ARGUMENT ∷ []) result
+        (used.new ≡ 0) }
     ensures behind { drop used.new text.new ≡ drop used.new text.old }
-    ensures within { result ≢ 3 → used.new ≤ length text.new }
+    ensures within { result ≢ WARG_TOO_SMALL → used.new ≤ length text.new }
 {
     *used = 0;
     let Some(held) = log.take(alloc) else {

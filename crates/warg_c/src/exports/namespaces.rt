@@ -1,5 +1,6 @@
 //! The namespaces of an operator log.
-ghost use Rattle.std.specs.Prelude.{◌≡◌, ◌≢◌, ◌≤◌, ◌⊎◌, None, Some, IfOk, IfErr, IsSome, length, take, drop};
+ghost use Rattle.std.specs.Prelude.{◌≡◌, ◌≢◌, ◌≤◌, ◌⊎◌, ◌↔◌, [], ◌∷◌, None, Some, IfOk, IfErr, IsSome, IsSomeAnd};
+ghost use Rattle.std.specs.Prelude.{length, take, drop};
 ghost use Rattle.std.specs.Option.{option_copied, option_map};
 ghost use Rattle.std.specs.Str.{IsUtf8};
 ghost use Rattle.warg_operator_log.specs.NamespaceMap.{namespace_view};
@@ -7,8 +8,9 @@ ghost use Rattle.warg_operator_log.specs.State.{view_of};
 ghost use Rattle.warg_c.specs.Misuses.{misuse_text, operator_misuse};
 ghost use Rattle.warg_c.specs.NamespaceAnswers.{NamespaceIs, namespace_takes, namespace_tells};
 ghost use Rattle.warg_c.specs.NamespaceAnswers.{namespace_lacks, namespace_bad};
-ghost use Rattle.warg_c.specs.Statuses.{Answers};
-ghost use Rattle.warg_c.specs.Texts.{FailsAs, IsGiven, TextFails};
+ghost use Rattle.warg_c.specs.Statuses.{WARG_OK, WARG_NOT_OPEN, WARG_OUT_OF_MEMORY, WARG_TOO_SMALL, WARG_NONE};
+ghost use Rattle.warg_c.specs.Statuses.{WARG_BAD_ARGUMENT, IsOneOf, Unless};
+ghost use Rattle.warg_c.specs.Texts.{FailsAs, IsGiven, NeedsRoom};
 ghost use Rattle.warg_c.specs.declared.misuse.Misuse.TheVariants.{NotUtf8};
 
 use crate::failure::{Failure, status};
@@ -77,19 +79,28 @@ pub extern "C" fn warg_namespace(
     used: &mut usize,
     is_imported: &mut u32,
 ) -> u32
-    ensures answer { Answers result log.old.owned.kept
-        (λ held. namespace_tells held name.now is_imported.new (take used.new text.new))
-        (λ held. TextFails (namespace_takes held name.now)
-        (namespace_tells held name.now is_imported.new)
-        (namespace_lacks held name.now) (namespace_bad held name.now ×
-        IsGiven (misuse_text (operator_misuse held NotUtf8)) used.new text.new)
-        used.new text.old) }
+    ensures statuses { IsOneOf (WARG_OK ∷ WARG_NOT_OPEN ∷ WARG_OUT_OF_MEMORY ∷ WARG_TOO_SMALL ∷
+        WARG_NONE ∷ WARG_BAD_ARGUMENT ∷ []) result }
+    ensures not_open { (result ≡ WARG_NOT_OPEN) ↔ (log.old.owned.kept ≡ None) }
+    ensures ok { result ≡ WARG_OK → IsSomeAnd log.old.owned.kept (λ held.
+        namespace_tells held name.now is_imported.new (take used.new text.new)) }
+    ensures out_of_memory { result ≡ WARG_OUT_OF_MEMORY → IsSomeAnd log.old.owned.kept (λ held.
+        namespace_takes held name.now) }
+    ensures too_small { result ≡ WARG_TOO_SMALL → IsSomeAnd log.old.owned.kept (λ held.
+        NeedsRoom (namespace_tells held name.now is_imported.new) used.new text.old) }
+    ensures none { result ≡ WARG_NONE → IsSomeAnd log.old.owned.kept (λ held.
+        namespace_lacks held name.now) }
+    ensures bad_argument { result ≡ WARG_BAD_ARGUMENT → IsSomeAnd log.old.owned.kept (λ held.
+        namespace_bad held name.now ×
+        IsGiven (misuse_text (operator_misuse held NotUtf8)) used.new text.new) }
     ensures unchanged { log.new.owned.kept ≡ log.old.owned.kept }
-    ensures buffer { result ≢ 0 → result ≢ 7 → text.new ≡ text.old }
-    ensures used { result ≢ 0 → result ≢ 3 → result ≢ 7 → used.new ≡ 0 }
+    ensures buffer { Unless (WARG_OK ∷ WARG_BAD_ARGUMENT ∷ []) result (text.new ≡ text.old) }
+    ensures used { Unless (WARG_OK ∷ WARG_TOO_SMALL ∷ WARG_BAD_ARGUMENT ∷ []) result
+        (used.new ≡ 0) }
     ensures behind { drop used.new text.new ≡ drop used.new text.old }
-    ensures kept { result ≢ 0 → result ≢ 3 → is_imported.new ≡ is_imported.old }
-    ensures within { result ≢ 3 → used.new ≤ length text.new }
+    ensures kept { Unless (WARG_OK ∷ WARG_TOO_SMALL ∷ []) result
+        (is_imported.new ≡ is_imported.old) }
+    ensures within { result ≢ WARG_TOO_SMALL → used.new ≤ length text.new }
 {
     *used = 0;
     let Some(held) = log.take(alloc) else {

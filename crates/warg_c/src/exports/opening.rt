@@ -1,8 +1,8 @@
 //! Opening and closing.
-ghost use Rattle.std.specs.Prelude.{◌≡◌, ◌≢◌, ◌⊎◌, None, Some, IfOk, IfErr, IsOk, IsSomeAnd};
+ghost use Rattle.std.specs.Prelude.{◌≡◌, ◌≢◌, ◌⊎◌, [], ◌∷◌, None, Some, IfOk, IfErr, IsOk, IsSomeAnd};
 ghost use Rattle.warg_c.specs.Held.{IsNew, IsOfNumber, IsNoKind, kind_numbered};
-ghost use Rattle.warg_c.specs.Statuses.{IsStatusOf};
-ghost use Rattle.warg_c.specs.Texts.{CallFails, FailsAs};
+ghost use Rattle.warg_c.specs.Statuses.{WARG_OK, WARG_OUT_OF_MEMORY, WARG_BAD_ARGUMENT, IsOneOf};
+ghost use Rattle.warg_c.specs.Texts.{FailsAs};
 
 use crate::failure::{Failure, status};
 use crate::handle::WargLog;
@@ -28,10 +28,12 @@ fn opened(alloc: Global, kind: u32) -> Result<Box<Held>, Failure>
 ///   WARG_OUT_OF_MEMORY, WARG_BAD_ARGUMENT (no such kind): the log is as it was, open if it was open.
 #[unsafe(no_mangle)]
 pub extern "C" fn warg_open(alloc: Global, log: &mut WargLog, kind: u32) -> u32
-    ensures answer { IsStatusOf result
-        (IsSomeAnd log.new.owned.kept (λ held. IsNew held × IsOfNumber kind held))
-        (CallFails (IsOk (kind_numbered kind)) ⊥ (IsNoKind kind)) }
-    ensures unchanged { result ≢ 0 → log.new.owned.kept ≡ log.old.owned.kept }
+    ensures statuses { IsOneOf (WARG_OK ∷ WARG_OUT_OF_MEMORY ∷ WARG_BAD_ARGUMENT ∷ []) result }
+    ensures ok { result ≡ WARG_OK →
+        IsSomeAnd log.new.owned.kept (λ held. IsNew held × IsOfNumber kind held) }
+    ensures out_of_memory { result ≡ WARG_OUT_OF_MEMORY → IsOk (kind_numbered kind) }
+    ensures bad_argument { result ≡ WARG_BAD_ARGUMENT → IsNoKind kind }
+    ensures unchanged { result ≢ WARG_OK → log.new.owned.kept ≡ log.old.owned.kept }
 {
     match opened(alloc, kind) {
         Ok(held) => {

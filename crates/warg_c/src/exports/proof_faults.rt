@@ -1,11 +1,12 @@
 //! What is wrong with the text of a proof.
-ghost use Rattle.std.specs.Prelude.{◌≡◌, ◌≢◌, ◌≤◌, Err, IfOk, IfErr, IsOk, length, take, drop};
+ghost use Rattle.std.specs.Prelude.{◌≡◌, ◌≢◌, ◌≤◌, [], ◌∷◌, Err, IfOk, IfErr, IsOk, length, take, drop};
 ghost use Rattle.warg_transparency.specs.Texts.{log_proof_of, map_proof_of};
 ghost use Rattle.warg_c.specs.Misuses.{misuse_text};
 ghost use Rattle.warg_c.specs.ProofFaults.{FaultLacks, FaultTells, IsFaultOf, IsNoTree, proof_fault_name};
 ghost use Rattle.warg_c.specs.ProofFaults.{proof_on, tree_numbered};
-ghost use Rattle.warg_c.specs.Statuses.{IsStatusOf};
-ghost use Rattle.warg_c.specs.Texts.{Always, FailsAs, IsGiven, TextFails};
+ghost use Rattle.warg_c.specs.Statuses.{WARG_OK, WARG_OUT_OF_MEMORY, WARG_TOO_SMALL, WARG_NONE, WARG_BAD_ARGUMENT};
+ghost use Rattle.warg_c.specs.Statuses.{IsOneOf, Unless};
+ghost use Rattle.warg_c.specs.Texts.{Always, FailsAs, IsGiven, NeedsRoom};
 ghost use Rattle.warg_c.specs.declared.misuse.Misuse.TheVariants.{NoTree};
 
 use crate::failure::Failure;
@@ -88,14 +89,20 @@ pub extern "C" fn warg_proof_fault(
     text: &mut [u8],
     used: &mut usize,
 ) -> u32
-    ensures answer { IsStatusOf result (FaultTells tree proof.now (take used.new text.new))
-        (TextFails (IsOk (tree_numbered tree)) (FaultTells tree proof.now)
-        (FaultLacks tree proof.now)
-        (IsNoTree tree × IsGiven (misuse_text NoTree) used.new text.new) used.new text.old) }
-    ensures buffer { result ≢ 0 → result ≢ 7 → text.new ≡ text.old }
-    ensures used { result ≢ 0 → result ≢ 3 → result ≢ 7 → used.new ≡ 0 }
+    ensures statuses { IsOneOf (WARG_OK ∷ WARG_OUT_OF_MEMORY ∷ WARG_TOO_SMALL ∷ WARG_NONE ∷
+        WARG_BAD_ARGUMENT ∷ []) result }
+    ensures ok { result ≡ WARG_OK → FaultTells tree proof.now (take used.new text.new) }
+    ensures out_of_memory { result ≡ WARG_OUT_OF_MEMORY → IsOk (tree_numbered tree) }
+    ensures too_small { result ≡ WARG_TOO_SMALL →
+        NeedsRoom (FaultTells tree proof.now) used.new text.old }
+    ensures none { result ≡ WARG_NONE → FaultLacks tree proof.now }
+    ensures bad_argument { result ≡ WARG_BAD_ARGUMENT →
+        IsNoTree tree × IsGiven (misuse_text NoTree) used.new text.new }
+    ensures buffer { Unless (WARG_OK ∷ WARG_BAD_ARGUMENT ∷ []) result (text.new ≡ text.old) }
+    ensures used { Unless (WARG_OK ∷ WARG_TOO_SMALL ∷ WARG_BAD_ARGUMENT ∷ []) result
+        (used.new ≡ 0) }
     ensures behind { drop used.new text.new ≡ drop used.new text.old }
-    ensures within { result ≢ 3 → used.new ≤ length text.new }
+    ensures within { result ≢ WARG_TOO_SMALL → used.new ≤ length text.new }
 {
     let outcome = fault_text(alloc, tree, proof);
     finish_text(outcome, Misuse::NoTree, text, used)

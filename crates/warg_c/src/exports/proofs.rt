@@ -6,13 +6,13 @@
 //!   WARG_REFUSED: it does not hold.
 //!   WARG_BAD_ARGUMENT: a text is not of its form. `warg_proof_fault` says what is wrong with a proof's.
 //!   WARG_OUT_OF_MEMORY: nothing is said. The texts of the hashes are of their form.
-ghost use Rattle.std.specs.Prelude.{OnOk, IfErr};
+ghost use Rattle.std.specs.Prelude.{◌≡◌, [], ◌∷◌, OnOk, IfErr};
 ghost use Rattle.warg_c.specs.ProofAnswers.{AreHashes, AreTwoHashes, ShowsConsistency, ShowsInclusion, IsAbsence};
 ghost use Rattle.warg_c.specs.ProofAnswers.{IsConsistency, IsInclusion, IsNoAbsence, IsNoConsistency, IsNoInclusion};
 ghost use Rattle.warg_c.specs.ProofAnswers.{IsNoPresence, IsPresence, ShowsAbsence, ShowsNoConsistency};
 ghost use Rattle.warg_c.specs.ProofAnswers.{ShowsNoInclusion, ShowsNoAbsence, ShowsNoPresence, ShowsPresence};
 ghost use Rattle.warg_c.specs.ProofAnswers.{ProofFails};
-ghost use Rattle.warg_c.specs.Statuses.{IsStatusOf};
+ghost use Rattle.warg_c.specs.Statuses.{WARG_OK, WARG_OUT_OF_MEMORY, WARG_REFUSED, WARG_BAD_ARGUMENT, IsOneOf};
 
 use crate::failure::{Failure, status};
 use crate::proof_text::{hash_in, leaf_in, log_proof_in, map_proof_in};
@@ -65,12 +65,16 @@ pub extern "C" fn warg_verify_inclusion(
     root: &[u8],
     proof: &[u8],
 ) -> u32
-    ensures { IsStatusOf result (IsInclusion log_id.now record_id.now root.now proof.now
-        (ShowsInclusion place length))
-        (ProofFails (AreHashes log_id.now record_id.now root.now)
-        (IsInclusion log_id.now record_id.now root.now proof.now
-        (ShowsNoInclusion place length))
-        (IsNoInclusion log_id.now record_id.now root.now proof.now)) }
+    ensures statuses { IsOneOf (WARG_OK ∷ WARG_OUT_OF_MEMORY ∷ WARG_REFUSED ∷
+        WARG_BAD_ARGUMENT ∷ []) result }
+    ensures ok { result ≡ WARG_OK →
+        IsInclusion log_id.now record_id.now root.now proof.now (ShowsInclusion place length) }
+    ensures out_of_memory { result ≡ WARG_OUT_OF_MEMORY →
+        AreHashes log_id.now record_id.now root.now }
+    ensures refused { result ≡ WARG_REFUSED →
+        IsInclusion log_id.now record_id.now root.now proof.now (ShowsNoInclusion place length) }
+    ensures bad_argument { result ≡ WARG_BAD_ARGUMENT →
+        IsNoInclusion log_id.now record_id.now root.now proof.now }
 {
     let leaf_place = Place {
         index: place,
@@ -126,12 +130,17 @@ pub extern "C" fn warg_verify_consistency(
     new_root: &[u8],
     proof: &[u8],
 ) -> u32
-    ensures { IsStatusOf result (IsConsistency old_root.now new_root.now proof.now
-        (ShowsConsistency old_length new_length))
-        (ProofFails (AreTwoHashes old_root.now new_root.now)
-        (IsConsistency old_root.now new_root.now proof.now
-        (ShowsNoConsistency old_length new_length))
-        (IsNoConsistency old_root.now new_root.now proof.now)) }
+    ensures statuses { IsOneOf (WARG_OK ∷ WARG_OUT_OF_MEMORY ∷ WARG_REFUSED ∷
+        WARG_BAD_ARGUMENT ∷ []) result }
+    ensures ok { result ≡ WARG_OK →
+        IsConsistency old_root.now new_root.now proof.now (ShowsConsistency old_length new_length) }
+    ensures out_of_memory { result ≡ WARG_OUT_OF_MEMORY →
+        AreTwoHashes old_root.now new_root.now }
+    ensures refused { result ≡ WARG_REFUSED →
+        IsConsistency old_root.now new_root.now proof.now
+        (ShowsNoConsistency old_length new_length) }
+    ensures bad_argument { result ≡ WARG_BAD_ARGUMENT →
+        IsNoConsistency old_root.now new_root.now proof.now }
 {
     status(consistency(alloc, old_length, old_root, new_length, new_root, proof))
 }
@@ -173,11 +182,16 @@ pub extern "C" fn warg_verify_presence(
     root: &[u8],
     proof: &[u8],
 ) -> u32
-    ensures { IsStatusOf result (IsPresence log_id.now record_id.now root.now proof.now
-        ShowsPresence)
-        (ProofFails (AreHashes log_id.now record_id.now root.now)
-        (IsPresence log_id.now record_id.now root.now proof.now ShowsNoPresence)
-        (IsNoPresence log_id.now record_id.now root.now proof.now)) }
+    ensures statuses { IsOneOf (WARG_OK ∷ WARG_OUT_OF_MEMORY ∷ WARG_REFUSED ∷
+        WARG_BAD_ARGUMENT ∷ []) result }
+    ensures ok { result ≡ WARG_OK →
+        IsPresence log_id.now record_id.now root.now proof.now ShowsPresence }
+    ensures out_of_memory { result ≡ WARG_OUT_OF_MEMORY →
+        AreHashes log_id.now record_id.now root.now }
+    ensures refused { result ≡ WARG_REFUSED →
+        IsPresence log_id.now record_id.now root.now proof.now ShowsNoPresence }
+    ensures bad_argument { result ≡ WARG_BAD_ARGUMENT →
+        IsNoPresence log_id.now record_id.now root.now proof.now }
 {
     status(presence(alloc, log_id, record_id, root, proof))
 }
@@ -207,10 +221,16 @@ pub extern "C" fn warg_verify_absence(
     root: &[u8],
     proof: &[u8],
 ) -> u32
-    ensures { IsStatusOf result (IsAbsence log_id.now root.now proof.now ShowsAbsence)
-        (ProofFails (AreTwoHashes log_id.now root.now)
-        (IsAbsence log_id.now root.now proof.now ShowsNoAbsence)
-        (IsNoAbsence log_id.now root.now proof.now)) }
+    ensures statuses { IsOneOf (WARG_OK ∷ WARG_OUT_OF_MEMORY ∷ WARG_REFUSED ∷
+        WARG_BAD_ARGUMENT ∷ []) result }
+    ensures ok { result ≡ WARG_OK →
+        IsAbsence log_id.now root.now proof.now ShowsAbsence }
+    ensures out_of_memory { result ≡ WARG_OUT_OF_MEMORY →
+        AreTwoHashes log_id.now root.now }
+    ensures refused { result ≡ WARG_REFUSED →
+        IsAbsence log_id.now root.now proof.now ShowsNoAbsence }
+    ensures bad_argument { result ≡ WARG_BAD_ARGUMENT →
+        IsNoAbsence log_id.now root.now proof.now }
 {
     status(absence(alloc, log_id, root, proof))
 }

@@ -1,12 +1,14 @@
 //! The records of a log.
-ghost use Rattle.std.specs.Prelude.{◌≡◌, ◌≢◌, ◌≤◌, ◌⊎◌, ◌++◌, None, Some, IfOk, IfErr, IsSome, length, take, drop};
+ghost use Rattle.std.specs.Prelude.{◌≡◌, ◌≢◌, ◌≤◌, ◌⊎◌, ◌↔◌, [], ◌∷◌, ◌++◌, None, Some, IfOk, IfErr, IsSome, IsSomeAnd};
+ghost use Rattle.std.specs.Prelude.{length, take, drop};
 ghost use Rattle.std.specs.Option.{option_copied};
 ghost use Rattle.warg_c.specs.Lookups.{IdText, LengthIs, IsBeyond, IsRecord, IsRecordAt, head_of, length_tells};
 ghost use Rattle.warg_c.specs.Lookups.{has_no_records, record_takes, record_tells, record_lacks};
 ghost use Rattle.warg_c.specs.Logs.{whole_of};
-ghost use Rattle.warg_c.specs.Statuses.{Answers};
+ghost use Rattle.warg_c.specs.Statuses.{WARG_OK, WARG_NOT_OPEN, WARG_OUT_OF_MEMORY, WARG_TOO_SMALL, WARG_NONE};
+ghost use Rattle.warg_c.specs.Statuses.{WARG_BAD_ARGUMENT, IsOneOf, Unless};
 ghost use Rattle.warg_c.specs.Misuses.{misuse_text};
-ghost use Rattle.warg_c.specs.Texts.{Always, CallFails, FailsAs, IsGiven, TextFails};
+ghost use Rattle.warg_c.specs.Texts.{Always, FailsAs, IsGiven, NeedsRoom};
 ghost use Rattle.warg_c.specs.declared.misuse.Misuse.TheVariants.{Resumed};
 
 use crate::failure::{Failure, status};
@@ -68,15 +70,21 @@ pub extern "C" fn warg_head(
     text: &mut [u8],
     used: &mut usize,
 ) -> u32
-    ensures answer { Answers result log.old.owned.kept
-        (λ held. IdText (head_of held) (take used.new text.new))
-        (λ held. TextFails (IsSome (head_of held)) (IdText (head_of held)) (head_of held ≡ None) ⊥
-        used.new text.old) }
+    ensures statuses { IsOneOf (WARG_OK ∷ WARG_NOT_OPEN ∷ WARG_OUT_OF_MEMORY ∷ WARG_TOO_SMALL ∷
+        WARG_NONE ∷ []) result }
+    ensures not_open { (result ≡ WARG_NOT_OPEN) ↔ (log.old.owned.kept ≡ None) }
+    ensures ok { result ≡ WARG_OK → IsSomeAnd log.old.owned.kept (λ held.
+        IdText (head_of held) (take used.new text.new)) }
+    ensures out_of_memory { result ≡ WARG_OUT_OF_MEMORY → IsSomeAnd log.old.owned.kept (λ held.
+        IsSome (head_of held)) }
+    ensures too_small { result ≡ WARG_TOO_SMALL → IsSomeAnd log.old.owned.kept (λ held.
+        NeedsRoom (IdText (head_of held)) used.new text.old) }
+    ensures none { result ≡ WARG_NONE → IsSomeAnd log.old.owned.kept (λ held. head_of held ≡ None) }
     ensures unchanged { log.new.owned.kept ≡ log.old.owned.kept }
-    ensures buffer { result ≢ 0 → text.new ≡ text.old }
-    ensures used { result ≢ 0 → result ≢ 3 → used.new ≡ 0 }
+    ensures buffer { result ≢ WARG_OK → text.new ≡ text.old }
+    ensures used { Unless (WARG_OK ∷ WARG_TOO_SMALL ∷ []) result (used.new ≡ 0) }
     ensures behind { drop used.new text.new ≡ drop used.new text.old }
-    ensures within { result ≢ 3 → used.new ≤ length text.new }
+    ensures within { result ≢ WARG_TOO_SMALL → used.new ≤ length text.new }
 {
     *used = 0;
     let Some(held) = log.take(alloc) else {
@@ -111,10 +119,14 @@ fn length_of(held: &Held) -> Result<usize, Failure>
 ///   WARG_BAD_ARGUMENT: the log was resumed.
 #[unsafe(no_mangle)]
 pub extern "C" fn warg_length(alloc: Global, log: &mut WargLog, length: &mut usize) -> u32
-    ensures answer { Answers result log.old.owned.kept (λ held. length_tells held length.new)
-        (λ held. CallFails ⊥ ⊥ (has_no_records held)) }
+    ensures statuses { IsOneOf (WARG_OK ∷ WARG_NOT_OPEN ∷ WARG_BAD_ARGUMENT ∷ []) result }
+    ensures not_open { (result ≡ WARG_NOT_OPEN) ↔ (log.old.owned.kept ≡ None) }
+    ensures ok { result ≡ WARG_OK → IsSomeAnd log.old.owned.kept (λ held.
+        length_tells held length.new) }
+    ensures bad_argument { result ≡ WARG_BAD_ARGUMENT → IsSomeAnd log.old.owned.kept (λ held.
+        has_no_records held) }
     ensures unchanged { log.new.owned.kept ≡ log.old.owned.kept }
-    ensures kept { result ≢ 0 → length.new ≡ length.old }
+    ensures kept { result ≢ WARG_OK → length.new ≡ length.old }
 {
     let Some(held) = log.take(alloc) else {
         return status(Err(Failure::NotOpen));
@@ -148,8 +160,8 @@ fn record_of<L: Validator>(
     place: usize,
 ) -> Result<(Vec<u8>, KeptLengths), Failure>
     ensures ok { IfOk result (λ p. IsRecordAt L.kind (whole_of log.now) place p.1 p.0.items) }
-    ensures err { IfErr result (FailsAs (IsSome (whole_of log.now)) (IsBeyond (whole_of log.now) place)
-        (whole_of log.now ≡ None)) }
+    ensures err { IfErr result (FailsAs (IsSome (whole_of log.now))
+        (IsBeyond (whole_of log.now) place) (whole_of log.now ≡ None)) }
 {
     let Some(log) = log.whole() else {
         return Err(Failure::BadArgument);
@@ -188,18 +200,26 @@ pub extern "C" fn warg_record(
     used: &mut usize,
     kept: &mut KeptLengths,
 ) -> u32
-    ensures answer { Answers result log.old.owned.kept
-        (λ held. record_tells held place kept.new (take used.new bytes.new))
-        (λ held. TextFails (record_takes held) (record_tells held place kept.new)
-        (record_lacks held place)
-        (has_no_records held × IsGiven (misuse_text Resumed) used.new bytes.new)
-        used.new bytes.old) }
+    ensures statuses { IsOneOf (WARG_OK ∷ WARG_NOT_OPEN ∷ WARG_OUT_OF_MEMORY ∷ WARG_TOO_SMALL ∷
+        WARG_NONE ∷ WARG_BAD_ARGUMENT ∷ []) result }
+    ensures not_open { (result ≡ WARG_NOT_OPEN) ↔ (log.old.owned.kept ≡ None) }
+    ensures ok { result ≡ WARG_OK → IsSomeAnd log.old.owned.kept (λ held.
+        record_tells held place kept.new (take used.new bytes.new)) }
+    ensures out_of_memory { result ≡ WARG_OUT_OF_MEMORY → IsSomeAnd log.old.owned.kept (λ held.
+        record_takes held) }
+    ensures too_small { result ≡ WARG_TOO_SMALL → IsSomeAnd log.old.owned.kept (λ held.
+        NeedsRoom (record_tells held place kept.new) used.new bytes.old) }
+    ensures none { result ≡ WARG_NONE → IsSomeAnd log.old.owned.kept (λ held.
+        record_lacks held place) }
+    ensures bad_argument { result ≡ WARG_BAD_ARGUMENT → IsSomeAnd log.old.owned.kept (λ held.
+        has_no_records held × IsGiven (misuse_text Resumed) used.new bytes.new) }
     ensures unchanged { log.new.owned.kept ≡ log.old.owned.kept }
-    ensures buffer { result ≢ 0 → result ≢ 7 → bytes.new ≡ bytes.old }
-    ensures used { result ≢ 0 → result ≢ 3 → result ≢ 7 → used.new ≡ 0 }
+    ensures buffer { Unless (WARG_OK ∷ WARG_BAD_ARGUMENT ∷ []) result (bytes.new ≡ bytes.old) }
+    ensures used { Unless (WARG_OK ∷ WARG_TOO_SMALL ∷ WARG_BAD_ARGUMENT ∷ []) result
+        (used.new ≡ 0) }
     ensures behind { drop used.new bytes.new ≡ drop used.new bytes.old }
-    ensures unshown { result ≢ 0 → result ≢ 3 → kept.new ≡ kept.old }
-    ensures within { result ≢ 3 → used.new ≤ length bytes.new }
+    ensures unshown { Unless (WARG_OK ∷ WARG_TOO_SMALL ∷ []) result (kept.new ≡ kept.old) }
+    ensures within { result ≢ WARG_TOO_SMALL → used.new ≤ length bytes.new }
 {
     *used = 0;
     let Some(held) = log.take(alloc) else {

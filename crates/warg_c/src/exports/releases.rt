@@ -1,6 +1,6 @@
 //! The releases of a package log.
 ghost use Rattle.std.specs.Prelude.{◌≡◌, ◌≢◌, ◌≤◌, ◌⊎◌, Ok, Some, None, ◌↔◌, IsTrue, IfOk, IfErr};
-ghost use Rattle.std.specs.Prelude.{IsSome, map, length, take, drop};
+ghost use Rattle.std.specs.Prelude.{[], ◌∷◌, IsSome, IsSomeAnd, map, length, take, drop};
 ghost use Rattle.std.specs.Option.{option_copied, option_map};
 ghost use Rattle.warg_package_log.specs.Releases.{ReleaseView};
 ghost use Rattle.semver.specs.Identifiers.{comparator_view, parts_of};
@@ -11,8 +11,9 @@ ghost use Rattle.warg_c.specs.ReleaseAnswers.{is_package, latest_bad, latest_lac
 ghost use Rattle.warg_c.specs.ReleaseAnswers.{place_lacks, place_takes, place_tells, release_bad, release_lacks};
 ghost use Rattle.warg_c.specs.ReleaseAnswers.{release_tells};
 ghost use Rattle.warg_c.specs.Misuses.{misuse_text, package_misuse};
-ghost use Rattle.warg_c.specs.Statuses.{Answers};
-ghost use Rattle.warg_c.specs.Texts.{Always, FailsAs, IsGiven, TextFails};
+ghost use Rattle.warg_c.specs.Statuses.{WARG_OK, WARG_NOT_OPEN, WARG_OUT_OF_MEMORY, WARG_TOO_SMALL, WARG_NONE};
+ghost use Rattle.warg_c.specs.Statuses.{WARG_BAD_ARGUMENT, IsOneOf, Unless};
+ghost use Rattle.warg_c.specs.Texts.{Always, FailsAs, IsGiven, NeedsRoom};
 ghost use Rattle.warg_c.specs.declared.misuse.Misuse.TheVariants.{BadRequirement, BadVersion, WrongKind};
 
 use crate::failure::{Failure, status};
@@ -100,8 +101,8 @@ fn latest_of(
     requirement: &[u8],
 ) -> Result<(Vec<u8>, ShownRelease), Failure>
     ensures ok { IfOk result (λ p. latest_tells held.now requirement.now p.1 p.0.items) }
-    ensures err { IfErr result (FailsAs (is_package held.now) (latest_lacks held.now requirement.now)
-        (latest_bad held.now requirement.now)) }
+    ensures err { IfErr result (FailsAs (is_package held.now)
+        (latest_lacks held.now requirement.now) (latest_bad held.now requirement.now)) }
 {
     match held {
         Held::Package(log) => latest_in(alloc, log.state(), requirement),
@@ -121,18 +122,27 @@ pub extern "C" fn warg_latest(
     used: &mut usize,
     release: &mut ShownRelease,
 ) -> u32
-    ensures answer { Answers result log.old.owned.kept
-        (λ held. latest_tells held requirement.now release.new (take used.new text.new))
-        (λ held. TextFails (is_package held) (latest_tells held requirement.now release.new)
-        (latest_lacks held requirement.now) (latest_bad held requirement.now ×
-        IsGiven (misuse_text (package_misuse held BadRequirement)) used.new text.new)
-        used.new text.old) }
+    ensures statuses { IsOneOf (WARG_OK ∷ WARG_NOT_OPEN ∷ WARG_OUT_OF_MEMORY ∷ WARG_TOO_SMALL ∷
+        WARG_NONE ∷ WARG_BAD_ARGUMENT ∷ []) result }
+    ensures not_open { (result ≡ WARG_NOT_OPEN) ↔ (log.old.owned.kept ≡ None) }
+    ensures ok { result ≡ WARG_OK → IsSomeAnd log.old.owned.kept (λ held.
+        latest_tells held requirement.now release.new (take used.new text.new)) }
+    ensures out_of_memory { result ≡ WARG_OUT_OF_MEMORY → IsSomeAnd log.old.owned.kept (λ held.
+        is_package held) }
+    ensures too_small { result ≡ WARG_TOO_SMALL → IsSomeAnd log.old.owned.kept (λ held.
+        NeedsRoom (latest_tells held requirement.now release.new) used.new text.old) }
+    ensures none { result ≡ WARG_NONE → IsSomeAnd log.old.owned.kept (λ held.
+        latest_lacks held requirement.now) }
+    ensures bad_argument { result ≡ WARG_BAD_ARGUMENT → IsSomeAnd log.old.owned.kept (λ held.
+        latest_bad held requirement.now ×
+        IsGiven (misuse_text (package_misuse held BadRequirement)) used.new text.new) }
     ensures unchanged { log.new.owned.kept ≡ log.old.owned.kept }
-    ensures buffer { result ≢ 0 → result ≢ 7 → text.new ≡ text.old }
-    ensures used { result ≢ 0 → result ≢ 3 → result ≢ 7 → used.new ≡ 0 }
+    ensures buffer { Unless (WARG_OK ∷ WARG_BAD_ARGUMENT ∷ []) result (text.new ≡ text.old) }
+    ensures used { Unless (WARG_OK ∷ WARG_TOO_SMALL ∷ WARG_BAD_ARGUMENT ∷ []) result
+        (used.new ≡ 0) }
     ensures behind { drop used.new text.new ≡ drop used.new text.old }
-    ensures kept { result ≢ 0 → result ≢ 3 → release.new ≡ release.old }
-    ensures within { result ≢ 3 → used.new ≤ length text.new }
+    ensures kept { Unless (WARG_OK ∷ WARG_TOO_SMALL ∷ []) result (release.new ≡ release.old) }
+    ensures within { result ≢ WARG_TOO_SMALL → used.new ≤ length text.new }
 {
     *used = 0;
     let Some(held) = log.take(alloc) else {
@@ -186,18 +196,27 @@ pub extern "C" fn warg_release(
     used: &mut usize,
     release: &mut ShownRelease,
 ) -> u32
-    ensures answer { Answers result log.old.owned.kept
-        (λ held. release_tells held version.now release.new (take used.new text.new))
-        (λ held. TextFails (is_package held) (release_tells held version.now release.new)
-        (release_lacks held version.now) (release_bad held version.now ×
-        IsGiven (misuse_text (package_misuse held BadVersion)) used.new text.new)
-        used.new text.old) }
+    ensures statuses { IsOneOf (WARG_OK ∷ WARG_NOT_OPEN ∷ WARG_OUT_OF_MEMORY ∷ WARG_TOO_SMALL ∷
+        WARG_NONE ∷ WARG_BAD_ARGUMENT ∷ []) result }
+    ensures not_open { (result ≡ WARG_NOT_OPEN) ↔ (log.old.owned.kept ≡ None) }
+    ensures ok { result ≡ WARG_OK → IsSomeAnd log.old.owned.kept (λ held.
+        release_tells held version.now release.new (take used.new text.new)) }
+    ensures out_of_memory { result ≡ WARG_OUT_OF_MEMORY → IsSomeAnd log.old.owned.kept (λ held.
+        is_package held) }
+    ensures too_small { result ≡ WARG_TOO_SMALL → IsSomeAnd log.old.owned.kept (λ held.
+        NeedsRoom (release_tells held version.now release.new) used.new text.old) }
+    ensures none { result ≡ WARG_NONE → IsSomeAnd log.old.owned.kept (λ held.
+        release_lacks held version.now) }
+    ensures bad_argument { result ≡ WARG_BAD_ARGUMENT → IsSomeAnd log.old.owned.kept (λ held.
+        release_bad held version.now ×
+        IsGiven (misuse_text (package_misuse held BadVersion)) used.new text.new) }
     ensures unchanged { log.new.owned.kept ≡ log.old.owned.kept }
-    ensures buffer { result ≢ 0 → result ≢ 7 → text.new ≡ text.old }
-    ensures used { result ≢ 0 → result ≢ 3 → result ≢ 7 → used.new ≡ 0 }
+    ensures buffer { Unless (WARG_OK ∷ WARG_BAD_ARGUMENT ∷ []) result (text.new ≡ text.old) }
+    ensures used { Unless (WARG_OK ∷ WARG_TOO_SMALL ∷ WARG_BAD_ARGUMENT ∷ []) result
+        (used.new ≡ 0) }
     ensures behind { drop used.new text.new ≡ drop used.new text.old }
-    ensures kept { result ≢ 0 → result ≢ 3 → release.new ≡ release.old }
-    ensures within { result ≢ 3 → used.new ≤ length text.new }
+    ensures kept { Unless (WARG_OK ∷ WARG_TOO_SMALL ∷ []) result (release.new ≡ release.old) }
+    ensures within { result ≢ WARG_TOO_SMALL → used.new ≤ length text.new }
 {
     *used = 0;
     let Some(held) = log.take(alloc) else {
@@ -240,18 +259,26 @@ pub extern "C" fn warg_releases(
     used: &mut usize,
     release: &mut ShownRelease,
 ) -> u32
-    ensures answer { Answers result log.old.owned.kept
-        (λ held. place_tells held place release.new (take used.new text.new))
-        (λ held. TextFails (place_takes held place) (place_tells held place release.new)
-        (place_lacks held place)
-        (place_bad held × IsGiven (misuse_text WrongKind) used.new text.new)
-        used.new text.old) }
+    ensures statuses { IsOneOf (WARG_OK ∷ WARG_NOT_OPEN ∷ WARG_OUT_OF_MEMORY ∷ WARG_TOO_SMALL ∷
+        WARG_NONE ∷ WARG_BAD_ARGUMENT ∷ []) result }
+    ensures not_open { (result ≡ WARG_NOT_OPEN) ↔ (log.old.owned.kept ≡ None) }
+    ensures ok { result ≡ WARG_OK → IsSomeAnd log.old.owned.kept (λ held.
+        place_tells held place release.new (take used.new text.new)) }
+    ensures out_of_memory { result ≡ WARG_OUT_OF_MEMORY → IsSomeAnd log.old.owned.kept (λ held.
+        place_takes held place) }
+    ensures too_small { result ≡ WARG_TOO_SMALL → IsSomeAnd log.old.owned.kept (λ held.
+        NeedsRoom (place_tells held place release.new) used.new text.old) }
+    ensures none { result ≡ WARG_NONE → IsSomeAnd log.old.owned.kept (λ held.
+        place_lacks held place) }
+    ensures bad_argument { result ≡ WARG_BAD_ARGUMENT → IsSomeAnd log.old.owned.kept (λ held.
+        place_bad held × IsGiven (misuse_text WrongKind) used.new text.new) }
     ensures unchanged { log.new.owned.kept ≡ log.old.owned.kept }
-    ensures buffer { result ≢ 0 → result ≢ 7 → text.new ≡ text.old }
-    ensures used { result ≢ 0 → result ≢ 3 → result ≢ 7 → used.new ≡ 0 }
+    ensures buffer { Unless (WARG_OK ∷ WARG_BAD_ARGUMENT ∷ []) result (text.new ≡ text.old) }
+    ensures used { Unless (WARG_OK ∷ WARG_TOO_SMALL ∷ WARG_BAD_ARGUMENT ∷ []) result
+        (used.new ≡ 0) }
     ensures behind { drop used.new text.new ≡ drop used.new text.old }
-    ensures kept { result ≢ 0 → result ≢ 3 → release.new ≡ release.old }
-    ensures within { result ≢ 3 → used.new ≤ length text.new }
+    ensures kept { Unless (WARG_OK ∷ WARG_TOO_SMALL ∷ []) result (release.new ≡ release.old) }
+    ensures within { result ≢ WARG_TOO_SMALL → used.new ≤ length text.new }
 {
     *used = 0;
     let Some(held) = log.take(alloc) else {

@@ -1,5 +1,6 @@
 //! Saving a state, and going on from one.
-ghost use Rattle.std.specs.Prelude.{◌≡◌, ◌≢◌, ◌≤◌, ◌⊎◌, Err, IfOk, IfErr, IsOk, IsSomeAnd, length, take, drop};
+ghost use Rattle.std.specs.Prelude.{◌≡◌, ◌≢◌, ◌≤◌, ◌⊎◌, ◌↔◌, [], ◌∷◌, None, Err, IfOk, IfErr, IsOk, IsSomeAnd};
+ghost use Rattle.std.specs.Prelude.{length, take, drop};
 ghost use Rattle.std.specs.Str.{IsUtf8};
 ghost use Rattle.warg_crypto.specs.Json.Json.{AreReadBack};
 ghost use Rattle.warg_saved_states.specs.JsonText.{TextReadsBack};
@@ -9,8 +10,9 @@ ghost use Rattle.warg_c.specs.declared.failure.Failure.TheVariants.{OutOfMemory,
 ghost use Rattle.warg_c.specs.Held.{IsNoKind, IsOfKind, kind_numbered};
 ghost use Rattle.warg_c.specs.Saved.{IsWritten, SaysNoState, fault_text, value_text, reads_back, save_tells};
 ghost use Rattle.warg_c.specs.Saved.{save_lacks, saved_text, resume_gives, resume_gives_number, is_no_saved};
-ghost use Rattle.warg_c.specs.Statuses.{IsStatusOf, Answers};
-ghost use Rattle.warg_c.specs.Texts.{Always, CallFails, FailsAs, IsGiven, TextFails};
+ghost use Rattle.warg_c.specs.Statuses.{WARG_OK, WARG_NOT_OPEN, WARG_OUT_OF_MEMORY, WARG_TOO_SMALL, WARG_NONE};
+ghost use Rattle.warg_c.specs.Statuses.{WARG_BAD_ARGUMENT, IsOneOf, Unless};
+ghost use Rattle.warg_c.specs.Texts.{Always, FailsAs, IsGiven, NeedsRoom};
 
 use crate::failure::{Failure, status};
 use crate::given::{finish, give_if_room};
@@ -60,16 +62,21 @@ pub extern "C" fn warg_save(
     text: &mut [u8],
     used: &mut usize,
 ) -> u32
-    ensures answer { Answers result log.old.owned.kept
-        (λ held. save_tells held (take used.new text.new))
-        (λ held. TextFails Always (save_tells held) (save_lacks held) ⊥ used.new text.old) }
+    ensures statuses { IsOneOf (WARG_OK ∷ WARG_NOT_OPEN ∷ WARG_OUT_OF_MEMORY ∷ WARG_TOO_SMALL ∷
+        WARG_NONE ∷ []) result }
+    ensures not_open { (result ≡ WARG_NOT_OPEN) ↔ (log.old.owned.kept ≡ None) }
+    ensures ok { result ≡ WARG_OK → IsSomeAnd log.old.owned.kept (λ held.
+        save_tells held (take used.new text.new)) }
+    ensures back { result ≡ WARG_OK → IsSomeAnd log.old.owned.kept (λ held.
+        reads_back held (take used.new text.new)) }
+    ensures too_small { result ≡ WARG_TOO_SMALL → IsSomeAnd log.old.owned.kept (λ held.
+        NeedsRoom (save_tells held) used.new text.old) }
+    ensures none { result ≡ WARG_NONE → IsSomeAnd log.old.owned.kept (λ held. save_lacks held) }
     ensures unchanged { log.new.owned.kept ≡ log.old.owned.kept }
-    ensures back { result ≡ 0 →
-        IsSomeAnd log.old.owned.kept (λ held. reads_back held (take used.new text.new)) }
-    ensures buffer { result ≢ 0 → text.new ≡ text.old }
-    ensures used { result ≢ 0 → result ≢ 3 → used.new ≡ 0 }
+    ensures buffer { result ≢ WARG_OK → text.new ≡ text.old }
+    ensures used { Unless (WARG_OK ∷ WARG_TOO_SMALL ∷ []) result (used.new ≡ 0) }
     ensures behind { drop used.new text.new ≡ drop used.new text.old }
-    ensures within { result ≢ 3 → used.new ≤ length text.new }
+    ensures within { result ≢ WARG_TOO_SMALL → used.new ≤ length text.new }
 {
     *used = 0;
     let Some(held) = log.take(alloc) else {
@@ -183,12 +190,14 @@ pub extern "C" fn warg_resume(
     text: &mut [u8],
     used: &mut usize,
 ) -> u32
-    ensures answer { IsStatusOf result (IsSomeAnd log.new.owned.kept
-        (resume_gives_number kind saved.now))
-        (CallFails (IsOk (kind_numbered kind)) ⊥
-        (is_no_saved kind saved.now used.new text.new)) }
-    ensures unchanged { result ≢ 0 → log.new.owned.kept ≡ log.old.owned.kept }
-    ensures used { result ≢ 7 → used.new ≡ 0 }
+    ensures statuses { IsOneOf (WARG_OK ∷ WARG_OUT_OF_MEMORY ∷ WARG_BAD_ARGUMENT ∷ []) result }
+    ensures ok { result ≡ WARG_OK →
+        IsSomeAnd log.new.owned.kept (resume_gives_number kind saved.now) }
+    ensures out_of_memory { result ≡ WARG_OUT_OF_MEMORY → IsOk (kind_numbered kind) }
+    ensures bad_argument { result ≡ WARG_BAD_ARGUMENT →
+        is_no_saved kind saved.now used.new text.new }
+    ensures unchanged { result ≢ WARG_OK → log.new.owned.kept ≡ log.old.owned.kept }
+    ensures used { result ≢ WARG_BAD_ARGUMENT → used.new ≡ 0 }
     ensures behind { drop used.new text.new ≡ drop used.new text.old }
     ensures within { used.new ≤ length text.new }
 {

@@ -1,7 +1,7 @@
 //! The names of statuses.
-ghost use Rattle.std.specs.Prelude.{◌≡◌, ◌≢◌, ◌≤◌, None, Some, IfOk, IfErr, length, take, drop};
-ghost use Rattle.warg_c.specs.Statuses.{IsStatusOf, status_name};
-ghost use Rattle.warg_c.specs.Texts.{FailsAs, TextFails};
+ghost use Rattle.std.specs.Prelude.{◌≡◌, ◌≢◌, ◌≤◌, [], ◌∷◌, None, Some, IfOk, IfErr, length, take, drop};
+ghost use Rattle.warg_c.specs.Statuses.{WARG_OK, WARG_TOO_SMALL, WARG_NONE, IsOneOf, Unless, status_name};
+ghost use Rattle.warg_c.specs.Texts.{FailsAs, NeedsRoom};
 
 use crate::failure::{Failure, status};
 use crate::given::give;
@@ -29,13 +29,15 @@ fn name_of(number: u32) -> Result<&'static str, Failure>
 ///   WARG_NONE: the number is no status.
 #[unsafe(no_mangle)]
 pub extern "C" fn warg_status_name(number: u32, text: &mut [u8], used: &mut usize) -> u32
-    ensures answer { IsStatusOf result (status_name number ≡ Some (take used.new text.new))
-        (TextFails ⊥ (λ name. status_name number ≡ Some name) (status_name number ≡ None) ⊥
-        used.new text.old) }
-    ensures buffer { result ≢ 0 → text.new ≡ text.old }
-    ensures used { result ≢ 0 → result ≢ 3 → used.new ≡ 0 }
+    ensures statuses { IsOneOf (WARG_OK ∷ WARG_TOO_SMALL ∷ WARG_NONE ∷ []) result }
+    ensures ok { result ≡ WARG_OK → status_name number ≡ Some (take used.new text.new) }
+    ensures too_small { result ≡ WARG_TOO_SMALL →
+        NeedsRoom (λ name. status_name number ≡ Some name) used.new text.old }
+    ensures none { result ≡ WARG_NONE → status_name number ≡ None }
+    ensures buffer { result ≢ WARG_OK → text.new ≡ text.old }
+    ensures used { Unless (WARG_OK ∷ WARG_TOO_SMALL ∷ []) result (used.new ≡ 0) }
     ensures behind { drop used.new text.new ≡ drop used.new text.old }
-    ensures within { result ≢ 3 → used.new ≤ length text.new }
+    ensures within { result ≢ WARG_TOO_SMALL → used.new ≤ length text.new }
 {
     *used = 0;
     match name_of(number) {

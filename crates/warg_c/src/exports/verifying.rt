@@ -1,7 +1,8 @@
 //! Verifying a signature.
-ghost use Rattle.std.specs.Prelude.{true, OnOk, IfErr};
-ghost use Rattle.warg_c.specs.Statuses.{IsStatusOf};
-ghost use Rattle.warg_c.specs.Verifying.{IsJudged, VerifyFails};
+ghost use Rattle.std.specs.Prelude.{◌≡◌, [], ◌∷◌, true, false, OnOk, IfErr};
+ghost use Rattle.warg_c.specs.Statuses.{WARG_OK, WARG_OUT_OF_MEMORY, WARG_REFUSED, WARG_BAD_ARGUMENT};
+ghost use Rattle.warg_c.specs.Statuses.{WARG_UNKNOWN_ALGORITHM, IsOneOf};
+ghost use Rattle.warg_c.specs.Verifying.{IsJudged, IsNotVerified, IsOtherKey, VerifyFails};
 
 use crate::failure::{Failure, status};
 use crate::question::{is_p256_key, parse_key, parse_signature};
@@ -31,8 +32,12 @@ fn verify(alloc: Global, key: &[u8], message: &[u8], signature: &[u8]) -> Result
 ///   WARG_UNKNOWN_ALGORITHM: the key's algorithm is not `ecdsa-p256`. The signature's text was not looked at.
 #[unsafe(no_mangle)]
 pub extern "C" fn warg_verify(alloc: Global, key: &[u8], message: &[u8], signature: &[u8]) -> u32
-    ensures { IsStatusOf result (IsJudged key.now message.now signature.now true)
-        (VerifyFails key.now message.now signature.now) }
+    ensures statuses { IsOneOf (WARG_OK ∷ WARG_OUT_OF_MEMORY ∷ WARG_REFUSED ∷ WARG_BAD_ARGUMENT ∷
+        WARG_UNKNOWN_ALGORITHM ∷ []) result }
+    ensures ok { result ≡ WARG_OK → IsJudged key.now message.now signature.now true }
+    ensures refused { result ≡ WARG_REFUSED → IsJudged key.now message.now signature.now false }
+    ensures bad_argument { result ≡ WARG_BAD_ARGUMENT → IsNotVerified key.now signature.now }
+    ensures unknown_algorithm { result ≡ WARG_UNKNOWN_ALGORITHM → IsOtherKey key.now }
 {
     status(verify(alloc, key, message, signature))
 }

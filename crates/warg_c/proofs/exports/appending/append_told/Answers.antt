@@ -1,6 +1,6 @@
 use Rattle.std.proofs.Common.{subst}
 use Rattle.std.specs.Prelude.{IfErr}
-use Rattle.warg_c.specs.Held.{append_refuses}
+use Rattle.warg_c.specs.AppendFailures.{append_refuses}
 use Rattle.warg_c.proofs.Answers.{fails-if}
 use Rattle.warg_c.proofs.exports.appending.append_told.Goals as goal
 
