@@ -10,7 +10,8 @@ use Rattle.tool_answers.specs.Explanations.{Explains}
 use Rattle.tool_answers.specs.ShownWords.{RecordWords}
 use Rattle.tool_answers.specs.Tools.{ToolOf}
 use Rattle.tool_answers.specs.ToolWords as word
-use Rattle.tool_answers.specs.Verdicts.{AreCountedOf, AreEnvelopesOf, ForStrings, IsLawful, IsViewOf, StandsForLines, envelopes_of}
+use Rattle.tool_answers.specs.Verdicts.{AreCountedOf, AreEnvelopesOf, ForStrings, IsLawful, IsViewOf}
+use Rattle.tool_answers.specs.Verdicts.{StandsForLines, envelopes_of}
 
 module _ {S E View Offence C M F P : Type 0} {kind : Kind View Offence} {view : S → View}
     {offence_of : E → Option Offence} {read : List ℕ → Result M F} {meaning : C → M}
@@ -22,15 +23,17 @@ module _ {S E View Offence C M F P : Type 0} {kind : Kind View Offence} {view : 
     (log : LogOf kind view offence_of) (reading : Reading read meaning fault_of)
     (tool : ToolOf order text_of knows has_key json_of state_of words_of says_words sentence_of has_first shows)
     (count_of : C → ℕ) (rules : EnclosedRules C View Offence) where
-  pub explains : (v : View) (string : List ℕ) (cause : Cause (EnvelopeFault F) Offence) (why : List ℕ) (entry : Option ℕ)
-      → word.Explains log reading tool count_of rules v string cause why entry
+  pub explains : (v : View) (string : List ℕ) (cause : Cause (EnvelopeFault F) Offence) (why : List ℕ)
+      (entry : Option ℕ) → word.Explains log reading tool count_of rules v string cause why entry
       ↔ Explains sentence_of fault_of offence_of read meaning count_of has_first rules.offence v string cause why entry
   explains v string cause why entry = (λ h. h, λ h. h)
 
-module _ {Meaning Fault View Offence : Type 0} (log : LogDisplay Meaning Fault View Offence) (b : SignatureRelation) where
+module _ {Meaning Fault View Offence : Type 0} (log : LogDisplay Meaning Fault View Offence)
+    (b : SignatureRelation) where
   -- `judged`
   pub stands : (lines : List (List ℕ)) (view : View) (count : ℕ) → StandsForLines log b lines view count
-      ↔ ((strings : List (List ℕ)) × (IsLawful log b lines strings × IsViewOf log view strings × (count ≡ length strings)))
+      ↔ ((strings : List (List ℕ))
+      × (IsLawful log b lines strings × IsViewOf log view strings × (count ≡ length strings)))
   stands lines view count = (λ h. h, λ h. h)
 
   -- `kept` and `side`

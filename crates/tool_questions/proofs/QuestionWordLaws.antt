@@ -55,18 +55,19 @@ module _ {S E View Offence C M F P : Type 0} {kind : Kind View Offence} {view : 
     reason seen strings v string index text = (λ h. h, λ h. h)
 
     pub cut : (seen : List EnvelopeData → View) (strings : List (List ℕ)) (es : List EnvelopeData) (string : List ℕ)
-        (index : ℕ) (text : List ℕ) → word.IsCut log reading tool count_of rules shown b seen strings es string index text
+        (index : ℕ) (text : List ℕ)
+        → word.IsCut log reading tool count_of rules shown b seen strings es string index text
         ↔ IsCutText kind.id says_words (IsRefusalText shown b
-        (Explains sentence_of fault_of offence_of read meaning count_of has_first rules.offence (kind.view_of es) string)
-        seen strings index) es text
+        (Explains sentence_of fault_of offence_of read meaning count_of has_first rules.offence
+        (kind.view_of es) string) seen strings index) es text
     cut seen strings es string index text = (λ h. h, λ h. h)
 
     pub cut_printed : (seen : List EnvelopeData → View) (strings : List (List ℕ)) (es : List EnvelopeData)
         (string : List ℕ) (index : ℕ) (printed : Printout)
         → word.IsCutPrinted log reading tool count_of rules shown b seen strings es string index printed
         ↔ ((text : List ℕ) × IsCutText kind.id says_words (IsRefusalText shown b
-        (Explains sentence_of fault_of offence_of read meaning count_of has_first rules.offence (kind.view_of es) string)
-        seen strings index) es text × (printed ≡ no text))
+        (Explains sentence_of fault_of offence_of read meaning count_of has_first rules.offence
+        (kind.view_of es) string) seen strings index) es text × (printed ≡ no text))
     cut_printed seen strings es string index printed = (λ h. h, λ h. h)
 
     pub shown_log : (strings : List (List ℕ)) (printed : Printout)

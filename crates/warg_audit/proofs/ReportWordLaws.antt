@@ -62,7 +62,7 @@ module _ {S E View Offence C M F : Type 0} {kind : Kind View Offence} {view : S 
   pub judged : (b : SignatureRelation) (lines : List (List ℕ)) (answer : Result (S × ℕ) (RunError E))
       → word.IsJudged log reading b lines answer
       ↔ ((strings : List (List ℕ)) × ((strings_of lines ≡ Ok strings)
-      × IsRun kind b (envelope_of read) kind.view_of (λ p. view p.0)
+      × IsRun kind b (envelope_of read) kind.view_of (λ (p : S × ℕ). view p.0)
       (cause_named_by (envelope_fault_of fault_of) offence_of) ◌≡◌ strings answer
       × IfOk answer (λ p. p.1 ≡ length strings)))
   judged b lines answer = (λ h. h, λ h. h)
@@ -100,8 +100,8 @@ module _ {S E View Offence C M F : Type 0} {kind : Kind View Offence} {view : S 
         (offence_name : Offence → List ℕ) (shown : View → List ℕ)
         → ReportsAs view fault_of offence_of name_of lines_of fault_name offence_name shown
         → (strings : List (List ℕ))
-        → IsRefusal kind b (envelope_of read) seen (cause_named_by (envelope_fault_of fault_of) offence_of) strings error
-        → IsRefused (record {
+        → IsRefusal kind b (envelope_of read) seen (cause_named_by (envelope_fault_of fault_of) offence_of)
+        strings error → IsRefused (record {
           kind = kind;
           read = read;
           fault_name = fault_name;

@@ -35,11 +35,12 @@ module _ {S E View Offence C M F : Type 0} {kind : Kind View Offence} {view : S 
       → HasNoOffence log reading b strings → view state ≡ kind.view_of (envelopes_said reading strings)
       → IsRun log reading b (strings ++ string ∷ []) answer
 
-  -- the lines spell strings, and the answer is that to these as a whole log: a state for them all and how many they are, or
-  -- the first that can't come, and why
+  -- the lines spell strings, and the answer is that to these as a whole log: a state for them all and how many they
+  -- are, or the first that can't come, and why
   abbrev pub IsJudged : SignatureRelation → List (List ℕ) → Result (S × ℕ) (RunError E) → Type 0
   IsJudged b lines answer = (strings : List (List ℕ)) × ((strings_of lines ≡ Ok strings)
-      × run.IsRun kind b (envelope_of read) kind.view_of (λ p. view p.0) (named_cause log reading) ◌≡◌ strings answer
+      × run.IsRun kind b (envelope_of read) kind.view_of (λ (p : S × ℕ). view p.0) (named_cause log reading) ◌≡◌
+      strings answer
       × IfOk answer (λ p. p.1 ≡ length strings))
 
   module _ {name_of : E → Option (List ℕ)} {lines_of : S → List ℕ} (report : ReportOf name_of lines_of) where

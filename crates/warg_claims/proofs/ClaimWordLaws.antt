@@ -27,7 +27,8 @@ module _ {S E View Offence C M F : Type 0} {kind : Kind View Offence} {view : S 
   taken old bytes new = (λ h. h, λ h. h)
 
   pub refuses_anyway : (v : View) (bytes : List ℕ) (cause : RunCause E) → IsWhyNever log reading v bytes cause
-      ↔ claimed.RefusesAnyway kind (envelope_of read) (cause_named_by (envelope_fault_of fault_of) offence_of) v bytes cause
+      ↔ claimed.RefusesAnyway kind (envelope_of read) (cause_named_by (envelope_fault_of fault_of) offence_of)
+      v bytes cause
   refuses_anyway v bytes cause = (λ h. h, λ h. h)
 
   pub are_claims : (strings : List (List ℕ)) (claims : List ClaimData) → word.AreClaims log reading strings claims
@@ -41,7 +42,8 @@ module _ {S E View Offence C M F : Type 0} {kind : Kind View Offence} {view : S 
 
   pub ends_at : (strings : List (List ℕ)) (place : ℕ) (end : Option (RunCause E))
       → word.EndsAt log reading strings place end
-      ↔ claimed.EndsAt kind (envelope_of read) (cause_named_by (envelope_fault_of fault_of) offence_of) strings place end
+      ↔ claimed.EndsAt kind (envelope_of read) (cause_named_by (envelope_fault_of fault_of) offence_of)
+      strings place end
   ends_at strings place end = (λ h. h, λ h. h)
 
 -- ---- claims and relations
