@@ -11,8 +11,8 @@ from .shared import ROOT
 README_BUDGET = 9000
 # How many columns a line of text may have.
 WIDTH = 120
-# The pages that are written from the sources: their code is as the sources have it.
-GENERATED = re.compile(r"docs/(HEADLINE\.md|api/.*\.md)")
+# The pages whose code is as the sources have it.
+GENERATED = re.compile(r"docs/api/.*\.md")
 QUOTED = re.compile(r"<!-- (\S+\.\w+|crates\.txt)((?: \S+)*) -->\n```(\w*)\n(.*?)```\n", re.S)
 BLOCK = re.compile(r"^```.*?^```$", re.S | re.M)
 LINK = re.compile(r"\]\(([^)\s]+)\)")

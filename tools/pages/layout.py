@@ -1,5 +1,6 @@
-"""How definitions and types are laid out on docs/HEADLINE.md."""
+"""How definitions and types are laid out on the pages of the headline."""
 import functools
+import itertools
 import re
 import textwrap
 from collections.abc import Iterator
@@ -9,8 +10,8 @@ from . import models, specs
 from .closure import Closure, source
 from .specs import Definition, Place
 
-# How many columns a line may have to which others are joined: more than text has, so that a definition is one line.
-WIDTH = 150
+# How many columns a line may have to which others are joined.
+WIDTH = 120
 
 
 def plain(line: str) -> str:
@@ -41,10 +42,33 @@ def commented(lines: list[str], comment: list[str]) -> list[str]:
     return [*comment, *lines]
 
 
+def members_joined(lines: list[str]) -> list[str]:
+    """The head of a record or of a type by its cases, and what it has between braces. As it stands where a line has a
+    comment of its own."""
+    if any("--" in line for line in lines) or not lines[0].endswith(" where"):
+        return lines
+    indent = len(lines[0]) - len(lines[0].lstrip())
+    first = min((len(line) - len(line.lstrip()) for line in lines[1:]), default=0)
+    members: list[str] = []
+    for line in lines[1:]:
+        if len(line) - len(line.lstrip()) > first:
+            members[-1] += " " + line.strip()
+        else:
+            members.append(line.strip())
+    # A member stays on one line where it can.
+    words = " ".join(f"{it};".replace(" ", "\0") for it in members).removesuffix(";")
+    text = f"{lines[0].strip().removesuffix(' where')} {{ {words} }}"
+    start = " " * indent
+    wrapped = textwrap.wrap(text, WIDTH, initial_indent=start, subsequent_indent=f"{start}    ", break_long_words=False)
+    return [line.replace("\0", " ") for line in wrapped]
+
+
 def definition_lines(it: Definition) -> list[str]:
     lines = [plain(line) for line in it.lines]
     if it.kind == "definition":
         lines = joined(lines, 2 * len(it.sections))
+    else:
+        lines = members_joined(lines)
     return commented(lines, it.comment)
 
 
@@ -61,6 +85,22 @@ def type_lines(place: Place) -> list[str]:
     words = re.sub(r"\w \{[^{}]*\}", lambda it: it[0].replace(" ", "\0"), words)
     lines = textwrap.wrap(words, WIDTH, subsequent_indent="    ")
     return commented([line.replace("\0", " ") for line in lines], comment)
+
+
+def narrow(line: str) -> list[str]:
+    """The line, in several where it is too wide."""
+    if len(line) <= WIDTH:
+        return [line]
+    start = line[: len(line) - len(line.lstrip())]
+    further = f"{start}-- " if line.startswith(f"{start}--") else f"{start}    "
+    return textwrap.wrap(
+        line.strip(),
+        WIDTH,
+        initial_indent=start,
+        subsequent_indent=further,
+        break_long_words=False,
+        break_on_hyphens=False,
+    )
 
 
 def titles(place: Place) -> list[str]:
@@ -121,10 +161,9 @@ def file_lines(places: list[Place]) -> Iterator[str]:
         yield from definition_lines(it)
 
 
-def definitions(files: list[tuple[str, list[Place]]], closure: Closure) -> Iterator[str]:
+def definitions(files: list[tuple[str, list[Place]]], meanings: Meanings) -> Iterator[str]:
+    """The definitions by crate and file. The same meanings go on from page to page."""
     crate, last = None, None
-    meanings = Meanings(closure)
-    yield from ["", "## The definitions"]
     for file, places in files:
         if file.split("/")[1] != crate:
             if crate:
@@ -137,5 +176,5 @@ def definitions(files: list[tuple[str, list[Place]]], closure: Closure) -> Itera
             wrapped = functools.partial(textwrap.wrap, width=WIDTH, break_on_hyphens=False)
             yield from wrapped(about, initial_indent="-- Here ", subsequent_indent="--    ")
         last = file
-        yield from file_lines(places)
+        yield from itertools.chain.from_iterable(map(narrow, file_lines(places)))
     yield "```"

@@ -1,1 +1,1 @@
-mod WordLemmas
+pub mod WordLemmas

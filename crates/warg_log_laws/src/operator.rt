@@ -1,14 +1,14 @@
 //! Laws over all operator logs. They have no effect.
 ghost use Rattle.std.specs.Prelude.{◌≡◌, ◌↔◌, ◌++◌, ℕ, List, [], length, map, take, Option, Some, None, is_some, true, false, Result, slice_get};
 ghost use Rattle.std.specs.Option.{option_map};
-ghost use Rattle.warg_replay.specs.AuditedLog.Audited.{IsAudited};
+ghost use Rattle.warg_replay.specs.AuditedLog.AuditedWords.{IsAudited};
 ghost use Rattle.warg_replay.specs.AuditedLog.Chains.{IsChainAnswer};
 ghost use Rattle.warg_replay.specs.AuditedLog.Extinction.{IsExtinct};
 ghost use Rattle.warg_replay.specs.AuditedLog.Log.{envelopes};
 ghost use Rattle.warg_replay.specs.declared.audited_log.link.Link.{Link};
 ghost use Rattle.warg_envelope.specs.EnvelopeData.{EnvelopeData};
-ghost use Rattle.warg_envelope.specs.Envelopes.{EnvelopeFault, envelope_of, envelope_fault_of};
-ghost use Rattle.warg_envelope.specs.Faults.{RecordFault, fault_of};
+ghost use Rattle.warg_envelope.specs.Envelopes.{EnvelopeFault};
+ghost use Rattle.warg_envelope.specs.Faults.{RecordFault};
 ghost use Rattle.warg_log.specs.History.{PlacedEvent, Holds, entry_on, record_history};
 ghost use Rattle.warg_log.specs.Listings.{IsGift};
 ghost use Rattle.warg_log.specs.KindOfRules.{effect_of};
@@ -17,18 +17,19 @@ ghost use Rattle.warg_log_laws.specs.GrantChains.{IsGrantTo};
 ghost use Rattle.warg_log_laws.specs.Grammars.{IsCause, IsReading};
 ghost use Rattle.warg_log_laws.specs.Operator.{Records, StateData, is_held, is_held_by, IsChainOfGrants, IsHeldByNoKey, state_view_of, entry_offence, IsEnvelope, HasEnvelopeFault};
 ghost use Rattle.warg_operator_log.specs.Namespaces.{OwnOffence, record_id_of, rules};
-ghost use Rattle.warg_operator_log.specs.State.{View, offence_of, view_of};
+ghost use Rattle.warg_operator_log.specs.State.{View, view_of};
 ghost use Rattle.warg_operator_log.specs.StateHistory.{history, records_of};
-ghost use Rattle.warg_operator_log.specs.StateLaws.{kind, effects};
+ghost use Rattle.warg_operator_log.specs.StateLaws.{kind, operator_log, effects};
 ghost use Rattle.warg_operator_log.specs.declared.error.ValidationError.{ValidationError};
 ghost use Rattle.warg_permissions.specs.OperatorPermissions.{same_permission};
 ghost use Rattle.warg_permissions.specs.declared.operator.Permission.{Permission};
-ghost use Rattle.warg_log_records.specs.OperatorEntries.{OperatorOwnEntry, record_data};
-ghost use Rattle.warg_log_records.specs.OperatorReading.{operator_record_of};
+ghost use Rattle.warg_log_records.specs.OperatorEntries.{OperatorOwnEntry};
+ghost use Rattle.warg_log_records.specs.Readings.{operator_reading};
 ghost use Rattle.warg_log_records.specs.RecordData.{EntryData};
 ghost use Rattle.warg_log_records.specs.Effects.{holds, GivesWhatIsHeld, HoldsByEffects};
 ghost use Rattle.warg_log_records.specs.Kinds.{SignatureRelation, KindLaws, IsAccepted, StandsFor};
-ghost use Rattle.warg_replay.specs.OutcomeRuns.{IsRun, IfStarted, cause_next, cause_named_by};
+ghost use Rattle.warg_replay.specs.LogWords.{IsRun, named_cause, why_not};
+ghost use Rattle.warg_replay.specs.OutcomeRuns.{IfStarted};
 ghost use Rattle.warg_replay.specs.Strings.{Cause};
 ghost use Rattle.warg_log_records.specs.Walks.{IsFound, IsAccepted as AllLawful};
 ghost use Rattle.warg_log_records.specs.declared.effect.Effect.TheVariants.{Gives};
@@ -54,7 +55,7 @@ pub fn chains_where_held()
         (chain : Option (List Link)) → IsChainAnswer effects es k p chain →
         is_some chain ≡ is_held es k p }
     ensures state { (b : SignatureRelation) (s : StateData) (records : Records) →
-        IsAudited kind operator_record_of record_data b (view_of s) records →
+        IsAudited operator_log operator_reading b s records →
         (k : List ℕ) (p : Permission) (chain : Option (List Link)) →
         IsChainAnswer effects (envelopes records) k p chain →
         is_some chain ≡ (view_of s).state.authority.holds k p }
@@ -152,21 +153,19 @@ pub fn entries_in_turn()
 /// for which it stands; else the first string that can't come after the log of those before it, and why. Why
 /// one can't come is read so too.
 pub fn run_by_grammar()
-    ensures reading { let read = envelope_of operator_record_of in
-        let named_by = cause_named_by (envelope_fault_of fault_of) offence_of in
-        (b : SignatureRelation) (strings : List (List ℕ))
+    ensures reading { (b : SignatureRelation) (strings : List (List ℕ))
         (answer : Result StateData (RunError ValidationError)) →
-        IfStarted (IsRun kind b read kind.view_of view_of named_by ◌≡◌ strings) answer →
-        IfStarted (IsReading kind b IsEnvelope HasEnvelopeFault view_of named_by strings) answer }
-    ensures run { let read = envelope_of operator_record_of in
-        let named_by = cause_named_by (envelope_fault_of fault_of) offence_of in
-        (b : SignatureRelation) (strings : List (List ℕ))
+        IfStarted (IsRun operator_log operator_reading b strings) answer →
+        IfStarted (IsReading kind b IsEnvelope HasEnvelopeFault view_of
+        (named_cause operator_log operator_reading) strings) answer }
+    ensures run { (b : SignatureRelation) (strings : List (List ℕ))
         (answer : Result StateData (RunError ValidationError)) →
-        IfStarted (IsReading kind b IsEnvelope HasEnvelopeFault view_of named_by strings) answer →
-        IfStarted (IsRun kind b read kind.view_of view_of named_by ◌≡◌ strings) answer }
+        IfStarted (IsReading kind b IsEnvelope HasEnvelopeFault view_of
+        (named_cause operator_log operator_reading) strings) answer →
+        IfStarted (IsRun operator_log operator_reading b strings) answer }
     ensures cause { (b : SignatureRelation) (v : View) (s : List ℕ)
         (c : Cause (EnvelopeFault RecordFault) (LogOffence Permission OwnOffence)) →
-        (cause_next kind b (envelope_of operator_record_of) v s ≡ Some c) ↔
+        (why_not operator_log operator_reading b v s ≡ Some c) ↔
         IsCause kind b IsEnvelope HasEnvelopeFault v s c }
 {
     envelope_reading_computes();

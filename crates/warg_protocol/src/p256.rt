@@ -1,22 +1,20 @@
 //! Signatures of ECDSA on the curve P-256, verified here: nothing is handed in.
 
-ghost use Rattle.std.specs.Prelude.{◌≡◌, map};
+ghost use Rattle.std.specs.Prelude.{map};
 ghost use Rattle.std.specs.Vec.{vec_items};
-ghost use Rattle.warg_envelope.specs.Envelopes.{envelope_of, envelope_fault_of};
-ghost use Rattle.warg_replay.specs.OutcomeRuns.{IsRun, IfStarted, cause_named_by};
+ghost use Rattle.warg_replay.specs.LogWords.{IsRun};
+ghost use Rattle.warg_replay.specs.OutcomeRuns.{IfStarted};
 ghost use Rattle.warg_p256.specs.Scheme.{p256_belongs};
 
 use std::alloc::Global;
 pub use warg_p256::{ALGORITHM, KnownKeys, P256Verifier, laws, verify};
 use warg_replay::{RunError, Validator, run};
 
-/// Reads a whole log whose records are signed by `ecdsa-p256` keys. The result is its state, or the first string that is refused, as of
-/// [`run`](crate::run). A signature by another algorithm is refused.
+/// Reads a whole log whose records are signed by `ecdsa-p256` keys. The result is its state, or the first string that
+/// is refused, as of [`run`](crate::run). A signature by another algorithm is refused.
 pub fn run_signed<L: Validator>(alloc: Global, inputs: &[Vec<u8>]) -> Result<L, RunError<L::Error>>
-    ensures { let read = envelope_of L.Record.read in
-        let named_by = cause_named_by (envelope_fault_of L.Record.fault_of) L.offence_of in
-        let strings = map vec_items inputs.now in
-        IfStarted (IsRun L.kind p256_belongs read L.kind.view_of L.view named_by ◌≡◌ strings) result }
+    ensures { let strings = map vec_items inputs.now in
+        IfStarted (IsRun L.log L.Record.reading p256_belongs strings) result }
 {
     run(alloc, &KnownKeys::new(alloc), inputs)
 }

@@ -7,15 +7,15 @@ use warg_log_records::Question;
 
 /// A state that judges all of a record but its signature, in place.
 pub trait Hosted: Validator {
-    ghost use Rattle.warg_envelope.specs.Envelopes.{IsHonest};
+    ghost use Rattle.warg_envelope.specs.ReadingWords.{IsHonest};
     ghost use Rattle.warg_log_records.specs.Asked.{AsksOf, RefusesAlways, AsksWhereLawful};
 
     /// What is to be verified of a record that may come next, or what is wrong with it, whatever its signature.
     fn ask(&self, envelope: &ProtoEnvelope<Self::Record>) -> Result<Question, Self::Error>
-        ensures asks { IsHonest Self.Record.read Self.Record.meaning envelope.now →
+        ensures asks { IsHonest Self.Record.reading envelope.now →
             IfOk result (λ q. AsksOf Self.Validator.kind (Self.Validator.view self.now)
             envelope.now.envelope q) }
-        ensures refused { IsHonest Self.Record.read Self.Record.meaning envelope.now →
+        ensures refused { IsHonest Self.Record.reading envelope.now →
             IfErr result (λ e. RefusesAlways Self.Validator.kind
             (Self.Validator.view self.now) envelope.now.envelope
             (Self.Validator.offence_of e)) };
