@@ -1,6 +1,6 @@
 //! The sides of a comparison.
 
-ghost use Rattle.std.specs.Prelude.{◌≡◌, List, ℕ, IfOk, IfErr};
+ghost use Rattle.std.specs.Prelude.{◌≡◌, IfOk, IfErr};
 ghost use Rattle.warg_protocol.specs.Logs.{envelopes};
 ghost use Rattle.warg_audit.specs.Printouts.{Printout};
 ghost use Rattle.warg_audit.specs.Files.Answers.{answer_view, IfStopped, IsSideStop};
