@@ -23,10 +23,10 @@ module _ {S E View Offence C M F P : Type 0} {kind : Kind View Offence} {view : 
     (log : LogOf kind view offence_of) (reading : Reading read meaning fault_of)
     (tool : ToolOf order text_of knows has_key json_of state_of words_of says_words sentence_of has_first shows)
     (count_of : C → ℕ) (rules : EnclosedRules C View Offence) where
-  pub explains : (v : View) (string : List ℕ) (cause : Cause (EnvelopeFault F) Offence) (why : List ℕ)
+  pub explained : (v : View) (string : List ℕ) (cause : Cause (EnvelopeFault F) Offence) (why : List ℕ)
       (entry : Option ℕ) → word.Explains log reading tool count_of rules v string cause why entry
       ↔ Explains sentence_of fault_of offence_of read meaning count_of has_first rules.offence v string cause why entry
-  explains v string cause why entry = (λ h. h, λ h. h)
+  explained v string cause why entry = (λ h. h, λ h. h)
 
 module _ {Meaning Fault View Offence : Type 0} (log : LogDisplay Meaning Fault View Offence)
     (b : SignatureRelation) where
