@@ -134,9 +134,9 @@ def run_silently(command: list[str], folder: pathlib.Path) -> None:
 
 def bench_program(part: str, words: str) -> pathlib.Path:
     """The built program of a folder of tools/bench, over a copy of the crates that it uses. The words are those of its
-    line in crates.txt."""
+    line in crates.txt. Its sources are named otherwise there: the toolchain stops at a `.rt` file outside a crate."""
     name = f"bench_{part}"
-    folder, sources = cache_folder(name), sorted((ROOT / "tools/bench" / part).glob("*.rs"))
+    folder, sources = cache_folder(name), sorted((ROOT / "tools/bench" / part).glob("*.rattle"))
     crates = dependencies("warg_protocol")
     newest = max(path.stat().st_mtime for it in crates for path in (ROOT / "crates" / it / "src").rglob("*.rt"))
     made = folder / f"crates/{name}/out/{name}"

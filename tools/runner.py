@@ -8,6 +8,7 @@ import re
 import signal
 import sys
 import tempfile
+import time
 from asyncio.subprocess import DEVNULL, PIPE, Process
 from collections.abc import AsyncIterator, Sequence
 from typing import IO, Any, NamedTuple
@@ -74,6 +75,7 @@ class Run:
     def __init__(self, root: pathlib.Path, programs: Sequence[pathlib.Path], checks: Sequence[Check]) -> None:
         self.root, self.programs, self.checks = root, programs, checks
         self.passed = self.failed = 0
+        self.begun = time.monotonic()
         self.processors = len(os.sched_getaffinity(0))
         self.slots = asyncio.Semaphore(self.processors)
         self.happened = {it: asyncio.Event() for it in (CI_ENDED, *(check.begins for check in checks))}
@@ -122,14 +124,17 @@ class Run:
             await self.happened[check.begins].wait()
         with tempfile.TemporaryFile() as said:
             async with self.slots:
+                begun = time.monotonic()
                 is_passed = await self.passes(check, said)
+                seconds = time.monotonic() - begun
             await self.happened[CI_ENDED].wait()
             said.seek(0)
             print(f"== {check.words}", flush=True)
             sys.stdout.buffer.write(said.read())
+            sys.stdout.flush()
         if not is_passed:
             print(f"FAILED: {check.words}")
-        sys.stdout.flush()
+        print(f"took {seconds:.0f} s, from minute {(begun - self.begun) / 60:.1f} on", flush=True)
         self.passed += is_passed
         self.failed += not is_passed
 

@@ -1,5 +1,5 @@
-// Refuses the request for memory, by malloc or realloc, whose number, counted from 1, is in REFUSE, and all after it where REFUSE_ON is 1. For each
-// it writes a byte to the file whose descriptor is in REFUSED. For LD_PRELOAD.
+// Refuses the request for memory, by malloc or realloc, whose number, counted from 1, is in REFUSE, and all after it
+// where REFUSE_ON is 1. For each it writes a byte to the file whose descriptor is in REFUSED. For LD_PRELOAD.
 #define _GNU_SOURCE
 #include <dlfcn.h>
 #include <stdlib.h>

@@ -1,6 +1,7 @@
-// Breaks the call, of those by which a file is put in the place of another, whose number, counted from 1, is in BREAK: the program is killed before it; where
-// BREAK_FAILS is 1 the call fails as on a full disk, and where it is 2 the program is stopped before it. For each such call it writes a byte to the file whose
-// descriptor is in BROKEN. For LD_PRELOAD.
+// Breaks the call, of those by which a file is put in the place of another, whose number, counted from 1, is in BREAK:
+// the program is killed before it; where BREAK_FAILS is 1 the call fails as on a full disk, and where it is 2 the
+// program is stopped before it. For each such call it writes a byte to the file whose descriptor is in BROKEN. For
+// LD_PRELOAD.
 #define _GNU_SOURCE
 #include <dlfcn.h>
 #include <errno.h>
@@ -48,7 +49,8 @@ BROKEN_CALL(fchown, (int file, uid_t owner, gid_t group), (file, owner, group))
 BROKEN_CALL(fsync, (int file), (file))
 BROKEN_CALL(getentropy, (void *bytes, size_t size), (bytes, size))
 BROKEN_CALL(rename, (const char *from, const char *to), (from, to))
-BROKEN_CALL(statx, (int folder, const char *restrict path, int flags, unsigned mask, struct statx *restrict found), (folder, path, flags, mask, found))
+BROKEN_CALL(statx, (int folder, const char *restrict path, int flags, unsigned mask, struct statx *restrict found),
+            (folder, path, flags, mask, found))
 
 int open(const char *path, int flags, ...) {
     static int (*real)(const char *, int, ...);

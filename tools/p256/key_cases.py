@@ -33,6 +33,22 @@ def changed_bit(data: bytes, place: int) -> bytes:
     return bytes(changed)
 
 
+def cut_and_joined(short: bytes, long: bytes) -> list[bytes]:
+    """Texts that are no key, made of the compressed and the uncompressed one."""
+    too_short_or_long = [
+        *(short[:-1], short[1:], short + b"\0", short + b"\x01", b"\0" + short, short[:17]),
+        *(long[:-1], long[1:], long + b"\0", b"\0" + long),
+    ]
+    of_the_other_form = [long[:33], bytes([short[0]]) + long[1:], b"\x04" + short[1:]]
+    tag_last_or_alone = [short[1:] + short[:1], long[1:] + b"\x04", b"", b"\0", short[:1]]
+    twice_or_empty = [short + short, long + long, bytes(33), bytes(65), b"\x02" + bytes(31), b"\x04" + bytes(63)]
+    other_texts = [
+        *(public_key_info(long), short.hex().encode(), short[:1] + short[:0:-1]),
+        *(b"\x04" + long[33:] + long[1:33], public_key_info(short)),
+    ]
+    return [*too_short_or_long, *of_the_other_form, *tag_last_or_alone, *twice_or_empty, *other_texts]
+
+
 def forms(some: random.Random) -> Iterator[Group]:
     """A signature that is right, under a key that is written otherwise."""
     tags: list[Case] = []
@@ -46,44 +62,7 @@ def forms(some: random.Random) -> Iterator[Group]:
             for it in (short, long)
             for tag in (*range(9), 0x0A, 0x80, 0x82, 0x84, 0xFF)
         ]
-        cut = [
-            short[:-1],
-            short[1:],
-            short + b"\0",
-            short + b"\x01",
-            b"\0" + short,
-            short[:17],
-            long[:-1],
-            long[1:],
-            long + b"\0",
-            b"\0" + long,
-        ]
-        cut += [
-            long[:33],
-            bytes([short[0]]) + long[1:],
-            b"\x04" + short[1:],
-            short[1:] + short[:1],
-            long[1:] + b"\x04",
-            b"",
-            b"\0",
-            short[:1],
-        ]
-        cut += [
-            short + short,
-            long + long,
-            bytes(33),
-            bytes(65),
-            b"\x02" + bytes(31),
-            b"\x04" + bytes(63),
-            public_key_info(long),
-        ]
-        cut += [
-            short.hex().encode(),
-            short[:1] + short[:0:-1],
-            b"\x04" + long[33:] + long[1:33],
-            public_key_info(short),
-        ]
-        sizes += [Case(it, message, signature) for it in cut[place:]]
+        sizes += [Case(it, message, signature) for it in cut_and_joined(short, long)[place:]]
     yield Group("Each first byte before the rest of either form; 06 or 07 begins a hybrid point, which no key is", tags)
     yield Group(
         "Bytes too many, too few, or in another order; the point at infinity, a byte 0; other texts of the key", sizes
@@ -107,19 +86,8 @@ def coordinates(some: random.Random) -> Iterator[Group]:
     def case(tag: int, *numbers: int) -> Case:
         return Case(bytes([tag]) + b"".join(it.to_bytes(32, "big") for it in numbers), message, signature)
 
-    off = [
-        (x, y ^ 1),
-        (x ^ 1, y),
-        (y, x),
-        (x, 0),
-        (0, y),
-        (0, 0),
-        (1, 1),
-        (x, x),
-        (PRIME - x, y),
-        (x, (y + 1) % PRIME),
-        (x, 2**256 - 1 - y),
-    ]
+    off = [(x, y ^ 1), (x ^ 1, y), (y, x), (x, 0), (0, y), (0, 0), (1, 1), (x, x)]
+    off += [(PRIME - x, y), (x, (y + 1) % PRIME), (x, 2**256 - 1 - y)]
     yield Group("Off the curve", [case(4, *it) for it in off])
     yield Group("The opposite point, in both forms", [case(4, x, PRIME - y), case(2 + (y + 1) % 2, x)])
     great = [PRIME, PRIME + 1, PRIME + x % 2**200, 2**256 - 1, 2**256 - 2, PRIME + 5, PRIME + 6, PRIME + 2**200]
@@ -129,15 +97,8 @@ def coordinates(some: random.Random) -> Iterator[Group]:
         [it for number in great for it in (case(4, number, y), case(4, x, number))],
     )
     root = pow(B, (PRIME + 1) // 4, PRIME)
-    zero = [
-        case(4, 0, root),
-        case(4, 0, PRIME - root),
-        case(2, 0),
-        case(3, 0),
-        case(4, PRIME, root),
-        case(2, PRIME),
-        case(3, PRIME),
-    ]
+    zero = [case(4, 0, root), case(4, 0, PRIME - root), case(2, 0), case(3, 0)]
+    zero += [case(4, PRIME, root), case(2, PRIME), case(3, PRIME)]
     yield Group("x is 0, which is a point's, and the prime in its place: the signature is another's", zero)
     without = [it for it in range(1, 40) if lifted(it, False) is None][:10] + [
         PRIME - 1 - it for it in range(20) if lifted(PRIME - 1 - it, False) is None

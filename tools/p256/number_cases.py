@@ -182,25 +182,10 @@ def other_numbers(some: random.Random) -> Iterator[Group]:
         r, s = signer.numbers(message, nonce)
         high += [Case(signer.compressed, message, signature_of(r, it)) for it in sorted([s, ORDER - s])]
         if place < 6:
-            changed = [
-                (r + ORDER, s),
-                (r, s + ORDER),
-                (r + ORDER, s + ORDER),
-                (ORDER - r, s),
-                (-r, s),
-                (r, -s),
-                (-r, -s),
-            ]
-            changed += [
-                (r, s + 2 * ORDER),
-                (r, s - ORDER),
-                (r - ORDER, s),
-                (r + PRIME, s),
-                (s, r),
-                (r, r),
-                (s, s),
-                (r, inverse(s)),
-            ]
+            changed = [(r + ORDER, s), (r, s + ORDER), (r + ORDER, s + ORDER), (ORDER - r, s)]
+            changed += [(-r, s), (r, -s), (-r, -s)]
+            changed += [(r, s + 2 * ORDER), (r, s - ORDER), (r - ORDER, s), (r + PRIME, s)]
+            changed += [(s, r), (r, r), (s, s), (r, inverse(s))]
             other += [Case(signer.compressed, message, signature_of(*it)) for it in changed]
     yield Group("Both values of s, below and above half the order, are a signature", high)
     yield Group("r + n, s + n, both, n - r, and other numbers of this kind are none", other)

@@ -4,9 +4,12 @@ import textwrap
 from collections.abc import Iterator
 
 from . import items
+from .cited import cited, public_members, reachable
+from .closure import file_of as file_of_place
 from .items import Item
 from .public import Module, Seen, impls_of, is_shown, modules, said_in
 from .shared import ROOT, write_or_compare
+from .specs import Place
 
 INDEX, FOLDER = "docs/API.md", "docs/api"
 CRATE = "warg_protocol"
@@ -19,8 +22,8 @@ Each public item that `{CRATE}` re-exports, a page a module. `tools/api` writes 
 
 - A function is shown with its clauses: what it requires of a call, and what it ensures. `result` is what it returns,
   `x.now` what a reference points to, and `x.old` and `x.new` what a `&mut` points to before and after. `IfOk result P`
-  says P of what `Ok` holds. The names in clauses are definitions, which [DEFINITIONS](DEFINITIONS.md) explains and
-  [HEADLINE](HEADLINE.md) has in part.
+  says P of what `Ok` holds. The names in clauses are definitions: each page ends with the files that define them,
+  [DEFINITIONS](DEFINITIONS.md) explains them in words, and [HEADLINE](HEADLINE.md) has them in part.
 - Of a trait, `ghost` members are what an implementor says of a type in clauses. Of an impl, only what it says beyond
   the trait is shown.
 - What is derived stands above a type. The text of an error's case is the one in its `#[error(..)]`, or what the
@@ -150,11 +153,36 @@ def about_module(module: Module) -> Iterator[str]:
         yield from ["", *wrapped(f"Re-exported from the toolchain's library: {names}.")]
 
 
-def module_page(module: Module, seen: Seen) -> str:
+def words_of(module: Module, seen: Seen) -> Iterator[Place]:
+    """What the clauses of a module's items name."""
+    for _, item in module.items:
+        for file, within, members in public_members(item, seen):
+            yield from (place for place, _ in cited(file, within, members) if place.kind in ("definition", "kit"))
+
+
+def words_section(module: Module, seen: Seen, exports: dict[Place, list[str]]) -> Iterator[str]:
+    """The words of the clauses on a module's page, by the file that defines them and those to import them from."""
+    by_file: dict[tuple[str, str], set[str]] = {}
+    for place in words_of(module, seen):
+        file = "" if place.kind == "kit" else file_of_place(place)
+        by_file.setdefault((file, ", ".join(f"`{name}`" for name in exports.get(place, []))), set()).add(place.name)
+    if not any(file for file, _ in by_file):
+        return
+    yield from ["", "## Where the words are defined", ""]
+    yield "A clause imports these words from the files of `Rattle.warg_protocol.specs` that stand in brackets."
+    yield ""
+    for file, exported in sorted(by_file, key=lambda it: (not it[0], *it)):
+        title = file.removeprefix("crates/").removesuffix(".antt").replace("/specs/", "/")
+        where = f"[{title}](../../{file})" if file else "in the toolchain's library"
+        names = ", ".join(f"`{name}`" for name in sorted(by_file[file, exported]))
+        yield from wrapped(f"- {where}{f' ({exported})' if exported and file else ''}: {names}", "  ")
+
+
+def module_page(module: Module, seen: Seen, exports: dict[Place, list[str]]) -> str:
     lines = [*about_module(module), "", "[All modules](../API.md)"]
     for name, item in module.items:
         lines += item_section(name, item, seen)
-    return "\n".join(lines) + "\n"
+    return "\n".join([*lines, *words_section(module, seen, exports)]) + "\n"
 
 
 def wrapped(text: str, indent: str = "") -> list[str]:
@@ -183,9 +211,9 @@ def contents(module: Module) -> list[str]:
 def pages() -> dict[str, str]:
     """The text of each page, by its name from the root."""
     seen: Seen = {}
-    found = list(modules(CRATE, f"crates/{CRATE}/src/lib.rt", seen))
+    found, exports = list(modules(CRATE, f"crates/{CRATE}/src/lib.rt", seen)), reachable()
     index = INTRODUCTION + "\n" + "\n".join(line for module in found for line in contents(module)) + "\n"
-    return {INDEX: index, **{f"{FOLDER}/{file_of(module)}": module_page(module, seen) for module in found}}
+    return {INDEX: index, **{f"{FOLDER}/{file_of(module)}": module_page(module, seen, exports) for module in found}}
 
 
 def write(is_compared: bool) -> int:

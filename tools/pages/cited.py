@@ -13,14 +13,13 @@ from .specs import Place
 FOLDER = "crates/warg_protocol/specs"
 
 
-def reachable() -> set[Place]:
-    """The definitions and the types that the specs of warg_protocol re-export."""
-    found: set[Place] = set()
+def reachable() -> dict[Place, list[str]]:
+    """The definitions and the types that the specs of warg_protocol re-export, each with the files that do so."""
+    found: dict[Place, list[str]] = {}
     for path in sorted((ROOT / FOLDER).glob("*.antt")):
         _, uses = specs.read(f"warg_protocol.specs.{path.stem}")
-        for text in uses:
-            if text.startswith("pub use "):
-                found.update(place for _, place in specs.brought(text))
+        for place in {place for text in uses if text.startswith("pub use ") for _, place in specs.brought(text)}:
+            found.setdefault(place, []).append(path.stem)
     return found
 
 

@@ -80,9 +80,10 @@ def graph() -> str:
     return HEAD + "\n".join(lines) + "\n}\n"
 
 
-def uses_lines(crate: Crate) -> list[str]:
-    """The lines of the page that say what a crate uses."""
-    words = ", ".join(f"`{name}`" for name in crate.uses) or "nothing"
+def uses_lines(crate: Crate, known: dict[str, Crate]) -> list[str]:
+    """The lines of the page that say what a crate uses, but for the crates that another of them stands on."""
+    near = arrows(crate, known)
+    words = ", ".join(f"`{name}`" for name in crate.uses if name not in known or name in near) or "nothing"
     return textwrap.wrap(f"Uses {words}.", WIDTH, initial_indent="  ", subsequent_indent="  ", break_on_hyphens=False)
 
 
@@ -95,7 +96,7 @@ def page(text: str) -> str:
             if found[1] not in known:
                 raise SystemExit(f"{PAGE} has a crate that crates.txt lacks: {found[1]}")
             kept = re.sub(r"^  Uses `?[\s\S]*", "", block, flags=re.M).rstrip("\n")
-            block = "\n".join([kept, *uses_lines(known[found[1]])]) + "\n"
+            block = "\n".join([kept, *uses_lines(known[found[1]], known)]) + "\n"
         lines.append(block)
     other = sorted((set(known) - set(named)) | {name for name in named if named.count(name) > 1})
     if other:

@@ -4,6 +4,7 @@ import contextlib
 import itertools
 import os
 import pathlib
+import re
 import runpy
 import shutil
 import signal
@@ -14,11 +15,11 @@ import tempfile
 import time
 import unittest
 
-TOOLS = pathlib.Path(__file__).resolve().parents[1]
-sys.path.insert(0, str(TOOLS))
+sys.path.insert(0, str(pathlib.Path(__file__).resolve().parents[1]))
 
 from runner import AT_ONCE, CI_ENDED, LAST, Check, jobs_of_ci
 
+TOOLS = pathlib.Path(__file__).resolve().parents[1]
 COMMAND = runpy.run_path(str(TOOLS / "test"))
 CHECKS: list[Check] = COMMAND["CHECKS"]
 PROGRAMS: list[pathlib.Path] = COMMAND["PROGRAMS"]
@@ -97,7 +98,8 @@ class TestCommand(unittest.TestCase):
     def test_all_pass(self) -> None:
         printed = self.run_command(3 + len(CHECKS), [])
         for it in CHECKS:
-            self.assertEqual(printed.count(f"== {it.words}\nsaid on output\nsaid on error\n"), 1, it)
+            said = f"== {re.escape(it.words)}\nsaid on output\nsaid on error\ntook \\d+ s, from minute \\d+\\.\\d on\n"
+            self.assertEqual(len(re.findall(said, printed)), 1, it)
         self.assertTrue(
             printed.startswith("rt: warg_c proved\nrt: weoldrin is kept: proved before\n3 passed, 0 failed\n==")
         )
@@ -187,7 +189,7 @@ class TestCommand(unittest.TestCase):
         self.assertEqual(first_line(printed, "3 passed, 0 failed"), 3)
         everything = (self.root / "begun").read_text(encoding="utf-8").splitlines()
         self.assertEqual(everything[-1], CHECKS[-1].words)
-        self.assertEqual(printed.splitlines()[-2], f"== {CHECKS[-1].words}")
+        self.assertEqual(printed.splitlines()[-3], f"== {CHECKS[-1].words}")
 
     def test_niceness(self) -> None:
         for it in CHECKS:

@@ -1,7 +1,9 @@
--- What a clause of one's own may cite: of records, of whole logs and their history, of package logs, of operator logs, of
--- messages, of keys and times, of a registry, of its log and its map, of errors, of JSON.
+-- What a clause of one's own may cite: of records, of whole logs (in short words too) and their history, of package logs,
+-- of operator logs, of messages, of keys and times, of a registry, of its log and its map, of errors, of JSON.
 pub mod Records
 pub mod Logs
+pub mod LogWords
+pub mod AuditedWords
 pub mod History
 pub mod P256
 pub mod Package

@@ -1,8 +1,9 @@
 -- Operator logs: what a state stands for, what its look-ups answer, and what a log's history says.
 -- the rules, and what content bytes are as a record
-pub use Rattle.warg_operator_log.specs.StateLaws.{kind, effects, AreEquivalent}
+pub use Rattle.warg_operator_log.specs.StateLaws.{kind, operator_log, effects, AreEquivalent}
 pub use Rattle.warg_operator_log.specs.Namespaces.{rules}
 pub use Rattle.warg_log_records.specs.OperatorReading.{operator_record_of, operator_entry_of}
+pub use Rattle.warg_log_records.specs.Readings.{operator_reading}
 pub use Rattle.warg_log_records.specs.OperatorEntries.{OperatorOwnEntry, entry_data, record_data, required_permission_of}
 pub use Rattle.warg_log_records.specs.OperatorWriting.{operator_record_message, operator_entry_message, operator_content_of}
 -- what a state stands for: `(view_of s).state.authority.holds`, `.key`, `(view_of s).state.own_state`, `(view_of s).head`

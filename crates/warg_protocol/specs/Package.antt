@@ -1,8 +1,9 @@
 -- Package logs: what a state stands for, what its look-ups answer, and what a log's history says.
 -- the rules, and what content bytes are as a record
-pub use Rattle.warg_package_log.specs.StateLaws.{kind, effects, AreEquivalent}
+pub use Rattle.warg_package_log.specs.StateLaws.{kind, package_log, effects, AreEquivalent}
 pub use Rattle.warg_package_log.specs.Releases.{rules}
 pub use Rattle.warg_log_records.specs.PackageReading.{package_record_of, package_entry_of}
+pub use Rattle.warg_log_records.specs.Readings.{package_reading}
 pub use Rattle.warg_log_records.specs.PackageEntries.{PackageOwnEntry, entry_data, record_data, required_permission_of}
 pub use Rattle.warg_log_records.specs.PackageWriting.{package_record_message, package_entry_message, package_content_of}
 -- what a state stands for: `(view_of s).state.authority.holds`, `.key`, `.has_entry`, `(view_of s).state.own_state`, `(view_of s).head`

@@ -10,7 +10,6 @@ import stat
 import subprocess
 import time
 from collections.abc import Callable
-from typing import Any
 
 from append_trials.kills import KILLS, broken, library
 from append_trials.trials import Done, Faults, Place, beside
@@ -172,38 +171,24 @@ def owners(place: Place, faults: Faults) -> None:
     faults.expect(
         "its owner and group are kept", (log.stat().st_uid, log.stat().st_gid) == (SOMEONE, SOMEONE + 1), log.stat()
     )
-    as_someone: dict[str, Any] = {"user": SOMEONE, "group": SOMEONE, "extra_groups": []}
+
+    def expect_left_by_someone(name: str, status: int, why: str) -> None:
+        done = place.tool.append(log, place.lines[2], user=SOMEONE, group=SOMEONE, extra_groups=[])
+        expect_left(faults, name, done, status, why, log, place.text(2))
+
     log = place.log("foreign")
     log.chmod(0o666)
     log.parent.chmod(0o777)
-    done = place.tool.append(log, place.lines[2], **as_someone)
-    expect_left(
-        faults,
-        "another's log, in a folder that all may write",
-        done,
-        3,
-        "owner and group can't be kept",
-        log,
-        place.text(2),
-    )
+    expect_left_by_someone("another's log, in a folder that all may write", 3, "owner and group can't be kept")
     log.chmod(0o644)
-    done = place.tool.append(log, place.lines[2], **as_someone)
-    expect_left(
-        faults, "another's log that its owner alone may write", done, 2, "it may not be written", log, place.text(2)
-    )
+    expect_left_by_someone("another's log that its owner alone may write", 2, "it may not be written")
     log = place.log("closed")
     os.chown(log, SOMEONE, SOMEONE)
     log.parent.chmod(0o555)
-    done = place.tool.append(log, place.lines[2], **as_someone)
-    expect_left(
-        faults, "a log in a folder that may not be written", done, 3, "its lock can't be taken", log, place.text(2)
-    )
+    expect_left_by_someone("a log in a folder that may not be written", 3, "its lock can't be taken")
     log.with_name(".log.hex.lock").write_bytes(b"")
     os.chown(log.with_name(".log.hex.lock"), SOMEONE, SOMEONE)
-    done = place.tool.append(log, place.lines[2], **as_someone)
-    expect_left(
-        faults, "the same with its lock there", done, 3, "it could not be written, and is as it was", log, place.text(2)
-    )
+    expect_left_by_someone("the same with its lock there", 3, "it could not be written, and is as it was")
 
 
 def busy(place: Place, faults: Faults) -> None:
@@ -296,6 +281,12 @@ def outputs(place: Place, faults: Faults) -> None:
     log, done = answered("gone", writes)
     faults.expect("a reader that went away", (done.returncode, done.stderr) == (0, ""), done)
     faults.expect("the record stands", log.read_text(encoding="utf-8") == place.text(3), log)
+    audits_without_reader(place, faults, writes)
+    os.close(writes)
+
+
+def audits_without_reader(place: Place, faults: Faults, writes: int) -> None:
+    """Audits that print to a pipe without a reader."""
     for text, status in ((place.text(3), 0), (place.text(1) + place.lines[2], 1)):
         audit = [str(place.tool.program), "audit", "package", "--toy"]
         audited = subprocess.run(
@@ -306,7 +297,6 @@ def outputs(place: Place, faults: Faults) -> None:
             audited.returncode == status and "output" not in audited.stderr,
             audited,
         )
-    os.close(writes)
 
 
 def full_disk(place: Place, faults: Faults) -> None:

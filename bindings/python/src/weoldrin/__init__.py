@@ -4,27 +4,11 @@ from .auditing import Refusal, Verdict, append_all, audit, audit_many, envelopes
 from .errors import BadArgument, Busy, Error, Forked, NoEnvelope, NotOpen, OutOfMemory, Refused, UnknownAlgorithm
 from .faults import BadLine, Empty, Fault, Missing, Rewritten, RolledBack, SpoiledState, Unfinished, Unreadable, Unsaved
 from .incremental import NewRecords, audit_new
-from .logs import (
-    Comparison,
-    Kind,
-    Link,
-    Log,
-    Namespace,
-    OperatorLog,
-    PackageLog,
-    Question,
-    Record,
-    Relation,
-    Release,
-    Verify,
-    kind_of,
-    library_version,
-    log_of,
-    record_id,
-)
+from .logs import Log, OperatorLog, PackageLog, library_version, log_of, record_id
 from .printing import print_lines, printable
 from .proofs import verify_absence, verify_consistency, verify_inclusion, verify_presence
 from .signatures import verify
+from .values import Comparison, Kind, Link, Namespace, Question, Record, Relation, Release, Verify, kind_of
 
 __all__ = [
     "BadArgument",

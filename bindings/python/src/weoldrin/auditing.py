@@ -11,8 +11,9 @@ from typing import NamedTuple
 from ._files import RecordLine, record_lines
 from .errors import NoEnvelope, Refused, UnknownAlgorithm
 from .faults import BadLine, Empty, Fault, Missing, Unreadable
-from .logs import Kind, Log, Verify, kind_of, log_of
+from .logs import Log, log_of
 from .printing import printable
+from .values import Kind, Verify, kind_of
 
 
 class Refusal(NamedTuple):

@@ -12,8 +12,9 @@ from ._files import RecordLine, held_beside, lines_of, open_regular, record_line
 from .auditing import Refusal, append_all, envelope_of, fault_of, with_cause
 from .errors import BadArgument
 from .faults import Empty, Fault, Rewritten, RolledBack, SpoiledState, Unfinished, Unsaved
-from .logs import Kind, Log, Verify, class_of, kind_of
+from .logs import Log, class_of
 from .printing import printable
+from .values import Kind, Verify, kind_of
 
 # So many digits of a digest are kept of each line, to tell a rollback from a rewriting.
 _MARK = 16

@@ -19,8 +19,9 @@ from . import records
 from ._words import Once, Words
 from .auditing import append_all, envelopes_of
 from .errors import Error, Refused
-from .logs import Kind, Log, log_of
+from .logs import Log, log_of
 from .printing import print_lines, tell
+from .values import Kind
 
 if TYPE_CHECKING:
     from .p256 import SigningKey

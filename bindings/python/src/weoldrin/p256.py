@@ -10,7 +10,7 @@ from typing import TYPE_CHECKING
 from . import signatures
 from ._library import bytes_of
 from .errors import BadArgument, UnknownAlgorithm
-from .logs import Question
+from .values import Question
 
 ALGORITHM = "ecdsa-p256"
 

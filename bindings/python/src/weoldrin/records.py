@@ -6,7 +6,7 @@ Nothing is judged here: a log does that when the envelope is appended.
 import hashlib
 from collections.abc import Callable, Iterable
 
-from .logs import Kind, kind_of
+from .values import Kind, kind_of
 
 _PREFIX = {Kind.PACKAGE: b"WARG-PACKAGE-RECORD-SIGNATURE-V0:", Kind.OPERATOR: b"WARG-OPERATOR-RECORD-SIGNATURE-V0:"}
 _PERMISSIONS = {

@@ -1,0 +1,98 @@
+"""What logs are asked and say: questions, records, releases, comparisons, and the kinds of logs."""
+
+import enum
+from collections.abc import Callable
+from typing import NamedTuple
+
+
+class Question(NamedTuple):
+    """What has to be verified before a record can be appended: whether the signature belongs to the message under the
+    key."""
+
+    key: str
+    """The text of the signer's key: the algorithm's name, a colon, base64."""
+    message: bytes
+    """What was signed."""
+    signature: str
+    """The signature's text, in the form of the key's."""
+
+
+Verify = Callable[[Question], bool]
+
+
+class Record(NamedTuple):
+    """A record that a log keeps."""
+
+    envelope: bytes
+    """The record's envelope, written anew: it has the contents, the key id and the signature that were appended, and
+    nothing else that stood in those bytes."""
+    id: str
+
+
+class Release(NamedTuple):
+    """A release. Times are those of the records, in nanoseconds since 1970."""
+
+    version: str
+    record_id: str
+    """The id of the record that released it."""
+    by: str
+    """The id of the key that signed that record."""
+    timestamp: int
+    content: str | None
+    """The digest of the content; none if the release was yanked."""
+    yanked_by: str | None
+    """The id of the key that signed the yank."""
+    yanked_timestamp: int | None
+
+    @property
+    def yanked(self) -> bool:
+        """Whether the release was yanked."""
+        return self.yanked_by is not None
+
+
+class Link(NamedTuple):
+    """The place of an entry: of its record in the log, and of the entry in the record, from 0."""
+
+    record: int
+    entry: int
+
+
+class Namespace(NamedTuple):
+    """A namespace: one that is imported has the name of the registry that it is imported from."""
+
+    imported_from: str | None
+
+
+class Relation(enum.Enum):
+    """How two logs stand to each other, by the contents of their records."""
+
+    SAME = 0
+    LEFT_IS_PREFIX = 1
+    RIGHT_IS_PREFIX = 2
+    FORK = 3
+    COLLISION = 4
+
+
+class Comparison(NamedTuple):
+    """How two logs compare. `left` and `right` are the places where they part; both are 0 for equal logs."""
+
+    relation: Relation
+    left: int
+    right: int
+
+
+class Kind(enum.Enum):
+    """The kinds of logs."""
+
+    PACKAGE = 0
+    OPERATOR = 1
+
+
+def kind_of(kind: Kind | str) -> Kind:
+    """A kind of logs: one of `Kind`, or its word, "package" or "operator". Raises `ValueError` for anything else."""
+    if isinstance(kind, Kind):
+        return kind
+    for it in Kind:
+        if kind == it.name.lower():
+            return it
+    raise ValueError(f'a log is of Kind.PACKAGE or Kind.OPERATOR, or "package" or "operator", and not of {kind!r}')

@@ -1,0 +1,95 @@
+"""Tests of how tools/test_hosts counts: by what each language's runner prints, and where a runner broke off."""
+
+import contextlib
+import io
+import pathlib
+import runpy
+import sys
+import tempfile
+import unittest
+
+TOOLS = pathlib.Path(__file__).resolve().parents[1]
+sys.path.insert(0, str(TOOLS))
+
+HOSTS = runpy.run_path(str(TOOLS / "test_hosts"))
+
+OF_CARGO = """
+     Running tests/forgeries.rs (target/debug/deps/forgeries-1)
+
+running 12 tests
+test forged ... FAILED
+
+test result: FAILED. 10 passed; 1 failed; 1 ignored; 0 measured; 0 filtered out; finished in 0.02s
+
+   Doc-tests weoldrin
+
+test result: ok. 3 passed; 0 failed; 0 ignored; 0 measured; 0 filtered out; finished in 0.00s
+"""
+
+
+class Counts(unittest.TestCase):
+    """What a runner's output says."""
+
+    def test_make(self) -> None:
+        said = "ok c: keys-static builds\n8 requests refused\nok c: keys\nFAILED c: keys, by valgrind\nmake: Error 1\n"
+        self.assertEqual(HOSTS["counted_of_make"](said), (2, 1, 0))
+        self.assertEqual(HOSTS["counted_of_make"]("make: *** No rule\n"), (0, 0, 0))
+
+    def test_cargo(self) -> None:
+        self.assertEqual(HOSTS["counted_of_cargo"](OF_CARGO), (13, 1, 1))
+        self.assertEqual(HOSTS["counted_of_cargo"]("error: could not compile\n"), (0, 0, 0))
+
+    def test_unittest(self) -> None:
+        ends = {
+            "Ran 150 tests in 3.1s\n\nOK": (150, 0, 0),
+            "Ran 1 test in 0.0s\n\nOK": (1, 0, 0),
+            "Ran 9 tests in 0.1s\n\nOK (skipped=2)": (7, 0, 2),
+            "Ran 9 tests in 0.1s\n\nOK (expected failures=1)": (9, 0, 0),
+            "Ran 9 tests in 0.1s\n\nFAILED (failures=1, errors=2, skipped=3)": (3, 3, 3),
+            "Ran 9 tests in 0.1s\n\nFAILED (unexpected successes=1)": (8, 1, 0),
+            "Ran 0 tests in 0.0s\n\nFAILED (errors=1)": (0, 1, 0),
+            "Ran 0 tests in 0.0s\n\nOK": (0, 0, 0),
+            "Ran 0 tests in 0.0s\n\nNO TESTS RAN": (0, 0, 0),
+            "Segmentation fault": (0, 0, 0),
+        }
+        for end, wanted in ends.items():
+            with self.subTest(end):
+                said = f"test_a (tests.A.test_a) ... failures=5\nok\n{70 * '-'}\n{end}\nprinted behind it\n"
+                self.assertEqual(HOSTS["counted_of_unittest"](said), wanted)
+
+
+class Runs(unittest.TestCase):
+    """What is counted of a run."""
+
+    def _counted(self, code: str, runner: str | None = None, is_all: bool = False) -> tuple[int, int, int]:
+        """The tests that pass, that fail and that are left out where a runner is this code of Python."""
+        with tempfile.TemporaryDirectory() as folder, contextlib.redirect_stdout(io.StringIO()) as said:
+            hosts = HOSTS["Hosts"](pathlib.Path(folder), pathlib.Path(folder), is_all)
+            hosts.run("it", [sys.executable, "-c", code], {"WORD": "known"}, HOSTS[runner] if runner else None)
+        lines = said.getvalue().splitlines()
+        self.assertEqual(any(it.startswith("FAILED") for it in lines[1:]), hosts.failed > 0, lines)
+        return hosts.passed, hosts.failed, hosts.left_out
+
+    def test_a_command(self) -> None:
+        self.assertEqual(self._counted("import os; assert os.environ['WORD'] == 'known'"), (1, 0, 0))
+        self.assertEqual(self._counted("raise SystemExit(3)"), (0, 1, 0))
+
+    def test_a_runner(self) -> None:
+        make = "counted_of_make"
+        self.assertEqual(self._counted("print('ok c: a\\nok c: b')", make), (2, 0, 0))
+        self.assertEqual(self._counted("print('ok c: a\\nFAILED c: b'); exit(2)", make), (1, 1, 0))
+        self.assertEqual(self._counted("print('FAILED c: b')", make), (0, 1, 0))
+        # It broke off behind a test, was killed, and tested nothing.
+        self.assertEqual(self._counted("print('ok c: a'); exit(2)", make), (1, 1, 0))
+        killed = "import os; print('ok c: a', flush=True); os.kill(os.getpid(), 9)"
+        self.assertEqual(self._counted(killed, make), (1, 1, 0))
+        self.assertEqual(self._counted("print('nothing to be done')", make), (0, 1, 0))
+
+    def test_left_out(self) -> None:
+        code = "print('Ran 3 tests in 1s\\n\\nOK (skipped=2)')"
+        self.assertEqual(self._counted(code, "counted_of_unittest"), (1, 0, 2))
+        self.assertEqual(self._counted(code, "counted_of_unittest", is_all=True), (1, 2, 2))
+
+
+if __name__ == "__main__":
+    unittest.main()
