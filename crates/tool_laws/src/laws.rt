@@ -43,9 +43,9 @@ pub fn audits_are_printed()
         (belongs : SignatureRelation) (demands : Demands) (shows_path : Bool) (path : List ℕ)
         (printed : Printout) → IsOneAnswer json kind belongs files demands shows_path path printed →
         IsPrintedText printed.text }
-    ensures many { (json : Bool) (kind : LogType) (belongs : SignatureRelation) (files : Option
-        Files) (allows_empty : Bool) (words : List (List ℕ)) (printed : Printout) → IsManyAnswer
-        json kind belongs files allows_empty words printed → IsPrintedText printed.text }
+    ensures many { (json : Bool) (kind : LogType) (belongs : SignatureRelation)
+        (files : Option Files) (allows_empty : Bool) (words : List (List ℕ)) (printed : Printout) →
+        IsManyAnswer json kind belongs files allows_empty words printed → IsPrintedText printed.text }
 {}
 
 /// So is a log in words, and why a record is refused.

@@ -17,7 +17,7 @@ pub fn package_lines()
 
 /// So is an operator log.
 pub fn operator_lines()
-    ensures { (id : List ℕ →
-        RecordId) (head : Option RecordId) (envelopes : List EnvelopeData) (text : List ℕ) →
-        IsLogText id says_operator_words head shows_namespaces envelopes text → IsPrintedText text }
+    ensures { (id : List ℕ → RecordId) (head : Option RecordId) (envelopes : List EnvelopeData)
+        (text : List ℕ) → IsLogText id says_operator_words head shows_namespaces envelopes text →
+        IsPrintedText text }
 {}
