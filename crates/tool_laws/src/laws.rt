@@ -45,7 +45,8 @@ pub fn audits_are_printed()
         IsPrintedText printed.text }
     ensures many { (json : Bool) (kind : LogType) (belongs : SignatureRelation)
         (files : Option Files) (allows_empty : Bool) (words : List (List ℕ)) (printed : Printout) →
-        IsManyAnswer json kind belongs files allows_empty words printed → IsPrintedText printed.text }
+        IsManyAnswer json kind belongs files allows_empty words printed →
+        IsPrintedText printed.text }
 {}
 
 /// So is a log in words, and why a record is refused.
