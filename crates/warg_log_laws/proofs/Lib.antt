@@ -6,5 +6,4 @@ pub mod Holdings
 pub mod EntryWalks
 pub mod GrammarLaws
 pub mod AuditedLaws
-pub mod PackageAudited
-pub mod OperatorAudited
+pub mod AuditedGrowth
