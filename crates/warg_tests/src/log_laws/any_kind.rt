@@ -69,7 +69,8 @@ pub fn has_chain<L: RuledLog, V: Verifier + Drop>(
 pub fn formed_records<L: RuledLog, V: Verifier + Drop>(
     log: &AuditedLog<L, V>,
 ) -> &[ProtoEnvelope<L::Record>]
-    ensures { 0 < length result.now → HasForm L.rules.id_of (map (as_data L.record_data) result.now) }
+    ensures { 0 < length result.now →
+        HasForm L.rules.id_of (map (as_data L.record_data) result.now) }
 {
     audited::records(log)
 }
@@ -112,16 +113,18 @@ pub fn entries_give<L: RuledLog>()
         IsGift L.same k p signer entry }
     ensures last { (es : List EnvelopeData) (k : List ℕ) (p : L.Permission) →
         (is_held L.ruled es k p ≡ true) ↔ Holds L.same (history L.ruled es) k p }
-    ensures held { HoldsByEffects (kind L.ruled) (effects L.ruled) (λ v k p. v.state.authority.holds k p) }
+    ensures held { HoldsByEffects (kind L.ruled) (effects L.ruled)
+        (λ v k p. v.state.authority.holds k p) }
     ensures gives { GivesWhatIsHeld (kind L.ruled) (effects L.ruled) }
-    ensures grants { (b : SignatureRelation) (es : List EnvelopeData) → IsAccepted (kind L.ruled) b es →
+    ensures grants { (b : SignatureRelation) (es : List EnvelopeData) →
+        IsAccepted (kind L.ruled) b es →
         (place : ℕ) (r : SignedRecord L.Permission L.Own) →
         slice_get (records_of L.ruled es) place ≡ Some r →
         (n : ℕ) (e : PlacedEvent (EntryData L.Permission L.Own)) →
         slice_get (record_history L.rules.id_of (place, r)) n ≡ Some e →
         (k : List ℕ) (p : L.Permission) → IsGrantTo L.same p k e.event.entry →
-        is_held_by L.ruled (history L.ruled (take place es) ++ take n (record_history L.rules.id_of (place, r)))
-        e.event.signer p ≡ true }
+        is_held_by L.ruled (history L.ruled (take place es)
+        ++ take n (record_history L.rules.id_of (place, r))) e.event.signer p ≡ true }
 {
     laws::is_a_kind::<L>();
     laws::gifts::<L>();

@@ -133,8 +133,8 @@ pub fn entries_give()
         (n : ℕ) (e : PlacedEvent (EntryData OfPermission PackageOwnEntry)) →
         slice_get (record_history record_id_of (place, r)) n ≡ Some e →
         (k : List ℕ) (p : OfPermission) → IsGrantTo same_permission p k e.event.entry →
-        is_held_by ruled (history (take place es) ++ take n (record_history record_id_of (place, r)))
-        e.event.signer p ≡ true }
+        is_held_by ruled (history (take place es)
+        ++ take n (record_history record_id_of (place, r))) e.event.signer p ≡ true }
 {
     laws::is_a_kind::<LogState>();
     laws::gifts::<LogState>();
