@@ -7,3 +7,6 @@ pub mod EntryWalks
 pub mod GrammarLaws
 pub mod AuditedLaws
 pub mod AuditedGrowth
+pub mod LogWordLaws
+pub mod AuditedWordLaws
+pub mod KindWordLaws
