@@ -19,5 +19,6 @@ pub mod SavedParts
 pub mod SavedHead
 pub mod SavedEqual
 pub mod CanonicalHead
+pub mod SavedMembers
 pub mod AskingLaws
 pub mod EnclosedLaws

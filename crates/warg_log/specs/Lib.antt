@@ -15,4 +15,5 @@ pub mod EntryRefs
 pub mod Equal
 pub mod EqualLaws
 pub mod HeadJson
+pub mod SavedMembers
 pub mod Asking

@@ -12,9 +12,11 @@ pub mod laws;
 mod log;
 mod own_state;
 mod refusal;
+mod saved_members;
 
-pub use head::{Head, head_member, head_version, put_head, put_head_text};
+pub use head::{Head, head_member, head_version, put_head};
 pub use log::Log;
 pub use own_state::{EntryRef, Origin, OwnState, RecordRef};
 pub use refusal::Refusal;
+pub use saved_members::members_text;
 pub use warg_permissions::key_maps::{KeyEntry, Keys};

@@ -8,6 +8,4 @@ pub mod NamespaceJsonLaws
 pub mod SavedNamespaces
 pub mod SavedStates
 pub mod SavedLaws
-pub mod SavedTexts
 pub mod ApartParts
-pub mod CanonicalStates

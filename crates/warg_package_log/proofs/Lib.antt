@@ -12,8 +12,6 @@ pub mod SavedReleases
 pub mod SavedStates
 pub mod SavedFound
 pub mod SavedLaws
-pub mod SavedTexts
 pub mod SavableReleases
 pub mod ApartParts
 pub mod ReleaseTokens
-pub mod CanonicalStates

@@ -30,13 +30,13 @@ use warg_crypto::hash::HashAlgorithm;
 use warg_crypto::json::members::object_value;
 use warg_crypto::json::{Incoherence, JsonError, JsonValue};
 use warg_crypto::signing::{KeyID, PublicKey};
-use warg_log::{Head, Log, head_member, head_version, put_head, put_head_text};
+use warg_log::{Head, Log, head_member, head_version, members_text, put_head};
 use warg_log_records::package::Permission;
 use warg_permissions::PermissionSet;
 use warg_saved_states::{
-    JsonTextError, MemberTexts, algorithm_member, are_no_keys, check_begun, check_empty,
-    check_keys, check_rights, check_version, is_empty, keys_member, map_member, put_algorithm,
-    put_keys, put_map, read_apart, read_value,
+    JsonTextError, algorithm_member, are_no_keys, check_begun, check_empty, check_keys,
+    check_rights, check_version, is_empty, keys_member, map_member, put_algorithm, put_keys,
+    put_map, read_apart, read_value,
 };
 
 /// What is read of a state's members.
@@ -192,13 +192,14 @@ fn log_text(alloc: Global, log: &Log<ReleaseMap>) -> Result<String, JsonError>
     ensures read { IfOk result (λ text. IsReadAs (state_json log.now) (string_bytes text)) }
     ensures savable { OnOk result (AreReadBack (saved_versions log.now) → IsSavable log.now) }
 {
-    let mut members = MemberTexts::new(alloc);
-    members.put_optional("algorithm", log.algorithm())?;
-    put_head_text(&mut members, log.head())?;
-    members.put_map("permissions", log.permissions())?;
-    members.put_map("releases", log.own_state().as_map())?;
-    members.put_keys(log.keys())?;
-    members.text()
+    members_text(
+        alloc,
+        log,
+        "releases",
+        log.own_state().as_map(),
+        "keys",
+        log.keys(),
+    )
 }
 
 impl LogState {

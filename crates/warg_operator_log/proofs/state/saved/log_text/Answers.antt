@@ -1,133 +1,47 @@
-use Rattle.std.proofs.Common.{◌≡◌, ap, ◌∙◌, sym, codes, string_bytes, ℕ, List, subst}
-use Rattle.std.specs.Prelude.{Ok}
-use Rattle.std.proofs.lemmas.Result.{err_from_is_err_and}
-use Rattle.serde_json.specs.Data.{no_members}
-use Rattle.warg_crypto.specs.Json.JsonTexts.{algorithm_json, key_json, key_in}
-use Rattle.warg_crypto.specs.Json.Members.{put_option}
+use Rattle.std.proofs.Common.{◌≡◌, ◌∙◌, ℕ, List, codes, string_bytes, subst}
+use Rattle.std.specs.Prelude.{IfOk, Result}
+use Rattle.serde_json.specs.Data.{Data}
+use Rattle.warg_crypto.specs.Json.Json.{ReturnsOrNoMemory}
+use Rattle.warg_crypto.specs.Json.JsonTexts.{key_in, key_json}
 use Rattle.warg_crypto.specs.NamedBytes.{NamedBytes}
-use Rattle.warg_permissions.specs.OperatorPermissions.{permission_text, permission_in, same_permission}
-use Rattle.warg_permissions.specs.declared.operator.Permission.{Permission}
-use Rattle.warg_saved_states.specs.Maps.{put_pairs}
-use Rattle.warg_saved_states.specs.MapNames.{text_name, text_named}
-use Rattle.warg_saved_states.specs.SavedPermissions.{permissions_json, permissions_in}
+use Rattle.warg_crypto.specs.declared.json.error.JsonError.{JsonError}
+use Rattle.warg_permissions.specs.OperatorPermissions.{permission_text}
 use Rattle.warg_saved_states.specs.Backs.{AreBack}
-use Rattle.warg_saved_states.proofs.CanonicalTexts.{gives_reads}
-use Rattle.warg_saved_states.proofs.Optional.{same_option}
-use Rattle.warg_saved_states.proofs.TextSteps.{gives_fault, gives_text, written}
-use Rattle.warg_saved_states.proofs.MapsBack.{no_versions, always}
-use Rattle.warg_log.specs.HeadJson.{head_json}
-use Rattle.warg_operator_log.specs.NamespaceJson.{saved_namespace_json, saved_namespace_in}
-use Rattle.warg_operator_log.specs.SavedState.{state_json}
-use Rattle.warg_operator_log.proofs.CanonicalStates.{state_canonical}
-use Rattle.warg_operator_log.proofs.SavedTexts.{algorithm_fault, head_fault, keys_fault, namespaces_fault, rights_fault, whole}
+use Rattle.warg_saved_states.specs.MapNames.{text_name, text_named}
+use Rattle.warg_saved_states.specs.SavedPermissions.{permissions_json}
+use Rattle.warg_saved_states.specs.Texts.{IsReadAs, text_of}
+use Rattle.warg_saved_states.proofs.MapsBack.{no_versions}
+use Rattle.warg_saved_states.proofs.Optional.{same_pairs}
+use Rattle.warg_log.proofs.SavedMembers.{on_ok-all, same_maps}
+use Rattle.warg_operator_log.specs.NamespaceJson.{saved_namespace_in, saved_namespace_json}
 use Rattle.warg_operator_log.specs.NamespaceMap.{HasKebabNames}
 use Rattle.warg_operator_log.specs.Namespaces.{Namespace}
 use Rattle.warg_operator_log.proofs.state.saved.log_text.Goals as goal
 
-pub returns-in_err-put_optional-clause-written : goal.returns-in_err-put_optional-clause-written
-returns-in_err-put_optional-clause-written c =
-    let s = c.args.log.now in
-    let p = err_from_is_err_and c.from_residual.result c.from_residual.ensures.1 in
-    rw (p.1, p.2) (gives_fault _ _ _ (c.in_err-put_optional.ensures.written no_members c.new-members.ensures) (λ h.
-    algorithm_fault s _
-    (ap (λ o. put_option algorithm_json (codes "algorithm") o no_members) (sym (same_option c.algorithm.result.now ∙ c.algorithm.ensures)) ∙ h)))
-
-pub returns-in_err-put_head_text-clause-written : goal.returns-in_err-put_head_text-clause-written
-returns-in_err-put_head_text-clause-written c =
-    let s = c.args.log.now in
-    let a = written _ _ (c.in_ok-put_optional.ensures.written no_members c.new-members.ensures) in
-    let algorithm : put_option algorithm_json (codes "algorithm") s.authority.algorithm no_members ≡ Ok a.members =
-    ap (λ o. put_option algorithm_json (codes "algorithm") o no_members) (sym (same_option c.algorithm.result.now ∙ c.algorithm.ensures)) ∙ a.is in
-    let p = err_from_is_err_and c.from_residual-in_err-put_head_text.result c.from_residual-in_err-put_head_text.ensures.1 in
-    rw (p.1, p.2) (gives_fault _ _ _ (c.in_err-put_head_text.ensures.written a.members a.are) (λ h.
-    head_fault s _ a.members algorithm (ap (λ o. put_option head_json (codes "head") o a.members) (sym c.head.ensures.value) ∙ h)))
-
-pub returns-in_err-put_map-clause-written : goal.returns-in_err-put_map-clause-written
-returns-in_err-put_map-clause-written c =
-    let s = c.args.log.now in
-    let a = written _ _ (c.in_ok-put_optional.ensures.written no_members c.new-members.ensures) in
-    let b = written _ _ (c.in_ok-put_head_text.ensures.written a.members a.are) in
-    let algorithm : put_option algorithm_json (codes "algorithm") s.authority.algorithm no_members ≡ Ok a.members =
-    ap (λ o. put_option algorithm_json (codes "algorithm") o no_members) (sym (same_option c.algorithm.result.now ∙ c.algorithm.ensures)) ∙ a.is in
-    let head : put_option head_json (codes "head") s.head a.members ≡ Ok b.members =
-    ap (λ o. put_option head_json (codes "head") o a.members) (sym c.head.ensures.value) ∙ b.is in
-    let p = err_from_is_err_and c.from_residual-in_err-put_map.result c.from_residual-in_err-put_map.ensures.1 in
-    rw (p.1, p.2) (gives_fault _ _ _ (c.in_err-put_map.ensures.written b.members b.are) (λ h.
-    rights_fault s a.members b.members b.members b.members algorithm head _
-    (ap (λ es. put_pairs text_name (permissions_json permission_text) (codes "permissions") es b.members) (sym c.permissions.ensures.plain) ∙ h)))
-
-pub returns-in_err-put_keys-clause-written : goal.returns-in_err-put_keys-clause-written
-returns-in_err-put_keys-clause-written c =
-    let s = c.args.log.now in
-    let a = written _ _ (c.in_ok-put_optional.ensures.written no_members c.new-members.ensures) in
-    let b = written _ _ (c.in_ok-put_head_text.ensures.written a.members a.are) in
-    let d = written _ _ (c.in_ok-put_map.ensures.written b.members b.are) in
-    let algorithm : put_option algorithm_json (codes "algorithm") s.authority.algorithm no_members ≡ Ok a.members =
-    ap (λ o. put_option algorithm_json (codes "algorithm") o no_members) (sym (same_option c.algorithm.result.now ∙ c.algorithm.ensures)) ∙ a.is in
-    let head : put_option head_json (codes "head") s.head a.members ≡ Ok b.members =
-    ap (λ o. put_option head_json (codes "head") o a.members) (sym c.head.ensures.value) ∙ b.is in
-    let rights : put_pairs text_name (permissions_json permission_text) (codes "permissions") s.authority.rights b.members ≡ Ok d.members =
-    ap (λ es. put_pairs text_name (permissions_json permission_text) (codes "permissions") es b.members) (sym c.permissions.ensures.plain) ∙ d.is in
-    let p = err_from_is_err_and c.from_residual-in_err-put_keys.result c.from_residual-in_err-put_keys.ensures.1 in
-    rw (p.1, p.2) (gives_fault _ _ _ (c.in_err-put_keys.ensures.written d.members d.are) (λ h.
-    keys_fault s a.members b.members d.members d.members algorithm head rights _
-    (ap (λ es. put_pairs text_name key_json (codes "keys") es d.members) (sym c.keys.ensures) ∙ h)))
-
-pub returns-in_err-put_map-2-clause-written : goal.returns-in_err-put_map-2-clause-written
-returns-in_err-put_map-2-clause-written c =
-    let s = c.args.log.now in
-    let a = written _ _ (c.in_ok-put_optional.ensures.written no_members c.new-members.ensures) in
-    let b = written _ _ (c.in_ok-put_head_text.ensures.written a.members a.are) in
-    let d = written _ _ (c.in_ok-put_map.ensures.written b.members b.are) in
-    let e = written _ _ (c.in_ok-put_keys.ensures.written d.members d.are) in
-    let algorithm : put_option algorithm_json (codes "algorithm") s.authority.algorithm no_members ≡ Ok a.members =
-    ap (λ o. put_option algorithm_json (codes "algorithm") o no_members) (sym (same_option c.algorithm.result.now ∙ c.algorithm.ensures)) ∙ a.is in
-    let head : put_option head_json (codes "head") s.head a.members ≡ Ok b.members =
-    ap (λ o. put_option head_json (codes "head") o a.members) (sym c.head.ensures.value) ∙ b.is in
-    let rights : put_pairs text_name (permissions_json permission_text) (codes "permissions") s.authority.rights b.members ≡ Ok d.members =
-    ap (λ es. put_pairs text_name (permissions_json permission_text) (codes "permissions") es b.members) (sym c.permissions.ensures.plain) ∙ d.is in
-    let keys : put_pairs text_name key_json (codes "keys") s.authority.keys d.members ≡ Ok e.members =
-    ap (λ es. put_pairs text_name key_json (codes "keys") es d.members) (sym c.keys.ensures) ∙ e.is in
-    let p = err_from_is_err_and c.from_residual-in_err-put_map-2.result c.from_residual-in_err-put_map-2.ensures.1 in
-    rw (p.1, p.2) (gives_fault _ _ _ (c.in_err-put_map-2.ensures.written e.members e.are) (λ h.
-    namespaces_fault s a.members b.members d.members e.members algorithm head rights keys _
-    (ap (λ es. put_pairs text_name saved_namespace_json (codes "namespaces") es e.members) (sym (c.as_map.ensures.named ∙ c.own_state.ensures)) ∙ h)))
-
 pub returns-clause-written : goal.returns-clause-written
 returns-clause-written c =
     let s = c.args.log.now in
-    let a = written _ _ (c.in_ok-put_optional.ensures.written no_members c.new-members.ensures) in
-    let b = written _ _ (c.in_ok-put_head_text.ensures.written a.members a.are) in
-    let d = written _ _ (c.in_ok-put_map.ensures.written b.members b.are) in
-    let e = written _ _ (c.in_ok-put_keys.ensures.written d.members d.are) in
-    let f = written _ _ (c.in_ok-put_map-2.ensures.written e.members e.are) in
-    let algorithm : put_option algorithm_json (codes "algorithm") s.authority.algorithm no_members ≡ Ok a.members =
-    ap (λ o. put_option algorithm_json (codes "algorithm") o no_members) (sym (same_option c.algorithm.result.now ∙ c.algorithm.ensures)) ∙ a.is in
-    let head : put_option head_json (codes "head") s.head a.members ≡ Ok b.members =
-    ap (λ o. put_option head_json (codes "head") o a.members) (sym c.head.ensures.value) ∙ b.is in
-    let rights : put_pairs text_name (permissions_json permission_text) (codes "permissions") s.authority.rights b.members ≡ Ok d.members =
-    ap (λ es. put_pairs text_name (permissions_json permission_text) (codes "permissions") es b.members) (sym c.permissions.ensures.plain) ∙ d.is in
-    let keys : put_pairs text_name key_json (codes "keys") s.authority.keys d.members ≡ Ok e.members =
-    ap (λ es. put_pairs text_name key_json (codes "keys") es d.members) (sym c.keys.ensures) ∙ e.is in
-    let namespaces : put_pairs text_name saved_namespace_json (codes "namespaces") s.own_state e.members ≡ Ok f.members =
-    ap (λ es. put_pairs text_name saved_namespace_json (codes "namespaces") es e.members) (sym (c.as_map.ensures.named ∙ c.own_state.ensures)) ∙ f.is in
-    gives_text c.text.result _ _ f.members c.text.ensures.ok c.text.ensures.err
-    (whole s a.members b.members d.members e.members algorithm head rights keys f.members namespaces)
-    f.are
+    let keys = same_pairs c.keys.result.now.entries ∙ c.keys.ensures in
+    let namespaces = c.as_map.ensures.named ∙ c.own_state.ensures in
+    let same = same_maps (permissions_json permission_text) (codes "keys") text_name key_json (codes "namespaces") text_name saved_namespace_json s.authority.algorithm s.head s.authority.rights keys namespaces in
+    subst (λ (j : Result Data JsonError). ReturnsOrNoMemory string_bytes c.members_text.result (text_of j)) same c.members_text.ensures.written
 
 pub returns-clause-read : goal.returns-clause-read
 returns-clause-read c =
     let s = c.args.log.now in
-    gives_reads string_bytes c.text.result (state_json s) (state_canonical s c.head.ensures.coherent.versioned) (returns-clause-written c)
+    let keys = same_pairs c.keys.result.now.entries ∙ c.keys.ensures in
+    let namespaces = c.as_map.ensures.named ∙ c.own_state.ensures in
+    let same = same_maps (permissions_json permission_text) (codes "keys") text_name key_json (codes "namespaces") text_name saved_namespace_json s.authority.algorithm s.head s.authority.rights keys namespaces in
+    subst (λ (j : Result Data JsonError). IfOk c.members_text.result (λ text. IsReadAs j (string_bytes text))) same c.members_text.ensures.read
 
 pub returns-clause-savable : goal.returns-clause-savable
-returns-clause-savable c = always c.text.result (record {
-  coherent = c.head.ensures.coherent;
-  kebabs = subst HasKebabNames c.own_state.ensures c.as_map.ensures.kebabs;
-  head = λ h at. c.in_ok-put_head_text.ensures.back h (c.head.ensures.value ∙ at);
-  rights = subst (λ (es : List (List ℕ × List Permission)). AreBack text_name text_named (permissions_json permission_text) (permissions_in same_permission permission_in) es)
-      c.permissions.ensures.plain (c.in_ok-put_map.ensures.back (no_versions _));
-  keys = subst (λ (es : List (List ℕ × NamedBytes)). AreBack text_name text_named key_json key_in es) c.keys.ensures c.in_ok-put_keys.ensures.back;
-  namespaces = subst (λ (es : List (List ℕ × Namespace)). AreBack text_name text_named saved_namespace_json saved_namespace_in es) (c.as_map.ensures.named ∙ c.own_state.ensures)
-      (c.in_ok-put_map-2.ensures.back (no_versions _));
-})
+returns-clause-savable c = on_ok-all c.members_text.result
+    c.members_text.ensures.coherent c.members_text.ensures.head c.members_text.ensures.rights c.members_text.ensures.firsts c.members_text.ensures.seconds
+    (λ coherent head rights keys namespaces. record {
+      coherent = coherent;
+      kebabs = subst HasKebabNames c.own_state.ensures c.as_map.ensures.kebabs;
+      head = head;
+      rights = rights;
+      keys = subst (λ (es : List (List ℕ × NamedBytes)). AreBack text_name text_named key_json key_in es) (same_pairs c.keys.result.now.entries ∙ c.keys.ensures) (keys (no_versions _));
+      namespaces = subst (λ (es : List (List ℕ × Namespace)). AreBack text_name text_named saved_namespace_json saved_namespace_in es) (c.as_map.ensures.named ∙ c.own_state.ensures) (namespaces (no_versions _));
+    })
