@@ -20,5 +20,6 @@ pub mod SavedHead
 pub mod SavedEqual
 pub mod CanonicalHead
 pub mod SavedMembers
+pub mod SavedBack
 pub mod AskingLaws
 pub mod EnclosedLaws

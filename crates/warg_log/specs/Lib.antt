@@ -16,4 +16,5 @@ pub mod Equal
 pub mod EqualLaws
 pub mod HeadJson
 pub mod SavedMembers
+pub mod SavedParts
 pub mod Asking

@@ -8,4 +8,3 @@ pub mod NamespaceJsonLaws
 pub mod SavedNamespaces
 pub mod SavedStates
 pub mod SavedLaws
-pub mod ApartParts

@@ -13,5 +13,4 @@ pub mod SavedStates
 pub mod SavedFound
 pub mod SavedLaws
 pub mod SavableReleases
-pub mod ApartParts
 pub mod ReleaseTokens

@@ -30,7 +30,7 @@ use Rattle.warg_package_log.specs.ReleaseJson.{release_in, release_json}
 use Rattle.warg_package_log.specs.Releases.{ReleaseView, versions}
 use Rattle.warg_package_log.specs.ReleaseVersionLaws.{release_versions}
 use Rattle.warg_package_log.specs.SavedBack.{saved_versions}
-use Rattle.warg_package_log.specs.SavedState.{SavedParts, incoherence, named_releases, parts_in, state_in, state_json, state_of}
+use Rattle.warg_package_log.specs.SavedState.{Parts, incoherence, named_releases, parts_in, state_in, state_json, state_of}
 
 abbrev PackageState : Type 0
 PackageState = State (AuthorityData Permission) (List ReleaseView)
@@ -96,9 +96,9 @@ state_versions s d is =
     let w3 = bind_ok (pairs_member text_named (permissions_in same_permission permission_in) (codes "permissions") d) _ w.0 w2.2 in
     let w4 = bind_ok (pairs_member version_named release_in (codes "releases") d) _ w.0 w3.2 in
     let w5 = bind_ok (pairs_member text_named key_in (codes "keys") d) _ w.0 w4.2 in
-    let same : w4.0 ≡ w.0.releases = ap (λ (p : SavedParts). p.releases) (ok_same _ w.0 w5.2) in
+    let same : w4.0 ≡ w.0.firsts = ap (λ (p : Parts). p.firsts) (ok_same _ w.0 w5.2) in
     let all = values_read version_named release_in (λ (r : ReleaseView). AreReadBack (r.version ∷ [])) release_versions
     (codes "releases") d w4.0 w4.1 in
-    let back : AreReadBack (versions (map (λ e. e.1) w.0.releases)) =
+    let back : AreReadBack (versions (map (λ e. e.1) w.0.firsts)) =
     subst (λ (es : List (Version × ReleaseView)). AreReadBack (versions (map (λ (e : Version × ReleaseView). e.1) es))) same (all_back w4.0 all) in
     subst (λ (t : PackageState). AreReadBack (saved_versions t)) (fits (incoherence w.0) (state_of w.0) s w.2) back

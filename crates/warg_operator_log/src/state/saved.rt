@@ -1,12 +1,12 @@
 //! The state of an operator log as JSON.
-ghost use Rattle.std.specs.Prelude.{ℕ, List, ◌≡◌, ◌&&◌, [], ◌∷◌, None, Ok, IfOk, IfSome, OnOk, string_bytes};
+ghost use Rattle.std.specs.Prelude.{ℕ, List, ◌≡◌, [], None, IfOk, OnOk, string_bytes};
 ghost use Rattle.std.specs.List.{list_any};
 ghost use Rattle.serde_json.specs.Data.{object};
-ghost use Rattle.serde_json.specs.View.{members_view, view};
+ghost use Rattle.serde_json.specs.View.{members_view};
 ghost use Rattle.warg_crypto.specs.Json.Json.{ReturnsOrNoMemory};
 ghost use Rattle.warg_crypto.specs.Json.Pairs.{plain_pairs};
 ghost use Rattle.warg_permissions.specs.declared.operator.Permission.{Permission as OfPermission};
-ghost use Rattle.warg_saved_states.specs.Fit.{RefusesCase, RefusesCaseOrNoMemory, first_case, is_nil, keys_case, rights_case, unless_case, version_case};
+ghost use Rattle.warg_saved_states.specs.Fit.{RefusesCaseOrNoMemory, unless_case};
 ghost use Rattle.warg_saved_states.specs.JsonText.{ReturnsOfText, TextReadsBack, in_text};
 ghost use Rattle.warg_saved_states.specs.Texts.{IsReadAs, text_of};
 ghost use Rattle.warg_permissions.specs.KeyMaps.AuthorityData.{AuthorityData};
@@ -15,7 +15,7 @@ ghost use Rattle.warg_operator_log.specs.NamespaceMap.{namespace_view};
 ghost use Rattle.warg_operator_log.specs.Namespaces.{Namespace};
 ghost use Rattle.warg_operator_log.specs.SavedBack.{AreEqual, IsSavable};
 ghost use Rattle.warg_operator_log.specs.SavedParts.{parts_view};
-ghost use Rattle.warg_operator_log.specs.SavedState.{head_version, incoherence, is_misnamed, parts_in, namespaces_case, state_in, state_json, state_of};
+ghost use Rattle.warg_operator_log.specs.SavedState.{incoherence, is_misnamed, namespaces_case, state_in, state_json, state_of};
 
 use crate::namespace::NamespaceState;
 use crate::namespace_map::NamespaceMap;
@@ -23,69 +23,18 @@ use crate::state::LogState;
 use indexmap::IndexMap;
 use serde_json::{Map, Value};
 use std::alloc::Global;
-use warg_crypto::hash::HashAlgorithm;
 use warg_crypto::json::members::object_value;
 use warg_crypto::json::{Incoherence, JsonError, JsonValue};
 use warg_crypto::signing::{KeyID, PublicKey};
-use warg_log::{Head, Log, head_member, head_version, members_text, put_head};
-use warg_log_records::operator::Permission;
-use warg_permissions::PermissionSet;
-use warg_registry::PackageName;
-use warg_saved_states::{
-    JsonTextError, algorithm_member, are_no_keys, check_begun, check_empty, check_keys,
-    check_rights, check_version, is_empty, keys_member, map_member, put_algorithm, put_keys,
-    put_map, read_apart, read_value,
+use warg_log::{
+    Log, SavedParts, members_text, members_value, read_parts, second_apart, text_parts,
 };
+use warg_log_records::operator::Permission;
+use warg_registry::PackageName;
+use warg_saved_states::JsonTextError;
 
 /// What is read of a state's members.
-#[derive(Drop)]
-pub(crate) struct SavedParts {
-    algorithm: Option<HashAlgorithm>,
-    head: Option<Head>,
-    rights: IndexMap<KeyID, PermissionSet<Permission>>,
-    keys: IndexMap<KeyID, PublicKey>,
-    namespaces: IndexMap<String, NamespaceState>,
-}
-
-/// The parts of a state, or the first fault of its members.
-fn read_parts(alloc: Global, value: &Value) -> Result<SavedParts, JsonError>
-    ensures { ReturnsOrNoMemory parts_view result (parts_in (view value.now)) }
-{
-    let algorithm = algorithm_member(alloc, value)?;
-    let head = head_member(alloc, value)?;
-    let rights = map_member::<KeyID, PermissionSet<Permission>>(alloc, value, "permissions")?;
-    let keys = keys_member(alloc, value)?;
-    let namespaces = map_member::<String, NamespaceState>(alloc, value, "namespaces")?;
-    Ok(SavedParts {
-        algorithm,
-        head,
-        rights,
-        keys,
-        namespaces,
-    })
-}
-
-/// The parts of a state's text, its namespaces read one after another. `None`: some part has a fault, or what [`read_apart`]
-/// answers with `None`.
-fn parts_apart(alloc: Global, text: &str) -> Option<SavedParts>
-    ensures { IfSome result (λ parts. in_text parts_in text.now ≡ Ok (parts_view parts)) }
-{
-    let (others, namespaces) = read_apart::<String, NamespaceState>(alloc, text, "namespaces")?;
-    let mut parts = read_parts(alloc, &others).ok()?;
-    parts.namespaces = namespaces;
-    Some(parts)
-}
-
-/// The parts of a state's text, or its first fault.
-fn text_parts(alloc: Global, text: &str) -> Result<SavedParts, JsonTextError>
-    ensures { ReturnsOfText parts_view result (in_text parts_in text.now) }
-{
-    if let Some(parts) = parts_apart(alloc, text) {
-        return Ok(parts);
-    }
-    let value = read_value(alloc, text)?;
-    Ok(read_parts(alloc, &value)?)
-}
+type Parts = SavedParts<Permission, KeyID, PublicKey, String, NamespaceState>;
 
 /// Whether some name is no kebab name.
 fn has_misnamed(namespaces: &IndexMap<String, NamespaceState>) -> bool
@@ -100,66 +49,42 @@ fn has_misnamed(namespaces: &IndexMap<String, NamespaceState>) -> bool
     false
 }
 
-/// Refuses a name that is no kebab name.
-fn check_namespaces(namespaces: &IndexMap<String, NamespaceState>) -> Result<(), JsonError>
-    ensures { RefusesCase (namespaces_case
-        (plain_pairs string_bytes namespace_view namespaces.now.entries)) result }
+/// What does not fit together among namespaces: a name is no kebab name.
+fn misnamed(namespaces: &IndexMap<String, NamespaceState>) -> Option<Incoherence>
+    ensures { result ≡ namespaces_case
+        (plain_pairs string_bytes namespace_view namespaces.now.entries) }
 {
     if has_misnamed(namespaces) {
-        return Err(JsonError::Incoherent(Incoherence::InvalidNamespace));
+        return Some(Incoherence::InvalidNamespace);
     }
-    Ok(())
-}
-
-/// Whether the maps are empty.
-fn are_empty(parts: &SavedParts) -> bool
-    ensures { result ≡ (is_nil (parts_view parts.now).rights &&
-        (is_nil (parts_view parts.now).keys && is_nil (parts_view parts.now).namespaces)) }
-{
-    is_empty(&parts.rights) && are_no_keys(&parts.keys) && is_empty(&parts.namespaces)
-}
-
-/// Refuses maps that do not fit together, then a head of a version that no log has.
-fn check_maps(alloc: Global, parts: &SavedParts) -> Result<(), JsonError>
-    ensures { RefusesCaseOrNoMemory
-        (first_case (keys_case (parts_view parts.now).keys ∷ namespaces_case
-        (parts_view parts.now).namespaces
-        ∷ rights_case (parts_view parts.now).rights (parts_view parts.now).keys ∷ version_case
-        (head_version (parts_view parts.now).head) ∷ [])) result }
-{
-    check_keys(alloc, &parts.keys)?;
-    check_namespaces(&parts.namespaces)?;
-    check_rights(&parts.rights, &parts.keys)?;
-    check_version(head_version(&parts.head))
+    None
 }
 
 /// Refuses parts that do not fit together.
-fn check_parts(alloc: Global, parts: &SavedParts) -> Result<(), JsonError>
+fn check_parts(alloc: Global, parts: &Parts) -> Result<(), JsonError>
     ensures { RefusesCaseOrNoMemory (incoherence (parts_view parts.now)) result }
 {
-    check_begun(&parts.algorithm, head_version(&parts.head))?;
-    check_empty(&parts.algorithm, are_empty(parts))?;
-    check_maps(alloc, parts)
+    parts.check(alloc, None, &parts.firsts, misnamed(&parts.seconds))
 }
 
 /// The log of parts that fit together.
-fn restore(alloc: Global, parts: SavedParts) -> Log<NamespaceMap>
+fn restore(alloc: Global, parts: Parts) -> Log<NamespaceMap>
     requires { incoherence (parts_view parts) ≡ None }
     ensures { result ≡ state_of (parts_view parts) }
 {
-    let namespaces = NamespaceMap::restore(parts.namespaces);
+    let namespaces = NamespaceMap::restore(parts.seconds);
     Log::restore(
         alloc,
         parts.algorithm,
         parts.rights,
-        parts.keys,
+        parts.firsts,
         namespaces,
         parts.head,
     )
 }
 
 /// The state of the parts, or the first thing that does not fit together.
-fn state_of_parts(alloc: Global, parts: SavedParts) -> Result<LogState, JsonError>
+fn state_of_parts(alloc: Global, parts: Parts) -> Result<LogState, JsonError>
     ensures { ReturnsOrNoMemory (λ s. s) result
         (unless_case (incoherence (parts_view parts)) (state_of (parts_view parts))) }
 {
@@ -175,13 +100,8 @@ fn members_of(alloc: Global, log: &Log<NamespaceMap>) -> Result<Map<String, Valu
         result (state_json log.now) }
     ensures savable { OnOk result (IsSavable log.now) }
 {
-    let mut members = Map::new(alloc);
-    put_algorithm(&mut members, alloc, log.algorithm())?;
-    put_head(&mut members, alloc, log.head())?;
-    put_map(&mut members, alloc, "permissions", log.permissions())?;
-    put_keys(&mut members, alloc, log.keys())?;
-    put_map(&mut members, alloc, "namespaces", log.own_state().as_map())?;
-    Ok(members)
+    let namespaces = log.own_state().as_map();
+    members_value(alloc, log, "keys", log.keys(), "namespaces", namespaces)
 }
 
 /// The text of the state's JSON.
@@ -219,7 +139,8 @@ impl LogState {
     pub fn from_json(alloc: Global, text: &str) -> Result<LogState, JsonTextError>
         ensures { ReturnsOfText (λ s. s) result (in_text state_in text.now) }
     {
-        let parts = text_parts(alloc, text)?;
+        let apart: Option<Parts> = second_apart(alloc, text, "keys", "namespaces");
+        let parts = text_parts(alloc, text, "keys", "namespaces", apart)?;
         match state_of_parts(alloc, parts) {
             Ok(state) => Ok(state),
             Err(error) => Err(JsonTextError::from(error)),
@@ -253,6 +174,6 @@ impl JsonValue for LogState {
     }
 
     fn from_value(alloc: Global, value: &Value) -> Result<LogState, JsonError> {
-        state_of_parts(alloc, read_parts(alloc, value)?)
+        state_of_parts(alloc, read_parts(alloc, value, "keys", "namespaces")?)
     }
 }

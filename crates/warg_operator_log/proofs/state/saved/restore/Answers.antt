@@ -1,7 +1,5 @@
 use Rattle.std.proofs.Common.{ℕ, List, sym, subst, ◌∙◌}
 use Rattle.warg_permissions.specs.OperatorPermissions.{same_permission}
-use Rattle.warg_permissions.specs.declared.operator.Permission.{Permission}
-use Rattle.warg_saved_states.proofs.Optional.{same_pairs}
 use Rattle.warg_log.specs.Rules.{IsCoherent}
 use Rattle.warg_operator_log.specs.Namespaces.{Namespace, rules}
 use Rattle.warg_operator_log.specs.SavedParts.{parts_view}
@@ -16,12 +14,10 @@ restore-namespaces-requires c = named_namespaces (parts_view c.args.parts) c.req
 pub restore-requires : goal.restore-requires
 restore-requires c =
     let s = state_of (parts_view c.args.parts) in
-    subst (λ (es : List (List ℕ × List Permission)). IsCoherent rules same_permission (view_of (record { authority = record s.authority { rights = es }; own_state = c.restore-namespaces.result; head = s.head })))
-    (same_pairs c.args.parts.rights.entries)
-    (subst (λ (ns : List (List ℕ × Namespace)). IsCoherent rules same_permission (view_of (record s { own_state = ns })))
-    (sym c.restore-namespaces.ensures) (coherent_state (parts_view c.args.parts) c.requires))
+    subst (λ (ns : List (List ℕ × Namespace)). IsCoherent rules same_permission (view_of (record s { own_state = ns })))
+    (sym c.restore-namespaces.ensures) (coherent_state (parts_view c.args.parts) c.requires)
 
 pub returns : goal.returns
 returns c =
     let s = state_of (parts_view c.args.parts) in
-    c.restore.ensures ∙ (λ i. record { authority = record s.authority { rights = sym (same_pairs c.args.parts.rights.entries) i }; own_state = c.restore-namespaces.ensures i; head = s.head })
+    c.restore.ensures ∙ (λ i. record s { own_state = c.restore-namespaces.ensures i })

@@ -1,8 +1,11 @@
-use Rattle.std.proofs.Common.{◌∙◌, ap, sym}
-use Rattle.warg_saved_states.specs.Fit.{begun_case, empty_case}
-use Rattle.warg_saved_states.proofs.Cases.{refuses_later}
+use Rattle.std.proofs.Common.{Option, None, subst}
+use Rattle.warg_crypto.specs.declared.json.error.Incoherence.{Incoherence}
+use Rattle.warg_saved_states.specs.Fit.{RefusesCaseOrNoMemory}
+use Rattle.warg_log.specs.SavedMembers.{saved_incoherence}
+use Rattle.warg_package_log.specs.SavedParts.{parts_view}
 use Rattle.warg_package_log.proofs.state.saved.check_parts.Goals as goal
 
 pub returns : goal.returns
-returns c = refuses_later _ _ _ _ (ap (begun_case c.args.parts.now.algorithm) (sym c.head_version.ensures) ∙ c.in_ok-check_begun.ensures)
-    (refuses_later _ _ _ _ (ap (empty_case c.args.parts.now.algorithm) (sym c.are_empty.ensures) ∙ c.in_ok-check_empty.ensures) c.check_maps.ensures)
+returns c =
+    let parts = parts_view c.args.parts.now in
+    subst (λ (before : Option Incoherence). RefusesCaseOrNoMemory (saved_incoherence before parts.seconds None parts) c.check.result) c.misfiled.ensures c.check.ensures

@@ -1,0 +1,189 @@
+//! What is read of a saved state: its members one after another, and whether they fit together. Of the two maps that a state
+//! has in this order, one is that of the keys and the other the kind's own.
+ghost use Rattle.std.specs.Prelude.{◌≡◌, ◌&&◌, ◌∷◌, [], IfSome, Ok};
+ghost use Rattle.serde_json.specs.View.{view};
+ghost use Rattle.warg_crypto.specs.Json.Json.{ReturnsOrNoMemory};
+ghost use Rattle.warg_crypto.specs.Json.Pairs.{plain_pairs};
+ghost use Rattle.warg_saved_states.specs.Fit.{RefusesCase, RefusesCaseOrNoMemory, first_case, is_nil, keys_case, rights_case, version_case};
+ghost use Rattle.warg_saved_states.specs.JsonText.{ReturnsOfText, in_text};
+ghost use Rattle.warg_saved_states.specs.SavedPermissions.{permissions_in};
+ghost use Rattle.warg_log.specs.SavedMembers.{IsApart, head_version, saved_in, saved_incoherence};
+ghost use Rattle.warg_log.specs.SavedParts.{parts_view};
+
+use crate::head::{Head, head_member, head_version};
+use indexmap::IndexMap;
+use serde_json::Value;
+use std::alloc::Global;
+use warg_crypto::hash::HashAlgorithm;
+use warg_crypto::json::{Incoherence, JsonError};
+use warg_crypto::signing::{KeyID, PublicKey};
+use warg_permissions::{LogPermission, PermissionSet};
+use warg_saved_states::{
+    JsonTextError, SavedName, SavedValue, algorithm_member, check_begun, check_empty, check_keys,
+    check_rights, check_version, is_empty, map_member, read_apart, read_value,
+};
+
+/// What is read of a state's members.
+#[derive(Drop)]
+pub struct SavedParts<P: LogPermission, K: SavedName, V: SavedValue, L: SavedName, W: SavedValue> {
+    /// How the log names records.
+    pub algorithm: Option<HashAlgorithm>,
+    /// The last record.
+    pub head: Option<Head>,
+    /// The permissions of each id that has an entry.
+    pub rights: IndexMap<KeyID, PermissionSet<P>>,
+    /// The first of the two maps.
+    pub firsts: IndexMap<K, V>,
+    /// The second of them.
+    pub seconds: IndexMap<L, W>,
+}
+
+/// The parts of a state, or the first fault of its members. The two maps are members of these names.
+pub fn read_parts<P: LogPermission, K: SavedName, V: SavedValue, L: SavedName, W: SavedValue>(
+    alloc: Global,
+    value: &Value,
+    first: &str,
+    second: &str,
+) -> Result<SavedParts<P, K, V, L, W>, JsonError>
+    ensures { ReturnsOrNoMemory (parts_view K.plain V.plain L.plain W.plain) result
+        (saved_in (permissions_in P.eq P.permission_named) first.now K.key_named V.reads
+        second.now L.key_named W.reads (view value.now)) }
+{
+    let algorithm = algorithm_member(alloc, value)?;
+    let head = head_member(alloc, value)?;
+    let rights = map_member::<KeyID, PermissionSet<P>>(alloc, value, "permissions")?;
+    let firsts = map_member::<K, V>(alloc, value, first)?;
+    let seconds = map_member::<L, W>(alloc, value, second)?;
+    Ok(SavedParts {
+        algorithm,
+        head,
+        rights,
+        firsts,
+        seconds,
+    })
+}
+
+/// The parts of a state's text, the values of the first map read one after another. `None`: some part has a fault, or what
+/// [`read_apart`] answers with `None`.
+pub fn first_apart<P: LogPermission, K: SavedName, V: SavedValue, L: SavedName, W: SavedValue>(
+    alloc: Global,
+    text: &str,
+    first: &str,
+    second: &str,
+) -> Option<SavedParts<P, K, V, L, W>>
+    requires { IsApart first.now second.now }
+    ensures { IfSome result (λ parts. in_text (saved_in (permissions_in P.eq P.permission_named)
+        first.now K.key_named V.reads second.now L.key_named W.reads) text.now ≡
+        Ok (parts_view K.plain V.plain L.plain W.plain parts)) }
+{
+    let (others, firsts) = read_apart::<K, V>(alloc, text, first)?;
+    let mut parts = read_parts::<P, K, V, L, W>(alloc, &others, first, second).ok()?;
+    parts.firsts = firsts;
+    Some(parts)
+}
+
+/// The same of the second map.
+pub fn second_apart<P: LogPermission, K: SavedName, V: SavedValue, L: SavedName, W: SavedValue>(
+    alloc: Global,
+    text: &str,
+    first: &str,
+    second: &str,
+) -> Option<SavedParts<P, K, V, L, W>>
+    requires { IsApart second.now first.now }
+    ensures { IfSome result (λ parts. in_text (saved_in (permissions_in P.eq P.permission_named)
+        first.now K.key_named V.reads second.now L.key_named W.reads) text.now ≡
+        Ok (parts_view K.plain V.plain L.plain W.plain parts)) }
+{
+    let (others, seconds) = read_apart::<L, W>(alloc, text, second)?;
+    let mut parts = read_parts::<P, K, V, L, W>(alloc, &others, first, second).ok()?;
+    parts.seconds = seconds;
+    Some(parts)
+}
+
+/// The parts of a state's text, or its first fault. Those in which a map was read apart are handed in, if there are any.
+pub fn text_parts<P: LogPermission, K: SavedName, V: SavedValue, L: SavedName, W: SavedValue>(
+    alloc: Global,
+    text: &str,
+    first: &str,
+    second: &str,
+    apart: Option<SavedParts<P, K, V, L, W>>,
+) -> Result<SavedParts<P, K, V, L, W>, JsonTextError>
+    requires { IfSome apart (λ parts. in_text (saved_in (permissions_in P.eq P.permission_named)
+        first.now K.key_named V.reads second.now L.key_named W.reads) text.now ≡
+        Ok (parts_view K.plain V.plain L.plain W.plain parts)) }
+    ensures { ReturnsOfText (parts_view K.plain V.plain L.plain W.plain) result
+        (in_text (saved_in (permissions_in P.eq P.permission_named) first.now K.key_named V.reads
+        second.now L.key_named W.reads) text.now) }
+{
+    if let Some(parts) = apart {
+        return Ok(parts);
+    }
+    let value = read_value(alloc, text)?;
+    Ok(read_parts::<P, K, V, L, W>(alloc, &value, first, second)?)
+}
+
+/// Refuses what does not fit together, if there is something.
+fn check_case(incoherence: Option<Incoherence>) -> Result<(), JsonError>
+    ensures { RefusesCase incoherence result }
+{
+    match incoherence {
+        Some(incoherence) => Err(JsonError::Incoherent(incoherence)),
+        None => Ok(()),
+    }
+}
+
+/// Refuses maps that do not fit together, then a head of a version that no log has.
+fn check_maps<P: LogPermission>(
+    alloc: Global,
+    before: Option<Incoherence>,
+    keys: &IndexMap<KeyID, PublicKey>,
+    after: Option<Incoherence>,
+    rights: &IndexMap<KeyID, PermissionSet<P>>,
+    head: &Option<Head>,
+) -> Result<(), JsonError>
+    ensures { RefusesCaseOrNoMemory (first_case (before ∷ keys_case keys.now.entries ∷ after ∷
+        rights_case (plain_pairs (λ id. id) (λ set. set) rights.now.entries) keys.now.entries ∷
+        version_case (head_version head.now) ∷ [])) result }
+{
+    check_case(before)?;
+    check_keys(alloc, keys)?;
+    check_case(after)?;
+    check_rights(rights, keys)?;
+    check_version(head_version(head))
+}
+
+impl<P, K, V, L, W> SavedParts<P, K, V, L, W>
+where
+    P: LogPermission,
+    K: SavedName,
+    V: SavedValue,
+    L: SavedName,
+    W: SavedValue,
+{
+    /// Whether the maps are empty.
+    fn are_empty(&self) -> bool
+        ensures { result ≡ (is_nil (parts_view K.plain V.plain L.plain W.plain self.now).rights &&
+            (is_nil (parts_view K.plain V.plain L.plain W.plain self.now).firsts &&
+            is_nil (parts_view K.plain V.plain L.plain W.plain self.now).seconds)) }
+    {
+        is_empty(&self.rights) && is_empty(&self.firsts) && is_empty(&self.seconds)
+    }
+
+    /// Refuses parts that do not fit together. Which of the maps is that of the keys is handed in, and what does not fit
+    /// together in the kind's own map, before that of the keys or after it.
+    pub fn check(
+        &self,
+        alloc: Global,
+        before: Option<Incoherence>,
+        keys: &IndexMap<KeyID, PublicKey>,
+        after: Option<Incoherence>,
+    ) -> Result<(), JsonError>
+        ensures { RefusesCaseOrNoMemory (saved_incoherence before
+            (plain_pairs (λ id. id) (λ key. key) keys.now.entries) after
+            (parts_view K.plain V.plain L.plain W.plain self.now)) result }
+    {
+        check_begun(&self.algorithm, head_version(&self.head))?;
+        check_empty(&self.algorithm, self.are_empty())?;
+        check_maps(alloc, before, keys, after, &self.rights, &self.head)
+    }
+}
