@@ -8,7 +8,7 @@ ghost use Rattle.base64.specs.GeneralPurpose.{encode_of};
 use base64::engine::general_purpose::STANDARD;
 use std::{fmt, str};
 
-/// Writes the bytes in base64. What `base64`'s own `Display` does, under every formatting option.
+/// Writes the bytes in base64, under every formatting option; of `Base64Display` no clause says what options do.
 pub fn write_base64<W: fmt::Write>(bytes: &[u8], f: &mut fmt::Formatter<W>) -> fmt::Result
     ensures writes { WritesOnOk W.write_str_gives f.old result
         (encode_of standard bytes.now) f.new }

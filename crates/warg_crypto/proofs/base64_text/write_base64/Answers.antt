@@ -8,7 +8,7 @@ use Rattle.base64.specs.declared.engine.general_purpose.GeneralPurpose.{GeneralP
 use Rattle.base64.specs.Engines.{standard}
 use Rattle.base64.specs.GeneralPurpose.{encode_of}
 use Rattle.base64.proofs.EngineFacts.{IsAscii-encode_of, encoded_prefix, encode_of-nil, encode_of-append}
-use Rattle.warg_claims.proofs.verified.named.write_base64.Goals as goal
+use Rattle.warg_crypto.proofs.base64_text.write_base64.Goals as goal
 
 pub unreachable-requires-in_default-from_utf8 : goal.unreachable-requires-in_default-from_utf8
 unreachable-requires-in_default-from_utf8 g c =

@@ -3,7 +3,7 @@ use Rattle.std.specs.Fmt.{HasWrittenStyled, IsFlush}
 use Rattle.std.specs.Slice.Iter.{chunks_rest, chunks_size}
 use Rattle.base64.specs.Engines.{standard}
 use Rattle.base64.specs.GeneralPurpose.{encode_of}
-use Rattle.warg_crypto.proofs.signing.shown.write_base64.Given as goal
+use Rattle.warg_crypto.proofs.base64_text.write_base64.Given as goal
 
 abbrev pub invariant-pieces : goal.invariant-pieces
 invariant-pieces g l =
