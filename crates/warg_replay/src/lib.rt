@@ -12,6 +12,6 @@ mod validator;
 
 pub use message::Named;
 pub use persistent::PersistentState;
-pub use replay::{RunCause, RunError, run, run_from};
+pub use replay::{RunCause, RunError, run, run_from, run_next};
 pub use validator::Validator;
 pub use warg_log_records::Effect;
