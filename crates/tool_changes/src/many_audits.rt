@@ -228,10 +228,8 @@ impl<'v, V: Verifier> Verdicts<'v, V> {
         ensures stopped { IfErr result (IfStopped IsUnanswered) }
         ensures kept { S.files store.new ≡ S.files store.old }
     {
-        match read_input(self.alloc, store, list) {
-            Ok(input) => self.add_bytes(store, list, input.bytes.as_slice(), all),
-            Err(stop) => Err(stop),
-        }
+        let input = read_input(self.alloc, store, list)?;
+        self.add_bytes(store, list, input.bytes.as_slice(), all)
     }
 
     // Adds the lines of the logs that a word names.

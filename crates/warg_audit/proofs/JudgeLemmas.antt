@@ -1,16 +1,15 @@
 -- Strings that are judged one after another.
-use Rattle.std.proofs.Common.{◌≡◌, ℕ, ◌+◌, ◌<◌, zero, suc, List, [], ◌∷◌, ◌++◌, length, refl, sym, ap, subst, ◌∙◌, ◌↔◌, arith, length-append, Option, Some, None, Result, Ok}
-use Rattle.std.proofs.Math.Seq.{take-append_seam}
+use Rattle.std.proofs.Common.{◌≡◌, ℕ, ◌+◌, ◌<◌, zero, suc, List, [], ◌∷◌, ◌++◌, length, refl, sym, ◌∙◌, arith, length-append, Option, Some, Result, Ok}
 use Rattle.std.proofs.lemmas.List.{take-append-le}
-use Rattle.std.proofs.lemmas.List.Elements.{filter_map-append}
 use Rattle.std.proofs.lemmas.Option.{slice_get_within}
 use Rattle.std.specs.List.{slice_get}
 use Rattle.warg_envelope.specs.EnvelopeData.{EnvelopeData}
 use Rattle.warg_log_records.specs.Kinds.{SignatureRelation, Kind}
 use Rattle.warg_replay.specs.Strings.{Cause, read_all}
-use Rattle.warg_replay.specs.OutcomeRuns.{HasNoOffence, IsFirstOffence, IsRefusal, IsRun, IfNamed}
+use Rattle.warg_replay.specs.OutcomeRuns.{HasNoOffence, IsFirstOffence, IsRefusal, IsRun}
 use Rattle.warg_replay.specs.declared.replay.RunCause.{RunCause}
 use Rattle.warg_replay.specs.declared.replay.RunError.{RunError}
+use Rattle.warg_replay.proofs.OutcomeLaws.{IfNamed-map}
 use Rattle.warg_audit.specs.Files.Lines.{string_of}
 use Rattle.warg_audit.proofs.FilesLemmas.StringLemmas.{IsReadTo, none_read, one_read}
 
@@ -22,11 +21,6 @@ slice_get-front (x ∷ xs) ys (suc i) low = slice_get-front xs ys i (omega (arit
 
 nothing_at : {X : Type 0} (i : ℕ) (x : X) → slice_get [] i ≡ Some x → ⊥
 nothing_at i x at = cc
-
-IfNamed-map : {C : Type 0} (told : Option C) (P Q : C → Type 0) → ((c : C) → P c → Q c) → IfNamed told P
-    → IfNamed told Q
-IfNamed-map None P Q f h = tt
-IfNamed-map (Some c) P Q f h = f c h
 
 module _ {F View Offence : Type 0} (k : Kind View Offence) (b : SignatureRelation)
     (read : List ℕ → Result EnvelopeData F) where
@@ -52,38 +46,6 @@ module _ {F View Offence : Type 0} (k : Kind View Offence) (b : SignatureRelatio
       before = rw (take-append-le error.index ss ts (omega (arith, refusal.in_range))) refusal.before;
       first = IfNamed-map (named_by error.cause) _ _ (still_first error.index) refusal.first;
     }
-
-  -- the envelopes that strings are, and then those of more strings
-  read_more : (ss ts : List (List ℕ)) → read_all read (ss ++ ts) ≡ read_all read ss ++ read_all read ts
-  read_more ss ts = filter_map-append _ ss ts
-
-  -- one string after strings without offence, judged by what they are
-  module _ (ss : List (List ℕ)) (s : List ℕ) (lawful : HasNoOffence k b read k.view_of ss)
-      {S E : Type 0} (view : S → View) (named_by : RunCause E → Option (Cause F Offence)) where
-    -- what envelopes behind the strings are seen as
-    abbrev behind_them : List EnvelopeData → View
-    behind_them fs = k.view_of (read_all read ss ++ fs)
-
-    pub next_lawful : (HasNoOffence k b read k.view_of (ss ++ s ∷ [])
-        ↔ (HasNoOffence k b read k.view_of ss × HasNoOffence k b read behind_them (s ∷ [])))
-        → (next : S) → IsRun k b read behind_them view named_by ◌≡◌ (s ∷ []) (Ok next)
-        → IsRun k b read k.view_of view named_by ◌≡◌ (ss ++ s ∷ []) (Ok next)
-    next_lawful law next run = (law.1 (lawful, run.0), run.1 ∙ ap k.view_of (sym (read_more ss (s ∷ []))))
-
-    pub next_refused : ((i : ℕ) (c : Cause F Offence) → IsFirstOffence k b read behind_them (s ∷ []) i c
-        → IsFirstOffence k b read k.view_of (ss ++ s ∷ []) (length ss + i) c)
-        → (place : ℕ) → length ss ≡ place → (error : RunError E)
-        → IsRefusal k b read behind_them named_by (s ∷ []) error
-        → IsRefusal k b read k.view_of named_by (ss ++ s ∷ []) (record { index = place; cause = error.cause })
-    next_refused law place many error refusal =
-        let whole = ss ++ s ∷ [] in
-        let here : length ss + error.index ≡ place = omega (arith, refusal.in_range, many) in record {
-          in_range = omega (arith, length-append ss (s ∷ []), many);
-          before = rw (← many) (rw (take-append_seam ss (s ∷ [])) lawful);
-          first = IfNamed-map (named_by error.cause) _ _
-              (λ c first. subst (λ n. IsFirstOffence k b read k.view_of whole n c) here (law error.index c first))
-              refusal.first;
-        }
 
   -- what is known before a line is read: the lines before it spell strings without offence, for which the view stands
   pub record IsJudgedTo (lines : List (List ℕ)) (count : ℕ) (rest : List (List ℕ)) (now : View) : Type 0 where

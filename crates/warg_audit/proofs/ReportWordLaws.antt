@@ -9,7 +9,7 @@ use Rattle.warg_envelope.specs.ReadingWords.{envelope_in}
 use Rattle.warg_envelope.specs.Readings.{Reading}
 use Rattle.warg_log_records.specs.Kinds.{SignatureRelation, Kind}
 use Rattle.warg_replay.specs.Logs.{LogOf}
-use Rattle.warg_replay.specs.LogWords.{named_cause, why_not}
+use Rattle.warg_replay.specs.LogWords.{IsOneMore, named_cause, why_not}
 use Rattle.warg_replay.specs.OutcomeRuns.{HasNoOffence, IsRefusal, IsRun, cause_named_by, cause_next}
 use Rattle.warg_replay.specs.Strings.{read_all}
 use Rattle.warg_replay.specs.declared.replay.RunCause.{RunCause}
@@ -50,7 +50,7 @@ module _ {S E View Offence C M F : Type 0} {kind : Kind View Offence} {view : S 
   for_refusal error P = (λ h. h, λ h. h)
 
   pub one_more : (b : SignatureRelation) (state : S) (place : ℕ) (string : List ℕ) (answer : Result S (RunError E))
-      → word.IsOneMore log reading b state place string answer
+      → IsOneMore log reading b state place string answer
       ↔ ((strings : List (List ℕ)) → length strings ≡ place
       → HasNoOffence kind b (envelope_of read) kind.view_of strings
       → view state ≡ kind.view_of (read_all (envelope_of read) strings)

@@ -1,12 +1,12 @@
 -- What is printed of logs of a kind, in words that take the log, how its records are read, and what is reported of it.
-use Rattle.std.specs.Prelude.{◌≡◌, ℕ, List, [], ◌∷◌, ◌++◌, length, Option, Result, Ok, IfOk}
+use Rattle.std.specs.Prelude.{◌≡◌, ℕ, List, length, Option, Result, Ok, IfOk}
 use Rattle.warg_crypto.specs.declared.coding.DecodeError.{DecodeError}
 use Rattle.warg_envelope.specs.EnvelopeData.{EnvelopeData}
 use Rattle.warg_envelope.specs.Envelopes.{envelope_of}
 use Rattle.warg_envelope.specs.Readings.{Reading}
 use Rattle.warg_log_records.specs.Kinds.{SignatureRelation, Kind}
 use Rattle.warg_replay.specs.Logs.{LogOf}
-use Rattle.warg_replay.specs.LogWords.{HasNoOffence, IsRun, envelopes_said, named_cause}
+use Rattle.warg_replay.specs.LogWords.{named_cause}
 use Rattle.warg_replay.specs.OutcomeRuns as run
 use Rattle.warg_replay.specs.declared.replay.RunError.{RunError}
 use Rattle.warg_audit.specs.Files.Lines.{strings_of}
@@ -28,12 +28,6 @@ module _ {S E View Offence C M F : Type 0} {kind : Kind View Offence} {view : S 
       → (SignatureRelation → (List EnvelopeData → View) → List (List ℕ) → Type 0) → Type 0
   ForRefusal error P = (b : SignatureRelation) (seen : List EnvelopeData → View) (strings : List (List ℕ))
       → IsRefusal b seen strings error → P b seen strings
-
-  -- one string behind so many, for which the state stands: the answer is that to all of them as a whole log
-  abbrev pub IsOneMore : SignatureRelation → S → ℕ → List ℕ → Result S (RunError E) → Type 0
-  IsOneMore b state place string answer = (strings : List (List ℕ)) → length strings ≡ place
-      → HasNoOffence log reading b strings → view state ≡ kind.view_of (envelopes_said reading strings)
-      → IsRun log reading b (strings ++ string ∷ []) answer
 
   -- the lines spell strings, and the answer is that to these as a whole log: a state for them all and how many they
   -- are, or the first that can't come, and why

@@ -12,6 +12,5 @@ pub mod Places
 pub mod Appending
 pub mod RunLemmas
 pub mod ProofOutcomes
-pub mod TextAnswers
 pub mod ByStatus
 pub mod HeldByStatus

@@ -11,6 +11,7 @@ use crate::spelled::Spelled;
 use std::alloc::{AllocError, Global};
 use warg_operator_log::LogState as OperatorState;
 use warg_package_log::LogState as PackageState;
+use warg_replay::beside::Beside;
 
 /// The kinds of logs.
 #[derive(Clone, Copy, Debug, PartialEq, Eq)]
@@ -62,7 +63,7 @@ impl Held {
     }
 
     /// Hands over the question that was asked last, where it was kept.
-    pub(crate) fn take_spelled(&mut self) -> Option<Spelled>
+    pub(crate) fn take_spelled(&mut self) -> Option<Beside<Spelled>>
         ensures { self.new ≡ self.old }
     {
         match self {

@@ -1,38 +1,25 @@
 //! Questions beside the bytes that spell them.
-ghost use Rattle.std.specs.Prelude.{◌≡◌, ◌⊎◌, ◌↔◌, IfOk, IfErr, IfSome, IsTrue};
+ghost use Rattle.std.specs.Prelude.{◌≡◌, ◌⊎◌, IfOk, IfErr, IfSome, IsTrue};
 ghost use Rattle.warg_c.specs.declared.failure.Failure.TheVariants.{BadArgument, OutOfMemory};
-ghost use Rattle.warg_c.specs.Questions.{Says, SaysNone, Spells};
+ghost use Rattle.warg_c.specs.Questions.{Says, SaysNone};
 
 use crate::failure::Failure;
 use crate::question::{Asked, told};
 use std::alloc::Global;
-use std::marker::Model;
+use warg_replay::beside::{Beside, MadeOf};
 use warg_replay::host::{Question, Told};
 
-/// A question, and the bytes that spell it.
+/// A question, and how many of the bytes that spell it are which part.
 #[derive(Drop)]
 pub struct Spelled {
-    text: Vec<u8>,
-    lengths: Asked,
-    question: Question,
+    pub(crate) lengths: Asked,
+    pub(crate) question: Question,
 }
 
-impl Model for Spelled {
-    ghost use Rattle.std.specs.Prelude.{List, ℕ};
+impl MadeOf for Spelled {
     ghost use Rattle.warg_c.specs.Questions.{Spells};
 
-    ghost Value = { List ℕ };
-
-    ghost view = { λ s. s.text.items };
-
-    ghost invariant = { λ s. Spells s.lengths s.text.items s.question };
-}
-
-// Whether the bytes are the same.
-fn is_same(left: &[u8], right: &[u8]) -> bool
-    ensures { IsTrue result ↔ (left.now ≡ right.now) }
-{
-    left == right
+    ghost made_of = { λ text s. Spells s.lengths text s.question };
 }
 
 // Whether the lengths are the same.
@@ -44,38 +31,28 @@ fn are_same(left: &Asked, right: &Asked) -> bool
         && left.signature_len == right.signature_len
 }
 
-impl Spelled {
-    pub(crate) fn of(text: Vec<u8>, lengths: Asked, question: Question) -> Spelled
-        requires { Spells lengths text.items question }
-    {
-        Spelled {
-            text,
-            lengths,
-            question,
-        }
+// The question that was kept, if these are its bytes and lengths.
+fn question_for(kept: Beside<Spelled>, bytes: &[u8], lengths: &Asked) -> Option<Question>
+    ensures { IfSome result (λ q. Says lengths.now bytes.now q) }
+{
+    let Some(spelled) = kept.value_of(bytes) else {
+        return None;
+    };
+    let Spelled {
+        lengths: said,
+        question,
+    } = spelled;
+    if !are_same(&said, lengths) {
+        return None;
     }
-
-    /// The question, if these are its bytes and lengths.
-    fn question_for(self, bytes: &[u8], lengths: &Asked) -> Option<Question>
-        ensures { IfSome result (λ q. Says lengths.now bytes.now q) }
-    {
-        let Spelled {
-            text,
-            lengths: spelled,
-            question,
-        } = self;
-        if !are_same(&spelled, lengths) || !is_same(text.as_slice(), bytes) {
-            return None;
-        }
-        Some(question)
-    }
+    Some(question)
 }
 
 /// The answer to the question that the bytes say. Where they are those of the question that was kept, they are not read
 /// again.
 pub(crate) fn answer_for(
     alloc: Global,
-    kept: Option<Spelled>,
+    kept: Option<Beside<Spelled>>,
     bytes: &[u8],
     lengths: &Asked,
     belongs: bool,
@@ -85,7 +62,7 @@ pub(crate) fn answer_for(
         ((f ≡ BadArgument) × SaysNone lengths.now bytes.now)) }
 {
     if let Some(kept) = kept {
-        if let Some(question) = kept.question_for(bytes, lengths) {
+        if let Some(question) = question_for(kept, bytes, lengths) {
             return Ok(Told { question, belongs });
         }
     }

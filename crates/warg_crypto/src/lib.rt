@@ -1,7 +1,8 @@
 //! Hashes, keys and signatures, the visitors that take bytes in, prefix encoding, what is written as bytes and read from
-//! them, JSON of values (`json`), and times (`time`).
+//! them, base64 as it is written (`base64_text`), JSON of values (`json`), and times (`time`).
 #![tactic(auto)]
 
+pub mod base64_text;
 mod coding;
 pub mod digits;
 pub mod hash;

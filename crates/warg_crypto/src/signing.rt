@@ -8,7 +8,6 @@ ghost use Rattle.warg_crypto.specs.declared.signing.error.SignatureError.TheVari
 mod algorithm_bytes;
 mod error;
 mod key;
-mod shown;
 mod signed;
 
 use crate::coding::Encode;

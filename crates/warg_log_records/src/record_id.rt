@@ -123,10 +123,8 @@ impl FromStr for RecordId {
     ghost from_str_gives = { λ text r. r ≡ id_of_text text };
 
     fn from_str(text: &str) -> Result<RecordId, AnyHashError> {
-        match AnyHash::from_str(text) {
-            Ok(hash) => Ok(RecordId { hash }),
-            Err(fault) => Err(fault),
-        }
+        let hash = AnyHash::from_str(text)?;
+        Ok(RecordId { hash })
     }
 }
 

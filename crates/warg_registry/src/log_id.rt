@@ -99,10 +99,8 @@ impl FromStr for LogId {
     ghost from_str_gives = { λ text r. r ≡ id_of_text text };
 
     fn from_str(text: &str) -> Result<LogId, AnyHashError> {
-        match AnyHash::from_str(text) {
-            Ok(hash) => Ok(LogId { hash }),
-            Err(fault) => Err(fault),
-        }
+        let hash = AnyHash::from_str(text)?;
+        Ok(LogId { hash })
     }
 }
 

@@ -9,11 +9,12 @@ ghost use Rattle.warg_transparency.specs.Texts.{log_proof_of, log_proof_text};
 ghost use Rattle.warg_transparency.specs.declared.error.ProofTextError.TheVariants as fault;
 
 use crate::error::ProofTextError;
-use crate::text::{decode_base64, write_base64};
+use crate::text::decode_base64;
 use base64::engine::general_purpose::STANDARD;
 use std::alloc::{AllocError, Global};
 use std::fmt;
 use std::marker::Model;
+use warg_crypto::base64_text::write_base64;
 
 // The length of the text of 64 hashes.
 const LONGEST_TEXT: usize = 2732;

@@ -13,11 +13,12 @@ ghost use Rattle.warg_transparency.specs.Texts.{map_proof_of, map_proof_text, te
 ghost use Rattle.warg_transparency.specs.declared.error.ProofTextError.TheVariants as fault;
 
 use crate::error::ProofTextError;
-use crate::text::{decode_base64, write_base64};
+use crate::text::decode_base64;
 use base64::engine::general_purpose::STANDARD;
 use std::alloc::{AllocError, Global};
 use std::fmt;
 use std::marker::Model;
+use warg_crypto::base64_text::write_base64;
 use warg_merkle::map_proof::MapProofError;
 
 // The length of the text of 32 bytes and 256 hashes.

@@ -1,16 +1,14 @@
 //! Base64.
 
 ghost use Rattle.std.specs.Prelude.{◌≡◌, ◌≢◌, ◌⊎◌, List, ℕ, Ok, IfErr, IfOk};
-ghost use Rattle.std.specs.Fmt.{WritesOnOk, WritesStyledOnOk};
 ghost use Rattle.base64.specs.Engines.{standard};
-ghost use Rattle.base64.specs.GeneralPurpose.{decode_of, encode_of};
+ghost use Rattle.base64.specs.GeneralPurpose.{decode_of};
 ghost use Rattle.warg_transparency.specs.declared.error.ProofTextError.TheVariants as fault;
 
 use crate::error::ProofTextError;
 use base64::DecodeAllocError;
 use base64::engine::general_purpose::STANDARD;
 use std::alloc::Global;
-use std::{fmt, str};
 
 // The bytes whose base64 the text is.
 pub(crate) fn decode_base64(alloc: Global, text: &str) -> Result<Vec<u8>, ProofTextError>
@@ -28,25 +26,4 @@ pub(crate) fn decode_base64(alloc: Global, text: &str) -> Result<Vec<u8>, ProofT
         Err(DecodeAllocError::DecodeError(_)) => Err(ProofTextError::BadBase64),
         Err(DecodeAllocError::OutOfMemory) => Err(ProofTextError::OutOfMemory),
     }
-}
-
-// Writes the bytes in base64, under every formatting option; of `Base64Display` no clause says what options do.
-pub(crate) fn write_base64<W: fmt::Write>(bytes: &[u8], f: &mut fmt::Formatter<W>) -> fmt::Result
-    ensures writes { WritesOnOk W.write_str_gives f.old result
-        (encode_of standard bytes.now) f.new }
-    ensures styled { WritesStyledOnOk W.write_str_gives f.old result
-        (encode_of standard bytes.now) f.new }
-{
-    // A piece of a multiple of three bytes needs no padding, so only the last one may have it.
-    let mut buffer = [0u8; 1024];
-    'pieces: for piece in bytes.chunks(768) {
-        let Ok(len) = STANDARD.encode_slice(piece, &mut buffer) else {
-            unreachable!();
-        };
-        let Ok(text) = str::from_utf8(&buffer[..len]) else {
-            unreachable!();
-        };
-        f.write_str(text)?;
-    }
-    Ok(())
 }

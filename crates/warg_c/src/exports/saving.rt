@@ -134,14 +134,14 @@ fn read_saved(alloc: Global, kind: Kind, saved: &str) -> Result<Held, JsonTextEr
     ensures err { IfErr result (λ e. (e ≡ json.OutOfMemory) ⊎ SaysNoState kind saved.now e) }
 {
     match kind {
-        Kind::Package => match PackageState::from_json(alloc, saved) {
-            Ok(state) => Ok(Held::Package(KeptLog::Resumed(state))),
-            Err(error) => Err(error),
-        },
-        Kind::Operator => match OperatorState::from_json(alloc, saved) {
-            Ok(state) => Ok(Held::Operator(KeptLog::Resumed(state))),
-            Err(error) => Err(error),
-        },
+        Kind::Package => {
+            let state = PackageState::from_json(alloc, saved)?;
+            Ok(Held::Package(KeptLog::Resumed(state)))
+        }
+        Kind::Operator => {
+            let state = OperatorState::from_json(alloc, saved)?;
+            Ok(Held::Operator(KeptLog::Resumed(state)))
+        }
     }
 }
 

@@ -8,8 +8,8 @@ ghost use Rattle.warg_crypto.specs.HashText.{is_colon};
 ghost use Rattle.warg_crypto.specs.NamedBytes.{NamedBytes, HasName, IsName, named_bytes_of, named_bytes_text};
 ghost use Rattle.warg_crypto.specs.declared.signing.algorithm_bytes.NamedBytesError.TheVariants as fault;
 
+use crate::base64_text::write_base64;
 use crate::ranges::byte_range;
-use crate::signing::shown::write_base64;
 use base64::DecodeAllocError;
 use base64::engine::general_purpose::STANDARD;
 use std::alloc::{AllocError, Global};

@@ -24,12 +24,12 @@ loop-rest-preserved g c =
           (cause_named_by (envelope_fault_of g.L.Record.Record.fault_of) g.L.Validator.offence_of) (lines_of c.args.text.items)
           c.loop-rest.count c.cut_line.result.0.now (lines_of c.cut_line.result.1.now)
           (g.L.Validator.view c.loop-rest.state) so_far string (c.in_ok-decode_line.ensures.bytes (ap Ok good))
-          c.in-Ok-take_string.next (c.in-Ok-take_string.ensures so_far.strings so_far.many so_far.lawful so_far.stands);
+          c.in-Ok-run_next.next (rw c.as_slice-input.ensures.value at (c.in-Ok-run_next.ensures so_far.strings so_far.many so_far.lawful so_far.stands));
       short = omega arith;
     }
 
-pub returns-in-Err-take_string-clause-ok : goal.returns-in-Err-take_string-clause-ok
-returns-in-Err-take_string-clause-ok g c =
+pub returns-in-Err-run_next-clause-ok : goal.returns-in-Err-run_next-clause-ok
+returns-in-Err-run_next-clause-ok g c =
     let good : c.in_ok-decode_line.field-0 ≡ true = grind (arith, common_steps) in
     let judged = c.loop-rest.invariant.judged in
     let lines = lines_of c.args.text.items in
@@ -37,14 +37,14 @@ returns-in-Err-take_string-clause-ok g c =
     let string = c.decode_line.new.buffer.items in
     let read = one_read 0 lines c.loop-rest.count c.cut_line.result.0.now rest judged.strings
     (rw c.cut_line.ensures.line at judged.whole) string (c.in_ok-decode_line.ensures.bytes (ap Ok good)) in
-    let more = some_strings (strings_from (c.loop-rest.count + 1) rest) c.in_ok-test_lines-in-Err-take_string.ensures.ok in
+    let more = some_strings (strings_from (c.loop-rest.count + 1) rest) c.in_ok-test_lines-in-Err-run_next.ensures.ok in
     let strings = judged.strings ++ string ∷ [] in (
       strings ++ more.0,
       (
         rest_read 0 lines (c.loop-rest.count + 1) rest strings more.0 read more.1,
-        rw c.in_ok-refusal-in-Err-take_string.ensures.ok (still_refused g.L.Validator.kind (g.V.Verifier.belongs c.args.verifier.now) (envelope_of g.L.Record.Record.read) g.L.Validator.kind.view_of
+        rw c.in_ok-refusal-in-Err-run_next.ensures.ok (still_refused g.L.Validator.kind (g.V.Verifier.belongs c.args.verifier.now) (envelope_of g.L.Record.Record.read) g.L.Validator.kind.view_of
             strings more.0 (cause_named_by (envelope_fault_of g.L.Record.Record.fault_of) g.L.Validator.offence_of)
-            c.in-Err-take_string.error (c.in-Err-take_string.ensures judged.strings judged.many judged.lawful judged.stands)),
+            c.in-Err-run_next.error (rw c.as_slice-input.ensures.value at (c.in-Err-run_next.ensures judged.strings judged.many judged.lawful judged.stands))),
         tt,
       ),
     )
