@@ -4,7 +4,7 @@ ghost use Rattle.std.specs.Prelude.{◌≡◌, [], ◌∷◌, pos, Option, Some,
 ghost use Rattle.std.specs.Cmp.{partial_equiv_from_equiv};
 ghost use Rattle.std.specs.Hash as fed;
 ghost use Rattle.warg_permissions.specs.Permissions.{hash-same_number, named_or, numbered_or};
-ghost use Rattle.warg_permissions.specs.OperatorPermissions.{number_of, permission_of, permission_text, permission_in, same_permission, same_permission_equiv, same_permission-is, permission_of-number_of, permission_in-permission_text};
+ghost use Rattle.warg_permissions.specs.OperatorPermissions.{all_permissions, number_of, permission_of, permission_text, permission_in, same_permission, same_permission_equiv, same_permission-is, permission_of-number_of, permission_in-permission_text};
 
 mod json;
 
@@ -118,6 +118,8 @@ impl LogPermission for Permission {
     ghost permission_named = { permission_in };
 
     ghost text_of = { permission_text };
+
+    ghost listed = { all_permissions };
 
     ghost number_reads_back = { permission_of-number_of };
 
