@@ -1,5 +1,5 @@
 -- Keys, and what they may do.
-use Rattle.std.specs.Prelude.{◌≡◌, ℕ, Bool, false, List, [], ◌∷◌, ◌++◌, codes, length, ◌==◌, if◌then◌else◌, Option, Some, None, IsSome}
+use Rattle.std.specs.Prelude.{◌≡◌, ℕ, Bool, false, List, [], ◌∷◌, ◌++◌, fold, length, ◌==◌, if◌then◌else◌, Option, Some, None, IsSome}
 use Rattle.std.specs.Option.{option_map}
 use Rattle.std.specs.Str.{IsUtf8}
 use Rattle.warg_crypto.specs.NamedBytes.{NamedBytes, named_bytes_text}
@@ -7,8 +7,6 @@ use Rattle.warg_operator_log.specs.State as operators
 use Rattle.warg_package_log.specs.State as packages
 use Rattle.warg_permissions.specs.OperatorPermissions as operator_permission
 use Rattle.warg_permissions.specs.PackagePermissions as package_permission
-use Rattle.warg_permissions.specs.declared.operator.Permission.TheVariants.{Commit, DefineNamespace, ImportNamespace}
-use Rattle.warg_permissions.specs.declared.package.Permission.TheVariants.{Release, Yank}
 use Rattle.warg_c.specs.declared.held.Held.{Held}
 use Rattle.warg_c.specs.declared.held.Held.TheVariants.{Package, Operator}
 use Rattle.warg_c.specs.Logs.{state_of}
@@ -39,18 +37,16 @@ is_permission (Operator log) text = IsSome (operator_permission.permission_in te
 abbrev pub with_name : List ℕ → Bool → List ℕ → List ℕ
 with_name text is_held name = if is_held then (if length text == 0 then name else text ++ 32 ∷ name) else text
 
-abbrev pub package_permissions : Bool → Bool → List ℕ
-package_permissions release yank = with_name (with_name [] release (codes "release")) yank (codes "yank")
-
-abbrev pub operator_permissions : Bool → Bool → Bool → List ℕ
-operator_permissions commit define import_ = with_name (with_name (with_name [] commit (codes "commit")) define (codes "defineNamespace")) import_ (codes "importNamespace")
+-- the names of those of the permissions that are held
+abbrev pub held_names : {P : Type 0} → (P → List ℕ) → (P → Bool) → List P → List ℕ
+held_names text_of is_held permissions = fold (λ text p. with_name text (is_held p) (text_of p)) [] permissions
 
 -- the names of the permissions that a key id holds
 abbrev pub PackageText : packages.View → List ℕ → List ℕ → Type 0
-PackageText v key text = text ≡ package_permissions (v.state.authority.holds key Release) (v.state.authority.holds key Yank)
+PackageText v key text = text ≡ held_names package_permission.permission_text (v.state.authority.holds key) package_permission.all_permissions
 
 abbrev pub OperatorText : operators.View → List ℕ → List ℕ → Type 0
-OperatorText v key text = text ≡ operator_permissions (v.state.authority.holds key Commit) (v.state.authority.holds key DefineNamespace) (v.state.authority.holds key ImportNamespace)
+OperatorText v key text = text ≡ held_names operator_permission.permission_text (v.state.authority.holds key) operator_permission.all_permissions
 
 abbrev pub permissions_tell : Held → List ℕ → List ℕ → Type 0
 permissions_tell (Package log) = PackageText (packages.view_of (state_of log))

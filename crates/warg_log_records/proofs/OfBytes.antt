@@ -17,15 +17,17 @@ use Rattle.warg_protobuf.specs.Meaning.{Computes}
 use Rattle.semver.specs.Parse.{version_parts}
 use Rattle.warg_protobuf.specs.GrantFlat.{GrantFlatValue}
 use Rattle.warg_protobuf.specs.Init.{InitValue}
+use Rattle.warg_protobuf.specs.Release.{ReleaseValue}
 use Rattle.warg_protobuf.specs.RevokeFlat.{RevokeFlatValue}
+use Rattle.warg_protobuf.specs.Yank.{YankValue}
 use Rattle.warg_protobuf.specs.OperatorRecord.{IsOperatorRecord, operator_record_table}
 use Rattle.warg_protobuf.specs.OperatorRecord as operator_message
 use Rattle.warg_protobuf.specs.PackageRecord.{IsPackageRecord, package_record_table}
 use Rattle.warg_protobuf.specs.PackageRecord as package_message
+use Rattle.warg_protobuf.specs.Entry.{Member}
+use Rattle.warg_protobuf.specs.Entry as member
 use Rattle.warg_protobuf.specs.OperatorEntry.{OperatorMember}
-use Rattle.warg_protobuf.specs.OperatorEntry as operator_member
 use Rattle.warg_protobuf.specs.PackageEntry.{PackageMember}
-use Rattle.warg_protobuf.specs.PackageEntry as package_member
 use Rattle.warg_protobuf.specs.Record.{RecordValue}
 use Rattle.warg_protobuf.specs.Table.{Table, HasFault}
 use Rattle.warg_protobuf.specs.Timestamp.{TimestampValue}
@@ -34,10 +36,10 @@ use Rattle.warg_protobuf.specs.declared.error.WireError.TheVariants as error
 use Rattle.warg_envelope.specs.Envelopes.{signed_data, enclosed_data, opened_data, envelope_of}
 use Rattle.warg_envelope.specs.Faults.{RecordFault, Prev, TimeOutOfRange, Algorithm, Key, Version, ContentHash}
 use Rattle.warg_log_records.specs.OfBytes.{IsOfContent, IsOfEnvelope}
-use Rattle.warg_log_records.specs.OperatorReading.{operator_entry_of}
+use Rattle.warg_log_records.specs.OperatorReading.{define_namespace_of, import_namespace_of, operator_entry_of}
 use Rattle.warg_log_records.specs.PackageReading.{package_entry_of, release_of, version_of, yank_of}
 use Rattle.warg_log_records.specs.RecordData.{EntryData}
-use Rattle.warg_log_records.specs.RecordReading.{◌>>=◌, map_fault, each, prev_of, time_of, hash_algorithm_of, key_of, beginning_of, init_of, known_permission, permission_in, grant_of, revoke_of, message_of, record_of}
+use Rattle.warg_log_records.specs.RecordReading.{◌>>=◌, map_fault, each, prev_of, time_of, hash_algorithm_of, key_of, beginning_of, init_of, known_permission, permission_in, grant_of, revoke_of, entry_in, message_of, record_of}
 use Rattle.warg_permissions.specs.OperatorPermissions as operator_permission
 use Rattle.warg_permissions.specs.PackagePermissions as package_permission
 
@@ -111,24 +113,27 @@ module _ {P : Type 0} (permission_of : ℤ → Option P) where
 version_within : (text : List ℕ) → IfErr (version_of text) IsOfContent
 version_within text = named_within IsOfContent (λ e. Version) (λ e. tt) (version_parts text)
 
+release_within : (m : ReleaseValue) → IfErr (release_of m) IsOfContent
+release_within m = then_within IsOfContent (version_of m.version) _ (version_within m.version) (λ v. then_within IsOfContent (map_fault ContentHash (hash_of m.content_hash)) _ (named_within IsOfContent ContentHash (λ e. tt) (hash_of m.content_hash)) (λ h. tt))
+
+yank_within : (m : YankValue) → IfErr (yank_of m) IsOfContent
+yank_within m = then_within IsOfContent (version_of m.version) _ (version_within m.version) (λ v. tt)
+
+module _ {P O F G : Type 0} (permission_of : ℤ → Option P) (first_of : F → Result O RecordFault) (second_of : G → Result O RecordFault)
+    (first_within : (m : F) → IfErr (first_of m) IsOfContent) (second_within : (m : G) → IfErr (second_of m) IsOfContent) where
+  member_within : (o : Option (Member F G)) → IfErr (entry_in permission_of first_of second_of o) IsOfContent
+  member_within None = tt
+  member_within (Some (member.Init m)) = then_within IsOfContent (init_of m) _ (then_within IsOfContent (beginning_of m) _ (beginning_within m) (λ b. tt)) (λ a. tt)
+  member_within (Some (member.GrantFlat m)) = then_within IsOfContent (grant_of permission_of m) _ (grant_within permission_of m) (λ a. tt)
+  member_within (Some (member.RevokeFlat m)) = then_within IsOfContent (revoke_of permission_of m) _ (revoke_within permission_of m) (λ a. tt)
+  member_within (Some (member.FirstOwn m)) = then_within IsOfContent (first_of m) _ (first_within m) (λ a. tt)
+  member_within (Some (member.SecondOwn m)) = then_within IsOfContent (second_of m) _ (second_within m) (λ a. tt)
+
 package_entry_within : (o : Option PackageMember) → IfErr (package_entry_of o) IsOfContent
-package_entry_within None = tt
-package_entry_within (Some (package_member.Init m)) = then_within IsOfContent (init_of m) _ (then_within IsOfContent (beginning_of m) _ (beginning_within m) (λ b. tt)) (λ a. tt)
-package_entry_within (Some (package_member.GrantFlat m)) = then_within IsOfContent (grant_of package_permission.permission_of m) _ (grant_within package_permission.permission_of m) (λ a. tt)
-package_entry_within (Some (package_member.RevokeFlat m)) = then_within IsOfContent (revoke_of package_permission.permission_of m) _ (revoke_within package_permission.permission_of m) (λ a. tt)
-package_entry_within (Some (package_member.Release m)) =
-    then_within IsOfContent (release_of m) _
-    (then_within IsOfContent (version_of m.version) _ (version_within m.version) (λ v. then_within IsOfContent (map_fault ContentHash (hash_of m.content_hash)) _ (named_within IsOfContent ContentHash (λ e. tt) (hash_of m.content_hash)) (λ h. tt)))
-    (λ a. tt)
-package_entry_within (Some (package_member.Yank m)) = then_within IsOfContent (yank_of m) _ (then_within IsOfContent (version_of m.version) _ (version_within m.version) (λ v. tt)) (λ a. tt)
+package_entry_within o = member_within package_permission.permission_of release_of yank_of release_within yank_within o
 
 operator_entry_within : (o : Option OperatorMember) → IfErr (operator_entry_of o) IsOfContent
-operator_entry_within None = tt
-operator_entry_within (Some (operator_member.Init m)) = then_within IsOfContent (init_of m) _ (then_within IsOfContent (beginning_of m) _ (beginning_within m) (λ b. tt)) (λ a. tt)
-operator_entry_within (Some (operator_member.GrantFlat m)) = then_within IsOfContent (grant_of operator_permission.permission_of m) _ (grant_within operator_permission.permission_of m) (λ a. tt)
-operator_entry_within (Some (operator_member.RevokeFlat m)) = then_within IsOfContent (revoke_of operator_permission.permission_of m) _ (revoke_within operator_permission.permission_of m) (λ a. tt)
-operator_entry_within (Some (operator_member.DefineNamespace m)) = tt
-operator_entry_within (Some (operator_member.ImportNamespace m)) = tt
+operator_entry_within o = member_within operator_permission.permission_of define_namespace_of import_namespace_of (λ m. tt) (λ m. tt) o
 
 module _ {E P O : Type 0} (entry_of : E → Result (EntryData P O) RecordFault) (entry_within : (x : E) → IfErr (entry_of x) IsOfContent) where
   record_within : (m : RecordValue (List E)) → IfErr (record_of entry_of m) IsOfContent

@@ -9,24 +9,25 @@ use Rattle.warg_crypto.specs.NamedBytes.{NamedBytes, named_bytes_text}
 use Rattle.warg_crypto.specs.Time.Times.{Time}
 use Rattle.warg_crypto.specs.declared.hash.HashAlgorithm.{HashAlgorithm}
 use Rattle.warg_crypto.specs.declared.hash.HashAlgorithm.TheVariants.{Sha256}
+use Rattle.warg_protobuf.specs.Entry.{Member}
 use Rattle.warg_protobuf.specs.Record.{RecordValue}
 use Rattle.warg_protobuf.specs.Table.{Table}
 use Rattle.warg_envelope.specs.Faults.{RecordFault, Prev, TimeOutOfRange, Key, Version, ContentHash}
 use Rattle.warg_log_records.specs.RecordData.{Init, GrantFlat, RevokeFlat, EntryData, Shared, Own, RecordData}
 use Rattle.warg_log_records.specs.Relations.{ReadsRecord}
-use Rattle.warg_log_records.specs.RecordReading.{◌>>=◌, map_fault, each, prev_of, time_of, key_of, init_of, known_permission, permission_in, grant_of, revoke_of, shared_entry, own_entry, record_of}
+use Rattle.warg_log_records.specs.RecordReading.{◌>>=◌, map_fault, each, prev_of, time_of, key_of, init_of, known_permission, permission_in, grant_of, revoke_of, shared_entry, own_entry, entry_in, record_of}
 use Rattle.warg_log_records.specs.WellFormed.{IsWellFormedNamedBytes, IsWellFormedTime, IsWellFormedLink, IsWellFormedEntry, IsWellFormed, IsWellFormedPackageOwnEntry, IsWellFormedOperatorOwnEntry}
-use Rattle.warg_log_records.specs.Writing.{id_text, init_message, grant_message, revoke_message, time_message, record_message}
+use Rattle.warg_log_records.specs.Writing.{id_text, init_message, grant_message, revoke_message, message_of_entry, time_message, record_message}
 use Rattle.warg_log_records.specs.declared.record_id.RecordId.{RecordId}
 use Rattle.warg_log_records.specs.PackageEntries.{PackageOwnEntry, Release, Yank}
 use Rattle.warg_permissions.specs.PackagePermissions as release_permission
-use Rattle.warg_log_records.specs.PackageReading.{package_entry_of}
-use Rattle.warg_log_records.specs.PackageWriting.{package_entry_message}
+use Rattle.warg_log_records.specs.PackageReading.{release_of, yank_of, package_entry_of}
+use Rattle.warg_log_records.specs.PackageWriting.{package_own_message, package_entry_message}
 use Rattle.warg_log_records.specs.PackageWriting as package_writing
 use Rattle.warg_log_records.specs.OperatorEntries.{OperatorOwnEntry, DefineNamespace, ImportNamespace}
 use Rattle.warg_permissions.specs.OperatorPermissions as commit_permission
-use Rattle.warg_log_records.specs.OperatorReading.{operator_entry_of}
-use Rattle.warg_log_records.specs.OperatorWriting.{operator_entry_message}
+use Rattle.warg_log_records.specs.OperatorReading.{define_namespace_of, import_namespace_of, operator_entry_of}
+use Rattle.warg_log_records.specs.OperatorWriting.{operator_own_message, operator_entry_message}
 use Rattle.warg_log_records.specs.OperatorWriting as operator_writing
 use Rattle.warg_permissions.specs.declared.package.Permission as release
 use Rattle.warg_permissions.specs.declared.operator.Permission as commit
@@ -72,19 +73,32 @@ record_back entry_of entry_message IsWellFormedOwn back s w =
     λ i. prev_back s.prev w.prev i >>= λ p. time_back s.time w.time i >>= λ t. each_back entry_of entry_message back s.entries w.entries i >>= λ es.
     Ok (record { prev = p; version = s.version; time = t; entries = es })
 
+module _ {P O F G : Type 0} (permission_of : ℤ → Option P) (number_of : P → ℤ) (permission_back : (p : P) → permission_of (number_of p) ≡ Some p)
+    (first_of : F → Result O RecordFault) (second_of : G → Result O RecordFault) (own_message : O → Member F G) (IsWellFormedOwn : O → Type 0)
+    (own_back : (o : O) → IsWellFormedOwn o → entry_in permission_of first_of second_of (Some (own_message o)) ≡ Ok (Own o)) where
+  entry_back : (x : EntryData P O) → IsWellFormedEntry IsWellFormedOwn x → entry_in permission_of first_of second_of (message_of_entry number_of own_message x) ≡ Ok x
+  entry_back (Shared (Init a k)) w = ap shared_entry (init_back a k w)
+  entry_back (Shared (GrantFlat k ps)) w = ap shared_entry (grant_back permission_of number_of permission_back k ps w)
+  entry_back (Shared (RevokeFlat id ps)) w = ap shared_entry (revoke_back permission_of number_of permission_back id ps)
+  entry_back (Own o) w = own_back o w
+
+package_own_back : (o : PackageOwnEntry) → IsWellFormedPackageOwnEntry o → package_entry_of (Some (package_own_message o)) ≡ Ok (Own o)
+package_own_back (Release v h) w = λ i. own_entry (map_fault (λ e. Version) (w.0 i) >>= λ version. map_fault ContentHash (hash_of-hash_text h w.1.size w.1.bytes i) >>= λ content. Ok (Release version content))
+package_own_back (Yank v) w = λ i. own_entry (map_fault (λ e. Version) (w i) >>= λ version. Ok (Yank version))
+
+operator_own_back : (o : OperatorOwnEntry) → IsWellFormedOperatorOwnEntry o → operator_entry_of (Some (operator_own_message o)) ≡ Ok (Own o)
+operator_own_back (DefineNamespace n) w = refl
+operator_own_back (ImportNamespace n r) w = refl
+
 package_entry_back : (x : EntryData release.Permission PackageOwnEntry) → IsWellFormedEntry IsWellFormedPackageOwnEntry x → package_entry_of (package_entry_message x) ≡ Ok x
-package_entry_back (Shared (Init a k)) w = ap shared_entry (init_back a k w)
-package_entry_back (Shared (GrantFlat k ps)) w = ap shared_entry (grant_back release_permission.permission_of package_writing.permission_number release_permission.permission_of-number_of k ps w)
-package_entry_back (Shared (RevokeFlat id ps)) w = ap shared_entry (revoke_back release_permission.permission_of package_writing.permission_number release_permission.permission_of-number_of id ps)
-package_entry_back (Own (Release v h)) w = λ i. own_entry (map_fault (λ e. Version) (w.0 i) >>= λ version. map_fault ContentHash (hash_of-hash_text h w.1.size w.1.bytes i) >>= λ content. Ok (Release version content))
-package_entry_back (Own (Yank v)) w = λ i. own_entry (map_fault (λ e. Version) (w i) >>= λ version. Ok (Yank version))
+package_entry_back x w =
+    entry_back release_permission.permission_of package_writing.permission_number release_permission.permission_of-number_of
+    release_of yank_of package_own_message IsWellFormedPackageOwnEntry package_own_back x w
 
 operator_entry_back : (x : EntryData commit.Permission OperatorOwnEntry) → IsWellFormedEntry IsWellFormedOperatorOwnEntry x → operator_entry_of (operator_entry_message x) ≡ Ok x
-operator_entry_back (Shared (Init a k)) w = ap shared_entry (init_back a k w)
-operator_entry_back (Shared (GrantFlat k ps)) w = ap shared_entry (grant_back commit_permission.permission_of operator_writing.permission_number commit_permission.permission_of-number_of k ps w)
-operator_entry_back (Shared (RevokeFlat id ps)) w = ap shared_entry (revoke_back commit_permission.permission_of operator_writing.permission_number commit_permission.permission_of-number_of id ps)
-operator_entry_back (Own (DefineNamespace n)) w = refl
-operator_entry_back (Own (ImportNamespace n r)) w = refl
+operator_entry_back x w =
+    entry_back commit_permission.permission_of operator_writing.permission_number commit_permission.permission_of-number_of
+    define_namespace_of import_namespace_of operator_own_message IsWellFormedOperatorOwnEntry operator_own_back x w
 
 -- what is written as this message reads back as the record
 pub encoded_back : {E P O T X : Type 0} (table : Table) (IsMessage : List ℕ → RecordValue (List E) → Type 0) (entry_of : E → Result (EntryData P O) RecordFault) (read : List ℕ → Result (RecordData P O) RecordFault)

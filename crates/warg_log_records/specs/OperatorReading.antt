@@ -1,23 +1,28 @@
 -- What content bytes say as a record of an operator log.
-use Rattle.std.specs.Prelude.{ℕ, List, Option, Some, None, Result, Ok, Err}
-use Rattle.warg_protobuf.specs.OperatorEntry.{OperatorMember, Init, GrantFlat, RevokeFlat, DefineNamespace, ImportNamespace}
+use Rattle.std.specs.Prelude.{ℕ, List, Option, Result, Ok}
+use Rattle.warg_protobuf.specs.DefineNamespace.{DefineNamespaceValue}
+use Rattle.warg_protobuf.specs.ImportNamespace.{ImportNamespaceValue}
+use Rattle.warg_protobuf.specs.OperatorEntry.{OperatorMember}
 use Rattle.warg_protobuf.specs.OperatorRecord as message
-use Rattle.warg_envelope.specs.Faults.{RecordFault, EmptyEntry}
-use Rattle.warg_log_records.specs.RecordData.{EntryData, Own, RecordData}
-use Rattle.warg_log_records.specs.RecordReading.{init_of, grant_of, revoke_of, shared_entry, decoded_record}
+use Rattle.warg_envelope.specs.Faults.{RecordFault}
+use Rattle.warg_log_records.specs.RecordData.{EntryData, RecordData}
+use Rattle.warg_log_records.specs.RecordReading.{entry_in, decoded_record}
 use Rattle.warg_log_records.specs.OperatorEntries.{OperatorOwnEntry}
 use Rattle.warg_log_records.specs.OperatorEntries as plain
 use Rattle.warg_permissions.specs.OperatorPermissions.{permission_of}
 use Rattle.warg_permissions.specs.declared.operator.Permission.{Permission}
 
--- what an entry's message says; any text is a namespace or a registry here
+-- the definition that its message says; any text is a namespace here
+abbrev pub define_namespace_of : DefineNamespaceValue → Result OperatorOwnEntry RecordFault
+define_namespace_of m = Ok (plain.DefineNamespace m.namespace)
+
+-- the import that its message says; any text is a namespace or a registry here
+abbrev pub import_namespace_of : ImportNamespaceValue → Result OperatorOwnEntry RecordFault
+import_namespace_of m = Ok (plain.ImportNamespace m.namespace m.registry)
+
+-- what an entry's message says
 abbrev pub operator_entry_of : Option OperatorMember → Result (EntryData Permission OperatorOwnEntry) RecordFault
-operator_entry_of None = Err EmptyEntry
-operator_entry_of (Some (Init m)) = shared_entry (init_of m)
-operator_entry_of (Some (GrantFlat m)) = shared_entry (grant_of permission_of m)
-operator_entry_of (Some (RevokeFlat m)) = shared_entry (revoke_of permission_of m)
-operator_entry_of (Some (DefineNamespace m)) = Ok (Own (plain.DefineNamespace m.namespace))
-operator_entry_of (Some (ImportNamespace m)) = Ok (Own (plain.ImportNamespace m.namespace m.registry))
+operator_entry_of o = entry_in permission_of define_namespace_of import_namespace_of o
 
 -- what content bytes say, or their first fault
 unfoldable pub operator_record_of : List ℕ → Result (RecordData Permission OperatorOwnEntry) RecordFault

@@ -1,11 +1,11 @@
 -- Operator records as messages.
-use Rattle.std.specs.Prelude.{ℕ, ℤ, pos, List, Option, Some}
+use Rattle.std.specs.Prelude.{ℕ, ℤ, pos, List, Option}
+use Rattle.warg_protobuf.specs.Entry.{FirstOwn, SecondOwn}
 use Rattle.warg_protobuf.specs.OperatorEntry.{OperatorMember}
-use Rattle.warg_protobuf.specs.OperatorEntry as member
 use Rattle.warg_protobuf.specs.OperatorRecord.{operator_record_bytes}
 use Rattle.warg_protobuf.specs.Record.{RecordValue}
-use Rattle.warg_log_records.specs.RecordData.{Init, GrantFlat, RevokeFlat, EntryData, Shared, Own, RecordData}
-use Rattle.warg_log_records.specs.Writing.{init_message, grant_message, revoke_message, record_message}
+use Rattle.warg_log_records.specs.RecordData.{EntryData, RecordData}
+use Rattle.warg_log_records.specs.Writing.{message_of_entry, record_message}
 use Rattle.warg_log_records.specs.OperatorEntries.{OperatorOwnEntry, DefineNamespace, ImportNamespace}
 use Rattle.warg_permissions.specs.OperatorPermissions.{number_of}
 use Rattle.warg_permissions.specs.declared.operator.Permission.{Permission}
@@ -14,13 +14,14 @@ use Rattle.warg_permissions.specs.declared.operator.Permission.{Permission}
 abbrev pub permission_number : Permission → ℤ
 permission_number p = pos (number_of p)
 
+-- the message of a definition or of an import
+abbrev pub operator_own_message : OperatorOwnEntry → OperatorMember
+operator_own_message (DefineNamespace namespace) = FirstOwn (record { namespace = namespace })
+operator_own_message (ImportNamespace namespace registry) = SecondOwn (record { namespace = namespace; registry = registry })
+
 -- the message of an entry
 abbrev pub operator_entry_message : EntryData Permission OperatorOwnEntry → Option OperatorMember
-operator_entry_message (Shared (Init algorithm key)) = Some (member.Init (init_message algorithm key))
-operator_entry_message (Shared (GrantFlat key permissions)) = Some (member.GrantFlat (grant_message permission_number key permissions))
-operator_entry_message (Shared (RevokeFlat key_id permissions)) = Some (member.RevokeFlat (revoke_message permission_number key_id permissions))
-operator_entry_message (Own (DefineNamespace namespace)) = Some (member.DefineNamespace (record { namespace = namespace }))
-operator_entry_message (Own (ImportNamespace namespace registry)) = Some (member.ImportNamespace (record { namespace = namespace; registry = registry }))
+operator_entry_message e = message_of_entry permission_number operator_own_message e
 
 -- the message of a record
 abbrev pub operator_record_message : RecordData Permission OperatorOwnEntry

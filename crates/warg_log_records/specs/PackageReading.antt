@@ -1,14 +1,14 @@
 -- What content bytes say as a record of a package log.
-use Rattle.std.specs.Prelude.{ℕ, List, Option, Some, None, Result, Ok, Err}
+use Rattle.std.specs.Prelude.{ℕ, List, Option, Result, Ok}
 use Rattle.semver.specs.Parse.{version_parts}
 use Rattle.warg_crypto.specs.HashText.{hash_of}
-use Rattle.warg_protobuf.specs.PackageEntry.{PackageMember, Init, GrantFlat, RevokeFlat, Release, Yank}
+use Rattle.warg_protobuf.specs.PackageEntry.{PackageMember}
 use Rattle.warg_protobuf.specs.PackageRecord as message
 use Rattle.warg_protobuf.specs.Release.{ReleaseValue}
 use Rattle.warg_protobuf.specs.Yank.{YankValue}
-use Rattle.warg_envelope.specs.Faults.{RecordFault, EmptyEntry, Version, ContentHash}
+use Rattle.warg_envelope.specs.Faults.{RecordFault, Version, ContentHash}
 use Rattle.warg_log_records.specs.RecordData.{EntryData, RecordData}
-use Rattle.warg_log_records.specs.RecordReading.{◌>>=◌, map_fault, init_of, grant_of, revoke_of, shared_entry, own_entry, decoded_record}
+use Rattle.warg_log_records.specs.RecordReading.{◌>>=◌, map_fault, entry_in, decoded_record}
 use Rattle.warg_log_records.specs.PackageEntries.{VersionParts, PackageOwnEntry}
 use Rattle.warg_log_records.specs.PackageEntries as plain
 use Rattle.warg_permissions.specs.PackagePermissions.{permission_of}
@@ -31,12 +31,7 @@ yank_of m = version_of m.version >>= λ version. Ok (plain.Yank version)
 
 -- what an entry's message says
 abbrev pub package_entry_of : Option PackageMember → Result (EntryData Permission PackageOwnEntry) RecordFault
-package_entry_of None = Err EmptyEntry
-package_entry_of (Some (Init m)) = shared_entry (init_of m)
-package_entry_of (Some (GrantFlat m)) = shared_entry (grant_of permission_of m)
-package_entry_of (Some (RevokeFlat m)) = shared_entry (revoke_of permission_of m)
-package_entry_of (Some (Release m)) = own_entry (release_of m)
-package_entry_of (Some (Yank m)) = own_entry (yank_of m)
+package_entry_of o = entry_in permission_of release_of yank_of o
 
 -- what content bytes say, or their first fault
 unfoldable pub package_record_of : List ℕ → Result (RecordData Permission PackageOwnEntry) RecordFault

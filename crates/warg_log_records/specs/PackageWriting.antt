@@ -1,13 +1,13 @@
 -- Package records as messages.
-use Rattle.std.specs.Prelude.{ℕ, ℤ, pos, List, Option, Some}
+use Rattle.std.specs.Prelude.{ℕ, ℤ, pos, List, Option}
 use Rattle.semver.specs.Identifiers.{parts_text}
 use Rattle.warg_crypto.specs.HashText.{hash_text}
+use Rattle.warg_protobuf.specs.Entry.{FirstOwn, SecondOwn}
 use Rattle.warg_protobuf.specs.PackageEntry.{PackageMember}
-use Rattle.warg_protobuf.specs.PackageEntry as member
 use Rattle.warg_protobuf.specs.PackageRecord.{package_record_bytes}
 use Rattle.warg_protobuf.specs.Record.{RecordValue}
-use Rattle.warg_log_records.specs.RecordData.{Init, GrantFlat, RevokeFlat, EntryData, Shared, Own, RecordData}
-use Rattle.warg_log_records.specs.Writing.{init_message, grant_message, revoke_message, record_message}
+use Rattle.warg_log_records.specs.RecordData.{EntryData, RecordData}
+use Rattle.warg_log_records.specs.Writing.{message_of_entry, record_message}
 use Rattle.warg_log_records.specs.PackageEntries.{PackageOwnEntry, Release, Yank}
 use Rattle.warg_permissions.specs.PackagePermissions.{number_of}
 use Rattle.warg_permissions.specs.declared.package.Permission.{Permission}
@@ -16,13 +16,14 @@ use Rattle.warg_permissions.specs.declared.package.Permission.{Permission}
 abbrev pub permission_number : Permission → ℤ
 permission_number p = pos (number_of p)
 
+-- the message of a release or of a yank
+abbrev pub package_own_message : PackageOwnEntry → PackageMember
+package_own_message (Release version content) = FirstOwn (record { version = parts_text version; content_hash = hash_text content })
+package_own_message (Yank version) = SecondOwn (record { version = parts_text version })
+
 -- the message of an entry
 abbrev pub package_entry_message : EntryData Permission PackageOwnEntry → Option PackageMember
-package_entry_message (Shared (Init algorithm key)) = Some (member.Init (init_message algorithm key))
-package_entry_message (Shared (GrantFlat key permissions)) = Some (member.GrantFlat (grant_message permission_number key permissions))
-package_entry_message (Shared (RevokeFlat key_id permissions)) = Some (member.RevokeFlat (revoke_message permission_number key_id permissions))
-package_entry_message (Own (Release version content)) = Some (member.Release (record { version = parts_text version; content_hash = hash_text content }))
-package_entry_message (Own (Yank version)) = Some (member.Yank (record { version = parts_text version }))
+package_entry_message e = message_of_entry permission_number package_own_message e
 
 -- the message of a record
 abbrev pub package_record_message : RecordData Permission PackageOwnEntry → RecordValue (List (Option PackageMember))

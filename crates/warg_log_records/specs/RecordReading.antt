@@ -12,12 +12,14 @@ use Rattle.warg_crypto.specs.declared.coding.DecodeError.{DecodeError}
 use Rattle.warg_crypto.specs.declared.coding.DecodeError.TheVariants as decoding
 use Rattle.warg_protobuf.specs.declared.error.WireError.{WireError}
 use Rattle.warg_protobuf.specs.declared.error.WireError.TheVariants as error
+use Rattle.warg_protobuf.specs.Entry.{Member}
+use Rattle.warg_protobuf.specs.Entry as member
 use Rattle.warg_protobuf.specs.GrantFlat.{GrantFlatValue}
 use Rattle.warg_protobuf.specs.Init.{InitValue}
 use Rattle.warg_protobuf.specs.Record.{RecordValue}
 use Rattle.warg_protobuf.specs.RevokeFlat.{RevokeFlatValue}
 use Rattle.warg_protobuf.specs.Timestamp.{TimestampValue}
-use Rattle.warg_envelope.specs.Faults.{RecordFault, Wire, Prev, MissingTime, TimeOutOfRange, Algorithm, Key, Permission}
+use Rattle.warg_envelope.specs.Faults.{RecordFault, Wire, Prev, MissingTime, TimeOutOfRange, EmptyEntry, Algorithm, Key, Permission}
 use Rattle.warg_log_records.specs.RecordData.{SharedEntry, Init, GrantFlat, RevokeFlat, EntryData, Shared, Own, RecordData}
 use Rattle.warg_log_records.specs.declared.record_id.RecordId.{RecordId}
 
@@ -96,6 +98,16 @@ shared_entry read = read >>= λ a. Ok (Shared a)
 -- the entry that was read, as one that the kind alone has
 abbrev pub own_entry : {P O : Type 0} → Result O RecordFault → Result (EntryData P O) RecordFault
 own_entry read = read >>= λ o. Ok (Own o)
+
+module _ {P O F G : Type 0} (permission_of : ℤ → Option P) (first_of : F → Result O RecordFault) (second_of : G → Result O RecordFault) where
+  -- what an entry's message says, by what the messages of the kind's own entries say
+  abbrev pub entry_in : Option (Member F G) → Result (EntryData P O) RecordFault
+  entry_in None = Err EmptyEntry
+  entry_in (Some (member.Init m)) = shared_entry (init_of m)
+  entry_in (Some (member.GrantFlat m)) = shared_entry (grant_of permission_of m)
+  entry_in (Some (member.RevokeFlat m)) = shared_entry (revoke_of permission_of m)
+  entry_in (Some (member.FirstOwn m)) = own_entry (first_of m)
+  entry_in (Some (member.SecondOwn m)) = own_entry (second_of m)
 
 -- a record: its prev, its time, then its entries in order
 abbrev pub record_of : {E P O : Type 0} → (E → Result (EntryData P O) RecordFault) → RecordValue (List E)

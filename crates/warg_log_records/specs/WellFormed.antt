@@ -1,6 +1,6 @@
 -- Which records read back as they are written. All of these facts but that on versions hold of every value of the
 -- code's types; a version that was parsed reads back too.
-use Rattle.std.specs.Prelude.{◌≡◌, pos, length, Option, Some, None, Ok}
+use Rattle.std.specs.Prelude.{◌≡◌, pos, length, List, Option, Some, None, Ok}
 use Rattle.std.specs.List.{AllByRecursion}
 use Rattle.hex.specs.Hex.{IsBytes}
 use Rattle.semver.specs.Identifiers.{parts_text}
@@ -67,3 +67,7 @@ abbrev pub IsReadable : {P : Type 0} → EntryData P PackageOwnEntry → Type 0
 IsReadable (Shared entry) = Unit {0}
 IsReadable (Own (Release version content)) = ReadsBack version
 IsReadable (Own (Yank version)) = ReadsBack version
+
+-- any entries of an operator log: all of them read back
+abbrev pub AreAnyEntries : {P : Type 0} → List (EntryData P OperatorOwnEntry) → Type 0
+AreAnyEntries entries = Unit {0}

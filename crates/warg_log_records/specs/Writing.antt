@@ -1,17 +1,19 @@
 -- What both kinds of record share in writing: records as messages.
-use Rattle.std.specs.Prelude.{ℕ, ℤ, pos, List, map, Some, codes}
+use Rattle.std.specs.Prelude.{ℕ, ℤ, pos, List, map, Option, Some, codes}
 use Rattle.std.specs.Option.{option_map}
 use Rattle.warg_crypto.specs.HashText.{hash_text}
 use Rattle.warg_crypto.specs.NamedBytes.{NamedBytes, named_bytes_text}
 use Rattle.warg_crypto.specs.Time.Times.{Time}
 use Rattle.warg_crypto.specs.declared.hash.HashAlgorithm.{HashAlgorithm}
 use Rattle.warg_crypto.specs.declared.hash.HashAlgorithm.TheVariants.{Sha256}
+use Rattle.warg_protobuf.specs.Entry.{Member}
+use Rattle.warg_protobuf.specs.Entry as member
 use Rattle.warg_protobuf.specs.GrantFlat.{GrantFlatValue}
 use Rattle.warg_protobuf.specs.Init.{InitValue}
 use Rattle.warg_protobuf.specs.Record.{RecordValue}
 use Rattle.warg_protobuf.specs.RevokeFlat.{RevokeFlatValue}
 use Rattle.warg_protobuf.specs.Timestamp.{TimestampValue}
-use Rattle.warg_log_records.specs.RecordData.{EntryData, RecordData}
+use Rattle.warg_log_records.specs.RecordData.{Init, GrantFlat, RevokeFlat, EntryData, Shared, Own, RecordData}
 use Rattle.warg_log_records.specs.declared.record_id.RecordId.{RecordId}
 
 -- the text of an id
@@ -34,6 +36,13 @@ module _ {P : Type 0} (number_of : P → ℤ) where
   -- the message of a revocation from a key id
   abbrev pub revoke_message : List ℕ → List P → RevokeFlatValue
   revoke_message key_id permissions = record { key_id = key_id; permissions = map number_of permissions }
+
+-- the message of an entry, by the messages of its kind's own
+abbrev pub message_of_entry : {P O F G : Type 0} → (P → ℤ) → (O → Member F G) → EntryData P O → Option (Member F G)
+message_of_entry number_of own_message (Shared (Init algorithm key)) = Some (member.Init (init_message algorithm key))
+message_of_entry number_of own_message (Shared (GrantFlat key permissions)) = Some (member.GrantFlat (grant_message number_of key permissions))
+message_of_entry number_of own_message (Shared (RevokeFlat key_id permissions)) = Some (member.RevokeFlat (revoke_message number_of key_id permissions))
+message_of_entry number_of own_message (Own own) = Some (own_message own)
 
 -- a time is always written, as seconds and nanoseconds
 abbrev pub time_message : Time → TimestampValue

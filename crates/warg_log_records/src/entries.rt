@@ -2,62 +2,19 @@
 
 ghost use Rattle.std.specs.Prelude.{◌≡◌, ◌≢◌, List, [], map, fold, IfOk, IfErr, OnOk, Result, Ok};
 ghost use Rattle.warg_crypto.specs.declared.coding.DecodeError.TheVariants.{OutOfMemory};
-ghost use Rattle.warg_protobuf.specs.declared.error.WireError.{WireError};
-ghost use Rattle.warg_protobuf.specs.Field.{Field};
-ghost use Rattle.warg_protobuf.specs.Meaning.{GivesValues};
 ghost use Rattle.warg_protobuf.specs.Record.{record_table, record_from, record_view, gathered_of};
-ghost use Rattle.warg_protobuf.specs.Table.{Table};
 ghost use Rattle.warg_protobuf.specs.Values.{message_of as wire_message_of};
-ghost use Rattle.warg_protobuf.specs.Views.{ReturnsOrNoMemory};
 ghost use Rattle.warg_log_records.specs.Entries.{entries_held, next_entry};
 ghost use Rattle.warg_envelope.specs.Faults.{RecordFault, fault_of, IsReading};
 ghost use Rattle.warg_log_records.specs.RecordData.{EntryData};
 ghost use Rattle.warg_log_records.specs.RecordReading.{message_of};
 
 use crate::kept_fault::KeptFault;
+use crate::log_entry::LogEntry;
 use crate::reading::wire_error;
 use std::alloc::{AllocError, Global};
 use warg_crypto::DecodeError;
 use warg_protobuf::{EntrySink, Record, WireError};
-
-/// An entry that is read from its message.
-pub(crate) trait FromMessage: Drop {
-    type Message: Drop;
-
-    // The message as plain data.
-    ghost MessageView: { Type 0 };
-
-    ghost message_view: { Self.Message → MessageView };
-
-    // The fields of a message.
-    ghost table: { Table };
-
-    // What they say.
-    ghost message_view_from: { List Field → Result MessageView WireError };
-
-    // The permissions of the entry's kind of log, and what the kind's own entries are.
-    ghost Permission: { Type 0 };
-
-    ghost Own: { Type 0 };
-
-    // The entry as plain data.
-    ghost plain: { Self → EntryData Permission Own };
-
-    // What a message says, or its first fault.
-    ghost read: { MessageView → Result (EntryData Permission Own) RecordFault };
-
-    fn from_message(alloc: Global, message: Self::Message) -> Result<Self, DecodeError>
-        ensures { IsReading plain fault_of (read (message_view message)) result };
-
-    // The message that the bytes are, all of them.
-    fn decode_message(alloc: Global, bytes: &[u8]) -> Result<Self::Message, WireError>
-        ensures { ReturnsOrNoMemory message_view result
-            (wire_message_of table message_view_from bytes.now) };
-
-    // Fields that fit say a message. This has no effect.
-    fn laws()
-        ensures { GivesValues table message_view_from };
-}
 
 /// The entries that were read so far, up to the first fault of one.
 #[derive(Drop)]
@@ -66,7 +23,7 @@ pub(crate) struct Entries<T> {
     fault: Option<KeptFault>,
 }
 
-impl<T: FromMessage> EntrySink for Entries<T> {
+impl<T: LogEntry> EntrySink for Entries<T> {
     ghost table = { T.table };
 
     ghost Entry = { T.MessageView };
@@ -98,7 +55,7 @@ impl<T: FromMessage> EntrySink for Entries<T> {
     }
 }
 
-impl<T: FromMessage> Entries<T> {
+impl<T: LogEntry> Entries<T> {
     /// Adds the next entry. Behind a fault none counts.
     fn add(&mut self, alloc: Global, message: T::Message) -> Result<(), AllocError>
         ensures { OnOk result (entries_held T.plain self.new ≡
@@ -129,7 +86,7 @@ impl<T: FromMessage> Entries<T> {
 }
 
 /// The entries of all messages, in order, up to the first fault.
-pub(crate) fn read_each<T: FromMessage>(
+pub(crate) fn read_each<T: LogEntry>(
     alloc: Global,
     messages: Vec<T::Message>,
 ) -> Result<Entries<T>, AllocError>
@@ -144,7 +101,7 @@ pub(crate) fn read_each<T: FromMessage>(
 }
 
 /// The record that content bytes say. The link and the time are still as they were written.
-pub(crate) fn read_content<T: FromMessage>(
+pub(crate) fn read_content<T: LogEntry>(
     alloc: Global,
     content: &[u8],
 ) -> Result<Record<Entries<T>>, DecodeError>

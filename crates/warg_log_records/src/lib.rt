@@ -5,6 +5,7 @@ mod effect;
 mod entries;
 mod kept_fault;
 pub mod laws;
+mod log_entry;
 mod log_record;
 mod mention;
 pub mod operator;

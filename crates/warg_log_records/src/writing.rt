@@ -9,6 +9,7 @@ ghost use Rattle.warg_protobuf.specs.Timestamp.{timestamp_view};
 ghost use Rattle.warg_protobuf.specs.Views.{option_view};
 ghost use Rattle.warg_log_records.specs.Writing.{grant_message, id_text, init_message, revoke_message, time_message};
 
+use crate::log_entry::LogEntry;
 use crate::record_id::RecordId;
 use std::alloc::{AllocError, Global};
 use std::fmt;
@@ -18,32 +19,16 @@ use warg_crypto::time::Timestamp;
 use warg_permissions::LogPermission;
 use warg_protobuf::{GrantFlat, Init, RevokeFlat, TimestampPair};
 
-/// A part of a record that is written as its message.
-pub(crate) trait ToMessage {
-    type Message: Drop;
-
-    // The message as plain data.
-    ghost MessageView: { Type 0 };
-
-    ghost message_view: { Self.Message → MessageView };
-
-    // The message of a part.
-    ghost written_message: { Self → MessageView };
-
-    fn to_message(&self, alloc: Global) -> Result<Self::Message, AllocError>
-        ensures { IfOk result (λ m. message_view m ≡ written_message self.now) };
-}
-
-/// Writes all parts, in order.
-pub(crate) fn write_each<T: ToMessage>(
+/// Writes all entries, in order.
+pub(crate) fn write_each<T: LogEntry>(
     alloc: Global,
-    parts: &[T],
+    entries: &[T],
 ) -> Result<Vec<T::Message>, AllocError>
-    ensures { IfOk result (λ v. map T.message_view v.items ≡ map T.written_message parts.now) }
+    ensures { IfOk result (λ v. map T.message_view v.items ≡ map T.written_message entries.now) }
 {
-    let mut messages = Vec::with_capacity(alloc, parts.len())?;
-    for part in parts {
-        let message = part.to_message(alloc)?;
+    let mut messages = Vec::with_capacity(alloc, entries.len())?;
+    for entry in entries {
+        let message = entry.to_message(alloc)?;
         messages.push(message)?;
     }
     Ok(messages)

@@ -1,14 +1,14 @@
 -- The permissions of an operator log.
-use Rattle.std.specs.Prelude.{◌≡◌, ℕ, ℤ, pos, ◌==◌, Bool, true, List, Option, Some, None, codes, if◌then◌else◌}
-use Rattle.std.specs.Cmp.{IsEquivalence, on_equiv}
-use Rattle.std.specs.Hash as fed
-use Rattle.std.specs.Str.{bytes_eq}
-use Rattle.std.specs.Ordering.{int_eq}
-use Rattle.std.proofs.Common.{refl, sym, ap, ◌∙◌}
-use Rattle.std.proofs.lemmas.Cmp.{nat_eq_equiv}
-use Rattle.std.proofs.lemmas.Bool.{eqb-true}
+use Rattle.std.specs.Prelude.{◌≡◌, ℕ, ℤ, pos, Bool, true, List, [], ◌∷◌, Option, Some, codes}
+use Rattle.std.specs.Cmp.{IsEquivalence}
+use Rattle.std.proofs.Common.{refl}
+use Rattle.warg_permissions.specs.Permissions.{named_in, numbered_in, same_number, same_number_equiv, same_number-is}
 use Rattle.warg_permissions.specs.declared.operator.Permission.{Permission}
 use Rattle.warg_permissions.specs.declared.operator.Permission.TheVariants.{Commit, DefineNamespace, ImportNamespace}
+
+-- all permissions, by their numbers
+abbrev pub all_permissions : List Permission
+all_permissions = Commit ∷ DefineNamespace ∷ ImportNamespace ∷ []
 
 -- the number of a permission in a message
 abbrev pub number_of : Permission → ℕ
@@ -18,11 +18,7 @@ number_of ImportNamespace = 3
 
 -- the permission that a number of a message names
 abbrev pub permission_of : ℤ → Option Permission
-permission_of v =
-    if int_eq v (pos 1) then Some Commit
-    else if int_eq v (pos 2) then Some DefineNamespace
-    else if int_eq v (pos 3) then Some ImportNamespace
-    else None
+permission_of v = numbered_in number_of all_permissions v
 
 -- the text of a permission
 abbrev pub permission_text : Permission → List ℕ
@@ -32,37 +28,7 @@ permission_text ImportNamespace = codes "importNamespace"
 
 -- the permission that a text names
 abbrev pub permission_in : List ℕ → Option Permission
-permission_in text =
-    if bytes_eq text (codes "commit") then Some Commit
-    else if bytes_eq text (codes "defineNamespace") then Some DefineNamespace
-    else if bytes_eq text (codes "importNamespace") then Some ImportNamespace
-    else None
-
--- whether two permissions are the same: what `==` answers
-abbrev pub same_permission : Permission → Permission → Bool
-same_permission p q = number_of p == number_of q
-
--- to be the same is an equivalence of permissions
-pub same_permission_equiv : IsEquivalence same_permission
-same_permission_equiv = on_equiv number_of nat_eq_equiv
-
--- the permission of a number
-abbrev permission_by_number : ℕ → Permission
-permission_by_number n = if n == 1 then Commit else if n == 2 then DefineNamespace else ImportNamespace
-
-permission_by_number-number_of : (p : Permission) → permission_by_number (number_of p) ≡ p
-permission_by_number-number_of Commit = refl
-permission_by_number-number_of DefineNamespace = refl
-permission_by_number-number_of ImportNamespace = refl
-
--- permissions that `==` calls equal are the same
-pub same_permission-is : (p q : Permission) → same_permission p q ≡ true → p ≡ q
-same_permission-is p q h = sym (permission_by_number-number_of p) ∙ ap permission_by_number (eqb-true (number_of p) (number_of q) h) ∙ permission_by_number-number_of q
-
--- of permissions that are the same, a hasher is fed the same
-pub hash-same_permission : (p q : Permission) → same_permission p q ≡ true
-    → fed.u8 (number_of p) ≡ fed.u8 (number_of q)
-hash-same_permission p q h = ap fed.u8 (eqb-true (number_of p) (number_of q) h)
+permission_in text = named_in permission_text all_permissions text
 
 -- a permission is read back from its number
 pub permission_of-number_of : (p : Permission) → permission_of (pos (number_of p)) ≡ Some p
@@ -75,3 +41,15 @@ pub permission_in-permission_text : (p : Permission) → permission_in (permissi
 permission_in-permission_text Commit = refl
 permission_in-permission_text DefineNamespace = refl
 permission_in-permission_text ImportNamespace = refl
+
+-- whether two permissions are the same: what `==` answers
+abbrev pub same_permission : Permission → Permission → Bool
+same_permission p q = same_number number_of p q
+
+-- to be the same is an equivalence of permissions
+pub same_permission_equiv : IsEquivalence same_permission
+same_permission_equiv = same_number_equiv number_of
+
+-- permissions that `==` calls equal are the same
+pub same_permission-is : (p q : Permission) → same_permission p q ≡ true → p ≡ q
+same_permission-is = same_number-is number_of permission_of permission_of-number_of

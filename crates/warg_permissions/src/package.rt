@@ -3,8 +3,8 @@
 ghost use Rattle.std.specs.Prelude.{◌≡◌, [], ◌∷◌, pos, Option, Some, Ok, Err};
 ghost use Rattle.std.specs.Cmp.{partial_equiv_from_equiv};
 ghost use Rattle.std.specs.Hash as fed;
-ghost use Rattle.warg_permissions.specs.Permissions.{named_or, numbered_or};
-ghost use Rattle.warg_permissions.specs.PackagePermissions.{number_of, permission_of, permission_text, permission_in, same_permission, same_permission_equiv, same_permission-is, hash-same_permission, permission_of-number_of, permission_in-permission_text};
+ghost use Rattle.warg_permissions.specs.Permissions.{hash-same_number, named_or, numbered_or};
+ghost use Rattle.warg_permissions.specs.PackagePermissions.{all_permissions, number_of, permission_of, permission_text, permission_in, same_permission, same_permission_equiv, same_permission-is, permission_of-number_of, permission_in-permission_text};
 
 mod json;
 
@@ -69,7 +69,7 @@ impl Eq for Permission {
 impl Hash for Permission {
     ghost hash_input = { λ p. fed.u8 (number_of p) };
 
-    ghost respects_eq = { hash-same_permission };
+    ghost respects_eq = { hash-same_number number_of };
 
     fn hash<H: Hasher>(&self, state: &mut H) {
         self.number().hash(state);
@@ -108,6 +108,8 @@ impl LogPermission for Permission {
     ghost permission_named = { permission_in };
 
     ghost text_of = { permission_text };
+
+    ghost listed = { all_permissions };
 
     ghost number_reads_back = { permission_of-number_of };
 

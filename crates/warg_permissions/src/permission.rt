@@ -35,8 +35,12 @@ pub trait LogPermission: Copy + Eq + Hash {
     // The text that names a permission.
     ghost text_of: { Self → List ℕ };
 
-    /// All permissions of the kind, each once, in any order: what the signer of an Init gets.
+    // All permissions of the kind, by their numbers.
+    ghost listed: { List Self };
+
+    /// All permissions of the kind, each once, by their numbers: what the signer of an Init gets.
     fn all(alloc: Global) -> Result<Vec<Self>, AllocError>
+        ensures listed { IfOk result (λ ps. ps.items ≡ listed) }
         ensures all { IfOk result (λ ps. (p : Self) → lists Self.eq ps.items p ≡ true) }
         ensures distinct { IfOk result (λ ps. IsDistinct Self.eq ps.items) };
 

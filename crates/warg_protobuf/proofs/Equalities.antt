@@ -11,6 +11,8 @@ use Rattle.std.proofs.lemmas.Bool.Decides.{Decides-and, Decides-eqb, Decides-int
 use Rattle.std.proofs.lemmas.Cmp.{nat_eq_equiv}
 use Rattle.std.proofs.lemmas.Slice.Eq.{bytes_eq-Decides, slice_eq-Decides}
 use Rattle.warg_protobuf.specs.DefineNamespace.{define_namespace_view}
+use Rattle.warg_protobuf.specs.Entry.{Member}
+use Rattle.warg_protobuf.specs.Entry as oneof
 use Rattle.warg_protobuf.specs.GrantFlat.{grant_flat_view}
 use Rattle.warg_protobuf.specs.ImportNamespace.{import_namespace_view}
 use Rattle.warg_protobuf.specs.Init.{init_view}
@@ -109,6 +111,33 @@ pub import_decided : (a b : OperatorImportNamespace) → Decides ((imports.ghost
 import_decided a b =
     Decides-like _ (λ h i. record { namespace = h.0 i; registry = h.1 i }) (λ h. (λ i. (h i).namespace, λ i. (h i).registry))
     (Decides-and _ _ (texts_decided a.namespace b.namespace) (texts_decided a.registry b.registry))
+
+-- the members of an entry's oneof
+module _ {F G : Type 0} where
+  abbrev pub case_of : Member F G → ℕ
+  case_of (oneof.Init m) = 0
+  case_of (oneof.GrantFlat m) = 1
+  case_of (oneof.RevokeFlat m) = 2
+  case_of (oneof.FirstOwn m) = 3
+  case_of (oneof.SecondOwn m) = 4
+
+  abbrev begun : Init → Member F G
+  begun m = oneof.Init (init_view m)
+
+  abbrev granted : GrantFlat → Member F G
+  granted m = oneof.GrantFlat (grant_flat_view m)
+
+  abbrev revoked : RevokeFlat → Member F G
+  revoked m = oneof.RevokeFlat (revoke_flat_view m)
+
+  pub begun_decided : (m n : Init) → Decides ((inits.ghosts).eq m n) (begun m ≡ begun n)
+  begun_decided m n = Decides-like _ (λ h i. oneof.Init (h i)) (λ (h : begun m ≡ begun n). cc) (init_decided m n)
+
+  pub granted_decided : (m n : GrantFlat) → Decides ((grants.ghosts).eq m n) (granted m ≡ granted n)
+  granted_decided m n = Decides-like _ (λ h i. oneof.GrantFlat (h i)) (λ (h : granted m ≡ granted n). cc) (grant_decided m n)
+
+  pub revoked_decided : (m n : RevokeFlat) → Decides ((revocations.ghosts).eq m n) (revoked m ≡ revoked n)
+  revoked_decided m n = Decides-like _ (λ h i. oneof.RevokeFlat (h i)) (λ (h : revoked m ≡ revoked n). cc) (revocation_decided m n)
 
 -- records, by a test of what holds their entries
 abbrev same_text : String Global → String Global → Bool

@@ -10,7 +10,7 @@ use Rattle.warg_protobuf.specs.declared.shape.TwoTexts.{TwoTexts}
 use Rattle.warg_protobuf.specs.declared.shape.TextAndNumbers.{TextAndNumbers}
 use Rattle.warg_protobuf.specs.declared.timestamp.TimestampDraft.{TimestampDraft}
 use Rattle.warg_protobuf.specs.Field.{Payload, Number, Eight, Bytes, Four, Field}
-use Rattle.warg_protobuf.specs.Table.{Table, End, MessageAt}
+use Rattle.warg_protobuf.specs.Table.{Table}
 use Rattle.warg_protobuf.specs.Reading.{◌>>=◌, fields_of}
 use Rattle.warg_protobuf.specs.Shapes.{two_texts, text_and_numbers}
 use Rattle.warg_protobuf.specs.Init.{InitValue}
@@ -20,10 +20,10 @@ use Rattle.warg_protobuf.specs.Yank.{YankValue}
 use Rattle.warg_protobuf.specs.DefineNamespace.{DefineNamespaceValue}
 use Rattle.warg_protobuf.specs.GrantFlat.{GrantFlatValue}
 use Rattle.warg_protobuf.specs.RevokeFlat.{RevokeFlatValue}
+use Rattle.warg_protobuf.specs.Entry.{Member}
+use Rattle.warg_protobuf.specs.Entry as message
 use Rattle.warg_protobuf.specs.PackageEntry.{PackageMember}
-use Rattle.warg_protobuf.specs.PackageEntry as in_package
 use Rattle.warg_protobuf.specs.OperatorEntry.{OperatorMember}
-use Rattle.warg_protobuf.specs.OperatorEntry as in_operator
 use Rattle.warg_protobuf.specs.Envelope.{EnvelopeValue}
 use Rattle.warg_protobuf.specs.Record.{RecordValue}
 use Rattle.warg_protobuf.specs.Views.{option_view}
@@ -179,10 +179,6 @@ abbrev pub second_own_so_far : {F G : Type 0} → G → MemberKept F G → G
 second_own_so_far empty (SecondOwn t) = t
 second_own_so_far empty _ = empty
 
--- the fields that an entry knows: the five members of its oneof
-abbrev pub entry_table : Table → Table → Table
-entry_table first_own second_own = MessageAt 1 two_texts (MessageAt 2 text_and_numbers (MessageAt 3 text_and_numbers (MessageAt 4 first_own (MessageAt 5 second_own End))))
-
 module _ {F G : Type 0} (first_own : Table) (first_own_with : F → Field → F) (no_first_own : F) (second_own : Table) (second_own_with : G → Field → G) (no_second_own : G) where
   -- what the bytes of one more field make of the member: its run goes on, another's begins, or nothing changes
   abbrev pub member_bytes : MemberKept F G → ℕ → List ℕ → MemberKept F G
@@ -296,23 +292,22 @@ grant_flat_made k = record { key = k.text; permissions = k.numbers }
 abbrev pub revoke_flat_made : TextAndNumbersKept → RevokeFlatValue
 revoke_flat_made k = record { key_id = k.text; permissions = k.numbers }
 
+-- the entry of what is kept, by what is made of its kind's own
+abbrev pub entry_made : {F G A B : Type 0} → (F → A) → (G → B) → MemberKept F G → Option (Member A B)
+entry_made first_made second_made Absent = None
+entry_made first_made second_made (Init k) = Some (message.Init (init_made k))
+entry_made first_made second_made (GrantFlat k) = Some (message.GrantFlat (grant_flat_made k))
+entry_made first_made second_made (RevokeFlat k) = Some (message.RevokeFlat (revoke_flat_made k))
+entry_made first_made second_made (FirstOwn k) = Some (message.FirstOwn (first_made k))
+entry_made first_made second_made (SecondOwn k) = Some (message.SecondOwn (second_made k))
+
 -- the entry of a package log, of what is kept
 abbrev pub package_entry_made : MemberKept TwoTextsKept OneTextKept → Option PackageMember
-package_entry_made Absent = None
-package_entry_made (Init k) = Some (in_package.Init (init_made k))
-package_entry_made (GrantFlat k) = Some (in_package.GrantFlat (grant_flat_made k))
-package_entry_made (RevokeFlat k) = Some (in_package.RevokeFlat (revoke_flat_made k))
-package_entry_made (FirstOwn k) = Some (in_package.Release (release_made k))
-package_entry_made (SecondOwn k) = Some (in_package.Yank (yank_made k))
+package_entry_made k = entry_made release_made yank_made k
 
 -- the entry of an operator log, of what is kept
 abbrev pub operator_entry_made : MemberKept OneTextKept TwoTextsKept → Option OperatorMember
-operator_entry_made Absent = None
-operator_entry_made (Init k) = Some (in_operator.Init (init_made k))
-operator_entry_made (GrantFlat k) = Some (in_operator.GrantFlat (grant_flat_made k))
-operator_entry_made (RevokeFlat k) = Some (in_operator.RevokeFlat (revoke_flat_made k))
-operator_entry_made (FirstOwn k) = Some (in_operator.DefineNamespace (define_namespace_made k))
-operator_entry_made (SecondOwn k) = Some (in_operator.ImportNamespace (import_namespace_made k))
+operator_entry_made k = entry_made define_namespace_made import_namespace_made k
 
 -- the record of what is kept; the version keeps its low 32 bits
 abbrev pub record_made : {H : Type 0} → RecordKept H → RecordValue H

@@ -1,7 +1,8 @@
 //! The oneof of an entry while it is read: the run of the member that came last.
 
 ghost use Rattle.std.specs.Prelude.{◌≡◌};
-ghost use Rattle.warg_protobuf.specs.Drafts.{TwoTextsKept, two_texts_kept, TextAndNumbersKept, text_and_numbers_kept, MemberKept, member_kept, no_member, member_with, entry_table, init_so_far, grant_flat_so_far, revoke_flat_so_far, first_own_so_far, second_own_so_far};
+ghost use Rattle.warg_protobuf.specs.Drafts.{TwoTextsKept, two_texts_kept, TextAndNumbersKept, text_and_numbers_kept, MemberKept, member_kept, no_member, member_with, init_so_far, grant_flat_so_far, revoke_flat_so_far, first_own_so_far, second_own_so_far};
+ghost use Rattle.warg_protobuf.specs.Entry.{entry_table};
 ghost use Rattle.warg_protobuf.specs.Table.{takes};
 
 use crate::draft::{Draft, grown};

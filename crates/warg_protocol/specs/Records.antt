@@ -1,6 +1,6 @@
 -- Records of either kind: their data, the texts of hashes and versions, the ids, the toy scheme, and the faults of reading.
 -- records and entries as plain data
-pub use Rattle.warg_log_records.specs.RecordData.{RecordData, EntryData, SharedEntry}
+pub use Rattle.warg_log_records.specs.RecordData.{RecordData, EntryData, SharedEntry, plain_record}
 -- hashes, the text of one, and of a version by its parts
 pub use Rattle.warg_crypto.specs.declared.hash.AnyHash.{AnyHash}
 pub use Rattle.warg_crypto.specs.HashText.{hash_text, hash_of, IsHashText, algorithm_text}
@@ -18,7 +18,8 @@ pub use Rattle.warg_envelope.specs.FaultNames.{record_fault_name, envelope_fault
 pub use Rattle.warg_log_records.specs.Relations.{ReadsRecord, IsRecord, HasRecordFault}
 pub use Rattle.warg_log_records.specs.OfBytes.{IsOfContent, IsOfEnvelope}
 pub use Rattle.warg_log_records.specs.RecordReading.{record_of}
-pub use Rattle.warg_log_records.specs.WellFormed.{IsReadable, IsWellFormed, IsWellFormedPackageOwnEntry, IsWellFormedOperatorOwnEntry}
+pub use Rattle.warg_log_records.specs.Writing.{record_message}
+pub use Rattle.warg_log_records.specs.WellFormed.{AreAnyEntries, IsReadable, IsWellFormed, IsWellFormedPackageOwnEntry, IsWellFormedOperatorOwnEntry}
 -- permission sets and other lists of distinct items
 pub use Rattle.warg_envelope.specs.Mentions.{distinct}
 -- the content that an entry of a package log releases

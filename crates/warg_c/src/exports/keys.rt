@@ -6,7 +6,7 @@ ghost use Rattle.std.specs.Option.{option_copied};
 ghost use Rattle.std.specs.Str.{IsUtf8};
 ghost use Rattle.warg_c.specs.Keys.{HoldsIs, IsNoPermission, KeyText, with_name, holds_tells, holds_bad};
 ghost use Rattle.warg_c.specs.Keys.{is_permission, key_of, PackageText, OperatorText, permissions_tell};
-ghost use Rattle.warg_c.specs.Keys.{permissions_lack, package_permissions, operator_permissions};
+ghost use Rattle.warg_c.specs.Keys.{permissions_lack, held_names};
 ghost use Rattle.warg_operator_log.specs.State as operators;
 ghost use Rattle.warg_package_log.specs.State as packages;
 ghost use Rattle.warg_c.specs.Logs.{state_of};
@@ -25,8 +25,6 @@ use crate::kept_log::KeptLog;
 use crate::misuse::Misuse;
 use std::alloc::{AllocError, Global};
 use warg_crypto::signing::{KeyID, PublicKey};
-use warg_log_records::operator::Permission as OperatorPermission;
-use warg_log_records::package::Permission as PackagePermission;
 use warg_operator_log::LogState as OperatorState;
 use warg_package_log::LogState as PackageState;
 use warg_permissions::LogPermission;
@@ -112,27 +110,19 @@ fn add(text: &mut Vec<u8>, is_held: bool, name: &str) -> Result<(), AllocError>
     Ok(())
 }
 
-fn package_text(alloc: Global, release: bool, yank: bool) -> Result<Vec<u8>, AllocError>
-    ensures { IfOk result (λ v. v.items ≡ package_permissions release yank) }
+// The names of the permissions that a key id holds, by their numbers.
+fn held_names<L: Validator>(alloc: Global, state: &L, key_id: &KeyID) -> Result<Vec<u8>, AllocError>
+where
+    L::Permission: LogPermission,
+    ensures { IfOk result (λ v. v.items ≡ held_names L.Permission.text_of
+        (L.holds (L.view state.now) key_id.now) L.Permission.listed) }
 {
     let mut text = Vec::new(alloc);
-    add(&mut text, release, "release")?;
-    add(&mut text, yank, "yank")?;
-    Ok(text)
-}
-
-fn operator_text(
-    alloc: Global,
-    commit: bool,
-    define: bool,
-    import: bool,
-) -> Result<Vec<u8>, AllocError>
-    ensures { IfOk result (λ v. v.items ≡ operator_permissions commit define import) }
-{
-    let mut text = Vec::new(alloc);
-    add(&mut text, commit, "commit")?;
-    add(&mut text, define, "defineNamespace")?;
-    add(&mut text, import, "importNamespace")?;
+    let permissions = L::Permission::all(alloc)?;
+    for permission in permissions {
+        let is_held = state.holds(key_id, permission);
+        add(&mut text, is_held, permission.as_text())?;
+    }
     Ok(text)
 }
 
@@ -149,9 +139,7 @@ fn package_permissions(
     let Some(_set) = state.key_permissions(key_id) else {
         return Err(Failure::Absent);
     };
-    let release = state.holds(key_id, PackagePermission::Release);
-    let yank = state.holds(key_id, PackagePermission::Yank);
-    match package_text(alloc, release, yank) {
+    match held_names(alloc, state, key_id) {
         Ok(text) => Ok(text),
         Err(_) => Err(Failure::OutOfMemory),
     }
@@ -170,10 +158,7 @@ fn operator_permissions(
     let Some(_set) = state.key_permissions(key_id) else {
         return Err(Failure::Absent);
     };
-    let commit = state.holds(key_id, OperatorPermission::Commit);
-    let define = state.holds(key_id, OperatorPermission::DefineNamespace);
-    let import = state.holds(key_id, OperatorPermission::ImportNamespace);
-    match operator_text(alloc, commit, define, import) {
+    match held_names(alloc, state, key_id) {
         Ok(text) => Ok(text),
         Err(_) => Err(Failure::OutOfMemory),
     }

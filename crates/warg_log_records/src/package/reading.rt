@@ -1,19 +1,17 @@
 //! Reading records of package logs from their messages.
 
-ghost use Rattle.std.specs.Prelude.{◌≡◌, ◌↔◌, Option, IsTrue};
+ghost use Rattle.std.specs.Prelude.{◌≡◌, ◌↔◌, IsTrue};
 ghost use Rattle.semver.specs.Parse.{memory_error};
 ghost use Rattle.semver.specs.Identifiers.{parts_of};
 ghost use Rattle.warg_protobuf.specs.Release.{release_view};
 ghost use Rattle.warg_protobuf.specs.Yank.{yank_view};
-ghost use Rattle.warg_protobuf.specs.PackageEntry.{PackageMember, package_entry_view, package_entry_table, package_entry_from};
+ghost use Rattle.warg_protobuf.specs.PackageEntry.{package_entry_view};
 ghost use Rattle.warg_protobuf.specs.PackageRecord.{package_record_view};
 ghost use Rattle.warg_envelope.specs.Faults.{fault_of, IsReading};
-ghost use Rattle.warg_log_records.specs.PackageEntries.{PackageOwnEntry, entry_data, record_data};
+ghost use Rattle.warg_log_records.specs.PackageEntries.{entry_data, record_data};
 ghost use Rattle.warg_log_records.specs.PackageReading.{package_entry_of, release_of, version_of, yank_of};
 ghost use Rattle.warg_log_records.specs.RecordReading.{own_entry, record_of};
-ghost use Rattle.warg_permissions.specs.declared.package.Permission.{Permission};
 
-use crate::entries::FromMessage;
 use crate::log_record::LogRecord;
 use crate::package::{PackageEntry, PackageRecord, Permission};
 use crate::reading::{read_grant, read_init, read_revoke};
@@ -23,9 +21,8 @@ use std::str::FromStr;
 use warg_crypto::DecodeError;
 use warg_crypto::hash::AnyHash;
 use warg_protobuf as message;
-use warg_protobuf::laws::fields_give_values;
 use warg_protobuf::package_entry::Contents;
-use warg_protobuf::{Message, PackageRelease, PackageYank, WireError};
+use warg_protobuf::{PackageRelease, PackageYank};
 
 // Whether parsing a version found no memory.
 fn is_memory_error(error: semver::Error) -> bool
@@ -64,29 +61,15 @@ fn read_yank(alloc: Global, message: PackageYank) -> Result<PackageEntry, Decode
     Ok(PackageEntry::Yank { version })
 }
 
-impl FromMessage for PackageEntry {
-    type Message = message::PackageEntry;
-
-    ghost MessageView = { Option PackageMember };
-
-    ghost message_view = { package_entry_view };
-
-    ghost Permission = { Permission };
-
-    ghost Own = { PackageOwnEntry };
-
-    ghost plain = { entry_data };
-
-    ghost table = { package_entry_table };
-
-    ghost message_view_from = { package_entry_from };
-
-    ghost read = { package_entry_of };
-
-    fn from_message(
+impl PackageEntry {
+    /// The entry that a message says, or its first fault.
+    pub fn from_proto(
         alloc: Global,
         message: message::PackageEntry,
-    ) -> Result<PackageEntry, DecodeError> {
+    ) -> Result<PackageEntry, DecodeError>
+        ensures { IsReading entry_data fault_of (package_entry_of (package_entry_view message))
+            result }
+    {
         let Some(contents) = message.contents else {
             return Err(DecodeError::EmptyEntry);
         };
@@ -112,27 +95,6 @@ impl FromMessage for PackageEntry {
             Contents::Release(release) => read_release(alloc, release),
             Contents::Yank(yank) => read_yank(alloc, yank),
         }
-    }
-
-    fn decode_message(alloc: Global, bytes: &[u8]) -> Result<message::PackageEntry, WireError> {
-        message::PackageEntry::decode(alloc, bytes)
-    }
-
-    fn laws() {
-        fields_give_values::<message::PackageEntry>();
-    }
-}
-
-impl PackageEntry {
-    /// The entry that a message says, or its first fault.
-    pub fn from_proto(
-        alloc: Global,
-        message: message::PackageEntry,
-    ) -> Result<PackageEntry, DecodeError>
-        ensures { IsReading entry_data fault_of (package_entry_of (package_entry_view message))
-            result }
-    {
-        PackageEntry::from_message(alloc, message)
     }
 }
 

@@ -1,9 +1,0 @@
-use Rattle.std.proofs.Common.{ap}
-use Rattle.warg_log_records.specs.PackageEntries.{entry_data}
-use Rattle.warg_log_records.proofs.Views.{map-clones}
-use Rattle.warg_log_records.proofs.package.PackageRecordRecord.try_clone.Goals as goal
-
-pub returns : goal.returns
-returns c =
-    let copies = map-clones entry_data c.args.self.now.entries.items c.in_ok-clone.field-0.items c.in_ok-clone.ensures.cases.0 in
-    ap (λ es. record { prev = c.args.self.now.prev; version = c.args.self.now.version; time = c.args.self.now.timestamp; entries = es }) copies
