@@ -16,7 +16,7 @@ class Span(NamedTuple):
     name: str
 
 
-class EditFault(Exception):
+class EditError(Exception):
     """Why an edit does not apply."""
 
 
@@ -63,17 +63,17 @@ class Edit:
     def made(self, folder: str) -> dict[str, str]:
         """The crate's files that the edit changes, as it makes them."""
         if not self.pairs:
-            raise EditFault("it changes nothing")
+            raise EditError("it changes nothing")
         texts: dict[str, str] = {}
         self.places = []
         for file, old, new in self.pairs:
             if file not in texts:
                 if not os.path.isfile(f"{folder}/{file}"):
-                    raise EditFault(f"there is no file {file}")
+                    raise EditError(f"there is no file {file}")
                 texts[file] = read(f"{folder}/{file}")
             text = texts[file]
             if text.count(old) != 1:
-                raise EditFault(f"{file} has {text.count(old)} times: {old}")
+                raise EditError(f"{file} has {text.count(old)} times: {old}")
             self.places.append((file, text, text.find(old)))
             texts[file] = text.replace(old, new)
         return texts
@@ -91,7 +91,7 @@ class Edit:
         """Writes the edit into the crate, if it applies."""
         try:
             texts = self.made(folder)
-        except EditFault:
+        except EditError:
             return False
         for file, text in texts.items():
             write(f"{folder}/{file}", text)
@@ -114,10 +114,10 @@ class Edit:
             return
         *path, name = self.function.split("::")[1:]
         if self.span and self.span.name != name:
-            raise EditFault(f"its lines stand in the function {self.span.name}")
+            raise EditError(f"its lines stand in the function {self.span.name}")
         files = {file for file, _, _ in self.pairs} | {home_of(folder, path)}
         if not any(has_function(f"{folder}/{file}", name) for file in files):
-            raise EditFault(f"no function {name} stands in {' or '.join(sorted(files))}")
+            raise EditError(f"no function {name} stands in {' or '.join(sorted(files))}")
 
 
 def home_of(folder: str, path: list[str]) -> str:

@@ -3,7 +3,7 @@
 import pathlib
 import sys
 
-from weoldrin import Kind, audit_many, processes
+from weoldrin import LogKind, audit_many, processes
 
 
 def main() -> int:
@@ -11,10 +11,10 @@ def main() -> int:
     folder, way, workers = sys.argv[1:]
     paths = sorted(pathlib.Path(folder).glob("*.hex"))
     if way == "threads":
-        verdicts = audit_many(paths, Kind.PACKAGE, workers=int(workers))
+        verdicts = audit_many(paths, LogKind.PACKAGE, workers=int(workers))
     else:
         with processes(int(workers)) as executor:
-            verdicts = audit_many(paths, Kind.PACKAGE, executor=executor)
+            verdicts = audit_many(paths, LogKind.PACKAGE, executor=executor)
     return 0 if all(it.accepted for it in verdicts) else 1
 
 

@@ -9,10 +9,10 @@ import hashlib
 import sys
 import time
 
-from weoldrin import PackageLog, Question
+from weoldrin import PackageLog, SignatureCheck
 
 
-def verify(question: Question) -> bool:
+def verify(question: SignatureCheck) -> bool:
     """A key is the bytes of a name, a signature the SHA-256 of these and the message."""
     key, signature = question.key.removeprefix("toy:"), question.signature.removeprefix("toy:")
     return base64.b64decode(signature) == hashlib.sha256(base64.b64decode(key) + question.message).digest()

@@ -7,13 +7,13 @@ import sys
 import time
 from collections.abc import Iterator
 
-from weoldrin import Kind, PackageLog, p256, print_lines, records
+from weoldrin import LogKind, PackageLog, p256, print_lines, records
 
 
 def publish(log: PackageLog, signer: p256.SigningKey, entries: list[bytes]) -> bytes:
     """Signs a record that goes on from the log, and appends it."""
     contents = records.contents(log.head(), time.time_ns(), entries)
-    envelope = records.signed(Kind.PACKAGE, contents, signer.public_key, signer.sign)
+    envelope = records.signed(LogKind.PACKAGE, contents, signer.public_key, signer.sign)
     log.append(envelope)
     return envelope
 
@@ -22,7 +22,7 @@ def published(count: int) -> Iterator[bytes]:
     """The envelopes of a new log: alice begins it and lets bob release; bob then releases a version a record."""
     alice, bob = p256.SigningKey.generate(), p256.SigningKey.generate()
     with PackageLog() as log:
-        beginning = [records.init(alice.public_key), records.grant(Kind.PACKAGE, bob.public_key, ["release"])]
+        beginning = [records.init(alice.public_key), records.grant(LogKind.PACKAGE, bob.public_key, ["release"])]
         yield publish(log, alice, beginning)
         for minor in range(1, count):
             content = records.sha256_text(f"content {minor}".encode())

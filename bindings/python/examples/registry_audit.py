@@ -23,7 +23,7 @@ from collections.abc import Iterator
 from concurrent.futures import Executor, ThreadPoolExecutor
 from typing import NoReturn
 
-from weoldrin import Kind, NewRecords, audit_new, print_lines, printable, processes
+from weoldrin import LogKind, NewRecords, audit_new, print_lines, printable, processes
 
 # So many files are one task, so that handing out takes less time than auditing.
 FILES = 100
@@ -31,7 +31,7 @@ FILES = 100
 
 def audit_files(paths: list[str], allow_empty: bool) -> list[NewRecords]:
     """Audits some packages."""
-    return [audit_new(it, Kind.PACKAGE, allow_empty=allow_empty) for it in paths]
+    return [audit_new(it, LogKind.PACKAGE, allow_empty=allow_empty) for it in paths]
 
 
 @contextlib.contextmanager

@@ -11,8 +11,8 @@ from typing import Any
 from weoldrin import (
     BadArgument,
     Error,
-    Kind,
     Log,
+    LogKind,
     NoEnvelope,
     OperatorLog,
     PackageLog,
@@ -53,7 +53,7 @@ def _time(timestamp: int) -> str:
     return f"{seconds}.{nanos}"
 
 
-def _entry(kind: Kind, text: str) -> bytes:
+def _entry(kind: LogKind, text: str) -> bytes:
     verb, subject, rest = (*text.split(" ", 2), "", "")[:3]
     match verb:
         case "init":
@@ -73,7 +73,7 @@ def _entry(kind: Kind, text: str) -> bytes:
     raise ValueError(f"a strange entry: {text}")
 
 
-def envelope_of(kind: Kind, text: str, prev: str | None) -> bytes:
+def envelope_of(kind: LogKind, text: str, prev: str | None) -> bytes:
     """The envelope that a line says, in a log whose last record has the id `prev`."""
     if ":" not in text:
         return bytes.fromhex(text)
@@ -102,7 +102,7 @@ def append(log: Log, envelope: bytes) -> Error | None:
     return None
 
 
-def answers(error: Error, wanted: str, sentences: Sentences, kind: Kind) -> bool:
+def answers(error: Error, wanted: str, sentences: Sentences, kind: LogKind) -> bool:
     """Whether an error is the cause that a row wants: its name, and the whole sentence."""
     case, *fields = words_of(wanted)
     if case == "Parse":
@@ -119,13 +119,13 @@ class Player:
     """A script on the way: a log that keeps its records, the state, which may have been saved and read back, and what
     was put aside."""
 
-    def __init__(self, kind: Kind, sentences: Sentences) -> None:
+    def __init__(self, kind: LogKind, sentences: Sentences) -> None:
         self.kind, self.sentences = kind, sentences
         self.failures: list[str] = []
         self.rows = 0
         self.left_out: Counter[str] = Counter()
         self.aside: tuple[Log | None, Log] | None = None
-        self.refusal: tuple[Line, Error] | None = None
+        self.error: tuple[Line, Error] | None = None
         self._begin()
 
     def _begin(self) -> None:
@@ -148,9 +148,9 @@ class Player:
         text = line.text
         if text.startswith("! "):
             self.rows += 1
-            refusal, self.refusal = self.refusal, None
-            if refusal is None or not answers(refusal[1], text[2:], self.sentences, self.kind):
-                self._fail(line, refusal)
+            run_error, self.error = self.error, None
+            if run_error is None or not answers(run_error[1], text[2:], self.sentences, self.kind):
+                self._fail(line, run_error)
             return
         self._unnamed()
         if text.startswith("? "):
@@ -190,12 +190,12 @@ class Player:
             if self.state.head() != record_id(self.kind, envelope):
                 self._fail(line, "the head is not the record's id")
         else:
-            self.refusal = (line, error)
+            self.error = (line, error)
 
     def _unnamed(self) -> None:
-        if self.refusal is not None:
-            line, error = self.refusal
-            self.refusal = None
+        if self.error is not None:
+            line, error = self.error
+            self.error = None
             self._fail(line, error)
 
     def _check_again(self) -> None:
@@ -348,7 +348,7 @@ def _namespace(log: OperatorLog, name: str) -> str:
     return "defined" if state.imported_from is None else f"imported from {state.imported_from}"
 
 
-def run_envelopes(kind: Kind, lines: list[str]) -> Iterator[bytes]:
+def run_envelopes(kind: LogKind, lines: list[str]) -> Iterator[bytes]:
     """The envelopes of a run: a record names the one before it, whether that is lawful or not."""
     last, before = None, b""
     for line in lines:

@@ -1,6 +1,6 @@
 """Logs that are signed by keys of P-256, for the tests."""
 
-from weoldrin import Kind, Log, OperatorLog, PackageLog, p256, records
+from weoldrin import Log, LogKind, OperatorLog, PackageLog, p256, records
 
 Key = p256.SigningKey
 START = 1_700_000_000_000_000_000
@@ -14,7 +14,7 @@ def record(log: Log, signer: Key, entries: list[bytes], timestamp: int = START, 
 
 def beginning(log: Log, alice: Key, bob: Key) -> bytes:
     """The first record of a log of a package: alice begins it, and lets bob release."""
-    entries = [records.init(alice.public_key), records.grant(Kind.PACKAGE, bob.public_key, ["release"])]
+    entries = [records.init(alice.public_key), records.grant(LogKind.PACKAGE, bob.public_key, ["release"])]
     return record(log, alice, entries)
 
 

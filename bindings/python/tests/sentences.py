@@ -1,4 +1,4 @@
-"""What refusals say, by the rows of conformance/logs/refusals.rows."""
+"""What errors say, by the rows of conformance/logs/errors.rows."""
 
 import pathlib
 import re
@@ -66,6 +66,6 @@ class Sentences:
         return re.fullmatch(form, sentence, re.DOTALL) is not None
 
     def not_compared(self) -> list[str]:
-        """The cases of refusals of both kinds, and of envelopes, whose sentence was not compared."""
+        """The cases of errors of both kinds, and of envelopes, whose sentence was not compared."""
         cases = [it for it in self._forms if it[0] in ("package", "operator", "envelope")]
         return [" ".join(it) for it in cases if it not in self.compared]

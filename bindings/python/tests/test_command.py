@@ -8,7 +8,19 @@ import sys
 import tempfile
 import unittest
 
-from weoldrin import Kind, PackageLog, Refusal, Refused, Verdict, audit, audit_many, audit_new, p256, processes, records
+from weoldrin import (
+    LogKind,
+    PackageLog,
+    Refused,
+    RunError,
+    Verdict,
+    audit,
+    audit_many,
+    audit_new,
+    p256,
+    processes,
+    records,
+)
 
 from . import published, toy
 
@@ -100,11 +112,11 @@ class Command(unittest.TestCase):
         self.assertIn(stranger, caught.exception.sentence)
         shown = "x\\u{1b}[1A\\u{d}/srv/other: ok 9 sha256:00\\u{a}of\\u{2028}\\u{2066}\\\\\\u{85}"
         self.assertIn(shown, str(caught.exception))
-        first = records.signed(Kind.PACKAGE, contents, "toy:YQ==", lambda _: "toy:YQ==")
+        first = records.signed(LogKind.PACKAGE, contents, "toy:YQ==", lambda _: "toy:YQ==")
         hostile = self._log("hostile", [first.hex(), forged.hex()])
-        verdict = audit(hostile, Kind.PACKAGE, lambda _: True)
-        assert verdict.refusal is not None
-        self.assertIn(stranger, verdict.refusal.sentence)
+        verdict = audit(hostile, LogKind.PACKAGE, lambda _: True)
+        assert verdict.error is not None
+        self.assertIn(stranger, verdict.error.sentence)
         self.assertIn(shown, str(verdict))
         self.assertNotIn("\n", str(verdict))
         begun = self._log("begun", [forged.hex()])
@@ -168,17 +180,17 @@ class Command(unittest.TestCase):
         paths = [self._good(f"log{place}") for place in range(20)]
         wanted = [f"{path}: ok 5" for path in paths]
         with processes(2) as executor:
-            by_processes = audit_many(paths, Kind.PACKAGE, p256.verify, executor=executor)
-        by_cryptography = audit_many(paths, Kind.PACKAGE, p256.verify_by_cryptography, 4)
-        for verdicts in (audit_many(paths, Kind.PACKAGE), by_cryptography, by_processes):
+            by_processes = audit_many(paths, LogKind.PACKAGE, p256.verify, executor=executor)
+        by_cryptography = audit_many(paths, LogKind.PACKAGE, p256.verify_by_cryptography, 4)
+        for verdicts in (audit_many(paths, LogKind.PACKAGE), by_cryptography, by_processes):
             self.assertEqual([str(it).rpartition(" ")[0] for it in verdicts], wanted)
-        self.assertEqual(audit_many([], Kind.PACKAGE), [])
+        self.assertEqual(audit_many([], LogKind.PACKAGE), [])
 
     @unittest.skipUnless(EXAMPLES.is_dir(), "there are no examples here")
     def test_examples(self) -> None:
         """The program's examples have the program's answers."""
         for path in sorted(EXAMPLES.glob("[po]*.hex")):
-            kind = Kind[path.name.partition("_")[0].upper()]
+            kind = LogKind[path.name.partition("_")[0].upper()]
             wanted = path.with_suffix(".out").read_text(encoding="ascii").split("\n")[0]
             verdict = audit(path, kind, toy.verify, allow_empty=True)
             if wanted.startswith("bad line"):
@@ -190,8 +202,8 @@ class Command(unittest.TestCase):
 
 def _printed(verdict: Verdict) -> str:
     """The first line that warg_audit prints."""
-    match verdict.refusal:
-        case Refusal(place, name, _):
+    match verdict.error:
+        case RunError(place, name, _):
             return f"refused {place} {name}"
     return f"ok {verdict.records} {verdict.head or 'none'}"
 

@@ -13,11 +13,11 @@ from weoldrin import (
     BadArgument,
     BadLine,
     Error,
-    Kind,
+    LogKind,
     NoEnvelope,
     OperatorLog,
     PackageLog,
-    Refusal,
+    RunError,
     append_all,
     log_of,
     record_id,
@@ -37,7 +37,7 @@ OTHER_TOPICS = {
     "saved": "a part of a saved state: the library reads whole states",
     "audit": "other words of the program than the two audits and the two ids",
 }
-# The refusals that no log shows: there is one hash algorithm, want of memory has a status of its own, and any other
+# The errors that no log shows: there is one hash algorithm, want of memory has a status of its own, and any other
 # entry of operators than an init asks for a permission first.
 NEVER_SHOWN = {
     "package IncorrectHashAlgorithm",
@@ -90,7 +90,7 @@ class Conformance(unittest.TestCase):
         if topic in ("refusal", "newest-version") or (topic == "saved" and kind not in LOGS):
             self.left_out[OTHER_TOPICS[topic]] += 1
         elif topic == "log":
-            player = Player(Kind[kind.upper()], self.sentences)
+            player = Player(LogKind[kind.upper()], self.sentences)
             player.play(block)
             self.played += player.rows
             self.left_out += player.left_out
@@ -98,7 +98,7 @@ class Conformance(unittest.TestCase):
         elif topic == "audit":
             self._program(name, block, words)
         elif topic == "run":
-            self._run(name, block, Kind[kind.upper()])
+            self._run(name, block, LogKind[kind.upper()])
         elif topic == "saved":
             self._saved(name, block, kind)
         else:
@@ -117,7 +117,7 @@ class Conformance(unittest.TestCase):
         if seen != row.wanted:
             self._fail(name, block, seen)
 
-    def _run(self, name: str, block: Block, kind: Kind) -> None:
+    def _run(self, name: str, block: Block, kind: LogKind) -> None:
         strings = [it.text for it in block.lines if it.text[:2] not in ("! ", "? ")]
         with log_of(kind) as log:
             refused: tuple[int, Error] | None = None
@@ -159,14 +159,14 @@ class Conformance(unittest.TestCase):
                 given = given.replace(part, text)
             answer = identified if words[0] == "id" else audited
             try:
-                status, printed, refusal = answer(Kind[words[-1].upper()], given.encode())
+                status, printed, run_error = answer(LogKind[words[-1].upper()], given.encode())
             except LeftOut as why:
                 self.left_out[str(why)] += 1
                 continue
             self.played += 1
-            is_told = refusal is None or self.sentences.is_told_by_name(words[-1], refusal.name, refusal.sentence)
+            is_told = run_error is None or self.sentences.is_told_by_name(words[-1], run_error.name, run_error.sentence)
             if f"= {status} {quoted(printed)}" != row.wanted or not is_told:
-                self._fail(name, block, f"{line.number}: {status} {printed} {refusal}")
+                self._fail(name, block, f"{line.number}: {status} {printed} {run_error}")
 
 
 def strings_of(given: bytes) -> Iterator[bytes]:
@@ -178,22 +178,22 @@ def strings_of(given: bytes) -> Iterator[bytes]:
             raise BadLine(place, place + 1) from None
 
 
-def audited(kind: Kind, given: bytes) -> tuple[int, str, Refusal | None]:
+def audited(kind: LogKind, given: bytes) -> tuple[int, str, RunError | None]:
     """The status and the text of an audit of lines, and why a record is refused."""
     try:
         envelopes = list(strings_of(given))
     except BadLine as error:
         return 2, f"{error}\n", None
     with log_of(kind) as log:
-        taken, refusal = append_all(log, envelopes, toy.verify)
-        if refusal is not None:
-            return 1, f"refused {refusal.place} {refusal.name}\n", refusal
+        taken, run_error = append_all(log, envelopes, toy.verify)
+        if run_error is not None:
+            return 1, f"refused {run_error.place} {run_error.name}\n", run_error
         releases = log.releases() if isinstance(log, PackageLog) else iter(())
         told = [f"{it.version} {'yanked' if it.yanked else f'released {it.content}'}\n" for it in releases]
         return 0, f"ok {taken} {log.head() or 'none'}\n" + "".join(told), None
 
 
-def identified(kind: Kind, given: bytes) -> tuple[int, str, Refusal | None]:
+def identified(kind: LogKind, given: bytes) -> tuple[int, str, RunError | None]:
     """The same of the id of the one record that there is a line of."""
     try:
         envelopes = list(itertools.islice(strings_of(given), 2))
@@ -206,7 +206,7 @@ def identified(kind: Kind, given: bytes) -> tuple[int, str, Refusal | None]:
     except NoEnvelope as error:
         if not error.name.startswith("ProtobufEnvelope."):
             raise LeftOut("the id of contents that are no record: the library gives those of records alone") from None
-        return 1, f"refused 0 {error.name}\n", Refusal(0, error.name, error.sentence)
+        return 1, f"refused 0 {error.name}\n", RunError(0, error.name, error.sentence)
 
 
 if __name__ == "__main__":

@@ -5,7 +5,7 @@ import functools
 import unittest
 from collections.abc import Callable
 
-from weoldrin import PackageLog, Question, Refused, p256, records
+from weoldrin import PackageLog, Refused, SignatureCheck, p256, records
 
 from . import published
 
@@ -30,7 +30,7 @@ class Forgeries(unittest.TestCase):
         for verify in (None, p256.verify, p256.verify_by_cryptography):
             self._refused("SignatureError", functools.partial(self.log.append, envelope, verify))
 
-    def _misanswered(self, name: str, envelope: bytes, question: Question) -> None:
+    def _misanswered(self, name: str, envelope: bytes, question: SignatureCheck) -> None:
         """It is refused where this question was answered by yes."""
         self._refused(name, lambda: self.log.append_answered(envelope, question, True))
 
@@ -58,7 +58,9 @@ class Forgeries(unittest.TestCase):
                 signed = signer.sign(records.message(self.log.KIND, other))
                 asked = self.log.ask(records.envelope(other, key_id, signed))
                 self._misanswered("SignatureError", envelope, asked)
-                self._misanswered("SignatureError", envelope, Question(self.mallory.public_key, message, signature))
+                self._misanswered(
+                    "SignatureError", envelope, SignatureCheck(self.mallory.public_key, message, signature)
+                )
                 question = self.log.ask(envelope)
                 self.assertEqual(question, (signer.public_key, message, signature))
                 if place % 2:
@@ -88,7 +90,7 @@ class Texts(unittest.TestCase):
         self.signature = self.key.sign(self.message)
 
     def _verified(self, key: str, signature: str) -> bool:
-        question = Question(key, self.message, signature)
+        question = SignatureCheck(key, self.message, signature)
         answer = p256.verify(question)
         self.assertEqual(p256.verify_by_cryptography(question), answer)
         return answer

@@ -10,15 +10,15 @@ from collections.abc import Callable
 from weoldrin import (
     BadArgument,
     Comparison,
-    Kind,
     Link,
+    LogKind,
     NoEnvelope,
     NotOpen,
     OperatorLog,
     PackageLog,
-    Question,
     Refused,
     Relation,
+    SignatureCheck,
     library_version,
     p256,
     record_id,
@@ -46,24 +46,26 @@ class Packages(unittest.TestCase):
         self.assertEqual(len(self.log), 4)
         self.assertTrue(PackageLog())
         self.assertEqual([it.envelope for it in self.log.records()], self.envelopes)
-        self.assertEqual([it.id for it in self.log.records()], [record_id(Kind.PACKAGE, it) for it in self.envelopes])
-        self.assertEqual(self.log.head(), record_id(Kind.PACKAGE, self.envelopes[-1]))
-        self.assertNotEqual(self.log.head(), record_id(Kind.OPERATOR, self.envelopes[-1]))
+        self.assertEqual(
+            [it.id for it in self.log.records()], [record_id(LogKind.PACKAGE, it) for it in self.envelopes]
+        )
+        self.assertEqual(self.log.head(), record_id(LogKind.PACKAGE, self.envelopes[-1]))
+        self.assertNotEqual(self.log.head(), record_id(LogKind.OPERATOR, self.envelopes[-1]))
         for place in (4, 2**64 - 1, 2**64, 2**64 + 1):
             self.assertIsNone(self.log.record(place))
         self.assertIsNone(PackageLog().head())
         with self.assertRaises(IndexError):
             self.log.record(-1)
         with self.assertRaises(NoEnvelope):
-            record_id(Kind.PACKAGE, b"\x0b")
+            record_id(LogKind.PACKAGE, b"\x0b")
 
     def test_envelopes_are_written_anew(self) -> None:
         envelope = published.release(self.log, self.bob, "1.9.0")
         # A signature of no text, which a later one overrides, and a field of number 15, which no envelope has.
         strange = b"\x1a\x00" + envelope + b"\x78\x01"
         self.log.append(strange)
-        self.assertEqual(self.log.record(4), (envelope, record_id(Kind.PACKAGE, strange)))
-        self.assertEqual(self.log.head(), record_id(Kind.PACKAGE, envelope))
+        self.assertEqual(self.log.record(4), (envelope, record_id(LogKind.PACKAGE, strange)))
+        self.assertEqual(self.log.head(), record_id(LogKind.PACKAGE, envelope))
 
     def test_releases(self) -> None:
         self.assertEqual([it.version for it in self.log.releases()], ["1.1.0", "1.2.0", "1.3.0"])
@@ -72,7 +74,7 @@ class Packages(unittest.TestCase):
         self.assertEqual(found, self.log.release("1.2.0"))
         self.assertEqual((found.by, found.timestamp, found.yanked), (self.bob_id, published.START, False))
         self.assertEqual(found.content, records.sha256_text(b"1.2.0"))
-        self.assertEqual(found.record_id, record_id(Kind.PACKAGE, self.envelopes[2]))
+        self.assertEqual(found.record_id, record_id(LogKind.PACKAGE, self.envelopes[2]))
         self.assertIsNone(self.log.latest(">=2"))
         self.assertIsNone(self.log.release("9.0.0"))
         yank = published.record(self.log, self.alice, [records.yank("1.3.0")], published.START + 1)
@@ -123,7 +125,7 @@ class Packages(unittest.TestCase):
         self.assertEqual(other.compare(self.log), Comparison(Relation.FORK, 2, 2))
         self.assertRaises(BadArgument, self.log.compare, published.operator_log(self.alice))
 
-    def test_refusals(self) -> None:
+    def test_errors(self) -> None:
         with self.assertRaises(NoEnvelope) as none:
             self.log.append(b"\x0b")
         self.assertEqual(none.exception.name, "ProtobufEnvelope.Group")
@@ -183,7 +185,7 @@ class WrongUse(unittest.TestCase):
         calls = [log.head, log.__len__, log.to_json, lambda: log.ask(b""), lambda: log.latest("*")]
         calls += [lambda: log.record(0), lambda: log.append(b"")]
         calls += [lambda: log.compare(PackageLog()), lambda: PackageLog().compare(log), lambda: log.holds("x", "yank")]
-        calls += [lambda: log.append_answered(b"", Question("toy:", b"", "toy:"), True), lambda: log.compare(log)]
+        calls += [lambda: log.append_answered(b"", SignatureCheck("toy:", b"", "toy:"), True), lambda: log.compare(log)]
         for call in calls:
             self.assertRaises(NotOpen, call)
 
@@ -196,7 +198,7 @@ class WrongUse(unittest.TestCase):
     def test_answers_that_are_none(self) -> None:
         log = PackageLog()
         for answer in (1, 0, -1, "no", None, object()):
-            self.assertRaises(TypeError, log.append_answered, b"", Question("toy:", b"", "toy:"), answer)
+            self.assertRaises(TypeError, log.append_answered, b"", SignatureCheck("toy:", b"", "toy:"), answer)
 
     def test_texts(self) -> None:
         log = PackageLog()
@@ -204,7 +206,7 @@ class WrongUse(unittest.TestCase):
             self.assertRaises(BadArgument, log.latest, requirement)
         self.assertRaises(BadArgument, log.release, "1.0")
         self.assertRaises(UnicodeEncodeError, log.latest, "\ud800")
-        self.assertRaises(BadArgument, log.append_answered, b"", Question("no colon", b"", "toy:"), True)
+        self.assertRaises(BadArgument, log.append_answered, b"", SignatureCheck("no colon", b"", "toy:"), True)
         self.assertRaises(TypeError, log.ask, "text")
         self.assertRaises(BadArgument, log.holds, "x", "commit")
 

@@ -18,13 +18,13 @@ from weoldrin import (
     BadLine,
     Empty,
     Fault,
-    Kind,
+    LogKind,
     Missing,
     NewRecords,
     PackageLog,
-    Question,
     Rewritten,
     RolledBack,
+    SignatureCheck,
     SpoiledState,
     Unfinished,
     Unreadable,
@@ -59,7 +59,7 @@ class Files(unittest.TestCase):
     def _audited(self, *lines: str, allow_empty: bool = False) -> NewRecords:
         """What is found where the file has these lines."""
         self.path.write_text("".join(lines), encoding="ascii", newline="")
-        found = audit_new(self.path, Kind.PACKAGE, allow_empty=allow_empty)
+        found = audit_new(self.path, LogKind.PACKAGE, allow_empty=allow_empty)
         self.assertLessEqual({it.name for it in self.folder.iterdir()}, {"log.hex", "log.hex.state"})
         return found
 
@@ -111,21 +111,21 @@ class Rollbacks(Files):
         self._is_fault(self._audited(allow_empty=True), RolledBack(1, 0))
 
     def test_removed(self) -> None:
-        self._is_fault(audit_new(self.path, Kind.PACKAGE), Missing())
+        self._is_fault(audit_new(self.path, LogKind.PACKAGE), Missing())
         self._audited(*self.lines)
         self.path.unlink()
-        self._is_fault(audit_new(self.path, Kind.PACKAGE), Missing())
-        self.assertEqual(audit_new(self.folder / "none/log.hex", Kind.PACKAGE).fault, Missing())
+        self._is_fault(audit_new(self.path, LogKind.PACKAGE), Missing())
+        self.assertEqual(audit_new(self.folder / "none/log.hex", LogKind.PACKAGE).fault, Missing())
 
     def test_of_other_kinds_of_files(self) -> None:
         self.path.mkdir()
-        found = audit_new(self.path, Kind.PACKAGE)
+        found = audit_new(self.path, LogKind.PACKAGE)
         self.assertIsInstance(found.fault, Unreadable)
         self.path.rmdir()
         # No writer is waited for.
         os.mkfifo(self.path)
-        self._is_fault(audit_new(self.path, Kind.PACKAGE), Unreadable("it is no regular file"))
-        self.assertIsInstance(audit_new("a\0b", Kind.PACKAGE).fault, Unreadable)
+        self._is_fault(audit_new(self.path, LogKind.PACKAGE), Unreadable("it is no regular file"))
+        self.assertIsInstance(audit_new("a\0b", LogKind.PACKAGE).fault, Unreadable)
 
 
 class Lines(Files):
@@ -163,8 +163,8 @@ class Lines(Files):
     def test_refused(self) -> None:
         self._audited(*self.lines[:2])
         found = self._audited(*self.lines[:3], self.lines[1])
-        assert found.refusal is not None
-        self.assertEqual((found.records, found.length, found.refusal.place), (1, 3, 3))
+        assert found.error is not None
+        self.assertEqual((found.records, found.length, found.error.place), (1, 3, 3))
         self.assertIn(": refused 3 RecordHashDoesNotMatch: ", str(found))
         self.assertTrue(self._audited(*self.lines[:2]).accepted)
 
@@ -181,14 +181,14 @@ class States(Files):
         texts = [json.dumps(it) for it in spoiled] + ["", "{", "[" * 100_000, "9" * 100_000, '{"kind":"\u00e9"}']
         for text in texts:
             self.state.write_text(text, encoding="utf-8")
-            found = audit_new(self.path, Kind.PACKAGE)
+            found = audit_new(self.path, LogKind.PACKAGE)
             self.assertEqual((found.records, type(found.fault)), (0, SpoiledState), text[:60])
             self.assertEqual(self.state.read_text(encoding="utf-8"), text)
         self.state.unlink()
-        self.assertEqual(audit_new(self.path, Kind.PACKAGE).records, 6)
+        self.assertEqual(audit_new(self.path, LogKind.PACKAGE).records, 6)
         self.state.unlink()
         self.state.mkdir()
-        self.assertIsInstance(audit_new(self.path, Kind.PACKAGE).fault, SpoiledState)
+        self.assertIsInstance(audit_new(self.path, LogKind.PACKAGE).fault, SpoiledState)
 
     def test_before_1970(self) -> None:
         """A state can't say such a time; the file is audited from its first record, and kept in mind all the same."""
@@ -204,13 +204,13 @@ class States(Files):
         kept = json.loads(self.state.read_text(encoding="ascii"))
         self.state.write_text(json.dumps({**kept, "kind": "OPERATOR"}), encoding="ascii")
         self.path.write_text(f"{first.hex()}\n{second.hex()}\n", encoding="ascii")
-        self.assertIsInstance(audit_new(self.path, Kind.OPERATOR).fault, SpoiledState)
+        self.assertIsInstance(audit_new(self.path, LogKind.OPERATOR).fault, SpoiledState)
 
     def test_unsaved(self) -> None:
         """A folder in the place of the file beside is in the way of root too."""
         self.path.write_text("".join(self.lines), encoding="ascii")
         (self.folder / "log.hex.state.new").mkdir()
-        self._is_fault(audit_new(self.path, Kind.PACKAGE), Unsaved("Is a directory"))
+        self._is_fault(audit_new(self.path, LogKind.PACKAGE), Unsaved("Is a directory"))
 
     def test_full_disk(self) -> None:
         """Where the state can't be written, the old one stays and nothing is left."""
@@ -253,7 +253,7 @@ print(audit_new({str(self.path)!r}, Kind.PACKAGE))
         other = self.folder / "other"
         other.write_text("mine", encoding="ascii")
         (self.folder / "log.hex.state.new").symlink_to(other)
-        self.assertIsInstance(audit_new(self.path, Kind.PACKAGE).fault, Unsaved)
+        self.assertIsInstance(audit_new(self.path, LogKind.PACKAGE).fault, Unsaved)
         self.assertEqual(other.read_text(encoding="ascii"), "mine")
 
     def test_hard_links(self) -> None:
@@ -262,14 +262,14 @@ print(audit_new({str(self.path)!r}, Kind.PACKAGE))
         other.write_text("mine", encoding="ascii")
         beside.hardlink_to(other)
         self.path.write_text("".join(self.lines), encoding="ascii")
-        self._is_fault(audit_new(self.path, Kind.PACKAGE), Unsaved("log.hex.state.new has several hard links"))
+        self._is_fault(audit_new(self.path, LogKind.PACKAGE), Unsaved("log.hex.state.new has several hard links"))
         self.assertEqual(other.read_text(encoding="ascii"), "mine")
         self.assertTrue(beside.samefile(other))
         beside.unlink()
         os.mkfifo(beside)
-        self._is_fault(audit_new(self.path, Kind.PACKAGE), Unsaved("log.hex.state.new is no regular file"))
+        self._is_fault(audit_new(self.path, LogKind.PACKAGE), Unsaved("log.hex.state.new is no regular file"))
         beside.unlink()
-        self.assertTrue(audit_new(self.path, Kind.PACKAGE).accepted)
+        self.assertTrue(audit_new(self.path, LogKind.PACKAGE).accepted)
 
     def test_state_of_another_kind_of_file(self) -> None:
         """No writer of a state is waited for."""
@@ -293,7 +293,7 @@ print(audit_new({str(self.path)!r}, Kind.PACKAGE))
         self.path.write_text("".join(self.lines), encoding="ascii")
         found: list[NewRecords] = []
         threads = [
-            threading.Thread(target=lambda: found.append(audit_new(self.path, Kind.PACKAGE))) for _ in range(8)
+            threading.Thread(target=lambda: found.append(audit_new(self.path, LogKind.PACKAGE))) for _ in range(8)
         ]
         for thread in threads:
             thread.start()
@@ -339,11 +339,11 @@ print(audit_new({str(self.path)!r}, Kind.PACKAGE))
 def _audit_and_stay(path: str) -> None:
     """Audits a file, and never has an answer to the first question."""
 
-    def verify(_: Question) -> bool:
+    def verify(_: SignatureCheck) -> bool:
         time.sleep(600)
         return False
 
-    audit_new(path, Kind.PACKAGE, verify)
+    audit_new(path, LogKind.PACKAGE, verify)
 
 
 if __name__ == "__main__":

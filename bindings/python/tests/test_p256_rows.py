@@ -4,20 +4,20 @@ import pathlib
 import unittest
 
 import weoldrin
-from weoldrin import Question, Verify, p256
+from weoldrin import SignatureCheck, Verify, p256
 
 from .rows import blocks, row_of
 
 ROWS = pathlib.Path(__file__).resolve().parents[3] / "conformance/values/p256.rows"
 
 
-def question_of(row: str) -> Question:
+def question_of(row: str) -> SignatureCheck:
     """What a row's bytes ask."""
     topic, *words = row.split(" ")
     if topic != "p256-verify" or len(words) != 3:
         raise ValueError(f"a strange row: {row}")
     key, message, signature = (b"" if it == "-" else bytes.fromhex(it) for it in words)
-    return Question(p256.text_of(key), message, p256.text_of(signature))
+    return SignatureCheck(p256.text_of(key), message, p256.text_of(signature))
 
 
 @unittest.skipUnless(ROWS.is_file(), "there are no rows here")

@@ -7,7 +7,7 @@ import tracemalloc
 import unittest
 
 import weoldrin
-from weoldrin import BadArgument, Question, UnknownAlgorithm, p256
+from weoldrin import BadArgument, SignatureCheck, UnknownAlgorithm, p256
 
 from .rows import blocks, row_of
 from .test_p256_rows import ROWS, question_of
@@ -37,7 +37,7 @@ def changed(text: str, some: random.Random) -> str:
             return text[:at] + text[to:]
 
 
-def answers(question: Question) -> tuple[bool, bool]:
+def answers(question: SignatureCheck) -> tuple[bool, bool]:
     """What both verifiers say."""
     return p256.verify(question), p256.verify_by_cryptography(question)
 
@@ -50,9 +50,9 @@ class Texts(unittest.TestCase):
         self.some = random.Random(seed)
         self.seed = f"seed {seed}"
         key = p256.SigningKey.generate()
-        self.right = Question(key.public_key, b"what is signed", key.sign(b"what is signed"))
+        self.right = SignatureCheck(key.public_key, b"what is signed", key.sign(b"what is signed"))
 
-    def _alike(self, question: Question) -> bool:
+    def _alike(self, question: SignatureCheck) -> bool:
         by_library, by_cryptography = answers(question)
         self.assertEqual(by_library, by_cryptography, f"{question} {self.seed}")
         return by_library
@@ -67,7 +67,7 @@ class Texts(unittest.TestCase):
                     key = changed(key, self.some)
                 else:
                     signature = changed(signature, self.some)
-            taken += self._alike(Question(key, message, signature)) and (key, signature) != self.right[::2]
+            taken += self._alike(SignatureCheck(key, message, signature)) and (key, signature) != self.right[::2]
         self.assertEqual(taken, 0)
 
     @unittest.skipUnless(ROWS.is_file(), "there are no rows here")
@@ -87,9 +87,9 @@ class Texts(unittest.TestCase):
         key, message, signature = self.right
         for number in [*range(0x300), *range(0x2000, 0x2070), *range(0xFF00, 0xFF60), 0xD800, 0xFEFF, 0x1F511]:
             for at in (len(key), 11, 20):
-                self._alike(Question(key[:at] + chr(number) + key[at:], message, signature))
-            self._alike(Question(key, message, signature + chr(number)))
-            self._alike(Question(key, message, signature[:-1] + chr(number)))
+                self._alike(SignatureCheck(key[:at] + chr(number) + key[at:], message, signature))
+            self._alike(SignatureCheck(key, message, signature + chr(number)))
+            self._alike(SignatureCheck(key, message, signature[:-1] + chr(number)))
 
     def test_other_bits(self) -> None:
         """There is one text of some bytes: bits behind the last byte are none."""
@@ -119,11 +119,11 @@ class Texts(unittest.TestCase):
             before = tracemalloc.get_traced_memory()[0]
             for place in range(400):
                 long = f"ecdsa-p256:{place:0100000}"
-                self.assertEqual(answers(Question(long, message, signature)), (False, False))
-                self.assertEqual(answers(Question(key, message, long)), (False, False))
+                self.assertEqual(answers(SignatureCheck(long, message, signature)), (False, False))
+                self.assertEqual(answers(SignatureCheck(key, message, long)), (False, False))
             grown = tracemalloc.get_traced_memory()[0] - before
             for _ in range(3000):
-                answers(Question(p256.text_of(self.some.randbytes(65)), message, signature))
+                answers(SignatureCheck(p256.text_of(self.some.randbytes(65)), message, signature))
             after = tracemalloc.get_traced_memory()[0] - before
         finally:
             tracemalloc.stop()
@@ -132,7 +132,7 @@ class Texts(unittest.TestCase):
 
     def test_other_algorithms(self) -> None:
         self.assertRaises(UnknownAlgorithm, weoldrin.verify, "toy:" + "A" * 5_000_000, b"", "")
-        self.assertEqual(answers(Question("toy:" + "A" * 5_000_000, b"", "")), (False, False))
+        self.assertEqual(answers(SignatureCheck("toy:" + "A" * 5_000_000, b"", "")), (False, False))
 
 
 if __name__ == "__main__":

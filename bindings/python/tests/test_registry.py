@@ -14,7 +14,7 @@ import time
 import unittest
 import urllib.parse
 
-from weoldrin import Kind, OperatorLog, PackageLog, p256, record_id, records
+from weoldrin import LogKind, OperatorLog, PackageLog, p256, record_id, records
 
 from . import published, toy
 
@@ -148,7 +148,9 @@ class RegistryTest(unittest.TestCase):
         self.assertEqual(asked(url, "POST", "/operator/registry", envelope)[0], 201)
         self.assertEqual(asked(url, "GET", "/operator/registry/records?from=0"), (200, f"{envelope.hex()}\n"))
         self.assertEqual(asked(url, "GET", "/operator/registry/records?from=1"), (200, ""))
-        self.assertEqual(asked(url, "GET", "/operator/registry/head"), (200, f"{record_id(Kind.OPERATOR, envelope)}\n"))
+        self.assertEqual(
+            asked(url, "GET", "/operator/registry/head"), (200, f"{record_id(LogKind.OPERATOR, envelope)}\n")
+        )
         self.assertEqual((asked(url, "GET", "/operator")[1], asked(url, "GET", "/package")[1]), ("registry\n", ""))
         self.assertEqual(asked(url, "POST", "/package/acme:tool", envelope)[0], 400)
 
@@ -166,16 +168,16 @@ class RegistryTest(unittest.TestCase):
             self.assertEqual(asking.communicate(timeout=60), ("", f"client.py: {said}\n"))
             self.assertEqual(asking.returncode, status)
 
-    def test_refusals(self) -> None:
+    def test_errors(self) -> None:
         url, path = self.server.url, "/package/a:b"
         alice, bob, mallory = (p256.SigningKey.generate() for _ in range(3))
         for envelope in published.envelopes(3, alice, bob):
             self.assertEqual(asked(url, "POST", path, envelope)[0], 201)
         head = asked(url, "GET", f"{path}/head")[1]
         contents = records.contents(head.strip(), time.time_ns(), [records.release("9.0.0", records.sha256_text(b""))])
-        bob_id, message = records.key_id(bob.public_key), records.message(Kind.PACKAGE, contents)
+        bob_id, message = records.key_id(bob.public_key), records.message(LogKind.PACKAGE, contents)
         forged = records.envelope(contents, bob_id, mallory.sign(message))
-        stranger = records.signed(Kind.PACKAGE, contents, mallory.public_key, mallory.sign)
+        stranger = records.signed(LogKind.PACKAGE, contents, mallory.public_key, mallory.sign)
         for body, status, name in (
             (forged, 422, "SignatureError"),
             (stranger, 422, "UnauthorizedAction"),

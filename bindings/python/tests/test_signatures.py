@@ -8,12 +8,12 @@ import unittest
 
 from weoldrin import (
     BadArgument,
-    Kind,
+    LogKind,
     NoEnvelope,
     NotOpen,
     PackageLog,
-    Question,
     Refused,
+    SignatureCheck,
     UnknownAlgorithm,
     audit,
     p256,
@@ -76,7 +76,7 @@ class Texts(unittest.TestCase):
 
     def _belongs(self, key: str, signature: str, message: bytes = b"sample") -> bool:
         """What the verifiers that take any text say, which is one answer."""
-        question = Question(key, message, signature)
+        question = SignatureCheck(key, message, signature)
         answer = p256.verify(question)
         self.assertEqual(p256.verify_by_cryptography(question), answer, question)
         return answer
@@ -160,9 +160,9 @@ class Appending(unittest.TestCase):
         self._stays(log, first, Refused, "NoPreviousHashAfterInit")
         # A key of P-256 goes on in the same log.
         contents = records.contents(
-            log.head(), published.START, [records.grant(Kind.PACKAGE, self.bob.public_key, ["release"])]
+            log.head(), published.START, [records.grant(LogKind.PACKAGE, self.bob.public_key, ["release"])]
         )
-        grant = records.signed(Kind.PACKAGE, contents, toy.key_of("carol"), lambda it: toy.sign("carol", it))
+        grant = records.signed(LogKind.PACKAGE, contents, toy.key_of("carol"), lambda it: toy.sign("carol", it))
         self._stays(log, grant, UnknownAlgorithm, "UnknownAlgorithm")
         question = log.ask(grant)
         log.append_answered(grant, question, toy.verify(question))
@@ -175,12 +175,12 @@ class Appending(unittest.TestCase):
 
     @unittest.skipUnless(LOG.is_file(), "there are no examples here")
     def test_audit(self) -> None:
-        verdict = audit(LOG, Kind.PACKAGE)
+        verdict = audit(LOG, LogKind.PACKAGE)
         self.assertTrue(verdict.accepted and verdict.records > 2, verdict)
-        self.assertEqual(audit(LOG, Kind.PACKAGE, p256.verify_by_cryptography), verdict)
-        other = audit(LOG.parents[1] / "package_releases.hex", Kind.PACKAGE)
-        assert other.refusal is not None
-        self.assertEqual((other.records, other.refusal.place, other.refusal.name), (0, 0, "UnknownAlgorithm"))
+        self.assertEqual(audit(LOG, LogKind.PACKAGE, p256.verify_by_cryptography), verdict)
+        other = audit(LOG.parents[1] / "package_releases.hex", LogKind.PACKAGE)
+        assert other.error is not None
+        self.assertEqual((other.records, other.error.place, other.error.name), (0, 0, "UnknownAlgorithm"))
 
     @unittest.skipUnless(LOG.is_file(), "there are no examples here")
     def test_no_other_package(self) -> None:

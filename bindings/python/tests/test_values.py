@@ -7,11 +7,11 @@ from typing import Any
 
 from weoldrin import (
     BadArgument,
-    Kind,
+    LogKind,
     NotOpen,
     OperatorLog,
     PackageLog,
-    Question,
+    SignatureCheck,
     audit,
     audit_many,
     audit_new,
@@ -73,10 +73,10 @@ class Bytes(unittest.TestCase):
             for envelope in self.envelopes[:4]:
                 log.append(envelope)
             last = form(self.envelopes[4])
-            self.assertEqual(record_id(Kind.PACKAGE, last), record_id(Kind.PACKAGE, self.envelopes[4]))
+            self.assertEqual(record_id(LogKind.PACKAGE, last), record_id(LogKind.PACKAGE, self.envelopes[4]))
             question = log.ask(last)
             self.assertTrue(p256.verify(question))
-            told = Question(question.key, Lying(question.message), question.signature)
+            told = SignatureCheck(question.key, Lying(question.message), question.signature)
             self.assertTrue(p256.verify(told) and p256.verify_by_cryptography(told))
             log.append_answered(last, told, True)
             self.assertEqual([it.envelope for it in log.records()], self.envelopes)
@@ -96,7 +96,7 @@ class Bytes(unittest.TestCase):
         self.assertEqual(log.chain(LyingText(bob), LyingText("release")), log.chain(bob, "release"))
         self.assertEqual(PackageLog.from_json(LyingText(log.to_json())).head(), log.head())
         question = log.ask(published.release(log, self.bob, "2.0.0"))
-        told = Question(LyingText(question.key), question.message, LyingText(question.signature))
+        told = SignatureCheck(LyingText(question.key), question.message, LyingText(question.signature))
         self.assertTrue(p256.verify(told) and verify(*told))
 
     def test_others(self) -> None:
@@ -104,8 +104,8 @@ class Bytes(unittest.TestCase):
         calls: list[Callable[[Any], object]] = [
             log.append,
             log.ask,
-            lambda it: record_id(Kind.PACKAGE, it),
-            lambda it: log.append_answered(b"", Question("toy:", it, "toy:"), True),
+            lambda it: record_id(LogKind.PACKAGE, it),
+            lambda it: log.append_answered(b"", SignatureCheck("toy:", it, "toy:"), True),
         ]
         for call in calls:
             for wrong in others("text", None, [1, 2], 7):
@@ -132,7 +132,7 @@ class Sentences(unittest.TestCase):
             ("Resumed: the log was resumed", lambda: resumed.compare(log)),
             ("Resumed: the log was resumed", lambda: log.compare(resumed)),
             ("WrongKind: ", lambda: log.compare(OperatorLog())),  # type: ignore[arg-type]
-            ("BadQuestion: ", lambda: log.append_answered(b"", Question("no colon", b"", "toy:"), True)),
+            ("BadQuestion: ", lambda: log.append_answered(b"", SignatureCheck("no colon", b"", "toy:"), True)),
             ("BadText: ", lambda: verify("ecdsa-p256:!", b"", "ecdsa-p256:")),
             ("NotJson", lambda: PackageLog.from_json("{")),
             ("TimeBeforeEpoch: ", _save_before_1970),
@@ -175,8 +175,8 @@ class Sentences(unittest.TestCase):
         self.assertEqual(str(error), "BadRequirement: said by the library \\u{1b}")
 
     def test_kinds(self) -> None:
-        self.assertEqual([kind_of("package"), kind_of("operator")], [Kind.PACKAGE, Kind.OPERATOR])
-        self.assertEqual([type(log_of("package")), type(log_of(Kind.OPERATOR))], [PackageLog, OperatorLog])
+        self.assertEqual([kind_of("package"), kind_of("operator")], [LogKind.PACKAGE, LogKind.OPERATOR])
+        self.assertEqual([type(log_of("package")), type(log_of(LogKind.OPERATOR))], [PackageLog, OperatorLog])
         calls: list[Callable[[Any], object]] = [
             kind_of,
             lambda it: log_of(it),
@@ -192,14 +192,14 @@ class Sentences(unittest.TestCase):
                 self.assertRaisesRegex(ValueError, 'Kind.PACKAGE or Kind.OPERATOR, or "package"', call, wrong)
 
     def test_permissions(self) -> None:
-        one, two = records.grant(Kind.PACKAGE, "toy:", ["release"]), records.revoke("package", "x", "release yank")
+        one, two = records.grant(LogKind.PACKAGE, "toy:", ["release"]), records.revoke("package", "x", "release yank")
         self.assertEqual(one, records.grant("package", "toy:", "release"))
-        self.assertEqual(two, records.revoke(Kind.PACKAGE, "x", iter(("release", "yank"))))
+        self.assertEqual(two, records.revoke(LogKind.PACKAGE, "x", iter(("release", "yank"))))
         for wrong in others("commit", ["commit"], "releaseyank", ["release yank"], ["release", None]):
             with self.assertRaisesRegex(ValueError, "the permissions .* are release, yank, and not "):
-                records.grant(Kind.PACKAGE, "toy:", wrong)
+                records.grant(LogKind.PACKAGE, "toy:", wrong)
         with self.assertRaisesRegex(ValueError, "are commit, defineNamespace, importNamespace, and not 'yank'"):
-            records.revoke(Kind.OPERATOR, "x", "commit yank")
+            records.revoke(LogKind.OPERATOR, "x", "commit yank")
 
 
 def others(*values: Any) -> tuple[Any, ...]:

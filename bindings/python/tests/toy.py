@@ -4,7 +4,7 @@ the message."""
 import base64
 import hashlib
 
-from weoldrin import Kind, Question, records
+from weoldrin import LogKind, SignatureCheck, records
 
 
 def _text(data: bytes) -> str:
@@ -25,10 +25,10 @@ def envelope(name: str) -> bytes:
     """The envelope of a record that begins a log of a package by the key of a name."""
     key = key_of(name)
     contents = records.contents(None, 1_700_000_000_000_000_000, [records.init(key)])
-    return records.signed(Kind.PACKAGE, contents, key, lambda message: sign(name, message))
+    return records.signed(LogKind.PACKAGE, contents, key, lambda message: sign(name, message))
 
 
-def verify(question: Question) -> bool:
+def verify(question: SignatureCheck) -> bool:
     """Whether the signature belongs to the message under the key."""
     algorithm, _, digits = question.key.partition(":")
     key = base64.b64decode(digits)

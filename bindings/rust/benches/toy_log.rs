@@ -4,7 +4,7 @@ use std::error::Error;
 use std::io::stdin;
 use std::time::{Duration, Instant};
 use weoldrin::p256::sha256_text;
-use weoldrin::{PackageLog, Question};
+use weoldrin::{PackageLog, SignatureCheck};
 
 /// The bytes of base64 with padding.
 fn base64(digits: &str) -> Vec<u8> {
@@ -21,7 +21,7 @@ fn base64(digits: &str) -> Vec<u8> {
 }
 
 /// A key is the bytes of a name, a signature the SHA-256 of these and the message.
-fn verify_toy(question: &Question) -> bool {
+fn verify_toy(question: &SignatureCheck) -> bool {
     let digits = |text: &str| base64(text.strip_prefix("toy:").unwrap_or_default());
     let digest = sha256_text(&[&digits(question.key()), question.message()].concat());
     let signature: String = digits(question.signature()).iter().map(|it| format!("{it:02x}")).collect();

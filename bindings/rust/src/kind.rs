@@ -9,7 +9,7 @@ mod sealed {
 }
 
 /// A kind of log: [`Package`] or [`Operator`].
-pub trait Kind: sealed::Sealed {
+pub trait LogKind: sealed::Sealed {
     /// What a key may do in a log of this kind.
     type Permission: Permission;
 
@@ -28,13 +28,13 @@ pub enum Package {}
 #[derive(Clone, Copy, Debug)]
 pub enum Operator {}
 
-impl Kind for Package {
+impl LogKind for Package {
     type Permission = PackagePermission;
     const NUMBER: u32 = 0;
     const SIGNATURE_PREFIX: &'static [u8] = b"WARG-PACKAGE-RECORD-SIGNATURE-V0:";
 }
 
-impl Kind for Operator {
+impl LogKind for Operator {
     type Permission = OperatorPermission;
     const NUMBER: u32 = 1;
     const SIGNATURE_PREFIX: &'static [u8] = b"WARG-OPERATOR-RECORD-SIGNATURE-V0:";

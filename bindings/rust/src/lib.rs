@@ -51,16 +51,20 @@ mod raw;
 pub mod records;
 
 pub use error::{Error, Reason};
-pub use kind::{Kind, Operator, OperatorPermission, Package, PackagePermission, Permission, UnknownPermission};
+pub use kind::{LogKind, Operator, OperatorPermission, Package, PackagePermission, Permission, UnknownPermission};
 pub use log::{Comparison, Link, Log, Record};
 pub use operator::{NamespaceState, OperatorLog};
 pub use package::{PackageLog, Release, ReleaseState, Releases};
 pub use printable::{printable, Printable};
-pub use question::Question;
+pub use question::SignatureCheck;
+
+// The names of 0.1.0.
+pub use kind::LogKind as Kind;
+pub use question::SignatureCheck as Question;
 
 /// The text of the id of an envelope's record. The record need not be lawful; the error is [`Error::NoEnvelope`] where the bytes are
 /// no envelope.
-pub fn record_id<K: Kind>(envelope: &[u8]) -> Result<String, Error> {
+pub fn record_id<K: LogKind>(envelope: &[u8]) -> Result<String, Error> {
     // SAFETY: each pointer goes with the length of its slice (`raw`).
     let found = buffer::filled(envelope.len() + buffer::SENTENCE, |text, used| unsafe {
         let (at, len) = (envelope.as_ptr(), envelope.len());

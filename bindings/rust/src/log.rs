@@ -1,8 +1,8 @@
 //! A log of either kind.
 use crate::buffer::{filled, text_of, SENTENCE};
 use crate::error::Error;
-use crate::kind::{Kind, Permission};
-use crate::question::Question;
+use crate::kind::{LogKind, Permission};
+use crate::question::SignatureCheck;
 use crate::raw;
 use std::cell::UnsafeCell;
 use std::fmt;
@@ -18,13 +18,13 @@ use std::ptr;
 /// fn is_shared<T: Sync>() {}
 /// is_shared::<weoldrin::PackageLog>();
 /// ```
-pub struct Log<K: Kind> {
+pub struct Log<K: LogKind> {
     raw: UnsafeCell<raw::Log>,
     kind: PhantomData<K>,
 }
 
 // SAFETY: what the handle owns is proved to cross threads. It is not `Sync`, so that one call at a time is made.
-unsafe impl<K: Kind> Send for Log<K> {}
+unsafe impl<K: LogKind> Send for Log<K> {}
 
 /// A record that a log keeps.
 #[derive(Clone, Debug, PartialEq, Eq)]
@@ -68,7 +68,7 @@ pub enum Comparison {
 // What is said where a call that writes no text finds an argument bad: a kind and a permission are of their type, so it is the log.
 const RESUMED: &[u8] = b"Resumed: the log was resumed, and its records are elsewhere";
 
-impl<K: Kind> Log<K> {
+impl<K: LogKind> Log<K> {
     /// A log of no records. The error is [`Error::OutOfMemory`].
     pub fn new() -> Result<Self, Error> {
         let log = Log { raw: UnsafeCell::new(raw::Log { at: ptr::null_mut(), is_open: false }), kind: PhantomData };
@@ -79,7 +79,7 @@ impl<K: Kind> Log<K> {
 
     /// What has to be verified before the record can be appended: it is lawful exactly if the signature belongs. The error is
     /// [`Error::Refused`] where no signature could help, and [`Error::NoEnvelope`] where the bytes are none.
-    pub fn ask(&self, envelope: &[u8]) -> Result<Question, Error> {
+    pub fn ask(&self, envelope: &[u8]) -> Result<SignatureCheck, Error> {
         let mut asked = raw::Asked::default();
         // SAFETY: no other call has the log, and each pointer goes with the length of its slice (`raw`).
         let found = self.said(envelope.len() + SENTENCE, |log, bytes, used| unsafe {
@@ -88,11 +88,11 @@ impl<K: Kind> Log<K> {
             raw::warg_ask(log, envelope.as_ptr(), envelope.len(), to, room, used, &mut asked)
         })?;
         let bytes = found.ok_or(Error::BadArgument(None))?;
-        Ok(Question { bytes, asked })
+        Ok(SignatureCheck { bytes, asked })
     }
 
     /// Appends the record by the answer to its question. The answer to any other question is refused.
-    pub fn append_answered(&mut self, envelope: &[u8], question: &Question, belongs: bool) -> Result<(), Error> {
+    pub fn append_answered(&mut self, envelope: &[u8], question: &SignatureCheck, belongs: bool) -> Result<(), Error> {
         let asked = &question.asked;
         let question = question.bytes.as_slice();
         // SAFETY: no other call has the log, and each pointer goes with the length of its slice (`raw`).
@@ -127,7 +127,7 @@ impl<K: Kind> Log<K> {
     }
 
     /// Appends the record if its signature belongs, as `verify` says, which is asked once at most.
-    pub fn append(&mut self, envelope: &[u8], mut verify: impl FnMut(&Question) -> bool) -> Result<(), Error> {
+    pub fn append(&mut self, envelope: &[u8], mut verify: impl FnMut(&SignatureCheck) -> bool) -> Result<(), Error> {
         let question = self.ask(envelope)?;
         let belongs = verify(&question);
         self.append_answered(envelope, &question, belongs)
@@ -294,14 +294,14 @@ impl<K: Kind> Log<K> {
     }
 }
 
-impl<K: Kind> Drop for Log<K> {
+impl<K: LogKind> Drop for Log<K> {
     fn drop(&mut self) {
         // SAFETY: the handle is owned, and this is its last use.
         unsafe { raw::warg_close(self.raw.get()) }
     }
 }
 
-impl<K: Kind> fmt::Debug for Log<K> {
+impl<K: LogKind> fmt::Debug for Log<K> {
     fn fmt(&self, f: &mut fmt::Formatter<'_>) -> fmt::Result {
         f.debug_struct("Log").field("head", &self.head()).finish()
     }

@@ -3,7 +3,7 @@
 //! A key's text is `ecdsa-p256:` and the base64 of a point of SEC 1, compressed (33 bytes) or not (65 bytes); it is written
 //! compressed. A signature's text is `ecdsa-p256:` and the base64 of the DER of an `ECDSA-Sig-Value` (RFC 3279).
 use crate::error::Error;
-use crate::question::Question;
+use crate::question::SignatureCheck;
 
 #[cfg(feature = "openssl")]
 mod openssl;
@@ -18,7 +18,7 @@ pub use openssl::{key_id, sha256_text, verify_by_openssl, CryptoError, SigningKe
 ///
 /// # Panics
 /// Where the library finds no memory.
-pub fn verify(question: &Question) -> bool {
+pub fn verify(question: &SignatureCheck) -> bool {
     match crate::verify(question.key(), question.message(), question.signature()) {
         Err(Error::OutOfMemory) => panic!("out of memory"),
         answer => answer == Ok(true),

@@ -4,16 +4,16 @@ use std::fmt;
 
 /// What has to be verified before a record can be appended: whether the signature belongs to the message under the key.
 #[derive(Clone, PartialEq, Eq)]
-pub struct Question {
+pub struct SignatureCheck {
     // The key's text, the message and the signature's text, one behind the other.
     pub(crate) bytes: Vec<u8>,
     pub(crate) asked: Asked,
 }
 
-impl Question {
+impl SignatureCheck {
     /// A question of these parts. A log takes its answer only for the record that asks it.
     pub fn new(key: &str, message: &[u8], signature: &str) -> Self {
-        Question {
+        SignatureCheck {
             bytes: [key.as_bytes(), message, signature.as_bytes()].concat(),
             asked: Asked { key_len: key.len(), message_len: message.len(), signature_len: signature.len() },
         }
@@ -40,9 +40,9 @@ fn text(bytes: &[u8]) -> &str {
     std::str::from_utf8(bytes).unwrap_or("")
 }
 
-impl fmt::Debug for Question {
+impl fmt::Debug for SignatureCheck {
     fn fmt(&self, f: &mut fmt::Formatter<'_>) -> fmt::Result {
-        f.debug_struct("Question")
+        f.debug_struct("SignatureCheck")
             .field("key", &self.key())
             .field("message", &self.message())
             .field("signature", &self.signature())

@@ -1,18 +1,18 @@
 //! Writes records and the envelopes that carry them, in the bytes that the project's `docs/FORMATS.md` gives.
 //!
 //! Nothing is judged here: a log does that when the envelope is appended.
-use crate::kind::{Kind, Operator, Package, Permission};
+use crate::kind::{LogKind, Operator, Package, Permission};
 use std::marker::PhantomData;
 use std::time::SystemTime;
 
 /// An entry of a record, of a kind of log.
 #[derive(Clone, Debug)]
-pub struct Entry<K: Kind> {
+pub struct Entry<K: LogKind> {
     bytes: Vec<u8>,
     kind: PhantomData<K>,
 }
 
-impl<K: Kind> Entry<K> {
+impl<K: LogKind> Entry<K> {
     fn new(field: u8, message: Message) -> Self {
         Entry { bytes: Message::default().bytes(field, &message.0).0, kind: PhantomData }
     }
@@ -59,7 +59,7 @@ impl Entry<Operator> {
 
 /// A record that is to be signed.
 #[derive(Clone, Debug)]
-pub struct NewRecord<K: Kind> {
+pub struct NewRecord<K: LogKind> {
     /// The text of the id of the record before it.
     pub prev: Option<String>,
     /// The version of the protocol: 1 is the newest.
@@ -70,7 +70,7 @@ pub struct NewRecord<K: Kind> {
     pub entries: Vec<Entry<K>>,
 }
 
-impl<K: Kind> NewRecord<K> {
+impl<K: LogKind> NewRecord<K> {
     /// The record's bytes.
     pub fn contents(&self) -> Vec<u8> {
         let (seconds, nanos) = parts(self.timestamp);
@@ -93,7 +93,7 @@ impl<K: Kind> NewRecord<K> {
 }
 
 /// What a record's signature signs.
-pub fn message<K: Kind>(contents: &[u8]) -> Vec<u8> {
+pub fn message<K: LogKind>(contents: &[u8]) -> Vec<u8> {
     [K::SIGNATURE_PREFIX, contents].concat()
 }
 

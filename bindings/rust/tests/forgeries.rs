@@ -5,7 +5,7 @@ mod publishing;
 use publishing::{entries, key, next, signed};
 use weoldrin::p256::{self, key_id};
 use weoldrin::records::{envelope, message};
-use weoldrin::{Error, Package, PackageLog, Question};
+use weoldrin::{Error, Package, PackageLog, SignatureCheck};
 
 /// Appending is refused with an error of this name, and the log is as it was.
 fn refused(log: &mut PackageLog, name: &str, append: impl Fn(&mut PackageLog) -> Result<(), Error>) {
@@ -25,7 +25,7 @@ fn forged(log: &mut PackageLog, envelope: &[u8]) {
 }
 
 /// It is refused where this question was answered by yes.
-fn misanswered(log: &mut PackageLog, envelope: &[u8], question: &Question, name: &str) {
+fn misanswered(log: &mut PackageLog, envelope: &[u8], question: &SignatureCheck, name: &str) {
     refused(log, name, |log| log.append_answered(envelope, question, true));
 }
 
@@ -57,7 +57,7 @@ fn each_record_is_forged() -> Result<(), Box<dyn std::error::Error>> {
         let asked = log.ask(&signed(&other, signer, signer))?;
         assert!(p256::verify(&asked) && p256::verify_by_openssl(&asked));
         misanswered(&mut log, &right, &asked, "SignatureError");
-        let made_up = Question::new(mallory.public_key(), asked.message(), &signature);
+        let made_up = SignatureCheck::new(mallory.public_key(), asked.message(), &signature);
         misanswered(&mut log, &right, &made_up, "SignatureError");
         let question = log.ask(&right)?;
         assert_eq!(question.key(), signer.public_key());
@@ -97,7 +97,7 @@ fn texts_of_keys_and_signatures() -> Result<(), Box<dyn std::error::Error>> {
     let (alice, message) = (key(), b"what is signed");
     let signature = alice.sign(message)?;
     let verified = |key: &str, signature: &str| {
-        let question = Question::new(key, message, signature);
+        let question = SignatureCheck::new(key, message, signature);
         let answer = p256::verify(&question);
         assert_eq!(p256::verify_by_openssl(&question), answer, "{question:?}");
         answer

@@ -4,7 +4,7 @@
 use std::os::raw::{c_int, c_long, c_ulong, c_void};
 use std::ptr::null_mut;
 use weoldrin::p256::{self, CryptoError, SigningKey};
-use weoldrin::Question;
+use weoldrin::SignatureCheck;
 
 // The private key of RFC 6979, A.2.5, and its point.
 const NUMBER: &str = "c9afa9d845ba75166b5c215767b1d6934e50c3db36e89b127b8a622b120f6721";
@@ -78,7 +78,7 @@ fn each_form_is_read() {
                 let signer = SigningKey::from_der(&der).unwrap_or_else(|error| panic!("{error} {form:?}"));
                 assert_eq!(signer.public_key(), PUBLIC_KEY, "{form:?}");
                 let signature = signer.sign(b"sample").expect("a signature");
-                let question = Question::new(PUBLIC_KEY, b"sample", &signature);
+                let question = SignatureCheck::new(PUBLIC_KEY, b"sample", &signature);
                 assert!(p256::verify(&question) && p256::verify_by_openssl(&question), "{form:?}");
                 // It is written in one form, and without a point where it came without.
                 let written = if point.is_empty() { vec![] } else { bytes(&format!("04{X}{Y}")) };
@@ -160,7 +160,7 @@ fn use_all() {
     for key in [PUBLIC_KEY, off_the_curve, "ecdsa-p256:", "ecdsa-p256:A///////////////////////////////////////////"] {
         for signature in [&signature, "ecdsa-p256:MAYCAQACAQA=", "ecdsa-p256:!", ""] {
             for message in [&b"sample"[..], b"simple"] {
-                p256::verify_by_openssl(&Question::new(key, message, signature));
+                p256::verify_by_openssl(&SignatureCheck::new(key, message, signature));
             }
         }
     }

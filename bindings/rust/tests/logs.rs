@@ -172,7 +172,7 @@ fn wrong_uses() -> Tested {
     assert_eq!(name(log.ask(b"\x0b")), "ProtobufEnvelope.Group");
     assert_eq!(name(log.append(b"", |_| true)), "Contents.MissingTime");
     assert_eq!(name(record_id::<Package>(b"\x0b")), "ProtobufEnvelope.Group");
-    let none = weoldrin::Question::new("no colon", b"", "toy:");
+    let none = weoldrin::SignatureCheck::new("no colon", b"", "toy:");
     is_bad(log.append_answered(b"", &none, true), "BadQuestion");
     // The text of an error that quotes a long key id.
     let (alice, bob) = (key(), key());

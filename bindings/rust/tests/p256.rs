@@ -1,12 +1,12 @@
 //! What is read as a key and as a signature of ECDSA P-256: the example of RFC 6979, A.2.5, with SHA-256 and the message `sample`.
-use weoldrin::{p256, Question};
+use weoldrin::{p256, SignatureCheck};
 
 const COMPRESSED: &str = "A2D+1LolWp0xyWHrdMY1bWjASbiSO2H6bOZpYi5g8p+2";
 const UNCOMPRESSED: &str = "BGD+1LolWp0xyWHrdMY1bWjASbiSO2H6bOZpYi5g8p+2eQP+EAi4vJmkGunpVii8ZPLxsgwtfp9Rd6PClNRGIpk=";
 const SIGNATURE: &str = "MEYCIQDv1IsqrLao/RFA3ZzUXoHWnSyHe1aq+ZHDTQ6oTq83FgIhAPfLHJQtZXxB1DbHobbin2Xz6QDbua/0Bk3Eqy+EOs2o";
 
 /// What the verifiers say, which is one answer.
-fn verified(question: &Question) -> bool {
+fn verified(question: &SignatureCheck) -> bool {
     let answer = p256::verify(question);
     #[cfg(feature = "openssl")]
     {
@@ -22,7 +22,7 @@ extern "C" {
 }
 
 fn belongs(point: &str, message: &[u8], signature: &str) -> bool {
-    verified(&Question::new(&format!("ecdsa-p256:{point}"), message, &format!("ecdsa-p256:{signature}")))
+    verified(&SignatureCheck::new(&format!("ecdsa-p256:{point}"), message, &format!("ecdsa-p256:{signature}")))
 }
 
 #[test]
@@ -84,7 +84,7 @@ fn a_signature_is_der_alone() {
 
 #[test]
 fn texts_of_other_algorithms_are_refused() {
-    let belongs = |key: &str, signature: &str| verified(&Question::new(key, b"sample", signature));
+    let belongs = |key: &str, signature: &str| verified(&SignatureCheck::new(key, b"sample", signature));
     let (key, signature) = (format!("ecdsa-p256:{UNCOMPRESSED}"), format!("ecdsa-p256:{SIGNATURE}"));
     assert!(belongs(&key, &signature));
     for algorithm in ["toy", "ECDSA-P256", "ecdsa-p384", ""] {

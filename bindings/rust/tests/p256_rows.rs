@@ -1,5 +1,5 @@
 //! Each row of `conformance/values/p256.rows`, by the library and by libcrypto.
-use weoldrin::{p256, Question};
+use weoldrin::{p256, SignatureCheck};
 
 const ROWS: &str = concat!(env!("CARGO_MANIFEST_DIR"), "/../../conformance/values/p256.rows");
 
@@ -24,7 +24,7 @@ fn text_of(bytes: &[u8]) -> String {
     text
 }
 
-fn play(verify: impl Fn(&Question) -> bool) {
+fn play(verify: impl Fn(&SignatureCheck) -> bool) {
     let (mut right, mut refused) = (0, 0);
     let file = std::fs::read_to_string(ROWS).expect("the rows");
     for (place, line) in file.lines().enumerate().filter(|(_, it)| !it.is_empty() && !it.starts_with('#')) {
@@ -34,7 +34,7 @@ fn play(verify: impl Fn(&Question) -> bool) {
             _ => panic!("line {}: a strange row", place + 1),
         };
         let (key, signature) = (text_of(&bytes_of(key)), text_of(&bytes_of(signature)));
-        let seen = verify(&Question::new(&key, &bytes_of(message), &signature));
+        let seen = verify(&SignatureCheck::new(&key, &bytes_of(message), &signature));
         assert_eq!(seen, wanted, "line {}: {}", place + 1, line);
         *(if wanted { &mut right } else { &mut refused }) += 1;
     }

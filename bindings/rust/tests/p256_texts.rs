@@ -4,7 +4,7 @@ mod publishing;
 
 use std::collections::hash_map::RandomState;
 use std::hash::{BuildHasher, Hasher};
-use weoldrin::{p256, Question};
+use weoldrin::{p256, SignatureCheck};
 
 const DIGITS: &str = "ABCDEFGHIJKLMNOPQRSTUVWXYZabcdefghijklmnopqrstuvwxyz0123456789+/";
 
@@ -85,7 +85,7 @@ impl Numbers {
 }
 
 fn alike(key: &str, message: &[u8], signature: &str) -> bool {
-    let question = Question::new(key, message, signature);
+    let question = SignatureCheck::new(key, message, signature);
     let answer = p256::verify(&question);
     assert_eq!(p256::verify_by_openssl(&question), answer, "{question:?}");
     answer

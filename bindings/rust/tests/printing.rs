@@ -4,7 +4,7 @@ use {
     std::time::SystemTime,
     weoldrin::p256::{key_id, sha256_text},
     weoldrin::records::{Entry, NewRecord},
-    weoldrin::{Error, PackageLog, Question},
+    weoldrin::{Error, PackageLog, SignatureCheck},
 };
 
 use weoldrin::printable;
@@ -55,7 +55,7 @@ fn errors() -> Result<(), Error> {
         assert!(text.contains(shown) && !text.chars().any(char::is_control), "{text}");
     }
     // What is printed for the one who writes a program has none either.
-    for text in [format!("{refused:?}"), format!("{:?}", Question::new(stranger, b"", stranger))] {
+    for text in [format!("{refused:?}"), format!("{:?}", SignatureCheck::new(stranger, b"", stranger))] {
         assert!(!text.chars().any(|it| it.is_control() || matches!(it, '\u{2028}' | '\u{2066}')), "{text}");
     }
     Ok(())

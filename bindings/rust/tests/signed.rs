@@ -1,5 +1,5 @@
 //! What the library verifies by itself: signatures by their texts, and those of the records that it appends. No OpenSSL is needed.
-use weoldrin::{p256, verify, Error, OperatorLog, PackageLog, Question};
+use weoldrin::{p256, verify, Error, OperatorLog, PackageLog, SignatureCheck};
 
 // The example of RFC 6979, A.2.5, with SHA-256 and the message `sample`.
 const KEY: &str = "ecdsa-p256:A2D+1LolWp0xyWHrdMY1bWjASbiSO2H6bOZpYi5g8p+2";
@@ -63,7 +63,7 @@ fn texts_that_cannot_be_read() {
         let text = format!("ecdsa-p256:{digits}");
         is_bad_text(verify(KEY, b"sample", &text), &text);
         is_bad_text(verify(&text, b"sample", SIGNATURE), &text);
-        assert!(!p256::verify(&Question::new(&text, b"sample", SIGNATURE)), "{text}");
+        assert!(!p256::verify(&SignatureCheck::new(&text, b"sample", SIGNATURE)), "{text}");
     }
     for text in ["", "ecdsa-p256", ":AAAA"] {
         is_bad_text(verify(KEY, b"sample", text), text);
@@ -77,7 +77,7 @@ fn keys_of_other_algorithms() {
         // The signature of such a key is not read.
         for signature in [SIGNATURE, "", "\u{1f511}"] {
             assert_eq!(verify(key, b"sample", signature), Err(Error::UnknownAlgorithm), "{key}");
-            assert!(!p256::verify(&Question::new(key, b"sample", signature)), "{key}");
+            assert!(!p256::verify(&SignatureCheck::new(key, b"sample", signature)), "{key}");
         }
     }
     let said = Error::UnknownAlgorithm.to_string();

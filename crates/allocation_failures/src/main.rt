@@ -2,36 +2,36 @@
 //! error. `tools/checks/refused_memory` runs it again and again, with another one of its requests for memory refused each time.
 #![tactic(auto)]
 
+mod call_error;
 mod logs;
-mod refusal;
 mod saved;
 mod trees;
 mod values;
 
-use refusal::{OUT_OF_MEMORY, Refusal};
+use call_error::{CallError, OUT_OF_MEMORY};
 use std::alloc::Global;
 use std::io::ErrorKind;
 use std::rt::Files;
 use std::{fs, io};
 
 // The log's envelopes.
-fn inputs(rt: &(impl Alloc<A = Global> + Files)) -> Result<Vec<Vec<u8>>, Refusal> {
+fn inputs(rt: &(impl Alloc<A = Global> + Files)) -> Result<Vec<Vec<u8>>, CallError> {
     let mut inputs = Vec::new(rt.alloc());
     for file in ["0.envelope", "1.envelope", "2.envelope"] {
         match fs::read(rt, file) {
             Ok(input) => inputs.push(input)?,
             Err(fault) if fault.kind() == ErrorKind::OutOfMemory => return Err(OUT_OF_MEMORY),
-            Err(_) => return Err(Refusal::new("no log")),
+            Err(_) => return Err(CallError::new("no log")),
         }
     }
     Ok(inputs)
 }
 
 // Prints what a call answers.
-fn tell(rt: &impl Print, call: &str, told: Result<String, Refusal>) -> io::Result<()> {
+fn tell(rt: &impl Print, call: &str, told: Result<String, CallError>) -> io::Result<()> {
     match told {
         Ok(answer) => println!(rt; "{call}: {answer}"),
-        Err(refusal) => println!(rt; "{call}: {}", refusal.name),
+        Err(call_error) => println!(rt; "{call}: {}", call_error.name),
     }
 }
 
@@ -123,6 +123,6 @@ fn tell_all(rt: &impl Print, alloc: Global, log: &[Vec<u8>]) -> io::Result<()> {
 fn main(rt: HostRuntime) -> io::Result<()> {
     match inputs(&rt) {
         Ok(log) => tell_all(&rt, rt.alloc(), log.as_slice()),
-        Err(refusal) => println!(rt; "log: {}", refusal.name),
+        Err(call_error) => println!(rt; "log: {}", call_error.name),
     }
 }

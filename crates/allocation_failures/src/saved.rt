@@ -1,6 +1,6 @@
 //! Saved texts, read back: some as a state, and some refused.
 
-use crate::refusal::{OUT_OF_MEMORY, Refusal};
+use crate::call_error::{CallError, OUT_OF_MEMORY};
 use serde_json::Value;
 use std::alloc::Global;
 use warg_protocol::registry::Checkpoint;
@@ -132,16 +132,16 @@ fn fault_name(error: JsonError) -> &'static str {
 }
 
 // The JSON of a text.
-fn value_of(alloc: Global, text: &str) -> Result<Value, Refusal> {
+fn value_of(alloc: Global, text: &str) -> Result<Value, CallError> {
     match Value::from_str(alloc, text) {
         Ok(value) => Ok(value),
         Err(error) if error.is_memory() => Err(OUT_OF_MEMORY),
-        Err(_) => Err(Refusal::new("no JSON")),
+        Err(_) => Err(CallError::new("no JSON")),
     }
 }
 
 // What the text is read as: a value, or the name of its fault.
-fn read<T: JsonValue + Drop>(alloc: Global, text: &str) -> Result<&'static str, Refusal> {
+fn read<T: JsonValue + Drop>(alloc: Global, text: &str) -> Result<&'static str, CallError> {
     let value = value_of(alloc, text)?;
     match T::from_value(alloc, &value) {
         Ok(_) => Ok("read"),
@@ -151,7 +151,7 @@ fn read<T: JsonValue + Drop>(alloc: Global, text: &str) -> Result<&'static str, 
 }
 
 // What a text is read as: a state, or the name of its fault.
-fn read_text<T: Drop>(state: Result<T, JsonTextError>) -> Result<&'static str, Refusal> {
+fn read_text<T: Drop>(state: Result<T, JsonTextError>) -> Result<&'static str, CallError> {
     match state {
         Ok(_) => Ok("read"),
         Err(JsonTextError::NotJson) => Ok("no JSON"),
@@ -161,30 +161,30 @@ fn read_text<T: Drop>(state: Result<T, JsonTextError>) -> Result<&'static str, R
 }
 
 /// What the text is read as, as a package log's state, with no value of the whole.
-pub(crate) fn text_state(alloc: Global, text: &str) -> Result<String, Refusal> {
+pub(crate) fn text_state(alloc: Global, text: &str) -> Result<String, CallError> {
     let state = package::LogState::from_json(alloc, text);
     Ok(String::from_str(alloc, read_text(state)?)?)
 }
 
 /// The same, as an operator log's state.
-pub(crate) fn operator_text_state(alloc: Global, text: &str) -> Result<String, Refusal> {
+pub(crate) fn operator_text_state(alloc: Global, text: &str) -> Result<String, CallError> {
     let state = operator::LogState::from_json(alloc, text);
     Ok(String::from_str(alloc, read_text(state)?)?)
 }
 
 /// What the text is read as, as a package log's state.
-pub(crate) fn state(alloc: Global, text: &str) -> Result<String, Refusal> {
+pub(crate) fn state(alloc: Global, text: &str) -> Result<String, CallError> {
     Ok(String::from_str(alloc, read::<package::LogState>(alloc, text)?)?)
 }
 
 /// What an algorithm and a head with these members behind them are read as, as a package log's state.
-pub(crate) fn begun(alloc: Global, members: &str) -> Result<String, Refusal> {
+pub(crate) fn begun(alloc: Global, members: &str) -> Result<String, CallError> {
     let text = format!(in alloc; "{{{BEGUN}{members}}}")?;
     state(alloc, text.as_str())
 }
 
 /// The same with a namespace of a bad name, as an operator log's state.
-pub(crate) fn bad_namespace(alloc: Global) -> Result<String, Refusal> {
+pub(crate) fn bad_namespace(alloc: Global) -> Result<String, CallError> {
     let text = format!(in alloc;
         "{{{BEGUN},\"namespaces\":{{\"my-NAMESPACE\":{{\"state\":\"defined\"}}}}}}"
     )?;
@@ -192,6 +192,6 @@ pub(crate) fn bad_namespace(alloc: Global) -> Result<String, Refusal> {
 }
 
 /// What the text is read as, as a checkpoint.
-pub(crate) fn checkpoint(alloc: Global, text: &str) -> Result<String, Refusal> {
+pub(crate) fn checkpoint(alloc: Global, text: &str) -> Result<String, CallError> {
     Ok(String::from_str(alloc, read::<Checkpoint>(alloc, text)?)?)
 }

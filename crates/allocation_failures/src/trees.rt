@@ -1,6 +1,6 @@
 //! Calls on a registry's log and map.
 
-use crate::refusal::Refusal;
+use crate::call_error::CallError;
 use std::alloc::Global;
 use warg_protocol::JsonValue;
 use warg_protocol::hash::HashAlgorithm;
@@ -16,26 +16,26 @@ fn leaf(record: &[u8]) -> LogLeaf {
 }
 
 // Pushes the leaf, or leaves the log as it was.
-fn push(log: &mut LogTree, leaf: &LogLeaf) -> Result<(), Refusal> {
+fn push(log: &mut LogTree, leaf: &LogLeaf) -> Result<(), CallError> {
     let root = log.root();
     match log.push(leaf) {
         Ok(()) => Ok(()),
-        Err(error) if log.root() == root => Err(Refusal::from(error)),
-        Err(_) => Err(Refusal::new("another log")),
+        Err(error) if log.root() == root => Err(CallError::from(error)),
+        Err(_) => Err(CallError::new("another log")),
     }
 }
 
 // The proof's JSON, which reads back as the proof's text.
-fn log_proof(alloc: Global, proof: Option<LogProof>) -> Result<String, Refusal> {
+fn log_proof(alloc: Global, proof: Option<LogProof>) -> Result<String, CallError> {
     let Some(proof) = proof else {
-        return Err(Refusal::new("no proof"));
+        return Err(CallError::new("no proof"));
     };
     let json = proof.to_value(alloc)?;
     Ok(LogProof::from_value(alloc, &json)?.to_text(alloc)?)
 }
 
 /// The proof that the log of three records goes on from its first two leaves.
-pub(crate) fn consistency(alloc: Global) -> Result<String, Refusal> {
+pub(crate) fn consistency(alloc: Global) -> Result<String, CallError> {
     let mut log = LogTree::new(alloc);
     for record in [b"1", b"2", b"3"] {
         push(&mut log, &leaf(record.as_slice()))?;
@@ -44,14 +44,14 @@ pub(crate) fn consistency(alloc: Global) -> Result<String, Refusal> {
 }
 
 /// The proof of the head of a log in the map of one, as text. A refused insertion leaves the map as it was.
-pub(crate) fn head(alloc: Global) -> Result<String, Refusal> {
+pub(crate) fn head(alloc: Global) -> Result<String, CallError> {
     let mut map = MapTree::new(alloc)?;
     let root = map.root();
     let LogLeaf { log_id, record_id } = leaf(b"1");
     match map.insert(&log_id, &MapLeaf { record_id }) {
         Ok(_) => {}
-        Err(error) if map.root() == root && map.is_empty() => return Err(Refusal::from(error)),
-        Err(_) => return Err(Refusal::new("another map")),
+        Err(error) if map.root() == root && map.is_empty() => return Err(CallError::from(error)),
+        Err(_) => return Err(CallError::new("another map")),
     }
     let json = map.proof(&log_id)?.to_value(alloc)?;
     Ok(MapProof::from_value(alloc, &json)?.to_text(alloc)?)

@@ -1,6 +1,6 @@
 //! Calls on a record, and the JSON of values.
 
-use crate::refusal::Refusal;
+use crate::call_error::CallError;
 use std::alloc::Global;
 use warg_protocol::hash::{AnyHash, HashAlgorithm, Sha256};
 use warg_protocol::package::{PackageEntry, PackageRecord};
@@ -12,7 +12,7 @@ use warg_protocol::toy::ToySigner;
 use warg_protocol::{JsonValue, ProtoEnvelope, Timestamp};
 
 // The record at 1.0 with an init of alice's key.
-fn record(alloc: Global, alice: &ToySigner) -> Result<PackageRecord, Refusal> {
+fn record(alloc: Global, alice: &ToySigner) -> Result<PackageRecord, CallError> {
     let key = alice.public_key().try_clone()?;
     let init = PackageEntry::Init {
         hash_algorithm: HashAlgorithm::Sha256,
@@ -26,30 +26,30 @@ fn record(alloc: Global, alice: &ToySigner) -> Result<PackageRecord, Refusal> {
     })
 }
 
-fn signed(alloc: Global) -> Result<ProtoEnvelope<PackageRecord>, Refusal> {
+fn signed(alloc: Global) -> Result<ProtoEnvelope<PackageRecord>, CallError> {
     let alice = ToySigner::new(alloc, b"alice")?;
     let record = record(alloc, &alice)?;
     Ok(ProtoEnvelope::signed_contents(alloc, &alice, record)?)
 }
 
 /// `signed_contents`: the record's id.
-pub(crate) fn signed_contents(alloc: Global) -> Result<String, Refusal> {
+pub(crate) fn signed_contents(alloc: Global) -> Result<String, CallError> {
     let id = RecordId::package_record::<Sha256>(&signed(alloc)?);
     Ok(id.to_string(alloc)?)
 }
 
 /// `to_protobuf`: the hash of the envelope's bytes.
-pub(crate) fn to_protobuf(alloc: Global) -> Result<String, Refusal> {
+pub(crate) fn to_protobuf(alloc: Global) -> Result<String, CallError> {
     let bytes = signed(alloc)?.to_protobuf(alloc)?;
     let hash = HashAlgorithm::Sha256.digest(bytes.as_slice());
     Ok(hash.to_string(alloc)?)
 }
 
 // The JSON of the value, which reads back as it.
-pub(crate) fn written<T: JsonValue + Drop>(alloc: Global, value: &T) -> Result<String, Refusal> {
+pub(crate) fn written<T: JsonValue + Drop>(alloc: Global, value: &T) -> Result<String, CallError> {
     let json = value.to_value(alloc)?;
     if T::from_value(alloc, &json)? != *value {
-        return Err(Refusal::new("reads back as another value"));
+        return Err(CallError::new("reads back as another value"));
     }
     Ok(json.to_string(alloc)?)
 }
@@ -59,29 +59,29 @@ fn hash() -> AnyHash {
 }
 
 /// The JSON of a record id.
-pub(crate) fn record_id(alloc: Global) -> Result<String, Refusal> {
+pub(crate) fn record_id(alloc: Global) -> Result<String, CallError> {
     written(alloc, &RecordId::from(hash()))
 }
 
 /// The JSON of a key.
-pub(crate) fn key(alloc: Global) -> Result<String, Refusal> {
+pub(crate) fn key(alloc: Global) -> Result<String, CallError> {
     let alice = ToySigner::new(alloc, b"alice")?;
     written(alloc, alice.public_key())
 }
 
 /// The JSON of a key id.
-pub(crate) fn key_id(alloc: Global) -> Result<String, Refusal> {
+pub(crate) fn key_id(alloc: Global) -> Result<String, CallError> {
     let alice = ToySigner::new(alloc, b"alice")?;
     written(alloc, &alice.public_key().fingerprint(alloc)?)
 }
 
 /// The JSON of a package name.
-pub(crate) fn package_name(alloc: Global) -> Result<String, Refusal> {
+pub(crate) fn package_name(alloc: Global) -> Result<String, CallError> {
     written(alloc, &PackageName::new(alloc, "foo:bar")?)
 }
 
 /// The JSON of a timestamped checkpoint.
-pub(crate) fn checkpoint(alloc: Global) -> Result<String, Refusal> {
+pub(crate) fn checkpoint(alloc: Global) -> Result<String, CallError> {
     let checkpoint = Checkpoint {
         log_root: hash(),
         log_length: 300,
@@ -97,7 +97,7 @@ pub(crate) fn checkpoint(alloc: Global) -> Result<String, Refusal> {
 }
 
 /// The JSON of a leaf of a log.
-pub(crate) fn leaf(alloc: Global) -> Result<String, Refusal> {
+pub(crate) fn leaf(alloc: Global) -> Result<String, CallError> {
     let leaf = LogLeaf {
         log_id: LogId::from(hash()),
         record_id: RecordId::from(hash()),

@@ -1,10 +1,10 @@
 //! Plays the rows of one file.
 use crate::program::play_program;
-use conformance_rows::{Answer, Block, Fail, Report, Row, blocks};
+use conformance_rows::{Answer, Block, Report, Row, RowError, blocks};
 use std::alloc::Global;
 
 /// Plays the rows of a text.
-pub fn play_text(alloc: Global, text: &str) -> Result<Report, Fail> {
+pub fn play_text(alloc: Global, text: &str) -> Result<Report, RowError> {
     let mut report = Report::new(alloc);
     for block in blocks(alloc, text)?.iter() {
         play_block(alloc, block, &mut report)?;
@@ -13,7 +13,7 @@ pub fn play_text(alloc: Global, text: &str) -> Result<Report, Fail> {
 }
 
 // The head of a script ends with a colon, and is no row.
-fn play_block(alloc: Global, block: &Block, report: &mut Report) -> Result<(), Fail> {
+fn play_block(alloc: Global, block: &Block, report: &mut Report) -> Result<(), RowError> {
     let text = block.head.text.as_str();
     match text.strip_suffix(':') {
         Some(head) if Row::parse(text).is_none() => play_script(alloc, head, block, report),
@@ -21,7 +21,12 @@ fn play_block(alloc: Global, block: &Block, report: &mut Report) -> Result<(), F
     }
 }
 
-fn play_script(alloc: Global, head: &str, block: &Block, report: &mut Report) -> Result<(), Fail> {
+fn play_script(
+    alloc: Global,
+    head: &str,
+    block: &Block,
+    report: &mut Report,
+) -> Result<(), RowError> {
     let (topic, words) = head.split_once(' ').unwrap_or((head, ""));
     let number = block.head.number;
     match play_topic(alloc, topic, words, block, report) {
@@ -38,7 +43,7 @@ fn play_topic(
     words: &str,
     script: &Block,
     report: &mut Report,
-) -> Result<bool, Fail> {
+) -> Result<bool, RowError> {
     if topic != "audit" {
         return conformance_logs::play(alloc, topic, words, script, report);
     }
@@ -46,7 +51,7 @@ fn play_topic(
     Ok(true)
 }
 
-fn play_row(alloc: Global, block: &Block, report: &mut Report) -> Result<(), Fail> {
+fn play_row(alloc: Global, block: &Block, report: &mut Report) -> Result<(), RowError> {
     let (number, text) = (block.head.number, block.head.text.as_str());
     let Some(row) = Row::parse(text) else {
         return report.refuse(alloc, number, text, "a row without an answer");
@@ -66,7 +71,7 @@ fn play_row(alloc: Global, block: &Block, report: &mut Report) -> Result<(), Fai
 }
 
 // The answer of the library that has the topic. The one of proofs has two kinds of the topic `parse`, and leaves the others.
-fn answer(alloc: Global, topic: &str, words: &str) -> Result<Option<Answer>, Fail> {
+fn answer(alloc: Global, topic: &str, words: &str) -> Result<Option<Answer>, RowError> {
     if let Some(answer) = crate::proofs::answer(alloc, topic, words)? {
         return Ok(Some(answer));
     }

@@ -5,12 +5,12 @@ mod parts;
 mod shown;
 mod texts;
 
-use conformance_rows::{Answer, Fail, Words};
+use conformance_rows::{Answer, RowError, Words};
 use std::alloc::Global;
 
 /// The answer to a row of one of these topics, or `None` where the row has another. Of the topic `parse` it has the proofs
 /// alone.
-pub fn answer(alloc: Global, topic: &str, words: &str) -> Result<Option<Answer>, Fail> {
+pub fn answer(alloc: Global, topic: &str, words: &str) -> Result<Option<Answer>, RowError> {
     let words = Words::new(words);
     let answer = match topic {
         "parse" => return texts::parse(alloc, words),

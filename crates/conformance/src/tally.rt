@@ -1,6 +1,6 @@
 //! Plays files, prints the rows that fail, and counts.
 use crate::play::play_text;
-use conformance_rows::{Failure, Report};
+use conformance_rows::{FailedRow, Report};
 use std::rt::Files;
 use std::{fs, io};
 
@@ -82,7 +82,7 @@ impl Tally {
     }
 }
 
-fn print<R: Print>(rt: &R, file: &str, failure: &Failure) -> io::Result<()> {
+fn print<R: Print>(rt: &R, file: &str, failure: &FailedRow) -> io::Result<()> {
     println!(rt; "{file}:{}: {}", failure.line, failure.question)?;
     println!(rt; "  wanted {}", failure.wanted)?;
     println!(rt; "  seen {}", failure.seen)

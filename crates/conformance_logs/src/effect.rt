@@ -1,21 +1,21 @@
 //! What the entries of a record do to permissions.
-use crate::scripts::{Scripted, id, words_of};
-use conformance_rows::Fail;
+use crate::scripts::{ScriptLog, id, words_of};
+use conformance_rows::RowError;
 use std::alloc::Global;
 use warg_protocol::signing::KeyID;
 use warg_protocol::{Effect, ProtoEnvelope};
 
 // What stands of the permission in the list of all that the entry does, where it may stand once.
-fn listed_effect<L: Scripted>(
+fn listed_effect<L: ScriptLog>(
     events: &[(KeyID, L::Permission, Effect)],
     key_id: &KeyID,
     permission: L::Permission,
-) -> Result<Effect, Fail> {
+) -> Result<Effect, RowError> {
     let mut listed = Effect::Nothing;
     for event in events {
         if event.0 == *key_id && event.1 == permission {
             if listed != Effect::Nothing {
-                return Err(Fail::new("an effect is listed twice"));
+                return Err(RowError::new("an effect is listed twice"));
             }
             listed = event.2;
         }
@@ -23,20 +23,20 @@ fn listed_effect<L: Scripted>(
     Ok(listed)
 }
 
-fn effect_at<L: Scripted>(
+fn effect_at<L: ScriptLog>(
     alloc: Global,
     envelope: &ProtoEnvelope<L::Record>,
     place: usize,
     key_id: &KeyID,
     permission: L::Permission,
-) -> Result<&'static str, Fail> {
+) -> Result<&'static str, RowError> {
     if place >= L::entry_count(envelope) {
         return Ok("past the end");
     }
     let effect = L::effect(alloc, envelope, place, key_id, permission)?;
     let events = L::effects(alloc, envelope, place)?;
     if listed_effect::<L>(events.as_slice(), key_id, permission)? != effect {
-        return Err(Fail::new("the list of effects says otherwise"));
+        return Err(RowError::new("the list of effects says otherwise"));
     }
     Ok(match effect {
         Effect::Gives => "gives",
@@ -47,15 +47,15 @@ fn effect_at<L: Scripted>(
 
 /// What the entry does to a permission of a person. The subject is the entry's place, the person and the
 /// permission, as `1 bob release`.
-pub fn effect_of<L: Scripted>(
+pub fn effect_of<L: ScriptLog>(
     alloc: Global,
-    string: &[u8],
+    input: &[u8],
     subject: &str,
-) -> Result<&'static str, Fail> {
+) -> Result<&'static str, RowError> {
     let (place, name, permission) = words_of(subject);
     let place = place.parse::<usize>()?;
     let permission = L::permission(permission)?;
     let key_id = id(alloc, name)?;
-    let envelope = ProtoEnvelope::<L::Record>::from_protobuf(alloc, string)?;
+    let envelope = ProtoEnvelope::<L::Record>::from_protobuf(alloc, input)?;
     effect_at::<L>(alloc, &envelope, place, &key_id, permission)
 }

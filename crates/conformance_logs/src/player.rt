@@ -1,6 +1,6 @@
 //! Plays a script: a log that grows line by line, with what is asked of it on the way.
 //!
-//! - A line of hex digits is an envelope, and any other a record that `Draft` reads, signed. It is appended unless it is
+//! - A line of hex digits is an envelope, and any other a record that `ScriptDraft` reads, signed. It is appended unless it is
 //!   refused. `again` is the last envelope once more.
 //! - `! YankOfYanked 1.0.0`, after a line: that line was refused for this cause. The log is as before it.
 //! - `? permissions bob = only release`: the log's answer to a question.
@@ -8,9 +8,9 @@
 //! - `resume`: the state is saved and read back, and the log goes on from what was read.
 //! - `aside`: the log is put aside, and a new one begins, which is compared with it.
 use crate::questions::ask;
-use crate::scripts::{Scripted, check, next_string};
+use crate::scripts::{ScriptLog, check, next_input};
 use crate::steps::{advance, check_state};
-use conformance_rows::{Block, Fail, Line, Report, Row};
+use conformance_rows::{Block, Line, Report, Row, RowError};
 use std::alloc::Global;
 use std::mem;
 use warg_protocol::toy::ToyVerifier;
@@ -18,47 +18,47 @@ use warg_protocol::{AuditedLog, run_from};
 
 /// A log on the way.
 #[derive(Drop)]
-pub struct Log<L: Scripted> {
-    /// The state that the strings go on from.
+pub struct Log<L: ScriptLog> {
+    /// The state that the inputs go on from.
     base: L,
     /// The state.
     pub state: L,
-    /// The strings that made it.
-    pub strings: Vec<Vec<u8>>,
+    /// The inputs that made it.
+    pub inputs: Vec<Vec<u8>>,
     /// The log that is kept beside its records; none behind a saved state.
     pub kept: Option<AuditedLog<L, ToyVerifier>>,
 }
 
-impl<L: Scripted> Log<L> {
+impl<L: ScriptLog> Log<L> {
     /// The empty log.
-    pub fn new(alloc: Global) -> Result<Log<L>, Fail> {
+    pub fn new(alloc: Global) -> Result<Log<L>, RowError> {
         Ok(Log {
             base: L::new(alloc)?,
             state: L::new(alloc)?,
-            strings: Vec::new(alloc),
+            inputs: Vec::new(alloc),
             kept: Some(AuditedLog::new(alloc, ToyVerifier)?),
         })
     }
 
     // The log that goes on from this state.
-    fn behind(alloc: Global, state: L) -> Result<Log<L>, Fail> {
+    fn behind(alloc: Global, state: L) -> Result<Log<L>, RowError> {
         Ok(Log {
             base: state.try_clone()?,
             state,
-            strings: Vec::new(alloc),
+            inputs: Vec::new(alloc),
             kept: None,
         })
     }
 
-    // Its strings have to lead to its state again.
-    fn run_again(&self, alloc: Global) -> Result<(), Fail> {
+    // Its inputs have to lead to its state again.
+    fn run_again(&self, alloc: Global) -> Result<(), RowError> {
         let base = self.base.try_clone()?;
-        let again = run_from(alloc, base, &ToyVerifier, self.strings.as_slice());
+        let again = run_from(alloc, base, &ToyVerifier, self.inputs.as_slice());
         check_state(again, &self.state)
     }
 
     // Saves the state, and goes on from what is read back.
-    fn resume(&mut self, alloc: Global) -> Result<(), Fail> {
+    fn resume(&mut self, alloc: Global) -> Result<(), RowError> {
         let json = self.state.json(alloc)?;
         let state = L::of_json(alloc, json.as_str())?;
         check(state == self.state, "another state is read back")?;
@@ -69,7 +69,7 @@ impl<L: Scripted> Log<L> {
 
 // A line that was refused, and the cause in words.
 #[derive(Drop)]
-struct Refusal {
+struct RefusedLine {
     line: usize,
     text: String,
     words: String,
@@ -77,40 +77,45 @@ struct Refusal {
 
 /// A script on the way.
 #[derive(Drop)]
-struct Player<L: Scripted> {
+struct Player<L: ScriptLog> {
     log: Log<L>,
     aside: Option<Log<L>>,
-    refusal: Option<Refusal>,
+    refused: Option<RefusedLine>,
 }
 
-/// Plays a script from the empty log on. Each question and each refusal is a row.
-pub fn play_log<L: Scripted>(
+/// Plays a script from the empty log on. Each question and each error is a row.
+pub fn play_log<L: ScriptLog>(
     alloc: Global,
     script: &Block,
     report: &mut Report,
-) -> Result<(), Fail> {
+) -> Result<(), RowError> {
     let mut player = Player::<L>::new(alloc)?;
     player.play(alloc, script, report)
 }
 
-impl<L: Scripted> Player<L> {
-    fn new(alloc: Global) -> Result<Player<L>, Fail> {
+impl<L: ScriptLog> Player<L> {
+    fn new(alloc: Global) -> Result<Player<L>, RowError> {
         Ok(Player {
             log: Log::new(alloc)?,
             aside: None,
-            refusal: None,
+            refused: None,
         })
     }
 
-    fn play(&mut self, alloc: Global, script: &Block, report: &mut Report) -> Result<(), Fail> {
+    fn play(&mut self, alloc: Global, script: &Block, report: &mut Report) -> Result<(), RowError> {
         for line in script.lines.iter() {
             self.play_line(alloc, line, report)?;
         }
-        self.tell_refusal(alloc, report)?;
+        self.tell_refused(alloc, report)?;
         self.log.run_again(alloc)
     }
 
-    fn play_line(&mut self, alloc: Global, line: &Line, report: &mut Report) -> Result<(), Fail> {
+    fn play_line(
+        &mut self,
+        alloc: Global,
+        line: &Line,
+        report: &mut Report,
+    ) -> Result<(), RowError> {
         let text = line.text.as_str();
         match self.try_line(alloc, line, report) {
             Ok(()) => Ok(()),
@@ -118,53 +123,58 @@ impl<L: Scripted> Player<L> {
         }
     }
 
-    fn try_line(&mut self, alloc: Global, line: &Line, report: &mut Report) -> Result<(), Fail> {
+    fn try_line(
+        &mut self,
+        alloc: Global,
+        line: &Line,
+        report: &mut Report,
+    ) -> Result<(), RowError> {
         let text = line.text.as_str();
         if text.starts_with("! ") {
             return self.expect(alloc, line, report);
         }
-        self.tell_refusal(alloc, report)?;
+        self.tell_refused(alloc, report)?;
         match text.strip_prefix("? ") {
             Some(question) => self.ask(alloc, line.number, question, report),
             None => self.go_on(alloc, line),
         }
     }
 
-    // Another line than a question or a refusal.
-    fn go_on(&mut self, alloc: Global, line: &Line) -> Result<(), Fail> {
+    // Another line than a question or an error.
+    fn go_on(&mut self, alloc: Global, line: &Line) -> Result<(), RowError> {
         let text = line.text.as_str();
         match text {
             "resume" => self.log.resume(alloc),
             "aside" => self.put_aside(alloc),
             "again" => {
-                let string = self.log.strings.last().ok_or("no record")?.clone()?;
-                self.append(alloc, line, string)
+                let input = self.log.inputs.last().ok_or("no record")?.clone()?;
+                self.append(alloc, line, input)
             }
             _ => match text.strip_prefix("state ") {
                 Some(json) => self.load(alloc, json),
                 None => {
-                    let string = next_string(alloc, &self.log.state, text)?;
-                    self.append(alloc, line, string)
+                    let input = next_input(alloc, &self.log.state, text)?;
+                    self.append(alloc, line, input)
                 }
             },
         }
     }
 
-    fn put_aside(&mut self, alloc: Global) -> Result<(), Fail> {
+    fn put_aside(&mut self, alloc: Global) -> Result<(), RowError> {
         self.log.run_again(alloc)?;
         let new = Log::new(alloc)?;
         self.aside = Some(mem::replace(&mut self.log, new));
         Ok(())
     }
 
-    fn load(&mut self, alloc: Global, json: &str) -> Result<(), Fail> {
+    fn load(&mut self, alloc: Global, json: &str) -> Result<(), RowError> {
         self.log = Log::behind(alloc, L::of_json(alloc, json)?)?;
         Ok(())
     }
 
-    fn append(&mut self, alloc: Global, line: &Line, string: Vec<u8>) -> Result<(), Fail> {
-        if let Some(words) = advance(alloc, &mut self.log, string)? {
-            self.refusal = Some(Refusal {
+    fn append(&mut self, alloc: Global, line: &Line, input: Vec<u8>) -> Result<(), RowError> {
+        if let Some(words) = advance(alloc, &mut self.log, input)? {
+            self.refused = Some(RefusedLine {
                 line: line.number,
                 text: line.text.clone()?,
                 words,
@@ -174,15 +184,15 @@ impl<L: Scripted> Player<L> {
     }
 
     // The line that was refused last was refused for this cause.
-    fn expect(&mut self, alloc: Global, line: &Line, report: &mut Report) -> Result<(), Fail> {
+    fn expect(&mut self, alloc: Global, line: &Line, report: &mut Report) -> Result<(), RowError> {
         let wanted = line.text.as_str();
-        match self.refusal.take() {
-            Some(refusal) => {
-                let seen = format!(in alloc; "! {}", refusal.words)?;
+        match self.refused.take() {
+            Some(refused) => {
+                let seen = format!(in alloc; "! {}", refused.words)?;
                 report.count(
                     alloc,
                     line.number,
-                    refusal.text.as_str(),
+                    refused.text.as_str(),
                     wanted,
                     seen.as_str(),
                 )
@@ -191,15 +201,15 @@ impl<L: Scripted> Player<L> {
         }
     }
 
-    // A refusal that no line names.
-    fn tell_refusal(&mut self, alloc: Global, report: &mut Report) -> Result<(), Fail> {
-        match self.refusal.take() {
-            Some(refusal) => {
-                let seen = format!(in alloc; "! {}", refusal.words)?;
+    // An error that no line names.
+    fn tell_refused(&mut self, alloc: Global, report: &mut Report) -> Result<(), RowError> {
+        match self.refused.take() {
+            Some(refused) => {
+                let seen = format!(in alloc; "! {}", refused.words)?;
                 report.count(
                     alloc,
-                    refusal.line,
-                    refusal.text.as_str(),
+                    refused.line,
+                    refused.text.as_str(),
                     "accepted",
                     seen.as_str(),
                 )
@@ -214,7 +224,7 @@ impl<L: Scripted> Player<L> {
         number: usize,
         line: &str,
         report: &mut Report,
-    ) -> Result<(), Fail> {
+    ) -> Result<(), RowError> {
         let (question, wanted) = Row::split(line).ok_or("a question without an answer")?;
         let seen = ask(alloc, &self.log, self.aside.as_ref(), question)?.written(alloc)?;
         report.count(alloc, number, question, wanted, seen.as_str())

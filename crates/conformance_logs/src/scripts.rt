@@ -3,16 +3,16 @@
 mod answers;
 mod cause;
 mod checking;
-mod draft;
+mod log_error;
 mod operator;
 mod package;
 mod people;
-mod refusal;
 mod script;
+mod script_draft;
 
 pub use answers::none;
 pub use cause::cause_words;
 pub use checking::check;
-pub use draft::Draft;
 pub use people::{id, signer};
-pub use script::{Scripted, envelope_of, next_string, string_of, strings_of, words_of};
+pub use script::{ScriptLog, envelope_of, input_of, inputs_of, next_input, words_of};
+pub use script_draft::ScriptDraft;

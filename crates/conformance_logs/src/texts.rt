@@ -1,6 +1,6 @@
 //! What errors say, whatever options they are printed under.
-use crate::scripts::{Scripted, check};
-use conformance_rows::{Answer, Fail, Words};
+use crate::scripts::{ScriptLog, check};
+use conformance_rows::{Answer, RowError, Words};
 use std::alloc::Global;
 use std::fmt::Display;
 use warg_protocol::{
@@ -9,7 +9,7 @@ use warg_protocol::{
 };
 
 /// The text of an error: `refusal KIND ERROR..`.
-pub fn answer(alloc: Global, words: &str) -> Result<Answer, Fail> {
+pub fn answer(alloc: Global, words: &str) -> Result<Answer, RowError> {
     let mut words = Words::new(words);
     let kind = words.next_written();
     match kind {
@@ -19,12 +19,12 @@ pub fn answer(alloc: Global, words: &str) -> Result<Answer, Fail> {
         "envelope" => text(alloc, &envelope_fault(words.rest())?),
         "message" => text(alloc, &message_fault(words.rest())?),
         "contents" => text(alloc, &contents_fault(words.rest())?),
-        _ => Err(Fail::new("a strange kind of error")),
+        _ => Err(RowError::new("a strange kind of error")),
     }
 }
 
 // The value's text, which is the same under all options.
-fn text<T: Display>(alloc: Global, value: &T) -> Result<Answer, Fail> {
+fn text<T: Display>(alloc: Global, value: &T) -> Result<Answer, RowError> {
     let text = value.to_string(alloc)?;
     let padded = format!(in alloc; "{value:*^200}")?;
     let alternate = format!(in alloc; "{value:#}")?;
@@ -35,7 +35,7 @@ fn text<T: Display>(alloc: Global, value: &T) -> Result<Answer, Fail> {
 }
 
 // The next word; empty where none is left.
-fn next(alloc: Global, words: &mut Words<'_>) -> Result<String, Fail> {
+fn next(alloc: Global, words: &mut Words<'_>) -> Result<String, RowError> {
     if words.is_empty() {
         Ok(String::new(alloc))
     } else {
@@ -43,7 +43,7 @@ fn next(alloc: Global, words: &mut Words<'_>) -> Result<String, Fail> {
     }
 }
 
-fn of_error<L: Scripted>(alloc: Global, mut words: Words<'_>) -> Result<Answer, Fail>
+fn of_error<L: ScriptLog>(alloc: Global, mut words: Words<'_>) -> Result<Answer, RowError>
 where
     L::Error: Display,
 {
@@ -55,7 +55,7 @@ where
     text(alloc, &error)
 }
 
-fn json_fault(name: &str) -> Result<JsonTextError, Fail> {
+fn json_fault(name: &str) -> Result<JsonTextError, RowError> {
     Ok(match name {
         "NotJson" => JsonTextError::NotJson,
         "Value.WrongType" => JsonTextError::Value(JsonError::WrongType),
@@ -65,29 +65,29 @@ fn json_fault(name: &str) -> Result<JsonTextError, Fail> {
             Incoherence::StateWithoutInit,
         )),
         "OutOfMemory" => JsonTextError::OutOfMemory,
-        _ => return Err(Fail::new("a strange fault")),
+        _ => return Err(RowError::new("a strange fault")),
     })
 }
 
-fn envelope_fault(name: &str) -> Result<ParseEnvelopeError, Fail> {
+fn envelope_fault(name: &str) -> Result<ParseEnvelopeError, RowError> {
     Ok(match name {
         "ProtobufEnvelope.Group" => ParseEnvelopeError::ProtobufEnvelope(WireError::Group),
         "Contents.MissingTime" => ParseEnvelopeError::Contents(DecodeError::MissingTime),
         "OutOfMemory" => ParseEnvelopeError::OutOfMemory,
-        _ => return Err(Fail::new("a strange fault")),
+        _ => return Err(RowError::new("a strange fault")),
     })
 }
 
-fn message_fault(name: &str) -> Result<WireError, Fail> {
+fn message_fault(name: &str) -> Result<WireError, RowError> {
     match name {
         "VarintTooLong" => Ok(WireError::VarintTooLong),
-        _ => Err(Fail::new("a strange fault")),
+        _ => Err(RowError::new("a strange fault")),
     }
 }
 
-fn contents_fault(name: &str) -> Result<DecodeError, Fail> {
+fn contents_fault(name: &str) -> Result<DecodeError, RowError> {
     match name {
         "TimeOutOfRange" => Ok(DecodeError::TimeOutOfRange),
-        _ => Err(Fail::new("a strange fault")),
+        _ => Err(RowError::new("a strange fault")),
     }
 }

@@ -1,8 +1,8 @@
 //! Bodies: envelopes whose contents are not read.
-use crate::coded::Shown;
 use crate::envelopes::opened;
 use crate::errors::contents_fault;
-use conformance_rows::{Answer, Fail, Words};
+use crate::text_codec::ToText;
+use conformance_rows::{Answer, RowError, Words};
 use std::alloc::Global;
 use warg_crypto::DecodeError;
 use warg_envelope::{
@@ -11,27 +11,27 @@ use warg_envelope::{
 use warg_log_records::operator::OperatorRecord;
 use warg_log_records::package::PackageRecord;
 
-impl Shown for ProtoEnvelopeBody {
-    fn text(&self, alloc: Global) -> Result<String, Fail> {
+impl ToText for ProtoEnvelopeBody {
+    fn text(&self, alloc: Global) -> Result<String, RowError> {
         ProtoEnvelope::<OperatorRecord>::from_body(alloc, self.try_clone()?)?.text(alloc)
     }
 }
 
-impl<C: Record + Shown> Shown for PublishedProtoEnvelope<C> {
-    fn text(&self, alloc: Global) -> Result<String, Fail> {
+impl<C: Record + ToText> ToText for PublishedProtoEnvelope<C> {
+    fn text(&self, alloc: Global) -> Result<String, RowError> {
         let index = self.registry_index;
         let envelope = self.envelope.text(alloc)?;
         Ok(format!(in alloc; "at {index} {envelope}")?)
     }
 }
 
-impl Shown for PublishedProtoEnvelopeBody {
-    fn text(&self, alloc: Global) -> Result<String, Fail> {
+impl ToText for PublishedProtoEnvelopeBody {
+    fn text(&self, alloc: Global) -> Result<String, RowError> {
         PublishedProtoEnvelope::<OperatorRecord>::from_body(alloc, self.try_clone()?)?.text(alloc)
     }
 }
 
-fn body_of<C: Record>(alloc: Global, word: &str) -> Result<ProtoEnvelopeBody, Fail> {
+fn body_of<C: Record>(alloc: Global, word: &str) -> Result<ProtoEnvelopeBody, RowError> {
     Ok(ProtoEnvelopeBody::from(opened::<C>(alloc, word)?))
 }
 
@@ -39,14 +39,17 @@ fn published_body_of<C: Record>(
     alloc: Global,
     word: &str,
     registry_index: usize,
-) -> Result<PublishedProtoEnvelopeBody, Fail> {
+) -> Result<PublishedProtoEnvelopeBody, RowError> {
     Ok(PublishedProtoEnvelopeBody::from(PublishedProtoEnvelope {
         envelope: opened::<C>(alloc, word)?,
         registry_index,
     }))
 }
 
-fn shown<T: Shown + Drop>(alloc: Global, opened: Result<T, DecodeError>) -> Result<Answer, Fail> {
+fn shown<T: ToText + Drop>(
+    alloc: Global,
+    opened: Result<T, DecodeError>,
+) -> Result<Answer, RowError> {
     match opened {
         Ok(envelope) => Ok(Answer::Value(envelope.text(alloc)?)),
         Err(error) => Ok(Answer::Fault(contents_fault(alloc, error)?)),
@@ -55,12 +58,12 @@ fn shown<T: Shown + Drop>(alloc: Global, opened: Result<T, DecodeError>) -> Resu
 
 /// The answer to `body`: the kind of log of an envelope, another one, and the envelope. It is made a body, and that an
 /// envelope of the other kind.
-pub(crate) fn body(alloc: Global, mut words: Words<'_>) -> Result<Answer, Fail> {
+pub(crate) fn body(alloc: Global, mut words: Words<'_>) -> Result<Answer, RowError> {
     let (from, to) = (words.next_written(), words.next_written());
     let body = match from {
         "package" => body_of::<PackageRecord>(alloc, words.rest())?,
         "operator" => body_of::<OperatorRecord>(alloc, words.rest())?,
-        _ => return Err(Fail::new("a strange kind of log")),
+        _ => return Err(RowError::new("a strange kind of log")),
     };
     match to {
         "package" => shown(
@@ -71,18 +74,18 @@ pub(crate) fn body(alloc: Global, mut words: Words<'_>) -> Result<Answer, Fail> 
             alloc,
             ProtoEnvelope::<OperatorRecord>::from_body(alloc, body),
         ),
-        _ => Err(Fail::new("a strange kind of log")),
+        _ => Err(RowError::new("a strange kind of log")),
     }
 }
 
 /// The answer to `published-body`: as `body`, with the place in the registry's log before the envelope.
-pub(crate) fn published_body(alloc: Global, mut words: Words<'_>) -> Result<Answer, Fail> {
+pub(crate) fn published_body(alloc: Global, mut words: Words<'_>) -> Result<Answer, RowError> {
     let (from, to) = (words.next_written(), words.next_written());
     let index = words.next_written().parse::<usize>()?;
     let body = match from {
         "package" => published_body_of::<PackageRecord>(alloc, words.rest(), index)?,
         "operator" => published_body_of::<OperatorRecord>(alloc, words.rest(), index)?,
-        _ => return Err(Fail::new("a strange kind of log")),
+        _ => return Err(RowError::new("a strange kind of log")),
     };
     match to {
         "package" => shown(
@@ -93,6 +96,6 @@ pub(crate) fn published_body(alloc: Global, mut words: Words<'_>) -> Result<Answ
             alloc,
             PublishedProtoEnvelope::<OperatorRecord>::from_body(alloc, body),
         ),
-        _ => Err(Fail::new("a strange kind of log")),
+        _ => Err(RowError::new("a strange kind of log")),
     }
 }

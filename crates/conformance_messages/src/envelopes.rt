@@ -1,8 +1,8 @@
 //! Envelopes, and the ids of the records in them.
-use crate::coded::{Coded, Shown};
 use crate::errors::envelope_fault;
+use crate::text_codec::{TextCodec, ToText};
 use crate::words::word;
-use conformance_rows::{Answer, Fail, Words, bytes, hex};
+use conformance_rows::{Answer, RowError, Words, bytes, hex};
 use std::alloc::Global;
 use warg_crypto::hash::Sha256;
 use warg_envelope::{ProtoEnvelope, Record};
@@ -10,8 +10,8 @@ use warg_log_records::RecordId;
 use warg_log_records::operator::OperatorRecord;
 use warg_log_records::package::PackageRecord;
 
-impl<C: Record + Shown> Shown for ProtoEnvelope<C> {
-    fn text(&self, alloc: Global) -> Result<String, Fail> {
+impl<C: Record + ToText> ToText for ProtoEnvelope<C> {
+    fn text(&self, alloc: Global) -> Result<String, RowError> {
         let key_id = word(alloc, self.key_id().as_str())?;
         let signature = word(alloc, self.signature().to_text(alloc)?.as_str())?;
         let content = hex(alloc, self.content_bytes())?;
@@ -22,26 +22,26 @@ impl<C: Record + Shown> Shown for ProtoEnvelope<C> {
     }
 }
 
-impl<C: Record + Shown + PartialEq> Coded for ProtoEnvelope<C> {
-    fn read(alloc: Global, word: &str) -> Result<Result<ProtoEnvelope<C>, String>, Fail> {
+impl<C: Record + ToText + PartialEq> TextCodec for ProtoEnvelope<C> {
+    fn read(alloc: Global, word: &str) -> Result<Result<ProtoEnvelope<C>, String>, RowError> {
         match ProtoEnvelope::from_protobuf(alloc, bytes(alloc, word)?.as_slice()) {
             Ok(envelope) => Ok(Ok(envelope)),
             Err(error) => Ok(Err(envelope_fault(alloc, error)?)),
         }
     }
 
-    fn write(&self, alloc: Global) -> Result<String, Fail> {
+    fn write(&self, alloc: Global) -> Result<String, RowError> {
         hex(alloc, self.to_protobuf(alloc)?.as_slice())
     }
 }
 
 /// The envelope that the word says, which has no fault.
-pub(crate) fn opened<C: Record>(alloc: Global, word: &str) -> Result<ProtoEnvelope<C>, Fail> {
+pub(crate) fn opened<C: Record>(alloc: Global, word: &str) -> Result<ProtoEnvelope<C>, RowError> {
     Ok(ProtoEnvelope::from_protobuf(alloc, bytes(alloc, word)?.as_slice())?)
 }
 
 // The id of the record in an envelope, and that of its content bytes.
-fn ids(alloc: Global, log: &str, word: &str) -> Result<(RecordId, RecordId), Fail> {
+fn ids(alloc: Global, log: &str, word: &str) -> Result<(RecordId, RecordId), RowError> {
     match log {
         "package" => {
             let envelope = opened::<PackageRecord>(alloc, word)?;
@@ -55,17 +55,17 @@ fn ids(alloc: Global, log: &str, word: &str) -> Result<(RecordId, RecordId), Fai
             let content = envelope.content_bytes();
             Ok((id, RecordId::of_operator_content::<Sha256>(content)))
         }
-        _ => Err(Fail::new("a strange kind of log")),
+        _ => Err(RowError::new("a strange kind of log")),
     }
 }
 
 /// The answer to `record-id`: of which kind of log, and the envelope. The id is also that of the content bytes alone.
-pub(crate) fn record_id(alloc: Global, mut words: Words<'_>) -> Result<Answer, Fail> {
+pub(crate) fn record_id(alloc: Global, mut words: Words<'_>) -> Result<Answer, RowError> {
     let log = words.next_written();
     let (id, of_content) = ids(alloc, log, words.rest())?;
     if id == of_content {
         Answer::value(alloc, &id)
     } else {
-        Err(Fail::new("the content bytes have another id"))
+        Err(RowError::new("the content bytes have another id"))
     }
 }

@@ -1,5 +1,5 @@
 //! The names of faults, and the texts of errors.
-use conformance_rows::{Answer, Fail, Words};
+use conformance_rows::{Answer, RowError, Words};
 use std::alloc::Global;
 use warg_crypto::DecodeError;
 use warg_crypto::hash::AnyHashError;
@@ -8,7 +8,7 @@ use warg_envelope::ParseEnvelopeError;
 use warg_protobuf::WireError;
 
 /// The cases of the fault from the outside in, joined by dots, and the number of a permission behind them.
-pub(crate) fn envelope_fault(alloc: Global, error: ParseEnvelopeError) -> Result<String, Fail> {
+pub(crate) fn envelope_fault(alloc: Global, error: ParseEnvelopeError) -> Result<String, RowError> {
     let name = error.name();
     match error {
         ParseEnvelopeError::Contents(DecodeError::Permission { value }) => {
@@ -19,14 +19,14 @@ pub(crate) fn envelope_fault(alloc: Global, error: ParseEnvelopeError) -> Result
 }
 
 /// The same of a fault of contents alone.
-pub(crate) fn contents_fault(alloc: Global, error: DecodeError) -> Result<String, Fail> {
+pub(crate) fn contents_fault(alloc: Global, error: DecodeError) -> Result<String, RowError> {
     let fault = envelope_fault(alloc, ParseEnvelopeError::Contents(error))?;
     let fault = fault.as_str();
     let inner = fault.strip_prefix("Contents.").unwrap_or(fault);
     Ok(String::from_str(alloc, inner)?)
 }
 
-fn wire_error(name: &str) -> Result<WireError, Fail> {
+fn wire_error(name: &str) -> Result<WireError, RowError> {
     Ok(match name {
         "Truncated" => WireError::Truncated,
         "VarintTooLong" => WireError::VarintTooLong,
@@ -35,11 +35,11 @@ fn wire_error(name: &str) -> Result<WireError, Fail> {
         "WrongWireType" => WireError::WrongWireType,
         "NotUtf8" => WireError::NotUtf8,
         "OutOfMemory" => WireError::OutOfMemory,
-        _ => return Err(Fail::new("a strange fault of a message")),
+        _ => return Err(RowError::new("a strange fault of a message")),
     })
 }
 
-fn envelope_error(name: &str) -> Result<ParseEnvelopeError, Fail> {
+fn envelope_error(name: &str) -> Result<ParseEnvelopeError, RowError> {
     Ok(match name {
         "ProtobufEnvelope.Group" => ParseEnvelopeError::ProtobufEnvelope(WireError::Group),
         "Contents.MissingTime" => ParseEnvelopeError::Contents(DecodeError::MissingTime),
@@ -48,17 +48,17 @@ fn envelope_error(name: &str) -> Result<ParseEnvelopeError, Fail> {
             ParseEnvelopeError::Signature(SignatureParseError::MissingColon)
         }
         "OutOfMemory" => ParseEnvelopeError::OutOfMemory,
-        _ => return Err(Fail::new("a strange fault of an envelope")),
+        _ => return Err(RowError::new("a strange fault of an envelope")),
     })
 }
 
 /// The answer to `error-text`: the type of an error, and the name of the error.
-pub(crate) fn text(alloc: Global, mut words: Words<'_>) -> Result<Answer, Fail> {
+pub(crate) fn text(alloc: Global, mut words: Words<'_>) -> Result<Answer, RowError> {
     let of_type = words.next_written();
     let name = words.rest();
     match of_type {
         "WireError" => Answer::value(alloc, &wire_error(name)?),
         "ParseEnvelopeError" => Answer::value(alloc, &envelope_error(name)?),
-        _ => Err(Fail::new("a strange type of errors")),
+        _ => Err(RowError::new("a strange type of errors")),
     }
 }

@@ -1,12 +1,12 @@
 //! Messages in the text format of protocol buffers, in braces and with bytes in hex: `{ key: "a" permissions: [1, 2] }`.
 use crate::words::in_quotes;
-use conformance_rows::{Fail, hex};
+use conformance_rows::{RowError, hex};
 use std::alloc::Global;
 
 /// A message whose fields are written by rising number.
 pub(crate) trait Fields {
     /// Appends the fields, each behind a space.
-    fn put(&self, alloc: Global, out: &mut String) -> Result<(), Fail>;
+    fn put(&self, alloc: Global, out: &mut String) -> Result<(), RowError>;
 }
 
 /// Appends a message in braces.
@@ -14,7 +14,7 @@ pub(crate) fn put_braced<M: Fields>(
     alloc: Global,
     out: &mut String,
     message: &M,
-) -> Result<(), Fail> {
+) -> Result<(), RowError> {
     out.push('{')?;
     message.put(alloc, out)?;
     if !out.ends_with('{') {
@@ -30,7 +30,7 @@ pub(crate) fn put_message<M: Fields>(
     out: &mut String,
     name: &str,
     message: &M,
-) -> Result<(), Fail> {
+) -> Result<(), RowError> {
     write!(out, " {name} ")?;
     put_braced(alloc, out, message)
 }
@@ -41,7 +41,7 @@ pub(crate) fn put_present_text(
     out: &mut String,
     name: &str,
     text: &str,
-) -> Result<(), Fail> {
+) -> Result<(), RowError> {
     let text = in_quotes(alloc, text)?;
     write!(out, " {name}: {text}")?;
     Ok(())
@@ -53,7 +53,7 @@ pub(crate) fn put_text(
     out: &mut String,
     name: &str,
     text: &str,
-) -> Result<(), Fail> {
+) -> Result<(), RowError> {
     if text.is_empty() {
         return Ok(());
     }
@@ -66,7 +66,7 @@ pub(crate) fn put_bytes(
     out: &mut String,
     name: &str,
     bytes: &[u8],
-) -> Result<(), Fail> {
+) -> Result<(), RowError> {
     if !bytes.is_empty() {
         let digits = hex(alloc, bytes)?;
         write!(out, " {name}: {digits}")?;
@@ -75,7 +75,7 @@ pub(crate) fn put_bytes(
 }
 
 /// A number, which is left out where it is 0.
-pub(crate) fn put_number(out: &mut String, name: &str, number: i64) -> Result<(), Fail> {
+pub(crate) fn put_number(out: &mut String, name: &str, number: i64) -> Result<(), RowError> {
     if number != 0 {
         write!(out, " {name}: {number}")?;
     }
@@ -83,7 +83,7 @@ pub(crate) fn put_number(out: &mut String, name: &str, number: i64) -> Result<()
 }
 
 /// A list of numbers, which is left out where it is empty.
-pub(crate) fn put_numbers(out: &mut String, name: &str, numbers: &[i32]) -> Result<(), Fail> {
+pub(crate) fn put_numbers(out: &mut String, name: &str, numbers: &[i32]) -> Result<(), RowError> {
     if numbers.is_empty() {
         return Ok(());
     }

@@ -1,7 +1,7 @@
 //! JSON of envelopes that keep no bytes of their contents, of bodies and of permissions.
-use crate::coded::{Coded, Shown, Verb, play};
+use crate::text_codec::{TextCodec, ToText, Verb, play};
 use crate::words::word;
-use conformance_rows::{Answer, Fail, Words};
+use conformance_rows::{Answer, RowError, Words};
 use serde_json::Value;
 use std::alloc::Global;
 use warg_crypto::hash::AnyHash;
@@ -17,64 +17,64 @@ pub(crate) struct Json<T> {
     value: T,
 }
 
-impl<T: Shown> Shown for Json<T> {
-    fn text(&self, alloc: Global) -> Result<String, Fail> {
+impl<T: ToText> ToText for Json<T> {
+    fn text(&self, alloc: Global) -> Result<String, RowError> {
         self.value.text(alloc)
     }
 }
 
 /// The JSON value of a text.
-pub(crate) fn value_of(alloc: Global, json: &str) -> Result<Value, Fail> {
+pub(crate) fn value_of(alloc: Global, json: &str) -> Result<Value, RowError> {
     Ok(Value::from_str(alloc, json)?)
 }
 
-impl<T: JsonValue + Shown + Drop> Coded for Json<T> {
-    fn read(alloc: Global, word: &str) -> Result<Result<Json<T>, String>, Fail> {
+impl<T: JsonValue + ToText + Drop> TextCodec for Json<T> {
+    fn read(alloc: Global, word: &str) -> Result<Result<Json<T>, String>, RowError> {
         match T::from_value(alloc, &value_of(alloc, word)?) {
             Ok(value) => Ok(Ok(Json { value })),
             Err(fault) => Ok(Err(fault.to_string(alloc)?)),
         }
     }
 
-    fn write(&self, alloc: Global) -> Result<String, Fail> {
+    fn write(&self, alloc: Global) -> Result<String, RowError> {
         Ok(self.value.to_value(alloc)?.to_string(alloc)?)
     }
 }
 
-impl Shown for AnyHash {
-    fn text(&self, alloc: Global) -> Result<String, Fail> {
+impl ToText for AnyHash {
+    fn text(&self, alloc: Global) -> Result<String, RowError> {
         Ok(self.to_string(alloc)?)
     }
 }
 
-impl Shown for Timestamp {
-    fn text(&self, alloc: Global) -> Result<String, Fail> {
+impl ToText for Timestamp {
+    fn text(&self, alloc: Global) -> Result<String, RowError> {
         Ok(self.to_string(alloc)?)
     }
 }
 
-impl Shown for package::Permission {
-    fn text(&self, alloc: Global) -> Result<String, Fail> {
+impl ToText for package::Permission {
+    fn text(&self, alloc: Global) -> Result<String, RowError> {
         Ok(self.to_string(alloc)?)
     }
 }
 
-impl Shown for operator::Permission {
-    fn text(&self, alloc: Global) -> Result<String, Fail> {
+impl ToText for operator::Permission {
+    fn text(&self, alloc: Global) -> Result<String, RowError> {
         Ok(self.to_string(alloc)?)
     }
 }
 
-impl Shown for Checkpoint {
-    fn text(&self, alloc: Global) -> Result<String, Fail> {
+impl ToText for Checkpoint {
+    fn text(&self, alloc: Global) -> Result<String, RowError> {
         let (log_root, map_root) = (self.log_root, self.map_root);
         let length = self.log_length;
         Ok(format!(in alloc; "{log_root} {length} {map_root}")?)
     }
 }
 
-impl<C: Shown> Shown for SerdeEnvelope<C> {
-    fn text(&self, alloc: Global) -> Result<String, Fail> {
+impl<C: ToText> ToText for SerdeEnvelope<C> {
+    fn text(&self, alloc: Global) -> Result<String, RowError> {
         let key_id = word(alloc, self.key_id().as_str())?;
         let signature = word(alloc, self.signature().to_text(alloc)?.as_str())?;
         let contents = self.contents().text(alloc)?;
@@ -88,7 +88,7 @@ pub(crate) fn answer(
     verb: Verb,
     kind: &str,
     words: Words<'_>,
-) -> Result<Answer, Fail> {
+) -> Result<Answer, RowError> {
     match kind {
         "hash-envelope" => play::<Json<SerdeEnvelope<AnyHash>>>(alloc, verb, words),
         "checkpoint-envelope" => play::<Json<SerdeEnvelope<Checkpoint>>>(alloc, verb, words),
@@ -99,6 +99,6 @@ pub(crate) fn answer(
         "published-body" => play::<Json<PublishedProtoEnvelopeBody>>(alloc, verb, words),
         "package-permission" => play::<Json<package::Permission>>(alloc, verb, words),
         "operator-permission" => play::<Json<operator::Permission>>(alloc, verb, words),
-        _ => Err(Fail::new("a strange kind of JSON")),
+        _ => Err(RowError::new("a strange kind of JSON")),
     }
 }

@@ -1,9 +1,9 @@
 //! The kinds of values that rows name by their words.
-use crate::coded::{Verb, play};
 use crate::json;
 use crate::messages::{Outer, Wire};
 use crate::records::{Content, FromMessage};
-use conformance_rows::{Answer, Fail, Words};
+use crate::text_codec::{Verb, play};
+use conformance_rows::{Answer, RowError, Words};
 use std::alloc::Global;
 use warg_envelope::ProtoEnvelope;
 use warg_log_records::operator::{OperatorEntry, OperatorRecord};
@@ -12,7 +12,7 @@ use warg_protobuf as message;
 
 /// The answer to `decode`, `both-ways`, `encode`, `digest` and `equal`. The words are a group of values, a kind of its
 /// values, and what says a value.
-pub(crate) fn answer(alloc: Global, verb: Verb, mut words: Words<'_>) -> Result<Answer, Fail> {
+pub(crate) fn answer(alloc: Global, verb: Verb, mut words: Words<'_>) -> Result<Answer, RowError> {
     let group = words.next_written();
     let kind = words.next_written();
     match group {
@@ -21,11 +21,11 @@ pub(crate) fn answer(alloc: Global, verb: Verb, mut words: Words<'_>) -> Result<
         "operator" => of_operator(alloc, verb, kind, words),
         "both" => of_both(alloc, verb, kind, words),
         "json" => json::answer(alloc, verb, kind, words),
-        _ => Err(Fail::new("a strange group of values")),
+        _ => Err(RowError::new("a strange group of values")),
     }
 }
 
-fn of_message(alloc: Global, verb: Verb, kind: &str, words: Words<'_>) -> Result<Answer, Fail> {
+fn of_message(alloc: Global, verb: Verb, kind: &str, words: Words<'_>) -> Result<Answer, RowError> {
     match kind {
         "Envelope" => play::<Outer>(alloc, verb, words),
         "TimestampPair" => play::<Wire<message::TimestampPair>>(alloc, verb, words),
@@ -38,7 +38,7 @@ fn of_message(alloc: Global, verb: Verb, kind: &str, words: Words<'_>) -> Result
 }
 
 // A message that is a member of an entry.
-fn of_member(alloc: Global, verb: Verb, kind: &str, words: Words<'_>) -> Result<Answer, Fail> {
+fn of_member(alloc: Global, verb: Verb, kind: &str, words: Words<'_>) -> Result<Answer, RowError> {
     match kind {
         "PackageInit" => play::<Wire<message::PackageInit>>(alloc, verb, words),
         "PackageGrantFlat" => play::<Wire<message::PackageGrantFlat>>(alloc, verb, words),
@@ -54,38 +54,43 @@ fn of_member(alloc: Global, verb: Verb, kind: &str, words: Words<'_>) -> Result<
         "OperatorImportNamespace" => {
             play::<Wire<message::OperatorImportNamespace>>(alloc, verb, words)
         }
-        _ => Err(Fail::new("a strange kind of message")),
+        _ => Err(RowError::new("a strange kind of message")),
     }
 }
 
 // An entry by its message, a record by its message or by its content bytes, or an envelope.
-fn of_package(alloc: Global, verb: Verb, kind: &str, words: Words<'_>) -> Result<Answer, Fail> {
+fn of_package(alloc: Global, verb: Verb, kind: &str, words: Words<'_>) -> Result<Answer, RowError> {
     match kind {
         "entry" => play::<FromMessage<PackageEntry>>(alloc, verb, words),
         "record-message" => play::<FromMessage<PackageRecord>>(alloc, verb, words),
         "record" => play::<Content<PackageRecord>>(alloc, verb, words),
         "envelope" => play::<ProtoEnvelope<PackageRecord>>(alloc, verb, words),
-        _ => Err(Fail::new("a strange kind of value")),
+        _ => Err(RowError::new("a strange kind of value")),
     }
 }
 
-fn of_operator(alloc: Global, verb: Verb, kind: &str, words: Words<'_>) -> Result<Answer, Fail> {
+fn of_operator(
+    alloc: Global,
+    verb: Verb,
+    kind: &str,
+    words: Words<'_>,
+) -> Result<Answer, RowError> {
     match kind {
         "entry" => play::<FromMessage<OperatorEntry>>(alloc, verb, words),
         "record-message" => play::<FromMessage<OperatorRecord>>(alloc, verb, words),
         "record" => play::<Content<OperatorRecord>>(alloc, verb, words),
         "envelope" => play::<ProtoEnvelope<OperatorRecord>>(alloc, verb, words),
-        _ => Err(Fail::new("a strange kind of value")),
+        _ => Err(RowError::new("a strange kind of value")),
     }
 }
 
 // What both kinds of log answer.
-fn of_both(alloc: Global, verb: Verb, kind: &str, words: Words<'_>) -> Result<Answer, Fail> {
+fn of_both(alloc: Global, verb: Verb, kind: &str, words: Words<'_>) -> Result<Answer, RowError> {
     let package = of_package(alloc, verb, kind, words)?;
     let operator = of_operator(alloc, verb, kind, words)?;
     if package == operator {
         Ok(package)
     } else {
-        Err(Fail::new("the kinds of log answer differently"))
+        Err(RowError::new("the kinds of log answer differently"))
     }
 }

@@ -2,7 +2,6 @@
 #![tactic(auto)]
 
 mod bodies;
-mod coded;
 mod envelopes;
 mod errors;
 mod fields;
@@ -11,15 +10,16 @@ mod kinds;
 mod messages;
 mod records;
 mod signing;
+mod text_codec;
 mod words;
 
-use conformance_rows::{Answer, Fail, Words};
+use conformance_rows::{Answer, RowError, Words};
 use std::alloc::Global;
 
 /// The answer to a row of one of this crate's topics, or `None` where it has no such topic.
-pub fn answer(alloc: Global, topic: &str, words: &str) -> Result<Option<Answer>, Fail> {
+pub fn answer(alloc: Global, topic: &str, words: &str) -> Result<Option<Answer>, RowError> {
     let words = Words::new(words);
-    if let Some(verb) = coded::verb_of(topic) {
+    if let Some(verb) = text_codec::verb_of(topic) {
         return Ok(Some(kinds::answer(alloc, verb, words)?));
     }
     Ok(Some(match topic {

@@ -1,9 +1,9 @@
 //! Entries and records: read from their messages, and records from content bytes too.
 mod text;
 
-use crate::coded::{Coded, Shown};
 use crate::errors::contents_fault;
-use conformance_rows::{Answer, Fail, Words, bytes, hex};
+use crate::text_codec::{TextCodec, ToText};
+use conformance_rows::{Answer, RowError, Words, bytes, hex};
 use std::alloc::Global;
 use warg_crypto::{Decode, DecodeError, Encode};
 use warg_envelope::Record;
@@ -15,41 +15,50 @@ use warg_protobuf::Message;
 /// What is read from a message, and written as one.
 pub(crate) trait ByMessage: Sized {
     /// The value that the message of these bytes says, or the fault in what it says.
-    fn of_message(alloc: Global, bytes: &[u8]) -> Result<Result<Self, DecodeError>, Fail>;
+    fn of_message(alloc: Global, bytes: &[u8]) -> Result<Result<Self, DecodeError>, RowError>;
 
     /// The bytes of the message that says the value.
-    fn message(&self, alloc: Global) -> Result<Vec<u8>, Fail>;
+    fn message(&self, alloc: Global) -> Result<Vec<u8>, RowError>;
 }
 
 impl ByMessage for PackageEntry {
-    fn of_message(alloc: Global, bytes: &[u8]) -> Result<Result<PackageEntry, DecodeError>, Fail> {
+    fn of_message(
+        alloc: Global,
+        bytes: &[u8],
+    ) -> Result<Result<PackageEntry, DecodeError>, RowError> {
         let message = message::PackageEntry::decode(alloc, bytes)?;
         Ok(PackageEntry::from_proto(alloc, message))
     }
 
-    fn message(&self, alloc: Global) -> Result<Vec<u8>, Fail> {
+    fn message(&self, alloc: Global) -> Result<Vec<u8>, RowError> {
         Ok(self.to_proto(alloc)?.encode(alloc)?)
     }
 }
 
 impl ByMessage for OperatorEntry {
-    fn of_message(alloc: Global, bytes: &[u8]) -> Result<Result<OperatorEntry, DecodeError>, Fail> {
+    fn of_message(
+        alloc: Global,
+        bytes: &[u8],
+    ) -> Result<Result<OperatorEntry, DecodeError>, RowError> {
         let message = message::OperatorEntry::decode(alloc, bytes)?;
         Ok(OperatorEntry::from_proto(alloc, message))
     }
 
-    fn message(&self, alloc: Global) -> Result<Vec<u8>, Fail> {
+    fn message(&self, alloc: Global) -> Result<Vec<u8>, RowError> {
         Ok(self.to_proto(alloc)?.encode(alloc)?)
     }
 }
 
 impl ByMessage for PackageRecord {
-    fn of_message(alloc: Global, bytes: &[u8]) -> Result<Result<PackageRecord, DecodeError>, Fail> {
+    fn of_message(
+        alloc: Global,
+        bytes: &[u8],
+    ) -> Result<Result<PackageRecord, DecodeError>, RowError> {
         let message = message::PackageRecord::decode(alloc, bytes)?;
         Ok(PackageRecord::from_proto(alloc, message))
     }
 
-    fn message(&self, alloc: Global) -> Result<Vec<u8>, Fail> {
+    fn message(&self, alloc: Global) -> Result<Vec<u8>, RowError> {
         Ok(self.to_proto(alloc)?.encode(alloc)?)
     }
 }
@@ -58,12 +67,12 @@ impl ByMessage for OperatorRecord {
     fn of_message(
         alloc: Global,
         bytes: &[u8],
-    ) -> Result<Result<OperatorRecord, DecodeError>, Fail> {
+    ) -> Result<Result<OperatorRecord, DecodeError>, RowError> {
         let message = message::OperatorRecord::decode(alloc, bytes)?;
         Ok(OperatorRecord::from_proto(alloc, message))
     }
 
-    fn message(&self, alloc: Global) -> Result<Vec<u8>, Fail> {
+    fn message(&self, alloc: Global) -> Result<Vec<u8>, RowError> {
         Ok(self.to_proto(alloc)?.encode(alloc)?)
     }
 }
@@ -74,21 +83,21 @@ pub(crate) struct FromMessage<T> {
     value: T,
 }
 
-impl<T: Shown> Shown for FromMessage<T> {
-    fn text(&self, alloc: Global) -> Result<String, Fail> {
+impl<T: ToText> ToText for FromMessage<T> {
+    fn text(&self, alloc: Global) -> Result<String, RowError> {
         self.value.text(alloc)
     }
 }
 
-impl<T: ByMessage + Shown + PartialEq + Drop> Coded for FromMessage<T> {
-    fn read(alloc: Global, word: &str) -> Result<Result<FromMessage<T>, String>, Fail> {
+impl<T: ByMessage + ToText + PartialEq + Drop> TextCodec for FromMessage<T> {
+    fn read(alloc: Global, word: &str) -> Result<Result<FromMessage<T>, String>, RowError> {
         match T::of_message(alloc, bytes(alloc, word)?.as_slice())? {
             Ok(value) => Ok(Ok(FromMessage { value })),
             Err(error) => Ok(Err(contents_fault(alloc, error)?)),
         }
     }
 
-    fn write(&self, alloc: Global) -> Result<String, Fail> {
+    fn write(&self, alloc: Global) -> Result<String, RowError> {
         hex(alloc, self.value.message(alloc)?.as_slice())
     }
 }
@@ -99,37 +108,37 @@ pub(crate) struct Content<C> {
     record: C,
 }
 
-impl<C: Shown> Shown for Content<C> {
-    fn text(&self, alloc: Global) -> Result<String, Fail> {
+impl<C: ToText> ToText for Content<C> {
+    fn text(&self, alloc: Global) -> Result<String, RowError> {
         self.record.text(alloc)
     }
 }
 
-impl<C: Decode + Encode + Shown + PartialEq> Coded for Content<C> {
-    fn read(alloc: Global, word: &str) -> Result<Result<Content<C>, String>, Fail> {
+impl<C: Decode + Encode + ToText + PartialEq> TextCodec for Content<C> {
+    fn read(alloc: Global, word: &str) -> Result<Result<Content<C>, String>, RowError> {
         match C::decode(alloc, bytes(alloc, word)?.as_slice()) {
             Ok(record) => Ok(Ok(Content { record })),
             Err(error) => Ok(Err(contents_fault(alloc, error)?)),
         }
     }
 
-    fn write(&self, alloc: Global) -> Result<String, Fail> {
+    fn write(&self, alloc: Global) -> Result<String, RowError> {
         hex(alloc, self.record.encode(alloc)?.as_slice())
     }
 }
 
 /// The answer to `record-contents`: of which kind of log, and the content bytes of a record. What it mentions stands in
 /// brackets, each once, by first mention.
-pub(crate) fn contents(alloc: Global, mut words: Words<'_>) -> Result<Answer, Fail> {
+pub(crate) fn contents(alloc: Global, mut words: Words<'_>) -> Result<Answer, RowError> {
     let log = words.next_written();
     match log {
         "package" => contents_of::<PackageRecord>(alloc, words.rest()),
         "operator" => contents_of::<OperatorRecord>(alloc, words.rest()),
-        _ => Err(Fail::new("a strange kind of log")),
+        _ => Err(RowError::new("a strange kind of log")),
     }
 }
 
-fn contents_of<C: Record>(alloc: Global, word: &str) -> Result<Answer, Fail> {
+fn contents_of<C: Record>(alloc: Global, word: &str) -> Result<Answer, RowError> {
     let record = C::decode(alloc, bytes(alloc, word)?.as_slice())?;
     let mut text = String::from_str(alloc, "[")?;
     for hash in &record.contents(alloc)? {

@@ -1,5 +1,5 @@
 //! What a row is answered.
-use crate::Fail;
+use crate::RowError;
 use crate::quotes::quoted;
 use std::alloc::Global;
 use std::fmt::{Debug, Display};
@@ -15,19 +15,19 @@ pub enum Answer {
 
 impl Answer {
     /// A value's text, in quotes where it needs them.
-    pub fn value<T: Display>(alloc: Global, value: &T) -> Result<Answer, Fail> {
+    pub fn value<T: Display>(alloc: Global, value: &T) -> Result<Answer, RowError> {
         let text = value.to_string(alloc)?;
         Ok(Answer::Value(quoted(alloc, text.as_str())?))
     }
 
     /// A fault's text, such as a name.
-    pub fn fault<T: Display>(alloc: Global, fault: &T) -> Result<Answer, Fail> {
+    pub fn fault<T: Display>(alloc: Global, fault: &T) -> Result<Answer, RowError> {
         Ok(Answer::Fault(fault.to_string(alloc)?))
     }
 
     /// The cases of a fault from the outside in: `Contents.Prev.BadHex`, and the last one's field behind a space:
     /// `Contents.Permission 3`.
-    pub fn cases<E: Debug>(alloc: Global, fault: &E) -> Result<Answer, Fail> {
+    pub fn cases<E: Debug>(alloc: Global, fault: &E) -> Result<Answer, RowError> {
         let text = format!(in alloc; "{fault:?}")?;
         Ok(Answer::Fault(cases(alloc, text.as_str())?))
     }
@@ -36,7 +36,7 @@ impl Answer {
     pub fn of<T: Display + Drop, E: Debug + Drop>(
         alloc: Global,
         outcome: Result<T, E>,
-    ) -> Result<Answer, Fail> {
+    ) -> Result<Answer, RowError> {
         match outcome {
             Ok(value) => Answer::value(alloc, &value),
             Err(fault) => Answer::cases(alloc, &fault),
@@ -44,7 +44,7 @@ impl Answer {
     }
 
     /// The answer as a row has it, with its separator.
-    pub fn written(&self, alloc: Global) -> Result<String, Fail> {
+    pub fn written(&self, alloc: Global) -> Result<String, RowError> {
         Ok(match self {
             Answer::Value(text) => format!(in alloc; "= {text}")?,
             Answer::Fault(text) => format!(in alloc; "! {text}")?,
@@ -53,7 +53,7 @@ impl Answer {
 }
 
 // `Contents(Prev(BadHex))` as `Contents.Prev.BadHex`, and `Permission(3)` as `Permission 3`.
-fn cases(alloc: Global, debug: &str) -> Result<String, Fail> {
+fn cases(alloc: Global, debug: &str) -> Result<String, RowError> {
     let mut text = String::new(alloc);
     for part in debug.trim_end_matches(')').split('(') {
         if text.is_empty() {

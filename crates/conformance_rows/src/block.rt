@@ -1,5 +1,5 @@
 //! The lines of a file, and which of them belong together.
-use crate::Fail;
+use crate::RowError;
 use std::alloc::Global;
 
 /// A line without the white space at its ends, or several that were folded by backslashes.
@@ -29,7 +29,7 @@ struct Reader {
 }
 
 /// The blocks of a file's text. Comments and blank lines are left out.
-pub fn blocks(alloc: Global, text: &str) -> Result<Vec<Block>, Fail> {
+pub fn blocks(alloc: Global, text: &str) -> Result<Vec<Block>, RowError> {
     let mut reader = Reader {
         blocks: Vec::new(alloc),
         is_open: false,
@@ -51,7 +51,7 @@ fn last_text(block: &mut Block) -> &mut String {
 }
 
 impl Reader {
-    fn read(&mut self, alloc: Global, number: usize, line: &str) -> Result<(), Fail> {
+    fn read(&mut self, alloc: Global, number: usize, line: &str) -> Result<(), RowError> {
         let trimmed = line.trim();
         if !self.is_open && (trimmed.is_empty() || trimmed.starts_with('#')) {
             return Ok(());
@@ -69,7 +69,7 @@ impl Reader {
         Ok(())
     }
 
-    fn go_on(&mut self, text: &str) -> Result<(), Fail> {
+    fn go_on(&mut self, text: &str) -> Result<(), RowError> {
         if let Some(block) = self.blocks.last_mut() {
             last_text(block).push_str(text)?;
         }
@@ -82,7 +82,7 @@ impl Reader {
         number: usize,
         text: &str,
         is_indented: bool,
-    ) -> Result<(), Fail> {
+    ) -> Result<(), RowError> {
         let line = Line {
             number,
             text: String::from_str(alloc, text)?,

@@ -4,16 +4,16 @@
 
 mod answer;
 mod block;
-mod fail;
 mod quotes;
 mod report;
 mod row;
+mod row_error;
 mod words;
 
 pub use answer::Answer;
 pub use block::{Block, Line, blocks};
-pub use fail::Fail;
 pub use quotes::quoted;
-pub use report::{Failure, Report};
+pub use report::{FailedRow, Report};
 pub use row::Row;
+pub use row_error::RowError;
 pub use words::{Words, bytes, hex};

@@ -1,5 +1,5 @@
 //! Texts in double quotes, which are JSON strings.
-use crate::Fail;
+use crate::RowError;
 use serde_json::Value;
 use std::alloc::Global;
 
@@ -41,7 +41,7 @@ fn needs_quotes(text: &str) -> bool {
 
 /// The text as it stands in an answer: a JSON string where it is empty, has white space at an end, or holds a quote, a
 /// backslash or a control character.
-pub fn quoted(alloc: Global, text: &str) -> Result<String, Fail> {
+pub fn quoted(alloc: Global, text: &str) -> Result<String, RowError> {
     let owned = String::from_str(alloc, text)?;
     if needs_quotes(text) {
         Ok(Value::String(owned).to_string(alloc)?)
@@ -51,9 +51,9 @@ pub fn quoted(alloc: Global, text: &str) -> Result<String, Fail> {
 }
 
 /// The text that a JSON string spells.
-pub(crate) fn unquoted(alloc: Global, word: &str) -> Result<String, Fail> {
+pub(crate) fn unquoted(alloc: Global, word: &str) -> Result<String, RowError> {
     match Value::from_str(alloc, word)? {
         Value::String(text) => Ok(text),
-        _ => Err(Fail::new("a word in quotes is no JSON string")),
+        _ => Err(RowError::new("a word in quotes is no JSON string")),
     }
 }

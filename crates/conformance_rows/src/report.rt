@@ -1,10 +1,10 @@
 //! What became of rows.
-use crate::Fail;
+use crate::RowError;
 use std::alloc::Global;
 
 /// A row that was answered otherwise than it says.
 #[derive(Debug, Drop)]
-pub struct Failure {
+pub struct FailedRow {
     /// Its line in the file, counted from 1.
     pub line: usize,
     /// What was asked.
@@ -21,7 +21,7 @@ pub struct Report {
     /// The number of rows.
     pub rows: usize,
     /// The rows that were answered otherwise, or could not be played.
-    pub failures: Vec<Failure>,
+    pub failures: Vec<FailedRow>,
     /// Whether a row could not be read.
     pub has_unreadable: bool,
 }
@@ -44,10 +44,10 @@ impl Report {
         question: &str,
         wanted: &str,
         seen: &str,
-    ) -> Result<(), Fail> {
+    ) -> Result<(), RowError> {
         self.rows = self.rows.saturating_add(1);
         if wanted != seen {
-            self.failures.push(Failure {
+            self.failures.push(FailedRow {
                 line,
                 question: String::from_str(alloc, question)?,
                 wanted: String::from_str(alloc, wanted)?,
@@ -64,7 +64,7 @@ impl Report {
         line: usize,
         question: &str,
         reason: &str,
-    ) -> Result<(), Fail> {
+    ) -> Result<(), RowError> {
         self.has_unreadable = true;
         self.count(alloc, line, question, "a row that can be read", reason)
     }

@@ -1,5 +1,5 @@
 //! The words of a row.
-use crate::Fail;
+use crate::RowError;
 use crate::quotes::{Quotes, unquoted};
 use std::alloc::Global;
 
@@ -16,7 +16,7 @@ fn split_word<'a>(text: &'a str) -> (&'a str, &'a str) {
 }
 
 // The text that a word says, which is a JSON string where it begins with a quote.
-fn text_of(alloc: Global, word: &str) -> Result<String, Fail> {
+fn text_of(alloc: Global, word: &str) -> Result<String, RowError> {
     if word.starts_with('"') {
         unquoted(alloc, word)
     } else {
@@ -49,15 +49,15 @@ impl<'a> Words<'a> {
     }
 
     /// The text of the next word, which must be there. A word that begins with a quote is a JSON string.
-    pub fn next(&mut self, alloc: Global) -> Result<String, Fail> {
+    pub fn next(&mut self, alloc: Global) -> Result<String, RowError> {
         if self.is_empty() {
-            return Err(Fail::new("a word is missing"));
+            return Err(RowError::new("a word is missing"));
         }
         text_of(alloc, self.next_written())
     }
 
     /// The bytes that the next word spells.
-    pub fn next_bytes(&mut self, alloc: Global) -> Result<Vec<u8>, Fail> {
+    pub fn next_bytes(&mut self, alloc: Global) -> Result<Vec<u8>, RowError> {
         let word = self.next(alloc)?;
         bytes(alloc, word.as_str())
     }
@@ -68,22 +68,22 @@ impl<'a> Words<'a> {
     }
 
     /// The text that all that is left says: as it is written, or where it begins with a quote what the JSON string spells.
-    pub fn rest_text(&self, alloc: Global) -> Result<String, Fail> {
+    pub fn rest_text(&self, alloc: Global) -> Result<String, RowError> {
         text_of(alloc, self.rest)
     }
 
     /// Refuses words that are left.
-    pub fn end(&self) -> Result<(), Fail> {
+    pub fn end(&self) -> Result<(), RowError> {
         if self.is_empty() {
             Ok(())
         } else {
-            Err(Fail::new("there are too many words"))
+            Err(RowError::new("there are too many words"))
         }
     }
 }
 
 /// The bytes that a word spells in hex; `-` spells none.
-pub fn bytes(alloc: Global, word: &str) -> Result<Vec<u8>, Fail> {
+pub fn bytes(alloc: Global, word: &str) -> Result<Vec<u8>, RowError> {
     if word == "-" {
         return Ok(Vec::new(alloc));
     }
@@ -91,7 +91,7 @@ pub fn bytes(alloc: Global, word: &str) -> Result<Vec<u8>, Fail> {
 }
 
 /// The word that spells these bytes in hex, `-` for none.
-pub fn hex(alloc: Global, bytes: &[u8]) -> Result<String, Fail> {
+pub fn hex(alloc: Global, bytes: &[u8]) -> Result<String, RowError> {
     if bytes.is_empty() {
         return Ok(String::from_str(alloc, "-")?);
     }

@@ -1,14 +1,14 @@
 //! The bytes of values, and prefix encoding.
 
-use crate::worded::{Worded, no_such_kind, value_of};
-use conformance_rows::{Answer, Fail, Words, hex};
+use crate::from_words::{FromWords, no_such_kind, value_of};
+use conformance_rows::{Answer, RowError, Words, hex};
 use std::alloc::Global;
 use warg_crypto::VisitBytes;
 use warg_crypto::prefix::{PrefixEncodeVisitor, VisitPrefixEncode};
 use warg_registry::{Checkpoint, LogId, LogLeaf, MapLeaf, PackageName, TimestampedCheckpoint};
 
 /// `bytes KIND WORDS..`: the bytes of the value.
-pub(crate) fn bytes_of(alloc: Global, mut words: Words<'_>) -> Result<Answer, Fail> {
+pub(crate) fn bytes_of(alloc: Global, mut words: Words<'_>) -> Result<Answer, RowError> {
     let kind = words.next_written();
     match kind {
         "package-name" => of_both_visits::<PackageName>(alloc, words),
@@ -22,11 +22,14 @@ pub(crate) fn bytes_of(alloc: Global, mut words: Words<'_>) -> Result<Answer, Fa
 }
 
 /// Bytes in hex.
-pub(crate) fn answer_bytes(alloc: Global, bytes: &[u8]) -> Result<Answer, Fail> {
+pub(crate) fn answer_bytes(alloc: Global, bytes: &[u8]) -> Result<Answer, RowError> {
     Answer::value(alloc, &hex(alloc, bytes)?)
 }
 
-fn of_visit<T: Worded + VisitBytes>(alloc: Global, words: Words<'_>) -> Result<Answer, Fail> {
+fn of_visit<T: FromWords + VisitBytes>(
+    alloc: Global,
+    words: Words<'_>,
+) -> Result<Answer, RowError> {
     let value = value_of::<T>(alloc, words)?;
     let mut bytes = Vec::new(alloc);
     value.visit(&mut bytes)?;
@@ -34,23 +37,23 @@ fn of_visit<T: Worded + VisitBytes>(alloc: Global, words: Words<'_>) -> Result<A
 }
 
 // Of a value whose bytes are its prefix encoding.
-fn of_both_visits<T: Worded + VisitBytes + VisitPrefixEncode>(
+fn of_both_visits<T: FromWords + VisitBytes + VisitPrefixEncode>(
     alloc: Global,
     words: Words<'_>,
-) -> Result<Answer, Fail> {
+) -> Result<Answer, RowError> {
     let value = value_of::<T>(alloc, words)?;
     let mut encoding = Vec::new(alloc);
     value.visit_bv(&mut encoding)?;
     let mut bytes = Vec::new(alloc);
     value.visit(&mut bytes)?;
     if bytes != encoding {
-        return Err(Fail::new("the prefix encoding is another"));
+        return Err(RowError::new("the prefix encoding is another"));
     }
     answer_bytes(alloc, bytes.as_slice())
 }
 
 /// `unsigned NUMBER`: the prefix encoding of a number.
-pub(crate) fn unsigned(alloc: Global, words: Words<'_>) -> Result<Answer, Fail> {
+pub(crate) fn unsigned(alloc: Global, words: Words<'_>) -> Result<Answer, RowError> {
     let number = value_of::<u64>(alloc, words)?;
     let mut bytes = Vec::new(alloc);
     PrefixEncodeVisitor::new(&mut bytes).visit_unsigned(number)?;
@@ -58,7 +61,7 @@ pub(crate) fn unsigned(alloc: Global, words: Words<'_>) -> Result<Answer, Fail> 
 }
 
 /// `prefixed-text TEXT`: the prefix encoding of a text.
-pub(crate) fn prefixed_text(alloc: Global, mut words: Words<'_>) -> Result<Answer, Fail> {
+pub(crate) fn prefixed_text(alloc: Global, mut words: Words<'_>) -> Result<Answer, RowError> {
     let text = words.next(alloc)?;
     words.end()?;
     let mut bytes = Vec::new(alloc);
@@ -67,7 +70,7 @@ pub(crate) fn prefixed_text(alloc: Global, mut words: Words<'_>) -> Result<Answe
 }
 
 /// `raw-text TEXT`: the bytes of a text alone.
-pub(crate) fn raw_text(alloc: Global, mut words: Words<'_>) -> Result<Answer, Fail> {
+pub(crate) fn raw_text(alloc: Global, mut words: Words<'_>) -> Result<Answer, RowError> {
     let text = words.next(alloc)?;
     words.end()?;
     let mut bytes = Vec::new(alloc);

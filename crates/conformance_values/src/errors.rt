@@ -1,7 +1,7 @@
 //! What errors print.
 
 use crate::printed::text_of;
-use conformance_rows::{Answer, Fail, Words};
+use conformance_rows::{Answer, RowError, Words};
 use std::alloc::Global;
 use std::fmt::{Debug, Display};
 use warg_crypto::hash::{AnyHashError, UnknownAlgorithm};
@@ -83,7 +83,7 @@ const INCOHERENCE: &[Incoherence] = &[
 
 /// `error-text TYPE FAULT`: what the error prints, whatever options it is printed under. None where the type is not of
 /// this crate.
-pub(crate) fn text(alloc: Global, mut words: Words<'_>) -> Result<Option<Answer>, Fail> {
+pub(crate) fn text(alloc: Global, mut words: Words<'_>) -> Result<Option<Answer>, RowError> {
     let of_type = words.next_written();
     match of_type {
         "UnknownAlgorithm" => Ok(Some(only(alloc, &UnknownAlgorithm, words)?)),
@@ -92,7 +92,7 @@ pub(crate) fn text(alloc: Global, mut words: Words<'_>) -> Result<Option<Answer>
     }
 }
 
-fn of_fault(alloc: Global, of_type: &str, fault: &str) -> Result<Option<Answer>, Fail> {
+fn of_fault(alloc: Global, of_type: &str, fault: &str) -> Result<Option<Answer>, RowError> {
     let answer = match of_type {
         "AnyHashError" => named(alloc, HASH, fault),
         "KeyParseError" => named(alloc, KEY, fault),
@@ -110,18 +110,18 @@ fn of_fault(alloc: Global, of_type: &str, fault: &str) -> Result<Option<Answer>,
     Ok(Some(answer?))
 }
 
-fn printed<E: Display>(alloc: Global, error: &E) -> Result<Answer, Fail> {
+fn printed<E: Display>(alloc: Global, error: &E) -> Result<Answer, RowError> {
     Answer::value(alloc, &text_of(alloc, error)?)
 }
 
 // What the only error of its type prints, where no fault is named.
-fn only<E: Display>(alloc: Global, error: &E, words: Words<'_>) -> Result<Answer, Fail> {
+fn only<E: Display>(alloc: Global, error: &E, words: Words<'_>) -> Result<Answer, RowError> {
     words.end()?;
     printed(alloc, error)
 }
 
 // What the one of these errors prints that has the name.
-fn named<E: Display + Debug>(alloc: Global, errors: &[E], name: &str) -> Result<Answer, Fail> {
+fn named<E: Display + Debug>(alloc: Global, errors: &[E], name: &str) -> Result<Answer, RowError> {
     for error in errors {
         let Answer::Fault(cases) = Answer::cases(alloc, error)? else {
             continue;
@@ -130,17 +130,17 @@ fn named<E: Display + Debug>(alloc: Global, errors: &[E], name: &str) -> Result<
             return printed(alloc, error);
         }
     }
-    Err(Fail::new("an unknown fault"))
+    Err(RowError::new("an unknown fault"))
 }
 
 // The number of a permission that there is not.
-fn permission(alloc: Global, number: &str) -> Result<Answer, Fail> {
+fn permission(alloc: Global, number: &str) -> Result<Answer, RowError> {
     let value = number.parse::<i32>()?;
     printed(alloc, &PermissionParseError { value })
 }
 
 // `Permission NUMBER`, or another fault.
-fn decoding(alloc: Global, fault: &str) -> Result<Answer, Fail> {
+fn decoding(alloc: Global, fault: &str) -> Result<Answer, RowError> {
     match fault.strip_prefix("Permission ") {
         Some(number) => {
             let value = number.parse::<i32>()?;
@@ -151,13 +151,13 @@ fn decoding(alloc: Global, fault: &str) -> Result<Answer, Fail> {
 }
 
 // `InvalidPackageName TEXT`, or `OutOfMemory`.
-fn package_name(alloc: Global, fault: &str) -> Result<Answer, Fail> {
+fn package_name(alloc: Global, fault: &str) -> Result<Answer, RowError> {
     let error = match fault.strip_prefix("InvalidPackageName ") {
         Some(words) => PackageNameError::InvalidPackageName {
             name: Words::new(words).next(alloc)?,
         },
         None if fault == "OutOfMemory" => PackageNameError::OutOfMemory,
-        None => return Err(Fail::new("an unknown fault")),
+        None => return Err(RowError::new("an unknown fault")),
     };
     printed(alloc, &error)
 }

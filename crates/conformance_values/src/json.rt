@@ -1,7 +1,7 @@
 //! JSON of values.
 
-use crate::worded::{Worded, answer_of, no_such_kind, value_of};
-use conformance_rows::{Answer, Fail, Words};
+use crate::from_words::{FromWords, answer_of, no_such_kind, value_of};
+use conformance_rows::{Answer, RowError, Words};
 use serde_json::Value;
 use std::alloc::Global;
 use warg_crypto::hash::{AnyHash, HashAlgorithm};
@@ -12,7 +12,7 @@ use warg_log_records::{RecordId, operator, package};
 use warg_registry::{Checkpoint, LogId, LogLeaf, PackageName, TimestampedCheckpoint};
 
 /// `to-json KIND WORDS..`: the JSON of the value.
-pub(crate) fn to_json(alloc: Global, mut words: Words<'_>) -> Result<Answer, Fail> {
+pub(crate) fn to_json(alloc: Global, mut words: Words<'_>) -> Result<Answer, RowError> {
     let kind = words.next_written();
     match kind {
         "u32" => written::<u32>(alloc, words),
@@ -36,7 +36,7 @@ pub(crate) fn to_json(alloc: Global, mut words: Words<'_>) -> Result<Answer, Fai
     }
 }
 
-fn written<T: Worded + JsonValue>(alloc: Global, words: Words<'_>) -> Result<Answer, Fail> {
+fn written<T: FromWords + JsonValue>(alloc: Global, words: Words<'_>) -> Result<Answer, RowError> {
     let value = value_of::<T>(alloc, words)?;
     match value.to_value(alloc) {
         Ok(json) => Ok(Answer::Value(json.to_string(alloc)?)),
@@ -45,13 +45,13 @@ fn written<T: Worded + JsonValue>(alloc: Global, words: Words<'_>) -> Result<Ans
 }
 
 /// `from-json KIND JSON`: the value that the JSON says, in words.
-pub(crate) fn from_json(alloc: Global, mut words: Words<'_>) -> Result<Answer, Fail> {
+pub(crate) fn from_json(alloc: Global, mut words: Words<'_>) -> Result<Answer, RowError> {
     let kind = words.next_written();
     let json = Value::from_str(alloc, words.rest())?;
     read_kind(alloc, kind, &json)
 }
 
-fn read_kind(alloc: Global, kind: &str, json: &Value) -> Result<Answer, Fail> {
+fn read_kind(alloc: Global, kind: &str, json: &Value) -> Result<Answer, RowError> {
     match kind {
         "u32" => read::<u32>(alloc, json),
         "u64" => read::<u64>(alloc, json),
@@ -74,6 +74,6 @@ fn read_kind(alloc: Global, kind: &str, json: &Value) -> Result<Answer, Fail> {
     }
 }
 
-fn read<T: Worded + JsonValue>(alloc: Global, json: &Value) -> Result<Answer, Fail> {
+fn read<T: FromWords + JsonValue>(alloc: Global, json: &Value) -> Result<Answer, RowError> {
     answer_of(alloc, T::from_value(alloc, json))
 }

@@ -5,6 +5,7 @@
 mod digests;
 mod encoding;
 mod errors;
+mod from_words;
 mod json;
 mod keys;
 mod members;
@@ -15,13 +16,12 @@ mod registry;
 mod signing;
 mod texts;
 mod times;
-mod worded;
 
-use conformance_rows::{Answer, Fail, Words};
+use conformance_rows::{Answer, RowError, Words};
 use std::alloc::Global;
 
 /// The answer to a row of one of this crate's topics, or `None` where it has no such topic.
-pub fn answer(alloc: Global, topic: &str, words: &str) -> Result<Option<Answer>, Fail> {
+pub fn answer(alloc: Global, topic: &str, words: &str) -> Result<Option<Answer>, RowError> {
     match of_many_kinds(alloc, topic, Words::new(words))? {
         Some(answer) => Ok(Some(answer)),
         None => of_crypto(alloc, topic, Words::new(words)),
@@ -29,7 +29,7 @@ pub fn answer(alloc: Global, topic: &str, words: &str) -> Result<Option<Answer>,
 }
 
 // The topics that many kinds of values have.
-fn of_many_kinds(alloc: Global, topic: &str, words: Words<'_>) -> Result<Option<Answer>, Fail> {
+fn of_many_kinds(alloc: Global, topic: &str, words: Words<'_>) -> Result<Option<Answer>, RowError> {
     let answer = match topic {
         "parse" => texts::parse(alloc, words),
         "shown" => texts::shown(alloc, words),
@@ -45,7 +45,7 @@ fn of_many_kinds(alloc: Global, topic: &str, words: Words<'_>) -> Result<Option<
 }
 
 // The topics of hashes, keys, times, prefix encoding and parts of JSON.
-fn of_crypto(alloc: Global, topic: &str, words: Words<'_>) -> Result<Option<Answer>, Fail> {
+fn of_crypto(alloc: Global, topic: &str, words: Words<'_>) -> Result<Option<Answer>, RowError> {
     let answer = match topic {
         "sha256" => digests::sha256(alloc, words),
         "visited" => digests::visited(alloc, words),
@@ -68,7 +68,7 @@ fn of_crypto(alloc: Global, topic: &str, words: Words<'_>) -> Result<Option<Answ
 }
 
 // The topics of signers and of registries.
-fn of_registry(alloc: Global, topic: &str, words: Words<'_>) -> Result<Option<Answer>, Fail> {
+fn of_registry(alloc: Global, topic: &str, words: Words<'_>) -> Result<Option<Answer>, RowError> {
     let answer = match topic {
         "toy-key" => signing::toy_key(alloc, words),
         "toy-sign" => signing::toy_sign(alloc, words),

@@ -1,7 +1,7 @@
 //! The order of values, and which are the same.
 
-use crate::worded::{Worded, no_such_kind};
-use conformance_rows::{Answer, Fail, Words};
+use crate::from_words::{FromWords, no_such_kind};
+use conformance_rows::{Answer, RowError, Words};
 use std::alloc::Global;
 use std::hash::{FoldHasher, Hash, Hasher};
 use warg_crypto::hash::AnyHash;
@@ -11,7 +11,7 @@ use warg_log_records::RecordId;
 use warg_registry::{LogId, PackageName};
 
 // The two values that the words say, none of which may be left.
-fn pair_of<T: Worded>(alloc: Global, mut words: Words<'_>) -> Result<(T, T), Fail> {
+fn pair_of<T: FromWords>(alloc: Global, mut words: Words<'_>) -> Result<(T, T), RowError> {
     let first = T::from_words(alloc, &mut words)?;
     let second = T::from_words(alloc, &mut words)?;
     words.end()?;
@@ -19,7 +19,7 @@ fn pair_of<T: Worded>(alloc: Global, mut words: Words<'_>) -> Result<(T, T), Fai
 }
 
 /// `compare KIND WORDS.. WORDS..`: whether the first value is less than the second, equal or greater.
-pub(crate) fn compare(alloc: Global, mut words: Words<'_>) -> Result<Answer, Fail> {
+pub(crate) fn compare(alloc: Global, mut words: Words<'_>) -> Result<Answer, RowError> {
     let kind = words.next_written();
     match kind {
         "hash" => compared::<AnyHash>(alloc, words),
@@ -32,7 +32,7 @@ pub(crate) fn compare(alloc: Global, mut words: Words<'_>) -> Result<Answer, Fai
     }
 }
 
-fn compared<T: Worded + Ord>(alloc: Global, words: Words<'_>) -> Result<Answer, Fail> {
+fn compared<T: FromWords + Ord>(alloc: Global, words: Words<'_>) -> Result<Answer, RowError> {
     let (first, second) = pair_of::<T>(alloc, words)?;
     let order = if first < second {
         "less"
@@ -45,7 +45,7 @@ fn compared<T: Worded + Ord>(alloc: Global, words: Words<'_>) -> Result<Answer, 
 }
 
 /// `same KIND WORDS.. WORDS..`: whether both values are the same, and are hashed alike.
-pub(crate) fn same(alloc: Global, mut words: Words<'_>) -> Result<Answer, Fail> {
+pub(crate) fn same(alloc: Global, mut words: Words<'_>) -> Result<Answer, RowError> {
     let kind = words.next_written();
     match kind {
         "hash" => are_same::<AnyHash>(alloc, words),
@@ -64,11 +64,11 @@ fn hash_of<T: Hash>(value: &T) -> u64 {
     hasher.finish()
 }
 
-fn are_same<T: Worded + Eq + Hash>(alloc: Global, words: Words<'_>) -> Result<Answer, Fail> {
+fn are_same<T: FromWords + Eq + Hash>(alloc: Global, words: Words<'_>) -> Result<Answer, RowError> {
     let (first, second) = pair_of::<T>(alloc, words)?;
     let same = first == second;
     if same != (hash_of(&first) == hash_of(&second)) {
-        return Err(Fail::new("they are hashed otherwise"));
+        return Err(RowError::new("they are hashed otherwise"));
     }
     Answer::value(alloc, &same)
 }

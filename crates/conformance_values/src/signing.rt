@@ -1,7 +1,7 @@
 //! Signatures by the toy scheme, whose signers are told by the bytes of their keys' names, and those of ECDSA P-256.
 
-use crate::worded::{Worded, answer_of, ok_or_fault};
-use conformance_rows::{Answer, Fail, Words};
+use crate::from_words::{FromWords, answer_of, ok_or_fault};
+use conformance_rows::{Answer, RowError, Words};
 use std::alloc::Global;
 use warg_crypto::Signable;
 use warg_crypto::signing::{PublicKey, Signature, Signer, Verifier, is_algorithm_name};
@@ -10,20 +10,20 @@ use warg_p256::{ALGORITHM, KnownKeys, P256Verifier};
 use warg_registry::TimestampedCheckpoint;
 
 // The signer whose key has the bytes of the next word.
-fn signer(alloc: Global, words: &mut Words<'_>) -> Result<ToySigner, Fail> {
+fn signer(alloc: Global, words: &mut Words<'_>) -> Result<ToySigner, RowError> {
     let name = words.next(alloc)?;
     Ok(ToySigner::new(alloc, name.as_bytes())?)
 }
 
 /// `toy-key NAME`: the signer's key.
-pub(crate) fn toy_key(alloc: Global, mut words: Words<'_>) -> Result<Answer, Fail> {
+pub(crate) fn toy_key(alloc: Global, mut words: Words<'_>) -> Result<Answer, RowError> {
     let signer = signer(alloc, &mut words)?;
     words.end()?;
     Answer::value(alloc, signer.public_key())
 }
 
 /// `toy-sign NAME BYTES`: the signer's signature of the message.
-pub(crate) fn toy_sign(alloc: Global, mut words: Words<'_>) -> Result<Answer, Fail> {
+pub(crate) fn toy_sign(alloc: Global, mut words: Words<'_>) -> Result<Answer, RowError> {
     let signer = signer(alloc, &mut words)?;
     let message = words.next_bytes(alloc)?;
     words.end()?;
@@ -34,7 +34,7 @@ pub(crate) fn toy_sign(alloc: Global, mut words: Words<'_>) -> Result<Answer, Fa
 fn signed_bytes(
     alloc: Global,
     mut words: Words<'_>,
-) -> Result<(PublicKey, Vec<u8>, Signature), Fail> {
+) -> Result<(PublicKey, Vec<u8>, Signature), RowError> {
     let key = PublicKey::from_words(alloc, &mut words)?;
     let bytes = words.next_bytes(alloc)?;
     let signature = Signature::from_words(alloc, &mut words)?;
@@ -43,7 +43,7 @@ fn signed_bytes(
 }
 
 /// `toy-verify KEY BYTES SIGNATURE`: `ok` where the signature belongs to the message under the key.
-pub(crate) fn toy_verify(alloc: Global, words: Words<'_>) -> Result<Answer, Fail> {
+pub(crate) fn toy_verify(alloc: Global, words: Words<'_>) -> Result<Answer, RowError> {
     let (key, message, signature) = signed_bytes(alloc, words)?;
     ok_or_fault(
         alloc,
@@ -52,7 +52,7 @@ pub(crate) fn toy_verify(alloc: Global, words: Words<'_>) -> Result<Answer, Fail
 }
 
 /// `sign-checkpoint NAME CHECKPOINT`: the signer's signature of the timestamped checkpoint.
-pub(crate) fn sign_checkpoint(alloc: Global, mut words: Words<'_>) -> Result<Answer, Fail> {
+pub(crate) fn sign_checkpoint(alloc: Global, mut words: Words<'_>) -> Result<Answer, RowError> {
     let signer = signer(alloc, &mut words)?;
     let checkpoint = TimestampedCheckpoint::from_words(alloc, &mut words)?;
     words.end()?;
@@ -61,7 +61,7 @@ pub(crate) fn sign_checkpoint(alloc: Global, mut words: Words<'_>) -> Result<Ans
 
 /// `verify-checkpoint KEY BYTES SIGNATURE`: `ok` where the signature belongs to the timestamped checkpoint of these
 /// bytes under the key.
-pub(crate) fn verify_checkpoint(alloc: Global, words: Words<'_>) -> Result<Answer, Fail> {
+pub(crate) fn verify_checkpoint(alloc: Global, words: Words<'_>) -> Result<Answer, RowError> {
     let (key, bytes, signature) = signed_bytes(alloc, words)?;
     let bytes = bytes.as_slice();
     ok_or_fault(
@@ -71,7 +71,7 @@ pub(crate) fn verify_checkpoint(alloc: Global, words: Words<'_>) -> Result<Answe
 }
 
 /// `checkpoint-prefix`: the prefix under which timestamped checkpoints are signed.
-pub(crate) fn checkpoint_prefix(alloc: Global, words: Words<'_>) -> Result<Answer, Fail> {
+pub(crate) fn checkpoint_prefix(alloc: Global, words: Words<'_>) -> Result<Answer, RowError> {
     words.end()?;
     Answer::value(alloc, &TimestampedCheckpoint::PREFIX)
 }
@@ -93,20 +93,20 @@ fn verifiers_take(
 
 /// `p256-verify KEY MESSAGE SIGNATURE`: whether the bytes of the signature belong to the message under the bytes of the
 /// key, by ECDSA P-256 with SHA-256.
-pub(crate) fn p256_verify(alloc: Global, mut words: Words<'_>) -> Result<Answer, Fail> {
+pub(crate) fn p256_verify(alloc: Global, mut words: Words<'_>) -> Result<Answer, RowError> {
     let key = words.next_bytes(alloc)?;
     let message = words.next_bytes(alloc)?;
     let signature = words.next_bytes(alloc)?;
     words.end()?;
     let belongs = warg_p256::verify(key.as_slice(), message.as_slice(), signature.as_slice());
     if !is_algorithm_name(ALGORITHM) {
-        return Err(Fail::new("the scheme has no name"));
+        return Err(RowError::new("the scheme has no name"));
     }
     let key = PublicKey::new(String::from_str(alloc, ALGORITHM)?, key);
     let signature = Signature::new(String::from_str(alloc, ALGORITHM)?, signature);
     let taken = verifiers_take(alloc, &key, message.as_slice(), &signature);
     if taken != (belongs, belongs, belongs) {
-        return Err(Fail::new("the verifiers differ"));
+        return Err(RowError::new("the verifiers differ"));
     }
     Answer::value(alloc, &if belongs { "yes" } else { "no" })
 }

@@ -1,8 +1,8 @@
 //! Texts of values, read and printed.
 
+use crate::from_words::{FromWords, answer_of, no_such_kind, value_of};
 use crate::printed::{only_text_of, text_of};
-use crate::worded::{Worded, answer_of, no_such_kind, value_of};
-use conformance_rows::{Answer, Fail, Words, quoted};
+use conformance_rows::{Answer, RowError, Words, quoted};
 use std::alloc::Global;
 use std::fmt::{Debug, Display};
 use warg_crypto::hash::{AnyHash, HashAlgorithm};
@@ -12,14 +12,14 @@ use warg_log_records::{RecordId, operator, package};
 use warg_registry::{LogId, PackageName, PackageNameError};
 
 /// `parse KIND TEXT`: the value that the text says, in words.
-pub(crate) fn parse(alloc: Global, mut words: Words<'_>) -> Result<Answer, Fail> {
+pub(crate) fn parse(alloc: Global, mut words: Words<'_>) -> Result<Answer, RowError> {
     let kind = words.next_written();
     let text = words.next(alloc)?;
     words.end()?;
     parse_kind(alloc, kind, text.as_str())
 }
 
-fn parse_kind(alloc: Global, kind: &str, text: &str) -> Result<Answer, Fail> {
+fn parse_kind(alloc: Global, kind: &str, text: &str) -> Result<Answer, RowError> {
     match kind {
         "algorithm" => answer_of(alloc, text.parse::<HashAlgorithm>()),
         "hash" => answer_of(alloc, text.parse::<AnyHash>()),
@@ -36,7 +36,7 @@ fn parse_kind(alloc: Global, kind: &str, text: &str) -> Result<Answer, Fail> {
 }
 
 // A refused name comes with its fault.
-fn package_name(alloc: Global, text: &str) -> Result<Answer, Fail> {
+fn package_name(alloc: Global, text: &str) -> Result<Answer, RowError> {
     match PackageName::parse(alloc, text) {
         Err(PackageNameError::InvalidPackageName { name }) => {
             let name = quoted(alloc, name.as_str())?;
@@ -47,7 +47,7 @@ fn package_name(alloc: Global, text: &str) -> Result<Answer, Fail> {
 }
 
 /// `shown KIND WORDS..`: what the value prints, whatever options it is printed under.
-pub(crate) fn shown(alloc: Global, mut words: Words<'_>) -> Result<Answer, Fail> {
+pub(crate) fn shown(alloc: Global, mut words: Words<'_>) -> Result<Answer, RowError> {
     let kind = words.next_written();
     match kind {
         "algorithm" => of_text::<HashAlgorithm>(alloc, words),
@@ -65,16 +65,16 @@ pub(crate) fn shown(alloc: Global, mut words: Words<'_>) -> Result<Answer, Fail>
     }
 }
 
-fn of_text<T: Worded + Display>(alloc: Global, words: Words<'_>) -> Result<Answer, Fail> {
+fn of_text<T: FromWords + Display>(alloc: Global, words: Words<'_>) -> Result<Answer, RowError> {
     let value = value_of::<T>(alloc, words)?;
     Answer::value(alloc, &text_of(alloc, &value)?)
 }
 
 // Of a kind that prints so for programmers too.
-fn of_only_text<T: Worded + Display + Debug>(
+fn of_only_text<T: FromWords + Display + Debug>(
     alloc: Global,
     words: Words<'_>,
-) -> Result<Answer, Fail> {
+) -> Result<Answer, RowError> {
     let value = value_of::<T>(alloc, words)?;
     Answer::value(alloc, &only_text_of(alloc, &value)?)
 }

@@ -1,7 +1,7 @@
 pub mod FirstEntryLemmas
-pub mod JudgedLemmas
+pub mod LoadingLemmas
 pub mod ShownWordLemmas
-pub mod ResealedLemmas
+pub mod ReencodedLemmas
 pub mod PartingLemmas
 pub mod KeyIdLemmas
 pub mod WordLemmas

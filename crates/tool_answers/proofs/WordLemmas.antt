@@ -2,25 +2,25 @@
 use Rattle.std.proofs.Common.{◌≡◌, ◌<◌, ◌+◌, ◌≤◌, inl, inr, ℕ, List, Contains, length, slice_index_or, arith, ap, sym, subst, ◌∙◌, Result}
 use Rattle.std.proofs.lemmas.Bool.{cases_lt}
 use Rattle.std.proofs.lemmas.List.{get_or_default}
-use Rattle.warg_audit.specs.Files.Printouts.{Printout}
-use Rattle.warg_audit.specs.Files.Answers.{Answers, IfStopped, IsUnusable}
-use Rattle.warg_audit.specs.declared.files.answer.Answer.{Answer}
-use Rattle.warg_audit.specs.declared.files.stop.Stop.{Stop}
-use Rattle.warg_audit.proofs.FilesLemmas.AnswerLemmas.{Answers-to, IfStopped-to}
+use Rattle.warg_audit.specs.Files.OutputData.{OutputData}
+use Rattle.warg_audit.specs.Files.Answers.{Answers, IfOutput, IsUnusable}
+use Rattle.warg_audit.specs.declared.files.command_output.CommandOutput.{CommandOutput}
+use Rattle.warg_audit.specs.declared.files.command_error.CommandError.{CommandError}
+use Rattle.warg_audit.proofs.FilesLemmas.AnswerLemmas.{Answers-to, IfOutput-to}
 use Rattle.tool_answers.specs.Words.{IsByWord, IsUnsaid, by_value, unsaid}
 
 module _ {A : Type 0} (Says : A → Type 0) where
-  -- the end of a command for a word that says nothing
-  pub nothing_said : (end : Stop) → ((value : A) → Says value → ⊥) → IfStopped IsUnusable end → IfStopped (IsUnsaid Says) end
+  -- the error of a command for a word that says nothing
+  pub nothing_said : (end : CommandError) → ((value : A) → Says value → ⊥) → IfOutput IsUnusable end → IfOutput (IsUnsaid Says) end
   nothing_said end nothing h =
-      IfStopped-to IsUnusable (IsUnsaid Says) (λ printed is. record { nothing = nothing; unusable = is }) end h
+      IfOutput-to IsUnusable (IsUnsaid Says) (λ printed is. record { nothing = nothing; unusable = is }) end h
 
-  module _ (P : A → Printout → Type 0) where
-    pub word_said : (value : A) (result : Result Answer Stop) → Says value → Answers (P value) result → Answers (IsByWord Says P) result
+  module _ (P : A → OutputData → Type 0) where
+    pub word_said : (value : A) (result : Result CommandOutput CommandError) → Says value → Answers (P value) result → Answers (IsByWord Says P) result
     word_said value result says h = Answers-to (P value) (IsByWord Says P) (λ printed is. by_value value says is) result h
 
-    pub word_unsaid : (end : Stop) → IfStopped (IsUnsaid Says) end → IfStopped (IsByWord Says P) end
-    word_unsaid end h = IfStopped-to (IsUnsaid Says) (IsByWord Says P) (λ printed is. unsaid is) end h
+    pub word_unsaid : (end : CommandError) → IfOutput (IsUnsaid Says) end → IfOutput (IsByWord Says P) end
+    word_unsaid end h = IfOutput-to (IsUnsaid Says) (IsByWord Says P) (λ printed is. unsaid is) end h
 
 -- none of the first values is what is sought
 abbrev pub IsNoneOf : {A : Type 0} → (A → Type 0) → List A → ℕ → Type 0

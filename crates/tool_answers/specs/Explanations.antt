@@ -1,10 +1,10 @@
--- Why a string can't come next, in words: a sentence, and the place of the entry that is at fault.
+-- Why an input can't come next, in words: a sentence, and the place of the entry that is at fault.
 use Rattle.std.specs.Prelude.{◌≡◌, ◌≢◌, ℕ, ◌+◌, List, length, take, true, Option, Some, None, Result, Ok, IsErr}
 use Rattle.warg_envelope.specs.ErrorTexts.{error_text as fault_text}
 use Rattle.warg_operator_log.specs.ErrorTexts.{error_text as operator_error_text}
 use Rattle.warg_package_log.specs.ErrorTexts.{error_text as package_error_text}
 use Rattle.warg_protocol.specs.Errors.{DecodeError}
-use Rattle.warg_protocol.specs.Logs.{Cause, DecodedEnvelope, EnvelopeFault, IsHonest, LogOffence, RunCause, SignatureRelation, Unlawful, Unread, cause_named_by, envelope_fault_of, envelope_of}
+use Rattle.warg_protocol.specs.Logs.{Cause, DecodedEnvelope, EnvelopeFault, ContentsMatchBytes, LogOffence, RunCause, SignatureRelation, Unlawful, Unread, cause_named_by, envelope_fault_of, envelope_of}
 use Rattle.warg_protocol.specs.Operator as in_operator
 use Rattle.warg_protocol.specs.Package as in_package
 use Rattle.warg_protocol.specs.Records.{RecordData, RecordFault, fault_of}
@@ -79,36 +79,36 @@ module _ {C View Offence : Type 0} (IsFirst : ℕ → C → C → Type 0) (offen
   IsEntryTold count (Some place) = IsEntryAtFault place
   IsEntryTold count None = IsOfNoEntry count
 
--- the same of the record in the envelope that a string is; none of a string that is no envelope
-pub data IsEntryOfString {C M F View Offence : Type 0} (read : List ℕ → Result M F) (meaning : C → M) (count_of : C → ℕ) (IsFirst : ℕ → C → C → Type 0)
-    (offence_in : SignatureRelation → View → DecodedEnvelope C → Option Offence) (view : View) (string : List ℕ) (offence : Offence) (entry : Option ℕ) : Type 0 where
-  of_record : (whole : DecodedEnvelope C) → envelope_of read string ≡ Ok whole.envelope → IsHonest read meaning whole
-      → IsEntryTold IsFirst offence_in view whole offence (count_of whole.contents) entry → IsEntryOfString read meaning count_of IsFirst offence_in view string offence entry
-  of_no_record : IsErr (envelope_of read string) → entry ≡ None → IsEntryOfString read meaning count_of IsFirst offence_in view string offence entry
+-- the same of the record in the envelope that an input is; none of an input that is no envelope
+pub data IsEntryOfInput {C M F View Offence : Type 0} (read : List ℕ → Result M F) (meaning : C → M) (count_of : C → ℕ) (IsFirst : ℕ → C → C → Type 0)
+    (offence_in : SignatureRelation → View → DecodedEnvelope C → Option Offence) (view : View) (input : List ℕ) (offence : Offence) (entry : Option ℕ) : Type 0 where
+  of_record : (whole : DecodedEnvelope C) → envelope_of read input ≡ Ok whole.envelope → ContentsMatchBytes read meaning whole
+      → IsEntryTold IsFirst offence_in view whole offence (count_of whole.contents) entry → IsEntryOfInput read meaning count_of IsFirst offence_in view input offence entry
+  of_no_record : IsErr (envelope_of read input) → entry ≡ None → IsEntryOfInput read meaning count_of IsFirst offence_in view input offence entry
 
 -- ---- both
 
 module _ {E C M F View Offence : Type 0} (sentence_of : E → List ℕ) (fault_of_error : DecodeError → Option F) (offence_of : E → Option Offence)
     (read : List ℕ → Result M F) (meaning : C → M) (count_of : C → ℕ) (IsFirst : ℕ → C → C → Type 0) (offence_in : SignatureRelation → View → DecodedEnvelope C → Option Offence) where
-  -- the entry that the cause is of, if it is of one: none of a string that can't be read
+  -- the entry that the cause is of, if it is of one: none of an input that can't be read
   abbrev pub IsEntryOf : View → List ℕ → Cause (EnvelopeFault F) Offence → Option ℕ → Type 0
-  IsEntryOf view string (Unread fault) entry = entry ≡ None
-  IsEntryOf view string (Unlawful offence) entry = IsEntryOfString read meaning count_of IsFirst offence_in view string offence entry
+  IsEntryOf view input (Unread fault) entry = entry ≡ None
+  IsEntryOf view input (Unlawful offence) entry = IsEntryOfInput read meaning count_of IsFirst offence_in view input offence entry
 
-  -- why the string can't come after the view: the error's sentence, and the entry at fault
-  pub record Explains (view : View) (string : List ℕ) (cause : Cause (EnvelopeFault F) Offence) (why : List ℕ) (entry : Option ℕ) : Type 0 where
+  -- why the input can't come after the view: the error's sentence, and the entry at fault
+  pub record Explains (view : View) (input : List ℕ) (cause : Cause (EnvelopeFault F) Offence) (why : List ℕ) (entry : Option ℕ) : Type 0 where
     pub sentence : IsSentence sentence_of (cause_named_by (envelope_fault_of fault_of_error) offence_of) cause why
-    pub place : IsEntryOf view string cause entry
+    pub place : IsEntryOf view input cause entry
 
 -- the same of package logs, and of operator logs
 abbrev pub explains_package : in_package.View → List ℕ → Cause (EnvelopeFault RecordFault) (LogOffence in_package.Permission in_package.OwnOffence) → List ℕ → Option ℕ → Type 0
-explains_package view string cause why entry =
+explains_package view input cause why entry =
     Explains package_error_text fault_of in_package.offence_of in_package.package_record_of in_package.record_data (λ it. length it.entries.items) has_first_package_entries
     (λ belongs seen it. in_package.record_offence belongs seen (in_package.envelope_as_data it))
-    view string cause why entry
+    view input cause why entry
 
 abbrev pub explains_operator : in_operator.View → List ℕ → Cause (EnvelopeFault RecordFault) (LogOffence in_operator.Permission in_operator.OwnOffence) → List ℕ → Option ℕ → Type 0
-explains_operator view string cause why entry =
+explains_operator view input cause why entry =
     Explains operator_error_text fault_of in_operator.offence_of in_operator.operator_record_of in_operator.record_data (λ it. length it.entries.items) has_first_operator_entries
     (λ belongs seen it. in_operator.record_offence belongs seen (in_operator.envelope_as_data it))
-    view string cause why entry
+    view input cause why entry

@@ -3,7 +3,7 @@ pub mod Verdicts
 pub mod ShownWords
 pub mod Explanations
 pub mod IdWords
-pub mod Causes
+pub mod Hints
 pub mod KeyIds
 pub mod Words
 pub mod Tools

@@ -9,7 +9,7 @@ use Rattle.jiff_core.specs.declared.civil.datetime.DateTime.{DateTime}
 use Rattle.warg_crypto.specs.NamedBytes.{named_bytes_text}
 use Rattle.warg_printable.specs.Printable.{printable}
 use Rattle.warg_audit.specs.Files.Texts.{line}
-use Rattle.warg_audit.specs.LogTypes.{operator_log, package_log}
+use Rattle.warg_audit.specs.LogKinds.{operator_log, package_log}
 use Rattle.warg_protocol.specs.Logs.{AreKeysOf, EnvelopeData, KeyData}
 use Rattle.warg_protocol.specs.Operator.{Defined, Imported, Namespace, OperatorOwnEntry, names}
 use Rattle.warg_protocol.specs.Operator as in_operator

@@ -6,7 +6,7 @@ use Rattle.std.specs.Option.{option_map}
 use Rattle.warg_protocol.specs.Logs.{EnvelopeData, contents}
 use Rattle.warg_protocol.specs.Records.{hash_text, RecordId}
 use Rattle.warg_protocol.specs.Json.{JsonError}
-use Rattle.warg_audit.specs.Files.Printouts.{Printout}
+use Rattle.warg_audit.specs.Files.OutputData.{OutputData}
 use Rattle.warg_printable.specs.Json.{json_printable}
 use Rattle.warg_printable.specs.Printable.{printable}
 use Rattle.warg_audit.specs.Files.Texts.{yes, no, line, all_lines}
@@ -17,12 +17,12 @@ use Rattle.warg_replay.specs.declared.audited_log.comparison.Comparison.TheVaria
 use Rattle.tool_answers.specs.ShownWords.{IsLineOf, IsTimeText, RecordWords}
 
 -- the JSON of a state on a line, with no hidden character in it; where a time in it lies before the epoch, there is none
-abbrev pub json_text : Result (List ℕ) JsonError → Printout
+abbrev pub json_text : Result (List ℕ) JsonError → OutputData
 json_text (Ok text) = yes (line (json_printable text))
 json_text (Err fault) = no (codes "no json TimeBeforeEpoch\n")
 
 -- the permissions that pass the test, a line each in the order of the kind; `unknown` of a key that no record spoke of
-abbrev pub permissions_text : {P : Type 0} → Bool → List P → (P → List ℕ) → (P → Bool) → Printout
+abbrev pub permissions_text : {P : Type 0} → Bool → List P → (P → List ℕ) → (P → Bool) → OutputData
 permissions_text known order text_of held = if known then yes (all_lines (map text_of (filter held order))) else no (codes "unknown\n")
 
 -- the id of the key that signed the record at a place
@@ -57,7 +57,7 @@ module _ (Says : List ℕ → RecordWords → Type 0) (es : List EnvelopeData) w
       (first : List ℕ) × (rest : List ℕ) × IsLinkLine link (receiver es key more) first × (text ≡ first ++ rest) × AreLinkLines key more rest
 
   -- the lines of a chain, or `none`
-  abbrev pub IsChainPrinted : List ℕ → Option (List Link) → Printout → Type 0
+  abbrev pub IsChainPrinted : List ℕ → Option (List Link) → OutputData → Type 0
   IsChainPrinted key None printed = printed ≡ no (codes "none\n")
   IsChainPrinted key (Some links) printed = (text : List ℕ) × AreLinkLines key links text × (printed ≡ yes text)
 
@@ -97,7 +97,7 @@ module _ (Says : List ℕ → RecordWords → Type 0) where
   module _ (id : List ℕ → RecordId) (head : Option RecordId) (old new : List EnvelopeData) where
     -- how a log compares with an older copy, by the older one's head and the envelopes of both: it is the same, it goes on, it was
     -- rolled back, or they part
-    abbrev pub IsComparisonPrinted : Comparison → Printout → Type 0
+    abbrev pub IsComparisonPrinted : Comparison → OutputData → Type 0
     IsComparisonPrinted Same printed = printed ≡ yes (codes "same " ++ (decimal (length old) ++ (codes " " ++ (head_text head ++ codes "\n"))))
     IsComparisonPrinted (LeftIsPrefix place) printed =
         printed ≡ yes (codes "goes on " ++ (decimal (length old) ++ (codes " " ++ (decimal (length new) ++ codes "\n"))))

@@ -1,4 +1,4 @@
--- Why a string can't come next, in words that take the log, how its records are read, and what the tool asks of it.
+-- Why an input can't come next, in words that take the log, how its records are read, and what the tool asks of it.
 use Rattle.std.specs.Prelude.{ℕ, Bool, List, Option, Result}
 use Rattle.warg_protocol.specs.Errors.{DecodeError}
 use Rattle.warg_protocol.specs.Json.{JsonError, JsonTextError}
@@ -19,7 +19,7 @@ module _ {S E View Offence C M F P : Type 0} {kind : Kind View Offence} {view : 
     (log : LogOf kind view offence_of) (reading : Reading read meaning fault_of)
     (tool : ToolOf order text_of knows has_key json_of state_of words_of says_words sentence_of has_first shows)
     (count_of : C → ℕ) (rules : EnclosedRules C View Offence) where
-  -- why the string can't come after the view: the error's sentence, and the entry at fault
+  -- why the input can't come after the view: the error's sentence, and the entry at fault
   abbrev pub Explains : View → List ℕ → Cause (EnvelopeFault F) Offence → List ℕ → Option ℕ → Type 0
   Explains =
       explanation.Explains sentence_of fault_of offence_of read meaning count_of has_first rules.offence

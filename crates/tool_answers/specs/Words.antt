@@ -1,7 +1,7 @@
 -- Answers by what a word says, and the words of permissions.
 use Rattle.std.specs.Prelude.{List, [], ◌∷◌, Contains}
 use Rattle.std.proofs.Common.{arith, refl}
-use Rattle.warg_audit.specs.Files.Printouts.{Printout}
+use Rattle.warg_audit.specs.Files.OutputData.{OutputData}
 use Rattle.warg_audit.specs.Files.Answers.{IsUnusable}
 use Rattle.warg_permissions.specs.declared.operator.Permission.{Permission as OperatorPermission}
 use Rattle.warg_permissions.specs.declared.operator.Permission.TheVariants.{Commit, DefineNamespace, ImportNamespace}
@@ -9,12 +9,12 @@ use Rattle.warg_permissions.specs.declared.package.Permission.{Permission as Pac
 use Rattle.warg_permissions.specs.declared.package.Permission.TheVariants.{Release, Yank}
 
 -- the word says nothing, so nothing is printed, and the status is 2
-pub record IsUnsaid {A : Type 0} (Says : A → Type 0) (printed : Printout) : Type 0 where
+pub record IsUnsaid {A : Type 0} (Says : A → Type 0) (printed : OutputData) : Type 0 where
   pub nothing : (value : A) → Says value → ⊥
   pub unusable : IsUnusable printed
 
 -- the answer by what a word says, if it says something
-pub data IsByWord {A : Type 0} (Says : A → Type 0) (P : A → Printout → Type 0) (printed : Printout) : Type 0 where
+pub data IsByWord {A : Type 0} (Says : A → Type 0) (P : A → OutputData → Type 0) (printed : OutputData) : Type 0 where
   unsaid : IsUnsaid Says printed → IsByWord Says P printed
   by_value : (value : A) → Says value → P value printed → IsByWord Says P printed
 

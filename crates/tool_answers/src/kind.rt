@@ -4,7 +4,7 @@ ghost use Rattle.std.specs.Prelude.{◌≡◌, ℕ, Bool, Contains, List, Result
 ghost use Rattle.std.specs.Prelude.{IfOk, IfSome, is_some, string_bytes, true};
 ghost use Rattle.warg_protocol.specs.Json.{JsonError as OfJsonError, JsonTextError as OfJsonTextError};
 ghost use Rattle.warg_protocol.specs.Json.{ReturnsOrNoMemory};
-ghost use Rattle.warg_protocol.specs.Logs.{EnvelopeData, IsHonest};
+ghost use Rattle.warg_protocol.specs.Logs.{EnvelopeData, ContentsMatchBytes};
 ghost use Rattle.warg_saved_states.specs.JsonText.{ReturnsOfText};
 ghost use Rattle.tool_answers.specs.Explanations.{HoldsFirst};
 ghost use Rattle.tool_answers.specs.KeyIds.{AreIdsOf};
@@ -102,7 +102,7 @@ pub trait ToolLog: Report {
     ) -> Result<Option<ProtoEnvelope<Self::Record>>, AllocError>
         ensures cut { IfOk result (λ found. IfSome found
             (HoldsFirst has_first envelope.now count)) }
-        ensures found { IsHonest Self.Record.read Self.Record.meaning envelope.now →
+        ensures found { ContentsMatchBytes Self.Record.read Self.Record.meaning envelope.now →
             IfOk result (λ found. is_some found ≡ true) };
 
     /// A line for each key, and for each release or namespace.

@@ -1,16 +1,16 @@
 //! What the commands of `weoldrin` share: what a kind of log is asked, how a log is judged, and what is answered.
 #![tactic(auto)]
 
-pub mod cause;
+pub mod hint;
 pub mod id_word;
-pub mod judged;
 mod key_ids;
 pub mod kind;
+pub mod loading;
 mod operator_log;
 mod package_log;
 pub mod parting;
+mod reencoded;
 pub mod reply;
-mod resealed;
 pub mod side;
 pub mod unread;
 mod wording;

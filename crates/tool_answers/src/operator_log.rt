@@ -6,7 +6,7 @@ ghost use Rattle.tool_answers.specs.ShownWords.{namespace_line, namespace_lines,
 
 use crate::key_ids::key_ids;
 use crate::kind::ToolLog;
-use crate::resealed::resealed;
+use crate::reencoded::reencode;
 use crate::wording::{EntryWords, key_lines, permission_words, record_line, time_words};
 use std::alloc::{AllocError, Global};
 use warg_log_records::laws::equality;
@@ -172,7 +172,7 @@ impl ToolLog for LogState {
         let mut record = envelope.contents().clone()?;
         record.entries.truncate(count);
         let content = record.encode(alloc)?;
-        resealed(alloc, &record, content, envelope)
+        reencode(alloc, &record, content, envelope)
     }
 
     fn state_text(&self, alloc: Global) -> Result<String, AllocError> {

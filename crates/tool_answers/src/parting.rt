@@ -1,7 +1,7 @@
 //! Where a log and an older copy of it part.
 
 ghost use Rattle.std.specs.Prelude.{◌≡◌, ◌<◌, [], All, IfOk, length, slice_index_or, string_bytes};
-ghost use Rattle.warg_protocol.specs.Logs.{IsHonest, contents, envelopes};
+ghost use Rattle.warg_protocol.specs.Logs.{ContentsMatchBytes, contents, envelopes};
 ghost use Rattle.tool_answers.specs.Texts.{IsNamedLine, collision_line, fork_line, named_line};
 
 use crate::kind::ToolLog;
@@ -66,7 +66,7 @@ pub fn record_of_side<L: ToolLog>(
     place: usize,
 ) -> Result<String, AllocError>
     requires within { place < length (contents (envelopes records.now)) }
-    requires honest { All (IsHonest L.Record.read L.Record.meaning) records.now }
+    requires honest { All (ContentsMatchBytes L.Record.read L.Record.meaning) records.now }
     ensures { IfOk result (λ text. IsNamedLine L.says_words name.now (envelopes records.now)
         place (string_bytes text)) }
 {

@@ -4,18 +4,18 @@ use Rattle.std.proofs.lemmas.Bool.{false≢true}
 use Rattle.std.proofs.Math.Seq.{take-length, take-suc}
 use Rattle.std.proofs.lemmas.List.{map-append}
 use Rattle.warg_protocol.specs.Logs.{Cause, EnvelopeData, Kind}
-use Rattle.warg_audit.specs.Files.Lines.{strings_of}
-use Rattle.warg_audit.specs.Printouts.{Printout, bad_line}
+use Rattle.warg_audit.specs.Files.Lines.{inputs_of}
+use Rattle.warg_audit.specs.Printouts.{OutputData, bad_line}
 use Rattle.warg_audit.specs.declared.files.lines.LineError.TheVariants.{Bad}
-use Rattle.warg_audit.proofs.FilesLemmas.StringLemmas as lines
+use Rattle.warg_audit.proofs.FilesLemmas.InputLemmas as lines
 use Rattle.warg_claims.specs.Claimed.{AreClaims, EndsAt, IsRefusedAnyway}
 use Rattle.warg_replay.specs.OutcomeRuns.{IfNamed}
 use Rattle.warg_claims.specs.Verified.Claims.{ClaimData, claim_text}
-use Rattle.warg_audit.specs.Files.Answers.{Answers, IfStopped}
+use Rattle.warg_audit.specs.Files.Answers.{Answers, IfOutput}
 use Rattle.tool_changes.specs.ClaimTexts.{IsClaimList, IsClaimsAnswer, cut, first_bad, listed, whole}
-use Rattle.warg_audit.specs.declared.files.answer.Answer.{Answer}
-use Rattle.warg_audit.specs.declared.files.stop.Stop.{Stop}
-use Rattle.warg_audit.proofs.FilesLemmas.AnswerLemmas.{Answers-to, IfStopped-to}
+use Rattle.warg_audit.specs.declared.files.command_output.CommandOutput.{CommandOutput}
+use Rattle.warg_audit.specs.declared.files.command_error.CommandError.{CommandError}
+use Rattle.warg_audit.proofs.FilesLemmas.AnswerLemmas.{Answers-to, IfOutput-to}
 use Rattle.warg_audit.specs.Files.Texts.{all_lines, line, no, yes}
 
 all_lines-append : (texts : List (List ℕ)) (text : List ℕ) → all_lines (texts ++ text ∷ []) ≡ all_lines texts ++ (text ++ 10 ∷ [])
@@ -46,40 +46,40 @@ named_why None P some h = absurd (false≢true (sym some))
 named_why (Some why) P some h = (why, h)
 
 module _ {View Offence F : Type 0} (k : Kind View Offence) (read : List ℕ → Result EnvelopeData F) where
-  pub claim_list : (strings : List (List ℕ)) (claims : List ClaimData) (text : List ℕ) (printed : Printout)
-      → printed ≡ yes text → AreClaims k read (take (length claims) strings) claims
-      → text ≡ all_lines (map claim_text claims) → length claims ≡ length strings → IsClaimList k read strings printed
-  claim_list strings claims text printed is own e all =
+  pub claim_list : (inputs : List (List ℕ)) (claims : List ClaimData) (text : List ℕ) (printed : OutputData)
+      → printed ≡ yes text → AreClaims k read (take (length claims) inputs) claims
+      → text ≡ all_lines (map claim_text claims) → length claims ≡ length inputs → IsClaimList k read inputs printed
+  claim_list inputs claims text printed is own e all =
       let P : List (List ℕ) → Type 0 = λ ss. AreClaims k read ss claims in
-      whole claims (subst P (ap (λ n. take n strings) all ∙ take-length strings) own) (is ∙ ap yes e)
+      whole claims (subst P (ap (λ n. take n inputs) all ∙ take-length inputs) own) (is ∙ ap yes e)
 
-  -- a list that was cut, before a string that is refused whatever its signature
-  cut_list : {C : Type 0} (named_by : C → Option (Cause F Offence)) (cause : C) (strings : List (List ℕ)) (claims : List ClaimData)
-      (text : List ℕ) (printed : Printout) → printed ≡ no text → is_none (named_by cause) ≡ false
-      → AreClaims k read (take (length claims) strings) claims → text ≡ all_lines (map claim_text claims)
-      → EndsAt k read named_by strings (length claims) (Some cause) → IsClaimList k read strings printed
-  cut_list named_by cause strings claims text printed is some own e ends =
-      let found = named_why (named_by cause) (IsRefusedAnyway k read strings (length claims)) some ends in
+  -- a list that was cut, before an input that is refused whatever its signature
+  cut_list : {C : Type 0} (named_by : C → Option (Cause F Offence)) (cause : C) (inputs : List (List ℕ)) (claims : List ClaimData)
+      (text : List ℕ) (printed : OutputData) → printed ≡ no text → is_none (named_by cause) ≡ false
+      → AreClaims k read (take (length claims) inputs) claims → text ≡ all_lines (map claim_text claims)
+      → EndsAt k read named_by inputs (length claims) (Some cause) → IsClaimList k read inputs printed
+  cut_list named_by cause inputs claims text printed is some own e ends =
+      let found = named_why (named_by cause) (IsRefusedAnyway k read inputs (length claims)) some ends in
       cut claims found.0 own found.1 (is ∙ ap no e)
 
-  pub cut_answers : {C : Type 0} (named_by : C → Option (Cause F Offence)) (cause : C) (strings : List (List ℕ)) (claims : List ClaimData)
-      (text : List ℕ) (result : Result Answer Stop) → AreClaims k read (take (length claims) strings) claims
-      → text ≡ all_lines (map claim_text claims) → EndsAt k read named_by strings (length claims) (Some cause)
+  pub cut_answers : {C : Type 0} (named_by : C → Option (Cause F Offence)) (cause : C) (inputs : List (List ℕ)) (claims : List ClaimData)
+      (text : List ℕ) (result : Result CommandOutput CommandError) → AreClaims k read (take (length claims) inputs) claims
+      → text ≡ all_lines (map claim_text claims) → EndsAt k read named_by inputs (length claims) (Some cause)
       → Answers (λ printed. (printed ≡ no text) × (is_none (named_by cause) ≡ false)) result
-      → Answers (IsClaimList k read strings) result
-  cut_answers named_by cause strings claims text result own e ends h =
-      Answers-to (λ printed. (printed ≡ no text) × (is_none (named_by cause) ≡ false)) (IsClaimList k read strings)
-      (λ printed it. cut_list named_by cause strings claims text printed it.0 it.1 own e ends) result h
+      → Answers (IsClaimList k read inputs) result
+  cut_answers named_by cause inputs claims text result own e ends h =
+      Answers-to (λ printed. (printed ≡ no text) × (is_none (named_by cause) ≡ false)) (IsClaimList k read inputs)
+      (λ printed it. cut_list named_by cause inputs claims text printed it.0 it.1 own e ends) result h
 
-  pub list_answers : (ls strings : List (List ℕ)) (result : Result Answer Stop) → strings_of ls ≡ Ok strings
-      → Answers (IsClaimList k read strings) result → Answers (IsClaimsAnswer k read ls) result
-  list_answers ls strings result e h =
-      Answers-to (IsClaimList k read strings) (IsClaimsAnswer k read ls)
-      (λ printed it. listed strings (lines.spell_from 0 ls strings e) it) result h
+  pub list_answers : (ls inputs : List (List ℕ)) (result : Result CommandOutput CommandError) → inputs_of ls ≡ Ok inputs
+      → Answers (IsClaimList k read inputs) result → Answers (IsClaimsAnswer k read ls) result
+  list_answers ls inputs result e h =
+      Answers-to (IsClaimList k read inputs) (IsClaimsAnswer k read ls)
+      (λ printed it. listed inputs (lines.spell_from 0 ls inputs e) it) result h
 
-  pub bad_line_answers : (ls : List (List ℕ)) (end : Stop)
-      → IfStopped (λ printed. (index : ℕ) × ((strings_of ls ≡ Err (Bad index)) × (printed ≡ bad_line index))) end
-      → IfStopped (IsClaimsAnswer k read ls) end
+  pub bad_line_answers : (ls : List (List ℕ)) (end : CommandError)
+      → IfOutput (λ printed. (index : ℕ) × ((inputs_of ls ≡ Err (Bad index)) × (printed ≡ bad_line index))) end
+      → IfOutput (IsClaimsAnswer k read ls) end
   bad_line_answers ls end h =
-      IfStopped-to (λ printed. (index : ℕ) × ((strings_of ls ≡ Err (Bad index)) × (printed ≡ bad_line index)))
+      IfOutput-to (λ printed. (index : ℕ) × ((inputs_of ls ≡ Err (Bad index)) × (printed ≡ bad_line index)))
       (IsClaimsAnswer k read ls) (λ printed bad. first_bad bad.0 (lines.first_bad ls bad.0 bad.1.0) bad.1.1) end h

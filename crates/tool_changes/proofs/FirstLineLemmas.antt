@@ -6,14 +6,14 @@ use Rattle.std.specs.Prelude.{◌==◌, cond}
 use Rattle.std.specs.Str.Lines.{lines, lines_of_parts, strip_carriage_return}
 use Rattle.warg_protocol.specs.Records.{RecordId}
 use Rattle.warg_audit.specs.LogAnswers.{LogDisplay, accepted_line, accepted_start, head_text, log_shown, view_of}
-use Rattle.warg_audit.specs.Printouts.{Printout}
+use Rattle.warg_audit.specs.Printouts.{OutputData}
 use Rattle.warg_protocol.specs.Logs.{SignatureRelation}
-use Rattle.warg_audit.specs.Files.Answers.{Answers, IfStopped, answer_view}
+use Rattle.warg_audit.specs.Files.Answers.{Answers, IfOutput, output_data}
 use Rattle.tool_answers.specs.Verdicts.{IsLawful, lawful}
-use Rattle.warg_audit.specs.declared.files.answer.Answer.{Answer}
+use Rattle.warg_audit.specs.declared.files.command_output.CommandOutput.{CommandOutput}
 use Rattle.warg_audit.proofs.FilesLemmas.AnswerLemmas.{Answers-to}
-use Rattle.warg_audit.specs.declared.files.stop.Stop.{Stop}
-use Rattle.tool_answers.proofs.JudgedLemmas.{IfStopped-weaker}
+use Rattle.warg_audit.specs.declared.files.command_error.CommandError.{CommandError}
+use Rattle.tool_answers.proofs.LoadingLemmas.{IfOutput-weaker}
 use Rattle.tool_changes.specs.Audits.{BeginsAs, IsAudited, first_of, line_or, met, not_met, records_alone, unmet}
 
 abbrev is_end : ℕ → Bool
@@ -86,37 +86,37 @@ accepted_begins count head told =
     ∙ sym (ap (λ text. first_of (lines text)) (begins count head told))
 
 -- what P holds of begins as itself
-pub begins_as_itself : (P : Printout → Type 0) (printed : Printout) → P printed → BeginsAs P printed
+pub begins_as_itself : (P : OutputData → Type 0) (printed : OutputData) → P printed → BeginsAs P printed
 begins_as_itself P printed h = record { whole = printed; holds = h; line = refl; status = refl }
 
-pub stopped_begins : (P : Printout → Type 0) (end : Stop) → IfStopped P end → IfStopped (BeginsAs P) end
-stopped_begins P end h = IfStopped-weaker P (BeginsAs P) (begins_as_itself P) end h
+pub error_begins : (P : OutputData → Type 0) (end : CommandError) → IfOutput P end → IfOutput (BeginsAs P) end
+error_begins P end h = IfOutput-weaker P (BeginsAs P) (begins_as_itself P) end h
 
 module _ {Meaning Fault View Offence : Type 0} (log : LogDisplay Meaning Fault View Offence) (belongs : SignatureRelation) (allows_empty : Bool) where
   -- the first line alone of the answer to a lawful log of which no more than records is demanded
-  first_or_not : (ls strings : List (List ℕ)) → IsLawful log belongs ls strings → (found : Option (List ℕ))
-      → unmet (records_alone allows_empty) (length strings) (log.kind.head (view_of log strings)) ≡ found → (printed : Printout)
-      → printed ≡ line_or (record { text = accepted_start (length strings) (log.kind.head (view_of log strings)); status = 0 }) found
+  first_or_not : (ls inputs : List (List ℕ)) → IsLawful log belongs ls inputs → (found : Option (List ℕ))
+      → unmet (records_alone allows_empty) (length inputs) (log.kind.head (view_of log inputs)) ≡ found → (printed : OutputData)
+      → printed ≡ line_or (record { text = accepted_start (length inputs) (log.kind.head (view_of log inputs)); status = 0 }) found
       → BeginsAs (IsAudited log belongs (records_alone allows_empty) None ls) printed
-  first_or_not ls strings it None e printed is = record {
-    whole = log_shown log (length strings) (view_of log strings);
-    holds = lawful strings it (met e refl);
-    line = ap (λ (p : Printout). first_of (lines p.text)) is
-        ∙ accepted_begins (length strings) (log.kind.head (view_of log strings)) (log.shown (view_of log strings));
-    status = ap (λ (p : Printout). p.status) is;
+  first_or_not ls inputs it None e printed is = record {
+    whole = log_shown log (length inputs) (view_of log inputs);
+    holds = lawful inputs it (met e refl);
+    line = ap (λ (p : OutputData). first_of (lines p.text)) is
+        ∙ accepted_begins (length inputs) (log.kind.head (view_of log inputs)) (log.shown (view_of log inputs));
+    status = ap (λ (p : OutputData). p.status) is;
   }
-  first_or_not ls strings it (Some text) e printed is =
-      begins_as_itself (IsAudited log belongs (records_alone allows_empty) None ls) printed (lawful strings it (not_met text e is))
+  first_or_not ls inputs it (Some text) e printed is =
+      begins_as_itself (IsAudited log belongs (records_alone allows_empty) None ls) printed (lawful inputs it (not_met text e is))
 
-  -- the same of a state that stands for the strings
-  pub first_answers : (ls strings : List (List ℕ)) → IsLawful log belongs ls strings → (view : View) → view ≡ view_of log strings
-      → (count : ℕ) → count ≡ length strings → (head : Option RecordId) → head ≡ log.kind.head view → (result : Result Answer Stop)
+  -- the same of a state that stands for the inputs
+  pub first_answers : (ls inputs : List (List ℕ)) → IsLawful log belongs ls inputs → (view : View) → view ≡ view_of log inputs
+      → (count : ℕ) → count ≡ length inputs → (head : Option RecordId) → head ≡ log.kind.head view → (result : Result CommandOutput CommandError)
       → Answers (λ printed. printed ≡ line_or (record { text = accepted_start count head; status = 0 }) (unmet (records_alone allows_empty) count head)) result
       → Answers (BeginsAs (IsAudited log belongs (records_alone allows_empty) None ls)) result
-  first_answers ls strings it view stands count counted head is_head result h =
+  first_answers ls inputs it view stands count counted head is_head result h =
       Answers-to (λ printed. printed ≡ line_or (record { text = accepted_start count head; status = 0 }) (unmet (records_alone allows_empty) count head))
       (BeginsAs (IsAudited log belongs (records_alone allows_empty) None ls))
-      (λ printed is. first_or_not ls strings it (unmet (records_alone allows_empty) (length strings) (log.kind.head (view_of log strings))) refl printed
+      (λ printed is. first_or_not ls inputs it (unmet (records_alone allows_empty) (length inputs) (log.kind.head (view_of log inputs))) refl printed
       (is ∙ ap (λ (n : ℕ). line_or (record { text = accepted_start n head; status = 0 }) (unmet (records_alone allows_empty) n head)) counted
-      ∙ ap (λ (d : Option RecordId). line_or (record { text = accepted_start (length strings) d; status = 0 }) (unmet (records_alone allows_empty) (length strings) d))
+      ∙ ap (λ (d : Option RecordId). line_or (record { text = accepted_start (length inputs) d; status = 0 }) (unmet (records_alone allows_empty) (length inputs) d))
       (is_head ∙ ap log.kind.head stands))) result h

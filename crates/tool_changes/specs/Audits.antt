@@ -7,11 +7,11 @@ use Rattle.warg_protocol.specs.Logs.{IsComparison, SignatureRelation, contents}
 use Rattle.warg_protocol.specs.Records.{RecordId}
 use Rattle.warg_replay.specs.declared.audited_log.comparison.Comparison.{Comparison}
 use Rattle.warg_replay.specs.declared.audited_log.comparison.Comparison.TheVariants.{Same, LeftIsPrefix, RightIsPrefix, Fork, Collision}
-use Rattle.warg_audit.specs.declared.log_type.LogType.{LogType}
-use Rattle.warg_audit.specs.declared.log_type.LogType.TheVariants.{Package, Operator}
+use Rattle.warg_audit.specs.declared.log_kind.LogKind.{LogKind}
+use Rattle.warg_audit.specs.declared.log_kind.LogKind.TheVariants.{Package, Operator}
 use Rattle.warg_audit.specs.LogAnswers.{LogDisplay, head_text, log_shown, view_of}
-use Rattle.warg_audit.specs.LogTypes.{package_log, operator_log}
-use Rattle.warg_audit.specs.Printouts.{Printout}
+use Rattle.warg_audit.specs.LogKinds.{package_log, operator_log}
+use Rattle.warg_audit.specs.Printouts.{OutputData}
 use Rattle.warg_audit.specs.Files.Texts.{no, side_text}
 use Rattle.tool_answers.specs.IdWords.{begins_as_said, is_id_word}
 use Rattle.tool_answers.specs.Texts.{collision_line, fork_line}
@@ -65,50 +65,50 @@ parted id head old new (Fork place) = Some (fork_line id old new place)
 parted id head old new (Collision here there) = Some (collision_line id old here there)
 
 -- the line is printed, or else the verdict
-abbrev pub line_or : Printout → Option (List ℕ) → Printout
+abbrev pub line_or : OutputData → Option (List ℕ) → OutputData
 line_or verdict None = verdict
 line_or verdict (Some text) = no text
 
 module _ {Meaning Fault View Offence : Type 0} (log : LogDisplay Meaning Fault View Offence) where
-  -- the verdict on the strings of a lawful log
-  abbrev pub verdict_on : List (List ℕ) → Printout
-  verdict_on strings = log_shown log (length strings) (view_of log strings)
+  -- the verdict on the inputs of a lawful log
+  abbrev pub verdict_on : List (List ℕ) → OutputData
+  verdict_on inputs = log_shown log (length inputs) (view_of log inputs)
 
-  -- what is printed of strings beside those of an older copy
-  pub record IsBeside (before strings : List (List ℕ)) (printed : Printout) : Type 0 where
+  -- what is printed of inputs beside those of an older copy
+  pub record IsBeside (before inputs : List (List ℕ)) (printed : OutputData) : Type 0 where
     pub comparison : Comparison
-    pub compares : IsComparison (log.kind.head (view_of log before)) (log.kind.head (view_of log strings))
-        (contents (envelopes_of log before)) (contents (envelopes_of log strings)) comparison
-    pub is : printed ≡ line_or (verdict_on strings)
-        (parted log.kind.id (log.kind.head (view_of log strings)) (contents (envelopes_of log before)) (contents (envelopes_of log strings)) comparison)
+    pub compares : IsComparison (log.kind.head (view_of log before)) (log.kind.head (view_of log inputs))
+        (contents (envelopes_of log before)) (contents (envelopes_of log inputs)) comparison
+    pub is : printed ≡ line_or (verdict_on inputs)
+        (parted log.kind.id (log.kind.head (view_of log inputs)) (contents (envelopes_of log before)) (contents (envelopes_of log inputs)) comparison)
 
   module _ (belongs : SignatureRelation) where
     -- the same by the lines of the older copy: of those, where they are no lawful log, or have no records, where there have to be some
-    pub data IsBesideLines (demands : Demands) (older strings : List (List ℕ)) (printed : Printout) : Type 0 where
-      of_older : (it : Printout) → IsNegative log belongs older it → printed ≡ side_text (codes "older") it → IsBesideLines demands older strings printed
+    pub data IsBesideLines (demands : Demands) (older inputs : List (List ℕ)) (printed : OutputData) : Type 0 where
+      of_older : (it : OutputData) → IsNegative log belongs older it → printed ≡ side_text (codes "older") it → IsBesideLines demands older inputs printed
       older_empty : (before : List (List ℕ)) → IsLawful log belongs older before → lacks_records demands (length (envelopes_of log before)) ≡ true
-          → printed ≡ side_text (codes "older") (no (codes "empty\n")) → IsBesideLines demands older strings printed
+          → printed ≡ side_text (codes "older") (no (codes "empty\n")) → IsBesideLines demands older inputs printed
       beside : (before : List (List ℕ)) → IsLawful log belongs older before → lacks_records demands (length (envelopes_of log before)) ≡ false
-          → IsBeside before strings printed → IsBesideLines demands older strings printed
+          → IsBeside before inputs printed → IsBesideLines demands older inputs printed
 
     -- the same, if there is an older copy; else the verdict
-    abbrev pub IsBesideAny : Demands → Option (List (List ℕ)) → List (List ℕ) → Printout → Type 0
-    IsBesideAny demands None strings printed = printed ≡ verdict_on strings
-    IsBesideAny demands (Some older) strings printed = IsBesideLines demands older strings printed
+    abbrev pub IsBesideAny : Demands → Option (List (List ℕ)) → List (List ℕ) → OutputData → Type 0
+    IsBesideAny demands None inputs printed = printed ≡ verdict_on inputs
+    IsBesideAny demands (Some older) inputs printed = IsBesideLines demands older inputs printed
 
-    -- what is printed of the strings of a lawful log: the first demand on it alone that is not met; else by the older copy
-    pub data IsDemanded (demands : Demands) (older : Option (List (List ℕ))) (strings : List (List ℕ)) (printed : Printout) : Type 0 where
-      not_met : (text : List ℕ) → unmet demands (length strings) (log.kind.head (view_of log strings)) ≡ Some text
-          → printed ≡ no text → IsDemanded demands older strings printed
-      met : unmet demands (length strings) (log.kind.head (view_of log strings)) ≡ None → IsBesideAny demands older strings printed
-          → IsDemanded demands older strings printed
+    -- what is printed of the inputs of a lawful log: the first demand on it alone that is not met; else by the older copy
+    pub data IsDemanded (demands : Demands) (older : Option (List (List ℕ))) (inputs : List (List ℕ)) (printed : OutputData) : Type 0 where
+      not_met : (text : List ℕ) → unmet demands (length inputs) (log.kind.head (view_of log inputs)) ≡ Some text
+          → printed ≡ no text → IsDemanded demands older inputs printed
+      met : unmet demands (length inputs) (log.kind.head (view_of log inputs)) ≡ None → IsBesideAny demands older inputs printed
+          → IsDemanded demands older inputs printed
 
     -- the answer to the lines of a log: the audit's, where they are no lawful log
-    abbrev pub IsAudited : Demands → Option (List (List ℕ)) → List (List ℕ) → Printout → Type 0
+    abbrev pub IsAudited : Demands → Option (List (List ℕ)) → List (List ℕ) → OutputData → Type 0
     IsAudited demands older lines printed = IsPrintedOf log belongs (IsDemanded demands older) lines printed
 
 -- the answer to the lines of a log of this type
-abbrev pub IsAuditOf : LogType → SignatureRelation → Demands → Option (List (List ℕ)) → List (List ℕ) → Printout → Type 0
+abbrev pub IsAuditOf : LogKind → SignatureRelation → Demands → Option (List (List ℕ)) → List (List ℕ) → OutputData → Type 0
 IsAuditOf Package belongs demands older lines printed = IsAudited package_log belongs demands older lines printed
 IsAuditOf Operator belongs demands older lines printed = IsAudited operator_log belongs demands older lines printed
 
@@ -120,8 +120,8 @@ first_of [] = []
 first_of (line ∷ more) = line
 
 -- the first line and the status are those of an answer that P holds of
-pub record BeginsAs (P : Printout → Type 0) (printed : Printout) : Type 0 where
-  pub whole : Printout
+pub record BeginsAs (P : OutputData → Type 0) (printed : OutputData) : Type 0 where
+  pub whole : OutputData
   pub holds : P whole
   pub line : first_of (lines printed.text) ≡ first_of (lines whole.text)
   pub status : printed.status ≡ whole.status

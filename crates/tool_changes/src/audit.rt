@@ -12,35 +12,43 @@ ghost use Rattle.tool_changes.specs.Audits.{BeginsAs, IsAudited, IsAuditOf, line
 use crate::beside::beside;
 use crate::demands::{records_alone, unmet};
 use std::alloc::Global;
-use tool_answers::judged::judged;
 use tool_answers::kind::ToolLog;
-use tool_answers::reply::answer_of_reply;
+use tool_answers::loading::load_state;
+use tool_answers::reply::output_of_reply;
 use tool_words::Demands;
-use warg_audit::files::answer::Answer;
+use warg_audit::files::command_error::CommandError;
+use warg_audit::files::command_output::CommandOutput;
 use warg_audit::files::input::Input;
 use warg_audit::files::record_lines::record_text;
-use warg_audit::files::stop::Stop;
-use warg_audit::{LogType, accepted_first_line, accepted_reply, id_reply};
+use warg_audit::{LogKind, accepted_first_line, accepted_reply, id_reply};
 use warg_protocol::registry::RecordId;
 use warg_protocol::signing::Verifier;
 use warg_protocol::{operator, package};
 
 /// The id of the one record in a file.
-pub fn id_answer(alloc: Global, kind: LogType, input: Input<'_>) -> Result<Answer, Stop>
+pub fn id_answer(
+    alloc: Global,
+    kind: LogKind,
+    input: Input<'_>,
+) -> Result<CommandOutput, CommandError>
     ensures { Answers (IsIdAnswer kind (record_lines input.entry.bytes.items)) result }
 {
     let (text, _) = record_text(alloc, input.bytes)?;
     let reply = id_reply(alloc, kind, text.as_slice())?;
-    Ok(answer_of_reply(alloc, &reply)?)
+    Ok(output_of_reply(alloc, &reply)?)
 }
 
 // The verdict on a lawful log.
-fn accepted<L: ToolLog>(alloc: Global, state: &L, count: usize) -> Result<Answer, Stop>
+fn accepted<L: ToolLog>(
+    alloc: Global,
+    state: &L,
+    count: usize,
+) -> Result<CommandOutput, CommandError>
     ensures { Answers (λ printed. printed ≡ accepted_line count (L.kind.head (L.view state.now))
         (L.lines_of state.now)) result }
 {
     let reply = accepted_reply(alloc, state, count)?;
-    Ok(answer_of_reply(alloc, &reply)?)
+    Ok(output_of_reply(alloc, &reply)?)
 }
 
 /// The line, if there is one, or else the verdict on a lawful log.
@@ -49,13 +57,13 @@ pub(crate) fn line_or_verdict<L: ToolLog>(
     line: Option<String>,
     state: &L,
     count: usize,
-) -> Result<Answer, Stop>
+) -> Result<CommandOutput, CommandError>
     ensures { Answers (λ printed. printed ≡ line_or
         (accepted_line count (L.kind.head (L.view state.now)) (L.lines_of state.now))
         (option_map string_bytes line)) result }
 {
     match line {
-        Some(text) => Ok(Answer::new(alloc, text, 1)),
+        Some(text) => Ok(CommandOutput::new(alloc, text, 1)),
         None => accepted(alloc, state, count),
     }
 }
@@ -66,7 +74,7 @@ fn demanded<L: ToolLog>(
     demands: &Demands<'_>,
     state: &L,
     count: usize,
-) -> Result<Answer, Stop>
+) -> Result<CommandOutput, CommandError>
     ensures { Answers (λ printed. printed ≡ line_or
         (accepted_line count (L.kind.head (L.view state.now)) (L.lines_of state.now))
         (unmet demands.now count (L.kind.head (L.view state.now)))) result }
@@ -81,13 +89,13 @@ fn alone<L: ToolLog, V: Verifier>(
     verifier: &V,
     demands: &Demands<'_>,
     input: Input<'_>,
-) -> Result<Answer, Stop>
+) -> Result<CommandOutput, CommandError>
     ensures { ForDisplay L.log L.Record.reading L.report (λ log. Answers (IsAudited log
         (V.belongs verifier.now) demands.now None (record_lines input.entry.bytes.items)) result) }
 {
-    match judged::<L, V>(alloc, verifier, input) {
+    match load_state::<L, V>(alloc, verifier, input) {
         Ok((state, count)) => demanded(alloc, demands, &state, count),
-        Err(stop) => Err(stop),
+        Err(error) => Err(error),
     }
 }
 
@@ -98,7 +106,7 @@ fn audited<L: ToolLog, V: Verifier>(
     demands: &Demands<'_>,
     older: Option<Input<'_>>,
     input: Input<'_>,
-) -> Result<Answer, Stop>
+) -> Result<CommandOutput, CommandError>
     ensures { ForDisplay L.log L.Record.reading L.report (λ log.
         Answers (IsAudited log (V.belongs verifier.now) demands.now (option_map (λ it.
         record_lines it.bytes.items) older.entry) (record_lines input.entry.bytes.items)) result) }
@@ -115,7 +123,7 @@ fn first_line(
     allows_empty: bool,
     head: Option<&RecordId>,
     count: usize,
-) -> Result<Answer, Stop>
+) -> Result<CommandOutput, CommandError>
     ensures { Answers (λ printed. printed ≡ line_or (record {
       text = accepted_start count (option_copied head.entry);
       status = 0;
@@ -123,10 +131,10 @@ fn first_line(
 {
     let demands = records_alone(allows_empty);
     match unmet(alloc, &demands, count, head)? {
-        Some(text) => Ok(Answer::new(alloc, text, 1)),
+        Some(text) => Ok(CommandOutput::new(alloc, text, 1)),
         None => {
             let line = accepted_first_line(alloc, head, count)?;
-            Ok(Answer::new(alloc, line, 0))
+            Ok(CommandOutput::new(alloc, line, 0))
         }
     }
 }
@@ -137,14 +145,14 @@ fn first_of_verdict<L: ToolLog, V: Verifier>(
     verifier: &V,
     allows_empty: bool,
     input: Input<'_>,
-) -> Result<Answer, Stop>
+) -> Result<CommandOutput, CommandError>
     ensures { ForDisplay L.log L.Record.reading L.report (λ log.
         Answers (BeginsAs (IsAudited log (V.belongs verifier.now)
         (records_alone allows_empty) None (record_lines input.entry.bytes.items))) result) }
 {
-    match judged::<L, V>(alloc, verifier, input) {
+    match load_state::<L, V>(alloc, verifier, input) {
         Ok((state, count)) => first_line(alloc, allows_empty, state.head_digest(), count),
-        Err(stop) => Err(stop),
+        Err(error) => Err(error),
     }
 }
 
@@ -152,18 +160,18 @@ fn first_of_verdict<L: ToolLog, V: Verifier>(
 pub(crate) fn first_of_audit<V: Verifier>(
     alloc: Global,
     verifier: &V,
-    kind: LogType,
+    kind: LogKind,
     allows_empty: bool,
     input: Input<'_>,
-) -> Result<Answer, Stop>
+) -> Result<CommandOutput, CommandError>
     ensures { Answers (BeginsAs (IsAuditOf kind (V.belongs verifier.now)
         (records_alone allows_empty) None (record_lines input.entry.bytes.items))) result }
 {
     match kind {
-        LogType::Package => {
+        LogKind::Package => {
             first_of_verdict::<package::LogState, V>(alloc, verifier, allows_empty, input)
         }
-        LogType::Operator => {
+        LogKind::Operator => {
             first_of_verdict::<operator::LogState, V>(alloc, verifier, allows_empty, input)
         }
     }
@@ -173,20 +181,20 @@ pub(crate) fn first_of_audit<V: Verifier>(
 pub(crate) fn audit_answer<V: Verifier>(
     alloc: Global,
     verifier: &V,
-    kind: LogType,
+    kind: LogKind,
     demands: &Demands<'_>,
     older: Option<Input<'_>>,
     input: Input<'_>,
-) -> Result<Answer, Stop>
+) -> Result<CommandOutput, CommandError>
     ensures { Answers (IsAuditOf kind (V.belongs verifier.now) demands.now
         (option_map (λ it. record_lines it.bytes.items) older.entry)
         (record_lines input.entry.bytes.items)) result }
 {
     match kind {
-        LogType::Package => {
+        LogKind::Package => {
             audited::<package::LogState, V>(alloc, verifier, demands, older, input)
         }
-        LogType::Operator => {
+        LogKind::Operator => {
             audited::<operator::LogState, V>(alloc, verifier, demands, older, input)
         }
     }

@@ -2,7 +2,7 @@
 
 ghost use Rattle.std.specs.Prelude.{◌≡◌, IfOk, Some};
 ghost use Rattle.std.specs.Option.{option_map};
-ghost use Rattle.warg_audit.specs.Files.Answers.{answer_view, Answers};
+ghost use Rattle.warg_audit.specs.Files.Answers.{output_data, Answers};
 ghost use Rattle.warg_audit.specs.Files.RecordLines.{record_lines};
 ghost use Rattle.warg_audit.specs.Files.Unusable.{IsOfLines};
 ghost use Rattle.tool_changes.specs.Audits.{IsAuditOf};
@@ -13,10 +13,10 @@ use crate::demands::test_words;
 use crate::many_audits::one_line;
 use std::alloc::{AllocError, Global};
 use tool_words::Demands;
-use warg_audit::LogType;
-use warg_audit::files::answer::Answer;
-use warg_audit::files::input::{Input, ReadFault, Store, read_input};
-use warg_audit::files::stop::{Stop, settled};
+use warg_audit::LogKind;
+use warg_audit::files::command_error::{CommandError, into_output};
+use warg_audit::files::command_output::CommandOutput;
+use warg_audit::files::input::{Input, ReadError, Store, read_input};
 use warg_protocol::signing::Verifier;
 
 /// How the log in a file is audited: its kind, what is demanded of it, and how its answer is shown.
@@ -27,7 +27,7 @@ pub struct Audit<'v, 'a, V> {
     /// What tells which signatures belong.
     pub verifier: &'v V,
     /// The kind of the log.
-    pub kind: LogType,
+    pub kind: LogKind,
     /// What it has to be.
     pub demands: Demands<'a>,
     /// Whether its path stands before the first line, which is printed alone then.
@@ -38,7 +38,11 @@ pub struct Audit<'v, 'a, V> {
 
 impl<'v, 'a, V: Verifier> Audit<'v, 'a, V> {
     // The answer to the log in a file that is read, beside its older copy, if there is one.
-    fn answer(&self, older: Option<Input<'_>>, input: Input<'_>) -> Result<Answer, Stop>
+    fn answer(
+        &self,
+        older: Option<Input<'_>>,
+        input: Input<'_>,
+    ) -> Result<CommandOutput, CommandError>
         ensures { Answers (IsAuditOf self.now.kind (V.belongs self.now.verifier.now)
             self.now.demands (option_map (λ it. record_lines it.bytes.items) older.entry)
             (record_lines input.entry.bytes.items)) result }
@@ -59,16 +63,16 @@ impl<'v, 'a, V: Verifier> Audit<'v, 'a, V> {
         older: Option<Input<'_>>,
         path: &str,
         store: &mut S,
-    ) -> Result<Answer, AllocError>
+    ) -> Result<CommandOutput, AllocError>
         ensures verdict { IfOk result (λ answer. IsVerdictOn (S.files store.old)
             (IsAuditOf self.now.kind (V.belongs self.now.verifier.now) self.now.demands (option_map
-            (λ it. record_lines it.bytes.items) older.entry)) path.now (answer_view answer)) }
+            (λ it. record_lines it.bytes.items) older.entry)) path.now (output_data answer)) }
         ensures kept { S.files store.new ≡ S.files store.old }
     {
         match store.read(path) {
-            Ok(bytes) => settled(self.answer(older, Input { path, bytes })),
-            Err(ReadFault::OutOfMemory) => Err(AllocError),
-            Err(fault) => Answer::fixed(self.alloc, fault.text(), fault.status()),
+            Ok(bytes) => into_output(self.answer(older, Input { path, bytes })),
+            Err(ReadError::OutOfMemory) => Err(AllocError),
+            Err(fault) => CommandOutput::fixed(self.alloc, fault.text(), fault.status()),
         }
     }
 
@@ -78,15 +82,15 @@ impl<'v, 'a, V: Verifier> Audit<'v, 'a, V> {
         older: Option<Input<'_>>,
         path: &str,
         store: &mut S,
-    ) -> Result<Answer, AllocError>
+    ) -> Result<CommandOutput, AllocError>
         ensures line { IfOk result (λ answer. IsPathLine self.now.is_json (S.files store.old)
             (IsAuditOf self.now.kind (V.belongs self.now.verifier.now) self.now.demands (option_map
-            (λ it. record_lines it.bytes.items) older.entry)) path.now (answer_view answer)) }
+            (λ it. record_lines it.bytes.items) older.entry)) path.now (output_data answer)) }
         ensures kept { S.files store.new ≡ S.files store.old }
     {
         let answer = self.verdict(older, path, store)?;
         let line = one_line(self.alloc, path, &answer, self.is_json)?;
-        Ok(Answer {
+        Ok(CommandOutput {
             text: line,
             error_text: answer.error_text,
             status: answer.status,
@@ -99,7 +103,7 @@ impl<'v, 'a, V: Verifier> Audit<'v, 'a, V> {
         older: Option<Input<'_>>,
         path: &str,
         store: &mut S,
-    ) -> Result<Answer, Stop>
+    ) -> Result<CommandOutput, CommandError>
         ensures answered { Answers (IsShownBy self.now.is_json (S.files store.old)
             (IsAuditOf self.now.kind (V.belongs self.now.verifier.now) self.now.demands (option_map
             (λ it. record_lines it.bytes.items) older.entry)) path.now self.now.shows_path) result }
@@ -110,12 +114,17 @@ impl<'v, 'a, V: Verifier> Audit<'v, 'a, V> {
         }
         match read_input(self.alloc, store, path) {
             Ok(input) => self.answer(older, input),
-            Err(stop) => Err(stop),
+            Err(error) => Err(error),
         }
     }
 
     // The answer beside the older copy in a file.
-    fn beside_copy<S: Store>(&self, older: &str, path: &str, store: &mut S) -> Result<Answer, Stop>
+    fn beside_copy<S: Store>(
+        &self,
+        older: &str,
+        path: &str,
+        store: &mut S,
+    ) -> Result<CommandOutput, CommandError>
         ensures answered { Answers (IsOfLines (S.files store.old) older.now (λ lines.
             IsShownBy self.now.is_json (S.files store.old) (IsAuditOf self.now.kind
             (V.belongs self.now.verifier.now) self.now.demands (Some lines)) path.now
@@ -124,12 +133,16 @@ impl<'v, 'a, V: Verifier> Audit<'v, 'a, V> {
     {
         match read_input(self.alloc, store, older) {
             Ok(older) => self.shown(Some(older), path, store),
-            Err(stop) => Err(stop),
+            Err(error) => Err(error),
         }
     }
 
     // The answer beside the older copy that is named, if one is.
-    fn beside_named<S: Store>(&self, path: &str, store: &mut S) -> Result<Answer, Stop>
+    fn beside_named<S: Store>(
+        &self,
+        path: &str,
+        store: &mut S,
+    ) -> Result<CommandOutput, CommandError>
         ensures answered { Answers (IsByOlder (S.files store.old) self.now.demands.older (λ older.
             IsShownBy self.now.is_json (S.files store.old) (IsAuditOf self.now.kind (V.belongs
             self.now.verifier.now) self.now.demands older) path.now self.now.shows_path)) result }
@@ -142,7 +155,11 @@ impl<'v, 'a, V: Verifier> Audit<'v, 'a, V> {
     }
 
     /// The answer to the log of a path.
-    pub fn of_file<S: Store>(&self, path: &str, store: &mut S) -> Result<Answer, Stop>
+    pub fn of_file<S: Store>(
+        &self,
+        path: &str,
+        store: &mut S,
+    ) -> Result<CommandOutput, CommandError>
         ensures answered { Answers (IsOneAnswer self.now.is_json self.now.kind
             (V.belongs self.now.verifier.now) (S.files store.old) self.now.demands
             self.now.shows_path path.now) result }
@@ -150,7 +167,7 @@ impl<'v, 'a, V: Verifier> Audit<'v, 'a, V> {
     {
         match test_words(self.alloc, &self.demands) {
             Ok(()) => self.beside_named(path, store),
-            Err(stop) => Err(stop),
+            Err(error) => Err(error),
         }
     }
 }

@@ -9,20 +9,20 @@ ghost use Rattle.warg_audit.specs.Files.Answers.{Answers};
 ghost use Rattle.warg_audit.specs.Files.RecordLines.{record_lines};
 ghost use Rattle.tool_answers.specs.Texts.{PartsWithin};
 ghost use Rattle.warg_audit.specs.ReportWords.{ForDisplay};
-ghost use Rattle.tool_answers.specs.Verdicts.{ForStrings, envelopes_of};
+ghost use Rattle.tool_answers.specs.Verdicts.{ForInputs, envelopes_of};
 ghost use Rattle.tool_changes.specs.Audits.{IsAudited, IsBeside, IsBesideLines, IsDemanded, parted};
 
 use crate::audit::line_or_verdict;
 use crate::demands::{lacks_records, unmet};
 use std::alloc::{AllocError, Global};
-use tool_answers::judged::{Lent, counted};
 use tool_answers::kind::ToolLog;
+use tool_answers::loading::{Lent, load_counted};
 use tool_answers::parting::{collision_text, fork_text};
 use tool_answers::side::side;
 use tool_words::Demands;
-use warg_audit::files::answer::Answer;
+use warg_audit::files::command_error::CommandError;
+use warg_audit::files::command_output::CommandOutput;
 use warg_audit::files::input::Input;
-use warg_audit::files::stop::Stop;
 use warg_protocol::registry::RecordId;
 use warg_protocol::signing::Verifier;
 use warg_protocol::{AuditedLog, Comparison, ProtoEnvelope};
@@ -68,11 +68,11 @@ fn beside_older<L: ToolLog, V: Verifier + Drop>(
     older: &AuditedLog<L, V>,
     log: &AuditedLog<L, V>,
     count: usize,
-) -> Result<Answer, Stop>
+) -> Result<CommandOutput, CommandError>
     ensures { ForDisplay L.log L.Record.reading L.report (λ shown.
-        (before strings : List (List ℕ)) → envelopes older.now.records ≡ envelopes_of shown before →
-        envelopes log.now.records ≡ envelopes_of shown strings →
-        count ≡ length strings → Answers (IsBeside shown before strings) result) }
+        (before inputs : List (List ℕ)) → envelopes older.now.records ≡ envelopes_of shown before →
+        envelopes log.now.records ≡ envelopes_of shown inputs →
+        count ≡ length inputs → Answers (IsBeside shown before inputs) result) }
 {
     let comparison = older.compare(log);
     let (here, there) = (older.records(), log.records());
@@ -88,19 +88,19 @@ fn beside_file<L: ToolLog, V: Verifier + Drop>(
     older: Input<'_>,
     log: &AuditedLog<L, V>,
     count: usize,
-) -> Result<Answer, Stop>
+) -> Result<CommandOutput, CommandError>
     ensures { ForDisplay L.log L.Record.reading L.report (λ shown.
-        ForStrings shown (envelopes log.now.records) count (λ strings. Answers (IsBesideLines shown
-        (V.belongs verifier) demands.now (record_lines older.entry.bytes.items) strings) result)) }
+        ForInputs shown (envelopes log.now.records) count (λ inputs. Answers (IsBesideLines shown
+        (V.belongs verifier) demands.now (record_lines older.entry.bytes.items) inputs) result)) }
 {
     match side::<L, V>(alloc, verifier, "older", older) {
         Ok(older) => {
             if lacks_records(demands, older.len()) {
-                return Ok(Answer::fixed(alloc, "older: empty\n", 1)?);
+                return Ok(CommandOutput::fixed(alloc, "older: empty\n", 1)?);
             }
             beside_older(alloc, &older, log, count)
         }
-        Err(stop) => Err(stop),
+        Err(error) => Err(error),
     }
 }
 
@@ -112,14 +112,14 @@ fn demanded_beside<L: ToolLog, V: Verifier + Drop>(
     older: Input<'_>,
     log: &AuditedLog<L, V>,
     count: usize,
-) -> Result<Answer, Stop>
-    ensures { ForDisplay L.log L.Record.reading L.report (λ shown. ForStrings shown
-        (envelopes log.now.records) count (λ strings. Answers (IsDemanded shown (V.belongs verifier)
-        demands.now (Some (record_lines older.entry.bytes.items)) strings) result)) }
+) -> Result<CommandOutput, CommandError>
+    ensures { ForDisplay L.log L.Record.reading L.report (λ shown. ForInputs shown
+        (envelopes log.now.records) count (λ inputs. Answers (IsDemanded shown (V.belongs verifier)
+        demands.now (Some (record_lines older.entry.bytes.items)) inputs) result)) }
 {
     let state = log.state();
     match unmet(alloc, demands, count, state.head_digest())? {
-        Some(text) => Ok(Answer::new(alloc, text, 1)),
+        Some(text) => Ok(CommandOutput::new(alloc, text, 1)),
         None => beside_file(alloc, verifier, demands, older, log, count),
     }
 }
@@ -131,13 +131,13 @@ pub(crate) fn beside<L: ToolLog, V: Verifier>(
     demands: &Demands<'_>,
     older: Input<'_>,
     input: Input<'_>,
-) -> Result<Answer, Stop>
+) -> Result<CommandOutput, CommandError>
     ensures { ForDisplay L.log L.Record.reading L.report (λ shown.
         Answers (IsAudited shown (V.belongs verifier.now) demands.now (Some
         (record_lines older.entry.bytes.items)) (record_lines input.entry.bytes.items)) result) }
 {
-    match counted::<L, Lent<'_, V>>(alloc, Lent(verifier), input) {
+    match load_counted::<L, Lent<'_, V>>(alloc, Lent(verifier), input) {
         Ok((log, count)) => demanded_beside(alloc, Lent(verifier), demands, older, &log, count),
-        Err(stop) => Err(stop),
+        Err(error) => Err(error),
     }
 }

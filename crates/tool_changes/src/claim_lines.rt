@@ -12,16 +12,16 @@ ghost use Rattle.warg_audit.specs.Files.RecordLines.{record_lines};
 ghost use Rattle.warg_audit.specs.Files.Texts.{all_lines, line, no};
 
 use std::alloc::{AllocError, Global};
-use tool_answers::judged::{file_strings, refusal_sentence};
 use tool_answers::kind::ToolLog;
-use warg_audit::files::answer::Answer;
+use tool_answers::loading::{file_inputs, run_error_sentence};
+use warg_audit::files::command_error::CommandError;
+use warg_audit::files::command_output::CommandOutput;
 use warg_audit::files::input::Input;
-use warg_audit::files::stop::Stop;
-use warg_audit::refusal_reply;
+use warg_audit::run_error_reply;
 use warg_claims::verified::Claim;
 use warg_claims::{LogClaims, claims};
 use warg_protocol::{ParseEnvelopeError, RunCause, RunError};
-use warg_replay::host::Hosted;
+use warg_replay::external::ExternallyVerified;
 
 // Appends the line of a claim.
 fn append_claim(alloc: Global, claim: &Claim, text: &mut String) -> Result<(), AllocError>
@@ -45,7 +45,7 @@ fn claim_lines(alloc: Global, claims: &[Claim]) -> Result<String, AllocError>
 }
 
 // Whether memory was refused, so that the cause names nothing.
-fn is_out_of_memory<L: Hosted>(cause: &RunCause<L::Error>) -> bool
+fn is_out_of_memory<L: ExternallyVerified>(cause: &RunCause<L::Error>) -> bool
     ensures { result ≡ is_none (named_cause L.log L.Record.reading cause.now) }
 {
     match cause {
@@ -55,7 +55,7 @@ fn is_out_of_memory<L: Hosted>(cause: &RunCause<L::Error>) -> bool
 }
 
 // Whether memory was refused while an envelope was read.
-fn is_memory_fault<L: Hosted>(error: &ParseEnvelopeError) -> bool
+fn is_memory_fault<L: ExternallyVerified>(error: &ParseEnvelopeError) -> bool
     ensures { result ≡ is_none (envelope_fault_of L.Record.fault_of error.now) }
 {
     match error {
@@ -68,63 +68,66 @@ fn is_memory_fault<L: Hosted>(error: &ParseEnvelopeError) -> bool
 }
 
 // The audit's line on a refused record, and the error's sentence.
-fn told_refusal<L: ToolLog>(
+fn told_run_error<L: ToolLog>(
     alloc: Global,
     path: &str,
     error: &RunError<L::Error>,
 ) -> Result<String, AllocError> {
-    let reply = refusal_reply::<L>(alloc, error)?;
-    let sentence = refusal_sentence::<L>(alloc, path, error)?;
+    let reply = run_error_reply::<L>(alloc, error)?;
+    let sentence = run_error_sentence::<L>(alloc, path, error)?;
     let line = reply.text();
     format!(in alloc; "{line}{sentence}")
 }
 
 // The claims before a record that can't come next whatever its signature, as an answer; why, on standard error.
-fn cut_answer<L: ToolLog + Hosted>(
+fn cut_answer<L: ToolLog + ExternallyVerified>(
     alloc: Global,
     path: &str,
     text: String,
     count: usize,
     cause: RunCause<L::Error>,
-) -> Result<Answer, Stop>
+) -> Result<CommandOutput, CommandError>
     ensures { Answers (λ printed. (printed ≡ no (string_bytes text)) ×
         (is_none (named_cause L.log L.Record.reading cause) ≡ false)) result }
 {
     if is_out_of_memory::<L>(&cause) {
-        return Err(Stop::OutOfMemory);
+        return Err(CommandError::OutOfMemory);
     }
     let error = RunError {
         index: count,
         cause,
     };
-    let told = told_refusal::<L>(alloc, path, &error)?;
-    Ok(Answer::new(alloc, text, 1).with_sentence(told))
+    let told = told_run_error::<L>(alloc, path, &error)?;
+    Ok(CommandOutput::new(alloc, text, 1).with_sentence(told))
 }
 
-// The claims of strings, up to the first record that can't come next whatever its signature.
-fn list_answer<L: ToolLog + Hosted>(
+// The claims of inputs, up to the first record that can't come next whatever its signature.
+fn list_answer<L: ToolLog + ExternallyVerified>(
     alloc: Global,
     path: &str,
-    strings: &[Vec<u8>],
-) -> Result<Answer, Stop>
+    inputs: &[Vec<u8>],
+) -> Result<CommandOutput, CommandError>
     ensures { Answers (IsClaimList L.kind (envelope_in L.Record.reading)
-        (map vec_items strings.now)) result }
+        (map vec_items inputs.now)) result }
 {
-    let LogClaims { claims, refusal } = claims::<L>(alloc, strings);
+    let LogClaims { claims, cause } = claims::<L>(alloc, inputs);
     let text = claim_lines(alloc, claims.as_slice())?;
-    match refusal {
-        None => Ok(Answer::new(alloc, text, 0)),
+    match cause {
+        None => Ok(CommandOutput::new(alloc, text, 0)),
         Some(cause) => cut_answer::<L>(alloc, path, text, claims.len(), cause),
     }
 }
 
 /// The claims of the log in a file, up to the first record that can't come next whatever its signature.
-pub fn claims_answer<L: ToolLog + Hosted>(alloc: Global, input: Input<'_>) -> Result<Answer, Stop>
+pub fn claims_answer<L: ToolLog + ExternallyVerified>(
+    alloc: Global,
+    input: Input<'_>,
+) -> Result<CommandOutput, CommandError>
     ensures { Answers (IsClaimsAnswer L.kind (envelope_in L.Record.reading)
         (record_lines input.entry.bytes.items)) result }
 {
-    match file_strings(alloc, input.path, input.bytes) {
-        Ok(strings) => list_answer::<L>(alloc, input.path, strings.as_slice()),
-        Err(stop) => Err(stop),
+    match file_inputs(alloc, input.path, input.bytes) {
+        Ok(inputs) => list_answer::<L>(alloc, input.path, inputs.as_slice()),
+        Err(error) => Err(error),
     }
 }

@@ -4,13 +4,13 @@ ghost use Rattle.std.specs.Prelude.{◌≡◌, IfErr, IfOk, OnOk, true, string_b
 ghost use Rattle.std.specs.Option.{option_copied, option_map};
 ghost use Rattle.warg_audit.specs.LogAnswers.{head_text};
 ghost use Rattle.tool_answers.specs.IdWords.{begins_as_said, is_id_word};
-ghost use Rattle.warg_audit.specs.Files.Answers.{IfStopped, IsUnusable};
+ghost use Rattle.warg_audit.specs.Files.Answers.{IfOutput, IsUnusable};
 ghost use Rattle.tool_changes.specs.Audits.{SaysHead, has_head, has_least, lacks_records, records_alone, unmet};
 
 use std::alloc::{AllocError, Global};
 use tool_answers::id_word::{begins_as_said, is_id_word};
 use tool_words::Demands;
-use warg_audit::files::stop::{Stop, unusable};
+use warg_audit::files::command_error::{CommandError, unusable};
 use warg_protocol::registry::RecordId;
 
 /// No more is demanded of a log than records, unless it may have none.
@@ -26,9 +26,9 @@ pub(crate) fn records_alone<'a>(allows_empty: bool) -> Demands<'a>
 }
 
 // Tests that the word says the beginning of an id.
-fn test_id(alloc: Global, word: &str) -> Result<(), Stop>
+fn test_id(alloc: Global, word: &str) -> Result<(), CommandError>
     ensures said { OnOk result (is_id_word word.now ≡ true) }
-    ensures stopped { IfErr result (IfStopped (λ printed.
+    ensures err { IfErr result (IfOutput (λ printed.
         (is_id_word word.now ≡ true → ⊥) × IsUnusable printed)) }
 {
     if is_id_word(word) {
@@ -40,9 +40,9 @@ fn test_id(alloc: Global, word: &str) -> Result<(), Stop>
 }
 
 /// Tests that the word for the head says the beginning of an id, if one is demanded.
-pub(crate) fn test_words(alloc: Global, demands: &Demands<'_>) -> Result<(), Stop>
+pub(crate) fn test_words(alloc: Global, demands: &Demands<'_>) -> Result<(), CommandError>
     ensures said { OnOk result (SaysHead demands.now) }
-    ensures stopped { IfErr result (IfStopped (λ printed.
+    ensures err { IfErr result (IfOutput (λ printed.
         (SaysHead demands.now → ⊥) × IsUnusable printed)) }
 {
     match demands.head {

@@ -2,7 +2,7 @@
 
 ghost use Rattle.std.specs.Prelude.{◌≡◌, IfOk, string_bytes};
 ghost use Rattle.std.specs.Str.Lines.{lines};
-ghost use Rattle.warg_audit.specs.Files.Answers.{answer_view};
+ghost use Rattle.warg_audit.specs.Files.Answers.{output_data};
 ghost use Rattle.tool_layout.specs.Members.Objects.{line_object, message_object, path_object};
 ghost use Rattle.tool_changes.specs.JsonLines.{IsInJson, IsJsonText, line_objects};
 ghost use Rattle.tool_changes.specs.LineForms.{line_forms};
@@ -11,7 +11,7 @@ use crate::line_forms::line_forms;
 use crate::many_audits::first_line;
 use std::alloc::{AllocError, Global};
 use tool_layout::members::{line_object, message_object, path_object};
-use warg_audit::files::answer::Answer;
+use warg_audit::files::command_output::CommandOutput;
 
 // The object of a line that a command prints.
 fn object_of_line(
@@ -54,9 +54,9 @@ fn line_objects(alloc: Global, command: &str, status: u8, text: &str) -> Result<
 }
 
 // The objects of an answer.
-fn json_text(alloc: Global, command: &str, answer: &Answer) -> Result<String, AllocError>
+fn json_text(alloc: Global, command: &str, answer: &CommandOutput) -> Result<String, AllocError>
     ensures { IfOk result (λ text. IsJsonText command.now
-        (answer_view answer.now) (string_bytes answer.now.error_text) (string_bytes text)) }
+        (output_data answer.now) (string_bytes answer.now.error_text) (string_bytes text)) }
 {
     let text = answer.text.as_str();
     if text.is_empty() {
@@ -69,12 +69,16 @@ fn json_text(alloc: Global, command: &str, answer: &Answer) -> Result<String, Al
 
 /// The answer in JSON: an object for each of its lines; where it has none, one whose message is the first line that it
 /// tells on standard error.
-pub fn json_answer(alloc: Global, command: &str, answer: Answer) -> Result<Answer, AllocError>
-    ensures given { IfOk result (λ json. IsInJson command.now (answer_view answer)
-        (string_bytes answer.error_text) (answer_view json)) }
+pub fn json_answer(
+    alloc: Global,
+    command: &str,
+    answer: CommandOutput,
+) -> Result<CommandOutput, AllocError>
+    ensures given { IfOk result (λ json. IsInJson command.now (output_data answer)
+        (string_bytes answer.error_text) (output_data json)) }
     ensures told { IfOk result (λ json. json.error_text ≡ answer.error_text) }
 {
-    Ok(Answer {
+    Ok(CommandOutput {
         text: json_text(alloc, command, &answer)?,
         error_text: answer.error_text,
         status: answer.status,

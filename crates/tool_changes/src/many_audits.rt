@@ -3,7 +3,7 @@
 ghost use Rattle.std.specs.Prelude.{◌≡◌, ◌++◌, ◌||◌, [], ◌∷◌, None, filter, max, IfOk, IfErr, OnOk, string_bytes};
 ghost use Rattle.std.specs.List.{list_any};
 ghost use Rattle.std.specs.Str.Lines.{lines};
-ghost use Rattle.warg_audit.specs.Files.Answers.{answer_view, Answers, IfStopped, IsUnanswered};
+ghost use Rattle.warg_audit.specs.Files.Answers.{output_data, Answers, IfOutput, IsUnanswered};
 ghost use Rattle.tool_changes.specs.Audits.{BeginsAs, IsAuditOf, first_of, records_alone};
 ghost use Rattle.tool_changes.specs.ManyAudits.{audit_line, empty_list_line, is_path, IsManyAnswer, IsVerdictOn};
 ghost use Rattle.tool_changes.specs.ManyAudits.{IsWith, IsWithAll, IsWithListed, IsWithNamed, IsWithPaths};
@@ -13,10 +13,10 @@ use crate::audit::first_of_audit;
 use crate::json::object_of_path;
 use std::alloc::{AllocError, Global};
 use std::str;
-use warg_audit::LogType;
-use warg_audit::files::answer::Answer;
-use warg_audit::files::input::{Input, ReadFault, Store, file_stop, read_input};
-use warg_audit::files::stop::{Stop, settled};
+use warg_audit::LogKind;
+use warg_audit::files::command_error::{CommandError, into_output};
+use warg_audit::files::command_output::CommandOutput;
+use warg_audit::files::input::{Input, ReadError, Store, file_error, read_input};
 use warg_printable::printed_line;
 use warg_protocol::signing::Verifier;
 
@@ -24,23 +24,23 @@ use warg_protocol::signing::Verifier;
 fn answer_of_one<V: Verifier, S: Store>(
     alloc: Global,
     verifier: &V,
-    kind: LogType,
+    kind: LogKind,
     allows_empty: bool,
     store: &mut S,
     path: &str,
-) -> Result<Answer, AllocError>
+) -> Result<CommandOutput, AllocError>
     ensures verdict { IfOk result (λ answer. BeginsAs (IsVerdictOn (S.files store.old)
         (IsAuditOf kind (V.belongs verifier.now) (records_alone allows_empty) None) path.now)
-        (answer_view answer)) }
+        (output_data answer)) }
     ensures kept { S.files store.new ≡ S.files store.old }
 {
     match store.read(path) {
         Ok(bytes) => {
             let input = Input { path, bytes };
-            settled(first_of_audit(alloc, verifier, kind, allows_empty, input))
+            into_output(first_of_audit(alloc, verifier, kind, allows_empty, input))
         }
-        Err(ReadFault::OutOfMemory) => Err(AllocError),
-        Err(fault) => Answer::fixed(alloc, fault.text(), fault.status()),
+        Err(ReadError::OutOfMemory) => Err(AllocError),
+        Err(fault) => CommandOutput::fixed(alloc, fault.text(), fault.status()),
     }
 }
 
@@ -55,11 +55,11 @@ pub(crate) fn first_line(text: &str) -> &str
 pub(crate) fn one_line(
     alloc: Global,
     path: &str,
-    answer: &Answer,
+    answer: &CommandOutput,
     is_json: bool,
 ) -> Result<String, AllocError>
     ensures { IfOk result (λ text. string_bytes text ≡
-        audit_line is_json path.now (answer_view answer.now)) }
+        audit_line is_json path.now (output_data answer.now)) }
 {
     let line = first_line(answer.text.as_str());
     if is_json {
@@ -82,17 +82,22 @@ fn has_path(paths: &str) -> bool
 struct Verdicts<'v, V> {
     alloc: Global,
     verifier: &'v V,
-    kind: LogType,
+    kind: LogKind,
     is_json: bool,
     allows_empty: bool,
 }
 
 impl<'v, V: Verifier> Verdicts<'v, V> {
     // Adds the line of a log.
-    fn add<S: Store>(&self, store: &mut S, path: &str, all: &mut Answer) -> Result<(), AllocError>
+    fn add<S: Store>(
+        &self,
+        store: &mut S,
+        path: &str,
+        all: &mut CommandOutput,
+    ) -> Result<(), AllocError>
         ensures added { OnOk result (IsWith self.now.is_json self.now.kind
             (V.belongs self.now.verifier.now) (S.files store.old) self.now.allows_empty path.now
-            (answer_view all.old) (answer_view all.new)) }
+            (output_data all.old) (output_data all.new)) }
         ensures kept { S.files store.new ≡ S.files store.old }
     {
         let answer = answer_of_one(
@@ -114,11 +119,11 @@ impl<'v, V: Verifier> Verdicts<'v, V> {
         &self,
         store: &mut S,
         line: &str,
-        all: &mut Answer,
+        all: &mut CommandOutput,
     ) -> Result<(), AllocError>
         ensures added { OnOk result (IsWithAll self.now.is_json self.now.kind
             (V.belongs self.now.verifier.now) (S.files store.old) self.now.allows_empty
-            (filter is_path (line.now ∷ [])) (answer_view all.old) (answer_view all.new)) }
+            (filter is_path (line.now ∷ [])) (output_data all.old) (output_data all.new)) }
         ensures kept { S.files store.new ≡ S.files store.old }
     {
         if line.is_empty() {
@@ -133,11 +138,11 @@ impl<'v, V: Verifier> Verdicts<'v, V> {
         &self,
         store: &mut S,
         paths: &str,
-        all: &mut Answer,
+        all: &mut CommandOutput,
     ) -> Result<(), AllocError>
         ensures added { OnOk result (IsWithAll self.now.is_json self.now.kind
             (V.belongs self.now.verifier.now) (S.files store.old) self.now.allows_empty
-            (filter is_path (lines paths.now)) (answer_view all.old) (answer_view all.new)) }
+            (filter is_path (lines paths.now)) (output_data all.old) (output_data all.new)) }
         ensures kept { S.files store.new ≡ S.files store.old }
     {
         for line in paths.lines() {
@@ -159,8 +164,8 @@ impl<'v, V: Verifier> Verdicts<'v, V> {
     }
 
     // Adds the line of a list that names no log.
-    fn add_none(&self, list: &str, all: &mut Answer) -> Result<(), AllocError>
-        ensures { OnOk result (answer_view all.new ≡ record {
+    fn add_none(&self, list: &str, all: &mut CommandOutput) -> Result<(), AllocError>
+        ensures { OnOk result (output_data all.new ≡ record {
           text = string_bytes all.old.text ++ empty_list_line self.now.is_json list.now;
           status = max all.old.status 1;
         }) }
@@ -184,11 +189,11 @@ impl<'v, V: Verifier> Verdicts<'v, V> {
         store: &mut S,
         list: &str,
         paths: &str,
-        all: &mut Answer,
+        all: &mut CommandOutput,
     ) -> Result<(), AllocError>
         ensures added { OnOk result (IsWithPaths self.now.is_json self.now.kind
             (V.belongs self.now.verifier.now) (S.files store.old) self.now.allows_empty list.now
-            (lines paths.now) (answer_view all.old) (answer_view all.new)) }
+            (lines paths.now) (output_data all.old) (output_data all.new)) }
         ensures kept { S.files store.new ≡ S.files store.old }
     {
         if self.may_list(paths) {
@@ -205,27 +210,32 @@ impl<'v, V: Verifier> Verdicts<'v, V> {
         store: &mut S,
         list: &str,
         bytes: &[u8],
-        all: &mut Answer,
-    ) -> Result<(), Stop>
+        all: &mut CommandOutput,
+    ) -> Result<(), CommandError>
         ensures added { OnOk result (IsWithPaths self.now.is_json self.now.kind
             (V.belongs self.now.verifier.now) (S.files store.old) self.now.allows_empty list.now
-            (lines bytes.now) (answer_view all.old) (answer_view all.new)) }
-        ensures stopped { IfErr result (IfStopped IsUnanswered) }
+            (lines bytes.now) (output_data all.old) (output_data all.new)) }
+        ensures err { IfErr result (IfOutput IsUnanswered) }
         ensures kept { S.files store.new ≡ S.files store.old }
     {
         match str::from_utf8(bytes) {
             Ok(paths) => Ok(self.add_paths(store, list, paths, all)?),
-            Err(_) => Err(file_stop(self.alloc, list, "its paths are no UTF-8")),
+            Err(_) => Err(file_error(self.alloc, list, "its paths are no UTF-8")),
         }
     }
 
     // Adds the lines of the logs whose paths a file lists.
     #[tactic(auto, using(warg_audit::proofs::FilesLemmas::UnusableLemmas::unanswered, warg_audit::proofs::FilesLemmas::UnusableLemmas::unread_end))]
-    fn add_listed<S: Store>(&self, store: &mut S, list: &str, all: &mut Answer) -> Result<(), Stop>
+    fn add_listed<S: Store>(
+        &self,
+        store: &mut S,
+        list: &str,
+        all: &mut CommandOutput,
+    ) -> Result<(), CommandError>
         ensures added { OnOk result (IsWithListed self.now.is_json self.now.kind
             (V.belongs self.now.verifier.now) (S.files store.old) self.now.allows_empty list.now
-            (answer_view all.old) (answer_view all.new)) }
-        ensures stopped { IfErr result (IfStopped IsUnanswered) }
+            (output_data all.old) (output_data all.new)) }
+        ensures err { IfErr result (IfOutput IsUnanswered) }
         ensures kept { S.files store.new ≡ S.files store.old }
     {
         let input = read_input(self.alloc, store, list)?;
@@ -233,11 +243,16 @@ impl<'v, V: Verifier> Verdicts<'v, V> {
     }
 
     // Adds the lines of the logs that a word names.
-    fn add_named<S: Store>(&self, store: &mut S, word: &str, all: &mut Answer) -> Result<(), Stop>
+    fn add_named<S: Store>(
+        &self,
+        store: &mut S,
+        word: &str,
+        all: &mut CommandOutput,
+    ) -> Result<(), CommandError>
         ensures added { OnOk result (IsWithNamed self.now.is_json self.now.kind
             (V.belongs self.now.verifier.now) (S.files store.old) self.now.allows_empty word.now
-            (answer_view all.old) (answer_view all.new)) }
-        ensures stopped { IfErr result (IfStopped IsUnanswered) }
+            (output_data all.old) (output_data all.new)) }
+        ensures err { IfErr result (IfOutput IsUnanswered) }
         ensures kept { S.files store.new ≡ S.files store.old }
     {
         match word.strip_prefix('@') {
@@ -251,12 +266,12 @@ impl<'v, V: Verifier> Verdicts<'v, V> {
 pub fn audits_answer<V: Verifier, S: Store>(
     alloc: Global,
     verifier: &V,
-    kind: LogType,
+    kind: LogKind,
     store: &mut S,
     logs: &[&str],
     allows_empty: bool,
     is_json: bool,
-) -> Result<Answer, Stop>
+) -> Result<CommandOutput, CommandError>
     ensures answered { Answers (IsManyAnswer is_json kind (V.belongs verifier.now)
         (S.files store.old) allows_empty (texts logs.now)) result }
     ensures kept { S.files store.new ≡ S.files store.old }
@@ -268,7 +283,7 @@ pub fn audits_answer<V: Verifier, S: Store>(
         is_json,
         allows_empty,
     };
-    let mut all = Answer::new(alloc, String::new(alloc), 0);
+    let mut all = CommandOutput::new(alloc, String::new(alloc), 0);
     for log in logs {
         verdicts.add_named(store, log, &mut all)?;
     }

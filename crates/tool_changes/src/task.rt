@@ -11,41 +11,41 @@ ghost use Rattle.warg_audit.specs.ReportWords.{ForDisplay};
 
 use crate::append::append_answer;
 use crate::claim_lines::claims_answer;
-use crate::make::Worded;
+use crate::make::EntryFromWords;
 use crate::making::make_answer;
 use std::alloc::Global;
 use tool_answers::kind::ToolLog;
-use tool_words::{Draft, Task};
-use warg_audit::files::answer::Answer;
+use tool_words::{NewRecord, Task};
+use warg_audit::files::command_error::CommandError;
+use warg_audit::files::command_output::CommandOutput;
 use warg_audit::files::input::{Store, read_input, read_log};
-use warg_audit::files::stop::Stop;
 use warg_protocol::signing::Verifier;
-use warg_replay::host::Hosted;
+use warg_replay::external::ExternallyVerified;
 
 // The claims of the log in a file.
-fn claims_of_file<L: ToolLog + Hosted, S: Store>(
+fn claims_of_file<L: ToolLog + ExternallyVerified, S: Store>(
     alloc: Global,
     log: &str,
     store: &mut S,
-) -> Result<Answer, Stop>
+) -> Result<CommandOutput, CommandError>
     ensures answered { Answers (IsOfLines (S.files store.old) log.now
         (IsClaimsAnswer L.kind (envelope_in L.Record.reading))) result }
     ensures kept { S.files store.new ≡ S.files store.old }
 {
     match read_input(alloc, store, log) {
         Ok(input) => claims_answer::<L>(alloc, input),
-        Err(stop) => Err(stop),
+        Err(error) => Err(error),
     }
 }
 
 // The record that comes next in the log in a file.
-fn made_for_file<L: ToolLog + Worded, V: Verifier, S: Store>(
+fn made_for_file<L: ToolLog + EntryFromWords, V: Verifier, S: Store>(
     alloc: Global,
     verifier: &V,
     log: &str,
-    draft: &Draft<'_>,
+    draft: &NewRecord<'_>,
     store: &mut S,
-) -> Result<Answer, Stop>
+) -> Result<CommandOutput, CommandError>
     ensures answered { ForDisplay L.log L.Record.reading L.report (λ shown.
         Answers (IsMade L.says L.lacks L.content L.prefix shown draft.now
         (V.belongs verifier.now) (S.files store.old) log.now) result) }
@@ -53,17 +53,17 @@ fn made_for_file<L: ToolLog + Worded, V: Verifier, S: Store>(
 {
     match read_log(alloc, store, log) {
         Ok(input) => make_answer::<L, V>(alloc, verifier, input, draft),
-        Err(stop) => Err(stop),
+        Err(error) => Err(error),
     }
 }
 
 /// What is answered when the task is done.
-pub fn task_answer<L: ToolLog + Hosted + Worded, V: Verifier, S: Store>(
+pub fn task_answer<L: ToolLog + ExternallyVerified + EntryFromWords, V: Verifier, S: Store>(
     alloc: Global,
     verifier: &V,
     task: &Task<'_>,
     store: &mut S,
-) -> Result<Answer, Stop>
+) -> Result<CommandOutput, CommandError>
     ensures answered { ForDisplay L.log L.Record.reading L.report (λ shown.
         Answers (IsTaskAnswer L.says L.lacks L.content L.prefix shown
         (V.belongs verifier.now) (S.files store.old) (S.files store.new) task.now) result) }

@@ -12,23 +12,23 @@ use Rattle.warg_saved_states.specs.Texts.{text_of}
 use Rattle.warg_merkle.specs.SparseMap.Maps.{map_root}
 use Rattle.warg_merkle.specs.Extensions.{consistency_proof}
 use Rattle.warg_merkle.specs.Trees.{Side, inclusion_path, leaf_input, tree_hash}
-use Rattle.warg_audit.specs.Files.Printouts.{Printout}
+use Rattle.warg_audit.specs.Files.OutputData.{OutputData}
 use Rattle.warg_registry.specs.RegistryJson.{checkpoint_json}
 use Rattle.warg_registry.specs.declared.checkpoint.Checkpoint.{Checkpoint}
 use Rattle.warg_registry.specs.declared.leaf.LogLeaf.{LogLeaf}
-use Rattle.warg_audit.specs.Files.Answers.{IfStopped, IsUnusable}
+use Rattle.warg_audit.specs.Files.Answers.{IfOutput, IsUnusable}
 use Rattle.tool_checkpoints.specs.ProofTexts.{IsByLeaves, IsConsistencyText, IsInclusionText, LogProofReadsBack, ShowsBeginning, ShowsEntry, consistency_of, inclusion_of, no_leaf}
 use Rattle.tool_checkpoints.specs.Proofs.{log_proof_line}
 use Rattle.tool_checkpoints.specs.RegistryLeaves.{HasNoLeaf, IsCheckpointOf, IsRegistryOf, entries_of}
-use Rattle.warg_audit.specs.declared.files.stop.Stop.{Stop}
-use Rattle.warg_audit.proofs.FilesLemmas.AnswerLemmas.{IfStopped-to}
+use Rattle.warg_audit.specs.declared.files.command_error.CommandError.{CommandError}
+use Rattle.warg_audit.proofs.FilesLemmas.AnswerLemmas.{IfOutput-to}
 
 -- ---- leaves
 
-pub leaves_unread : (P : List LogLeaf → Printout → Type 0) (lines : List (List ℕ)) (end : Stop)
-    → IfStopped (λ printed. HasNoLeaf lines × IsUnusable printed) end → IfStopped (IsByLeaves P lines) end
+pub leaves_unread : (P : List LogLeaf → OutputData → Type 0) (lines : List (List ℕ)) (end : CommandError)
+    → IfOutput (λ printed. HasNoLeaf lines × IsUnusable printed) end → IfOutput (IsByLeaves P lines) end
 leaves_unread P lines end h =
-    IfStopped-to (λ printed. HasNoLeaf lines × IsUnusable printed) (IsByLeaves P lines) (λ printed it. no_leaf it.0 it.1) end h
+    IfOutput-to (λ printed. HasNoLeaf lines × IsUnusable printed) (IsByLeaves P lines) (λ printed it. no_leaf it.0 it.1) end h
 
 -- ---- checkpoints
 
@@ -98,7 +98,7 @@ module _ (path : List (List ℕ)) (n : ℕ) where
       sym (cond-false (nat_le first n) (Some path) None (lt-leb first n (beyond first n (λ within. false≢true (is_some.1 within)))))
 
 module _ (leaves : List LogLeaf) (hashes : List (List ℕ)) (m : List Side → Option (List ℕ)) (registry : IsRegistryOf leaves hashes m)
-    (found : Option (List (List ℕ))) (printed : Printout) (is : printed ≡ log_proof_line found) (reads : IfSome found LogProofReadsBack) where
+    (found : Option (List (List ℕ))) (printed : OutputData) (is : printed ≡ log_proof_line found) (reads : IfSome found LogProofReadsBack) where
   pub inclusion_text : (index : ℕ) → (IsSome found ↔ (index < length hashes))
       → IfSome found (λ proof. proof ≡ inclusion_path sha256 index (entries_of leaves))
       → IfSome found (ShowsEntry index (entries_of leaves)) → IsInclusionText index leaves printed

@@ -8,7 +8,7 @@ use Rattle.std.proofs.lemmas.List.{map-append}
 use Rattle.std.proofs.lemmas.Str.{IsUtf8-from_is_utf8, is_utf8-from_IsUtf8}
 use Rattle.sha2.specs.Sha256.{sha256}
 use Rattle.warg_audit.specs.Files.Lines.{lines_of, without_return}
-use Rattle.warg_merkle.specs.MapTree.Nodes.{Sets}
+use Rattle.warg_merkle.specs.SparseTree.Nodes.{Sets}
 use Rattle.warg_registry.specs.PrefixEncodings.{map_leaf_encoding_of}
 use Rattle.warg_transparency.specs.MapTree.{way_of}
 use Rattle.warg_merkle.specs.Trees.{Side, leaf_input}
@@ -16,10 +16,10 @@ use Rattle.warg_registry.specs.PrefixEncodings.{log_leaf_encoding_of}
 use Rattle.warg_transparency.specs.Heads.{head_leaf}
 use Rattle.warg_registry.specs.declared.leaf.LogLeaf.{LogLeaf}
 use Rattle.warg_claims.specs.Verified.Lines.{has_no_space, is_space}
-use Rattle.warg_audit.specs.Files.Answers.{IfStopped, IsUnusable}
+use Rattle.warg_audit.specs.Files.Answers.{IfOutput, IsUnusable}
 use Rattle.tool_checkpoints.specs.RegistryLeaves.{HasHeads, HasNoLeaf, IsLast, IsRegistryOf, SayLeaves, SayRegistry, entries_of, leaf_of_ids, leaf_of_line, leaf_of_text}
-use Rattle.warg_audit.specs.declared.files.stop.Stop.{Stop}
-use Rattle.warg_audit.proofs.FilesLemmas.AnswerLemmas.{IfStopped-to}
+use Rattle.warg_audit.specs.declared.files.command_error.CommandError.{CommandError}
+use Rattle.warg_audit.proofs.FilesLemmas.AnswerLemmas.{IfOutput-to}
 
 -- ---- which leaf a line says
 
@@ -165,9 +165,9 @@ all_read lines hashes rest m end it =
     subst (λ (ls : List (List ℕ)). SayRegistry ls hashes m) (sym all) it.so_far
 
 -- a line that says no leaf
-pub unread_at : (lines rest more hashes : List (List ℕ)) (line : List ℕ) (m : List Side → Option (List ℕ)) (end : Stop)
-    → rest ≡ line ∷ more → None ≡ leaf_of_line line → IsReadTo lines rest hashes m → IfStopped IsUnusable end
-    → IfStopped (λ printed. HasNoLeaf lines × IsUnusable printed) end
+pub unread_at : (lines rest more hashes : List (List ℕ)) (line : List ℕ) (m : List Side → Option (List ℕ)) (end : CommandError)
+    → rest ≡ line ∷ more → None ≡ leaf_of_line line → IsReadTo lines rest hashes m → IfOutput IsUnusable end
+    → IfOutput (λ printed. HasNoLeaf lines × IsUnusable printed) end
 unread_at lines rest more hashes line m end cut bad it h =
     let none : HasNoLeaf lines = record {
       front = it.done;
@@ -176,4 +176,4 @@ unread_at lines rest more hashes line m end cut bad it h =
       parts = it.parts ∙ ap (λ (ls : List (List ℕ)). it.done ++ ls) cut;
       bad = sym bad;
     } in
-    IfStopped-to IsUnusable (λ printed. HasNoLeaf lines × IsUnusable printed) (λ printed is. (none, is)) end h
+    IfOutput-to IsUnusable (λ printed. HasNoLeaf lines × IsUnusable printed) (λ printed is. (none, is)) end h

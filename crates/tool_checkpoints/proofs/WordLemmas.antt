@@ -1,4 +1,4 @@
--- What words and files say, and the ends of commands where they say nothing.
+-- What words and files say, and the errors of commands where they say nothing.
 use Rattle.std.proofs.Common.{◌≡◌, ◌⊎◌, inl, inr, ℕ, List, sym, subst, ◌∙◌, Option, Some, None, Result, Ok, Err, IfErr, IfOk}
 use Rattle.std.specs.Prelude.{◌<◌, ◌^◌, IsUtf8}
 use Rattle.std.specs.Str.Parse.{IsNumeral, digits_value, without_leading_plus}
@@ -11,15 +11,15 @@ use Rattle.warg_registry.specs.declared.checkpoint.Checkpoint.{Checkpoint}
 use Rattle.warg_registry.specs.declared.log_id.LogId.{LogId}
 use Rattle.warg_log_records.specs.RecordIds.{id_of_text as record_id_of_text}
 use Rattle.warg_registry.specs.LogIds.{id_of_text as log_id_of_text}
-use Rattle.warg_audit.specs.Files.Answers.{Answers, IfStopped, IsUnusable}
+use Rattle.warg_audit.specs.Files.Answers.{Answers, IfOutput, IsUnusable}
 use Rattle.warg_audit.specs.Files.Files.{Files, Reads}
-use Rattle.warg_audit.specs.Files.Printouts.{Printout}
-use Rattle.warg_audit.specs.Files.ReadFaults.{IsUnread}
+use Rattle.warg_audit.specs.Files.OutputData.{OutputData}
+use Rattle.warg_audit.specs.Files.ReadErrors.{IsUnread}
 use Rattle.warg_audit.specs.Files.Unusable.{read as file, unread}
-use Rattle.warg_audit.specs.declared.files.answer.Answer.{Answer}
-use Rattle.warg_audit.specs.declared.files.stop.Stop.{Stop}
-use Rattle.warg_audit.specs.declared.files.stop.Stop.TheVariants as stop
-use Rattle.warg_audit.proofs.FilesLemmas.AnswerLemmas.{Answers-to, IfStopped-to}
+use Rattle.warg_audit.specs.declared.files.command_output.CommandOutput.{CommandOutput}
+use Rattle.warg_audit.specs.declared.files.command_error.CommandError.{CommandError}
+use Rattle.warg_audit.specs.declared.files.command_error.CommandError.TheVariants as command_error
+use Rattle.warg_audit.proofs.FilesLemmas.AnswerLemmas.{Answers-to, IfOutput-to}
 use Rattle.warg_audit.proofs.FilesLemmas.UnusableLemmas.{file_unread}
 use Rattle.tool_checkpoints.specs.Proofs.{IsCheckpoint}
 use Rattle.tool_checkpoints.specs.Words.{IsByFile, IsByWords, IsIn, IsLogWord, IsNumber, IsRecordWord, IsUnsaid, IsUnsaidIn, by_value, unsaid}
@@ -27,45 +27,45 @@ use Rattle.tool_checkpoints.specs.Words.{IsByFile, IsByWords, IsIn, IsLogWord, I
 -- ---- words that say nothing
 
 -- an end for Q, so that nothing is said
-pub unsaid_end : {A : Type 0} (Says : A → Type 0) (Q : Type 0) (end : Stop) → IfStopped IsUnusable end → IfStopped (λ printed. Q) end
-    → (Q → (value : A) → Says value → ⊥) → IfStopped (IsUnsaid Says) end
-unsaid_end Says Q (stop.Answer answer) u q f = record { nothing = f q; unusable = u }
-unsaid_end Says Q stop.OutOfMemory u q f = tt
+pub unsaid_end : {A : Type 0} (Says : A → Type 0) (Q : Type 0) (end : CommandError) → IfOutput IsUnusable end → IfOutput (λ printed. Q) end
+    → (Q → (value : A) → Says value → ⊥) → IfOutput (IsUnsaid Says) end
+unsaid_end Says Q (command_error.Output answer) u q f = record { nothing = f q; unusable = u }
+unsaid_end Says Q command_error.OutOfMemory u q f = tt
 
 -- the same of an end where both are told
-pub unsaid_for : {A : Type 0} (Says : A → Type 0) (Q : Type 0) (end : Stop) → IfStopped (λ printed. Q × IsUnusable printed) end
-    → (Q → (value : A) → Says value → ⊥) → IfStopped (IsUnsaid Says) end
+pub unsaid_for : {A : Type 0} (Says : A → Type 0) (Q : Type 0) (end : CommandError) → IfOutput (λ printed. Q × IsUnusable printed) end
+    → (Q → (value : A) → Says value → ⊥) → IfOutput (IsUnsaid Says) end
 unsaid_for Says Q end h f =
-    IfStopped-to (λ printed. Q × IsUnusable printed) (IsUnsaid Says) (λ printed it. record { nothing = f it.0; unusable = it.1 }) end h
+    IfOutput-to (λ printed. Q × IsUnusable printed) (IsUnsaid Says) (λ printed it. record { nothing = f it.0; unusable = it.1 }) end h
 
 -- the same where nothing is said anyway
-pub unsaid_as : {A : Type 0} (Says : A → Type 0) (end : Stop) → IfStopped IsUnusable end → ((value : A) → Says value → ⊥)
-    → IfStopped (IsUnsaid Says) end
-unsaid_as Says end u never = IfStopped-to IsUnusable (IsUnsaid Says) (λ printed is. record { nothing = never; unusable = is }) end u
+pub unsaid_as : {A : Type 0} (Says : A → Type 0) (end : CommandError) → IfOutput IsUnusable end → ((value : A) → Says value → ⊥)
+    → IfOutput (IsUnsaid Says) end
+unsaid_as Says end u never = IfOutput-to IsUnusable (IsUnsaid Says) (λ printed is. record { nothing = never; unusable = is }) end u
 
 -- an end that is none of memory, so that nothing is said
-pub unsaid_unless : {A : Type 0} (Says : A → Type 0) (memory : Type 0) (end : Stop) → IfStopped IsUnusable end
-    → (memory → end ≡ stop.OutOfMemory) → (memory ⊎ ((value : A) → Says value → ⊥)) → IfStopped (IsUnsaid Says) end
+pub unsaid_unless : {A : Type 0} (Says : A → Type 0) (memory : Type 0) (end : CommandError) → IfOutput IsUnusable end
+    → (memory → end ≡ command_error.OutOfMemory) → (memory ⊎ ((value : A) → Says value → ⊥)) → IfOutput (IsUnsaid Says) end
 unsaid_unless Says memory end u f (inl it) = rw (f it) tt
-unsaid_unless Says memory (stop.Answer answer) u f (inr never) = record { nothing = never; unusable = u }
-unsaid_unless Says memory stop.OutOfMemory u f (inr never) = tt
+unsaid_unless Says memory (command_error.Output answer) u f (inr never) = record { nothing = never; unusable = u }
+unsaid_unless Says memory command_error.OutOfMemory u f (inr never) = tt
 
 -- a word that is refused for Q, so that it says nothing
-pub unsaid_word : {T A : Type 0} (Says : A → Type 0) (Q : Type 0) (result : Result T Stop) → IfErr result (IfStopped IsUnusable)
-    → IfErr result (IfStopped (λ printed. Q)) → (Q → (value : A) → Says value → ⊥) → IfErr result (IfStopped (IsUnsaid Says))
+pub unsaid_word : {T A : Type 0} (Says : A → Type 0) (Q : Type 0) (result : Result T CommandError) → IfErr result (IfOutput IsUnusable)
+    → IfErr result (IfOutput (λ printed. Q)) → (Q → (value : A) → Says value → ⊥) → IfErr result (IfOutput (IsUnsaid Says))
 unsaid_word Says Q (Ok value) u q f = tt
 unsaid_word Says Q (Err end) u q f = unsaid_end Says Q end u q f
 
 -- words that say nothing, by a word that says nothing
-pub unsaid_to : {A B : Type 0} (Says : A → Type 0) (Tells : B → Type 0) (end : Stop) → IfStopped (IsUnsaid Says) end
-    → ((it : B) → Tells it → (value : A) × Says value) → IfStopped (IsUnsaid Tells) end
+pub unsaid_to : {A B : Type 0} (Says : A → Type 0) (Tells : B → Type 0) (end : CommandError) → IfOutput (IsUnsaid Says) end
+    → ((it : B) → Tells it → (value : A) × Says value) → IfOutput (IsUnsaid Tells) end
 unsaid_to Says Tells end h f =
-    IfStopped-to (IsUnsaid Says) (IsUnsaid Tells)
+    IfOutput-to (IsUnsaid Says) (IsUnsaid Tells)
     (λ printed is. record { nothing = λ it tells. is.nothing (f it tells).0 (f it tells).1; unusable = is.unusable }) end h
 
 -- the same of what is refused, if it is
-pub unsaid_if : {T A B : Type 0} (Says : A → Type 0) (Tells : B → Type 0) (result : Result T Stop) → IfErr result (IfStopped (IsUnsaid Says))
-    → ((it : B) → Tells it → (value : A) × Says value) → IfErr result (IfStopped (IsUnsaid Tells))
+pub unsaid_if : {T A B : Type 0} (Says : A → Type 0) (Tells : B → Type 0) (result : Result T CommandError) → IfErr result (IfOutput (IsUnsaid Says))
+    → ((it : B) → Tells it → (value : A) × Says value) → IfErr result (IfOutput (IsUnsaid Tells))
 unsaid_if Says Tells (Ok value) h f = tt
 unsaid_if Says Tells (Err end) h f = unsaid_to Says Tells end h f
 
@@ -94,45 +94,45 @@ no_value want memory fault (inr e) = inr (λ value is. let both : Err fault ≡ 
 
 -- ---- answers by words
 
-module _ {A : Type 0} (Says : A → Type 0) (P : A → Printout → Type 0) where
-  pub words_said : (value : A) (result : Result Answer Stop) → Says value → Answers (P value) result → Answers (IsByWords Says P) result
+module _ {A : Type 0} (Says : A → Type 0) (P : A → OutputData → Type 0) where
+  pub words_said : (value : A) (result : Result CommandOutput CommandError) → Says value → Answers (P value) result → Answers (IsByWords Says P) result
   words_said value result says h = Answers-to (P value) (IsByWords Says P) (λ printed is. by_value value says is) result h
 
-  pub words_unsaid : (end : Stop) → IfStopped (IsUnsaid Says) end → IfStopped (IsByWords Says P) end
-  words_unsaid end h = IfStopped-to (IsUnsaid Says) (IsByWords Says P) (λ printed is. unsaid is) end h
+  pub words_unsaid : (end : CommandError) → IfOutput (IsUnsaid Says) end → IfOutput (IsByWords Says P) end
+  words_unsaid end h = IfOutput-to (IsUnsaid Says) (IsByWords Says P) (λ printed is. unsaid is) end h
 
 -- ---- answers by files
 
 module _ {A : Type 0} (files : Option Files) (path : List ℕ) (Says : List ℕ → A → Type 0) where
   -- what the file of a path says, by what its bytes say
-  pub in_bytes : (bytes : List ℕ) (result : Result A Stop) → Reads files path bytes → IfOk result (Says bytes)
+  pub in_bytes : (bytes : List ℕ) (result : Result A CommandError) → Reads files path bytes → IfOk result (Says bytes)
       → IfOk result (IsIn files path Says)
   in_bytes bytes (Ok value) held says = record { bytes = bytes; held = held; said = says }
   in_bytes bytes (Err end) held says = tt
 
-  pub unsaid_bytes : (bytes : List ℕ) (result : Result A Stop) → Reads files path bytes → IfErr result (IfStopped (IsUnsaid (Says bytes)))
-      → IfErr result (IfStopped (IsUnsaidIn files path Says))
+  pub unsaid_bytes : (bytes : List ℕ) (result : Result A CommandError) → Reads files path bytes → IfErr result (IfOutput (IsUnsaid (Says bytes)))
+      → IfErr result (IfOutput (IsUnsaidIn files path Says))
   unsaid_bytes bytes (Ok value) held h = tt
   unsaid_bytes bytes (Err end) held h =
-      IfStopped-to (IsUnsaid (Says bytes)) (IsUnsaidIn files path Says) (λ printed is. file bytes held is) end h
+      IfOutput-to (IsUnsaid (Says bytes)) (IsUnsaidIn files path Says) (λ printed is. file bytes held is) end h
 
-  pub unread_bytes : (end : Stop) → IfStopped (IsUnread files path) end → IfStopped (IsUnsaidIn files path Says) end
+  pub unread_bytes : (end : CommandError) → IfOutput (IsUnread files path) end → IfOutput (IsUnsaidIn files path Says) end
   unread_bytes end h = file_unread files path (λ bytes. IsUnsaid (Says bytes)) end h
 
-  module _ (P : A → Printout → Type 0) where
-    pub by_file : (value : A) → IsIn files path Says value → (printed : Printout) → P value printed → IsByFile files path Says P printed
+  module _ (P : A → OutputData → Type 0) where
+    pub by_file : (value : A) → IsIn files path Says value → (printed : OutputData) → P value printed → IsByFile files path Says P printed
     by_file value it printed is = file it.bytes it.held (by_value value it.said is)
 
-    pub file_said : (value : A) (result : Result Answer Stop) → IsIn files path Says value → Answers (P value) result
+    pub file_said : (value : A) (result : Result CommandOutput CommandError) → IsIn files path Says value → Answers (P value) result
         → Answers (IsByFile files path Says P) result
     file_said value result it h = Answers-to (P value) (IsByFile files path Says P) (by_file value it) result h
 
-    by_none : (printed : Printout) → IsUnsaidIn files path Says printed → IsByFile files path Says P printed
+    by_none : (printed : OutputData) → IsUnsaidIn files path Says printed → IsByFile files path Says P printed
     by_none printed (unread is) = unread is
     by_none printed (file bytes held is) = file bytes held (unsaid is)
 
-    pub file_unsaid : (end : Stop) → IfStopped (IsUnsaidIn files path Says) end → IfStopped (IsByFile files path Says P) end
-    file_unsaid end h = IfStopped-to (IsUnsaidIn files path Says) (IsByFile files path Says P) by_none end h
+    pub file_unsaid : (end : CommandError) → IfOutput (IsUnsaidIn files path Says) end → IfOutput (IsByFile files path Says P) end
+    file_unsaid end h = IfOutput-to (IsUnsaidIn files path Says) (IsByFile files path Says P) by_none end h
 
 -- ---- checkpoints and proofs
 
@@ -140,8 +140,8 @@ no_json : (bytes : List ℕ) → (IsUtf8 bytes → read bytes ≡ None) → (che
 no_json bytes never checkpoint it =
     let both : None ≡ Some it.value = sym (never it.utf8) ∙ it.json in cc
 
-pub unsaid_json : (bytes : List ℕ) (end : Stop) → IfStopped (λ printed. (IsUtf8 bytes → read bytes ≡ None) × IsUnusable printed) end
-    → IfStopped (IsUnsaid (IsCheckpoint bytes)) end
+pub unsaid_json : (bytes : List ℕ) (end : CommandError) → IfOutput (λ printed. (IsUtf8 bytes → read bytes ≡ None) × IsUnusable printed) end
+    → IfOutput (IsUnsaid (IsCheckpoint bytes)) end
 unsaid_json bytes end h = unsaid_for (IsCheckpoint bytes) (IsUtf8 bytes → read bytes ≡ None) end h (no_json bytes)
 
 -- the checkpoint is that of the JSON that was read

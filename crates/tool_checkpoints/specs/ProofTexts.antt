@@ -8,7 +8,7 @@ use Rattle.warg_transparency.specs.MapTree.{way_of}
 use Rattle.warg_merkle.specs.Extensions.{IsConsistent, consistency_proof}
 use Rattle.warg_merkle.specs.Trees.{Includes, Side, inclusion_path, tree_hash}
 use Rattle.warg_transparency.specs.Texts.{log_proof_of, log_proof_text, map_proof_of, map_proof_text}
-use Rattle.warg_audit.specs.Files.Printouts.{Printout}
+use Rattle.warg_audit.specs.Files.OutputData.{OutputData}
 use Rattle.warg_registry.specs.RegistryJson.{checkpoint_json}
 use Rattle.warg_registry.specs.declared.checkpoint.Checkpoint.{Checkpoint}
 use Rattle.warg_registry.specs.declared.leaf.LogLeaf.{LogLeaf}
@@ -47,19 +47,19 @@ Asks (wanted.Consistency older) it = AsksConsistency older.now it
 Asks (wanted.Head log_id) it = AsksHead log_id.now it
 
 -- the answer by the leaves that lines say; where a line says none, nothing is printed, and the status is 2
-pub data IsByLeaves (P : List LogLeaf → Printout → Type 0) (lines : List (List ℕ)) (printed : Printout) : Type 0 where
+pub data IsByLeaves (P : List LogLeaf → OutputData → Type 0) (lines : List (List ℕ)) (printed : OutputData) : Type 0 where
   no_leaf : HasNoLeaf lines → IsUnusable printed → IsByLeaves P lines printed
   of_leaves : (leaves : List LogLeaf) → SayLeaves lines leaves → P leaves printed → IsByLeaves P lines printed
 
 -- ---- what is printed of leaves
 
 -- the JSON of a checkpoint on a line
-abbrev pub checkpoint_line : Result (List ℕ) JsonError → Printout
+abbrev pub checkpoint_line : Result (List ℕ) JsonError → OutputData
 checkpoint_line (Ok text) = yes (line text)
 checkpoint_line (Err fault) = no (codes "none\n")
 
 -- the line of the leaves' checkpoint
-pub record IsCheckpointText (leaves : List LogLeaf) (printed : Printout) : Type 0 where
+pub record IsCheckpointText (leaves : List LogLeaf) (printed : OutputData) : Type 0 where
   pub checkpoint : Checkpoint
   pub stands : IsCheckpointOf leaves checkpoint
   pub is : printed ≡ checkpoint_line (text_of (checkpoint_json checkpoint))
@@ -85,19 +85,19 @@ abbrev pub LogProofReadsBack : List (List ℕ) → Type 0
 LogProofReadsBack proof = log_proof_of (log_proof_text proof) ≡ Ok proof
 
 -- the line of the proof that the leaf at a place stands there, or `none`: it shows that, and reads back
-pub record IsInclusionText (index : ℕ) (leaves : List LogLeaf) (printed : Printout) : Type 0 where
+pub record IsInclusionText (index : ℕ) (leaves : List LogLeaf) (printed : OutputData) : Type 0 where
   pub is : printed ≡ log_proof_line (inclusion_of index (entries_of leaves))
   pub shows : IfSome (inclusion_of index (entries_of leaves)) (ShowsEntry index (entries_of leaves))
   pub reads_back : IfSome (inclusion_of index (entries_of leaves)) LogProofReadsBack
 
 -- the line of the proof that the log begins with its first leaves, or `none`: it shows that, and reads back
-pub record IsConsistencyText (first : ℕ) (leaves : List LogLeaf) (printed : Printout) : Type 0 where
+pub record IsConsistencyText (first : ℕ) (leaves : List LogLeaf) (printed : OutputData) : Type 0 where
   pub is : printed ≡ log_proof_line (consistency_of first (entries_of leaves))
   pub shows : IfSome (consistency_of first (entries_of leaves)) (ShowsBeginning first (entries_of leaves))
   pub reads_back : IfSome (consistency_of first (entries_of leaves)) LogProofReadsBack
 
 -- the line of what the map says of a log: it leads from that to the map's root, and reads back
-pub record IsHeadText (log_id : LogId) (leaves : List LogLeaf) (printed : Printout) : Type 0 where
+pub record IsHeadText (log_id : LogId) (leaves : List LogLeaf) (printed : OutputData) : Type 0 where
   pub m : List Side → Option (List ℕ)
   pub heads : HasHeads leaves m
   pub path : List (List ℕ)
@@ -107,12 +107,12 @@ pub record IsHeadText (log_id : LogId) (leaves : List LogLeaf) (printed : Printo
   pub reads_back : map_proof_of (map_proof_text path) ≡ Ok path
 
 -- what is printed of the leaves to what is asked
-abbrev pub IsProved : Asked → List LogLeaf → Printout → Type 0
+abbrev pub IsProved : Asked → List LogLeaf → OutputData → Type 0
 IsProved asked.Checkpoint leaves printed = IsCheckpointText leaves printed
 IsProved (asked.Inclusion index) leaves printed = IsInclusionText index leaves printed
 IsProved (asked.Consistency first) leaves printed = IsConsistencyText first leaves printed
 IsProved (asked.Head log_id) leaves printed = IsHeadText log_id leaves printed
 
 -- what is answered to what is wanted, by its words and by what the file of the leaves holds
-abbrev pub IsProofAnswer : Option Files → Wanted → List ℕ → Printout → Type 0
+abbrev pub IsProofAnswer : Option Files → Wanted → List ℕ → OutputData → Type 0
 IsProofAnswer files words path printed = IsByWords (Asks words) (λ it. IsOfLines files path (IsByLeaves (IsProved it))) printed

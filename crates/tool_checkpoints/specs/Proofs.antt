@@ -13,7 +13,7 @@ use Rattle.warg_transparency.specs.Views.{GoesOn}
 use Rattle.warg_registry.specs.RegistryJson.{checkpoint_in}
 use Rattle.warg_registry.specs.declared.checkpoint.Checkpoint.{Checkpoint}
 use Rattle.warg_registry.specs.declared.leaf.LogLeaf.{LogLeaf}
-use Rattle.warg_audit.specs.Files.Printouts.{Printout}
+use Rattle.warg_audit.specs.Files.OutputData.{OutputData}
 use Rattle.warg_audit.specs.Files.Files.{Files}
 use Rattle.warg_audit.specs.Files.Texts.{line, yes, no}
 use Rattle.tool_checkpoints.specs.Words.{IsByFile, IsByWords, IsLogWord, IsNumber, IsRecordWord}
@@ -21,20 +21,20 @@ use Rattle.tool_words.specs.declared.statement.Statement.{Statement}
 use Rattle.tool_words.specs.declared.statement.Statement.TheVariants as statement
 
 -- whether a statement holds, in words
-abbrev pub verdict_text : Bool → Printout
+abbrev pub verdict_text : Bool → OutputData
 verdict_text holds = if holds then yes (codes "holds\n") else no (codes "does not hold\n")
 
 -- the words are those of the statement
-abbrev pub IsVerdict : Type 0 → Printout → Type 0
+abbrev pub IsVerdict : Type 0 → OutputData → Type 0
 IsVerdict Statement printed = (Statement × (printed ≡ yes (codes "holds\n"))) ⊎ ((Statement → ⊥) × (printed ≡ no (codes "does not hold\n")))
 
 -- a proof on the log on a line, or `none`
-abbrev pub log_proof_line : Option (List (List ℕ)) → Printout
+abbrev pub log_proof_line : Option (List (List ℕ)) → OutputData
 log_proof_line None = no (codes "none\n")
 log_proof_line (Some hashes) = yes (line (log_proof_text hashes))
 
 -- a proof on the map on a line
-abbrev pub map_proof_line : List (List ℕ) → Printout
+abbrev pub map_proof_line : List (List ℕ) → OutputData
 map_proof_line path = yes (line (map_proof_text path))
 
 -- ---- what words and files say
@@ -64,7 +64,7 @@ pub record IsMapProof (bytes : List ℕ) (siblings : List (List ℕ)) : Type 0 w
 module _ (files : Option Files) where
   -- ---- what is said of each statement, by its words and its files, in the order in which they are read
 
-  abbrev pub IsInclusionVerdict : List ℕ → List ℕ → List ℕ → List ℕ → List ℕ → Printout → Type 0
+  abbrev pub IsInclusionVerdict : List ℕ → List ℕ → List ℕ → List ℕ → List ℕ → OutputData → Type 0
   IsInclusionVerdict checkpoint_path place log_id record_id proof_path printed =
       IsByWords (IsLeafOf log_id record_id) (λ leaf.
       IsByWords (IsNumber place) (λ index.
@@ -72,21 +72,21 @@ module _ (files : Option Files) where
       IsByFile files proof_path IsLogProof (λ hashes.
       IsVerdict (Includes sha256 (log_leaf_encoding_of leaf) index checkpoint.log_length hashes checkpoint.log_root.bytes))))) printed
 
-  abbrev pub IsConsistencyVerdict : List ℕ → List ℕ → List ℕ → Printout → Type 0
+  abbrev pub IsConsistencyVerdict : List ℕ → List ℕ → List ℕ → OutputData → Type 0
   IsConsistencyVerdict old_path new_path proof_path printed =
       IsByFile files old_path IsCheckpoint (λ old.
       IsByFile files new_path IsCheckpoint (λ new.
       IsByFile files proof_path IsLogProof (λ hashes.
       IsVerdict (GoesOn old new hashes)))) printed
 
-  abbrev pub IsHeadVerdict : List ℕ → List ℕ → List ℕ → List ℕ → Printout → Type 0
+  abbrev pub IsHeadVerdict : List ℕ → List ℕ → List ℕ → List ℕ → OutputData → Type 0
   IsHeadVerdict checkpoint_path log_id record_id proof_path printed =
       IsByWords (IsLeafOf log_id record_id) (λ leaf.
       IsByFile files checkpoint_path IsCheckpoint (λ checkpoint.
       IsByFile files proof_path IsMapProof (λ siblings.
       IsVerdict (ShowsHead checkpoint leaf.log_id leaf.record_id siblings)))) printed
 
-  abbrev pub IsAbsenceVerdict : List ℕ → List ℕ → List ℕ → Printout → Type 0
+  abbrev pub IsAbsenceVerdict : List ℕ → List ℕ → List ℕ → OutputData → Type 0
   IsAbsenceVerdict checkpoint_path log_id proof_path printed =
       IsByWords (IsLogWord log_id) (λ log.
       IsByFile files checkpoint_path IsCheckpoint (λ checkpoint.
@@ -94,7 +94,7 @@ module _ (files : Option Files) where
       IsVerdict (Leads sha256 None log.hash.bytes siblings checkpoint.map_root.bytes)))) printed
 
   -- what is said of a statement
-  abbrev pub IsStatementVerdict : Statement → Printout → Type 0
+  abbrev pub IsStatementVerdict : Statement → OutputData → Type 0
   IsStatementVerdict (statement.Inclusion checkpoint place leaf proof) printed =
       IsInclusionVerdict checkpoint.now place.now leaf.log_id.now leaf.record_id.now proof.now printed
   IsStatementVerdict (statement.Consistency old new proof) printed = IsConsistencyVerdict old.now new.now proof.now printed

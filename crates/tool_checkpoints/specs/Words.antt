@@ -7,16 +7,16 @@ use Rattle.warg_registry.specs.LogIds.{id_of_text as log_id_of_text}
 use Rattle.warg_registry.specs.declared.log_id.LogId.{LogId}
 use Rattle.warg_audit.specs.Files.Answers.{IsUnusable}
 use Rattle.warg_audit.specs.Files.Files.{Files, Reads}
-use Rattle.warg_audit.specs.Files.Printouts.{Printout}
+use Rattle.warg_audit.specs.Files.OutputData.{OutputData}
 use Rattle.warg_audit.specs.Files.Unusable.{IsOfFile}
 
 -- the words say nothing, so nothing is printed, and the status is 2
-pub record IsUnsaid {A : Type 0} (Says : A → Type 0) (printed : Printout) : Type 0 where
+pub record IsUnsaid {A : Type 0} (Says : A → Type 0) (printed : OutputData) : Type 0 where
   pub nothing : (value : A) → Says value → ⊥
   pub unusable : IsUnusable printed
 
 -- the answer by what words say, if they say something
-pub data IsByWords {A : Type 0} (Says : A → Type 0) (P : A → Printout → Type 0) (printed : Printout) : Type 0 where
+pub data IsByWords {A : Type 0} (Says : A → Type 0) (P : A → OutputData → Type 0) (printed : OutputData) : Type 0 where
   unsaid : IsUnsaid Says printed → IsByWords Says P printed
   by_value : (value : A) → Says value → P value printed → IsByWords Says P printed
 
@@ -28,11 +28,11 @@ module _ {A : Type 0} (files : Option Files) (path : List ℕ) (Says : List ℕ 
     pub said : Says bytes value
 
   -- the file of the path can't be read, or holds what says nothing
-  abbrev pub IsUnsaidIn : Printout → Type 0
+  abbrev pub IsUnsaidIn : OutputData → Type 0
   IsUnsaidIn printed = IsOfFile files path (λ bytes. IsUnsaid (Says bytes)) printed
 
   -- the answer by what the file of the path says, if it can be read and says something
-  abbrev pub IsByFile : (A → Printout → Type 0) → Printout → Type 0
+  abbrev pub IsByFile : (A → OutputData → Type 0) → OutputData → Type 0
   IsByFile P printed = IsOfFile files path (λ bytes. IsByWords (Says bytes) P) printed
 
 -- ---- numbers and ids

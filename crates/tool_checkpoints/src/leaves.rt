@@ -3,22 +3,22 @@
 ghost use Rattle.std.specs.Prelude.{◌≡◌, ◌++◌, [], ◌∷◌, IfOk, IfErr, OnOk};
 ghost use Rattle.sha2.specs.Sha256.{sha256};
 ghost use Rattle.warg_audit.specs.Files.Lines.{lines_of};
-ghost use Rattle.warg_merkle.specs.MapTree.Nodes.{Sets};
+ghost use Rattle.warg_merkle.specs.SparseTree.Nodes.{Sets};
 ghost use Rattle.warg_registry.specs.PrefixEncodings.{map_leaf_encoding_of};
 ghost use Rattle.warg_transparency.specs.MapTree.{leaves_of, way_of};
 ghost use Rattle.warg_merkle.specs.Trees.{leaf_input};
 ghost use Rattle.warg_registry.specs.PrefixEncodings.{log_leaf_encoding_of};
 ghost use Rattle.warg_transparency.specs.Heads.{head_leaf};
-ghost use Rattle.warg_audit.specs.Files.Answers.{IfStopped, IsUnusable};
+ghost use Rattle.warg_audit.specs.Files.Answers.{IfOutput, IsUnusable};
 ghost use Rattle.warg_audit.specs.Files.RecordLines.{record_lines};
 ghost use Rattle.tool_checkpoints.specs.RegistryLeaves.{HasNoLeaf, IsRegistryOf, leaf_of_ids, leaf_of_line};
 ghost use Rattle.tool_checkpoints.specs.RegistryLeaves.{leaf_of_text, SayRegistry};
 
 use std::alloc::{AllocError, Global};
+use warg_audit::files::command_error::{CommandError, unusable};
 use warg_audit::files::input::{Input, line_sentence};
 use warg_audit::files::lines::{cut_line, without_return};
 use warg_audit::files::record_lines::{Comments, record_text};
-use warg_audit::files::stop::{Stop, unusable};
 use warg_log_records::RecordId;
 use warg_registry::{LogId, LogLeaf, MapLeaf};
 use warg_transparency::{LogTree, MapTree};
@@ -89,19 +89,24 @@ fn leaf_of_line(line: &[u8]) -> Option<LogLeaf>
     }
 }
 
-// The end of a command for a line that says no leaf, by its place among the lines that are no comments.
-fn no_leaf(alloc: Global, path: &str, comments: &Comments, index: usize) -> Stop
-    ensures { IfStopped IsUnusable result }
+// The error of a command for a line that says no leaf, by its place among the lines that are no comments.
+fn no_leaf(alloc: Global, path: &str, comments: &Comments, index: usize) -> CommandError
+    ensures { IfOutput IsUnusable result }
 {
     let place = comments.place_in_file(index);
     unusable(alloc, line_sentence(alloc, path, place, "it is no leaf"))
 }
 
 // The registry of the leaves that the lines of a text say.
-fn trees_of_text(alloc: Global, path: &str, text: &[u8], comments: &Comments) -> Result<Trees, Stop>
+fn trees_of_text(
+    alloc: Global,
+    path: &str,
+    text: &[u8],
+    comments: &Comments,
+) -> Result<Trees, CommandError>
     ensures ok { IfOk result (λ trees.
         SayRegistry (lines_of text.now) trees.log (leaves_of trees.map)) }
-    ensures stopped { IfErr result (IfStopped (λ printed.
+    ensures err { IfErr result (IfOutput (λ printed.
         HasNoLeaf (lines_of text.now) × IsUnusable printed)) }
 {
     let mut trees = Trees::new(alloc)?;
@@ -120,10 +125,10 @@ fn trees_of_text(alloc: Global, path: &str, text: &[u8], comments: &Comments) ->
 }
 
 /// The registry of the leaves that the file lists.
-pub(crate) fn trees_of(alloc: Global, input: Input<'_>) -> Result<Trees, Stop>
+pub(crate) fn trees_of(alloc: Global, input: Input<'_>) -> Result<Trees, CommandError>
     ensures ok { IfOk result (λ trees.
         SayRegistry (record_lines input.entry.bytes.items) trees.log (leaves_of trees.map)) }
-    ensures stopped { IfErr result (IfStopped (λ printed.
+    ensures err { IfErr result (IfOutput (λ printed.
         HasNoLeaf (record_lines input.entry.bytes.items) × IsUnusable printed)) }
 {
     let path = input.path;

@@ -7,7 +7,7 @@ ghost use Rattle.warg_merkle.specs.Trees.{Includes};
 ghost use Rattle.warg_registry.specs.PrefixEncodings.{log_leaf_encoding_of};
 ghost use Rattle.warg_transparency.specs.Heads.{ShowsHead};
 ghost use Rattle.warg_transparency.specs.Views.{GoesOn};
-ghost use Rattle.warg_audit.specs.Files.Answers.{answer_view, Answers};
+ghost use Rattle.warg_audit.specs.Files.Answers.{output_data, Answers};
 ghost use Rattle.tool_checkpoints.specs.Proofs.{IsAbsenceVerdict, IsConsistencyVerdict};
 ghost use Rattle.tool_checkpoints.specs.Proofs.{IsHeadVerdict, IsInclusionVerdict, IsStatementVerdict};
 ghost use Rattle.tool_checkpoints.specs.Proofs.{IsVerdict, verdict_text};
@@ -17,22 +17,22 @@ use crate::read_words::{
 };
 use std::alloc::{AllocError, Global};
 use tool_words::{LeafIds, Statement};
-use warg_audit::files::answer::Answer;
+use warg_audit::files::command_error::CommandError;
+use warg_audit::files::command_output::CommandOutput;
 use warg_audit::files::input::Store;
-use warg_audit::files::stop::Stop;
 use warg_registry::{Checkpoint, LogId, LogLeaf};
 use warg_transparency::{
     LogProof, MapProof, verify_absence, verify_consistency, verify_head, verify_inclusion,
 };
 
 // What is said of a statement.
-fn verdict(alloc: Global, holds: bool) -> Result<Answer, AllocError>
-    ensures { IfOk result (λ answer. answer_view answer ≡ verdict_text holds) }
+fn verdict(alloc: Global, holds: bool) -> Result<CommandOutput, AllocError>
+    ensures { IfOk result (λ answer. output_data answer ≡ verdict_text holds) }
 {
     if holds {
-        Answer::fixed(alloc, "holds\n", 0)
+        CommandOutput::fixed(alloc, "holds\n", 0)
     } else {
-        Answer::fixed(alloc, "does not hold\n", 1)
+        CommandOutput::fixed(alloc, "does not hold\n", 1)
     }
 }
 
@@ -43,10 +43,10 @@ pub(crate) fn inclusion_verdict(
     leaf: &LogLeaf,
     place: u64,
     proof: &LogProof,
-) -> Result<Answer, AllocError>
+) -> Result<CommandOutput, AllocError>
     ensures { IfOk result (λ answer. IsVerdict
         (Includes sha256 (log_leaf_encoding_of leaf.now) place
-        checkpoint.now.log_length proof.now checkpoint.now.log_root.bytes) (answer_view answer)) }
+        checkpoint.now.log_length proof.now checkpoint.now.log_root.bytes) (output_data answer)) }
 {
     let size = checkpoint.log_length as u64;
     let root = &checkpoint.log_root;
@@ -62,9 +62,9 @@ pub(crate) fn consistency_verdict(
     old: &Checkpoint,
     new: &Checkpoint,
     proof: &LogProof,
-) -> Result<Answer, AllocError>
+) -> Result<CommandOutput, AllocError>
     ensures { IfOk result (λ answer. IsVerdict (GoesOn old.now new.now proof.now)
-        (answer_view answer)) }
+        (output_data answer)) }
 {
     verdict(alloc, verify_consistency(old, new, proof.hashes()))
 }
@@ -75,10 +75,10 @@ pub(crate) fn head_verdict(
     checkpoint: &Checkpoint,
     leaf: &LogLeaf,
     proof: &MapProof,
-) -> Result<Answer, AllocError>
+) -> Result<CommandOutput, AllocError>
     ensures { IfOk result (λ answer. IsVerdict
         (ShowsHead checkpoint.now leaf.now.log_id leaf.now.record_id proof.now)
-        (answer_view answer)) }
+        (output_data answer)) }
 {
     verdict(
         alloc,
@@ -92,9 +92,9 @@ pub(crate) fn absence_verdict(
     checkpoint: &Checkpoint,
     log_id: &LogId,
     proof: &MapProof,
-) -> Result<Answer, AllocError>
+) -> Result<CommandOutput, AllocError>
     ensures { IfOk result (λ answer. IsVerdict (Leads sha256 None log_id.now.hash.bytes proof.now
-        checkpoint.now.map_root.bytes) (answer_view answer)) }
+        checkpoint.now.map_root.bytes) (output_data answer)) }
 {
     verdict(alloc, verify_absence(log_id, proof, &checkpoint.map_root))
 }
@@ -106,7 +106,7 @@ fn inclusion_answer<S: Store>(
     leaf: &LeafIds<'_>,
     proof: &str,
     store: &mut S,
-) -> Result<Answer, Stop>
+) -> Result<CommandOutput, CommandError>
     ensures answered { Answers (IsInclusionVerdict (S.files store.old)
         checkpoint.now place.now leaf.now.log_id.now leaf.now.record_id.now proof.now) result }
     ensures kept { S.files store.new ≡ S.files store.old }
@@ -124,7 +124,7 @@ fn consistency_answer<S: Store>(
     new: &str,
     proof: &str,
     store: &mut S,
-) -> Result<Answer, Stop>
+) -> Result<CommandOutput, CommandError>
     ensures answered { Answers (IsConsistencyVerdict (S.files store.old) old.now
         new.now proof.now) result }
     ensures kept { S.files store.new ≡ S.files store.old }
@@ -141,7 +141,7 @@ fn head_answer<S: Store>(
     leaf: &LeafIds<'_>,
     proof: &str,
     store: &mut S,
-) -> Result<Answer, Stop>
+) -> Result<CommandOutput, CommandError>
     ensures answered { Answers (IsHeadVerdict (S.files store.old) checkpoint.now
         leaf.now.log_id.now leaf.now.record_id.now proof.now) result }
     ensures kept { S.files store.new ≡ S.files store.old }
@@ -158,7 +158,7 @@ fn absence_answer<S: Store>(
     log_id: &str,
     proof: &str,
     store: &mut S,
-) -> Result<Answer, Stop>
+) -> Result<CommandOutput, CommandError>
     ensures answered { Answers (IsAbsenceVerdict (S.files store.old) checkpoint.now
         log_id.now proof.now) result }
     ensures kept { S.files store.new ≡ S.files store.old }
@@ -174,7 +174,7 @@ pub fn verify_answer<S: Store>(
     alloc: Global,
     statement: &Statement<'_>,
     store: &mut S,
-) -> Result<Answer, Stop>
+) -> Result<CommandOutput, CommandError>
     ensures answered { Answers (IsStatementVerdict (S.files store.old)
         statement.now) result }
     ensures kept { S.files store.new ≡ S.files store.old }

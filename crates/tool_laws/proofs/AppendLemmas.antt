@@ -10,12 +10,12 @@ use Rattle.std.proofs.lemmas.List.Splits.{slice_split_at}
 use Rattle.warg_protocol.specs.Logs.{SignatureRelation}
 use Rattle.warg_protocol.specs.Records.{RecordId}
 use Rattle.warg_audit.specs.LogAnswers.{LogDisplay, accepted_start, view_of}
-use Rattle.warg_audit.specs.Printouts.{Printout, bad_line}
+use Rattle.warg_audit.specs.Printouts.{OutputData, bad_line}
 use Rattle.tool_answers.specs.Verdicts.{envelopes_of}
 use Rattle.warg_audit.specs.Files.Files.{Files}
 use Rattle.warg_audit.specs.Files.RecordLines.{record_lines}
 use Rattle.warg_audit.specs.Files.Texts.{all_lines, no}
-use Rattle.tool_changes.specs.Additions.{IsAddition, IsAllOrNone, IsPutOf, IsRefusal, addition_text, believed, file_refused, is_none_of, new_lines, put, refused, taken, too_long, unflushed, unwritten, whole_refused, with_lines}
+use Rattle.tool_changes.specs.Additions.{IsAddition, IsAllOrNone, IsPutOf, IsRunError, addition_text, believed, file_refused, is_none_of, new_lines, put, refused, taken, too_long, unflushed, unwritten, whole_refused, with_lines}
 use Rattle.tool_changes.specs.Appends.{IsAddedTo, IsAppended, bad, no_file, no_lines as lines_unread, no_log, no_record, of_lines, to_log}
 use Rattle.warg_printable.specs.Lines.{IsPrintedText, with_ends}
 use Rattle.warg_printable.specs.Printable.{IsPrintable}
@@ -78,39 +78,39 @@ addition_clean count head before shown start h =
     (shown_lines (new_lines before shown) (all_filtered IsPrintable (is_none_of (lines before)) (lines shown) (lines_shown shown h)))
 
 module _ {Meaning Fault View Offence : Type 0} (log : LogDisplay Meaning Fault View Offence) (plain : IsPlainLog log) (belongs : SignatureRelation) where
-  added_clean : (file whole : List ℕ) (verdict : Printout) → IsAddition log belongs file whole verdict → IsClean verdict
+  added_clean : (file whole : List ℕ) (verdict : OutputData) → IsAddition log belongs file whole verdict → IsClean verdict
   added_clean file whole verdict h =
-      let head : Option RecordId = log.kind.head (view_of log h.strings) in
-      clean_same verdict (addition_text (length h.strings) head h.before (log.shown (view_of log h.strings))) h.is
-      (addition_clean (length h.strings) head h.before (log.shown (view_of log h.strings))
-      (line_text (accepted_start (length h.strings) head) (start_one (length h.strings) head (plain.heads (envelopes_of log h.strings))))
-      (plain.shown (envelopes_of log h.strings)))
+      let head : Option RecordId = log.kind.head (view_of log h.inputs) in
+      clean_same verdict (addition_text (length h.inputs) head h.before (log.shown (view_of log h.inputs))) h.is
+      (addition_clean (length h.inputs) head h.before (log.shown (view_of log h.inputs))
+      (line_text (accepted_start (length h.inputs) head) (start_one (length h.inputs) head (plain.heads (envelopes_of log h.inputs))))
+      (plain.shown (envelopes_of log h.inputs)))
 
-  refusal_clean : (file whole : List ℕ) (printed : Printout) → IsRefusal log belongs file whole printed → IsClean printed
-  refusal_clean file whole printed (whole_refused h) = negative_clean log plain belongs (record_lines whole) printed h
-  refusal_clean file whole printed (file_refused h) = negative_clean log plain believed (record_lines file) printed h
+  run_error_clean : (file whole : List ℕ) (printed : OutputData) → IsRunError log belongs file whole printed → IsClean printed
+  run_error_clean file whole printed (whole_refused h) = negative_clean log plain belongs (record_lines whole) printed h
+  run_error_clean file whole printed (file_refused h) = negative_clean log plain believed (record_lines file) printed h
 
-  put_clean : (path bytes : List ℕ) (verdict : Printout) (old new : Option Files) (printed : Printout) → IsPutOf path bytes verdict old new printed
+  put_clean : (path bytes : List ℕ) (verdict : OutputData) (old new : Option Files) (printed : OutputData) → IsPutOf path bytes verdict old new printed
       → IsClean verdict → IsClean printed
   put_clean path bytes verdict old new printed (put puts is) h = clean_same printed verdict is h
   put_clean path bytes verdict old new printed (unflushed puts is) h = silent_clean 3 printed is
   put_clean path bytes verdict old new printed (unwritten same is) h = silent_clean 3 printed is
 
-  all_clean : (path file added : List ℕ) (old new : Option Files) (printed : Printout) → IsAllOrNone log belongs path file added old new printed
+  all_clean : (path file added : List ℕ) (old new : Option Files) (printed : OutputData) → IsAllOrNone log belongs path file added old new printed
       → IsClean printed
   all_clean path file added old new printed (too_long long same is) = silent_clean 2 printed is
-  all_clean path file added old new printed (refused fits h same) = refusal_clean file (with_lines file added) printed h
+  all_clean path file added old new printed (refused fits h same) = run_error_clean file (with_lines file added) printed h
   all_clean path file added old new printed (taken verdict fits h is_put) =
       put_clean path (with_lines file added) verdict old new printed is_put (added_clean file (with_lines file added) verdict h)
 
-  to_clean : (old new : Option Files) (path added : List ℕ) (printed : Printout) → IsAddedTo log belongs old new path added printed → IsClean printed
+  to_clean : (old new : Option Files) (path added : List ℕ) (printed : OutputData) → IsAddedTo log belongs old new path added printed → IsClean printed
   to_clean old new path added printed (bad index at is same) = clean_line printed (bad_line index) is (bad_one index)
   to_clean old new path added printed (no_record spell is same) = clean_line printed (no (codes "empty\n")) is (plain_line (codes "empty") refl)
-  to_clean old new path added printed (no_log strings spell some unheld same) = unheld_clean printed unheld
-  to_clean old new path added printed (to_log strings spell some file reads h) = all_clean path file added old new printed h
+  to_clean old new path added printed (no_log inputs spell some unheld same) = unheld_clean printed unheld
+  to_clean old new path added printed (to_log inputs spell some file reads h) = all_clean path file added old new printed h
 
   -- the answer to lines that are added
-  pub append_clean : (old new : Option Files) (path lines : List ℕ) (printed : Printout) → IsAppended log belongs old new path lines printed
+  pub append_clean : (old new : Option Files) (path lines : List ℕ) (printed : OutputData) → IsAppended log belongs old new path lines printed
       → IsClean printed
   append_clean old new path lines printed (no_file is_input is same) = silent_clean 2 printed is
   append_clean old new path lines printed (lines_unread is_file is same) = unread_clean old lines printed is

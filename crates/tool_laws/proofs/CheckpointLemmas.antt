@@ -9,7 +9,7 @@ use Rattle.serde_json.specs.Written.{compact_text}
 use Rattle.sha2.specs.Sha256.{sha256}
 use Rattle.warg_crypto.specs.HashText.{hash_text}
 use Rattle.warg_audit.specs.Files.Files.{Files}
-use Rattle.warg_audit.specs.Files.Printouts.{Printout}
+use Rattle.warg_audit.specs.Files.OutputData.{OutputData}
 use Rattle.warg_registry.specs.RegistryJson.{checkpoint_json}
 use Rattle.warg_registry.specs.declared.checkpoint.Checkpoint.{Checkpoint}
 use Rattle.warg_registry.specs.declared.leaf.LogLeaf.{LogLeaf}
@@ -36,12 +36,12 @@ use Rattle.tool_laws.proofs.ProofLemmas.{AllBytes, consistency_bytes, inclusion_
 
 -- ---- statements
 
-verdict_clean : (S : Type 0) (printed : Printout) → IsVerdict S printed → IsClean printed
+verdict_clean : (S : Type 0) (printed : OutputData) → IsVerdict S printed → IsClean printed
 verdict_clean S printed (inl h) = clean_line printed _ h.1 (plain_line (codes "holds") refl)
 verdict_clean S printed (inr h) = clean_line printed _ h.1 (plain_line (codes "does not hold") refl)
 
 module _ (files : Option Files) where
-  inclusion_said : (checkpoint place log_id record_id proof : List ℕ) (printed : Printout)
+  inclusion_said : (checkpoint place log_id record_id proof : List ℕ) (printed : OutputData)
       → IsInclusionVerdict files checkpoint place log_id record_id proof printed → IsClean printed
   inclusion_said checkpoint place log_id record_id proof printed h =
       words_clean printed h (λ leaf is_leaf by_leaf.
@@ -49,27 +49,27 @@ module _ (files : Option Files) where
       by_file_clean files checkpoint printed by_place (λ view by_view.
       by_file_clean files proof printed by_view (λ hashes. verdict_clean _ printed))))
 
-  consistency_said : (old new proof : List ℕ) (printed : Printout) → IsConsistencyVerdict files old new proof printed → IsClean printed
+  consistency_said : (old new proof : List ℕ) (printed : OutputData) → IsConsistencyVerdict files old new proof printed → IsClean printed
   consistency_said old new proof printed h =
       by_file_clean files old printed h (λ before by_old.
       by_file_clean files new printed by_old (λ after by_both.
       by_file_clean files proof printed by_both (λ hashes. verdict_clean _ printed)))
 
-  head_said : (checkpoint log_id record_id proof : List ℕ) (printed : Printout) → IsHeadVerdict files checkpoint log_id record_id proof printed
+  head_said : (checkpoint log_id record_id proof : List ℕ) (printed : OutputData) → IsHeadVerdict files checkpoint log_id record_id proof printed
       → IsClean printed
   head_said checkpoint log_id record_id proof printed h =
       words_clean printed h (λ leaf is_leaf by_leaf.
       by_file_clean files checkpoint printed by_leaf (λ view by_view.
       by_file_clean files proof printed by_view (λ siblings. verdict_clean _ printed)))
 
-  absence_said : (checkpoint log_id proof : List ℕ) (printed : Printout) → IsAbsenceVerdict files checkpoint log_id proof printed → IsClean printed
+  absence_said : (checkpoint log_id proof : List ℕ) (printed : OutputData) → IsAbsenceVerdict files checkpoint log_id proof printed → IsClean printed
   absence_said checkpoint log_id proof printed h =
       words_clean printed h (λ log is_log by_log.
       by_file_clean files checkpoint printed by_log (λ view by_view.
       by_file_clean files proof printed by_view (λ siblings. verdict_clean _ printed)))
 
   -- whether a statement holds
-  pub statement_clean : (it : Statement) (printed : Printout) → IsStatementVerdict files it printed → IsClean printed
+  pub statement_clean : (it : Statement) (printed : OutputData) → IsStatementVerdict files it printed → IsClean printed
   statement_clean (statement.Inclusion checkpoint place leaf proof) printed h =
       inclusion_said checkpoint.now place.now leaf.log_id.now leaf.record_id.now proof.now printed h
   statement_clean (statement.Consistency old new proof) printed h = consistency_said old.now new.now proof.now printed h
@@ -138,35 +138,35 @@ if_some_clean true hashes h = line_text _ (plain_line (log_proof_text hashes) (l
 if_some_clean false hashes h = line_text (codes "none\n") (plain_line (codes "none") refl)
 
 module _ (leaves : List LogLeaf) where
-  checkpoint_of_clean : (printed : Printout) → IsCheckpointText leaves printed → IsClean printed
+  checkpoint_of_clean : (printed : OutputData) → IsCheckpointText leaves printed → IsClean printed
   checkpoint_of_clean printed h =
       clean_same printed (checkpoint_line (text_of (checkpoint_json h.checkpoint))) h.is
       (checkpoint_clean h.checkpoint (subst AreBytes h.stands.log.root (tree_bytes (entries_of leaves)))
       (subst AreBytes (sym h.stands.root) (root_bytes 256 h.stands.m)))
 
-  inclusion_clean : (index : ℕ) (printed : Printout) → IsInclusionText index leaves printed → IsClean printed
+  inclusion_clean : (index : ℕ) (printed : OutputData) → IsInclusionText index leaves printed → IsClean printed
   inclusion_clean index printed h =
       clean_same printed (log_proof_line (inclusion_of index (entries_of leaves))) h.is
       (if_some_clean (nat_lt index (length (entries_of leaves))) (inclusion_path sha256 index (entries_of leaves)) (inclusion_bytes index (entries_of leaves)))
 
-  consistency_clean : (first : ℕ) (printed : Printout) → IsConsistencyText first leaves printed → IsClean printed
+  consistency_clean : (first : ℕ) (printed : OutputData) → IsConsistencyText first leaves printed → IsClean printed
   consistency_clean first printed h =
       clean_same printed (log_proof_line (consistency_of first (entries_of leaves))) h.is
       (if_some_clean (nat_le first (length (entries_of leaves))) (consistency_proof sha256 first (entries_of leaves)) (consistency_bytes first (entries_of leaves)))
 
-  head_clean : (log_id : LogId) (printed : Printout) → IsHeadText log_id leaves printed → IsClean printed
+  head_clean : (log_id : LogId) (printed : OutputData) → IsHeadText log_id leaves printed → IsClean printed
   head_clean log_id printed h =
       clean_line printed (map_proof_line h.path) h.is
       (plain_line (map_proof_text h.path) (map_proof_plain h.path (subst AllBytes (sym h.path_is) (way_bytes h.m (way_of log_id)))))
 
 -- the answer by the leaves that lines say
-leaves_clean : (P : List LogLeaf → Printout → Type 0) → ((leaves : List LogLeaf) (printed : Printout) → P leaves printed → IsClean printed)
-    → (lines : List (List ℕ)) (printed : Printout) → IsByLeaves P lines printed → IsClean printed
+leaves_clean : (P : List LogLeaf → OutputData → Type 0) → ((leaves : List LogLeaf) (printed : OutputData) → P leaves printed → IsClean printed)
+    → (lines : List (List ℕ)) (printed : OutputData) → IsByLeaves P lines printed → IsClean printed
 leaves_clean P each lines printed (no_leaf none unusable) = silent_clean 2 printed unusable
 leaves_clean P each lines printed (of_leaves leaves said h) = each leaves printed h
 
 -- the answer to what is wanted
-pub proof_clean : (files : Option Files) (words : Wanted) (path : List ℕ) (printed : Printout) → IsProofAnswer files words path printed → IsClean printed
+pub proof_clean : (files : Option Files) (words : Wanted) (path : List ℕ) (printed : OutputData) → IsProofAnswer files words path printed → IsClean printed
 proof_clean files wanted.Checkpoint path printed h =
     words_clean printed h (λ it said by_lines.
     lines_clean files path (IsByLeaves (IsProved it))

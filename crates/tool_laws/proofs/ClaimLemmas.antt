@@ -84,19 +84,19 @@ module _ {P O V F D : Type 0} (rules : Rules P O V F) (same : P → P → Bool) 
     claim_bytes v bytes (Ok e) c same asks h = asked_bytes v e c asks (keeps bytes e same h)
     claim_bytes v bytes (Err fault) c same asks h = absurd asks
 
-    all_bytes : (strings : List (List ℕ)) (claims : List ClaimData) → length claims ≡ length strings → AllByRecursion AreBytes strings
+    all_bytes : (inputs : List (List ℕ)) (claims : List ClaimData) → length claims ≡ length inputs → AllByRecursion AreBytes inputs
         → (seen : ℕ → View P V)
-        → ((i : ℕ) (s : List ℕ) (c : ClaimData) → slice_get strings i ≡ Some s → slice_get claims i ≡ Some c → AsksClaim k (seen i) (reads s) c)
+        → ((i : ℕ) (s : List ℕ) (c : ClaimData) → slice_get inputs i ≡ Some s → slice_get claims i ≡ Some c → AsksClaim k (seen i) (reads s) c)
         → AllByRecursion (λ (c : ClaimData). AreBytes c.message) claims
-    all_bytes strings [] counted h seen asked = tt
+    all_bytes inputs [] counted h seen asked = tt
     all_bytes [] (c ∷ claims) counted h seen asked = cc counted
-    all_bytes (s ∷ strings) (c ∷ claims) counted h seen asked =
-        let fewer : length claims ≡ length strings = omega arith in (
+    all_bytes (s ∷ inputs) (c ∷ claims) counted h seen asked =
+        let fewer : length claims ≡ length inputs = omega arith in (
           claim_bytes (seen 0) s (reads s) c refl (asked 0 s c refl refl) h.0,
-          all_bytes strings claims fewer h.1 (λ i. seen (suc i)) (λ i. asked (suc i)),
+          all_bytes inputs claims fewer h.1 (λ i. seen (suc i)) (λ i. asked (suc i)),
         )
 
     -- those of all claims
-    pub claims_bytes : (strings : List (List ℕ)) (claims : List ClaimData) → AreClaims k reads strings claims → AllByRecursion AreBytes strings
+    pub claims_bytes : (inputs : List (List ℕ)) (claims : List ClaimData) → AreClaims k reads inputs claims → AllByRecursion AreBytes inputs
         → AllByRecursion (λ (c : ClaimData). AreBytes c.message) claims
-    claims_bytes strings claims are h = all_bytes strings claims are.counted h (seen_before k reads strings) are.asked
+    claims_bytes inputs claims are h = all_bytes inputs claims are.counted h (seen_before k reads inputs) are.asked

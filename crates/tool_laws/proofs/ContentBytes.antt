@@ -7,7 +7,7 @@ use Rattle.warg_crypto.specs.Keys.{signature_of}
 use Rattle.warg_crypto.specs.declared.signing.error.SignatureParseError.{SignatureParseError}
 use Rattle.warg_envelope.specs.EnvelopeData.{EnvelopeData}
 use Rattle.warg_envelope.specs.Envelopes.{enclosed_data, envelope_of, opened_data, signed_data}
-use Rattle.warg_audit.specs.Files.Lines.{Spell, string_of, without_return}
+use Rattle.warg_audit.specs.Files.Lines.{Spell, input_of, without_return}
 use Rattle.warg_protobuf.specs.Envelope as outer
 use Rattle.warg_protobuf.specs.Envelope.{EnvelopeValue, IsEnvelope, IsEnvelopeOf, envelope_from, envelope_table}
 use Rattle.warg_protobuf.specs.Field.{Bytes, Eight, Field, Four, Holds, IsField, IsFields, Number, Payload}
@@ -20,18 +20,18 @@ use Rattle.tool_laws.proofs.PlainLemmas.ByteLemmas.{decoded_bytes}
 
 -- ---- what lines spell
 
-pub spelled_bytes : (lines strings : List (List ℕ)) → Spell lines strings → AllByRecursion AreBytes strings
+pub spelled_bytes : (lines inputs : List (List ℕ)) → Spell lines inputs → AllByRecursion AreBytes inputs
 spelled_bytes lines [] e = tt
-spelled_bytes [] (string ∷ more) e = cc e
-spelled_bytes (line ∷ lines) (string ∷ more) e =
-    let first : string_of line ≡ Ok string = cc in
+spelled_bytes [] (input ∷ more) e = cc e
+spelled_bytes (line ∷ lines) (input ∷ more) e =
+    let first : input_of line ≡ Ok input = cc in
     let rest : Spell lines more = cc in
-    (decoded_bytes (without_return line) string first, spelled_bytes lines more rest)
+    (decoded_bytes (without_return line) input first, spelled_bytes lines more rest)
 
-pub taken_bytes : (count : ℕ) (strings : List (List ℕ)) → AllByRecursion AreBytes strings → AllByRecursion AreBytes (take count strings)
-taken_bytes zero strings h = tt
+pub taken_bytes : (count : ℕ) (inputs : List (List ℕ)) → AllByRecursion AreBytes inputs → AllByRecursion AreBytes (take count inputs)
+taken_bytes zero inputs h = tt
 taken_bytes (suc count) [] h = tt
-taken_bytes (suc count) (string ∷ more) h = (h.0, taken_bytes count more h.1)
+taken_bytes (suc count) (input ∷ more) h = (h.0, taken_bytes count more h.1)
 
 -- ---- what stands in fields
 

@@ -5,7 +5,7 @@ use Rattle.std.specs.Option.{option_map}
 use Rattle.semver.specs.Identifiers.{parts_text}
 use Rattle.warg_crypto.specs.HashText.{hash_text}
 use Rattle.warg_audit.specs.LogAnswers.{head_text}
-use Rattle.warg_audit.specs.LogTypes.{operator_log, package_log}
+use Rattle.warg_audit.specs.LogKinds.{operator_log, package_log}
 use Rattle.warg_audit.specs.ReleaseLines.{release_line, release_lines, release_state_text}
 use Rattle.warg_crypto.specs.Json.Json.{AreReadBack}
 use Rattle.warg_envelope.specs.EnvelopeData.{EnvelopeData}

@@ -6,14 +6,14 @@ use Rattle.semver.specs.Identifiers.{parts_text}
 use Rattle.semver.specs.Parse.{version_parts}
 use Rattle.semver.specs.declared.Comparator.{Comparator}
 use Rattle.warg_audit.specs.Answers.{IsEnvelopeAnswer, IsIdAnswer, bad_digits, has_fault, is_read, no_line, one_line, record_id_of, second_line}
-use Rattle.warg_audit.specs.Printouts.{Printout, bad_line, record_id, refused_line}
+use Rattle.warg_audit.specs.Printouts.{OutputData, bad_line, record_id, refused_line}
 use Rattle.tool_answers.specs.Verdicts.{envelopes_of}
-use Rattle.warg_audit.specs.LogTypes.{package_log}
+use Rattle.warg_audit.specs.LogKinds.{package_log}
 use Rattle.warg_envelope.specs.FaultNames.{error_name}
 use Rattle.warg_envelope.specs.declared.proto_envelope.error.ParseEnvelopeError.TheVariants.{ProtobufEnvelope}
 use Rattle.warg_crypto.specs.Json.Json.{AreReadBack}
-use Rattle.warg_audit.specs.declared.log_type.LogType.{LogType}
-use Rattle.warg_audit.specs.declared.log_type.LogType.TheVariants.{Operator, Package}
+use Rattle.warg_audit.specs.declared.log_kind.LogKind.{LogKind}
+use Rattle.warg_audit.specs.declared.log_kind.LogKind.TheVariants.{Operator, Package}
 use Rattle.warg_package_log.specs.Latest.{IsGreatest, shown_cmp, shows_candidate}
 use Rattle.warg_package_log.specs.Releases.{ReleaseView, content_of, versions}
 use Rattle.warg_package_log.specs.declared.release.ReleaseState.{ReleaseState}
@@ -34,18 +34,18 @@ use Rattle.tool_laws.proofs.NameLemmas.{error_plain}
 
 -- ---- ids
 
-id_plain : (kind : LogType) (content : List ℕ) → is_plain (hash_text (record_id_of kind content).hash) ≡ true
+id_plain : (kind : LogKind) (content : List ℕ) → is_plain (hash_text (record_id_of kind content).hash) ≡ true
 id_plain Package content = hash_plain (record_id_of Package content).hash (sha256_bytes (package_record_message content))
 id_plain Operator content = hash_plain (record_id_of Operator content).hash (sha256_bytes (operator_record_message content))
 
-envelope_clean : (kind : LogType) (bytes : List ℕ) (printed : Printout) → IsEnvelopeAnswer kind bytes printed → IsClean printed
+envelope_clean : (kind : LogKind) (bytes : List ℕ) (printed : OutputData) → IsEnvelopeAnswer kind bytes printed → IsClean printed
 envelope_clean kind bytes printed (is_read envelope h is) =
     clean_line printed (record_id (record_id_of kind envelope.contents)) is (plain_line (hash_text (record_id_of kind envelope.contents).hash) (id_plain kind envelope.contents))
 envelope_clean kind bytes printed (has_fault fault h is) =
     clean_line printed (refused_line 0 (error_name (ProtobufEnvelope fault))) is
     (refused_one 0 (error_name (ProtobufEnvelope fault)) (error_plain (ProtobufEnvelope fault)))
 
-pub id_clean : (kind : LogType) (lines : List (List ℕ)) (printed : Printout) → IsIdAnswer kind lines printed → IsClean printed
+pub id_clean : (kind : LogKind) (lines : List (List ℕ)) (printed : OutputData) → IsIdAnswer kind lines printed → IsClean printed
 id_clean kind lines printed (no_line none is) = clean_line printed (bad_line 0) is (bad_one 0)
 id_clean kind lines printed (bad_digits line more are bad is) = clean_line printed (bad_line 0) is (bad_one 0)
 id_clean kind lines printed (second_line line bytes next more are spelled is) = clean_line printed (bad_line 1) is (bad_one 1)
@@ -80,8 +80,8 @@ latest_clean all h wanted (Some release) greatest =
     let it : IsReadRelease release = subst IsReadRelease in_all.2 (read_at all h in_all.0 release in_all.1) in
     content_clean (parts_text release.version) release.state (version_plain release.version it.0) it.1
 
-pub latest_of_clean : (wanted : List Comparator) (strings : List (List ℕ)) (printed : Printout) → IsLatestOf wanted strings printed → IsClean printed
-latest_of_clean wanted strings printed h =
-    let es = envelopes_of package_log strings in
+pub latest_of_clean : (wanted : List Comparator) (inputs : List (List ℕ)) (printed : OutputData) → IsLatestOf wanted inputs printed → IsClean printed
+latest_of_clean wanted inputs printed h =
+    let es = envelopes_of package_log inputs in
     clean_same printed (latest_text h.release) h.is
     (latest_clean (releases_in es) (all_read (releases_in es) (versions_in es) (contents_in es)) wanted h.release h.greatest)

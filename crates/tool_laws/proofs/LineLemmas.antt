@@ -3,7 +3,7 @@ use Rattle.std.proofs.Common.{◌≡◌, ℕ, Bool, true, false, List, [], ◌�
 use Rattle.std.specs.Prelude.{if◌then◌else◌}
 use Rattle.std.specs.List.{AllByRecursion, filter}
 use Rattle.std.proofs.lemmas.Str.{NoCharPasses-append}
-use Rattle.warg_audit.specs.Files.Printouts.{Printout}
+use Rattle.warg_audit.specs.Files.OutputData.{OutputData}
 use Rattle.warg_audit.specs.Files.Texts.{all_lines, line}
 use Rattle.tool_laws.specs.Plain.Plain.{is_plain}
 use Rattle.tool_laws.proofs.PlainLemmas.PlainLemmas.{plain_shown}
@@ -22,7 +22,7 @@ IfLine None = Unit {0}
 IfLine (Some text) = IsOneLine text
 
 -- what is printed is lines with no hidden character in them
-abbrev pub IsClean : Printout → Type 0
+abbrev pub IsClean : OutputData → Type 0
 IsClean printed = IsPrintedText printed.text
 
 -- ---- lines
@@ -84,15 +84,15 @@ all_mapped P f each (x ∷ xs) = (each x, all_mapped P f each xs)
 
 -- ---- what is printed
 
-pub clean_same : (printed it : Printout) → printed ≡ it → IsPrintedText it.text → IsClean printed
+pub clean_same : (printed it : OutputData) → printed ≡ it → IsPrintedText it.text → IsClean printed
 clean_same printed it e h = subst IsClean (sym e) h
 
-pub line_same : (printed it : Printout) → printed ≡ it → IsOneLine it.text → IsOneLine printed.text
-line_same printed it e h = subst (λ (p : Printout). IsOneLine p.text) (sym e) h
+pub line_same : (printed it : OutputData) → printed ≡ it → IsOneLine it.text → IsOneLine printed.text
+line_same printed it e h = subst (λ (p : OutputData). IsOneLine p.text) (sym e) h
 
-pub clean_line : (printed it : Printout) → printed ≡ it → IsOneLine it.text → IsClean printed
+pub clean_line : (printed it : OutputData) → printed ≡ it → IsOneLine it.text → IsClean printed
 clean_line printed it e h = line_text printed.text (line_same printed it e h)
 
 -- a plain text is
-pub clean_plain : (printed : Printout) (text : List ℕ) → printed.text ≡ text ++ codes "\n" → is_plain text ≡ true → IsClean printed
+pub clean_plain : (printed : OutputData) (text : List ℕ) → printed.text ≡ text ++ codes "\n" → is_plain text ≡ true → IsClean printed
 clean_plain printed text e h = line_text printed.text (same_line printed.text (text ++ codes "\n") e (plain_line text h))

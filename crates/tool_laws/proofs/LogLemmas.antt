@@ -7,8 +7,8 @@ use Rattle.warg_claims.specs.Claimed.{AreClaims}
 use Rattle.warg_claims.specs.Verified.Claims.{ClaimData}
 use Rattle.warg_protocol.specs.Logs.{Cause, EnvelopeData, EnvelopeFault, SignatureRelation, Unlawful, Unread, envelope_of}
 use Rattle.warg_protocol.specs.Records.{RecordId, hash_text}
-use Rattle.warg_audit.specs.LogAnswers.{IsRefused, LogDisplay, accepted_start, cause_name, head_text, log_shown, refusal}
-use Rattle.warg_audit.specs.Printouts.{Printout, bad_line, refused_line}
+use Rattle.warg_audit.specs.LogAnswers.{IsRefused, LogDisplay, accepted_start, cause_name, head_text, log_shown, run_error}
+use Rattle.warg_audit.specs.Printouts.{OutputData, bad_line, refused_line}
 use Rattle.tool_answers.specs.Texts.{collision_line, fork_line, id_text_at}
 use Rattle.tool_answers.specs.Verdicts.{IsNegative, IsPrintedOf, first_bad, first_refused, lawful, negative}
 use Rattle.warg_audit.specs.Files.Texts.{side_text}
@@ -28,8 +28,8 @@ pub record IsPlainLog {Meaning Fault View Offence : Type 0} (log : LogDisplay Me
   pub ids : (content : List ℕ) → is_plain (hash_text (log.kind.id content).hash) ≡ true
   pub heads : (es : List EnvelopeData) → is_plain (head_text (log.kind.head (log.kind.view_of es))) ≡ true
   pub shown : (es : List EnvelopeData) → IsPrintedText (log.shown (log.kind.view_of es))
-  pub claims : (strings : List (List ℕ)) (claims : List ClaimData) → AreClaims log.kind (envelope_of log.read) strings claims
-      → AllByRecursion AreBytes strings → AllByRecursion (λ (c : ClaimData). AreBytes c.message) claims
+  pub claims : (inputs : List (List ℕ)) (claims : List ClaimData) → AreClaims log.kind (envelope_of log.read) inputs claims
+      → AllByRecursion AreBytes inputs → AllByRecursion (λ (c : ClaimData). AreBytes c.message) claims
 
 -- ---- lines of any kind
 
@@ -44,7 +44,7 @@ refused_one index name h =
     (plain_append start (codes " ") (plain_append (codes "refused ") (decimal index) refl (decimal_plain index)) refl) h)
 
 -- a side's name in front of a line
-pub side_one : (name : List ℕ) (it : Printout) → is_plain name ≡ true → IsOneLine it.text → IsOneLine (side_text name it).text
+pub side_one : (name : List ℕ) (it : OutputData) → is_plain name ≡ true → IsOneLine it.text → IsOneLine (side_text name it).text
 side_one name it h one = plain_front (name ++ codes ": ") it.text (plain_append name (codes ": ") h refl) one
 
 pub start_one : (count : ℕ) (head : Option RecordId) → is_plain (head_text head) ≡ true → IsOneLine (accepted_start count head)
@@ -80,8 +80,8 @@ module _ {Meaning Fault View Offence : Type 0} (log : LogDisplay Meaning Fault V
   cause_plain (Unlawful offence) = plain.offences offence
 
   -- a refused record
-  pub refusal_one : (index : ℕ) (cause : Cause (EnvelopeFault Fault) Offence) → IsOneLine (refusal log index cause).text
-  refusal_one index cause = refused_one index (cause_name log.fault_name log.offence_name cause) (cause_plain cause)
+  pub run_error_one : (index : ℕ) (cause : Cause (EnvelopeFault Fault) Offence) → IsOneLine (run_error log index cause).text
+  run_error_one index cause = refused_one index (cause_name log.fault_name log.offence_name cause) (cause_plain cause)
 
   -- an accepted log
   pub verdict_clean : (count : ℕ) (es : List EnvelopeData) → IsPrintedText (log_shown log count (log.kind.view_of es)).text
@@ -91,21 +91,21 @@ module _ {Meaning Fault View Offence : Type 0} (log : LogDisplay Meaning Fault V
       (line_text (accepted_start count (log.kind.head view)) (start_one count (log.kind.head view) (plain.heads es))) (plain.shown es)
 
   module _ (belongs : SignatureRelation) where
-    refused_by : (seen : List EnvelopeData → View) (strings : List (List ℕ)) (printed : Printout)
-        → IsRefused log belongs seen strings printed → IsOneLine printed.text
-    refused_by seen strings printed h = line_same printed (refusal log h.index h.cause) h.is (refusal_one h.index h.cause)
+    refused_by : (seen : List EnvelopeData → View) (inputs : List (List ℕ)) (printed : OutputData)
+        → IsRefused log belongs seen inputs printed → IsOneLine printed.text
+    refused_by seen inputs printed h = line_same printed (run_error log h.index h.cause) h.is (run_error_one h.index h.cause)
 
     -- lines that are no lawful log
-    pub negative_one : (lines : List (List ℕ)) (printed : Printout) → IsNegative log belongs lines printed → IsOneLine printed.text
+    pub negative_one : (lines : List (List ℕ)) (printed : OutputData) → IsNegative log belongs lines printed → IsOneLine printed.text
     negative_one lines printed (first_bad index at is) = line_same printed (bad_line index) is (bad_one index)
-    negative_one lines printed (first_refused strings spell refused) = refused_by log.kind.view_of strings printed refused
+    negative_one lines printed (first_refused inputs spell refused) = refused_by log.kind.view_of inputs printed refused
 
-    pub negative_clean : (lines : List (List ℕ)) (printed : Printout) → IsNegative log belongs lines printed → IsClean printed
+    pub negative_clean : (lines : List (List ℕ)) (printed : OutputData) → IsNegative log belongs lines printed → IsClean printed
     negative_clean lines printed h = line_text printed.text (negative_one lines printed h)
 
     -- what is printed of a lawful log, or of lines that are none
-    pub lawful_clean : (P : List (List ℕ) → Printout → Type 0)
-        → ((strings : List (List ℕ)) (printed : Printout) → P strings printed → IsClean printed)
-        → (lines : List (List ℕ)) (printed : Printout) → IsPrintedOf log belongs P lines printed → IsClean printed
+    pub lawful_clean : (P : List (List ℕ) → OutputData → Type 0)
+        → ((inputs : List (List ℕ)) (printed : OutputData) → P inputs printed → IsClean printed)
+        → (lines : List (List ℕ)) (printed : OutputData) → IsPrintedOf log belongs P lines printed → IsClean printed
     lawful_clean P each lines printed (negative h) = negative_clean lines printed h
-    lawful_clean P each lines printed (lawful strings is_lawful h) = each strings printed h
+    lawful_clean P each lines printed (lawful inputs is_lawful h) = each inputs printed h

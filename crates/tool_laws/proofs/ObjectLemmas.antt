@@ -1,7 +1,7 @@
 -- Answers in JSON: objects, each a line with no hidden character.
 use Rattle.std.proofs.Common.{◌≡◌, ℕ, ◌<◌, List, [], ◌∷◌, codes, length, refl, arith}
 use Rattle.std.specs.Str.Lines.{lines}
-use Rattle.warg_audit.specs.Printouts.{Printout}
+use Rattle.warg_audit.specs.Printouts.{OutputData}
 use Rattle.tool_layout.specs.Members.Forms.{line_members, text_member}
 use Rattle.tool_layout.specs.Members.Objects.{forms_of, line_object, message_object, object_json, object_text}
 use Rattle.tool_changes.specs.Audits.{first_of}
@@ -24,7 +24,7 @@ objects_clean command status (line ∷ more) =
     both_lines (line_object (line_forms command) command status line) (line_objects command status more)
     (object_clean command (line_members (forms_of (line_forms command) command) line) status) (objects_clean command status more)
 
-text_clean : (command : List ℕ) (printed : Printout) (said told text : List ℕ) → printed.text ≡ said → IsJsonText command printed told text
+text_clean : (command : List ℕ) (printed : OutputData) (said told text : List ℕ) → printed.text ≡ said → IsJsonText command printed told text
     → IsPrintedText text
 text_clean command printed [] told text none h =
     same_lines text (message_object command printed.status (first_of (lines told))) (h.of_none none)
@@ -35,5 +35,5 @@ text_clean command printed (b ∷ more) told text some h =
     (objects_clean command printed.status (lines printed.text))
 
 -- an answer in JSON, whatever the answer is
-pub json_clean : (command : List ℕ) (printed : Printout) (told : List ℕ) (json : Printout) → IsInJson command printed told json → IsClean json
+pub json_clean : (command : List ℕ) (printed : OutputData) (told : List ℕ) (json : OutputData) → IsInJson command printed told json → IsClean json
 json_clean command printed told json h = text_clean command printed printed.text told json.text refl h.text

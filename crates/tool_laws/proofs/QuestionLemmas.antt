@@ -8,8 +8,8 @@ use Rattle.warg_protocol.specs.Records.{RecordId, hash_text}
 use Rattle.warg_replay.specs.declared.audited_log.comparison.Comparison.{Comparison}
 use Rattle.warg_replay.specs.declared.audited_log.comparison.Comparison.TheVariants.{Collision, Fork, LeftIsPrefix, RightIsPrefix, Same}
 use Rattle.warg_replay.specs.declared.audited_log.link.Link.{Link}
-use Rattle.warg_audit.specs.LogAnswers.{head_text, refusal}
-use Rattle.warg_audit.specs.Printouts.{Printout, bad_line}
+use Rattle.warg_audit.specs.LogAnswers.{head_text, run_error}
+use Rattle.warg_audit.specs.Printouts.{OutputData, bad_line}
 use Rattle.tool_answers.specs.ShownWords.{RecordWords}
 use Rattle.tool_answers.specs.Texts.{AreLinkLines, IsChainPrinted, IsComparisonPrinted, IsForkText, IsLinkLine, IsNamedLine, fork_line, json_text, permissions_text, receiver}
 use Rattle.tool_answers.specs.Verdicts.{IsPrintedOf, envelopes_of}
@@ -25,8 +25,8 @@ use Rattle.tool_questions.specs.QuestionAnswers.{Askable, IsQuestionAnswer}
 use Rattle.tool_questions.specs.Questions.{IsChainText, IsCompared, IsComparedWith, IsComparisonText, IsPermissionsText, IsStateText, both, by_new, of_new, of_old}
 use Rattle.tool_questions.specs.Resumption.{IsGoneOn, IsResumed, first_bad, first_refused, gone_on, no_state, resumed}
 use Rattle.tool_questions.specs.StateFaults.{bad_state, case_name, state_fault_name, value_name}
-use Rattle.tool_words.specs.declared.request.Question.{Question}
-use Rattle.tool_words.specs.declared.request.Question.TheVariants as question
+use Rattle.tool_words.specs.declared.request.LogQuery.{LogQuery}
+use Rattle.tool_words.specs.declared.request.LogQuery.TheVariants as question
 use Rattle.tool_laws.specs.Plain.Plain.{is_plain}
 use Rattle.tool_laws.proofs.PlainLemmas.PlainLemmas.{plain_append, plain_shown}
 use Rattle.tool_laws.proofs.PlainLemmas.WordLemmas.{decimal_plain}
@@ -37,7 +37,7 @@ use Rattle.warg_printable.proofs.JsonLemmas.{json_shown}
 use Rattle.warg_printable.proofs.LineLemmas.{both_lines, no_lines, one_line, one_shown, same_lines}
 use Rattle.tool_laws.proofs.FileLemmas.{file_clean, lines_clean, silent_clean}
 use Rattle.tool_laws.proofs.LineLemmas.{IsClean, IsOneLine, all_mapped, clean_line, clean_same, line_text, plain_front, plain_line, shown_lines, word_front}
-use Rattle.tool_laws.proofs.LogLemmas.{IsPlainLog, bad_one, collision_one, fork_one, lawful_clean, negative_one, refusal_one, side_one}
+use Rattle.tool_laws.proofs.LogLemmas.{IsPlainLog, bad_one, collision_one, fork_one, lawful_clean, negative_one, run_error_one, side_one}
 
 -- ---- states
 
@@ -97,7 +97,7 @@ module _ (Says : List ℕ → RecordWords → Type 0) where
         (first.envelope.key_id ++ (codes " to " ++ receiver es key more))))))))))
         (links_clean key more are.1 are.4))
 
-    chain_clean : (key : List ℕ) (chain : Option (List Link)) (printed : Printout) → IsChainPrinted Says es key chain printed → IsClean printed
+    chain_clean : (key : List ℕ) (chain : Option (List Link)) (printed : OutputData) → IsChainPrinted Says es key chain printed → IsClean printed
     chain_clean key None printed is = clean_line printed _ is (plain_line (codes "none") refl)
     chain_clean key (Some links) printed h = clean_same printed (yes h.0) h.2 (links_clean key links h.0 h.1)
 
@@ -120,7 +120,7 @@ module _ (Says : List ℕ → RecordWords → Type 0) where
         plain_front word (decimal (length old) ++ (codes " " ++ last)) h
         (word_front (decimal (length old)) last (decimal_plain (length old)) (plain_line (decimal (length new)) (decimal_plain (length new))))
 
-    comparison_clean : (comparison : Comparison) (printed : Printout) → IsComparisonPrinted Says id head old new comparison printed → IsClean printed
+    comparison_clean : (comparison : Comparison) (printed : OutputData) → IsComparisonPrinted Says id head old new comparison printed → IsClean printed
     comparison_clean Same printed is =
         clean_line printed _ is
         (plain_front (codes "same ") (decimal (length old) ++ (codes " " ++ (head_text head ++ codes "\n"))) refl
@@ -132,58 +132,58 @@ module _ (Says : List ℕ → RecordWords → Type 0) where
 
 -- ---- questions
 
-by_word_clean : {A : Type 0} (Says : A → Type 0) (P : A → Printout → Type 0) → ((it : A) (printed : Printout) → P it printed → IsClean printed)
-    → (printed : Printout) → IsByWord Says P printed → IsClean printed
+by_word_clean : {A : Type 0} (Says : A → Type 0) (P : A → OutputData → Type 0) → ((it : A) (printed : OutputData) → P it printed → IsClean printed)
+    → (printed : OutputData) → IsByWord Says P printed → IsClean printed
 by_word_clean Says P each printed (unsaid h) = silent_clean 2 printed h.unusable
 by_word_clean Says P each printed (by_value it says h) = each it printed h
 
 module _ {Meaning Fault View Offence S P : Type 0} (kind : Askable Meaning Fault View Offence S P) (Says : List ℕ → RecordWords → Type 0)
     (plain : IsPlainLog kind.shown) (texts : (p : P) → is_plain (kind.text_of p) ≡ true) (belongs : SignatureRelation) where
-  state_clean : (strings : List (List ℕ)) (printed : Printout) → IsStateText kind.shown kind.view kind.json strings printed → IsClean printed
-  state_clean strings printed h = clean_same printed (json_text (kind.json h.state)) h.is (state_text_clean (kind.json h.state))
+  state_clean : (inputs : List (List ℕ)) (printed : OutputData) → IsStateText kind.shown kind.view kind.json inputs printed → IsClean printed
+  state_clean inputs printed h = clean_same printed (json_text (kind.json h.state)) h.is (state_text_clean (kind.json h.state))
 
-  gone_clean : (state : S) (lines : List (List ℕ)) (printed : Printout) → IsGoneOn kind.shown belongs kind.view kind.json state lines printed
+  gone_clean : (state : S) (lines : List (List ℕ)) (printed : OutputData) → IsGoneOn kind.shown belongs kind.view kind.json state lines printed
       → IsClean printed
   gone_clean state lines printed (first_bad index at is) = clean_line printed (bad_line index) is (bad_one index)
-  gone_clean state lines printed (first_refused strings spell index cause first is) =
-      clean_line printed (refusal kind.shown index cause) is (refusal_one kind.shown plain index cause)
-  gone_clean state lines printed (resumed strings spell lawful next stands is) =
+  gone_clean state lines printed (first_refused inputs spell index cause first is) =
+      clean_line printed (run_error kind.shown index cause) is (run_error_one kind.shown plain index cause)
+  gone_clean state lines printed (resumed inputs spell lawful next stands is) =
       clean_same printed (json_text (kind.json next)) is (state_text_clean (kind.json next))
 
-  resumed_clean : (saved : List ℕ) (lines : List (List ℕ)) (printed : Printout)
+  resumed_clean : (saved : List ℕ) (lines : List (List ℕ)) (printed : OutputData)
       → IsResumed kind.shown belongs kind.view kind.json kind.reads saved lines printed → IsClean printed
   resumed_clean saved lines printed (no_state fault is_fault is) = clean_same printed (bad_state fault) is (bad_state_clean fault)
   resumed_clean saved lines printed (gone_on state reads h) = gone_clean state lines printed h
 
-  permissions_clean : (word : List ℕ) (strings : List (List ℕ)) (printed : Printout)
-      → IsPermissionsText kind.shown kind.view kind.has_key kind.knows kind.held kind.order kind.text_of word strings printed → IsClean printed
-  permissions_clean word strings printed h =
+  permissions_clean : (word : List ℕ) (inputs : List (List ℕ)) (printed : OutputData)
+      → IsPermissionsText kind.shown kind.view kind.has_key kind.knows kind.held kind.order kind.text_of word inputs printed → IsClean printed
+  permissions_clean word inputs printed h =
       clean_same printed _ h.told.is
       (told_clean kind.text_of texts (kind.knows h.state h.told.key) kind.order (kind.held (kind.view h.state) h.told.key))
 
-  chain_of_clean : (word : List ℕ) (it : P) (strings : List (List ℕ)) (printed : Printout)
-      → IsChainText kind.shown Says kind.view kind.has_key kind.effects word it strings printed → IsClean printed
-  chain_of_clean word it strings printed h =
-      chain_clean Says (envelopes_of kind.shown strings) h.key h.told.chain printed h.told.is
+  chain_of_clean : (word : List ℕ) (it : P) (inputs : List (List ℕ)) (printed : OutputData)
+      → IsChainText kind.shown Says kind.view kind.has_key kind.effects word it inputs printed → IsClean printed
+  chain_of_clean word it inputs printed h =
+      chain_clean Says (envelopes_of kind.shown inputs) h.key h.told.chain printed h.told.is
 
-  comparison_of_clean : (old new : List (List ℕ)) (printed : Printout) → IsComparisonText kind.shown Says old new printed → IsClean printed
+  comparison_of_clean : (old new : List (List ℕ)) (printed : OutputData) → IsComparisonText kind.shown Says old new printed → IsClean printed
   comparison_of_clean old new printed h =
       let before : List EnvelopeData = envelopes_of kind.shown old in
       comparison_clean Says kind.shown.kind.id plain.ids (kind.shown.kind.head (kind.shown.kind.view_of before)) (plain.heads before) before
       (envelopes_of kind.shown new) h.comparison printed h.is
 
-  with_clean : (before new : List (List ℕ)) (printed : Printout) → IsComparedWith kind.shown Says belongs before new printed → IsClean printed
+  with_clean : (before new : List (List ℕ)) (printed : OutputData) → IsComparedWith kind.shown Says belongs before new printed → IsClean printed
   with_clean before new printed (of_new it h is) =
       clean_line printed (side_text (codes "new") it) is (side_one (codes "new") it refl (negative_one kind.shown plain belongs new it h))
   with_clean before new printed (both after lawful h) = comparison_of_clean before after printed h
 
-  compared_clean : (old new : List (List ℕ)) (printed : Printout) → IsCompared kind.shown Says belongs old new printed → IsClean printed
+  compared_clean : (old new : List (List ℕ)) (printed : OutputData) → IsCompared kind.shown Says belongs old new printed → IsClean printed
   compared_clean old new printed (of_old it h is) =
       clean_line printed (side_text (codes "old") it) is (side_one (codes "old") it refl (negative_one kind.shown plain belongs old it h))
   compared_clean old new printed (by_new before lawful h) = with_clean before new printed h
 
   -- the answer to a question
-  pub question_clean : (files : Option Files) (it : Question) (printed : Printout) → IsQuestionAnswer kind Says belongs files it printed → IsClean printed
+  pub question_clean : (files : Option Files) (it : LogQuery) (printed : OutputData) → IsQuestionAnswer kind Says belongs files it printed → IsClean printed
   question_clean files (question.State log) printed h =
       lines_clean files log.now (IsPrintedOf kind.shown belongs (IsStateText kind.shown kind.view kind.json))
       (lawful_clean kind.shown plain belongs (IsStateText kind.shown kind.view kind.json) state_clean) printed h

@@ -15,17 +15,17 @@ use Rattle.tool_answers.specs.Explanations.{explains_operator, explains_package}
 use Rattle.tool_answers.specs.ShownWords.{says_operator_words, says_package_words, shows_namespaces, shows_releases}
 use Rattle.tool_answers.specs.Verdicts.{IsPrintedOf}
 use Rattle.warg_audit.specs.Answers.{IsIdAnswer}
-use Rattle.warg_audit.specs.LogTypes.{operator_log, package_log}
-use Rattle.warg_audit.specs.Printouts.{Printout}
+use Rattle.warg_audit.specs.LogKinds.{operator_log, package_log}
+use Rattle.warg_audit.specs.Printouts.{OutputData}
 use Rattle.warg_audit.specs.Files.Files.{Files}
 use Rattle.warg_audit.specs.Files.RecordLines.{texts}
-use Rattle.warg_audit.specs.declared.log_type.LogType.{LogType}
-use Rattle.warg_audit.specs.declared.log_type.LogType.TheVariants as log_type
+use Rattle.warg_audit.specs.declared.log_kind.LogKind.{LogKind}
+use Rattle.warg_audit.specs.declared.log_kind.LogKind.TheVariants as log_kind
 use Rattle.tool_questions.specs.Show.ShownLogs.{IsShown}
 use Rattle.tool_questions.proofs.ShowLemmas.LineLemmas.{namespaces_text, releases_text}
 use Rattle.tool_changes.specs.Latest.{IsLatestOf}
 use Rattle.weoldrin.specs.Requests.{IsAskedAnswer, IsLatestAnswer, IsRequestAnswer, IsShownAnswer}
-use Rattle.tool_words.specs.declared.request.Question.{Question}
+use Rattle.tool_words.specs.declared.request.LogQuery.{LogQuery}
 use Rattle.tool_words.specs.declared.request.Request.{Request}
 use Rattle.tool_words.specs.declared.request.Request.TheVariants as request
 use Rattle.tool_laws.specs.Plain.Plain.{is_plain}
@@ -50,9 +50,9 @@ operator_text_plain operator_permission.Commit = refl
 operator_text_plain operator_permission.DefineNamespace = refl
 operator_text_plain operator_permission.ImportNamespace = refl
 
-pub asked_clean : (kind : LogType) (belongs : SignatureRelation) (files : Option Files) (it : Question) (printed : Printout)
+pub asked_clean : (kind : LogKind) (belongs : SignatureRelation) (files : Option Files) (it : LogQuery) (printed : OutputData)
     → IsAskedAnswer kind belongs files it printed → IsClean printed
-asked_clean log_type.Package belongs files it printed h =
+asked_clean log_kind.Package belongs files it printed h =
     question_clean
     (record {
       shown = package_log;
@@ -67,7 +67,7 @@ asked_clean log_type.Package belongs files it printed h =
       effects = packages.effects;
     })
     says_package_words package_plain package_text_plain belongs files it printed h
-asked_clean log_type.Operator belongs files it printed h =
+asked_clean log_kind.Operator belongs files it printed h =
     question_clean
     (record {
       shown = operator_log;
@@ -83,16 +83,16 @@ asked_clean log_type.Operator belongs files it printed h =
     })
     says_operator_words operator_plain operator_text_plain belongs files it printed h
 
-pub shown_clean : (kind : LogType) (belongs : SignatureRelation) (files : Option Files) (path : List ℕ) (printed : Printout)
+pub shown_clean : (kind : LogKind) (belongs : SignatureRelation) (files : Option Files) (path : List ℕ) (printed : OutputData)
     → IsShownAnswer kind belongs files path printed → IsClean printed
-shown_clean log_type.Package belongs files path printed h =
+shown_clean log_kind.Package belongs files path printed h =
     lines_clean files path (IsShown package_log belongs says_package_words shows_releases explains_package)
     (show_clean package_log package_plain belongs says_package_words shows_releases explains_package releases_text) printed h
-shown_clean log_type.Operator belongs files path printed h =
+shown_clean log_kind.Operator belongs files path printed h =
     lines_clean files path (IsShown operator_log belongs says_operator_words shows_namespaces explains_operator)
     (show_clean operator_log operator_plain belongs says_operator_words shows_namespaces explains_operator namespaces_text) printed h
 
-pub latest_clean : (belongs : SignatureRelation) (files : Option Files) (requirement path : List ℕ) (printed : Printout)
+pub latest_clean : (belongs : SignatureRelation) (files : Option Files) (requirement path : List ℕ) (printed : OutputData)
     → IsLatestAnswer belongs files requirement path printed → IsClean printed
 latest_clean belongs files requirement path printed h =
     words_clean printed h (λ wanted said by_lines.
@@ -100,7 +100,7 @@ latest_clean belongs files requirement path printed h =
     (lawful_clean package_log package_plain belongs (IsLatestOf wanted) (latest_of_clean wanted)) printed by_lines)
 
 -- the answer to a request
-pub request_clean : (json : Bool) (belongs : SignatureRelation) (old new : Option Files) (it : Request) (printed : Printout)
+pub request_clean : (json : Bool) (belongs : SignatureRelation) (old new : Option Files) (it : Request) (printed : OutputData)
     → IsRequestAnswer json belongs old new it printed → IfMakes it printed.text → IsClean printed
 request_clean json belongs old new (request.Id kind path) printed h made = lines_clean old path.now (IsIdAnswer kind) (id_clean kind) printed h
 request_clean json belongs old new (request.Audit kind path demands shows_path) printed h made = one_clean json old kind belongs demands shows_path path.now printed h

@@ -3,19 +3,19 @@ use Rattle.std.proofs.Common.{ℕ, ◌+◌, List, [], ◌∷◌, ◌++◌, codes
 use Rattle.std.specs.Fmt.{decimal}
 use Rattle.warg_protocol.specs.Logs.{Cause, EnvelopeData, EnvelopeFault, SignatureRelation}
 use Rattle.warg_protocol.specs.Records.{RecordId}
-use Rattle.warg_audit.specs.LogAnswers.{LogDisplay, cause_name, refusal, view_of}
-use Rattle.warg_audit.specs.Printouts.{Printout, bad_line}
+use Rattle.warg_audit.specs.LogAnswers.{LogDisplay, cause_name, run_error, view_of}
+use Rattle.warg_audit.specs.Printouts.{OutputData, bad_line}
 use Rattle.tool_answers.specs.ShownWords.{RecordWords}
 use Rattle.tool_answers.specs.Verdicts.{envelopes_of}
 use Rattle.warg_audit.specs.Files.Texts.{line, no, yes}
 use Rattle.tool_questions.specs.Show.Advice.{advice_on}
-use Rattle.tool_questions.specs.Show.ShownLogs.{IsCutText, IsRefusalText, IsShown, IsShownOf, cause_words, entry_line, first_bad, lines_with_places, of_log, of_refused, of_strings, placed_line}
+use Rattle.tool_questions.specs.Show.ShownLogs.{IsCutText, IsRunErrorText, IsShown, IsShownOf, cause_words, entry_line, first_bad, lines_with_places, of_log, of_refused, of_inputs, placed_line}
 use Rattle.tool_questions.proofs.ShowLemmas.LineLemmas.{log_lines}
 use Rattle.warg_printable.specs.Lines.{IsPrintedText}
 use Rattle.warg_printable.specs.Printable.{printable}
 use Rattle.warg_printable.proofs.LineLemmas.{both_lines, no_lines, one_line, same_lines}
 use Rattle.tool_laws.proofs.LineLemmas.{IsClean, clean_line, clean_same, line_text}
-use Rattle.tool_laws.proofs.LogLemmas.{IsPlainLog, bad_one, refusal_one}
+use Rattle.tool_laws.proofs.LogLemmas.{IsPlainLog, bad_one, run_error_one}
 
 placed : (place : ℕ) (lines : List (List ℕ)) → IsPrintedText (lines_with_places place lines)
 placed place [] = no_lines
@@ -34,11 +34,11 @@ words_clean why entry advice =
     (both_lines (entry_line entry) last (entry_clean entry) (one_line (codes "try: " ++ advice)))
 
 module _ {Meaning Fault View Offence : Type 0} (log : LogDisplay Meaning Fault View Offence) (plain : IsPlainLog log) (belongs : SignatureRelation) where
-  refusal_text_clean : (Explains : Cause (EnvelopeFault Fault) Offence → List ℕ → Option ℕ → Type 0) (seen : List EnvelopeData → View) (strings : List (List ℕ)) (index : ℕ) (text : List ℕ)
-      → IsRefusalText log belongs Explains seen strings index text → IsPrintedText text
-  refusal_text_clean Explains seen strings index text h =
+  run_error_text_clean : (Explains : Cause (EnvelopeFault Fault) Offence → List ℕ → Option ℕ → Type 0) (seen : List EnvelopeData → View) (inputs : List (List ℕ)) (index : ℕ) (text : List ℕ)
+      → IsRunErrorText log belongs Explains seen inputs index text → IsPrintedText text
+  run_error_text_clean Explains seen inputs index text h =
       same_lines text _ h.is
-      (both_lines (refusal log index h.cause).text (cause_words h.why h.entry (advice_on (cause_name log.fault_name log.offence_name h.cause))) (line_text (refusal log index h.cause).text (refusal_one log plain index h.cause))
+      (both_lines (run_error log index h.cause).text (cause_words h.why h.entry (advice_on (cause_name log.fault_name log.offence_name h.cause))) (line_text (run_error log index h.cause).text (run_error_one log plain index h.cause))
       (words_clean h.why h.entry (advice_on (cause_name log.fault_name log.offence_name h.cause))))
 
   cut_clean : (id : List ℕ → RecordId) (Says : List ℕ → RecordWords → Type 0) (Refuses : List ℕ → Type 0) → ((text : List ℕ) → Refuses text → IsPrintedText text)
@@ -50,17 +50,17 @@ module _ {Meaning Fault View Offence : Type 0} (log : LogDisplay Meaning Fault V
   module _ (Says : List ℕ → RecordWords → Type 0) (Shows : List EnvelopeData → List ℕ → Type 0)
       (Explains : View → List ℕ → Cause (EnvelopeFault Fault) Offence → List ℕ → Option ℕ → Type 0)
       (shown : (records : List EnvelopeData) (text : List ℕ) → Shows records text → IsPrintedText text) where
-    of_clean : (strings : List (List ℕ)) (printed : Printout) → IsShownOf log belongs Says Shows Explains strings printed → IsClean printed
-    of_clean strings printed (of_log text lawful h is) =
+    of_clean : (inputs : List (List ℕ)) (printed : OutputData) → IsShownOf log belongs Says Shows Explains inputs printed → IsClean printed
+    of_clean inputs printed (of_log text lawful h is) =
         clean_same printed (yes text) is
-        (log_lines Says Shows shown log.kind.id (log.kind.head (view_of log strings)) (envelopes_of log strings) text h)
-    of_clean strings printed (of_refused index string text at h is) =
+        (log_lines Says Shows shown log.kind.id (log.kind.head (view_of log inputs)) (envelopes_of log inputs) text h)
+    of_clean inputs printed (of_refused index input text at h is) =
         clean_same printed (no text) is
-        (cut_clean log.kind.id Says (IsRefusalText log belongs (Explains (view_of log (take index strings)) string) log.kind.view_of strings index)
-        (refusal_text_clean (Explains (view_of log (take index strings)) string) log.kind.view_of strings index)
-        (envelopes_of log (take index strings)) text h)
+        (cut_clean log.kind.id Says (IsRunErrorText log belongs (Explains (view_of log (take index inputs)) input) log.kind.view_of inputs index)
+        (run_error_text_clean (Explains (view_of log (take index inputs)) input) log.kind.view_of inputs index)
+        (envelopes_of log (take index inputs)) text h)
 
     -- the answer to lines that are shown
-    pub show_clean : (lines : List (List ℕ)) (printed : Printout) → IsShown log belongs Says Shows Explains lines printed → IsClean printed
+    pub show_clean : (lines : List (List ℕ)) (printed : OutputData) → IsShown log belongs Says Shows Explains lines printed → IsClean printed
     show_clean lines printed (first_bad index at is) = clean_line printed (bad_line index) is (bad_one index)
-    show_clean lines printed (of_strings strings spell h) = of_clean strings printed h
+    show_clean lines printed (of_inputs inputs spell h) = of_clean inputs printed h

@@ -3,12 +3,12 @@
 ghost use Rattle.std.specs.Prelude.{ℕ, Bool, List, Option};
 ghost use Rattle.tool_answers.specs.Verdicts.{IsNegative};
 ghost use Rattle.warg_audit.specs.Answers.{IsIdAnswer};
-ghost use Rattle.warg_audit.specs.LogTypes.{operator_log, package_log};
-ghost use Rattle.warg_audit.specs.Printouts.{Printout};
+ghost use Rattle.warg_audit.specs.LogKinds.{operator_log, package_log};
+ghost use Rattle.warg_audit.specs.Printouts.{OutputData};
 ghost use Rattle.tool_checkpoints.specs.ProofTexts.{IsProofAnswer};
 ghost use Rattle.tool_checkpoints.specs.Proofs.{IsStatementVerdict};
 ghost use Rattle.warg_audit.specs.Files.Files.{Files};
-ghost use Rattle.warg_audit.specs.declared.log_type.LogType.{LogType};
+ghost use Rattle.warg_audit.specs.declared.log_kind.LogKind.{LogKind};
 ghost use Rattle.warg_printable.specs.Lines.{IsPrintedText};
 ghost use Rattle.tool_laws.specs.Premises.{IfMade, IfMakes};
 ghost use Rattle.warg_protocol.specs.Logs.{SignatureRelation};
@@ -17,87 +17,87 @@ ghost use Rattle.tool_changes.specs.ManyAudits.{IsManyAnswer, IsOneAnswer};
 ghost use Rattle.tool_changes.specs.Tasks.{IsDoneAnswer};
 ghost use Rattle.tool_words.specs.declared.request.Demands.{Demands};
 ghost use Rattle.tool_words.specs.declared.request.Invocation.{Invocation};
-ghost use Rattle.tool_words.specs.declared.request.Question.{Question};
+ghost use Rattle.tool_words.specs.declared.request.LogQuery.{LogQuery};
 ghost use Rattle.tool_words.specs.declared.statement.Statement.{Statement};
 ghost use Rattle.tool_words.specs.declared.statement.Wanted.{Wanted};
 ghost use Rattle.tool_words.specs.declared.task.Task.{Task};
 ghost use Rattle.weoldrin.specs.Requests.{IsAskedAnswer, IsInvocationAnswer, IsLatestAnswer, IsShownAnswer};
 
 /// What is said of lines that are no lawful log is lines without a hidden character.
-pub fn refusals_are_printed()
-    ensures package { (belongs : SignatureRelation) (lines : List (List ℕ)) (printed : Printout) →
+pub fn run_errors_are_printed()
+    ensures package { (belongs : SignatureRelation) (lines : List (List ℕ)) (printed : OutputData) →
         IsNegative package_log belongs lines printed → IsPrintedText printed.text }
-    ensures operator { (belongs : SignatureRelation) (lines : List (List ℕ)) (printed : Printout) →
+    ensures operator { (belongs : SignatureRelation) (lines : List (List ℕ)) (printed : OutputData) →
         IsNegative operator_log belongs lines printed → IsPrintedText printed.text }
 {}
 
 /// So is the id of a record.
 pub fn ids_are_printed()
-    ensures { (kind : LogType) (lines : List (List ℕ)) (printed : Printout) →
+    ensures { (kind : LogKind) (lines : List (List ℕ)) (printed : OutputData) →
         IsIdAnswer kind lines printed → IsPrintedText printed.text }
 {}
 
 /// So are verdicts on logs, with their releases, and behind paths.
 pub fn audits_are_printed()
-    ensures one { (json : Bool) (files : Option Files) (kind : LogType)
+    ensures one { (json : Bool) (files : Option Files) (kind : LogKind)
         (belongs : SignatureRelation) (demands : Demands) (shows_path : Bool) (path : List ℕ)
-        (printed : Printout) → IsOneAnswer json kind belongs files demands shows_path path printed →
+        (printed : OutputData) → IsOneAnswer json kind belongs files demands shows_path path printed →
         IsPrintedText printed.text }
-    ensures many { (json : Bool) (kind : LogType) (belongs : SignatureRelation)
-        (files : Option Files) (allows_empty : Bool) (words : List (List ℕ)) (printed : Printout) →
+    ensures many { (json : Bool) (kind : LogKind) (belongs : SignatureRelation)
+        (files : Option Files) (allows_empty : Bool) (words : List (List ℕ)) (printed : OutputData) →
         IsManyAnswer json kind belongs files allows_empty words printed →
         IsPrintedText printed.text }
 {}
 
 /// So is a log in words, and why a record is refused.
 pub fn shown_logs_are_printed()
-    ensures { (kind : LogType) (belongs : SignatureRelation) (files : Option Files)
-        (path : List ℕ) (printed : Printout) →
+    ensures { (kind : LogKind) (belongs : SignatureRelation) (files : Option Files)
+        (path : List ℕ) (printed : OutputData) →
         IsShownAnswer kind belongs files path printed → IsPrintedText printed.text }
 {}
 
 /// So is the release that meets a requirement best.
 pub fn releases_are_printed()
     ensures { (belongs : SignatureRelation) (files : Option Files) (requirement path : List ℕ)
-        (printed : Printout) →
+        (printed : OutputData) →
         IsLatestAnswer belongs files requirement path printed → IsPrintedText printed.text }
 {}
 
 /// So are the answers to questions: states, permissions, chains and comparisons.
 pub fn questions_are_printed()
-    ensures { (kind : LogType) (belongs : SignatureRelation) (files : Option Files)
-        (question : Question) (printed : Printout) →
+    ensures { (kind : LogKind) (belongs : SignatureRelation) (files : Option Files)
+        (question : LogQuery) (printed : OutputData) →
         IsAskedAnswer kind belongs files question printed → IsPrintedText printed.text }
 {}
 
 /// So are checkpoints and proofs.
 pub fn proofs_are_printed()
-    ensures { (files : Option Files) (words : Wanted) (path : List ℕ) (printed : Printout) →
+    ensures { (files : Option Files) (words : Wanted) (path : List ℕ) (printed : OutputData) →
         IsProofAnswer files words path printed → IsPrintedText printed.text }
 {}
 
 /// So is what is said of a statement.
 pub fn statements_are_printed()
-    ensures { (files : Option Files) (statement : Statement) (printed : Printout) →
+    ensures { (files : Option Files) (statement : Statement) (printed : OutputData) →
         IsStatementVerdict files statement printed → IsPrintedText printed.text }
 {}
 
 /// So are the answers to tasks: claims, records that are made, where their hex digits are those of bytes, and additions.
 pub fn tasks_are_printed()
-    ensures { (kind : LogType) (belongs : SignatureRelation) (old new : Option Files)
-        (task : Task) (printed : Printout) → IsDoneAnswer kind belongs old new task printed →
+    ensures { (kind : LogKind) (belongs : SignatureRelation) (old new : Option Files)
+        (task : Task) (printed : OutputData) → IsDoneAnswer kind belongs old new task printed →
         IfMade task printed.text → IsPrintedText printed.text }
 {}
 
 /// So is every answer in JSON.
 pub fn json_is_printed()
-    ensures { (command : List ℕ) (printed : Printout) (told : List ℕ) (json : Printout) →
+    ensures { (command : List ℕ) (printed : OutputData) (told : List ℕ) (json : OutputData) →
         IsInJson command printed told json → IsPrintedText json.text }
 {}
 
 /// So is what is answered to any invocation.
 pub fn answers_are_printed()
-    ensures { (old new : Option Files) (it : Invocation) (told : List ℕ) (printed : Printout) →
+    ensures { (old new : Option Files) (it : Invocation) (told : List ℕ) (printed : OutputData) →
         IsInvocationAnswer old new it told printed → IfMakes it.request printed.text →
         IsPrintedText printed.text }
 {}

@@ -3,16 +3,16 @@ use Rattle.std.proofs.Common.{◌≡◌, ◌∙◌, ◌++◌, ℕ, List, ap, app
 use Rattle.warg_protocol.specs.Logs.{EnvelopeData, Kind, SignatureRelation, IsComparison, contents}
 use Rattle.warg_replay.specs.declared.audited_log.comparison.Comparison.{Comparison}
 use Rattle.warg_audit.specs.LogAnswers.{LogDisplay}
-use Rattle.warg_audit.specs.Printouts.{Printout}
-use Rattle.warg_audit.proofs.FilesLemmas.AnswerLemmas.{IfStopped-to, Answers-to}
-use Rattle.warg_audit.specs.Files.Answers.{Answers, IfStopped}
+use Rattle.warg_audit.specs.Printouts.{OutputData}
+use Rattle.warg_audit.proofs.FilesLemmas.AnswerLemmas.{IfOutput-to, Answers-to}
+use Rattle.warg_audit.specs.Files.Answers.{Answers, IfOutput}
 use Rattle.tool_questions.specs.Questions.{IsCompared, of_old, by_new, IsComparedWith, of_new, both, IsComparisonOf}
 use Rattle.warg_audit.specs.Files.Texts.{side_text}
 use Rattle.tool_answers.specs.ShownWords.{RecordWords}
 use Rattle.tool_answers.specs.Texts.{IsComparisonPrinted}
 use Rattle.tool_answers.specs.Verdicts.{IsLawful, IsNegative, envelopes_of}
-use Rattle.warg_audit.specs.declared.files.answer.Answer.{Answer}
-use Rattle.warg_audit.specs.declared.files.stop.Stop.{Stop}
+use Rattle.warg_audit.specs.declared.files.command_output.CommandOutput.{CommandOutput}
+use Rattle.warg_audit.specs.declared.files.command_error.CommandError.{CommandError}
 
 -- a text of three parts, which were put together one by one
 pub three_parts : (first second third begun so_far whole added last : List ℕ) → begun ≡ first → so_far ≡ begun ++ added → added ≡ second
@@ -26,39 +26,39 @@ three_parts first second third begun so_far whole added last is_first more is_se
 
 module _ (Says : List ℕ → RecordWords → Type 0) {View Offence : Type 0} (kind : Kind View Offence) where
   -- of states that stand for the envelopes
-  pub told_of_kept : (here there : View) (old new : List EnvelopeData) (comparison : Comparison) (printed : Printout)
+  pub told_of_kept : (here there : View) (old new : List EnvelopeData) (comparison : Comparison) (printed : OutputData)
       → here ≡ kind.view_of old → there ≡ kind.view_of new
       → IsComparison (kind.head here) (kind.head there) (contents old) (contents new) comparison
       → IsComparisonPrinted Says kind.id (kind.head here) old new comparison printed → IsComparisonOf Says kind old new printed
   told_of_kept here there old new comparison printed e f h is =
       record { comparison = comparison; compares = rw (e, f) at h; is = rw e at is }
 
-  pub told_of_same : (old new here there : List EnvelopeData) (printed : Printout) → old ≡ here → new ≡ there
+  pub told_of_same : (old new here there : List EnvelopeData) (printed : OutputData) → old ≡ here → new ≡ there
       → IsComparisonOf Says kind old new printed → IsComparisonOf Says kind here there printed
   told_of_same old new here there printed e f h = rw (e, f) at h
 
 module _ {Meaning Fault View Offence : Type 0} (log : LogDisplay Meaning Fault View Offence) (Says : List ℕ → RecordWords → Type 0) (belongs : SignatureRelation) where
-  pub new_is_compared : (here new : List (List ℕ)) (end : Stop)
-      → IfStopped (λ printed. (it : Printout) × (IsNegative log belongs new it × (printed ≡ side_text (codes "new") it))) end
-      → IfStopped (IsComparedWith log Says belongs here new) end
+  pub new_is_compared : (here new : List (List ℕ)) (end : CommandError)
+      → IfOutput (λ printed. (it : OutputData) × (IsNegative log belongs new it × (printed ≡ side_text (codes "new") it))) end
+      → IfOutput (IsComparedWith log Says belongs here new) end
   new_is_compared here new end h =
-      IfStopped-to (λ printed. (it : Printout) × (IsNegative log belongs new it × (printed ≡ side_text (codes "new") it)))
+      IfOutput-to (λ printed. (it : OutputData) × (IsNegative log belongs new it × (printed ≡ side_text (codes "new") it)))
       (IsComparedWith log Says belongs here new) (λ printed told. of_new told.0 told.1.0 told.1.1) end h
 
-  pub both_are_compared : (here there new : List (List ℕ)) (old_es new_es : List EnvelopeData) (printed : Printout)
+  pub both_are_compared : (here there new : List (List ℕ)) (old_es new_es : List EnvelopeData) (printed : OutputData)
       → old_es ≡ envelopes_of log here → new_es ≡ envelopes_of log there → IsLawful log belongs new there
       → IsComparisonOf Says log.kind old_es new_es printed → IsComparedWith log Says belongs here new printed
   both_are_compared here there new old_es new_es printed e f lawful h =
       both there lawful (told_of_same Says log.kind old_es new_es (envelopes_of log here) (envelopes_of log there) printed e f h)
 
-  pub old_is_compared : (old new : List (List ℕ)) (end : Stop)
-      → IfStopped (λ printed. (it : Printout) × (IsNegative log belongs old it × (printed ≡ side_text (codes "old") it))) end
-      → IfStopped (IsCompared log Says belongs old new) end
+  pub old_is_compared : (old new : List (List ℕ)) (end : CommandError)
+      → IfOutput (λ printed. (it : OutputData) × (IsNegative log belongs old it × (printed ≡ side_text (codes "old") it))) end
+      → IfOutput (IsCompared log Says belongs old new) end
   old_is_compared old new end h =
-      IfStopped-to (λ printed. (it : Printout) × (IsNegative log belongs old it × (printed ≡ side_text (codes "old") it)))
+      IfOutput-to (λ printed. (it : OutputData) × (IsNegative log belongs old it × (printed ≡ side_text (codes "old") it)))
       (IsCompared log Says belongs old new) (λ printed told. of_old told.0 told.1.0 told.1.1) end h
 
-  pub is_compared : (old new here : List (List ℕ)) (result : Result Answer Stop) → IsLawful log belongs old here
+  pub is_compared : (old new here : List (List ℕ)) (result : Result CommandOutput CommandError) → IsLawful log belongs old here
       → Answers (IsComparedWith log Says belongs here new) result → Answers (IsCompared log Says belongs old new) result
   is_compared old new here result lawful h =
       Answers-to (IsComparedWith log Says belongs here new) (IsCompared log Says belongs old new)

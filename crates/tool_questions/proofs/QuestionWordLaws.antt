@@ -8,15 +8,15 @@ use Rattle.warg_replay.specs.Logs.{LogOf}
 use Rattle.warg_audit.specs.Files.Files.{Files}
 use Rattle.warg_audit.specs.Files.Texts.{no}
 use Rattle.warg_audit.specs.LogAnswers.{LogDisplay}
-use Rattle.warg_audit.specs.Printouts.{Printout}
+use Rattle.warg_audit.specs.Printouts.{OutputData}
 use Rattle.tool_answers.specs.Explanations.{Explains}
 use Rattle.tool_answers.specs.ShownWords.{RecordWords}
 use Rattle.tool_answers.specs.Tools.{ToolOf}
 use Rattle.tool_questions.specs.QuestionAnswers.{IsQuestionAnswer}
 use Rattle.tool_questions.specs.QuestionWords.{askable}
 use Rattle.tool_questions.specs.Show.ShowWords as word
-use Rattle.tool_questions.specs.Show.ShownLogs.{IsCutText, IsRefusalText, IsShown, IsShownOf}
-use Rattle.tool_words.specs.declared.request.Question.{Question}
+use Rattle.tool_questions.specs.Show.ShownLogs.{IsCutText, IsRunErrorText, IsShown, IsShownOf}
+use Rattle.tool_words.specs.declared.request.LogQuery.{LogQuery}
 
 module _ {S E View Offence C M F P : Type 0} {kind : Kind View Offence} {view : S → View}
     {offence_of : E → Option Offence} {read : List ℕ → Result M F} {meaning : C → M}
@@ -30,7 +30,7 @@ module _ {S E View Offence C M F P : Type 0} {kind : Kind View Offence} {view : 
     (shown : LogDisplay M F View Offence) (b : SignatureRelation) where
   -- `question_answer`
   pub answers_question : (held : View → List ℕ → P → Bool) (effects : Effects P) (files : Option Files)
-      (question : Question) (printed : Printout)
+      (question : LogQuery) (printed : OutputData)
       → IsQuestionAnswer (askable log tool held effects shown) says_words b files question printed
       ↔ IsQuestionAnswer (record {
         shown = shown;
@@ -47,37 +47,37 @@ module _ {S E View Offence C M F P : Type 0} {kind : Kind View Offence} {view : 
   answers_question held effects files question printed = (λ h. h, λ h. h)
 
   module _ (count_of : C → ℕ) (rules : EnclosedRules C View Offence) where
-    pub reason : (seen : List EnvelopeData → View) (strings : List (List ℕ)) (v : View) (string : List ℕ) (index : ℕ)
-        (text : List ℕ) → word.IsReason log reading tool count_of rules shown b seen strings v string index text
-        ↔ IsRefusalText shown b
-        (Explains sentence_of fault_of offence_of read meaning count_of has_first rules.offence v string)
-        seen strings index text
-    reason seen strings v string index text = (λ h. h, λ h. h)
+    pub reason : (seen : List EnvelopeData → View) (inputs : List (List ℕ)) (v : View) (input : List ℕ) (index : ℕ)
+        (text : List ℕ) → word.IsReason log reading tool count_of rules shown b seen inputs v input index text
+        ↔ IsRunErrorText shown b
+        (Explains sentence_of fault_of offence_of read meaning count_of has_first rules.offence v input)
+        seen inputs index text
+    reason seen inputs v input index text = (λ h. h, λ h. h)
 
-    pub cut : (seen : List EnvelopeData → View) (strings : List (List ℕ)) (es : List EnvelopeData) (string : List ℕ)
+    pub cut : (seen : List EnvelopeData → View) (inputs : List (List ℕ)) (es : List EnvelopeData) (input : List ℕ)
         (index : ℕ) (text : List ℕ)
-        → word.IsCut log reading tool count_of rules shown b seen strings es string index text
-        ↔ IsCutText kind.id says_words (IsRefusalText shown b
+        → word.IsCut log reading tool count_of rules shown b seen inputs es input index text
+        ↔ IsCutText kind.id says_words (IsRunErrorText shown b
         (Explains sentence_of fault_of offence_of read meaning count_of has_first rules.offence
-        (kind.view_of es) string) seen strings index) es text
-    cut seen strings es string index text = (λ h. h, λ h. h)
+        (kind.view_of es) input) seen inputs index) es text
+    cut seen inputs es input index text = (λ h. h, λ h. h)
 
-    pub cut_printed : (seen : List EnvelopeData → View) (strings : List (List ℕ)) (es : List EnvelopeData)
-        (string : List ℕ) (index : ℕ) (printed : Printout)
-        → word.IsCutPrinted log reading tool count_of rules shown b seen strings es string index printed
-        ↔ ((text : List ℕ) × IsCutText kind.id says_words (IsRefusalText shown b
+    pub cut_printed : (seen : List EnvelopeData → View) (inputs : List (List ℕ)) (es : List EnvelopeData)
+        (input : List ℕ) (index : ℕ) (printed : OutputData)
+        → word.IsCutPrinted log reading tool count_of rules shown b seen inputs es input index printed
+        ↔ ((text : List ℕ) × IsCutText kind.id says_words (IsRunErrorText shown b
         (Explains sentence_of fault_of offence_of read meaning count_of has_first rules.offence
-        (kind.view_of es) string) seen strings index) es text × (printed ≡ no text))
-    cut_printed seen strings es string index printed = (λ h. h, λ h. h)
+        (kind.view_of es) input) seen inputs index) es text × (printed ≡ no text))
+    cut_printed seen inputs es input index printed = (λ h. h, λ h. h)
 
-    pub shown_log : (strings : List (List ℕ)) (printed : Printout)
-        → word.IsShownLog log reading tool count_of rules shown b strings printed
+    pub shown_log : (inputs : List (List ℕ)) (printed : OutputData)
+        → word.IsShownLog log reading tool count_of rules shown b inputs printed
         ↔ IsShownOf shown b says_words shows
-        (Explains sentence_of fault_of offence_of read meaning count_of has_first rules.offence) strings printed
-    shown_log strings printed = (λ h. h, λ h. h)
+        (Explains sentence_of fault_of offence_of read meaning count_of has_first rules.offence) inputs printed
+    shown_log inputs printed = (λ h. h, λ h. h)
 
     -- `show_answer` and `show_of_file`
-    pub shown_lines : (lines : List (List ℕ)) (printed : Printout)
+    pub shown_lines : (lines : List (List ℕ)) (printed : OutputData)
         → word.AreShownLines log reading tool count_of rules shown b lines printed
         ↔ IsShown shown b says_words shows
         (Explains sentence_of fault_of offence_of read meaning count_of has_first rules.offence) lines printed

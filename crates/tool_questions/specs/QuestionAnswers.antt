@@ -3,7 +3,7 @@ use Rattle.std.specs.Prelude.{◌≡◌, ℕ, Bool, List, Option, Result}
 use Rattle.warg_protocol.specs.Json.{JsonError, JsonTextError}
 use Rattle.warg_protocol.specs.Logs.{Effects, SignatureRelation}
 use Rattle.warg_audit.specs.LogAnswers.{LogDisplay}
-use Rattle.warg_audit.specs.Printouts.{Printout}
+use Rattle.warg_audit.specs.Printouts.{OutputData}
 use Rattle.warg_audit.specs.Files.Files.{Files}
 use Rattle.tool_questions.specs.Questions.{IsStateText, IsPermissionsText, IsChainText, IsCompared}
 use Rattle.tool_questions.specs.Resumption.{IsResumed}
@@ -11,8 +11,8 @@ use Rattle.warg_audit.specs.Files.Unusable.{IsOfFile, IsOfLines}
 use Rattle.tool_answers.specs.ShownWords.{RecordWords}
 use Rattle.tool_answers.specs.Verdicts.{IsPrintedOf}
 use Rattle.tool_answers.specs.Words.{IsByWord}
-use Rattle.tool_words.specs.declared.request.Question.{Question}
-use Rattle.tool_words.specs.declared.request.Question.TheVariants as question
+use Rattle.tool_words.specs.declared.request.LogQuery.{LogQuery}
+use Rattle.tool_words.specs.declared.request.LogQuery.TheVariants as question
 
 -- a kind of log that questions are asked of: how it is shown, and what is said of its states and its keys
 pub record Askable (Meaning Fault View Offence S P : Type 0) : Type 0 where
@@ -31,7 +31,7 @@ pub record Askable (Meaning Fault View Offence S P : Type 0) : Type 0 where
 module _ {Meaning Fault View Offence S P : Type 0} (kind : Askable Meaning Fault View Offence S P) (Says : List ℕ → RecordWords → Type 0) (belongs : SignatureRelation)
     (files : Option Files) where
   -- what is answered to a question, by what files hold
-  abbrev pub IsQuestionAnswer : Question → Printout → Type 0
+  abbrev pub IsQuestionAnswer : LogQuery → OutputData → Type 0
   IsQuestionAnswer (question.State log) printed =
       IsOfLines files log.now (IsPrintedOf kind.shown belongs (IsStateText kind.shown kind.view kind.json)) printed
   IsQuestionAnswer (question.Resume state log) printed =

@@ -5,7 +5,7 @@ use Rattle.warg_crypto.specs.declared.json.error.Incoherence.{Incoherence}
 use Rattle.warg_crypto.specs.declared.json.error.Incoherence.TheVariants as case
 use Rattle.warg_crypto.specs.declared.json.error.JsonError.TheVariants as value
 use Rattle.warg_saved_states.specs.declared.error.JsonTextError.TheVariants as text
-use Rattle.warg_audit.specs.Printouts.{Printout}
+use Rattle.warg_audit.specs.Printouts.{OutputData}
 
 -- parts that do not fit together
 abbrev pub case_name : Incoherence → List ℕ
@@ -35,5 +35,5 @@ state_fault_name (text.Value fault) = value_name fault
 state_fault_name text.OutOfMemory = codes "OutOfMemory"
 
 -- what is printed of a file that holds no state
-abbrev pub bad_state : JsonTextError → Printout
+abbrev pub bad_state : JsonTextError → OutputData
 bad_state fault = record { text = codes "bad state " ++ state_fault_name fault ++ codes "\n"; status = 2 }

@@ -3,13 +3,13 @@
 ghost use Rattle.std.specs.Prelude.{◌≡◌, IfOk, List, ℕ, Bool, filter};
 ghost use Rattle.tool_answers.specs.IdWords.{begins_as_said};
 ghost use Rattle.tool_answers.specs.KeyIds.{AreIdsOf};
-ghost use Rattle.warg_audit.specs.Files.Answers.{answer_view};
+ghost use Rattle.warg_audit.specs.Files.Answers.{output_data};
 ghost use Rattle.tool_questions.specs.AskedKeys.{IsAsked};
 
 use std::alloc::{AllocError, Global};
 use tool_answers::id_word::{begins_as_said, is_id_word};
 use tool_answers::kind::ToolLog;
-use warg_audit::files::answer::Answer;
+use warg_audit::files::command_output::CommandOutput;
 use warg_printable::printed_line;
 use warg_protocol::signing::KeyID;
 
@@ -87,11 +87,11 @@ pub(crate) fn asked_key<L: ToolLog>(
 /// The answer, with why the log has no key of the word on standard error, where it has none.
 pub(crate) fn with_fault(
     alloc: Global,
-    answer: Answer,
+    answer: CommandOutput,
     word: &str,
     fault: Option<&str>,
-) -> Result<Answer, AllocError>
-    ensures { IfOk result (λ told. answer_view told ≡ answer_view answer) }
+) -> Result<CommandOutput, AllocError>
+    ensures { IfOk result (λ told. output_data told ≡ output_data answer) }
 {
     let Some(fault) = fault else {
         return Ok(answer);

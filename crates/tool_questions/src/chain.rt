@@ -3,8 +3,8 @@
 ghost use Rattle.std.specs.Prelude.{◌≡◌, ◌<◌, ◌++◌, All, List, ℕ, IfOk, IfErr, length, string_bytes};
 ghost use Rattle.std.specs.Option.{ForSome, option_copied, option_map};
 ghost use Rattle.std.specs.Vec.{vec_items};
-ghost use Rattle.warg_protocol.specs.Logs.{IsHonest, envelopes};
-ghost use Rattle.warg_audit.specs.Files.Answers.{answer_view, Answers, IfStopped};
+ghost use Rattle.warg_protocol.specs.Logs.{ContentsMatchBytes, envelopes};
+ghost use Rattle.warg_audit.specs.Files.Answers.{output_data, Answers, IfOutput};
 ghost use Rattle.tool_questions.specs.Questions.{AreWithin, IsAskedChain, IsChainText, IsChainTold};
 ghost use Rattle.warg_audit.specs.Files.RecordLines.{record_lines};
 ghost use Rattle.tool_answers.specs.Texts.{AreLinkLines, IsChainPrinted, IsLinkLine, link_text, receiver, signer_at};
@@ -14,11 +14,11 @@ ghost use Rattle.tool_answers.specs.Words.{IsUnsaid};
 
 use crate::asked::{asked_key, with_fault};
 use std::alloc::{AllocError, Global};
-use tool_answers::judged::{Lent, kept};
 use tool_answers::kind::{ToolLog, permission_of};
-use warg_audit::files::answer::Answer;
+use tool_answers::loading::{Lent, load_log};
+use warg_audit::files::command_error::{CommandError, unusable};
+use warg_audit::files::command_output::CommandOutput;
 use warg_audit::files::input::Input;
-use warg_audit::files::stop::{Stop, unusable};
 use warg_printable::printed_line;
 use warg_protocol::signing::{KeyID, Verifier};
 use warg_protocol::{AuditedLog, Link, ProtoEnvelope};
@@ -64,7 +64,7 @@ fn link_line<L: ToolLog>(
     to: &KeyID,
 ) -> Result<String, AllocError>
     requires within { link.record_index < length (envelopes records.now) }
-    requires honest { All (IsHonest L.Record.read L.Record.meaning) records.now }
+    requires honest { All (ContentsMatchBytes L.Record.read L.Record.meaning) records.now }
     ensures { IfOk result (λ text. IsLinkLine L.says_words (envelopes records.now) link to.now
         (string_bytes text)) }
 {
@@ -81,7 +81,7 @@ fn chain_lines<L: ToolLog>(
     key_id: &KeyID,
 ) -> Result<String, AllocError>
     requires within { AreWithin (length (envelopes records.now)) links.now }
-    requires honest { All (IsHonest L.Record.read L.Record.meaning) records.now }
+    requires honest { All (ContentsMatchBytes L.Record.read L.Record.meaning) records.now }
     ensures { IfOk result (λ text. AreLinkLines L.says_words (envelopes records.now) key_id.now
         links.now (string_bytes text)) }
 {
@@ -101,19 +101,19 @@ fn chain_of<L: ToolLog>(
     records: &[ProtoEnvelope<L::Record>],
     links: Option<Vec<Link>>,
     key_id: &KeyID,
-) -> Result<Answer, AllocError>
+) -> Result<CommandOutput, AllocError>
     requires within { ForSome (option_map vec_items links)
         (AreWithin (length (envelopes records.now))) }
-    requires honest { All (IsHonest L.Record.read L.Record.meaning) records.now }
+    requires honest { All (ContentsMatchBytes L.Record.read L.Record.meaning) records.now }
     ensures { IfOk result (λ answer. IsChainPrinted L.says_words (envelopes records.now) key_id.now
-        (option_map vec_items links) (answer_view answer)) }
+        (option_map vec_items links) (output_data answer)) }
 {
     match links {
         Some(links) => {
             let text = chain_lines::<L>(alloc, records, links.as_slice(), key_id)?;
-            Ok(Answer::new(alloc, text, 0))
+            Ok(CommandOutput::new(alloc, text, 0))
         }
-        None => Answer::fixed(alloc, "none\n", 1),
+        None => CommandOutput::fixed(alloc, "none\n", 1),
     }
 }
 
@@ -123,10 +123,13 @@ fn permission_sentence(alloc: Global, word: &str) -> Result<String, AllocError> 
     printed_line(alloc, said.as_str())
 }
 
-/// The permission that the word says; the end of a command where it says none.
-pub fn wanted_permission<L: ToolLog>(alloc: Global, word: &str) -> Result<L::Permission, Stop>
+/// The permission that the word says; the error of a command where it says none.
+pub fn wanted_permission<L: ToolLog>(
+    alloc: Global,
+    word: &str,
+) -> Result<L::Permission, CommandError>
     ensures ok { IfOk result (λ permission. L.text_of permission ≡ word.now) }
-    ensures stopped { IfErr result (IfStopped (IsUnsaid (λ permission.
+    ensures err { IfErr result (IfOutput (IsUnsaid (λ permission.
         L.text_of permission ≡ word.now))) }
 {
     match permission_of::<L>(alloc, word)? {
@@ -141,9 +144,9 @@ fn chain_in<L: ToolLog, V: Verifier + Drop>(
     log: &AuditedLog<L, V>,
     key_id: &KeyID,
     permission: L::Permission,
-) -> Result<Answer, AllocError>
+) -> Result<CommandOutput, AllocError>
     ensures { IfOk result (λ answer. IsChainTold L.says_words L.effects
-        (envelopes log.now.records) key_id.now permission (answer_view answer)) }
+        (envelopes log.now.records) key_id.now permission (output_data answer)) }
 {
     let links = log.permission_chain(key_id, permission)?;
     chain_of::<L>(alloc, log.records(), links, key_id)
@@ -155,10 +158,10 @@ fn asked_chain<L: ToolLog, V: Verifier + Drop>(
     log: &AuditedLog<L, V>,
     word: &str,
     permission: L::Permission,
-) -> Result<Answer, AllocError>
+) -> Result<CommandOutput, AllocError>
     ensures { IfOk result (λ answer.
         IsAskedChain L.says_words L.view L.has_key L.kind.view_of L.effects
-        (envelopes log.now.records) word.now permission (answer_view answer)) }
+        (envelopes log.now.records) word.now permission (output_data answer)) }
 {
     let asked = asked_key(alloc, log.state(), word)?;
     let answer = chain_in(alloc, log, &asked.key_id, permission)?;
@@ -172,13 +175,13 @@ pub fn chain_answer<L: ToolLog, V: Verifier>(
     word: &str,
     permission: L::Permission,
     input: Input<'_>,
-) -> Result<Answer, Stop>
+) -> Result<CommandOutput, CommandError>
     ensures { ForDisplay L.log L.Record.reading L.report (λ log.
         Answers (IsPrintedOf log (V.belongs verifier.now) (IsChainText log L.says_words L.view
         L.has_key L.effects word.now permission) (record_lines input.entry.bytes.items)) result) }
 {
-    match kept::<L, Lent<'_, V>>(alloc, Lent(verifier), input) {
+    match load_log::<L, Lent<'_, V>>(alloc, Lent(verifier), input) {
         Ok(log) => Ok(asked_chain(alloc, &log, word, permission)?),
-        Err(stop) => Err(stop),
+        Err(error) => Err(error),
     }
 }

@@ -3,8 +3,8 @@
 ghost use Rattle.std.specs.Prelude.{◌≡◌, ◌<◌, ◌++◌, All, List, ℕ, codes, length, string_bytes, IfOk};
 ghost use Rattle.std.specs.Fmt.{decimal};
 ghost use Rattle.std.specs.Option.{option_copied};
-ghost use Rattle.warg_protocol.specs.Logs.{IsHonest, contents, envelopes};
-ghost use Rattle.warg_audit.specs.Files.Answers.{answer_view, Answers};
+ghost use Rattle.warg_protocol.specs.Logs.{ContentsMatchBytes, contents, envelopes};
+ghost use Rattle.warg_audit.specs.Files.Answers.{output_data, Answers};
 ghost use Rattle.tool_questions.specs.Questions.{IsCompared, IsComparedWith, IsComparisonOf};
 ghost use Rattle.warg_audit.specs.Files.RecordLines.{record_lines};
 ghost use Rattle.tool_answers.specs.Texts.{IsComparisonPrinted, IsForkText, PartsWithin};
@@ -13,13 +13,13 @@ ghost use Rattle.warg_audit.specs.ReportWords.{ForDisplay};
 ghost use Rattle.tool_answers.specs.Verdicts.{envelopes_of};
 
 use std::alloc::{AllocError, Global};
-use tool_answers::judged::Lent;
 use tool_answers::kind::ToolLog;
+use tool_answers::loading::Lent;
 use tool_answers::parting::{collision_text, fork_text, record_of_side};
 use tool_answers::side::side;
-use warg_audit::files::answer::Answer;
+use warg_audit::files::command_error::CommandError;
+use warg_audit::files::command_output::CommandOutput;
 use warg_audit::files::input::Input;
-use warg_audit::files::stop::Stop;
 use warg_protocol::registry::RecordId;
 use warg_protocol::signing::Verifier;
 use warg_protocol::{AuditedLog, Comparison, ProtoEnvelope};
@@ -44,8 +44,8 @@ fn forked_text<L: ToolLog>(
 ) -> Result<String, AllocError>
     requires old_within { place < length (contents (envelopes old.now)) }
     requires new_within { place < length (contents (envelopes new.now)) }
-    requires old_honest { All (IsHonest L.Record.read L.Record.meaning) old.now }
-    requires new_honest { All (IsHonest L.Record.read L.Record.meaning) new.now }
+    requires old_honest { All (ContentsMatchBytes L.Record.read L.Record.meaning) old.now }
+    requires new_honest { All (ContentsMatchBytes L.Record.read L.Record.meaning) new.now }
     ensures { IfOk result (λ text. IsForkText L.says_words L.kind.id (envelopes old.now)
         (envelopes new.now) place (string_bytes text)) }
 {
@@ -64,36 +64,36 @@ fn comparison_answer<L: ToolLog>(
     head: Option<&RecordId>,
     old: &[ProtoEnvelope<L::Record>],
     new: &[ProtoEnvelope<L::Record>],
-) -> Result<Answer, AllocError>
+) -> Result<CommandOutput, AllocError>
     requires within { PartsWithin (contents (envelopes old.now))
         (contents (envelopes new.now)) comparison }
-    requires old_honest { All (IsHonest L.Record.read L.Record.meaning) old.now }
-    requires new_honest { All (IsHonest L.Record.read L.Record.meaning) new.now }
+    requires old_honest { All (ContentsMatchBytes L.Record.read L.Record.meaning) old.now }
+    requires new_honest { All (ContentsMatchBytes L.Record.read L.Record.meaning) new.now }
     ensures { IfOk result (λ answer. IsComparisonPrinted L.says_words L.kind.id
         (option_copied head.entry) (envelopes old.now) (envelopes new.now) comparison
-        (answer_view answer)) }
+        (output_data answer)) }
 {
     let (before, after) = (old.len(), new.len());
     match comparison {
         Comparison::Same => {
             let text = same_text(alloc, before, head)?;
-            Ok(Answer::new(alloc, text, 0))
+            Ok(CommandOutput::new(alloc, text, 0))
         }
         Comparison::LeftIsPrefix { .. } => {
             let text = format!(in alloc; "goes on {before} {after}\n")?;
-            Ok(Answer::new(alloc, text, 0))
+            Ok(CommandOutput::new(alloc, text, 0))
         }
         Comparison::RightIsPrefix { .. } => {
             let text = format!(in alloc; "rolled back {before} {after}\n")?;
-            Ok(Answer::new(alloc, text, 1))
+            Ok(CommandOutput::new(alloc, text, 1))
         }
         Comparison::Fork { at } => {
             let text = forked_text::<L>(alloc, at, old, new)?;
-            Ok(Answer::new(alloc, text, 1))
+            Ok(CommandOutput::new(alloc, text, 1))
         }
         Comparison::Collision { left, right } => {
             let text = collision_text::<L>(alloc, left, right, old)?;
-            Ok(Answer::new(alloc, text, 1))
+            Ok(CommandOutput::new(alloc, text, 1))
         }
     }
 }
@@ -103,7 +103,7 @@ fn compared<L: ToolLog, V: Verifier + Drop>(
     alloc: Global,
     old: &AuditedLog<L, V>,
     new: &AuditedLog<L, V>,
-) -> Result<Answer, Stop>
+) -> Result<CommandOutput, CommandError>
     ensures { Answers (IsComparisonOf L.says_words L.kind (envelopes old.now.records)
         (envelopes new.now.records)) result }
 {
@@ -118,14 +118,14 @@ fn compared_with<L: ToolLog, V: Verifier + Drop>(
     old: &AuditedLog<L, V>,
     verifier: V,
     new: Input<'_>,
-) -> Result<Answer, Stop>
+) -> Result<CommandOutput, CommandError>
     ensures { ForDisplay L.log L.Record.reading L.report (λ log. (here : List (List ℕ)) →
         envelopes old.now.records ≡ envelopes_of log here → Answers (IsComparedWith log L.says_words
         (V.belongs verifier) here (record_lines new.entry.bytes.items)) result) }
 {
     match side::<L, V>(alloc, verifier, "new", new) {
         Ok(new) => compared(alloc, old, &new),
-        Err(stop) => Err(stop),
+        Err(error) => Err(error),
     }
 }
 
@@ -135,13 +135,13 @@ pub fn compare_answer<L: ToolLog, V: Verifier>(
     verifier: &V,
     old: Input<'_>,
     new: Input<'_>,
-) -> Result<Answer, Stop>
+) -> Result<CommandOutput, CommandError>
     ensures { ForDisplay L.log L.Record.reading L.report (λ log.
         Answers (IsCompared log L.says_words (V.belongs verifier.now)
         (record_lines old.entry.bytes.items) (record_lines new.entry.bytes.items)) result) }
 {
     match side::<L, Lent<'_, V>>(alloc, Lent(verifier), "old", old) {
         Ok(old) => compared_with(alloc, &old, Lent(verifier), new),
-        Err(stop) => Err(stop),
+        Err(error) => Err(error),
     }
 }

@@ -1,7 +1,7 @@
 //! `permissions`: what a key holds.
 
 ghost use Rattle.std.specs.Prelude.{◌≡◌, ◌++◌, [], if◌then◌else◌, filter, map, string_bytes, IfOk, OnOk};
-ghost use Rattle.warg_audit.specs.Files.Answers.{answer_view, Answers};
+ghost use Rattle.warg_audit.specs.Files.Answers.{output_data, Answers};
 ghost use Rattle.tool_questions.specs.Questions.{ArePermissionsTold, IsPermissionsText};
 ghost use Rattle.warg_audit.specs.Files.RecordLines.{record_lines};
 ghost use Rattle.warg_audit.specs.Files.Texts.{all_lines, line};
@@ -11,11 +11,11 @@ ghost use Rattle.tool_answers.specs.Verdicts.{IsPrintedOf};
 
 use crate::asked::{asked_key, with_fault};
 use std::alloc::{AllocError, Global};
-use tool_answers::judged::judged;
 use tool_answers::kind::ToolLog;
-use warg_audit::files::answer::Answer;
+use tool_answers::loading::load_state;
+use warg_audit::files::command_error::CommandError;
+use warg_audit::files::command_output::CommandOutput;
 use warg_audit::files::input::Input;
-use warg_audit::files::stop::Stop;
 use warg_protocol::signing::{KeyID, Verifier};
 
 // Appends the permission's line, if the key holds it.
@@ -61,24 +61,28 @@ fn permissions_of<L: ToolLog>(
     alloc: Global,
     state: &L,
     key_id: &KeyID,
-) -> Result<Answer, AllocError>
-    ensures { IfOk result (λ answer. answer_view answer ≡
+) -> Result<CommandOutput, AllocError>
+    ensures { IfOk result (λ answer. output_data answer ≡
         permissions_text (L.knows state.now key_id.now)
         L.order L.text_of (L.holds (L.view state.now) key_id.now)) }
 {
     if !state.has_entry(key_id) {
-        return Answer::fixed(alloc, "unknown\n", 1);
+        return CommandOutput::fixed(alloc, "unknown\n", 1);
     }
     let permissions = L::permissions(alloc)?;
     let text = held_lines(alloc, state, key_id, permissions.as_slice())?;
-    Ok(Answer::new(alloc, text, 0))
+    Ok(CommandOutput::new(alloc, text, 0))
 }
 
 // The answer of a state to the word of a key.
-fn asked_permissions<L: ToolLog>(alloc: Global, state: &L, word: &str) -> Result<Answer, AllocError>
+fn asked_permissions<L: ToolLog>(
+    alloc: Global,
+    state: &L,
+    word: &str,
+) -> Result<CommandOutput, AllocError>
     ensures { IfOk result (λ answer. ArePermissionsTold (L.has_key state.now)
         (L.knows state.now) (L.holds (L.view state.now)) L.order L.text_of word.now
-        (answer_view answer)) }
+        (output_data answer)) }
 {
     let asked = asked_key(alloc, state, word)?;
     let answer = permissions_of(alloc, state, &asked.key_id)?;
@@ -91,13 +95,13 @@ pub fn permissions_answer<L: ToolLog, V: Verifier>(
     verifier: &V,
     word: &str,
     input: Input<'_>,
-) -> Result<Answer, Stop>
+) -> Result<CommandOutput, CommandError>
     ensures { ForDisplay L.log L.Record.reading L.report (λ log. Answers
         (IsPrintedOf log (V.belongs verifier.now) (IsPermissionsText log L.view L.has_key L.knows
         L.holds L.order L.text_of word.now) (record_lines input.entry.bytes.items)) result) }
 {
-    match judged::<L, V>(alloc, verifier, input) {
+    match load_state::<L, V>(alloc, verifier, input) {
         Ok((state, _)) => Ok(asked_permissions(alloc, &state, word)?),
-        Err(stop) => Err(stop),
+        Err(error) => Err(error),
     }
 }

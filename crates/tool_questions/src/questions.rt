@@ -19,10 +19,10 @@ use crate::resume::resume_answer;
 use crate::state::state_answer;
 use std::alloc::Global;
 use tool_answers::kind::ToolLog;
-use tool_words::Question;
-use warg_audit::files::answer::Answer;
+use tool_words::LogQuery;
+use warg_audit::files::command_error::CommandError;
+use warg_audit::files::command_output::CommandOutput;
 use warg_audit::files::input::{Input, Store, read_input};
-use warg_audit::files::stop::Stop;
 use warg_protocol::signing::Verifier;
 
 fn state_of_file<L: ToolLog, V: Verifier, S: Store>(
@@ -30,7 +30,7 @@ fn state_of_file<L: ToolLog, V: Verifier, S: Store>(
     verifier: &V,
     path: &str,
     store: &mut S,
-) -> Result<Answer, Stop>
+) -> Result<CommandOutput, CommandError>
     ensures answered { ForDisplay L.log L.Record.reading L.report (λ log.
         Answers (IsOfLines (S.files store.old) path.now
         (IsPrintedOf log (V.belongs verifier.now) (IsStateText log L.view L.json_of))) result) }
@@ -38,7 +38,7 @@ fn state_of_file<L: ToolLog, V: Verifier, S: Store>(
 {
     match read_input(alloc, store, path) {
         Ok(input) => state_answer::<L, V>(alloc, verifier, input),
-        Err(stop) => Err(stop),
+        Err(error) => Err(error),
     }
 }
 
@@ -48,7 +48,7 @@ fn permissions_of_file<L: ToolLog, V: Verifier, S: Store>(
     key_id: &str,
     path: &str,
     store: &mut S,
-) -> Result<Answer, Stop>
+) -> Result<CommandOutput, CommandError>
     ensures answered { ForDisplay L.log L.Record.reading L.report (λ log. Answers (IsOfLines
         (S.files store.old) path.now (IsPrintedOf log (V.belongs verifier.now) (IsPermissionsText
         log L.view L.has_key L.knows L.holds L.order L.text_of key_id.now))) result) }
@@ -56,7 +56,7 @@ fn permissions_of_file<L: ToolLog, V: Verifier, S: Store>(
 {
     match read_input(alloc, store, path) {
         Ok(input) => permissions_answer::<L, V>(alloc, verifier, key_id, input),
-        Err(stop) => Err(stop),
+        Err(error) => Err(error),
     }
 }
 
@@ -67,7 +67,7 @@ fn chain_of_file<L: ToolLog, V: Verifier, S: Store>(
     permission: L::Permission,
     path: &str,
     store: &mut S,
-) -> Result<Answer, Stop>
+) -> Result<CommandOutput, CommandError>
     ensures answered { ForDisplay L.log L.Record.reading L.report (λ log.
         Answers (IsOfLines (S.files store.old) path.now (IsPrintedOf log (V.belongs verifier.now)
         (IsChainText log L.says_words L.view L.has_key L.effects key_id.now permission))) result) }
@@ -75,7 +75,7 @@ fn chain_of_file<L: ToolLog, V: Verifier, S: Store>(
 {
     match read_input(alloc, store, path) {
         Ok(input) => chain_answer::<L, V>(alloc, verifier, key_id, permission, input),
-        Err(stop) => Err(stop),
+        Err(error) => Err(error),
     }
 }
 
@@ -87,7 +87,7 @@ fn chain_of_word<L: ToolLog, V: Verifier, S: Store>(
     word: &str,
     path: &str,
     store: &mut S,
-) -> Result<Answer, Stop>
+) -> Result<CommandOutput, CommandError>
     ensures answered { ForDisplay L.log L.Record.reading L.report (λ log.
         Answers (IsByWord (λ it. L.text_of it ≡ word.now) (λ it.
         IsOfLines (S.files store.old) path.now (IsPrintedOf log (V.belongs verifier.now)
@@ -98,7 +98,7 @@ fn chain_of_word<L: ToolLog, V: Verifier, S: Store>(
         Ok(permission) => {
             chain_of_file::<L, V, S>(alloc, verifier, key_id, permission, path, store)
         }
-        Err(stop) => Err(stop),
+        Err(error) => Err(error),
     }
 }
 
@@ -108,7 +108,7 @@ fn resumed_from_file<L: ToolLog, V: Verifier, S: Store>(
     saved: Input<'_>,
     path: &str,
     store: &mut S,
-) -> Result<Answer, Stop>
+) -> Result<CommandOutput, CommandError>
     ensures answered { ForDisplay L.log L.Record.reading L.report (λ log.
         Answers (IsOfLines (S.files store.old) path.now (IsResumed log
         (V.belongs verifier.now) L.view L.json_of L.state_of saved.entry.bytes.items)) result) }
@@ -116,7 +116,7 @@ fn resumed_from_file<L: ToolLog, V: Verifier, S: Store>(
 {
     match read_input(alloc, store, path) {
         Ok(input) => resume_answer::<L, V>(alloc, verifier, saved, input),
-        Err(stop) => Err(stop),
+        Err(error) => Err(error),
     }
 }
 
@@ -126,7 +126,7 @@ fn resumed_from_files<L: ToolLog, V: Verifier, S: Store>(
     state: &str,
     path: &str,
     store: &mut S,
-) -> Result<Answer, Stop>
+) -> Result<CommandOutput, CommandError>
     ensures answered { ForDisplay L.log L.Record.reading L.report (λ log. Answers
         (IsOfFile (S.files store.old) state.now (λ saved. IsOfLines (S.files store.old) path.now
         (IsResumed log (V.belongs verifier.now) L.view L.json_of L.state_of saved))) result) }
@@ -134,7 +134,7 @@ fn resumed_from_files<L: ToolLog, V: Verifier, S: Store>(
 {
     match read_input(alloc, store, state) {
         Ok(saved) => resumed_from_file::<L, V, S>(alloc, verifier, saved, path, store),
-        Err(stop) => Err(stop),
+        Err(error) => Err(error),
     }
 }
 
@@ -144,7 +144,7 @@ fn compared_with_file<L: ToolLog, V: Verifier, S: Store>(
     old: Input<'_>,
     path: &str,
     store: &mut S,
-) -> Result<Answer, Stop>
+) -> Result<CommandOutput, CommandError>
     ensures answered { ForDisplay L.log L.Record.reading L.report (λ log.
         Answers (IsOfLines (S.files store.old) path.now (IsCompared log L.says_words
         (V.belongs verifier.now) (record_lines old.entry.bytes.items))) result) }
@@ -152,7 +152,7 @@ fn compared_with_file<L: ToolLog, V: Verifier, S: Store>(
 {
     match read_input(alloc, store, path) {
         Ok(new) => compare_answer::<L, V>(alloc, verifier, old, new),
-        Err(stop) => Err(stop),
+        Err(error) => Err(error),
     }
 }
 
@@ -162,7 +162,7 @@ fn compared_files<L: ToolLog, V: Verifier, S: Store>(
     old: &str,
     new: &str,
     store: &mut S,
-) -> Result<Answer, Stop>
+) -> Result<CommandOutput, CommandError>
     ensures answered { ForDisplay L.log L.Record.reading L.report (λ log. Answers
         (IsOfLines (S.files store.old) old.now (λ before. IsOfLines (S.files store.old) new.now
         (IsCompared log L.says_words (V.belongs verifier.now) before))) result) }
@@ -170,7 +170,7 @@ fn compared_files<L: ToolLog, V: Verifier, S: Store>(
 {
     match read_input(alloc, store, old) {
         Ok(old) => compared_with_file::<L, V, S>(alloc, verifier, old, new, store),
-        Err(stop) => Err(stop),
+        Err(error) => Err(error),
     }
 }
 
@@ -178,28 +178,28 @@ fn compared_files<L: ToolLog, V: Verifier, S: Store>(
 pub fn question_answer<L: ToolLog, V: Verifier, S: Store>(
     alloc: Global,
     verifier: &V,
-    question: &Question<'_>,
+    question: &LogQuery<'_>,
     store: &mut S,
-) -> Result<Answer, Stop>
+) -> Result<CommandOutput, CommandError>
     ensures answered { ForDisplay L.log L.Record.reading L.report (λ log.
         Answers (IsQuestionAnswer (askable L.log L.tool L.holds L.effects log) L.says_words
         (V.belongs verifier.now) (S.files store.old) question.now) result) }
     ensures kept { S.files store.new ≡ S.files store.old }
 {
     match question {
-        Question::State { log } => state_of_file::<L, V, S>(alloc, verifier, log, store),
-        Question::Resume { state, log } => {
+        LogQuery::State { log } => state_of_file::<L, V, S>(alloc, verifier, log, store),
+        LogQuery::Resume { state, log } => {
             resumed_from_files::<L, V, S>(alloc, verifier, state, log, store)
         }
-        Question::Permissions { key_id, log } => {
+        LogQuery::Permissions { key_id, log } => {
             permissions_of_file::<L, V, S>(alloc, verifier, key_id, log, store)
         }
-        Question::Chain {
+        LogQuery::Chain {
             key_id,
             permission,
             log,
         } => chain_of_word::<L, V, S>(alloc, verifier, key_id, permission, log, store),
-        Question::Compare { old, new } => {
+        LogQuery::Compare { old, new } => {
             compared_files::<L, V, S>(alloc, verifier, old, new, store)
         }
     }

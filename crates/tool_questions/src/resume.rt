@@ -2,11 +2,11 @@
 
 ghost use Rattle.std.specs.Prelude.{◌≡◌, ℕ, List, map, Ok, IfOk, IfErr};
 ghost use Rattle.std.specs.Vec.{vec_items};
-ghost use Rattle.warg_audit.specs.Files.Lines.{strings_of};
+ghost use Rattle.warg_audit.specs.Files.Lines.{inputs_of};
 ghost use Rattle.warg_protocol.specs.Json.{JsonTextError as OfJsonTextError};
 ghost use Rattle.warg_saved_states.specs.JsonText.{ReturnsOfText};
 ghost use Rattle.warg_saved_states.specs.declared.error.JsonTextError.TheVariants as text;
-ghost use Rattle.warg_audit.specs.Files.Answers.{answer_view, Answers, IfStopped};
+ghost use Rattle.warg_audit.specs.Files.Answers.{output_data, Answers, IfOutput};
 ghost use Rattle.tool_questions.specs.Resumption.{IsGoneOn, IsResumed, read_state};
 ghost use Rattle.warg_audit.specs.Files.RecordLines.{record_lines};
 ghost use Rattle.tool_questions.specs.StateFaults.{bad_state, case_name, state_fault_name, value_name};
@@ -15,11 +15,11 @@ ghost use Rattle.warg_audit.specs.ReportWords.{ForDisplay};
 use crate::state::json_answer;
 use std::alloc::{AllocError, Global};
 use std::str;
-use tool_answers::judged::{file_strings, refused};
 use tool_answers::kind::ToolLog;
-use warg_audit::files::answer::{Answer, UNUSABLE};
+use tool_answers::loading::{file_inputs, refused};
+use warg_audit::files::command_error::CommandError;
+use warg_audit::files::command_output::{CommandOutput, UNUSABLE};
 use warg_audit::files::input::{Input, sentence};
-use warg_audit::files::stop::Stop;
 use warg_protocol::signing::Verifier;
 use warg_protocol::{Incoherence, JsonError, JsonTextError, run_from};
 
@@ -64,13 +64,13 @@ fn fault_name(fault: JsonTextError) -> &'static str
 }
 
 // The answer to a file that holds no state.
-fn bad_state(alloc: Global, path: &str, fault: JsonTextError) -> Result<Answer, AllocError>
-    ensures { IfOk result (λ answer. answer_view answer ≡ bad_state fault) }
+fn bad_state(alloc: Global, path: &str, fault: JsonTextError) -> Result<CommandOutput, AllocError>
+    ensures { IfOk result (λ answer. output_data answer ≡ bad_state fault) }
 {
     let name = fault_name(fault);
     let text = format!(in alloc; "bad state {name}\n")?;
     let sentence = sentence(alloc, path, "not a saved state of this kind of log")?;
-    Ok(Answer::new(alloc, text, UNUSABLE).with_sentence(sentence))
+    Ok(CommandOutput::new(alloc, text, UNUSABLE).with_sentence(sentence))
 }
 
 // The state of a file's bytes.
@@ -83,53 +83,53 @@ fn read_state<L: ToolLog>(alloc: Global, bytes: &[u8]) -> Result<L, JsonTextErro
     }
 }
 
-// The answer to a file that holds no state, as the end of a command.
-fn bad_state_stop(alloc: Global, path: &str, fault: JsonTextError) -> Stop
-    ensures { IfStopped (λ printed. printed ≡ bad_state fault) result }
+// The answer to a file that holds no state, as the error of a command.
+fn bad_state_error(alloc: Global, path: &str, fault: JsonTextError) -> CommandError
+    ensures { IfOutput (λ printed. printed ≡ bad_state fault) result }
 {
     match bad_state(alloc, path, fault) {
-        Ok(answer) => Stop::Answer(answer),
-        Err(_) => Stop::OutOfMemory,
+        Ok(answer) => CommandError::Output(answer),
+        Err(_) => CommandError::OutOfMemory,
     }
 }
 
-// Why a file holds no state, as the end of a command.
-fn state_stop(alloc: Global, path: &str, fault: JsonTextError) -> Stop
-    ensures told { IfStopped (λ printed. printed ≡ bad_state fault) result }
-    ensures memory { fault ≡ text.OutOfMemory → result ≡ Stop.OutOfMemory }
+// Why a file holds no state, as the error of a command.
+fn state_error(alloc: Global, path: &str, fault: JsonTextError) -> CommandError
+    ensures told { IfOutput (λ printed. printed ≡ bad_state fault) result }
+    ensures memory { fault ≡ text.OutOfMemory → result ≡ CommandError.OutOfMemory }
 {
     match fault {
-        JsonTextError::OutOfMemory => Stop::OutOfMemory,
-        _ => bad_state_stop(alloc, path, fault),
+        JsonTextError::OutOfMemory => CommandError::OutOfMemory,
+        _ => bad_state_error(alloc, path, fault),
     }
 }
 
 // The state of a file.
-fn saved_state<L: ToolLog>(alloc: Global, input: &Input<'_>) -> Result<L, Stop>
+fn saved_state<L: ToolLog>(alloc: Global, input: &Input<'_>) -> Result<L, CommandError>
     ensures ok { IfOk result (λ state. read_state L.state_of input.now.bytes.items ≡ Ok state) }
-    ensures stopped { IfErr result (IfStopped (λ printed. (fault : OfJsonTextError) ×
+    ensures err { IfErr result (IfOutput (λ printed. (fault : OfJsonTextError) ×
         ((read_state L.state_of input.now.bytes.items ≡ Err fault) ×
         (printed ≡ bad_state fault)))) }
 {
     match read_state::<L>(alloc, input.bytes.as_slice()) {
         Ok(state) => Ok(state),
-        Err(fault) => Err(state_stop(alloc, input.path, fault)),
+        Err(fault) => Err(state_error(alloc, input.path, fault)),
     }
 }
 
-// The state after the records that strings are.
-fn state_after_strings<L: ToolLog, V: Verifier>(
+// The state after the records that inputs are.
+fn state_after_inputs<L: ToolLog, V: Verifier>(
     alloc: Global,
     verifier: &V,
     state: L,
     path: &str,
-    strings: &[Vec<u8>],
-) -> Result<Answer, Stop>
+    inputs: &[Vec<u8>],
+) -> Result<CommandOutput, CommandError>
     ensures { ForDisplay L.log L.Record.reading L.report (λ log.
-        (lines : List (List ℕ)) → strings_of lines ≡ Ok (map vec_items strings.now) →
+        (lines : List (List ℕ)) → inputs_of lines ≡ Ok (map vec_items inputs.now) →
         Answers (IsGoneOn log (V.belongs verifier.now) L.view L.json_of state lines) result) }
 {
-    match run_from(alloc, state, verifier, strings) {
+    match run_from(alloc, state, verifier, inputs) {
         Ok(next) => json_answer(alloc, &next),
         Err(error) => Err(refused::<L>(alloc, path, &error)),
     }
@@ -141,15 +141,13 @@ fn state_after<L: ToolLog, V: Verifier>(
     verifier: &V,
     state: L,
     input: Input<'_>,
-) -> Result<Answer, Stop>
+) -> Result<CommandOutput, CommandError>
     ensures { ForDisplay L.log L.Record.reading L.report (λ log. Answers (IsGoneOn log (V.belongs
         verifier.now) L.view L.json_of state (record_lines input.entry.bytes.items)) result) }
 {
-    match file_strings(alloc, input.path, input.bytes) {
-        Ok(strings) => {
-            state_after_strings(alloc, verifier, state, input.path, strings.as_slice())
-        }
-        Err(stop) => Err(stop),
+    match file_inputs(alloc, input.path, input.bytes) {
+        Ok(inputs) => { state_after_inputs(alloc, verifier, state, input.path, inputs.as_slice()) }
+        Err(error) => Err(error),
     }
 }
 
@@ -159,13 +157,13 @@ pub fn resume_answer<L: ToolLog, V: Verifier>(
     verifier: &V,
     saved: Input<'_>,
     input: Input<'_>,
-) -> Result<Answer, Stop>
+) -> Result<CommandOutput, CommandError>
     ensures { ForDisplay L.log L.Record.reading L.report (λ log. Answers
         (IsResumed log (V.belongs verifier.now) L.view L.json_of L.state_of saved.entry.bytes.items
         (record_lines input.entry.bytes.items)) result) }
 {
     match saved_state::<L>(alloc, &saved) {
         Ok(state) => state_after(alloc, verifier, state, input),
-        Err(stop) => Err(stop),
+        Err(error) => Err(error),
     }
 }

@@ -9,27 +9,30 @@ ghost use Rattle.tool_answers.specs.Verdicts.{IsPrintedOf};
 ghost use Rattle.std.specs.Prelude.{◌≡◌};
 
 use std::alloc::Global;
-use tool_answers::judged::judged;
 use tool_answers::kind::ToolLog;
-use warg_audit::files::answer::Answer;
+use tool_answers::loading::load_state;
+use warg_audit::files::command_error::CommandError;
+use warg_audit::files::command_output::CommandOutput;
 use warg_audit::files::input::Input;
-use warg_audit::files::stop::Stop;
 use warg_printable::json_printed;
 use warg_protocol::JsonError;
 use warg_protocol::signing::Verifier;
 
 /// The state's JSON on one line, with no hidden character in it. There is none where a time lies before the epoch.
-pub(crate) fn json_answer<L: ToolLog>(alloc: Global, state: &L) -> Result<Answer, Stop>
+pub(crate) fn json_answer<L: ToolLog>(
+    alloc: Global,
+    state: &L,
+) -> Result<CommandOutput, CommandError>
     ensures { Answers (λ printed. printed ≡ json_text (L.json_of state.now)) result }
 {
     match state.json_text(alloc) {
         Ok(text) => {
             let mut printed = json_printed(alloc, text.as_str())?;
             printed.push('\n')?;
-            Ok(Answer::new(alloc, printed, 0))
+            Ok(CommandOutput::new(alloc, printed, 0))
         }
-        Err(JsonError::OutOfMemory) => Err(Stop::OutOfMemory),
-        Err(_) => Ok(Answer::fixed(alloc, "no json TimeBeforeEpoch\n", 1)?),
+        Err(JsonError::OutOfMemory) => Err(CommandError::OutOfMemory),
+        Err(_) => Ok(CommandOutput::fixed(alloc, "no json TimeBeforeEpoch\n", 1)?),
     }
 }
 
@@ -38,13 +41,13 @@ pub fn state_answer<L: ToolLog, V: Verifier>(
     alloc: Global,
     verifier: &V,
     input: Input<'_>,
-) -> Result<Answer, Stop>
+) -> Result<CommandOutput, CommandError>
     ensures { ForDisplay L.log L.Record.reading L.report (λ log.
         Answers (IsPrintedOf log (V.belongs verifier.now)
         (IsStateText log L.view L.json_of) (record_lines input.entry.bytes.items)) result) }
 {
-    match judged::<L, V>(alloc, verifier, input) {
+    match load_state::<L, V>(alloc, verifier, input) {
         Ok((state, _)) => json_answer(alloc, &state),
-        Err(stop) => Err(stop),
+        Err(error) => Err(error),
     }
 }

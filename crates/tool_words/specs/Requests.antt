@@ -11,15 +11,15 @@ use Rattle.tool_words.specs.declared.command.Doing.TheVariants as doing
 use Rattle.tool_words.specs.declared.command.Proving.TheVariants as proving
 use Rattle.tool_words.specs.declared.command.Verifying.TheVariants as verifying
 use Rattle.tool_words.specs.declared.request.Demands.{Demands}
-use Rattle.tool_words.specs.declared.request.Question.{Question}
-use Rattle.tool_words.specs.declared.request.Question.TheVariants as question
+use Rattle.tool_words.specs.declared.request.LogQuery.{LogQuery}
+use Rattle.tool_words.specs.declared.request.LogQuery.TheVariants as question
 use Rattle.tool_words.specs.declared.request.Request.{Request}
 use Rattle.tool_words.specs.declared.request.Request.TheVariants as request
 use Rattle.tool_words.specs.declared.statement.Statement.{Statement}
 use Rattle.tool_words.specs.declared.statement.Statement.TheVariants as statement
 use Rattle.tool_words.specs.declared.statement.Wanted.{Wanted}
 use Rattle.tool_words.specs.declared.statement.Wanted.TheVariants as wanted
-use Rattle.tool_words.specs.declared.task.Draft.{Draft}
+use Rattle.tool_words.specs.declared.task.NewRecord.{NewRecord}
 use Rattle.tool_words.specs.declared.task.Signer.{Signer}
 use Rattle.tool_words.specs.declared.task.Signer.TheVariants as signer
 use Rattle.tool_words.specs.declared.task.Task.{Task}
@@ -46,7 +46,7 @@ pub record AreDemands (given : List (List ℕ × List ℕ)) (it : Demands) : Typ
   pub older : text_in it.older ≡ value (codes "--goes-on-from") given
 
 -- the record that is to be made
-pub record IsDraft (places : List (List ℕ)) (given : List (List ℕ × List ℕ)) (it : Draft) : Type 0 where
+pub record IsNewRecord (places : List (List ℕ)) (given : List (List ℕ × List ℕ)) (it : NewRecord) : Type 0 where
   pub signer : Some (signer_view it.signer) ≡ signer_in given
   pub clock : it.clock ≡ None
   pub time : it.time.now ≡ place 2 places
@@ -54,21 +54,21 @@ pub record IsDraft (places : List (List ℕ)) (given : List (List ℕ × List �
 
 module _ (called : Command) (places : List (List ℕ)) (given : List (List ℕ × List ℕ)) where
   -- the question on logs of one kind
-  abbrev pub IsQuestion : Question → Type 0
-  IsQuestion (question.State log) = (called ≡ command.Ask asking.State) × (log.now ≡ place 1 places)
-  IsQuestion (question.Resume state log) =
+  abbrev pub IsLogQuery : LogQuery → Type 0
+  IsLogQuery (question.State log) = (called ≡ command.Ask asking.State) × (log.now ≡ place 1 places)
+  IsLogQuery (question.Resume state log) =
       (called ≡ command.Ask asking.Resume) × (state.now ≡ place 1 places) × (log.now ≡ place 2 places)
-  IsQuestion (question.Permissions key_id log) =
+  IsLogQuery (question.Permissions key_id log) =
       (called ≡ command.Ask asking.Permissions) × (key_id.now ≡ place 1 places) × (log.now ≡ place 2 places)
-  IsQuestion (question.Chain key_id permission log) =
+  IsLogQuery (question.Chain key_id permission log) =
       (called ≡ command.Ask asking.Chain) × (key_id.now ≡ place 1 places) × (permission.now ≡ place 2 places) × (log.now ≡ place 3 places)
-  IsQuestion (question.Compare old new) =
+  IsLogQuery (question.Compare old new) =
       (called ≡ command.Ask asking.Compare) × (old.now ≡ place 1 places) × (new.now ≡ place 2 places)
 
   -- what is done with a log
   abbrev pub IsTask : Task → Type 0
   IsTask (task.Claims log) = (called ≡ command.Do doing.Claims) × (log.now ≡ place 1 places)
-  IsTask (task.Make log draft) = (called ≡ command.Do doing.Make) × (log.now ≡ place 1 places) × IsDraft places given draft
+  IsTask (task.Make log draft) = (called ≡ command.Do doing.Make) × (log.now ≡ place 1 places) × IsNewRecord places given draft
   IsTask (task.Append log lines) = (called ≡ command.Do doing.Append) × (log.now ≡ place 1 places) × (lines.now ≡ place 2 places)
 
   -- what is proved
@@ -107,5 +107,5 @@ module _ (called : Command) (places : List (List ℕ)) (given : List (List ℕ �
   IsRequest (request.Latest requirement log) = (called ≡ command.Latest) × (requirement.now ≡ place 0 places) × (log.now ≡ place 1 places)
   IsRequest (request.Prove wanted leaves) = IsWanted wanted leaves.now
   IsRequest (request.Verify statement) = IsStatement statement
-  IsRequest (request.Ask kind question) = (kind ≡ kind_of (place 0 places)) × IsQuestion question
+  IsRequest (request.Ask kind question) = (kind ≡ kind_of (place 0 places)) × IsLogQuery question
   IsRequest (request.Do kind task) = (kind ≡ kind_of (place 0 places)) × IsTask task

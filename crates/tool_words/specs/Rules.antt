@@ -4,8 +4,8 @@ use Rattle.std.specs.List.{starts_with}
 use Rattle.std.specs.Option.{is_some}
 use Rattle.std.specs.Str.{bytes_eq}
 use Rattle.warg_crypto.specs.Time.TimeText.{number_of}
-use Rattle.warg_audit.specs.declared.log_type.LogType.{LogType}
-use Rattle.warg_audit.specs.declared.log_type.LogType.TheVariants as log_type
+use Rattle.warg_audit.specs.declared.log_kind.LogKind.{LogKind}
+use Rattle.warg_audit.specs.declared.log_kind.LogKind.TheVariants as log_kind
 use Rattle.tool_words.specs.Commands.{Form, File, Files, forms, has_kind, has_more, Input, is_needed, Kind, Word, Words}
 use Rattle.tool_words.specs.Parts.{has, Parts, place, value}
 use Rattle.tool_words.specs.declared.command.Command.{Command}
@@ -21,8 +21,8 @@ abbrev pub is_kind : List ℕ → Bool
 is_kind word = bytes_eq word (codes "package") || bytes_eq word (codes "operator")
 
 -- the kind that a word says
-abbrev pub kind_of : List ℕ → LogType
-kind_of word = if bytes_eq word (codes "operator") then log_type.Operator else log_type.Package
+abbrev pub kind_of : List ℕ → LogKind
+kind_of word = if bytes_eq word (codes "operator") then log_kind.Operator else log_kind.Package
 
 -- whether a path is standard input
 abbrev pub is_stdin : List ℕ → Bool

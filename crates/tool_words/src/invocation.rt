@@ -4,7 +4,7 @@ ghost use Rattle.std.specs.Prelude.{◌≡◌, drop, false, IfOk, MatchOption, S
 ghost use Rattle.tool_words.specs.Commands.{command_of};
 ghost use Rattle.tool_words.specs.Invocations.{call_by, call_if_taken, invocation_of, IsCalled, named_by, word};
 ghost use Rattle.tool_words.specs.PartsViews.{parts_view};
-ghost use Rattle.tool_words.specs.Requests.{AreDemands, IsDraft, IsQuestion, IsRequest, IsStatement, IsTask, IsWanted, texts};
+ghost use Rattle.tool_words.specs.Requests.{AreDemands, IsNewRecord, IsLogQuery, IsRequest, IsStatement, IsTask, IsWanted, texts};
 ghost use Rattle.tool_words.specs.Parts.{place};
 ghost use Rattle.tool_words.specs.Rules.{is_taken, kind_of};
 ghost use Rattle.tool_words.specs.declared.command.Command.TheVariants as command;
@@ -12,12 +12,12 @@ ghost use Rattle.tool_words.specs.declared.command.Doing.TheVariants as doing;
 
 use crate::command::{Asking, Command, Doing, Proving, Verifying};
 use crate::parts::Parts;
-use crate::request::{Demands, Invocation, Question, Request};
+use crate::request::{Demands, Invocation, LogQuery, Request};
 use crate::rules::{kind_of, number_in};
 use crate::statement::{LeafIds, Statement, Wanted};
-use crate::task::{Draft, Task};
+use crate::task::{NewRecord, Task};
 use std::alloc::{AllocError, Global};
-use warg_audit::LogType;
+use warg_audit::LogKind;
 
 /// A word, empty where there is none.
 pub(crate) fn word<'a>(words: &[&'a str], i: usize) -> &'a str
@@ -63,26 +63,26 @@ impl<'a> Parts<'a> {
         }
     }
 
-    fn question(&self, asking: Asking) -> Question<'a>
-        ensures { IsQuestion (command.Ask asking) (parts_view self.now).places
+    fn question(&self, asking: Asking) -> LogQuery<'a>
+        ensures { IsLogQuery (command.Ask asking) (parts_view self.now).places
             (parts_view self.now).given result }
     {
         match asking {
-            Asking::State => Question::State { log: self.place(1) },
-            Asking::Resume => Question::Resume {
+            Asking::State => LogQuery::State { log: self.place(1) },
+            Asking::Resume => LogQuery::Resume {
                 state: self.place(1),
                 log: self.place(2),
             },
-            Asking::Permissions => Question::Permissions {
+            Asking::Permissions => LogQuery::Permissions {
                 key_id: self.place(1),
                 log: self.place(2),
             },
-            Asking::Chain => Question::Chain {
+            Asking::Chain => LogQuery::Chain {
                 key_id: self.place(1),
                 permission: self.place(2),
                 log: self.place(3),
             },
-            Asking::Compare => Question::Compare {
+            Asking::Compare => LogQuery::Compare {
                 old: self.place(1),
                 new: self.place(2),
             },
@@ -91,15 +91,15 @@ impl<'a> Parts<'a> {
 
     // The record that is to be made, if it is said who signs it.
     #[tactic(auto, using(crate::proofs::InvocationLemmas::unsigned))]
-    fn draft(&self, alloc: Global) -> Result<Option<Draft<'a>>, AllocError>
+    fn draft(&self, alloc: Global) -> Result<Option<NewRecord<'a>>, AllocError>
         ensures { IfOk result (λ it. MatchOption it
             (is_taken (command.Do doing.Make) (parts_view self.now).places (parts_view self.now).given ≡ false)
-            (IsDraft (parts_view self.now).places (parts_view self.now).given)) }
+            (IsNewRecord (parts_view self.now).places (parts_view self.now).given)) }
     {
         let Some(signer) = self.signer() else {
             return Ok(None);
         };
-        Ok(Some(Draft {
+        Ok(Some(NewRecord {
             signer,
             clock: None,
             time: self.place(2),
@@ -198,7 +198,7 @@ impl<'a> Parts<'a> {
         }
     }
 
-    fn audit(&self, alloc: Global, kind: LogType) -> Result<Request<'a>, AllocError>
+    fn audit(&self, alloc: Global, kind: LogKind) -> Result<Request<'a>, AllocError>
         requires { kind ≡ kind_of (place 0 (parts_view self.now).places) }
         ensures { IfOk result (IsRequest command.Audit (parts_view self.now).places
             (parts_view self.now).given) }

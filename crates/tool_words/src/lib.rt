@@ -16,7 +16,7 @@ mod version;
 mod words;
 
 pub use pleas::{asks_for_json, named_command};
-pub use request::{Demands, Invocation, Question, Request, Said};
+pub use request::{Demands, Invocation, LogQuery, Request, Said};
 pub use statement::{LeafIds, Statement, Wanted};
-pub use task::{Draft, Signer, Task};
+pub use task::{NewRecord, Signer, Task};
 pub use words::parse_words;

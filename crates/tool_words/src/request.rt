@@ -2,19 +2,19 @@
 
 ghost use Rattle.std.specs.Prelude.{◌≡◌, ℕ, List};
 ghost use Rattle.std.specs.Borrow.{Bor};
-ghost use Rattle.warg_audit.specs.declared.log_type.LogType.{LogType as OfLogType};
+ghost use Rattle.warg_audit.specs.declared.log_kind.LogKind.{LogKind as OfLogKind};
 ghost use Rattle.tool_words.specs.declared.request.Request.TheVariants as asked;
-ghost use Rattle.tool_words.specs.declared.task.Draft.{Draft as OfDraft};
+ghost use Rattle.tool_words.specs.declared.task.NewRecord.{NewRecord as OfNewRecord};
 ghost use Rattle.tool_words.specs.declared.task.Task.TheVariants as task;
 
 use crate::statement::{Statement, Wanted};
 use crate::task::Task;
-use warg_audit::LogType;
+use warg_audit::LogKind;
 use warg_crypto::time::Timestamp;
 
 /// What is asked of logs of one kind, with the paths of the files. `-` is standard input.
 #[derive(Clone, Copy, Debug, PartialEq, Eq)]
-pub enum Question<'a> {
+pub enum LogQuery<'a> {
     /// The state that the log adds up to, as JSON.
     State {
         /// The log.
@@ -71,14 +71,14 @@ pub enum Request<'a> {
     /// The id of one record.
     Id {
         /// The kind of its log.
-        kind: LogType,
+        kind: LogKind,
         /// The file with its line.
         log: &'a str,
     },
     /// The verdict on a log.
     Audit {
         /// Its kind.
-        kind: LogType,
+        kind: LogKind,
         /// The log.
         log: &'a str,
         /// What it has to be.
@@ -89,7 +89,7 @@ pub enum Request<'a> {
     /// The verdicts on many logs, a line each. A path that begins with `@` names a file of paths.
     Audits {
         /// Their kind.
-        kind: LogType,
+        kind: LogKind,
         /// Their paths.
         logs: Vec<&'a str>,
         /// Whether they may have no records.
@@ -98,7 +98,7 @@ pub enum Request<'a> {
     /// The log in words, and why a record is refused.
     Show {
         /// Its kind.
-        kind: LogType,
+        kind: LogKind,
         /// The log.
         log: &'a str,
     },
@@ -124,14 +124,14 @@ pub enum Request<'a> {
     /// What is asked of logs of one kind.
     Ask {
         /// The kind.
-        kind: LogType,
+        kind: LogKind,
         /// What is asked.
-        question: Question<'a>,
+        question: LogQuery<'a>,
     },
     /// What is done with a log.
     Do {
         /// The kind of the log.
-        kind: LogType,
+        kind: LogKind,
         /// What is done.
         task: Task<'a>,
     },
@@ -159,7 +159,7 @@ pub struct Invocation<'a> {
 impl Invocation<'_> {
     /// Notes what the clock tells, where the time of a record that is made may be that.
     pub fn tell_time(&mut self, clock: Option<Timestamp>)
-        ensures made { (kind : OfLogType) (log : Bor (List ℕ)) (draft : OfDraft) →
+        ensures made { (kind : OfLogKind) (log : Bor (List ℕ)) (draft : OfNewRecord) →
             self.old.request ≡ asked.Do kind (task.Make log draft) →
             self.new.request ≡ asked.Do kind (task.Make log (record {
               signer = draft.signer;
@@ -167,7 +167,7 @@ impl Invocation<'_> {
               time = draft.time;
               entries = draft.entries;
             })) }
-        ensures others { ((kind : OfLogType) (log : Bor (List ℕ)) (draft : OfDraft) →
+        ensures others { ((kind : OfLogKind) (log : Bor (List ℕ)) (draft : OfNewRecord) →
             self.old.request ≡ asked.Do kind (task.Make log draft) → ⊥) →
             self.new.request ≡ self.old.request }
         ensures command { self.new.command ≡ self.old.command }

@@ -11,7 +11,7 @@ use crate::command::{Asking, Command, Doing, Proving, Verifying};
 use crate::invocation::words_from;
 use crate::parts::Parts;
 use crate::task::Signer;
-use warg_audit::LogType;
+use warg_audit::LogKind;
 
 // Whether so many words fill the places of a command.
 fn fills(command: Command, count: usize) -> bool
@@ -27,13 +27,13 @@ fn is_kind(word: &str) -> bool
 }
 
 /// The kind of log that a word says.
-pub(crate) fn kind_of(word: &str) -> LogType
+pub(crate) fn kind_of(word: &str) -> LogKind
     ensures { result ≡ kind_of word.now }
 {
     if word == "operator" {
-        LogType::Operator
+        LogKind::Operator
     } else {
-        LogType::Package
+        LogKind::Package
     }
 }
 

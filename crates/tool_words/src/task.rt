@@ -13,7 +13,7 @@ pub enum Signer<'a> {
 
 /// The record that comes next in a log, in words.
 #[derive(Debug, Drop)]
-pub struct Draft<'a> {
+pub struct NewRecord<'a> {
     /// Who signs it.
     pub signer: Signer<'a>,
     /// What the clock tells. Words say nothing of it.
@@ -37,7 +37,7 @@ pub enum Task<'a> {
         /// The log. Where there is no such file, it has no records yet.
         log: &'a str,
         /// The record.
-        draft: Draft<'a>,
+        draft: NewRecord<'a>,
     },
     /// Records are added to the log.
     Append {

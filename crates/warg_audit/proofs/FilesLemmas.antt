@@ -1,6 +1,6 @@
 pub mod LineFeeds
 pub mod LineLemmas
-pub mod StringLemmas
+pub mod InputLemmas
 pub mod RecordLineLemmas
 pub mod PlainLemmas
 pub mod AnswerLemmas

@@ -1,12 +1,12 @@
 -- The answers to an input, by what was found of its lines.
 use Rattle.std.proofs.Common.{◌≡◌, ◌≢◌, ◌<◌, ◌≤◌, ℕ, Bool, true, false, cond, List, [], ◌∷◌, length, refl, ◌∙◌, ap, arith, zero, suc, Option, Some, None, IfSome, Ok, IsErr}
 use Rattle.std.specs.Io.KnownBytes.{Appends}
-use Rattle.warg_audit.specs.declared.log_type.LogType.{LogType}
+use Rattle.warg_audit.specs.declared.log_kind.LogKind.{LogKind}
 use Rattle.warg_audit.specs.declared.command.Command.{Command}
 use Rattle.warg_audit.specs.Commands.{command_of}
-use Rattle.warg_audit.specs.Files.Lines.{lines_of, string_of, is_line_feed, onto}
+use Rattle.warg_audit.specs.Files.Lines.{lines_of, input_of, is_line_feed, onto}
 use Rattle.warg_audit.specs.Answers.{IsEnvelopeAnswer, IsIdAnswer, bad_digits, second_line, one_line, IsCommandAnswer, other_words, over_limit, of_lines}
-use Rattle.warg_audit.specs.Printouts.{Printout, usage, too_long, bad_line}
+use Rattle.warg_audit.specs.Printouts.{OutputData, usage, too_long, bad_line}
 use Rattle.warg_audit.specs.Replies.{IsReply, answer, unread, memory_refused, IsAnswered}
 use Rattle.warg_audit.proofs.FilesLemmas.LineLemmas.{lines_of-are}
 
@@ -30,16 +30,16 @@ more_lines (b ∷ rest) h = first_of_step (is_line_feed b) b (lines_of rest)
 
 -- ---- the answer to an input, by its first line and what stands behind it
 
-module _ (log_type : LogType) (text line more : List ℕ) (printed : Printout) where
-  pub bad_first : lines_of text ≡ line ∷ lines_of more → IsErr (string_of line) → printed ≡ bad_line 0 → IsIdAnswer log_type (lines_of text) printed
+module _ (log_kind : LogKind) (text line more : List ℕ) (printed : OutputData) where
+  pub bad_first : lines_of text ≡ line ∷ lines_of more → IsErr (input_of line) → printed ≡ bad_line 0 → IsIdAnswer log_kind (lines_of text) printed
   bad_first cut bad is = bad_digits line (lines_of more) cut bad is
 
-  pub line_behind : (bytes : List ℕ) → lines_of text ≡ line ∷ lines_of more → string_of line ≡ Ok bytes → 0 < length more → printed ≡ bad_line 1 → IsIdAnswer log_type (lines_of text) printed
+  pub line_behind : (bytes : List ℕ) → lines_of text ≡ line ∷ lines_of more → input_of line ≡ Ok bytes → 0 < length more → printed ≡ bad_line 1 → IsIdAnswer log_kind (lines_of text) printed
   line_behind bytes cut good some is =
       let next = more_lines more some in
       second_line line bytes next.0 next.1 (cut ∙ ap (λ lines. line ∷ lines) next.2) good is
 
-  pub only_line : (bytes : List ℕ) → lines_of text ≡ line ∷ lines_of more → string_of line ≡ Ok bytes → length more ≡ 0 → IsEnvelopeAnswer log_type bytes printed → IsIdAnswer log_type (lines_of text) printed
+  pub only_line : (bytes : List ℕ) → lines_of text ≡ line ∷ lines_of more → input_of line ≡ Ok bytes → length more ≡ 0 → IsEnvelopeAnswer log_kind bytes printed → IsIdAnswer log_kind (lines_of text) printed
   only_line bytes cut good none is = one_line line bytes (cut ∙ ap (λ lines. line ∷ lines) (no_more more none)) good is
 
 -- ---- a list longer than any number
@@ -50,7 +50,7 @@ long_list (suc n) = let more = long_list n in (0 ∷ more.0, omega (arith, more.
 
 -- ---- replies
 
-module _ (words : List (List ℕ)) (Failed : Type 0) (printed : Printout) where
+module _ (words : List (List ℕ)) (Failed : Type 0) (printed : OutputData) where
   pub usage_reply : (known : Option (List ℕ)) → command_of words ≡ None → printed ≡ usage → IsReply words known Failed printed
   usage_reply (Some all) none e = answer all refl (other_words none e)
   usage_reply None none e = answer [] tt (other_words none e)
@@ -66,8 +66,8 @@ module _ (words : List (List ℕ)) (Failed : Type 0) (printed : Printout) where
 
 -- ---- what was written of a reply
 
-module _ (words : List (List ℕ)) (known before after : Option (List ℕ)) (Failed : Type 0) (printed : Printout) (status : ℕ) where
+module _ (words : List (List ℕ)) (known before after : Option (List ℕ)) (Failed : Type 0) (printed : OutputData) (status : ℕ) where
   pub answered_by : IsReply words known Failed printed → status ≡ printed.status → Appends before after printed.text → status ≢ 3 → IsAnswered words known before after status
   answered_by (answer bytes are is) same wrote other = record { bytes = bytes; are_known = are; printed = printed; is_answer = is; is_printed = record { status_is = same; text_is = wrote } }
-  answered_by (unread failed is) same wrote other = absurd (other (same ∙ ap (λ (p : Printout). p.status) is))
-  answered_by (memory_refused is) same wrote other = absurd (other (same ∙ ap (λ (p : Printout). p.status) is))
+  answered_by (unread failed is) same wrote other = absurd (other (same ∙ ap (λ (p : OutputData). p.status) is))
+  answered_by (memory_refused is) same wrote other = absurd (other (same ∙ ap (λ (p : OutputData). p.status) is))

@@ -4,7 +4,7 @@ use Rattle.std.specs.Option.{option_map}
 use Rattle.warg_crypto.specs.declared.coding.DecodeError.{DecodeError}
 use Rattle.warg_envelope.specs.declared.proto_envelope.error.ParseEnvelopeError.{ParseEnvelopeError}
 use Rattle.warg_envelope.specs.Envelopes.{contents_fault_of, envelope_fault_of}
-use Rattle.warg_replay.specs.Strings.{Unread, Unlawful}
+use Rattle.warg_replay.specs.Inputs.{Unread, Unlawful}
 use Rattle.warg_envelope.specs.FaultNames.{record_fault_name, envelope_fault_name, error_name}
 use Rattle.warg_envelope.specs.Faults.{fault_of}
 use Rattle.warg_envelope.specs.declared.proto_envelope.error.ParseEnvelopeError.TheVariants as error

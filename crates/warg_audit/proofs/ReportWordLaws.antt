@@ -10,13 +10,13 @@ use Rattle.warg_envelope.specs.Readings.{Reading}
 use Rattle.warg_log_records.specs.Kinds.{SignatureRelation, Kind}
 use Rattle.warg_replay.specs.Logs.{LogOf}
 use Rattle.warg_replay.specs.LogWords.{IsOneMore, named_cause, why_not}
-use Rattle.warg_replay.specs.OutcomeRuns.{HasNoOffence, IsRefusal, IsRun, cause_named_by, cause_next}
-use Rattle.warg_replay.specs.Strings.{read_all}
+use Rattle.warg_replay.specs.OutcomeRuns.{HasNoOffence, IsRunError, IsRun, cause_named_by, cause_next}
+use Rattle.warg_replay.specs.Inputs.{read_all}
 use Rattle.warg_replay.specs.declared.replay.RunCause.{RunCause}
 use Rattle.warg_replay.specs.declared.replay.RunError.{RunError}
-use Rattle.warg_audit.specs.Files.Lines.{strings_of}
-use Rattle.warg_audit.specs.LogAnswers.{LogDisplay, ReportsAs, IsAuditAnswer, IsNamedRefusal, IsRefused, cause_name}
-use Rattle.warg_audit.specs.Printouts.{Printout}
+use Rattle.warg_audit.specs.Files.Lines.{inputs_of}
+use Rattle.warg_audit.specs.LogAnswers.{LogDisplay, ReportsAs, IsAuditAnswer, IsNamedRunError, IsRefused, cause_name}
+use Rattle.warg_audit.specs.Printouts.{OutputData}
 use Rattle.warg_audit.specs.ReportWords as word
 use Rattle.warg_audit.specs.Reports.{ReportOf}
 
@@ -24,7 +24,7 @@ module _ {S E View Offence C M F : Type 0} {kind : Kind View Offence} {view : S 
     {offence_of : E → Option Offence} {read : List ℕ → Result M F} {meaning : C → M}
     {fault_of : DecodeError → Option F} (log : LogOf kind view offence_of)
     (reading : Reading read meaning fault_of) where
-  -- ---- strings
+  -- ---- inputs
 
   pub read_envelope : (bytes : List ℕ) → envelope_in reading bytes ≡ envelope_of read bytes
   read_envelope bytes = refl
@@ -37,34 +37,34 @@ module _ {S E View Offence C M F : Type 0} {kind : Kind View Offence} {view : S 
       → why_not log reading b v bytes ≡ cause_next kind b (envelope_of read) v bytes
   next_cause b v bytes = refl
 
-  pub refusal : (b : SignatureRelation) (seen : List EnvelopeData → View) (strings : List (List ℕ)) (error : RunError E)
-      → word.IsRefusal log reading b seen strings error
-      ↔ IsRefusal kind b (envelope_of read) seen (cause_named_by (envelope_fault_of fault_of) offence_of) strings error
-  refusal b seen strings error = (λ h. h, λ h. h)
+  pub run_error : (b : SignatureRelation) (seen : List EnvelopeData → View) (inputs : List (List ℕ)) (error : RunError E)
+      → word.IsRunError log reading b seen inputs error
+      ↔ IsRunError kind b (envelope_of read) seen (cause_named_by (envelope_fault_of fault_of) offence_of) inputs error
+  run_error b seen inputs error = (λ h. h, λ h. h)
 
-  pub for_refusal : (error : RunError E) (P : SignatureRelation → (List EnvelopeData → View) → List (List ℕ) → Type 0)
-      → word.ForRefusal log reading error P
-      ↔ ((b : SignatureRelation) (seen : List EnvelopeData → View) (strings : List (List ℕ))
-      → IsRefusal kind b (envelope_of read) seen (cause_named_by (envelope_fault_of fault_of) offence_of) strings error
-      → P b seen strings)
-  for_refusal error P = (λ h. h, λ h. h)
+  pub for_run_error : (error : RunError E) (P : SignatureRelation → (List EnvelopeData → View) → List (List ℕ) → Type 0)
+      → word.ForRunError log reading error P
+      ↔ ((b : SignatureRelation) (seen : List EnvelopeData → View) (inputs : List (List ℕ))
+      → IsRunError kind b (envelope_of read) seen (cause_named_by (envelope_fault_of fault_of) offence_of) inputs error
+      → P b seen inputs)
+  for_run_error error P = (λ h. h, λ h. h)
 
-  pub one_more : (b : SignatureRelation) (state : S) (place : ℕ) (string : List ℕ) (answer : Result S (RunError E))
-      → IsOneMore log reading b state place string answer
-      ↔ ((strings : List (List ℕ)) → length strings ≡ place
-      → HasNoOffence kind b (envelope_of read) kind.view_of strings
-      → view state ≡ kind.view_of (read_all (envelope_of read) strings)
+  pub one_more : (b : SignatureRelation) (state : S) (place : ℕ) (input : List ℕ) (answer : Result S (RunError E))
+      → IsOneMore log reading b state place input answer
+      ↔ ((inputs : List (List ℕ)) → length inputs ≡ place
+      → HasNoOffence kind b (envelope_of read) kind.view_of inputs
+      → view state ≡ kind.view_of (read_all (envelope_of read) inputs)
       → IsRun kind b (envelope_of read) kind.view_of view (cause_named_by (envelope_fault_of fault_of) offence_of) ◌≡◌
-      (strings ++ string ∷ []) answer)
-  one_more b state place string answer = (λ h. h, λ h. h)
+      (inputs ++ input ∷ []) answer)
+  one_more b state place input answer = (λ h. h, λ h. h)
 
   -- `judge`
   pub judged : (b : SignatureRelation) (lines : List (List ℕ)) (answer : Result (S × ℕ) (RunError E))
       → word.IsJudged log reading b lines answer
-      ↔ ((strings : List (List ℕ)) × ((strings_of lines ≡ Ok strings)
+      ↔ ((inputs : List (List ℕ)) × ((inputs_of lines ≡ Ok inputs)
       × IsRun kind b (envelope_of read) kind.view_of (λ (p : S × ℕ). view p.0)
-      (cause_named_by (envelope_fault_of fault_of) offence_of) ◌≡◌ strings answer
-      × IfOk answer (λ p. p.1 ≡ length strings)))
+      (cause_named_by (envelope_fault_of fault_of) offence_of) ◌≡◌ inputs answer
+      × IfOk answer (λ p. p.1 ≡ length inputs)))
   judged b lines answer = (λ h. h, λ h. h)
 
   -- ---- what is printed
@@ -93,33 +93,33 @@ module _ {S E View Offence C M F : Type 0} {kind : Kind View Offence} {view : S 
         (cause_named_by (envelope_fault_of fault_of) offence_of cause))
     names_cause name cause = (λ h. h, λ h. h)
 
-    -- `refusal_reply`
-    pub prints_refusal : (error : RunError E) (printed : Printout)
-        → word.IsRefusalPrinted log reading report error printed
+    -- `run_error_reply`
+    pub prints_run_error : (error : RunError E) (printed : OutputData)
+        → word.IsRunErrorPrinted log reading report error printed
         ↔ ((b : SignatureRelation) (seen : List EnvelopeData → View) (fault_name : F → List ℕ)
         (offence_name : Offence → List ℕ) (shown : View → List ℕ)
         → ReportsAs view fault_of offence_of name_of lines_of fault_name offence_name shown
-        → (strings : List (List ℕ))
-        → IsRefusal kind b (envelope_of read) seen (cause_named_by (envelope_fault_of fault_of) offence_of)
-        strings error → IsRefused (record {
+        → (inputs : List (List ℕ))
+        → IsRunError kind b (envelope_of read) seen (cause_named_by (envelope_fault_of fault_of) offence_of)
+        inputs error → IsRefused (record {
           kind = kind;
           read = read;
           fault_name = fault_name;
           offence_name = offence_name;
           shown = shown;
-        }) b seen strings printed)
-    prints_refusal error printed = (λ h. h, λ h. h)
+        }) b seen inputs printed)
+    prints_run_error error printed = (λ h. h, λ h. h)
 
-    pub prints_error : (error : RunError E) (printed : Printout)
+    pub prints_error : (error : RunError E) (printed : OutputData)
         → word.IsErrorPrinted log reading report error printed
         ↔ ((fault_name : F → List ℕ) (offence_name : Offence → List ℕ) (shown : View → List ℕ)
         → ReportsAs view fault_of offence_of name_of lines_of fault_name offence_name shown
-        → IsNamedRefusal (cause_name fault_name offence_name)
+        → IsNamedRunError (cause_name fault_name offence_name)
         (cause_named_by (envelope_fault_of fault_of) offence_of error.cause) error.index printed)
     prints_error error printed = (λ h. h, λ h. h)
 
     -- `log_reply`
-    pub prints_audit : (b : SignatureRelation) (lines : List (List ℕ)) (printed : Printout)
+    pub prints_audit : (b : SignatureRelation) (lines : List (List ℕ)) (printed : OutputData)
         → word.ForDisplay log reading report (λ shown. IsAuditAnswer shown b lines printed)
         ↔ ((fault_name : F → List ℕ) (offence_name : Offence → List ℕ) (shown : View → List ℕ)
         → ReportsAs view fault_of offence_of name_of lines_of fault_name offence_name shown

@@ -1,10 +1,10 @@
-pub mod Printouts
+pub mod OutputData
 pub mod Lines
 pub mod RecordLines
 pub mod Texts
 pub mod Files
 pub mod Answers
 pub mod Unusable
-pub mod ReadFaults
+pub mod ReadErrors
 pub mod Changes
 pub mod Sentences

@@ -4,7 +4,7 @@ pub mod LogAnswers
 pub mod Reports
 pub mod ReportWords
 pub mod ReleaseLines
-pub mod LogTypes
+pub mod LogKinds
 pub mod Answers
 pub mod Replies
 pub mod Meters

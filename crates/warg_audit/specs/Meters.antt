@@ -21,7 +21,7 @@ bytes_held contents output = contents output.writer
 pub record ReadsToEnd {R : Type 0} (remaining : R → Option (List ℕ)) (before after : Input R) : Type 0 where
   -- no read follows one that failed or gave no bytes
   pub late_reads : before.ended ≡ false → after.late_reads ≡ before.late_reads
-  pub failures : after.failures ≤ before.failures + 1
+  pub errors : after.errors ≤ before.errors + 1
   -- no byte is read past the first one over the limit
   pub reads : after.reads ≤ before.reads + 16_777_217
   pub bytes_taken : after.bytes_taken ≤ before.bytes_taken + 16_777_217
@@ -33,8 +33,8 @@ pub record ReadsToEnd {R : Type 0} (remaining : R → Option (List ℕ)) (before
 
 -- a read failed meanwhile; nothing is known where the count of failed ones was full
 abbrev pub ReadFailed : {R : Type 0} → Input R → Input R → Type 0
-ReadFailed before after = before.failures < 2 ^ 64 - 1 → before.failures < after.failures
+ReadFailed before after = before.errors < 2 ^ 64 - 1 → before.errors < after.errors
 
 -- a write failed meanwhile; nothing is known where the count of failed ones was full
 abbrev pub WriteFailed : {W : Type 0} → Output W → Output W → Type 0
-WriteFailed before after = before.failures < 2 ^ 64 - 1 → before.failures < after.failures
+WriteFailed before after = before.errors < 2 ^ 64 - 1 → before.errors < after.errors

@@ -1,25 +1,25 @@
 //! What the program is asked for.
 
 ghost use Rattle.std.specs.Prelude.{◌≡◌, map, string_bytes};
-ghost use Rattle.warg_audit.specs.Commands.{command_of, log_type_of};
+ghost use Rattle.warg_audit.specs.Commands.{command_of, log_kind_of};
 
-use crate::log_type::LogType;
+use crate::log_kind::LogKind;
 
 /// What the program's words ask for.
 #[derive(Clone, Copy, Debug, PartialEq, Eq)]
 pub enum Command {
     /// The id of one record, `id package` or `id operator`.
-    Id(LogType),
+    Id(LogKind),
     /// The verdict on a log, `package` or `operator`.
-    Audit(LogType),
+    Audit(LogKind),
 }
 
-fn parse_log_type(word: &str) -> Option<LogType>
-    ensures { result ≡ log_type_of word.now }
+fn parse_log_kind(word: &str) -> Option<LogKind>
+    ensures { result ≡ log_kind_of word.now }
 {
     match word {
-        "package" => Some(LogType::Package),
-        "operator" => Some(LogType::Operator),
+        "package" => Some(LogKind::Package),
+        "operator" => Some(LogKind::Operator),
         _ => None,
     }
 }
@@ -29,12 +29,12 @@ pub fn parse_command(words: &[String]) -> Option<Command>
     ensures { result ≡ command_of (map string_bytes words.now) }
 {
     match words {
-        [word] => parse_log_type(word.as_str()).map(Command::Audit),
+        [word] => parse_log_kind(word.as_str()).map(Command::Audit),
         [first, second] => {
             if first.as_str() != "id" {
                 return None;
             }
-            parse_log_type(second.as_str()).map(Command::Id)
+            parse_log_kind(second.as_str()).map(Command::Id)
         }
         _ => None,
     }

@@ -9,7 +9,7 @@ ghost use Rattle.warg_audit.specs.Files.Lines.{lines_of};
 ghost use Rattle.warg_audit.specs.Replies.{printed_of};
 
 use crate::files::lines::{cut_line, decode_line};
-use crate::log_type::LogType;
+use crate::log_kind::LogKind;
 use crate::reply::{Reply, bad_line_reply, refused_reply};
 use std::alloc::{AllocError, Global};
 use warg_crypto::hash::Sha256;
@@ -18,12 +18,12 @@ use warg_log_records::RecordId;
 use warg_protobuf::{Envelope, WireError};
 
 // The id of a record of a log of this type, from its content bytes.
-fn record_id(log_type: LogType, content: &[u8]) -> RecordId
-    ensures { result ≡ record_id_of log_type content.now }
+fn record_id(log_kind: LogKind, content: &[u8]) -> RecordId
+    ensures { result ≡ record_id_of log_kind content.now }
 {
-    match log_type {
-        LogType::Package => RecordId::of_package_content::<Sha256>(content),
-        LogType::Operator => RecordId::of_operator_content::<Sha256>(content),
+    match log_kind {
+        LogKind::Package => RecordId::of_package_content::<Sha256>(content),
+        LogKind::Operator => RecordId::of_operator_content::<Sha256>(content),
     }
 }
 
@@ -36,12 +36,12 @@ fn fault_reply(alloc: Global, fault: WireError) -> Result<Reply, AllocError>
 }
 
 // The answer to an envelope's bytes.
-fn envelope_reply(alloc: Global, log_type: LogType, bytes: &[u8]) -> Result<Reply, AllocError>
-    ensures { IfOk result (λ reply. IsEnvelopeAnswer log_type bytes.now (printed_of reply)) }
+fn envelope_reply(alloc: Global, log_kind: LogKind, bytes: &[u8]) -> Result<Reply, AllocError>
+    ensures { IfOk result (λ reply. IsEnvelopeAnswer log_kind bytes.now (printed_of reply)) }
 {
     match Envelope::view(bytes) {
         Ok(envelope) => {
-            let id = record_id(log_type, envelope.contents);
+            let id = record_id(log_kind, envelope.contents);
             Ok(Reply::owned(format!(in alloc; "{id}\n")?, 0))
         }
         Err(fault) => fault_reply(alloc, fault),
@@ -49,8 +49,8 @@ fn envelope_reply(alloc: Global, log_type: LogType, bytes: &[u8]) -> Result<Repl
 }
 
 /// The answer to the text of one line.
-pub fn id_reply(alloc: Global, log_type: LogType, text: &[u8]) -> Result<Reply, AllocError>
-    ensures { IfOk result (λ reply. IsIdAnswer log_type (lines_of text.now) (printed_of reply)) }
+pub fn id_reply(alloc: Global, log_kind: LogKind, text: &[u8]) -> Result<Reply, AllocError>
+    ensures { IfOk result (λ reply. IsIdAnswer log_kind (lines_of text.now) (printed_of reply)) }
 {
     if text.is_empty() {
         return bad_line_reply(alloc, 0);
@@ -63,5 +63,5 @@ pub fn id_reply(alloc: Global, log_type: LogType, text: &[u8]) -> Result<Reply, 
     if !more.is_empty() {
         return bad_line_reply(alloc, 1);
     }
-    envelope_reply(alloc, log_type, bytes.as_slice())
+    envelope_reply(alloc, log_kind, bytes.as_slice())
 }

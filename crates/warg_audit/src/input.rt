@@ -14,7 +14,7 @@ use std::io::Read;
 pub struct Input<R> {
     reader: R,
     reads: u64,
-    failures: u64,
+    errors: u64,
     bytes_taken: u64,
     ended: bool,
     late_reads: u64,
@@ -25,7 +25,7 @@ impl<R: Read> Input<R> {
     pub fn new(reader: R) -> Input<R>
         ensures reader { result.reader ≡ reader }
         ensures reads { result.reads ≡ 0 }
-        ensures failures { result.failures ≡ 0 }
+        ensures errors { result.errors ≡ 0 }
         ensures taken { result.bytes_taken ≡ 0 }
         ensures ended { result.ended ≡ false }
         ensures late { result.late_reads ≡ 0 }
@@ -33,7 +33,7 @@ impl<R: Read> Input<R> {
         Input {
             reader,
             reads: 0,
-            failures: 0,
+            errors: 0,
             bytes_taken: 0,
             ended: false,
             late_reads: 0,
@@ -56,10 +56,10 @@ impl<R: Read> Input<R> {
     }
 
     /// How many reads failed.
-    pub fn failures(&self) -> u64
-        ensures { result ≡ self.now.failures }
+    pub fn errors(&self) -> u64
+        ensures { result ≡ self.now.errors }
     {
-        self.failures
+        self.errors
     }
 
     /// How many bytes the reads gave.
@@ -79,8 +79,8 @@ impl<R: Read> Input<R> {
     /// One read of the reader.
     pub fn read(&mut self, buf: &mut [u8]) -> io::Result<usize>
         ensures reads { self.new.reads ≡ min (self.old.reads + 1) (2 ^ 64 - 1) }
-        ensures failures { self.new.failures ≡ (if is_err result then min (self.old.failures + 1)
-            (2 ^ 64 - 1) else self.old.failures) }
+        ensures errors { self.new.errors ≡ (if is_err result then min (self.old.errors + 1)
+            (2 ^ 64 - 1) else self.old.errors) }
         ensures taken { self.new.bytes_taken ≡ min (self.old.bytes_taken + bytes_given result)
             (2 ^ 64 - 1) }
         ensures ended { self.new.ended ≡ (self.old.ended || bytes_given result == 0) }
@@ -90,7 +90,7 @@ impl<R: Read> Input<R> {
         ensures bytes { ReadConsumes (R.remaining self.old.reader)
             (R.remaining self.new.reader) result buf.new }
     {
-        let (failures, taken, ended) = (self.failures, self.bytes_taken, self.ended);
+        let (errors, taken, ended) = (self.errors, self.bytes_taken, self.ended);
         self.reads = self.reads.saturating_add(1);
         if ended {
             self.late_reads = self.late_reads.saturating_add(1);
@@ -104,7 +104,7 @@ impl<R: Read> Input<R> {
                 self.ended = ended || *count == 0;
             }
             Err(_) => {
-                self.failures = failures.saturating_add(1);
+                self.errors = errors.saturating_add(1);
                 self.ended = true;
             }
         }

@@ -2,9 +2,9 @@
 
 ghost use Rattle.std.specs.Prelude.{◌≡◌, ℕ, List};
 ghost use Rattle.warg_audit.specs.Answers.{IsIdAnswer, id_answer, IsAnswer, answer_of};
-ghost use Rattle.warg_audit.specs.LogTypes.{IsLogTypeAnswer, log_type_answer};
-ghost use Rattle.warg_audit.specs.declared.log_type.LogType.{LogType};
-ghost use Rattle.warg_audit.specs.Printouts.{Printout};
+ghost use Rattle.warg_audit.specs.LogKinds.{IsLogKindAnswer, log_kind_answer};
+ghost use Rattle.warg_audit.specs.declared.log_kind.LogKind.{LogKind};
+ghost use Rattle.warg_audit.specs.Printouts.{OutputData};
 ghost use Rattle.warg_audit.specs.Files.Lines.{AreLines, lines_of};
 
 use warg_protobuf::laws::decoding_computes;
@@ -19,20 +19,20 @@ pub fn one_list_of_lines()
 
 /// Lines of which an id is asked have an answer, and no other one.
 pub fn one_id_answer()
-    ensures some { (log_type : LogType) (lines : List (List ℕ)) → IsIdAnswer log_type lines
-        (id_answer log_type lines) }
-    ensures only { (log_type : LogType) (lines : List (List ℕ)) (printed : Printout) →
-        IsIdAnswer log_type lines printed → printed ≡ id_answer log_type lines }
+    ensures some { (log_kind : LogKind) (lines : List (List ℕ)) → IsIdAnswer log_kind lines
+        (id_answer log_kind lines) }
+    ensures only { (log_kind : LogKind) (lines : List (List ℕ)) (printed : OutputData) →
+        IsIdAnswer log_kind lines printed → printed ≡ id_answer log_kind lines }
 {
     decoding_computes();
 }
 
 /// The lines of a log have an answer, and no other one.
 pub fn one_log_answer()
-    ensures some { (log_type : LogType) (lines : List (List ℕ)) →
-        IsLogTypeAnswer log_type lines (log_type_answer log_type lines) }
-    ensures only { (log_type : LogType) (lines : List (List ℕ)) (printed : Printout) →
-        IsLogTypeAnswer log_type lines printed → printed ≡ log_type_answer log_type lines }
+    ensures some { (log_kind : LogKind) (lines : List (List ℕ)) →
+        IsLogKindAnswer log_kind lines (log_kind_answer log_kind lines) }
+    ensures only { (log_kind : LogKind) (lines : List (List ℕ)) (printed : OutputData) →
+        IsLogKindAnswer log_kind lines printed → printed ≡ log_kind_answer log_kind lines }
 {
     first_offence::<warg_package_log::LogState>();
     first_offence::<warg_operator_log::LogState>();
@@ -42,7 +42,7 @@ pub fn one_log_answer()
 pub fn one_answer()
     ensures some { (words : List (List ℕ)) (bytes : List ℕ) →
         IsAnswer words bytes (answer_of words bytes) }
-    ensures only { (words : List (List ℕ)) (bytes : List ℕ) (printed : Printout) →
+    ensures only { (words : List (List ℕ)) (bytes : List ℕ) (printed : OutputData) →
         IsAnswer words bytes printed →
         printed ≡ answer_of words bytes }
 {

@@ -10,50 +10,44 @@ use std::io::Write;
 #[derive(Drop)]
 pub struct Output<W> {
     writer: W,
-    failures: u64,
+    errors: u64,
 }
 
 impl<W: Write> Output<W> {
     /// No write is made yet.
     pub fn new(writer: W) -> Output<W>
         ensures writer { result.writer ≡ writer }
-        ensures failures { result.failures ≡ 0 }
+        ensures errors { result.errors ≡ 0 }
     {
-        Output {
-            writer,
-            failures: 0,
-        }
+        Output { writer, errors: 0 }
     }
 
     /// The writer.
     pub fn into_inner(self) -> W
         ensures { result ≡ self.writer }
     {
-        let Output {
-            writer,
-            failures: _,
-        } = self;
+        let Output { writer, errors: _ } = self;
         writer
     }
 
     /// How many texts it failed to write.
-    pub fn failures(&self) -> u64
-        ensures { result ≡ self.now.failures }
+    pub fn errors(&self) -> u64
+        ensures { result ≡ self.now.errors }
     {
-        self.failures
+        self.errors
     }
 
     /// Writes all of the bytes.
     pub fn write_all(&mut self, bytes: &[u8]) -> io::Result<()>
-        ensures failures { self.new.failures ≡ (if is_err result then min (self.old.failures + 1)
-            (2 ^ 64 - 1) else self.old.failures) }
+        ensures errors { self.new.errors ≡ (if is_err result then min (self.old.errors + 1)
+            (2 ^ 64 - 1) else self.old.errors) }
         ensures bytes { OnOk result (Appends (W.contents self.old.writer)
             (W.contents self.new.writer) bytes.now) }
     {
-        let failures = self.failures;
+        let errors = self.errors;
         let outcome = self.writer.write_all(bytes);
         if outcome.is_err() {
-            self.failures = failures.saturating_add(1);
+            self.errors = errors.saturating_add(1);
         }
         outcome
     }

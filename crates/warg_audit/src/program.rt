@@ -3,18 +3,18 @@
 ghost use Rattle.std.specs.Prelude.{◌≡◌, ◌≢◌, ◌⊎◌, map, string_bytes, IfOk, Some, None};
 ghost use Rattle.std.specs.Io.KnownBytes.{Appends};
 ghost use Rattle.warg_audit.specs.Answers.{IsCommandAnswer};
-ghost use Rattle.warg_audit.specs.Printouts.{usage, read_fault};
+ghost use Rattle.warg_audit.specs.Printouts.{usage, read_error};
 ghost use Rattle.warg_audit.specs.Commands.{command_of};
-ghost use Rattle.warg_audit.specs.LogTypes.{IsLogTypeAnswer};
+ghost use Rattle.warg_audit.specs.LogKinds.{IsLogKindAnswer};
 ghost use Rattle.warg_audit.specs.Files.Lines.{lines_of};
 ghost use Rattle.warg_audit.specs.Meters.{bytes_left, bytes_held, ReadsToEnd, ReadFailed, WriteFailed};
-ghost use Rattle.warg_audit.specs.Replies.{printed_of, IsReply, IsPrintedOrFailed, IsAnswered, IsFailure};
+ghost use Rattle.warg_audit.specs.Replies.{printed_of, IsReply, IsPrintedOrFailed, IsAnswered, IsIoError};
 
 use crate::command::{Command, parse_command};
 use crate::identify::id_reply;
 use crate::input::Input;
 use crate::log::log_reply;
-use crate::log_type::LogType;
+use crate::log_kind::LogKind;
 use crate::output::Output;
 use crate::reading::{InputError, read_all};
 use crate::reply::Reply;
@@ -31,13 +31,13 @@ pub const USAGE: &str = "usage: warg_audit [id] package|operator\n";
 pub const OUT_OF_MEMORY: &str = "out of memory\n";
 
 // The answer to the text of a log of this type.
-fn log_type_reply(alloc: Global, log_type: LogType, text: Vec<u8>) -> Result<Reply, AllocError>
-    ensures { IfOk result (λ reply. IsLogTypeAnswer log_type
+fn log_kind_reply(alloc: Global, log_kind: LogKind, text: Vec<u8>) -> Result<Reply, AllocError>
+    ensures { IfOk result (λ reply. IsLogKindAnswer log_kind
         (lines_of text.items) (printed_of reply)) }
 {
-    match log_type {
-        LogType::Package => log_reply::<PackageLog, ToyVerifier>(alloc, &ToyVerifier, text),
-        LogType::Operator => log_reply::<OperatorLog, ToyVerifier>(alloc, &ToyVerifier, text),
+    match log_kind {
+        LogKind::Package => log_reply::<PackageLog, ToyVerifier>(alloc, &ToyVerifier, text),
+        LogKind::Operator => log_reply::<OperatorLog, ToyVerifier>(alloc, &ToyVerifier, text),
     }
 }
 
@@ -47,8 +47,8 @@ fn command_reply(alloc: Global, command: Command, bytes: Vec<u8>) -> Result<Repl
         (lines_of bytes.items) (printed_of reply)) }
 {
     match command {
-        Command::Id(log_type) => id_reply(alloc, log_type, bytes.as_slice()),
-        Command::Audit(log_type) => log_type_reply(alloc, log_type, bytes),
+        Command::Id(log_kind) => id_reply(alloc, log_kind, bytes.as_slice()),
+        Command::Audit(log_kind) => log_kind_reply(alloc, log_kind, bytes),
     }
 }
 
@@ -60,7 +60,7 @@ pub fn make_reply<R: Read>(alloc: Global, words: &[String], input: &mut Input<R>
         (printed_of result) }
     ensures other_words { command_of (map string_bytes words.now) ≡ None → (input.new ≡ input.old) ×
         (printed_of result ≡ usage) }
-    ensures faults { (input.new.failures ≡ input.old.failures) ⊎ (printed_of result ≡ read_fault) }
+    ensures faults { (input.new.errors ≡ input.old.errors) ⊎ (printed_of result ≡ read_error) }
     ensures reading { ReadsToEnd R.remaining input.old input.new }
 {
     let Some(command) = parse_command(words) else {
@@ -91,16 +91,16 @@ pub fn audit<R: Read, W: Write>(
 
     // Status 3: a failed read or refused memory, with its line, or a failed write.
     ensures trouble { result ≡ 3 →
-        IsFailure (bytes_held W.contents output.old) (bytes_held W.contents output.new)
+        IsIoError (bytes_held W.contents output.old) (bytes_held W.contents output.new)
         (ReadFailed input.old input.new) (WriteFailed output.old output.new) }
 
     // Where a read failed, its line is written, unless the write fails too.
-    ensures faults { (input.new.failures ≡ input.old.failures)
+    ensures faults { (input.new.errors ≡ input.old.errors)
         ⊎ IsPrintedOrFailed (bytes_held W.contents output.old) (bytes_held W.contents output.new)
-        (WriteFailed output.old output.new) result read_fault }
+        (WriteFailed output.old output.new) result read_error }
 
     // Where the write failed, the status is 3.
-    ensures unwritten { (output.new.failures ≡ output.old.failures) ⊎ (result ≡ 3) }
+    ensures unwritten { (output.new.errors ≡ output.old.errors) ⊎ (result ≡ 3) }
 
     // Words that ask for nothing: no read, and the usage line unless it can't be written.
     ensures other_words { command_of (map string_bytes words.now) ≡ None → (input.new ≡ input.old)

@@ -34,7 +34,7 @@ pub fn read_all<R: Read>(alloc: Global, input: &mut Input<R>) -> Result<Vec<u8>,
     ensures long { result ≡ Err fault.TooLong → IfSome (bytes_left R.remaining input.old)
         (λ bytes. 16_777_216 < length bytes) }
     ensures failed { result ≡ Err fault.Fault → ReadFailed input.old input.new }
-    ensures steady { (input.new.failures ≡ input.old.failures) ⊎ (result ≡ Err fault.Fault) }
+    ensures steady { (input.new.errors ≡ input.old.errors) ⊎ (result ≡ Err fault.Fault) }
 {
     let mut bytes = Vec::new(alloc);
     let mut buf = [0u8; CHUNK];

@@ -52,7 +52,7 @@ impl Reply {
         }
     }
 
-    /// The exit status: 0 for an answer, 1 for a refusal, 2 for words or an input that are none, 3
+    /// The exit status: 0 for an answer, 1 for a log that is refused, 2 for words or an input that are none, 3
     /// for trouble.
     pub fn status(&self) -> u8
         ensures { result ≡ (printed_of self.now).status }
@@ -71,7 +71,7 @@ pub fn bad_line_reply(alloc: Global, index: usize) -> Result<Reply, AllocError>
     Ok(Reply::owned(format!(in alloc; "bad line {index}\n")?, 2))
 }
 
-/// The reply to a refused string.
+/// The reply to a refused input.
 pub fn refused_reply(alloc: Global, index: usize, name: &str) -> Result<Reply, AllocError>
     ensures { IfOk result (λ reply. printed_of reply ≡ refused_line index name.now) }
 {

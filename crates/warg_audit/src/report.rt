@@ -22,7 +22,7 @@ pub trait Report: Validator {
     fn error_name(error: &Self::Error) -> Option<&'static str>
         ensures { option_copied result ≡ name_of error.now };
 
-    /// Appends what is printed of a log after the first line. A refusal leaves some of it.
+    /// Appends what is printed of a log after the first line. An error leaves some of it.
     fn append_lines(&self, alloc: Global, text: &mut String) -> Result<(), AllocError>
         ensures { OnOk result (string_bytes text.new ≡
             string_bytes text.old ++ lines_of self.now) };

@@ -48,7 +48,7 @@ fn main(rt: HostRuntime) -> ExitCode {
             _ => print(&mut output, OUT_OF_MEMORY, 3),
         },
     };
-    if output.failures() > 0 {
+    if output.errors() > 0 {
         let _ = rt.eprintln("warg_audit: standard output could not be written");
     }
     ExitCode::from(status)

@@ -6,16 +6,16 @@ use Rattle.std.proofs.BoxSteps.Form.{Bx}
 use Rattle.std.specs.contracts.alloc.Global as Heap
 use Rattle.std.specs.contracts.impls.GlobalAllocator.TheImpl.{ghosts, dict}
 use Rattle.std.proofs.alloc.Global.TheLaws as heap
-use Rattle.warg_c.specs.contracts.held.Held as Inner
-use Rattle.warg_c.proofs.held.Held.TheLaws as inner
-use Rattle.warg_c.specs.contracts.parts.Parts as Parts
-use Rattle.warg_c.specs.contracts.owned.Owned as Owned
+use Rattle.warg_c.specs.contracts.any_log.AnyLog as Inner
+use Rattle.warg_c.proofs.any_log.AnyLog.TheLaws as inner
+use Rattle.warg_c.specs.contracts.raw_box.RawBox as RawBox
+use Rattle.warg_c.specs.contracts.log_pointer.LogPointer as LogPointer
 
 abbrev pub E : Bx
 E = record { row = Inner.the_row; laws = inner.the_row_laws; al = record { row = Heap.the_row; laws = heap.the_row_laws; g = ghosts; d = dict; drops = impl [] tnil dnil } }
 
 abbrev pub FromParts : Slot 0
-FromParts = plain (λ _. Parts.the_row Inner.the_row Heap.the_row ghosts)
+FromParts = plain (λ _. RawBox.the_row Inner.the_row Heap.the_row ghosts)
 
 abbrev pub FromOwned : Slot 0
-FromOwned = plain (λ _. Owned.the_row)
+FromOwned = plain (λ _. LogPointer.the_row)

@@ -1,17 +1,17 @@
 -- Each status of a call by itself, as the exports say it, and all of them in one statement: the two say the same. A call of
--- no handle is one of a handle that holds something, and a call of fewer statuses is one of whose other failures nothing holds.
+-- no handle is one of a handle that holds something, and a call of fewer statuses is one of whose other errors nothing holds.
 use Rattle.std.proofs.Common.{◌≡◌, ◌≢◌, ◌≤◌, ◌↔◌, ℕ, zero, suc, ◌+◌, ◌==◌, Bool, true, false, cond, List, [], ◌∷◌, take, Option, Some, None, refl, sym, ◌∙◌, arith}
 use Rattle.std.specs.Prelude.{IsSomeAnd}
 use Rattle.std.proofs.lemmas.Bool.{eqb-true}
-use Rattle.warg_c.specs.ProofAnswers.{ProofFails}
+use Rattle.warg_c.specs.ProofAnswers.{ProofErrors}
 use Rattle.warg_c.specs.Statuses.{WARG_OK, WARG_NOT_OPEN, WARG_OUT_OF_MEMORY, WARG_TOO_SMALL, WARG_REFUSED, WARG_NONE, WARG_BAD_ARGUMENT, IsOneOf, code_of, Answers, IsStatusOf}
-use Rattle.warg_c.specs.Texts.{CallFails, NeedsRoom, TextFails}
-use Rattle.warg_c.specs.declared.failure.Failure.{Failure}
-use Rattle.warg_c.specs.declared.failure.Failure.TheVariants.{NotOpen, OutOfMemory, TooSmall, NoEnvelope, Refused, Absent, BadArgument, UnknownAlgorithm}
+use Rattle.warg_c.specs.Texts.{CallErrors, NeedsRoom, TextErrors}
+use Rattle.warg_c.specs.declared.call_error.CallError.{CallError}
+use Rattle.warg_c.specs.declared.call_error.CallError.TheVariants.{NotOpen, OutOfMemory, TooSmall, NoEnvelope, Refused, Absent, BadArgument, UnknownAlgorithm}
 use Rattle.warg_c.proofs.Codes.{no-zero, same-code}
 
--- a status is 0 or that of a failure
-pub coded : (n : ℕ) → n ≤ 8 → n ≢ 0 → (f : Failure) × (n ≡ code_of f)
+-- a status is 0 or that of an error
+pub coded : (n : ℕ) → n ≤ 8 → n ≢ 0 → (f : CallError) × (n ≡ code_of f)
 coded zero few other = absurd (other refl)
 coded (suc zero) few other = (NotOpen, refl)
 coded (suc (suc zero)) few other = (OutOfMemory, refl)
@@ -40,11 +40,11 @@ few-if (suc (suc (suc (suc (suc (suc (suc (suc (suc m))))))))) none = absurd (no
 pub above : (n m s : ℕ) → n ≡ m + 9 → s ≤ 8 → n ≢ s
 above n m s is few same = omega arith
 
--- the status of a failure is not 0, nor that of another
-pub not-ok : (n : ℕ) (f : Failure) → n ≡ code_of f → n ≢ WARG_OK
+-- the status of an error is not 0, nor that of another
+pub not-ok : (n : ℕ) (f : CallError) → n ≡ code_of f → n ≢ WARG_OK
 not-ok n f is done = no-zero f (sym is ∙ done)
 
-pub not-of : (n : ℕ) (f g : Failure) → (f ≡ g → ⊥) → n ≡ code_of f → n ≢ code_of g
+pub not-of : (n : ℕ) (f g : CallError) → (f ≡ g → ⊥) → n ≡ code_of f → n ≢ code_of g
 not-of n f g other is same = other (same-code f g (sym is ∙ same))
 
 pub some-none : {H : Type 0} (h : H) → Some h ≡ None → ⊥
@@ -87,12 +87,12 @@ pub longer : (s n : ℕ) (ss : List ℕ) → IsOneOf (without s ss) n → IsOneO
 longer s n [] one = one
 longer s n (x ∷ xs) one = longer-cons s n x xs (longer s n xs) (x == s) refl one
 
-module _ {H : Type 0} (n : ℕ) (P : H → Type 0) (Q : H → Failure → Type 0) where
+module _ {H : Type 0} (n : ℕ) (P : H → Type 0) (Q : H → CallError → Type 0) where
   pub ok : (o : Option H) → Answers n o P Q → n ≡ WARG_OK → IsSomeAnd o P
   ok None is done = absurd (no-zero NotOpen (sym is ∙ done))
   ok (Some h) answer done = answer.1 done
 
-  pub failed : (f : Failure) → (f ≡ NotOpen → ⊥) → (o : Option H) → Answers n o P Q → n ≡ code_of f → IsSomeAnd o (λ h. Q h f)
+  pub failed : (f : CallError) → (f ≡ NotOpen → ⊥) → (o : Option H) → Answers n o P Q → n ≡ code_of f → IsSomeAnd o (λ h. Q h f)
   failed f other None is code = absurd (other (same-code f NotOpen (sym code ∙ is)))
   failed f other (Some h) answer code = answer.2 f code
 
@@ -100,26 +100,26 @@ module _ {H : Type 0} (n : ℕ) (P : H → Type 0) (Q : H → Failure → Type 0
   not-open never None is = ((λ _. refl), λ _. is)
   not-open never (Some h) answer = ((λ is. absurd (never h (answer.2 NotOpen is))), λ is. absurd (some-none h is))
 
-  -- the status is 0, 1 or that of a failure that there is
-  pub no-other : ((f : Failure) (h : H) → n ≡ code_of f → Q h f → ⊥) → (o : Option H) → Answers n o P Q → n ≢ WARG_OK → n ≢ WARG_NOT_OPEN → ⊥
+  -- the status is 0, 1 or that of an error that there is
+  pub no-other : ((f : CallError) (h : H) → n ≡ code_of f → Q h f → ⊥) → (o : Option H) → Answers n o P Q → n ≢ WARG_OK → n ≢ WARG_NOT_OPEN → ⊥
   no-other never None is other closed = closed is
   no-other never (Some h) answer other closed = let found = coded n answer.0 other in never found.0 h found.1 (answer.2 found.0 found.1)
 
-  -- back: each failure by itself
-  all-failures : (h : H) → ((n ≡ WARG_NOT_OPEN) ↔ (Some h ≡ None)) → ((f : Failure) → (f ≡ NotOpen → ⊥) → n ≡ code_of f → Q h f) → (f : Failure) → n ≡ code_of f → Q h f
-  all-failures h closed fails NotOpen is = absurd (some-none h (closed.0 is))
-  all-failures h closed fails OutOfMemory is = fails OutOfMemory (λ e. cc) is
-  all-failures h closed fails TooSmall is = fails TooSmall (λ e. cc) is
-  all-failures h closed fails NoEnvelope is = fails NoEnvelope (λ e. cc) is
-  all-failures h closed fails Refused is = fails Refused (λ e. cc) is
-  all-failures h closed fails Absent is = fails Absent (λ e. cc) is
-  all-failures h closed fails BadArgument is = fails BadArgument (λ e. cc) is
-  all-failures h closed fails UnknownAlgorithm is = fails UnknownAlgorithm (λ e. cc) is
+  -- back: each error by itself
+  all-errors : (h : H) → ((n ≡ WARG_NOT_OPEN) ↔ (Some h ≡ None)) → ((f : CallError) → (f ≡ NotOpen → ⊥) → n ≡ code_of f → Q h f) → (f : CallError) → n ≡ code_of f → Q h f
+  all-errors h closed errors NotOpen is = absurd (some-none h (closed.0 is))
+  all-errors h closed errors OutOfMemory is = errors OutOfMemory (λ e. cc) is
+  all-errors h closed errors TooSmall is = errors TooSmall (λ e. cc) is
+  all-errors h closed errors NoEnvelope is = errors NoEnvelope (λ e. cc) is
+  all-errors h closed errors Refused is = errors Refused (λ e. cc) is
+  all-errors h closed errors Absent is = errors Absent (λ e. cc) is
+  all-errors h closed errors BadArgument is = errors BadArgument (λ e. cc) is
+  all-errors h closed errors UnknownAlgorithm is = errors UnknownAlgorithm (λ e. cc) is
 
   pub answers : ((m : ℕ) → n ≡ m + 9 → ⊥) → (o : Option H) → ((n ≡ WARG_NOT_OPEN) ↔ (o ≡ None)) → (n ≡ WARG_OK → IsSomeAnd o P)
-      → ((f : Failure) → (f ≡ NotOpen → ⊥) → n ≡ code_of f → IsSomeAnd o (λ h. Q h f)) → Answers n o P Q
-  answers few None closed done fails = closed.1 refl
-  answers few (Some h) closed done fails = (few-if n few, done, all-failures h closed fails)
+      → ((f : CallError) → (f ≡ NotOpen → ⊥) → n ≡ code_of f → IsSomeAnd o (λ h. Q h f)) → Answers n o P Q
+  answers few None closed done errors = closed.1 refl
+  answers few (Some h) closed done errors = (few-if n few, done, all-errors h closed errors)
 
 -- a call that gives a text or a list, of what a handle holds: `warg_head`, `warg_record`, `warg_latest`, `warg_release`,
 -- `warg_releases`, `warg_namespace`, `warg_permissions`, `warg_key`, `warg_chain`, `warg_save`; and, of no handle,
@@ -136,44 +136,44 @@ module _ {H A : Type 0} (n : ℕ) (o : Option H) (Takes : H → Type 0) (Tells :
 
   -- the same in one statement
   abbrev pub TextAnswers : Type 0
-  TextAnswers = Answers n o (λ h. Tells h (take used new)) (λ h. TextFails (Takes h) (Tells h) (Lacks h) (IsBad h) used old)
+  TextAnswers = Answers n o (λ h. Tells h (take used new)) (λ h. TextErrors (Takes h) (Tells h) (Lacks h) (IsBad h) used old)
 
-  text-never : n ≢ WARG_OUT_OF_MEMORY → n ≢ WARG_TOO_SMALL → n ≢ WARG_NONE → n ≢ WARG_BAD_ARGUMENT → (f : Failure) (h : H) → n ≡ code_of f → TextFails (Takes h) (Tells h) (Lacks h) (IsBad h) used old f → ⊥
-  text-never memory small none bad OutOfMemory h is fails = memory is
-  text-never memory small none bad TooSmall h is fails = small is
-  text-never memory small none bad Absent h is fails = none is
-  text-never memory small none bad BadArgument h is fails = bad is
-  text-never memory small none bad f h is fails = fails
+  text-never : n ≢ WARG_OUT_OF_MEMORY → n ≢ WARG_TOO_SMALL → n ≢ WARG_NONE → n ≢ WARG_BAD_ARGUMENT → (f : CallError) (h : H) → n ≡ code_of f → TextErrors (Takes h) (Tells h) (Lacks h) (IsBad h) used old f → ⊥
+  text-never memory small none bad OutOfMemory h is errors = memory is
+  text-never memory small none bad TooSmall h is errors = small is
+  text-never memory small none bad Absent h is errors = none is
+  text-never memory small none bad BadArgument h is errors = bad is
+  text-never memory small none bad f h is errors = errors
 
   pub text-each : TextAnswers → TextCall
   text-each answer = record {
-    statuses = λ done closed memory small none bad. no-other n (λ h. Tells h (take used new)) (λ h. TextFails (Takes h) (Tells h) (Lacks h) (IsBad h) used old) (text-never memory small none bad) o answer done closed;
-    not_open = not-open n (λ h. Tells h (take used new)) (λ h. TextFails (Takes h) (Tells h) (Lacks h) (IsBad h) used old) (λ h fails. fails) o answer;
-    ok = ok n (λ h. Tells h (take used new)) (λ h. TextFails (Takes h) (Tells h) (Lacks h) (IsBad h) used old) o answer;
-    out_of_memory = failed n (λ h. Tells h (take used new)) (λ h. TextFails (Takes h) (Tells h) (Lacks h) (IsBad h) used old) OutOfMemory (λ e. cc) o answer;
-    too_small = failed n (λ h. Tells h (take used new)) (λ h. TextFails (Takes h) (Tells h) (Lacks h) (IsBad h) used old) TooSmall (λ e. cc) o answer;
-    none = failed n (λ h. Tells h (take used new)) (λ h. TextFails (Takes h) (Tells h) (Lacks h) (IsBad h) used old) Absent (λ e. cc) o answer;
-    bad_argument = failed n (λ h. Tells h (take used new)) (λ h. TextFails (Takes h) (Tells h) (Lacks h) (IsBad h) used old) BadArgument (λ e. cc) o answer;
+    statuses = λ done closed memory small none bad. no-other n (λ h. Tells h (take used new)) (λ h. TextErrors (Takes h) (Tells h) (Lacks h) (IsBad h) used old) (text-never memory small none bad) o answer done closed;
+    not_open = not-open n (λ h. Tells h (take used new)) (λ h. TextErrors (Takes h) (Tells h) (Lacks h) (IsBad h) used old) (λ h errors. errors) o answer;
+    ok = ok n (λ h. Tells h (take used new)) (λ h. TextErrors (Takes h) (Tells h) (Lacks h) (IsBad h) used old) o answer;
+    out_of_memory = failed n (λ h. Tells h (take used new)) (λ h. TextErrors (Takes h) (Tells h) (Lacks h) (IsBad h) used old) OutOfMemory (λ e. cc) o answer;
+    too_small = failed n (λ h. Tells h (take used new)) (λ h. TextErrors (Takes h) (Tells h) (Lacks h) (IsBad h) used old) TooSmall (λ e. cc) o answer;
+    none = failed n (λ h. Tells h (take used new)) (λ h. TextErrors (Takes h) (Tells h) (Lacks h) (IsBad h) used old) Absent (λ e. cc) o answer;
+    bad_argument = failed n (λ h. Tells h (take used new)) (λ h. TextErrors (Takes h) (Tells h) (Lacks h) (IsBad h) used old) BadArgument (λ e. cc) o answer;
   }
 
-  text-apart : TextCall → (f : Failure) → (f ≡ NotOpen → ⊥) → (f ≡ OutOfMemory → ⊥) → (f ≡ TooSmall → ⊥) → (f ≡ Absent → ⊥) → (f ≡ BadArgument → ⊥) → n ≡ code_of f → ⊥
+  text-apart : TextCall → (f : CallError) → (f ≡ NotOpen → ⊥) → (f ≡ OutOfMemory → ⊥) → (f ≡ TooSmall → ⊥) → (f ≡ Absent → ⊥) → (f ≡ BadArgument → ⊥) → n ≡ code_of f → ⊥
   text-apart call f closed memory small none bad is =
       call.statuses (not-ok n f is) (not-of n f NotOpen closed is) (not-of n f OutOfMemory memory is) (not-of n f TooSmall small is) (not-of n f Absent none is) (not-of n f BadArgument bad is)
 
-  text-fails : TextCall → (f : Failure) → (f ≡ NotOpen → ⊥) → n ≡ code_of f → IsSomeAnd o (λ h. TextFails (Takes h) (Tells h) (Lacks h) (IsBad h) used old f)
-  text-fails call NotOpen other is = absurd (other refl)
-  text-fails call OutOfMemory other is = call.out_of_memory is
-  text-fails call TooSmall other is = call.too_small is
-  text-fails call NoEnvelope other is = absurd (text-apart call NoEnvelope other (λ e. cc) (λ e. cc) (λ e. cc) (λ e. cc) is)
-  text-fails call Refused other is = absurd (text-apart call Refused other (λ e. cc) (λ e. cc) (λ e. cc) (λ e. cc) is)
-  text-fails call Absent other is = call.none is
-  text-fails call BadArgument other is = call.bad_argument is
-  text-fails call UnknownAlgorithm other is = absurd (text-apart call UnknownAlgorithm other (λ e. cc) (λ e. cc) (λ e. cc) (λ e. cc) is)
+  text-errors : TextCall → (f : CallError) → (f ≡ NotOpen → ⊥) → n ≡ code_of f → IsSomeAnd o (λ h. TextErrors (Takes h) (Tells h) (Lacks h) (IsBad h) used old f)
+  text-errors call NotOpen other is = absurd (other refl)
+  text-errors call OutOfMemory other is = call.out_of_memory is
+  text-errors call TooSmall other is = call.too_small is
+  text-errors call NoEnvelope other is = absurd (text-apart call NoEnvelope other (λ e. cc) (λ e. cc) (λ e. cc) (λ e. cc) is)
+  text-errors call Refused other is = absurd (text-apart call Refused other (λ e. cc) (λ e. cc) (λ e. cc) (λ e. cc) is)
+  text-errors call Absent other is = call.none is
+  text-errors call BadArgument other is = call.bad_argument is
+  text-errors call UnknownAlgorithm other is = absurd (text-apart call UnknownAlgorithm other (λ e. cc) (λ e. cc) (λ e. cc) (λ e. cc) is)
 
   pub text-same : TextCall ↔ TextAnswers
   text-same = (
-    λ call. answers n (λ h. Tells h (take used new)) (λ h. TextFails (Takes h) (Tells h) (Lacks h) (IsBad h) used old)
-        (λ m is. call.statuses (above n m 0 is (omega arith)) (above n m 1 is (omega arith)) (above n m 2 is (omega arith)) (above n m 3 is (omega arith)) (above n m 6 is (omega arith)) (above n m 7 is (omega arith))) o call.not_open call.ok (text-fails call),
+    λ call. answers n (λ h. Tells h (take used new)) (λ h. TextErrors (Takes h) (Tells h) (Lacks h) (IsBad h) used old)
+        (λ m is. call.statuses (above n m 0 is (omega arith)) (above n m 1 is (omega arith)) (above n m 2 is (omega arith)) (above n m 3 is (omega arith)) (above n m 6 is (omega arith)) (above n m 7 is (omega arith))) o call.not_open call.ok (text-errors call),
     text-each,
   )
 
@@ -189,42 +189,42 @@ module _ {H : Type 0} (n : ℕ) (o : Option H) (P Takes Lacks IsBad : H → Type
 
   -- the same in one statement
   abbrev pub ValueAnswers : Type 0
-  ValueAnswers = Answers n o P (λ h. CallFails (Takes h) (Lacks h) (IsBad h))
+  ValueAnswers = Answers n o P (λ h. CallErrors (Takes h) (Lacks h) (IsBad h))
 
-  value-never : n ≢ WARG_OUT_OF_MEMORY → n ≢ WARG_NONE → n ≢ WARG_BAD_ARGUMENT → (f : Failure) (h : H) → n ≡ code_of f → CallFails (Takes h) (Lacks h) (IsBad h) f → ⊥
-  value-never memory none bad OutOfMemory h is fails = memory is
-  value-never memory none bad Absent h is fails = none is
-  value-never memory none bad BadArgument h is fails = bad is
-  value-never memory none bad f h is fails = fails
+  value-never : n ≢ WARG_OUT_OF_MEMORY → n ≢ WARG_NONE → n ≢ WARG_BAD_ARGUMENT → (f : CallError) (h : H) → n ≡ code_of f → CallErrors (Takes h) (Lacks h) (IsBad h) f → ⊥
+  value-never memory none bad OutOfMemory h is errors = memory is
+  value-never memory none bad Absent h is errors = none is
+  value-never memory none bad BadArgument h is errors = bad is
+  value-never memory none bad f h is errors = errors
 
   pub value-each : ValueAnswers → ValueCall
   value-each answer = record {
-    statuses = λ done closed memory none bad. no-other n P (λ h. CallFails (Takes h) (Lacks h) (IsBad h)) (value-never memory none bad) o answer done closed;
-    not_open = not-open n P (λ h. CallFails (Takes h) (Lacks h) (IsBad h)) (λ h fails. fails) o answer;
-    ok = ok n P (λ h. CallFails (Takes h) (Lacks h) (IsBad h)) o answer;
-    out_of_memory = failed n P (λ h. CallFails (Takes h) (Lacks h) (IsBad h)) OutOfMemory (λ e. cc) o answer;
-    none = failed n P (λ h. CallFails (Takes h) (Lacks h) (IsBad h)) Absent (λ e. cc) o answer;
-    bad_argument = failed n P (λ h. CallFails (Takes h) (Lacks h) (IsBad h)) BadArgument (λ e. cc) o answer;
+    statuses = λ done closed memory none bad. no-other n P (λ h. CallErrors (Takes h) (Lacks h) (IsBad h)) (value-never memory none bad) o answer done closed;
+    not_open = not-open n P (λ h. CallErrors (Takes h) (Lacks h) (IsBad h)) (λ h errors. errors) o answer;
+    ok = ok n P (λ h. CallErrors (Takes h) (Lacks h) (IsBad h)) o answer;
+    out_of_memory = failed n P (λ h. CallErrors (Takes h) (Lacks h) (IsBad h)) OutOfMemory (λ e. cc) o answer;
+    none = failed n P (λ h. CallErrors (Takes h) (Lacks h) (IsBad h)) Absent (λ e. cc) o answer;
+    bad_argument = failed n P (λ h. CallErrors (Takes h) (Lacks h) (IsBad h)) BadArgument (λ e. cc) o answer;
   }
 
-  value-apart : ValueCall → (f : Failure) → (f ≡ NotOpen → ⊥) → (f ≡ OutOfMemory → ⊥) → (f ≡ Absent → ⊥) → (f ≡ BadArgument → ⊥) → n ≡ code_of f → ⊥
+  value-apart : ValueCall → (f : CallError) → (f ≡ NotOpen → ⊥) → (f ≡ OutOfMemory → ⊥) → (f ≡ Absent → ⊥) → (f ≡ BadArgument → ⊥) → n ≡ code_of f → ⊥
   value-apart call f closed memory none bad is =
       call.statuses (not-ok n f is) (not-of n f NotOpen closed is) (not-of n f OutOfMemory memory is) (not-of n f Absent none is) (not-of n f BadArgument bad is)
 
-  value-fails : ValueCall → (f : Failure) → (f ≡ NotOpen → ⊥) → n ≡ code_of f → IsSomeAnd o (λ h. CallFails (Takes h) (Lacks h) (IsBad h) f)
-  value-fails call NotOpen other is = absurd (other refl)
-  value-fails call OutOfMemory other is = call.out_of_memory is
-  value-fails call TooSmall other is = absurd (value-apart call TooSmall other (λ e. cc) (λ e. cc) (λ e. cc) is)
-  value-fails call NoEnvelope other is = absurd (value-apart call NoEnvelope other (λ e. cc) (λ e. cc) (λ e. cc) is)
-  value-fails call Refused other is = absurd (value-apart call Refused other (λ e. cc) (λ e. cc) (λ e. cc) is)
-  value-fails call Absent other is = call.none is
-  value-fails call BadArgument other is = call.bad_argument is
-  value-fails call UnknownAlgorithm other is = absurd (value-apart call UnknownAlgorithm other (λ e. cc) (λ e. cc) (λ e. cc) is)
+  value-errors : ValueCall → (f : CallError) → (f ≡ NotOpen → ⊥) → n ≡ code_of f → IsSomeAnd o (λ h. CallErrors (Takes h) (Lacks h) (IsBad h) f)
+  value-errors call NotOpen other is = absurd (other refl)
+  value-errors call OutOfMemory other is = call.out_of_memory is
+  value-errors call TooSmall other is = absurd (value-apart call TooSmall other (λ e. cc) (λ e. cc) (λ e. cc) is)
+  value-errors call NoEnvelope other is = absurd (value-apart call NoEnvelope other (λ e. cc) (λ e. cc) (λ e. cc) is)
+  value-errors call Refused other is = absurd (value-apart call Refused other (λ e. cc) (λ e. cc) (λ e. cc) is)
+  value-errors call Absent other is = call.none is
+  value-errors call BadArgument other is = call.bad_argument is
+  value-errors call UnknownAlgorithm other is = absurd (value-apart call UnknownAlgorithm other (λ e. cc) (λ e. cc) (λ e. cc) is)
 
   pub value-same : ValueCall ↔ ValueAnswers
   value-same = (
-    λ call. answers n P (λ h. CallFails (Takes h) (Lacks h) (IsBad h))
-        (λ m is. call.statuses (above n m 0 is (omega arith)) (above n m 1 is (omega arith)) (above n m 2 is (omega arith)) (above n m 6 is (omega arith)) (above n m 7 is (omega arith))) o call.not_open call.ok (value-fails call),
+    λ call. answers n P (λ h. CallErrors (Takes h) (Lacks h) (IsBad h))
+        (λ m is. call.statuses (above n m 0 is (omega arith)) (above n m 1 is (omega arith)) (above n m 2 is (omega arith)) (above n m 6 is (omega arith)) (above n m 7 is (omega arith))) o call.not_open call.ok (value-errors call),
     value-each,
   )
 
@@ -239,13 +239,13 @@ module _ (n : ℕ) (P Takes Differs IsBad : Type 0) where
 
   -- the same in one statement
   abbrev pub ProofStatus : Type 0
-  ProofStatus = IsStatusOf n P (ProofFails Takes Differs IsBad)
+  ProofStatus = IsStatusOf n P (ProofErrors Takes Differs IsBad)
 
-  proof-never : n ≢ WARG_OUT_OF_MEMORY → n ≢ WARG_REFUSED → n ≢ WARG_BAD_ARGUMENT → (f : Failure) → n ≡ code_of f → ProofFails Takes Differs IsBad f → ⊥
-  proof-never memory refused bad OutOfMemory is fails = memory is
-  proof-never memory refused bad Refused is fails = refused is
-  proof-never memory refused bad BadArgument is fails = bad is
-  proof-never memory refused bad f is fails = fails
+  proof-never : n ≢ WARG_OUT_OF_MEMORY → n ≢ WARG_REFUSED → n ≢ WARG_BAD_ARGUMENT → (f : CallError) → n ≡ code_of f → ProofErrors Takes Differs IsBad f → ⊥
+  proof-never memory refused bad OutOfMemory is errors = memory is
+  proof-never memory refused bad Refused is errors = refused is
+  proof-never memory refused bad BadArgument is errors = bad is
+  proof-never memory refused bad f is errors = errors
 
   pub proof-each : ProofStatus → ProofCall
   proof-each answer = record {
@@ -256,21 +256,21 @@ module _ (n : ℕ) (P Takes Differs IsBad : Type 0) where
     bad_argument = answer.2 BadArgument;
   }
 
-  proof-apart : ProofCall → (f : Failure) → (f ≡ OutOfMemory → ⊥) → (f ≡ Refused → ⊥) → (f ≡ BadArgument → ⊥) → n ≡ code_of f → ⊥
+  proof-apart : ProofCall → (f : CallError) → (f ≡ OutOfMemory → ⊥) → (f ≡ Refused → ⊥) → (f ≡ BadArgument → ⊥) → n ≡ code_of f → ⊥
   proof-apart call f memory refused bad is = call.statuses (not-ok n f is) (not-of n f OutOfMemory memory is) (not-of n f Refused refused is) (not-of n f BadArgument bad is)
 
-  proof-fails : ProofCall → (f : Failure) → n ≡ code_of f → ProofFails Takes Differs IsBad f
-  proof-fails call NotOpen is = proof-apart call NotOpen (λ e. cc) (λ e. cc) (λ e. cc) is
-  proof-fails call OutOfMemory is = call.out_of_memory is
-  proof-fails call TooSmall is = proof-apart call TooSmall (λ e. cc) (λ e. cc) (λ e. cc) is
-  proof-fails call NoEnvelope is = proof-apart call NoEnvelope (λ e. cc) (λ e. cc) (λ e. cc) is
-  proof-fails call Refused is = call.refused is
-  proof-fails call Absent is = proof-apart call Absent (λ e. cc) (λ e. cc) (λ e. cc) is
-  proof-fails call BadArgument is = call.bad_argument is
-  proof-fails call UnknownAlgorithm is = proof-apart call UnknownAlgorithm (λ e. cc) (λ e. cc) (λ e. cc) is
+  proof-errors : ProofCall → (f : CallError) → n ≡ code_of f → ProofErrors Takes Differs IsBad f
+  proof-errors call NotOpen is = proof-apart call NotOpen (λ e. cc) (λ e. cc) (λ e. cc) is
+  proof-errors call OutOfMemory is = call.out_of_memory is
+  proof-errors call TooSmall is = proof-apart call TooSmall (λ e. cc) (λ e. cc) (λ e. cc) is
+  proof-errors call NoEnvelope is = proof-apart call NoEnvelope (λ e. cc) (λ e. cc) (λ e. cc) is
+  proof-errors call Refused is = call.refused is
+  proof-errors call Absent is = proof-apart call Absent (λ e. cc) (λ e. cc) (λ e. cc) is
+  proof-errors call BadArgument is = call.bad_argument is
+  proof-errors call UnknownAlgorithm is = proof-apart call UnknownAlgorithm (λ e. cc) (λ e. cc) (λ e. cc) is
 
   pub proof-same : ProofCall ↔ ProofStatus
   proof-same = (
-    λ call. (few-if n (λ m is. call.statuses (above n m 0 is (omega arith)) (above n m 2 is (omega arith)) (above n m 5 is (omega arith)) (above n m 7 is (omega arith))), call.ok, proof-fails call),
+    λ call. (few-if n (λ m is. call.statuses (above n m 0 is (omega arith)) (above n m 2 is (omega arith)) (above n m 5 is (omega arith)) (above n m 7 is (omega arith))), call.ok, proof-errors call),
     proof-each,
   )

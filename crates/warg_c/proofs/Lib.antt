@@ -1,7 +1,7 @@
 pub mod AsBox
 pub mod Steps
 pub mod Words
-pub mod Refusals
+pub mod ErrorTexts
 pub mod Others
 pub mod Verifications
 pub mod Sentences

@@ -3,20 +3,20 @@ use Rattle.std.proofs.Common.{◌≡◌, ◌⊎◌, inl, inr, ℕ, List, Bool, t
 use Rattle.std.specs.Str.{IsUtf8}
 use Rattle.warg_crypto.specs.Keys.{public_key_of, signature_of}
 use Rattle.warg_crypto.specs.NamedBytes.{NamedBytes}
-use Rattle.warg_c.specs.Verifying.{IsP256Key, VerifyFails}
-use Rattle.warg_c.specs.declared.failure.Failure.{Failure}
-use Rattle.warg_c.specs.declared.failure.Failure.TheVariants.{OutOfMemory, BadArgument}
+use Rattle.warg_c.specs.Verifying.{IsP256Key, VerifyErrors}
+use Rattle.warg_c.specs.declared.call_error.CallError.{CallError}
+use Rattle.warg_c.specs.declared.call_error.CallError.TheVariants.{OutOfMemory, BadArgument}
 
 module _ (key message signature : List ℕ) where
   -- the key's text can't be read
-  pub key-fails : (f : Failure) → (f ≡ OutOfMemory) ⊎ ((f ≡ BadArgument) × ((k : NamedBytes) → IsUtf8 key → public_key_of key ≡ Ok k → ⊥)) → VerifyFails key message signature f
-  key-fails f (inl is) = subst (λ g. VerifyFails key message signature g) (sym is) tt
-  key-fails f (inr (is, none)) = subst (λ g. VerifyFails key message signature g) (sym is) (inl (λ utf8 k said. none k utf8 said))
+  pub key-errors : (f : CallError) → (f ≡ OutOfMemory) ⊎ ((f ≡ BadArgument) × ((k : NamedBytes) → IsUtf8 key → public_key_of key ≡ Ok k → ⊥)) → VerifyErrors key message signature f
+  key-errors f (inl is) = subst (λ g. VerifyErrors key message signature g) (sym is) tt
+  key-errors f (inr (is, none)) = subst (λ g. VerifyErrors key message signature g) (sym is) (inl (λ utf8 k said. none k utf8 said))
 
   -- the signature's text can't be read
-  pub signature-fails : (k : NamedBytes) → IsUtf8 key → public_key_of key ≡ Ok k → IsP256Key k → (f : Failure) → (f ≡ OutOfMemory) ⊎ ((f ≡ BadArgument) × ((s : NamedBytes) → IsUtf8 signature → signature_of signature ≡ Ok s → ⊥)) → VerifyFails key message signature f
-  signature-fails k utf8 said own f (inl is) = subst (λ g. VerifyFails key message signature g) (sym is) tt
-  signature-fails k utf8 said own f (inr (is, none)) = subst (λ g. VerifyFails key message signature g) (sym is) (inr ((k, utf8, said, own), λ utf8 s said. none s utf8 said))
+  pub signature-errors : (k : NamedBytes) → IsUtf8 key → public_key_of key ≡ Ok k → IsP256Key k → (f : CallError) → (f ≡ OutOfMemory) ⊎ ((f ≡ BadArgument) × ((s : NamedBytes) → IsUtf8 signature → signature_of signature ≡ Ok s → ⊥)) → VerifyErrors key message signature f
+  signature-errors k utf8 said own f (inl is) = subst (λ g. VerifyErrors key message signature g) (sym is) tt
+  signature-errors k utf8 said own f (inr (is, none)) = subst (λ g. VerifyErrors key message signature g) (sym is) (inr ((k, utf8, said, own), λ utf8 s said. none s utf8 said))
 
 -- what is not otherwise is so
 pub is-so : (b : Bool) → not b ≡ false → IsTrue b

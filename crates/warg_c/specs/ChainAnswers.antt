@@ -9,8 +9,8 @@ use Rattle.warg_permissions.specs.OperatorPermissions as operator_permission
 use Rattle.warg_permissions.specs.PackagePermissions as package_permission
 use Rattle.warg_log_records.specs.Effects.{Effects}
 use Rattle.warg_c.specs.declared.exports.chains.Link.{Link}
-use Rattle.warg_c.specs.declared.held.Held.{Held}
-use Rattle.warg_c.specs.declared.held.Held.TheVariants.{Package, Operator}
+use Rattle.warg_c.specs.declared.any_log.AnyLog.{AnyLog}
+use Rattle.warg_c.specs.declared.any_log.AnyLog.TheVariants.{Package, Operator}
 use Rattle.warg_c.specs.Keys.{IsNoPermission}
 use Rattle.warg_c.specs.Logs.{whole_of}
 
@@ -29,20 +29,20 @@ module _ {S C P : Type 0} (f : Effects P) (named : List ℕ → Option P) where
   NoChain (Some log) key text = (p : P) × (named text ≡ Some p) × IsChainAnswer f (envelopes log.records) key p None
   NoChain None key text = ⊥
 
-abbrev pub chain_tells : Held → List ℕ → List ℕ → List Link → Type 0
+abbrev pub chain_tells : AnyLog → List ℕ → List ℕ → List Link → Type 0
 chain_tells (Package log) = ChainIs package_laws.effects package_permission.permission_in (whole_of log)
 chain_tells (Operator log) = ChainIs operator_laws.effects operator_permission.permission_in (whole_of log)
 
 -- the log has records, and logs of the kind have a permission of this name
-abbrev pub chain_takes : Held → List ℕ → Type 0
+abbrev pub chain_takes : AnyLog → List ℕ → Type 0
 chain_takes (Package log) text = IsSome (whole_of log) × IsSome (package_permission.permission_in text)
 chain_takes (Operator log) text = IsSome (whole_of log) × IsSome (operator_permission.permission_in text)
 
-abbrev pub chain_lacks : Held → List ℕ → List ℕ → Type 0
+abbrev pub chain_lacks : AnyLog → List ℕ → List ℕ → Type 0
 chain_lacks (Package log) = NoChain package_laws.effects package_permission.permission_in (whole_of log)
 chain_lacks (Operator log) = NoChain operator_laws.effects operator_permission.permission_in (whole_of log)
 
 -- the log was resumed, or the texts are no key id and permission
-abbrev pub chain_bad : Held → List ℕ → List ℕ → Type 0
+abbrev pub chain_bad : AnyLog → List ℕ → List ℕ → Type 0
 chain_bad (Package log) key text = (whole_of log ≡ None) ⊎ IsNoPermission package_permission.permission_in key text
 chain_bad (Operator log) key text = (whole_of log ≡ None) ⊎ IsNoPermission operator_permission.permission_in key text

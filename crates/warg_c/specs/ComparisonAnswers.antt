@@ -10,11 +10,11 @@ use Rattle.warg_package_log.specs.State as packages
 use Rattle.warg_package_log.specs.StateLaws as package_laws
 use Rattle.warg_log_records.specs.Kinds.{Kind}
 use Rattle.warg_c.specs.declared.exports.comparing.Comparison.{Comparison}
-use Rattle.warg_c.specs.declared.held.Held.{Held}
-use Rattle.warg_c.specs.declared.held.Held.TheVariants.{Package, Operator}
+use Rattle.warg_c.specs.declared.any_log.AnyLog.{AnyLog}
+use Rattle.warg_c.specs.declared.any_log.AnyLog.TheVariants.{Package, Operator}
 use Rattle.warg_c.specs.Logs.{whole_of}
 use Rattle.warg_c.specs.Statuses.{Answers}
-use Rattle.warg_c.specs.Texts.{CallFails}
+use Rattle.warg_c.specs.Texts.{CallErrors}
 
 -- a comparison as numbers
 abbrev pub shown_of : whole.Comparison → Comparison
@@ -31,24 +31,24 @@ module _ {View Offence S C : Type 0} (k : Kind View Offence) (view : S → View)
   ComparisonIs (Some l) None n = ⊥
   ComparisonIs None r n = ⊥
 
-abbrev pub compare_tells : Held → Held → Comparison → Type 0
+abbrev pub compare_tells : AnyLog → AnyLog → Comparison → Type 0
 compare_tells (Package l) (Package r) n = ComparisonIs package_laws.kind packages.view_of (whole_of l) (whole_of r) n
 compare_tells (Operator l) (Operator r) n = ComparisonIs operator_laws.kind operators.view_of (whole_of l) (whole_of r) n
 compare_tells (Package l) (Operator r) n = ⊥
 compare_tells (Operator l) (Package r) n = ⊥
 
 -- the kinds differ, or the records of one are elsewhere
-abbrev pub compare_bad : Held → Held → Type 0
+abbrev pub compare_bad : AnyLog → AnyLog → Type 0
 compare_bad (Package l) (Package r) = (whole_of l ≡ None) ⊎ (whole_of r ≡ None)
 compare_bad (Operator l) (Operator r) = (whole_of l ≡ None) ⊎ (whole_of r ≡ None)
 compare_bad (Package l) (Operator r) = Unit {0}
 compare_bad (Operator l) (Package r) = Unit {0}
 
 -- both handles hold a log, and this is so of the two
-abbrev pub AreBoth : Option Held → Option Held → (Held → Held → Type 0) → Type 0
+abbrev pub AreBoth : Option AnyLog → Option AnyLog → (AnyLog → AnyLog → Type 0) → Type 0
 AreBoth left right P = IsSomeAnd left (λ l. IsSomeAnd right (λ r. P l r))
 
 -- the answer to what two handles hold; the status is 1 where one holds nothing
-abbrev pub compare_answers : ℕ → Option Held → Option Held → Comparison → Type 0
+abbrev pub compare_answers : ℕ → Option AnyLog → Option AnyLog → Comparison → Type 0
 compare_answers n None right comparison = n ≡ 1
-compare_answers n (Some l) right comparison = Answers n right (λ held. compare_tells l held comparison) (λ held. CallFails ⊥ ⊥ (compare_bad l held))
+compare_answers n (Some l) right comparison = Answers n right (λ held. compare_tells l held comparison) (λ held. CallErrors ⊥ ⊥ (compare_bad l held))

@@ -7,8 +7,8 @@ use Rattle.warg_operator_log.specs.State as operators
 use Rattle.warg_package_log.specs.State as packages
 use Rattle.warg_permissions.specs.OperatorPermissions as operator_permission
 use Rattle.warg_permissions.specs.PackagePermissions as package_permission
-use Rattle.warg_c.specs.declared.held.Held.{Held}
-use Rattle.warg_c.specs.declared.held.Held.TheVariants.{Package, Operator}
+use Rattle.warg_c.specs.declared.any_log.AnyLog.{AnyLog}
+use Rattle.warg_c.specs.declared.any_log.AnyLog.TheVariants.{Package, Operator}
 use Rattle.warg_c.specs.Logs.{state_of}
 
 module _ {P : Type 0} (named : List ℕ → Option P) where
@@ -20,16 +20,16 @@ module _ {P : Type 0} (named : List ℕ → Option P) where
   abbrev pub IsNoPermission : List ℕ → List ℕ → Type 0
   IsNoPermission key text = IsUtf8 key → IsUtf8 text → named text ≡ None
 
-abbrev pub holds_tells : Held → List ℕ → List ℕ → Bool → Type 0
+abbrev pub holds_tells : AnyLog → List ℕ → List ℕ → Bool → Type 0
 holds_tells (Package log) = HoldsIs package_permission.permission_in (λ key p. (packages.view_of (state_of log)).state.authority.holds key p)
 holds_tells (Operator log) = HoldsIs operator_permission.permission_in (λ key p. (operators.view_of (state_of log)).state.authority.holds key p)
 
-abbrev pub holds_bad : Held → List ℕ → List ℕ → Type 0
+abbrev pub holds_bad : AnyLog → List ℕ → List ℕ → Type 0
 holds_bad (Package log) = IsNoPermission package_permission.permission_in
 holds_bad (Operator log) = IsNoPermission operator_permission.permission_in
 
 -- logs of the kind have a permission of this name
-abbrev pub is_permission : Held → List ℕ → Type 0
+abbrev pub is_permission : AnyLog → List ℕ → Type 0
 is_permission (Package log) text = IsSome (package_permission.permission_in text)
 is_permission (Operator log) text = IsSome (operator_permission.permission_in text)
 
@@ -48,17 +48,17 @@ PackageText v key text = text ≡ held_names package_permission.permission_text 
 abbrev pub OperatorText : operators.View → List ℕ → List ℕ → Type 0
 OperatorText v key text = text ≡ held_names operator_permission.permission_text (v.state.authority.holds key) operator_permission.all_permissions
 
-abbrev pub permissions_tell : Held → List ℕ → List ℕ → Type 0
+abbrev pub permissions_tell : AnyLog → List ℕ → List ℕ → Type 0
 permissions_tell (Package log) = PackageText (packages.view_of (state_of log))
 permissions_tell (Operator log) = OperatorText (operators.view_of (state_of log))
 
 -- the log does not know the key id
-abbrev pub permissions_lack : Held → List ℕ → Type 0
+abbrev pub permissions_lack : AnyLog → List ℕ → Type 0
 permissions_lack (Package log) key = (packages.view_of (state_of log)).state.authority.has_entry key ≡ false
 permissions_lack (Operator log) key = (operators.view_of (state_of log)).state.authority.has_entry key ≡ false
 
 -- the key of an id
-abbrev pub key_of : Held → List ℕ → Option NamedBytes
+abbrev pub key_of : AnyLog → List ℕ → Option NamedBytes
 key_of (Package log) = (packages.view_of (state_of log)).state.authority.key
 key_of (Operator log) = (operators.view_of (state_of log)).state.authority.key
 

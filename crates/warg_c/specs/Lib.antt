@@ -1,14 +1,14 @@
 pub mod Kept
 pub mod Statuses
 pub mod Texts
-pub mod Misuses
+pub mod ArgumentErrors
 pub mod Questions
 pub mod Verifying
 pub mod Logs
 pub mod KeptWords
-pub mod Held
+pub mod AnyLogs
 pub mod AppendAnswers
-pub mod AppendFailures
+pub mod AppendErrors
 pub mod Runs
 pub mod Lookups
 pub mod ReleaseAnswers

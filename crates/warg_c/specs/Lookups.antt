@@ -14,8 +14,8 @@ use Rattle.warg_protobuf.specs.Envelope.{envelope_bytes}
 use Rattle.warg_log_records.specs.declared.record_id.RecordId.{RecordId}
 use Rattle.warg_log_records.specs.Kinds.{Kind}
 use Rattle.warg_c.specs.declared.exports.records.KeptLengths.{KeptLengths}
-use Rattle.warg_c.specs.declared.held.Held.{Held}
-use Rattle.warg_c.specs.declared.held.Held.TheVariants.{Package, Operator}
+use Rattle.warg_c.specs.declared.any_log.AnyLog.{AnyLog}
+use Rattle.warg_c.specs.declared.any_log.AnyLog.TheVariants.{Package, Operator}
 use Rattle.warg_c.specs.Logs.{state_of, whole_of}
 
 -- the text of an id
@@ -23,7 +23,7 @@ abbrev pub IdText : Option RecordId → List ℕ → Type 0
 IdText id text = Some text ≡ option_map (λ i. hash_text i.hash) id
 
 -- the id of the last record
-abbrev pub head_of : Held → Option RecordId
+abbrev pub head_of : AnyLog → Option RecordId
 head_of (Package log) = package_laws.kind.head (packages.view_of (state_of log))
 head_of (Operator log) = operator_laws.kind.head (operators.view_of (state_of log))
 
@@ -53,24 +53,24 @@ module _ {View Offence : Type 0} (k : Kind View Offence) where
     IsRecordAt None place n bytes = ⊥
     IsRecordAt (Some log) place n bytes = (e : DecodedEnvelope C) × (slice_get log.records place ≡ Some e) × IsRecord e.envelope n bytes
 
-abbrev pub length_tells : Held → ℕ → Type 0
+abbrev pub length_tells : AnyLog → ℕ → Type 0
 length_tells (Package log) n = LengthIs (whole_of log) n
 length_tells (Operator log) n = LengthIs (whole_of log) n
 
 -- the log was resumed, and its records are elsewhere
-abbrev pub has_no_records : Held → Type 0
+abbrev pub has_no_records : AnyLog → Type 0
 has_no_records (Package log) = whole_of log ≡ None
 has_no_records (Operator log) = whole_of log ≡ None
 
 -- the log has records
-abbrev pub record_takes : Held → Type 0
+abbrev pub record_takes : AnyLog → Type 0
 record_takes (Package log) = IsSome (whole_of log)
 record_takes (Operator log) = IsSome (whole_of log)
 
-abbrev pub record_tells : Held → ℕ → KeptLengths → List ℕ → Type 0
+abbrev pub record_tells : AnyLog → ℕ → KeptLengths → List ℕ → Type 0
 record_tells (Package log) place n bytes = IsRecordAt package_laws.kind (whole_of log) place n bytes
 record_tells (Operator log) place n bytes = IsRecordAt operator_laws.kind (whole_of log) place n bytes
 
-abbrev pub record_lacks : Held → ℕ → Type 0
+abbrev pub record_lacks : AnyLog → ℕ → Type 0
 record_lacks (Package log) place = IsBeyond (whole_of log) place
 record_lacks (Operator log) place = IsBeyond (whole_of log) place

@@ -11,8 +11,8 @@ use Rattle.warg_merkle.specs.Extensions.{IsConsistent}
 use Rattle.warg_merkle.specs.SparseMap.Maps.{Leads}
 use Rattle.warg_transparency.specs.Heads.{head_leaf}
 use Rattle.warg_transparency.specs.Texts.{log_proof_of, map_proof_of}
-use Rattle.warg_c.specs.declared.failure.Failure.{Failure}
-use Rattle.warg_c.specs.declared.failure.Failure.TheVariants.{OutOfMemory, Refused, BadArgument}
+use Rattle.warg_c.specs.declared.call_error.CallError.{CallError}
+use Rattle.warg_c.specs.declared.call_error.CallError.TheVariants.{OutOfMemory, Refused, BadArgument}
 
 -- a text that is not UTF-8, or reads as nothing
 abbrev pub IsNoText : {X E : Type 0} → (List ℕ → Result X E) → List ℕ → Type 0
@@ -24,11 +24,11 @@ pub record AreLeafTexts (log_text record_text : List ℕ) (leaf : LogLeaf) : Typ
   pub record_id : hash_of record_text ≡ Ok leaf.record_id.hash
 
 -- why nothing is proved: no memory, where some is taken, the proof differs, or a text is not of its form
-abbrev pub ProofFails : Type 0 → Type 0 → Type 0 → Failure → Type 0
-ProofFails Takes Differs IsBad OutOfMemory = Takes
-ProofFails Takes Differs IsBad Refused = Differs
-ProofFails Takes Differs IsBad BadArgument = IsBad
-ProofFails Takes Differs IsBad f = ⊥
+abbrev pub ProofErrors : Type 0 → Type 0 → Type 0 → CallError → Type 0
+ProofErrors Takes Differs IsBad OutOfMemory = Takes
+ProofErrors Takes Differs IsBad Refused = Differs
+ProofErrors Takes Differs IsBad BadArgument = IsBad
+ProofErrors Takes Differs IsBad f = ⊥
 
 -- the texts are of hashes, so that a proof's text is read
 abbrev pub AreHashes : (log_id record_id root : List ℕ) → Type 0

@@ -4,13 +4,13 @@ use Rattle.std.specs.Str.{IsUtf8}
 use Rattle.warg_transparency.specs.Texts.{log_proof_of, map_proof_of}
 use Rattle.warg_transparency.specs.declared.error.ProofTextError.{ProofTextError}
 use Rattle.warg_transparency.specs.declared.error.ProofTextError.TheVariants as fault
-use Rattle.warg_c.specs.declared.failure.Failure.{Failure}
-use Rattle.warg_c.specs.declared.failure.Failure.TheVariants.{BadArgument}
+use Rattle.warg_c.specs.declared.call_error.CallError.{CallError}
+use Rattle.warg_c.specs.declared.call_error.CallError.TheVariants.{BadArgument}
 use Rattle.warg_c.specs.declared.proof_text.Tree.{Tree}
 use Rattle.warg_c.specs.declared.proof_text.Tree.TheVariants.{Log, Map}
 
 -- the tree that a number names
-abbrev pub tree_numbered : ℕ → Result Tree Failure
+abbrev pub tree_numbered : ℕ → Result Tree CallError
 tree_numbered zero = Ok Log
 tree_numbered (suc zero) = Ok Map
 tree_numbered (suc (suc n)) = Err BadArgument

@@ -11,8 +11,8 @@ use Rattle.warg_package_log.specs.Releases.{ReleaseView, find_parts}
 use Rattle.warg_package_log.specs.declared.release.ReleaseState.{ReleaseState}
 use Rattle.warg_package_log.specs.declared.release.ReleaseState.TheVariants.{Released, Yanked}
 use Rattle.warg_log_records.specs.PackageEntries.{VersionParts}
-use Rattle.warg_c.specs.declared.held.Held.{Held}
-use Rattle.warg_c.specs.declared.held.Held.TheVariants.{Package, Operator}
+use Rattle.warg_c.specs.declared.any_log.AnyLog.{AnyLog}
+use Rattle.warg_c.specs.declared.any_log.AnyLog.TheVariants.{Package, Operator}
 use Rattle.warg_c.specs.declared.release_text.ShownRelease.{ShownRelease}
 use Rattle.warg_c.specs.Logs.{state_of}
 
@@ -63,53 +63,53 @@ abbrev pub IsAt : ℕ → List ReleaseView → Option ReleaseView → Type 0
 IsAt place releases found = slice_get releases place ≡ found
 
 -- the log is one of a package
-abbrev pub is_package : Held → Type 0
+abbrev pub is_package : AnyLog → Type 0
 is_package (Package log) = Unit {0}
 is_package (Operator log) = ⊥
 
 -- the latest release that a requirement asks for is shown
-abbrev pub latest_tells : Held → List ℕ → ShownRelease → List ℕ → Type 0
+abbrev pub latest_tells : AnyLog → List ℕ → ShownRelease → List ℕ → Type 0
 latest_tells (Package log) requirement n text = (r : ReleaseView) × IsLatest (state_of log).own_state requirement (Some r) × Shows r n text
 latest_tells (Operator log) requirement n text = ⊥
 
-abbrev pub latest_lacks : Held → List ℕ → Type 0
+abbrev pub latest_lacks : AnyLog → List ℕ → Type 0
 latest_lacks (Package log) requirement = IsLatest (state_of log).own_state requirement None
 latest_lacks (Operator log) requirement = ⊥
 
 -- the text is no requirement, or the log is of operators
-abbrev pub latest_bad : Held → List ℕ → Type 0
+abbrev pub latest_bad : AnyLog → List ℕ → Type 0
 latest_bad (Package log) requirement = IsNoRequirement requirement
 latest_bad (Operator log) requirement = Unit {0}
 
 -- the release of a version is shown
-abbrev pub release_tells : Held → List ℕ → ShownRelease → List ℕ → Type 0
+abbrev pub release_tells : AnyLog → List ℕ → ShownRelease → List ℕ → Type 0
 release_tells (Package log) version n text = (r : ReleaseView) × IsReleaseOf (state_of log).own_state version (Some r) × Shows r n text
 release_tells (Operator log) version n text = ⊥
 
-abbrev pub release_lacks : Held → List ℕ → Type 0
+abbrev pub release_lacks : AnyLog → List ℕ → Type 0
 release_lacks (Package log) version = IsReleaseOf (state_of log).own_state version None
 release_lacks (Operator log) version = ⊥
 
 -- the text is no version, or the log is of operators
-abbrev pub release_bad : Held → List ℕ → Type 0
+abbrev pub release_bad : AnyLog → List ℕ → Type 0
 release_bad (Package log) version = IsNoVersion version
 release_bad (Operator log) version = Unit {0}
 
 -- the release at a place is shown
-abbrev pub place_tells : Held → ℕ → ShownRelease → List ℕ → Type 0
+abbrev pub place_tells : AnyLog → ℕ → ShownRelease → List ℕ → Type 0
 place_tells (Package log) place n text = (r : ReleaseView) × IsAt place (state_of log).own_state (Some r) × Shows r n text
 place_tells (Operator log) place n text = ⊥
 
 -- there is a release at the place
-abbrev pub place_takes : Held → ℕ → Type 0
+abbrev pub place_takes : AnyLog → ℕ → Type 0
 place_takes (Package log) place = IsSome (slice_get (state_of log).own_state place)
 place_takes (Operator log) place = ⊥
 
-abbrev pub place_lacks : Held → ℕ → Type 0
+abbrev pub place_lacks : AnyLog → ℕ → Type 0
 place_lacks (Package log) place = IsAt place (state_of log).own_state None
 place_lacks (Operator log) place = ⊥
 
 -- the log is of operators
-abbrev pub place_bad : Held → Type 0
+abbrev pub place_bad : AnyLog → Type 0
 place_bad (Package log) = ⊥
 place_bad (Operator log) = Unit {0}

@@ -12,56 +12,56 @@ use Rattle.warg_saved_states.specs.JsonText.{in_text, TextReadsBack}
 use Rattle.warg_saved_states.specs.Texts.{text_of}
 use Rattle.warg_saved_states.specs.declared.error.JsonTextError.{JsonTextError}
 use Rattle.warg_saved_states.specs.declared.error.JsonTextError.TheVariants as json
-use Rattle.warg_c.specs.declared.failure.Failure.{Failure}
-use Rattle.warg_c.specs.declared.held.Held.{Held}
-use Rattle.warg_c.specs.declared.held.Held.TheVariants.{Package, Operator}
-use Rattle.warg_c.specs.declared.held.Kind.{Kind}
-use Rattle.warg_c.specs.declared.held.Kind.TheVariants as kinds
-use Rattle.warg_c.specs.declared.kept_log.KeptLog.TheVariants.{Whole, Resumed}
-use Rattle.warg_c.specs.Held.{IsNoKind, IsOfNumber, kind_numbered}
+use Rattle.warg_c.specs.declared.call_error.CallError.{CallError}
+use Rattle.warg_c.specs.declared.any_log.AnyLog.{AnyLog}
+use Rattle.warg_c.specs.declared.any_log.AnyLog.TheVariants.{Package, Operator}
+use Rattle.warg_c.specs.declared.any_log.LogKind.{LogKind}
+use Rattle.warg_c.specs.declared.any_log.LogKind.TheVariants as kinds
+use Rattle.warg_c.specs.declared.log_or_state.LogOrState.TheVariants.{Whole, Resumed}
+use Rattle.warg_c.specs.AnyLogs.{IsNoKind, IsOfNumber, kind_numbered}
 use Rattle.warg_c.specs.Logs.{state_of}
-use Rattle.warg_c.specs.Misuses.{misuse_text}
-use Rattle.warg_c.specs.Texts.{Always, FailsAs, IsGiven}
-use Rattle.warg_c.specs.declared.misuse.Misuse.TheVariants.{NoKind}
+use Rattle.warg_c.specs.ArgumentErrors.{argument_error_text}
+use Rattle.warg_c.specs.Texts.{Always, ErrorsAs, IsGiven}
+use Rattle.warg_c.specs.declared.argument_error.ArgumentError.TheVariants.{NoKind}
 
 -- the state's JSON as a text, or why it has none
-abbrev pub saved_text : Held → Result (List ℕ) JsonError
+abbrev pub saved_text : AnyLog → Result (List ℕ) JsonError
 saved_text (Package log) = text_of (packages.state_json (state_of log))
 saved_text (Operator log) = text_of (operators.state_json (state_of log))
 
-abbrev pub save_tells : Held → List ℕ → Type 0
+abbrev pub save_tells : AnyLog → List ℕ → Type 0
 save_tells held text = saved_text held ≡ Ok text
 
-abbrev pub save_lacks : Held → Type 0
+abbrev pub save_lacks : AnyLog → Type 0
 save_lacks held = (e : JsonError) × (saved_text held ≡ Err e)
 
 -- what is wanted is written, or there is none
-abbrev pub IsWritten : {V : Type 0} → (V → List ℕ) → Result (List ℕ) JsonError → Result V Failure → Type 0
+abbrev pub IsWritten : {V : Type 0} → (V → List ℕ) → Result (List ℕ) JsonError → Result V CallError → Type 0
 IsWritten items want (Ok v) = want ≡ Ok (items v)
-IsWritten items want (Err f) = FailsAs Always ((e : JsonError) × (want ≡ Err e)) ⊥ f
+IsWritten items want (Err f) = ErrorsAs Always ((e : JsonError) × (want ≡ Err e)) ⊥ f
 
 -- the text is read as an equal state; of a package log where the texts of its versions read back, as those of every accepted log do
-abbrev pub reads_back : Held → List ℕ → Type 0
+abbrev pub reads_back : AnyLog → List ℕ → Type 0
 reads_back (Package log) text = AreReadBack (packages_back.saved_versions (state_of log)) → TextReadsBack packages.state_in packages_back.AreEqual (state_of log) text
 reads_back (Operator log) text = TextReadsBack operators.state_in operators_back.AreEqual (state_of log) text
 
 -- the log goes on from the state that the text says
-abbrev pub resume_gives : List ℕ → Held → Type 0
+abbrev pub resume_gives : List ℕ → AnyLog → Type 0
 resume_gives text (Package (Whole log)) = ⊥
 resume_gives text (Package (Resumed s)) = in_text packages.state_in text ≡ Ok s
 resume_gives text (Operator (Whole log)) = ⊥
 resume_gives text (Operator (Resumed s)) = in_text operators.state_in text ≡ Ok s
 
-abbrev pub resume_gives_number : ℕ → List ℕ → Held → Type 0
+abbrev pub resume_gives_number : ℕ → List ℕ → AnyLog → Type 0
 resume_gives_number n text held = IsOfNumber n held × resume_gives text held
 
 -- the text says no state of the kind, by this fault
-abbrev pub SaysNoState : Kind → List ℕ → JsonTextError → Type 0
+abbrev pub SaysNoState : LogKind → List ℕ → JsonTextError → Type 0
 SaysNoState kinds.Package text e = in_text packages.state_in text ≡ Err e
 SaysNoState kinds.Operator text e = in_text operators.state_in text ≡ Err e
 
 -- the same of any bytes: those that are no UTF-8 are no JSON
-pub record IsSavedFault (kind : Kind) (bytes : List ℕ) (e : JsonTextError) : Type 0 where
+pub record IsSavedFault (kind : LogKind) (bytes : List ℕ) (e : JsonTextError) : Type 0 where
   pub of_text : IsUtf8 bytes → SaysNoState kind bytes e
   pub of_others : (IsUtf8 bytes → ⊥) → e ≡ json.NotJson
 
@@ -83,4 +83,4 @@ fault_text json.OutOfMemory = codes "OutOfMemory: there was no memory"
 
 -- the number names no kind; or the bytes say no state of it; and that is told
 abbrev pub is_no_saved : ℕ → List ℕ → ℕ → List ℕ → Type 0
-is_no_saved n bytes used out = (IsNoKind n × IsGiven (misuse_text NoKind) used out) ⊎ ((kind : Kind) × (e : JsonTextError) × (kind_numbered n ≡ Ok kind) × IsSavedFault kind bytes e × IsGiven (fault_text e) used out)
+is_no_saved n bytes used out = (IsNoKind n × IsGiven (argument_error_text NoKind) used out) ⊎ ((kind : LogKind) × (e : JsonTextError) × (kind_numbered n ≡ Ok kind) × IsSavedFault kind bytes e × IsGiven (fault_text e) used out)

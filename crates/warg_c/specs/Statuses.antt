@@ -1,7 +1,7 @@
 -- The statuses that calls return, by the names that the header gives them.
 use Rattle.std.specs.Prelude.{◌≡◌, ◌≢◌, ◌≤◌, ℕ, zero, suc, List, [], ◌∷◌, codes, Option, Some, None, Result, Ok, Err}
-use Rattle.warg_c.specs.declared.failure.Failure.{Failure}
-use Rattle.warg_c.specs.declared.failure.Failure.TheVariants.{NotOpen, OutOfMemory, TooSmall, NoEnvelope, Refused, Absent, BadArgument, UnknownAlgorithm}
+use Rattle.warg_c.specs.declared.call_error.CallError.{CallError}
+use Rattle.warg_c.specs.declared.call_error.CallError.TheVariants.{NotOpen, OutOfMemory, TooSmall, NoEnvelope, Refused, Absent, BadArgument, UnknownAlgorithm}
 
 abbrev pub WARG_OK : ℕ
 WARG_OK = 0
@@ -39,8 +39,8 @@ Unless (s ∷ ss) n P = n ≢ s → Unless ss n P
 abbrev pub IsOneOf : List ℕ → ℕ → Type 0
 IsOneOf ss n = Unless ss n ⊥
 
--- the status of a failure
-abbrev pub code_of : Failure → ℕ
+-- the status of an error
+abbrev pub code_of : CallError → ℕ
 code_of NotOpen = WARG_NOT_OPEN
 code_of OutOfMemory = WARG_OUT_OF_MEMORY
 code_of TooSmall = WARG_TOO_SMALL
@@ -51,7 +51,7 @@ code_of BadArgument = WARG_BAD_ARGUMENT
 code_of UnknownAlgorithm = WARG_UNKNOWN_ALGORITHM
 
 -- the status of an outcome
-abbrev pub status_of : {T : Type 0} → Result T Failure → ℕ
+abbrev pub status_of : {T : Type 0} → Result T CallError → ℕ
 status_of (Ok _) = WARG_OK
 status_of (Err f) = code_of f
 
@@ -68,11 +68,11 @@ status_name (suc (suc (suc (suc (suc (suc (suc zero))))))) = Some (codes "BadArg
 status_name (suc (suc (suc (suc (suc (suc (suc (suc zero)))))))) = Some (codes "UnknownAlgorithm")
 status_name (suc (suc (suc (suc (suc (suc (suc (suc (suc n))))))))) = None
 
--- all of a call in one statement: P at 0, and Q of the failure at each other status
-abbrev pub IsStatusOf : ℕ → Type 0 → (Failure → Type 0) → Type 0
-IsStatusOf n P Q = (n ≤ 8) × (n ≡ 0 → P) × ((f : Failure) → n ≡ code_of f → Q f)
+-- all of a call in one statement: P at 0, and Q of the error at each other status
+abbrev pub IsStatusOf : ℕ → Type 0 → (CallError → Type 0) → Type 0
+IsStatusOf n P Q = (n ≤ 8) × (n ≡ 0 → P) × ((f : CallError) → n ≡ code_of f → Q f)
 
 -- the same of what a handle holds; the status is 1 where it holds nothing
-abbrev pub Answers : {H : Type 0} → ℕ → Option H → (H → Type 0) → (H → Failure → Type 0) → Type 0
+abbrev pub Answers : {H : Type 0} → ℕ → Option H → (H → Type 0) → (H → CallError → Type 0) → Type 0
 Answers n None P Q = n ≡ 1
 Answers n (Some h) P Q = IsStatusOf n (P h) (Q h)

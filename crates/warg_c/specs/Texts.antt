@@ -2,19 +2,19 @@
 use Rattle.std.specs.Prelude.{◌≡◌, ◌≢◌, ◌⊎◌, ◌<◌, ◌≤◌, ℕ, List, ◌∷◌, ◌++◌, length, take, Option, Some, None, IfSome, Result, Ok, Err}
 use Rattle.warg_envelope.specs.ErrorTexts.{error_text}
 use Rattle.warg_replay.specs.Messages.{cause_name, cause_text}
-use Rattle.warg_replay.specs.Strings.{Cause, Unread, Unlawful}
+use Rattle.warg_replay.specs.Inputs.{Cause, Unread, Unlawful}
 use Rattle.warg_replay.specs.declared.replay.RunCause.{RunCause}
 use Rattle.warg_c.specs.Statuses.{code_of}
-use Rattle.warg_c.specs.declared.failure.Failure.{Failure}
-use Rattle.warg_c.specs.declared.failure.Failure.TheVariants.{OutOfMemory, TooSmall, NoEnvelope, Refused, Absent, BadArgument}
+use Rattle.warg_c.specs.declared.call_error.CallError.{CallError}
+use Rattle.warg_c.specs.declared.call_error.CallError.TheVariants.{OutOfMemory, TooSmall, NoEnvelope, Refused, Absent, BadArgument}
 
 -- what is said to be used lies within the buffer, unless that is too small
-abbrev pub IsWithin : {T A : Type 0} → Result T Failure → ℕ → List A → Type 0
+abbrev pub IsWithin : {T A : Type 0} → Result T CallError → ℕ → List A → Type 0
 IsWithin (Ok _) used out = used ≤ length out
 IsWithin (Err f) used out = f ≢ TooSmall → used ≤ length out
 
 -- nothing is used, unless an error's text is given
-abbrev pub IsQuiet : {T : Type 0} → Result T Failure → ℕ → Type 0
+abbrev pub IsQuiet : {T : Type 0} → Result T CallError → ℕ → Type 0
 IsQuiet (Ok _) used = used ≡ 0
 IsQuiet (Err f) used = f ≢ NoEnvelope → f ≢ Refused → used ≡ 0
 
@@ -40,18 +40,18 @@ IsGiven told used out = ((used ≡ length told) × (take used out ≡ told)) ⊎
 abbrev pub IsErrorText : (List ℕ → Type 0) → ℕ → List ℕ → Type 0
 IsErrorText Says used out = (told : List ℕ) × Says told × IsGiven told used out
 
--- what kind of failure a cause is; none is named where memory ran out
-abbrev pub failure_by : {F Offence : Type 0} → Option (Cause F Offence) → Failure
-failure_by None = OutOfMemory
-failure_by (Some (Unread fault)) = NoEnvelope
-failure_by (Some (Unlawful offence)) = Refused
+-- which error of a call a cause is; none is named where memory ran out
+abbrev pub error_by : {F Offence : Type 0} → Option (Cause F Offence) → CallError
+error_by None = OutOfMemory
+error_by (Some (Unread fault)) = NoEnvelope
+error_by (Some (Unlawful offence)) = Refused
 
 -- the text (or list) that is told is longer than the buffer, and as long as is said
 abbrev pub NeedsRoom : {A : Type 0} → (List A → Type 0) → ℕ → List A → Type 0
 NeedsRoom {A} Tells used out = (text : List A) × Tells text × (used ≡ length text) × (length out < length text)
 
--- what was found is given if there is room, and the failure otherwise; n is the status
-abbrev pub IsFinish : {V A : Type 0} → (V → List A) → Result V Failure → List A → ℕ → ℕ → List A → Type 0
+-- what was found is given if there is room, and the error otherwise; n is the status
+abbrev pub IsFinish : {V A : Type 0} → (V → List A) → Result V CallError → List A → ℕ → ℕ → List A → Type 0
 IsFinish items (Ok v) old n used new = (used ≡ length (items v)) × (((n ≡ 0) × (take (length (items v)) new ≡ items v)) ⊎ ((n ≡ 3) × (length old < length (items v))))
 IsFinish items (Err f) old n used new = n ≡ code_of f
 
@@ -60,20 +60,20 @@ abbrev pub Always : Type 0
 Always = Unit {0}
 
 -- why nothing was found: no memory, where some is taken, there is no such thing, or an argument is not of its form
-abbrev pub FailsAs : Type 0 → Type 0 → Type 0 → Failure → Type 0
-FailsAs Takes Lacks IsBad f = ((f ≡ OutOfMemory) × Takes) ⊎ (((f ≡ Absent) × Lacks) ⊎ ((f ≡ BadArgument) × IsBad))
+abbrev pub ErrorsAs : Type 0 → Type 0 → Type 0 → CallError → Type 0
+ErrorsAs Takes Lacks IsBad f = ((f ≡ OutOfMemory) × Takes) ⊎ (((f ≡ Absent) × Lacks) ⊎ ((f ≡ BadArgument) × IsBad))
 
 -- why a text is not given: the buffer is too small, or why nothing was found
-abbrev pub TextFails : {A : Type 0} → Type 0 → (List A → Type 0) → Type 0 → Type 0 → ℕ → List A → Failure → Type 0
-TextFails Takes Tells Lacks IsBad used out OutOfMemory = Takes
-TextFails Takes Tells Lacks IsBad used out TooSmall = NeedsRoom Tells used out
-TextFails Takes Tells Lacks IsBad used out Absent = Lacks
-TextFails Takes Tells Lacks IsBad used out BadArgument = IsBad
-TextFails Takes Tells Lacks IsBad used out f = ⊥
+abbrev pub TextErrors : {A : Type 0} → Type 0 → (List A → Type 0) → Type 0 → Type 0 → ℕ → List A → CallError → Type 0
+TextErrors Takes Tells Lacks IsBad used out OutOfMemory = Takes
+TextErrors Takes Tells Lacks IsBad used out TooSmall = NeedsRoom Tells used out
+TextErrors Takes Tells Lacks IsBad used out Absent = Lacks
+TextErrors Takes Tells Lacks IsBad used out BadArgument = IsBad
+TextErrors Takes Tells Lacks IsBad used out f = ⊥
 
 -- why a call that gives no text is not done
-abbrev pub CallFails : Type 0 → Type 0 → Type 0 → Failure → Type 0
-CallFails Takes Lacks IsBad OutOfMemory = Takes
-CallFails Takes Lacks IsBad Absent = Lacks
-CallFails Takes Lacks IsBad BadArgument = IsBad
-CallFails Takes Lacks IsBad f = ⊥
+abbrev pub CallErrors : Type 0 → Type 0 → Type 0 → CallError → Type 0
+CallErrors Takes Lacks IsBad OutOfMemory = Takes
+CallErrors Takes Lacks IsBad Absent = Lacks
+CallErrors Takes Lacks IsBad BadArgument = IsBad
+CallErrors Takes Lacks IsBad f = ⊥

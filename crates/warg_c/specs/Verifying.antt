@@ -4,8 +4,8 @@ use Rattle.std.specs.Str.{IsUtf8}
 use Rattle.warg_crypto.specs.Keys.{public_key_of, signature_of}
 use Rattle.warg_crypto.specs.NamedBytes.{NamedBytes}
 use Rattle.warg_p256.specs.Scheme.{p256_belongs}
-use Rattle.warg_c.specs.declared.failure.Failure.{Failure}
-use Rattle.warg_c.specs.declared.failure.Failure.TheVariants.{OutOfMemory, Refused, BadArgument, UnknownAlgorithm}
+use Rattle.warg_c.specs.declared.call_error.CallError.{CallError}
+use Rattle.warg_c.specs.declared.call_error.CallError.TheVariants.{OutOfMemory, Refused, BadArgument, UnknownAlgorithm}
 use Rattle.warg_c.specs.ProofAnswers.{IsNoText}
 
 -- the key is one of the algorithm that the library verifies
@@ -33,9 +33,9 @@ abbrev pub IsOtherKey : List ℕ → Type 0
 IsOtherKey key = SaysKey key (λ k. ¬ IsP256Key k)
 
 -- why a signature is not taken: first the key's text, then its algorithm, then the signature's text
-abbrev pub VerifyFails : List ℕ → List ℕ → List ℕ → Failure → Type 0
-VerifyFails key message signature OutOfMemory = Unit {0}
-VerifyFails key message signature Refused = IsJudged key message signature false
-VerifyFails key message signature BadArgument = IsNotVerified key signature
-VerifyFails key message signature UnknownAlgorithm = IsOtherKey key
-VerifyFails key message signature f = ⊥
+abbrev pub VerifyErrors : List ℕ → List ℕ → List ℕ → CallError → Type 0
+VerifyErrors key message signature OutOfMemory = Unit {0}
+VerifyErrors key message signature Refused = IsJudged key message signature false
+VerifyErrors key message signature BadArgument = IsNotVerified key signature
+VerifyErrors key message signature UnknownAlgorithm = IsOtherKey key
+VerifyErrors key message signature f = ⊥

@@ -1,15 +1,15 @@
 //! What calls give.
 ghost use Rattle.std.specs.Prelude.{◌≡◌, ◌≢◌, ◌<◌, ◌≤◌, Err, IfOk, IfErr, OnOk, OnErr, length, take, drop};
-ghost use Rattle.warg_c.specs.Misuses.{misuse_text};
+ghost use Rattle.warg_c.specs.ArgumentErrors.{argument_error_text};
 ghost use Rattle.warg_c.specs.Statuses.{status_of};
 ghost use Rattle.warg_c.specs.Texts.{IsFinish, IsGiven, IsWithin};
-ghost use Rattle.warg_c.specs.declared.failure.Failure.TheVariants.{BadArgument, TooSmall};
+ghost use Rattle.warg_c.specs.declared.call_error.CallError.TheVariants.{BadArgument, TooSmall};
 
-use crate::failure::{Failure, status};
-use crate::misuse::Misuse;
+use crate::argument_error::ArgumentError;
+use crate::call_error::{CallError, status};
 
 /// Copies the items to the start of the buffer, if there is room, and says how many they are.
-pub(crate) fn give<T: Copy>(items: &[T], out: &mut [T], used: &mut usize) -> Result<(), Failure>
+pub(crate) fn give<T: Copy>(items: &[T], out: &mut [T], used: &mut usize) -> Result<(), CallError>
     ensures used { used.new ≡ length items.now }
     ensures length { length out.new ≡ length out.old }
     ensures given { OnOk result (take (length items.now) out.new ≡ items.now) }
@@ -21,7 +21,7 @@ pub(crate) fn give<T: Copy>(items: &[T], out: &mut [T], used: &mut usize) -> Res
     let len = items.len();
     *used = len;
     if out.len() < len {
-        return Err(Failure::TooSmall);
+        return Err(CallError::TooSmall);
     }
     out[..len].copy_from_slice(items);
     Ok(())
@@ -41,7 +41,7 @@ pub(crate) fn give_if_room(told: &str, text: &mut [u8], used: &mut usize)
 
 /// Gives the items that were found, and returns the status.
 pub(crate) fn finish<T: Copy>(
-    outcome: Result<Vec<T>, Failure>,
+    outcome: Result<Vec<T>, CallError>,
     out: &mut [T],
     used: &mut usize,
 ) -> u32
@@ -55,42 +55,42 @@ pub(crate) fn finish<T: Copy>(
     *used = 0;
     match outcome {
         Ok(items) => status(give(items.as_slice(), out, used)),
-        Err(failure) => status(Err(failure)),
+        Err(call_error) => status(Err(call_error)),
     }
 }
 
 /// The same of a text. Of a bad argument it tells what is wrong.
 pub(crate) fn finish_text(
-    outcome: Result<Vec<u8>, Failure>,
-    wrong: Misuse,
+    outcome: Result<Vec<u8>, CallError>,
+    wrong: ArgumentError,
     out: &mut [u8],
     used: &mut usize,
 ) -> u32
     ensures text { IsFinish (λ v. v.items) outcome out.old result used.new out.new }
-    ensures told { outcome ≡ Err BadArgument → IsGiven (misuse_text wrong) used.new out.new }
+    ensures told { outcome ≡ Err BadArgument → IsGiven (argument_error_text wrong) used.new out.new }
     ensures status { result ≤ 8 }
     ensures buffer { result ≢ 0 → result ≢ 7 → out.new ≡ out.old }
     ensures used { result ≢ 0 → result ≢ 3 → result ≢ 7 → used.new ≡ 0 }
     ensures behind { drop used.new out.new ≡ drop used.new out.old }
     ensures within { result ≢ 3 → used.new ≤ length out.new }
 {
-    if let Err(Failure::BadArgument) = outcome {
+    if let Err(CallError::BadArgument) = outcome {
         give_if_room(wrong.text(), out, used);
-        return status(Err(Failure::BadArgument));
+        return status(Err(CallError::BadArgument));
     }
     finish(outcome, out, used)
 }
 
 /// The same with what else was found.
 pub(crate) fn finish_with<T: Copy>(
-    outcome: Result<(Vec<u8>, T), Failure>,
-    wrong: Misuse,
+    outcome: Result<(Vec<u8>, T), CallError>,
+    wrong: ArgumentError,
     out: &mut [u8],
     used: &mut usize,
     shown: &mut T,
 ) -> u32
     ensures text { IsFinish (λ p. p.0.items) outcome out.old result used.new out.new }
-    ensures told { outcome ≡ Err BadArgument → IsGiven (misuse_text wrong) used.new out.new }
+    ensures told { outcome ≡ Err BadArgument → IsGiven (argument_error_text wrong) used.new out.new }
     ensures status { result ≤ 8 }
     ensures buffer { result ≢ 0 → result ≢ 7 → out.new ≡ out.old }
     ensures used { result ≢ 0 → result ≢ 3 → result ≢ 7 → used.new ≡ 0 }
@@ -105,12 +105,12 @@ pub(crate) fn finish_with<T: Copy>(
             *shown = found;
             status(give(bytes.as_slice(), out, used))
         }
-        Err(failure) => finish_text(Err(failure), wrong, out, used),
+        Err(call_error) => finish_text(Err(call_error), wrong, out, used),
     }
 }
 
 /// Gives a value that was found, and returns the status.
-pub(crate) fn finish_value<T: Copy>(outcome: Result<T, Failure>, value: &mut T) -> u32
+pub(crate) fn finish_value<T: Copy>(outcome: Result<T, CallError>, value: &mut T) -> u32
     ensures code { result ≡ status_of outcome }
     ensures status { result ≤ 8 }
     ensures value { IfOk outcome (λ found. value.new ≡ found) }
@@ -121,6 +121,6 @@ pub(crate) fn finish_value<T: Copy>(outcome: Result<T, Failure>, value: &mut T) 
             *value = found;
             status(Ok(()))
         }
-        Err(failure) => status(Err(failure)),
+        Err(call_error) => status(Err(call_error)),
     }
 }

@@ -2,15 +2,15 @@
 ghost use Rattle.std.specs.Prelude.{◌≡◌, None, Some, is_some};
 ghost use Rattle.std.specs.Option.{option_map};
 
-use crate::held::Held;
-use crate::owned::Owned;
+use crate::any_log::AnyLog;
+use crate::log_pointer::LogPointer;
 use std::alloc::Global;
 use std::mem::replace;
 
 /// A log, or none: all bytes 0 is none.
 #[repr(C)]
 pub struct WargLog {
-    pub(crate) owned: Owned,
+    pub(crate) owned: LogPointer,
     is_open: bool,
     ghost is_right: { is_open ≡ is_some owned.kept },
 }
@@ -21,21 +21,21 @@ impl WargLog {
         ensures { result.owned.kept ≡ None }
     {
         WargLog {
-            owned: Owned::none(alloc),
+            owned: LogPointer::none(alloc),
             is_open: false,
         }
     }
 
-    pub(crate) fn of(state: Box<Held>) -> WargLog
+    pub(crate) fn of(state: Box<AnyLog>) -> WargLog
         ensures { result.owned.kept ≡ Some state.value }
     {
         WargLog {
-            owned: Owned::of(state),
+            owned: LogPointer::of(state),
             is_open: true,
         }
     }
 
-    pub(crate) fn into_box(self) -> Option<Box<Held>>
+    pub(crate) fn into_box(self) -> Option<Box<AnyLog>>
         ensures { option_map (λ b. b.value) result ≡ self.owned.kept }
     {
         let WargLog { owned, is_open } = self;
@@ -47,7 +47,7 @@ impl WargLog {
     }
 
     /// Takes the log out.
-    pub(crate) fn take(&mut self, alloc: Global) -> Option<Box<Held>>
+    pub(crate) fn take(&mut self, alloc: Global) -> Option<Box<AnyLog>>
         ensures taken { option_map (λ b. b.value) result ≡ self.old.owned.kept }
         ensures none { self.new.owned.kept ≡ None }
     {
@@ -55,7 +55,7 @@ impl WargLog {
     }
 
     /// Puts a log in.
-    pub(crate) fn put(&mut self, state: Box<Held>)
+    pub(crate) fn put(&mut self, state: Box<AnyLog>)
         ensures { self.new.owned.kept ≡ Some state.value }
     {
         *self = WargLog::of(state);

@@ -1,21 +1,21 @@
 //! Logs of both kinds for callers in C. `include/warg.h` declares what is exported.
 #![tactic(auto)]
 
+mod any_log;
 mod argument;
+mod argument_error;
 mod asked_log;
 mod asking;
+mod call_error;
+mod error_text;
 mod exports;
-mod failure;
 mod given;
 mod handle;
-mod held;
-mod kept_log;
 pub mod laws;
-mod misuse;
-mod owned;
-mod parts;
+mod log_or_state;
+mod log_pointer;
+mod pending_check;
 mod proof_text;
 mod question;
-mod refusal;
+mod raw_box;
 mod release_text;
-mod spelled;

@@ -4,9 +4,9 @@ ghost use Rattle.warg_crypto.specs.HashText.{hash_of};
 ghost use Rattle.warg_transparency.specs.Texts.{log_proof_of, map_proof_of};
 ghost use Rattle.warg_c.specs.ProofAnswers.{AreLeafTexts, IsNoText};
 ghost use Rattle.warg_c.specs.ProofFaults.{tree_numbered};
-ghost use Rattle.warg_c.specs.Texts.{Always, FailsAs};
+ghost use Rattle.warg_c.specs.Texts.{Always, ErrorsAs};
 
-use crate::failure::Failure;
+use crate::call_error::CallError;
 use std::alloc::Global;
 use warg_crypto::hash::AnyHash;
 use warg_log_records::RecordId;
@@ -24,35 +24,35 @@ pub enum Tree {
 
 impl Tree {
     /// The tree that a number names.
-    pub(crate) fn numbered(number: u32) -> Result<Tree, Failure>
+    pub(crate) fn numbered(number: u32) -> Result<Tree, CallError>
         ensures { result ≡ tree_numbered number }
     {
         match number {
             0 => Ok(Tree::Log),
             1 => Ok(Tree::Map),
-            _ => Err(Failure::BadArgument),
+            _ => Err(CallError::BadArgument),
         }
     }
 }
 
 /// The hash of a text.
-pub(crate) fn hash_in(text: &[u8]) -> Result<AnyHash, Failure>
+pub(crate) fn hash_in(text: &[u8]) -> Result<AnyHash, CallError>
     ensures ok { IfOk result (λ hash. hash_of text.now ≡ Ok hash) }
-    ensures err { IfErr result (FailsAs ⊥ ⊥ (IsNoText hash_of text.now)) }
+    ensures err { IfErr result (ErrorsAs ⊥ ⊥ (IsNoText hash_of text.now)) }
 {
     let Ok(text) = str::from_utf8(text) else {
-        return Err(Failure::BadArgument);
+        return Err(CallError::BadArgument);
     };
     match text.parse::<AnyHash>() {
         Ok(hash) => Ok(hash),
-        Err(_) => Err(Failure::BadArgument),
+        Err(_) => Err(CallError::BadArgument),
     }
 }
 
 /// The leaf of a record of a log, by the texts of their ids.
-pub(crate) fn leaf_in(log_id: &[u8], record_id: &[u8]) -> Result<LogLeaf, Failure>
+pub(crate) fn leaf_in(log_id: &[u8], record_id: &[u8]) -> Result<LogLeaf, CallError>
     ensures ok { IfOk result (AreLeafTexts log_id.now record_id.now) }
-    ensures err { IfErr result (FailsAs ⊥ ⊥ (IsNoText hash_of log_id.now ⊎
+    ensures err { IfErr result (ErrorsAs ⊥ ⊥ (IsNoText hash_of log_id.now ⊎
         IsNoText hash_of record_id.now)) }
 {
     let log = hash_in(log_id)?;
@@ -64,31 +64,31 @@ pub(crate) fn leaf_in(log_id: &[u8], record_id: &[u8]) -> Result<LogLeaf, Failur
 }
 
 /// The proof on a log of a text.
-pub(crate) fn log_proof_in(alloc: Global, text: &[u8]) -> Result<LogProof, Failure>
+pub(crate) fn log_proof_in(alloc: Global, text: &[u8]) -> Result<LogProof, CallError>
     ensures ok { IfOk result (λ proof. log_proof_of text.now ≡ Ok proof) }
-    ensures err { IfErr result (FailsAs Always ⊥ (IsNoText log_proof_of text.now)) }
+    ensures err { IfErr result (ErrorsAs Always ⊥ (IsNoText log_proof_of text.now)) }
 {
     let Ok(text) = str::from_utf8(text) else {
-        return Err(Failure::BadArgument);
+        return Err(CallError::BadArgument);
     };
     match LogProof::parse(alloc, text) {
         Ok(proof) => Ok(proof),
-        Err(ProofTextError::OutOfMemory) => Err(Failure::OutOfMemory),
-        Err(_) => Err(Failure::BadArgument),
+        Err(ProofTextError::OutOfMemory) => Err(CallError::OutOfMemory),
+        Err(_) => Err(CallError::BadArgument),
     }
 }
 
 /// The proof on a map of a text.
-pub(crate) fn map_proof_in(alloc: Global, text: &[u8]) -> Result<MapProof, Failure>
+pub(crate) fn map_proof_in(alloc: Global, text: &[u8]) -> Result<MapProof, CallError>
     ensures ok { IfOk result (λ proof. map_proof_of text.now ≡ Ok proof) }
-    ensures err { IfErr result (FailsAs Always ⊥ (IsNoText map_proof_of text.now)) }
+    ensures err { IfErr result (ErrorsAs Always ⊥ (IsNoText map_proof_of text.now)) }
 {
     let Ok(text) = str::from_utf8(text) else {
-        return Err(Failure::BadArgument);
+        return Err(CallError::BadArgument);
     };
     match MapProof::parse(alloc, text) {
         Ok(proof) => Ok(proof),
-        Err(ProofTextError::OutOfMemory) => Err(Failure::OutOfMemory),
-        Err(_) => Err(Failure::BadArgument),
+        Err(ProofTextError::OutOfMemory) => Err(CallError::OutOfMemory),
+        Err(_) => Err(CallError::BadArgument),
     }
 }

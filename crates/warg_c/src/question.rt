@@ -4,16 +4,16 @@ ghost use Rattle.std.specs.Prelude.{length, take, drop, string_bytes};
 ghost use Rattle.std.specs.Str.{IsUtf8};
 ghost use Rattle.warg_crypto.specs.Keys.{public_key_of, signature_of};
 ghost use Rattle.warg_crypto.specs.NamedBytes.{NamedBytes, named_bytes_text};
-ghost use Rattle.warg_c.specs.declared.failure.Failure.TheVariants.{BadArgument, OutOfMemory};
+ghost use Rattle.warg_c.specs.declared.call_error.CallError.TheVariants.{BadArgument, OutOfMemory};
 ghost use Rattle.warg_c.specs.Questions.{Says, SaysNone, Spells, key_part, lengths_of, message_part, signature_part};
 ghost use Rattle.warg_c.specs.Verifying.{IsP256Key};
 
-use crate::failure::Failure;
+use crate::call_error::CallError;
 use std::alloc::{AllocError, Global};
 use warg_crypto::laws::{public_key_reads_back, signature_reads_back};
 use warg_crypto::signing::{KeyParseError, PublicKey, Signature, SignatureParseError};
 use warg_p256::ALGORITHM;
-use warg_replay::host::{Question, Told};
+use warg_replay::external::{SignatureCheck, SignatureVerdict};
 
 /// How many bytes of a question are the key's text, the message, and the signature's text. They stand one behind the other.
 #[repr(C)]
@@ -47,24 +47,24 @@ pub(crate) fn is_p256_key(key: &PublicKey) -> bool
 }
 
 /// The key that a text says.
-pub(crate) fn parse_key(alloc: Global, text: &[u8]) -> Result<PublicKey, Failure>
+pub(crate) fn parse_key(alloc: Global, text: &[u8]) -> Result<PublicKey, CallError>
     ensures ok { IfOk result (λ key. IsUtf8 text.now × (public_key_of text.now ≡ Ok key)) }
     ensures err { IfErr result (λ f. (f ≡ OutOfMemory) ⊎
         ((f ≡ BadArgument) × ((key : NamedBytes) → IsUtf8 text.now →
         public_key_of text.now ≡ Ok key → ⊥))) }
 {
     let Ok(text) = str::from_utf8(text) else {
-        return Err(Failure::BadArgument);
+        return Err(CallError::BadArgument);
     };
     match PublicKey::parse(alloc, text) {
         Ok(key) => Ok(key),
-        Err(KeyParseError::OutOfMemory) => Err(Failure::OutOfMemory),
-        Err(_) => Err(Failure::BadArgument),
+        Err(KeyParseError::OutOfMemory) => Err(CallError::OutOfMemory),
+        Err(_) => Err(CallError::BadArgument),
     }
 }
 
 /// The signature that a text says.
-pub(crate) fn parse_signature(alloc: Global, text: &[u8]) -> Result<Signature, Failure>
+pub(crate) fn parse_signature(alloc: Global, text: &[u8]) -> Result<Signature, CallError>
     ensures ok { IfOk result (λ signature. IsUtf8 text.now ×
         (signature_of text.now ≡ Ok signature)) }
     ensures err { IfErr result (λ f. (f ≡ OutOfMemory) ⊎
@@ -72,12 +72,12 @@ pub(crate) fn parse_signature(alloc: Global, text: &[u8]) -> Result<Signature, F
         signature_of text.now ≡ Ok signature → ⊥))) }
 {
     let Ok(text) = str::from_utf8(text) else {
-        return Err(Failure::BadArgument);
+        return Err(CallError::BadArgument);
     };
     match Signature::parse(alloc, text) {
         Ok(signature) => Ok(signature),
-        Err(SignatureParseError::OutOfMemory) => Err(Failure::OutOfMemory),
-        Err(_) => Err(Failure::BadArgument),
+        Err(SignatureParseError::OutOfMemory) => Err(CallError::OutOfMemory),
+        Err(_) => Err(CallError::BadArgument),
     }
 }
 
@@ -87,20 +87,20 @@ pub(crate) fn told(
     bytes: &[u8],
     lengths: &Asked,
     belongs: bool,
-) -> Result<Told, Failure>
+) -> Result<SignatureVerdict, CallError>
     ensures ok { IfOk result (λ t. Says lengths.now bytes.now t.question × (t.belongs ≡ belongs)) }
     ensures err { IfErr result (λ f. (f ≡ OutOfMemory) ⊎
         ((f ≡ BadArgument) × SaysNone lengths.now bytes.now)) }
 {
     let Some((key, message, signature)) = parts(bytes, lengths) else {
-        return Err(Failure::BadArgument);
+        return Err(CallError::BadArgument);
     };
-    let question = Question {
+    let question = SignatureCheck {
         key: parse_key(alloc, key)?,
         message: Vec::from_slice(alloc, message)?,
         signature: parse_signature(alloc, signature)?,
     };
-    Ok(Told { question, belongs })
+    Ok(SignatureVerdict { question, belongs })
 }
 
 // The text of a key, which reads back as that key.
@@ -155,7 +155,10 @@ fn join(
 }
 
 /// A question as bytes.
-pub(crate) fn spell(alloc: Global, question: &Question) -> Result<(Vec<u8>, Asked), AllocError>
+pub(crate) fn spell(
+    alloc: Global,
+    question: &SignatureCheck,
+) -> Result<(Vec<u8>, Asked), AllocError>
     ensures { IfOk result (λ p. Spells p.1 p.0.items question.now) }
 {
     let key = key_text(alloc, &question.key)?;

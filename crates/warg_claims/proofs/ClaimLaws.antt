@@ -1,4 +1,4 @@
--- What claims say of strings, place by place.
+-- What claims say of inputs, place by place.
 use Rattle.std.proofs.Common.{◌≡◌, ◌↔◌, ◌+◌, ◌⊎◌, ◌<◌, ◌≤◌, ℕ, true, List, [], ◌∷◌, ◌++◌, length, take, Option, Some, None, Result, Ok, Err, refl, sym, ap, ◌∙◌, subst, inl, inr, arith}
 use Rattle.std.specs.List.{cons_option, slice_get}
 use Rattle.std.proofs.lemmas.List.Elements.{filter_map-append}
@@ -9,7 +9,7 @@ use Rattle.warg_envelope.specs.EnvelopeData.{EnvelopeData}
 use Rattle.warg_log_records.specs.Kinds.{IsAccepted, AcceptsNoMore, Kind, KindLaws, SignatureRelation, StandsFor}
 use Rattle.warg_replay.specs.OutcomeRuns.{HasNoOffence, IfNamed, IsFirstOffence, cause_next}
 use Rattle.warg_replay.proofs.OutcomeLaws.{IfNamed-map}
-use Rattle.warg_replay.specs.Strings.{Cause, Unlawful, cause_of, ok, read_all}
+use Rattle.warg_replay.specs.Inputs.{Cause, Unlawful, cause_of, ok, read_all}
 use Rattle.warg_claims.specs.Claimed.{AreClaims, AsksClaim, HoldsOf, IsRefusedAnyway, IsTaken, RefusesAnyway, any_signature, seen_before}
 use Rattle.warg_replay.specs.Telling.{IsNext}
 use Rattle.warg_claims.proofs.Places.{at-push, slice_get-take}
@@ -38,7 +38,7 @@ module _ {View Offence F : Type 0} (k : Kind View Offence) (read : List ℕ → 
   )
   judged b v (Err f) c asks = absurd asks
 
-  -- strings with their claims have no offence exactly under the relations that hold of the claims
+  -- inputs with their claims have no offence exactly under the relations that hold of the claims
   pub claims-decide : (ss : List (List ℕ)) (cs : List ClaimData) → AreClaims k read ss cs → (b : SignatureRelation)
       → HasNoOffence k b read k.view_of ss ↔ HoldsOf b cs
   claims-decide ss cs own b = (
@@ -51,14 +51,14 @@ module _ {View Offence F : Type 0} (k : Kind View Offence) (read : List ℕ → 
   )
 
   -- what is refused anyway comes first, where the relation holds of the claims before it
-  pub refusal-first : (ss : List (List ℕ)) (cs : List ClaimData) (why : Cause F Offence) → AreClaims k read (take (length cs) ss) cs
+  pub run_error-first : (ss : List (List ℕ)) (cs : List ClaimData) (why : Cause F Offence) → AreClaims k read (take (length cs) ss) cs
       → IsRefusedAnyway k read ss (length cs) why → (b : SignatureRelation) → HoldsOf b cs
       → IsFirstOffence k b read k.view_of ss (length cs) why
-  refusal-first ss cs why own refused b holds =
+  run_error-first ss cs why own refused b holds =
       let n = length cs in
       let before = (claims-decide (take n ss) cs own b).1 holds in
       record {
-        item = refused.string;
+        item = refused.input;
         at = refused.at;
         wrong = refused.wrong b;
         least = λ j s below at.
@@ -66,23 +66,23 @@ module _ {View Offence F : Type 0} (k : Kind View Offence) (read : List ℕ → 
             subst P (take-take j n ss (omega (arith, below))) (before j s (slice_get-take n ss j below ∙ at));
       }
 
-  -- no strings have no claims
+  -- no inputs have no claims
   pub claims-none : AreClaims k read [] []
   claims-none = record { counted = refl; asked = λ i s c at here. absurd (none-some s (sym (slice_get_past {X = List ℕ} [] i (omega arith)) ∙ at)) }
 
-  -- what is asked at a place of more strings, before the last or there
+  -- what is asked at a place of more inputs, before the last or there
   asked-push : (ss : List (List ℕ)) (cs : List ClaimData) (s : List ℕ) (c : ClaimData) → AreClaims k read ss cs
       → AsksClaim k (k.view_of (read_all read ss)) (read s) c → (i : ℕ) (t : List ℕ) (d : ClaimData)
       → ((i < length ss) × (slice_get ss i ≡ Some t)) ⊎ ((i ≡ length ss) × (t ≡ s))
       → ((i < length cs) × (slice_get cs i ≡ Some d)) ⊎ ((i ≡ length cs) × (d ≡ c))
       → AsksClaim k (k.view_of (read_all read (take i (ss ++ s ∷ [])))) (read t) d
-  asked-push ss cs s c own asks i t d (inl string) (inl claim) =
-      rw (take-append-le i ss (s ∷ []) (omega (arith, string.0))) (own.asked i t d string.1 claim.1)
-  asked-push ss cs s c own asks i t d (inl string) (inr claim) = absurd (omega (arith, string.0, claim.0, own.counted))
-  asked-push ss cs s c own asks i t d (inr string) (inl claim) = absurd (omega (arith, string.0, claim.0, own.counted))
-  asked-push ss cs s c own asks i t d (inr string) (inr claim) = rw (take_at ss (s ∷ []) i (sym string.0), string.1, claim.1) asks
+  asked-push ss cs s c own asks i t d (inl input) (inl claim) =
+      rw (take-append-le i ss (s ∷ []) (omega (arith, input.0))) (own.asked i t d input.1 claim.1)
+  asked-push ss cs s c own asks i t d (inl input) (inr claim) = absurd (omega (arith, input.0, claim.0, own.counted))
+  asked-push ss cs s c own asks i t d (inr input) (inl claim) = absurd (omega (arith, input.0, claim.0, own.counted))
+  asked-push ss cs s c own asks i t d (inr input) (inr claim) = rw (take_at ss (s ∷ []) i (sym input.0), input.1, claim.1) asks
 
-  -- one string more
+  -- one input more
   pub claims-push : (ss : List (List ℕ)) (cs : List ClaimData) (s : List ℕ) (c : ClaimData) → AreClaims k read ss cs
       → AsksClaim k (k.view_of (read_all read ss)) (read s) c → AreClaims k read (ss ++ s ∷ []) (cs ++ c ∷ [])
   claims-push ss cs s c own asks = record {
@@ -90,12 +90,12 @@ module _ {View Offence F : Type 0} (k : Kind View Offence) (read : List ℕ → 
     asked = λ i t d at here. asked-push ss cs s c own asks i t d (at-push ss s i t at) (at-push cs c i d here);
   }
 
-  -- a relation that holds of just the claims that another holds of judges the strings alike
+  -- a relation that holds of just the claims that another holds of judges the inputs alike
   pub judged-alike : (ss : List (List ℕ)) (cs : List ClaimData) (b d : SignatureRelation) → AreClaims k read ss cs
       → (HoldsOf b cs → HoldsOf d cs) → HasNoOffence k b read k.view_of ss → HasNoOffence k d read k.view_of ss
   judged-alike ss cs b d own f h = (claims-decide ss cs own d).1 (f ((claims-decide ss cs own b).0 h))
 
-  -- the envelope that was read comes next, and is what the string is
+  -- the envelope that was read comes next, and is what the input is
   pub taken-next : {S : Type 0} (view : S → View) (old new : S) (ss : List (List ℕ)) (s : List ℕ) → IsTaken k view old (read s) new
       → IsAccepted k any_signature (read_all read ss) → StandsFor k view old (read_all read ss)
       → IsAccepted k any_signature (read_all read (ss ++ s ∷ [])) × StandsFor k view new (read_all read (ss ++ s ∷ []))
@@ -109,29 +109,29 @@ module _ {View Offence F : Type 0} (k : Kind View Offence) (read : List ℕ → 
       next-read (Err f) h = absurd h
 
   -- a wider relation finds no offence where a narrower one finds none
-  pub strings-within : KindLaws k → (b d : SignatureRelation) → AcceptsNoMore b d → (ss : List (List ℕ)) → HasNoOffence k b read k.view_of ss → HasNoOffence k d read k.view_of ss
-  strings-within laws b d within ss h = λ i s at. still (k.view_of (read_all read (take i ss))) (read s) (h i s at)
+  pub inputs-within : KindLaws k → (b d : SignatureRelation) → AcceptsNoMore b d → (ss : List (List ℕ)) → HasNoOffence k b read k.view_of ss → HasNoOffence k d read k.view_of ss
+  inputs-within laws b d within ss h = λ i s at. still (k.view_of (read_all read (take i ss))) (read s) (h i s at)
     where
       still : (v : View) (r : Result EnvelopeData F) → cause_of (k.offence b) v r ≡ None → cause_of (k.offence d) v r ≡ None
       still v (Ok e) none = ap (option_map Unlawful) (laws.more_signatures b d within v e (none_inside Unlawful (k.offence b v e) none))
       still v (Err f) none = none
 
-  -- claims of the front are of as many strings as there are claims
+  -- claims of the front are of as many inputs as there are claims
   pub claims-front : (ss : List (List ℕ)) (i : ℕ) (cs : List ClaimData) → i ≤ length ss → AreClaims k read (take i ss) cs → (length cs ≡ i) × AreClaims k read (take (length cs) ss) cs
   claims-front ss i cs below own =
       let count : length cs ≡ i = own.counted ∙ length-take-le i ss below in
       (count, rw count own)
 
-  -- why a string is refused anyway, at its place
+  -- why an input is refused anyway, at its place
   pub refused-at : {C : Type 0} (named_by : C → Option (Cause F Offence)) (v : View) (ss : List (List ℕ)) (i : ℕ) (s : List ℕ) (cause : C)
       → slice_get ss i ≡ Some s → v ≡ k.view_of (read_all read (take i ss)) → RefusesAnyway k read named_by v s cause
       → IfNamed (named_by cause) (IsRefusedAnyway k read ss i)
   refused-at named_by v ss i s cause at seen refuses =
       IfNamed-map (named_by cause) _ (IsRefusedAnyway k read ss i)
-      (λ why wrong. record { string = s; at = at; wrong = λ b. let P : View → Type 0 = λ w. cause_next k b read w s ≡ Some why in subst P seen (wrong b) })
+      (λ why wrong. record { input = s; at = at; wrong = λ b. let P : View → Type 0 = λ w. cause_next k b read w s ≡ Some why in subst P seen (wrong b) })
       refuses
 
-  -- one string more, with its claim and in the state
+  -- one input more, with its claim and in the state
   pub claims-step : {S : Type 0} (view : S → View) (old new : S) (ss : List (List ℕ)) (s : List ℕ) (cs : List ClaimData) (c : ClaimData)
       → AreClaims k read ss cs → IsAccepted k any_signature (read_all read ss) → StandsFor k view old (read_all read ss)
       → AsksClaim k (view old) (read s) c → IsTaken k view old (read s) new

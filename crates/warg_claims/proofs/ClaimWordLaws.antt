@@ -8,7 +8,7 @@ use Rattle.warg_log_records.specs.Kinds.{SignatureRelation, Kind}
 use Rattle.warg_replay.specs.Logs.{LogOf}
 use Rattle.warg_replay.specs.LogWords.{IsWhyNever}
 use Rattle.warg_replay.specs.OutcomeRuns.{cause_named_by}
-use Rattle.warg_replay.specs.Strings.{Cause}
+use Rattle.warg_replay.specs.Inputs.{Cause}
 use Rattle.warg_replay.specs.declared.replay.RunCause.{RunCause}
 use Rattle.warg_claims.specs.Claimed as claimed
 use Rattle.warg_claims.specs.ClaimWords as word
@@ -31,20 +31,20 @@ module _ {S E View Offence C M F : Type 0} {kind : Kind View Offence} {view : S 
       v bytes cause
   refuses_anyway v bytes cause = (λ h. h, λ h. h)
 
-  pub are_claims : (strings : List (List ℕ)) (claims : List ClaimData) → word.AreClaims log reading strings claims
-      ↔ claimed.AreClaims kind (envelope_of read) strings claims
-  are_claims strings claims = (λ h. h, λ h. h)
+  pub are_claims : (inputs : List (List ℕ)) (claims : List ClaimData) → word.AreClaims log reading inputs claims
+      ↔ claimed.AreClaims kind (envelope_of read) inputs claims
+  are_claims inputs claims = (λ h. h, λ h. h)
 
-  pub refused_anyway : (strings : List (List ℕ)) (place : ℕ) (cause : Cause (EnvelopeFault F) Offence)
-      → word.IsRefusedAnyway log reading strings place cause
-      ↔ claimed.IsRefusedAnyway kind (envelope_of read) strings place cause
-  refused_anyway strings place cause = (λ h. h, λ h. h)
+  pub refused_anyway : (inputs : List (List ℕ)) (place : ℕ) (cause : Cause (EnvelopeFault F) Offence)
+      → word.IsRefusedAnyway log reading inputs place cause
+      ↔ claimed.IsRefusedAnyway kind (envelope_of read) inputs place cause
+  refused_anyway inputs place cause = (λ h. h, λ h. h)
 
-  pub ends_at : (strings : List (List ℕ)) (place : ℕ) (end : Option (RunCause E))
-      → word.EndsAt log reading strings place end
+  pub ends_at : (inputs : List (List ℕ)) (place : ℕ) (end : Option (RunCause E))
+      → word.EndsAt log reading inputs place end
       ↔ claimed.EndsAt kind (envelope_of read) (cause_named_by (envelope_fault_of fault_of) offence_of)
-      strings place end
-  ends_at strings place end = (λ h. h, λ h. h)
+      inputs place end
+  ends_at inputs place end = (λ h. h, λ h. h)
 
 -- ---- claims and relations
 

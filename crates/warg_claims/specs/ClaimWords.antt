@@ -6,7 +6,7 @@ use Rattle.warg_envelope.specs.Readings.{Reading}
 use Rattle.warg_log_records.specs.Kinds.{Kind}
 use Rattle.warg_replay.specs.Logs.{LogOf}
 use Rattle.warg_replay.specs.LogWords.{named_cause}
-use Rattle.warg_replay.specs.Strings.{Cause}
+use Rattle.warg_replay.specs.Inputs.{Cause}
 use Rattle.warg_replay.specs.declared.replay.RunCause.{RunCause}
 use Rattle.warg_claims.specs.Claimed as claimed
 use Rattle.warg_claims.specs.Verified.Claims.{ClaimData}
@@ -23,14 +23,14 @@ module _ {S E View Offence C M F : Type 0} {kind : Kind View Offence} {view : S 
   abbrev pub IsTaken : S → List ℕ → S → Type 0
   IsTaken old bytes new = claimed.IsTaken kind view old (envelope_of read bytes) new
 
-  -- each string, after those before it, asks for the claim at its place
+  -- each input, after those before it, asks for the claim at its place
   abbrev pub AreClaims : List (List ℕ) → List ClaimData → Type 0
-  AreClaims strings claims = claimed.AreClaims kind (envelope_of read) strings claims
+  AreClaims inputs claims = claimed.AreClaims kind (envelope_of read) inputs claims
 
-  -- whatever signatures belong, this is why the string at the place can't come after those before it
+  -- whatever signatures belong, this is why the input at the place can't come after those before it
   abbrev pub IsRefusedAnyway : List (List ℕ) → ℕ → Cause (EnvelopeFault F) Offence → Type 0
-  IsRefusedAnyway strings place cause = claimed.IsRefusedAnyway kind (envelope_of read) strings place cause
+  IsRefusedAnyway inputs place cause = claimed.IsRefusedAnyway kind (envelope_of read) inputs place cause
 
-  -- the claims end at the place: all strings have theirs, or the next is refused anyway, for what the cause names
+  -- the claims end at the place: all inputs have theirs, or the next is refused anyway, for what the cause names
   abbrev pub EndsAt : List (List ℕ) → ℕ → Option (RunCause E) → Type 0
-  EndsAt strings place end = claimed.EndsAt kind (envelope_of read) (named_cause log reading) strings place end
+  EndsAt inputs place end = claimed.EndsAt kind (envelope_of read) (named_cause log reading) inputs place end

@@ -6,7 +6,7 @@ use Rattle.warg_log_records.specs.Asked.{AsksFor}
 use Rattle.warg_replay.specs.Telling.{IsNext}
 use Rattle.warg_log_records.specs.Kinds.{IsAccepted, Kind, SignatureRelation, StandsFor}
 use Rattle.warg_replay.specs.OutcomeRuns.{IfNamed, cause_next}
-use Rattle.warg_replay.specs.Strings.{Cause, read_all}
+use Rattle.warg_replay.specs.Inputs.{Cause, read_all}
 use Rattle.warg_claims.specs.Verified.Claims.{ClaimData}
 
 -- each signature is taken to belong
@@ -42,28 +42,28 @@ module _ {View Offence : Type 0} (k : Kind View Offence) where
       → IsNext k view any_signature es r new
 
   module _ {F : Type 0} (read : List ℕ → Result EnvelopeData F) where
-    -- what the strings before a place say together
+    -- what the inputs before a place say together
     abbrev pub seen_before : List (List ℕ) → ℕ → View
-    seen_before strings i = k.view_of (read_all read (take i strings))
+    seen_before inputs i = k.view_of (read_all read (take i inputs))
 
-    -- each string, after those before it, asks for the claim at its place
-    pub record AreClaims (strings : List (List ℕ)) (claims : List ClaimData) : Type 0 where
-      pub counted : length claims ≡ length strings
-      pub asked : (i : ℕ) (s : List ℕ) (c : ClaimData) → slice_get strings i ≡ Some s → slice_get claims i ≡ Some c
-          → AsksClaim (seen_before strings i) (read s) c
+    -- each input, after those before it, asks for the claim at its place
+    pub record AreClaims (inputs : List (List ℕ)) (claims : List ClaimData) : Type 0 where
+      pub counted : length claims ≡ length inputs
+      pub asked : (i : ℕ) (s : List ℕ) (c : ClaimData) → slice_get inputs i ≡ Some s → slice_get claims i ≡ Some c
+          → AsksClaim (seen_before inputs i) (read s) c
 
-    -- whatever the relation, this is why the string can't come after the view; nothing is said where memory ran out
+    -- whatever the relation, this is why the input can't come after the view; nothing is said where memory ran out
     abbrev pub RefusesAnyway : {C : Type 0} → (C → Option (Cause F Offence)) → View → List ℕ → C → Type 0
     RefusesAnyway named_by v s c = IfNamed (named_by c) (λ why. (b : SignatureRelation) → cause_next k b read v s ≡ Some why)
 
-    -- whatever the relation, this is why the string at the place can't come after those before it
-    pub record IsRefusedAnyway (strings : List (List ℕ)) (place : ℕ) (cause : Cause F Offence) : Type 0 where
-      pub string : List ℕ
-      pub at : slice_get strings place ≡ Some string
-      pub wrong : (b : SignatureRelation) → cause_next k b read (seen_before strings place) string ≡ Some cause
+    -- whatever the relation, this is why the input at the place can't come after those before it
+    pub record IsRefusedAnyway (inputs : List (List ℕ)) (place : ℕ) (cause : Cause F Offence) : Type 0 where
+      pub input : List ℕ
+      pub at : slice_get inputs place ≡ Some input
+      pub wrong : (b : SignatureRelation) → cause_next k b read (seen_before inputs place) input ≡ Some cause
 
-    -- where the claims end: all strings have theirs, or the next is refused whatever its signature, for what is named of
+    -- where the claims end: all inputs have theirs, or the next is refused whatever its signature, for what is named of
     -- the cause
     abbrev pub EndsAt : {C : Type 0} → (C → Option (Cause F Offence)) → List (List ℕ) → ℕ → Option C → Type 0
-    EndsAt named_by strings place None = place ≡ length strings
-    EndsAt named_by strings place (Some cause) = IfNamed (named_by cause) (IsRefusedAnyway strings place)
+    EndsAt named_by inputs place None = place ≡ length inputs
+    EndsAt named_by inputs place (Some cause) = IfNamed (named_by cause) (IsRefusedAnyway inputs place)

@@ -10,7 +10,7 @@ use crate::verified::Claim;
 use std::alloc::Global;
 use warg_envelope::ParseEnvelopeError;
 use warg_replay::RunCause;
-use warg_replay::host::{Hosted, Question, Told, append, ask};
+use warg_replay::external::{ExternallyVerified, SignatureCheck, SignatureVerdict, append, ask};
 
 /// The claims of a log's records, in order: the triple of which a host has to say whether it belongs together.
 #[derive(Drop)]
@@ -18,11 +18,11 @@ pub struct LogClaims<E> {
     /// The claim of each record, up to the first that can't come next whatever its signature.
     pub claims: Vec<Claim>,
     /// Why the record after those can't come next, or out of memory; none, where each record has its claim.
-    pub refusal: Option<RunCause<E>>,
+    pub cause: Option<RunCause<E>>,
 }
 
 // The claim of the record that the bytes say, which is taken as if it were true; or why it can't come next.
-fn take_next<L: Hosted>(
+fn take_next<L: ExternallyVerified>(
     alloc: Global,
     state: &mut L,
     bytes: &[u8],
@@ -33,7 +33,7 @@ fn take_next<L: Hosted>(
         (IsWhyNever L.log L.Record.reading (L.view state.old) bytes.now) }
 {
     let question = ask(alloc, &*state, bytes)?;
-    let answer = Told {
+    let answer = SignatureVerdict {
         question,
         belongs: true,
     };
@@ -41,7 +41,7 @@ fn take_next<L: Hosted>(
     if append(alloc, state, bytes, &answer).is_err() {
         return Err(RunCause::Parse(ParseEnvelopeError::OutOfMemory));
     }
-    let Question {
+    let SignatureCheck {
         key,
         message,
         signature,
@@ -52,27 +52,27 @@ fn take_next<L: Hosted>(
 // These claims, and no memory for more.
 fn out_of_memory<E>(claims: Vec<Claim>) -> LogClaims<E>
     ensures claims { result.claims ≡ claims }
-    ensures refusal { result.refusal ≡ Some (Parse OutOfMemory) }
+    ensures cause { result.cause ≡ Some (Parse OutOfMemory) }
 {
     LogClaims {
         claims,
-        refusal: Some(RunCause::Parse(ParseEnvelopeError::OutOfMemory)),
+        cause: Some(RunCause::Parse(ParseEnvelopeError::OutOfMemory)),
     }
 }
 
 /// The claim of each record of a log, in order, without a word on whether it is true. They end at the first record that
 /// can't come next whatever its signature.
-pub fn claims<L: Hosted>(alloc: Global, log: &[Vec<u8>]) -> LogClaims<L::Error>
+pub fn claims<L: ExternallyVerified>(alloc: Global, log: &[Vec<u8>]) -> LogClaims<L::Error>
     ensures claims { AreClaims L.log L.Record.reading
         (take (length result.claims.items) (map vec_items log.now)) result.claims.items }
     ensures end { EndsAt L.log L.Record.reading (map vec_items log.now)
-        (length result.claims.items) result.refusal }
+        (length result.claims.items) result.cause }
 {
     let mut claims = Vec::new(alloc);
     let Ok(mut state) = L::new(alloc) else {
         return LogClaims {
             claims,
-            refusal: Some(RunCause::Parse(ParseEnvelopeError::OutOfMemory)),
+            cause: Some(RunCause::Parse(ParseEnvelopeError::OutOfMemory)),
         };
     };
     for bytes in log {
@@ -85,13 +85,13 @@ pub fn claims<L: Hosted>(alloc: Global, log: &[Vec<u8>]) -> LogClaims<L::Error>
             Err(cause) => {
                 return LogClaims {
                     claims,
-                    refusal: Some(cause),
+                    cause: Some(cause),
                 };
             }
         }
     }
     LogClaims {
         claims,
-        refusal: None,
+        cause: None,
     }
 }

@@ -61,11 +61,11 @@ abbrev pub envelope_message : EnvelopeData → EnvelopeValue
 envelope_message envelope = record { contents = envelope.content; key_id = envelope.key_id; signature = named_bytes_text envelope.signature }
 
 -- the record that is held is the one that the content bytes say
-abbrev pub IsHonest : {C M F : Type 0} → (List ℕ → Result M F) → (C → M) → DecodedEnvelope C → Type 0
-IsHonest read meaning e = read e.envelope.content ≡ Ok (meaning e.contents)
+abbrev pub ContentsMatchBytes : {C M F : Type 0} → (List ℕ → Result M F) → (C → M) → DecodedEnvelope C → Type 0
+ContentsMatchBytes read meaning e = read e.envelope.content ≡ Ok (meaning e.contents)
 
 -- the answer is what the bytes say, out of memory aside
 abbrev pub IsOpening : {C M F : Type 0} → (List ℕ → Result M F) → (C → M) → (DecodeError → Option F) → List ℕ
     → Result (DecodedEnvelope C) ParseEnvelopeError → Type 0
-IsOpening read meaning fault_of bytes (Ok e) = (envelope_of read bytes ≡ Ok e.envelope) × IsHonest read meaning e
+IsOpening read meaning fault_of bytes (Ok e) = (envelope_of read bytes ≡ Ok e.envelope) × ContentsMatchBytes read meaning e
 IsOpening read meaning fault_of bytes (Err e) = NamesFault (envelope_of read bytes) (envelope_fault_of fault_of e)

@@ -13,8 +13,8 @@ module _ {C M F : Type 0} {read : List ℕ → Result M F} {meaning : C → M} {
   envelope_in = envelope.envelope_of read
 
   -- the record that is held is the one that the content bytes say
-  abbrev pub IsHonest : DecodedEnvelope C → Type 0
-  IsHonest e = envelope.IsHonest read meaning e
+  abbrev pub ContentsMatchBytes : DecodedEnvelope C → Type 0
+  ContentsMatchBytes e = envelope.ContentsMatchBytes read meaning e
 
   -- the answer is what the bytes say, out of memory aside
   abbrev pub IsOpening : List ℕ → Result (DecodedEnvelope C) ParseEnvelopeError → Type 0

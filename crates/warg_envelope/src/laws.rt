@@ -5,7 +5,7 @@ ghost use Rattle.warg_crypto.specs.Keys.{signature_of};
 ghost use Rattle.warg_crypto.specs.NamedBytes.{named_bytes_text};
 ghost use Rattle.warg_envelope.specs.EnvelopeData.{DecodedEnvelope, EnvelopeData};
 ghost use Rattle.warg_envelope.specs.Envelopes.{envelope_message};
-ghost use Rattle.warg_envelope.specs.ReadingWords.{IsHonest, envelope_in};
+ghost use Rattle.warg_envelope.specs.ReadingWords.{ContentsMatchBytes, envelope_in};
 ghost use Rattle.warg_envelope.specs.declared.proto_envelope.body.PublishedProtoEnvelope.{PublishedProtoEnvelope};
 ghost use Rattle.warg_envelope.specs.declared.proto_envelope.body.PublishedProtoEnvelopeBody.{PublishedProtoEnvelopeBody};
 ghost use Rattle.warg_envelope.specs.declared.proto_envelope.error.ParseEnvelopeError.{ParseEnvelopeError};
@@ -32,7 +32,7 @@ pub fn signature_reads_back<C>(envelope: &ProtoEnvelope<C>)
 /// What is written of an envelope whose record its content bytes say reads back as the envelope. What
 /// is asked here of the bytes `ProtoEnvelope::to_protobuf` says of those it gives.
 pub fn envelopes_read_back<C: Record>()
-    ensures { (e : DecodedEnvelope C) (bytes : List ℕ) → IsHonest C.reading e →
+    ensures { (e : DecodedEnvelope C) (bytes : List ℕ) → ContentsMatchBytes C.reading e →
         IsEnvelope bytes (envelope_message e.envelope) →
         signature_of (named_bytes_text e.envelope.signature) ≡ Ok e.envelope.signature →
         envelope_in C.reading bytes ≡ Ok e.envelope }

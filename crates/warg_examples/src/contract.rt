@@ -21,28 +21,28 @@ use warg_protocol::{RunError, VersionReq, laws, run};
 fn audited<V: Verifier>(
     alloc: Global,
     verifier: &V,
-    strings: &[Vec<u8>],
+    inputs: &[Vec<u8>],
 ) -> Result<LogState, RunError<ValidationError>>
-    ensures { let log = read_all (envelope_of package_record_of) (map vec_items strings.now) in
+    ensures { let log = read_all (envelope_of package_record_of) (map vec_items inputs.now) in
         IfOk result (λ state. IsAccepted kind (V.belongs verifier.now) log ×
         TellsHistory state log) }
 {
     laws::package::states_tell_history();
-    run(alloc, verifier, strings)
+    run(alloc, verifier, inputs)
 }
 
 /// The content to fetch for a requirement: that of a release of the log's history that is not yanked.
 fn content_for<V: Verifier>(
     alloc: Global,
     verifier: &V,
-    strings: &[Vec<u8>],
+    inputs: &[Vec<u8>],
     wanted: &VersionReq,
 ) -> Result<Option<AnyHash>, RunError<ValidationError>>
-    ensures { let log = read_all (envelope_of package_record_of) (map vec_items strings.now) in
+    ensures { let log = read_all (envelope_of package_record_of) (map vec_items inputs.now) in
         IfOk result (λ found. IfSome found
         (λ content. IsOffered log wanted.now.comparators.items content)) }
 {
-    let state = audited(alloc, verifier, strings)?;
+    let state = audited(alloc, verifier, inputs)?;
     Ok(match state.find_latest_release(wanted) {
         Some(release) => release.content().copied(),
         None => None,

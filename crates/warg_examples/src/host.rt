@@ -5,7 +5,7 @@ use crate::words::words;
 use std::alloc::Global;
 use std::rt::{Env, Files};
 use std::{fs, mem};
-use warg_protocol::host::{Question, Told, append, ask};
+use warg_protocol::external::{SignatureCheck, SignatureVerdict, append, ask};
 use warg_protocol::package::LogState;
 use warg_protocol::signing::{SignatureError, Verifier};
 use warg_protocol::toy::ToyVerifier;
@@ -14,13 +14,13 @@ use warg_protocol::toy::ToyVerifier;
 #[derive(Drop)]
 struct Judged {
     state: LogState,
-    questions: Vec<Question>,
+    questions: Vec<SignatureCheck>,
 }
 
 impl Judged {
     // Judges the next record but for its signature, and goes on as if that belonged.
     fn take(&mut self, alloc: Global, bytes: &[u8]) -> anyhow::Result<()> {
-        let told = Told {
+        let told = SignatureVerdict {
             question: ask(alloc, &self.state, bytes)?,
             belongs: true,
         };
@@ -36,14 +36,14 @@ fn judge(alloc: Global, log: &[Vec<u8>]) -> anyhow::Result<Judged> {
         state: LogState::new(alloc)?,
         questions: Vec::new(alloc),
     };
-    for string in log {
-        judged.take(alloc, string.as_slice())?;
+    for input in log {
+        judged.take(alloc, input.as_slice())?;
     }
     Ok(judged)
 }
 
 // Stands for what verifies elsewhere: a library of another language, other threads, other machines.
-fn verify(alloc: Global, question: &Question) -> anyhow::Result<bool> {
+fn verify(alloc: Global, question: &SignatureCheck) -> anyhow::Result<bool> {
     let message = question.message.as_slice();
     match ToyVerifier.verify(alloc, &question.key, message, &question.signature) {
         Ok(()) => Ok(true),

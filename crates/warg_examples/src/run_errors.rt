@@ -1,4 +1,4 @@
-//! Tells why a log is refused, whatever the cause: `run_errors FILE..`, where the files hold its envelopes.
+//! Tells why a log is refused, whatever the error: `run_errors FILE..`, where the files hold its envelopes.
 
 use crate::words::read_log;
 use std::alloc::{AllocError, Global};
@@ -58,14 +58,14 @@ fn describe(alloc: Global, log: &[Vec<u8>]) -> Result<String, AllocError> {
     }
 }
 
-// How many releases a whole log has. `?` makes the program's own error of a refusal, with its text.
+// How many releases a whole log has. `?` turns the error of `run` into the program's own, with its text.
 fn count_releases(alloc: Global, log: &[Vec<u8>]) -> anyhow::Result<usize> {
     let state = run::<LogState, ToyVerifier>(alloc, &ToyVerifier, log)?;
     Ok(state.releases().count())
 }
 
 // The short name of what refuses a log, which takes no memory.
-fn refusal_name(alloc: Global, log: &[Vec<u8>]) -> Option<&'static str> {
+fn error_name(alloc: Global, log: &[Vec<u8>]) -> Option<&'static str> {
     match run::<LogState, ToyVerifier>(alloc, &ToyVerifier, log) {
         Ok(_) => None,
         Err(error) => Some(error.name()),
@@ -82,7 +82,7 @@ fn tell_count(rt: &(impl Alloc<A = Global> + Print), log: &[Vec<u8>]) -> io::Res
 fn tell(rt: &(impl Alloc<A = Global> + Print), log: &[Vec<u8>]) -> anyhow::Result<()> {
     println!(rt; "{}", describe(rt.alloc(), log)?)?;
     tell_count(rt, log)?;
-    if let Some(name) = refusal_name(rt.alloc(), log) {
+    if let Some(name) = error_name(rt.alloc(), log) {
         println!(rt; "{name}")?;
     }
     Ok(())

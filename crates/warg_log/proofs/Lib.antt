@@ -4,7 +4,7 @@ pub mod Steps
 pub mod HistoryLaws
 pub mod Coherence
 pub mod EquivalentStates
-pub mod RefusalLaws
+pub mod LogErrorLaws
 pub mod PossibleLaws
 pub mod HistoryViews
 pub mod ListingLaws

@@ -5,7 +5,7 @@ pub mod Rules
 pub mod OffenceNames
 pub mod States
 pub mod PossibleOffences
-pub mod Refusals
+pub mod LogErrors
 pub mod History
 pub mod Forms
 pub mod Listings

@@ -17,7 +17,7 @@ use std::fmt;
 use std::marker::Model;
 use warg_crypto::hash::HashAlgorithm;
 use warg_crypto::signing::{KeyID, PublicKey};
-use warg_permissions::key_maps::{Keys, Maps, rights};
+use warg_permissions::key_maps::{KeyTable, Keys, rights};
 use warg_permissions::{LogPermission, PermissionSet};
 
 /// Who may do what in a log, and whose key is which.
@@ -25,7 +25,7 @@ use warg_permissions::{LogPermission, PermissionSet};
 pub struct Authority<P: LogPermission> {
     pub(crate) alloc: Global,
     pub(crate) algorithm: Option<HashAlgorithm>,
-    pub(crate) maps: Maps<P>,
+    pub(crate) maps: KeyTable<P>,
 }
 
 impl<P: LogPermission> Model for Authority<P> {
@@ -46,7 +46,7 @@ impl<P: LogPermission> Authority<P> {
         Authority {
             alloc,
             algorithm: None,
-            maps: Maps::new(alloc),
+            maps: KeyTable::new(alloc),
         }
     }
 

@@ -13,8 +13,8 @@ ghost use Rattle.warg_permissions.specs.KeyMaps.Rights.{is_listed};
 ghost use Rattle.warg_log.specs.Offences.{offence_of, first_unauthorized, permission_offence, required_offence, not_begun, unless, KeyIDNotRecognized, empty_grant, init_offence, grant_offence, revoke_offence};
 
 use crate::authority::Authority;
+use crate::log_error::LogError;
 use crate::own_state::Origin;
-use crate::refusal::Refusal;
 use std::alloc::Global;
 use warg_crypto::hash::HashAlgorithm;
 use warg_crypto::signing::{KeyID, PublicKey};
@@ -22,13 +22,13 @@ use warg_permissions::key_maps::rights;
 use warg_permissions::{LogPermission, PermissionSet};
 
 /// Refuses an Init whose signer has to own its key, and does not.
-fn check_owner<P>(by_own_key: bool, signer: &KeyID, key_id: &KeyID) -> Result<(), Refusal<P>>
+fn check_owner<P>(by_own_key: bool, signer: &KeyID, key_id: &KeyID) -> Result<(), LogError<P>>
     ensures { ReturnsOffence offence_of
         (unless (not by_own_key || bytes_eq signer.now key_id.now) (KeyIDNotRecognized signer.now))
         result }
 {
     if by_own_key && *signer != *key_id {
-        return Err(Refusal::KeyIDNotRecognized {
+        return Err(LogError::KeyIDNotRecognized {
             key_id: signer.clone()?,
         });
     }
@@ -41,7 +41,7 @@ fn id_of_owner<P>(
     by_own_key: bool,
     signer: &KeyID,
     key: &PublicKey,
-) -> Result<KeyID, Refusal<P>>
+) -> Result<KeyID, LogError<P>>
     ensures judges { ReturnsOffence offence_of
         (unless (not by_own_key || bytes_eq signer.now (fingerprint_of key.now))
         (KeyIDNotRecognized signer.now)) result }
@@ -108,14 +108,14 @@ impl<P: LogPermission> Authority<P> {
         key_id: &KeyID,
         before: Option<&PermissionSet<P>>,
         permission: P,
-    ) -> Result<(), Refusal<P>>
+    ) -> Result<(), LogError<P>>
         requires { option_copied before ≡ rights_at self.now key_id.now }
         ensures { ReturnsOffence offence_of
             (permission_offence (access_view_over P.eq self.now changes.now) key_id.now permission)
             result }
     {
         if !self.holds_with(changes, key_id, before, permission) {
-            return Err(Refusal::UnauthorizedAction {
+            return Err(LogError::UnauthorizedAction {
                 key_id: key_id.clone()?,
                 needed_permission: permission,
             });
@@ -130,7 +130,7 @@ impl<P: LogPermission> Authority<P> {
         key_id: &KeyID,
         before: Option<&PermissionSet<P>>,
         required: Option<P>,
-    ) -> Result<(), Refusal<P>>
+    ) -> Result<(), LogError<P>>
         requires { option_copied before ≡ rights_at self.now key_id.now }
         ensures { ReturnsOffence offence_of (required_offence
             (access_view_over P.eq self.now changes.now) key_id.now required) result }
@@ -142,14 +142,14 @@ impl<P: LogPermission> Authority<P> {
     }
 
     /// Checks that the log has an Init.
-    pub fn check_begun(&self, changes: &Authority<P>) -> Result<(), Refusal<P>>
+    pub fn check_begun(&self, changes: &Authority<P>) -> Result<(), LogError<P>>
         ensures { ReturnsOffence offence_of (not_begun (access_view_over P.eq self.now changes.now))
             result }
     {
         if self.is_begun(changes) {
             Ok(())
         } else {
-            Err(Refusal::FirstEntryIsNotInit)
+            Err(LogError::FirstEntryIsNotInit)
         }
     }
 
@@ -160,7 +160,7 @@ impl<P: LogPermission> Authority<P> {
         key_id: &KeyID,
         before: Option<&PermissionSet<P>>,
         permissions: &[P],
-    ) -> Result<(), Refusal<P>>
+    ) -> Result<(), LogError<P>>
         requires { option_copied before ≡ rights_at self.now key_id.now }
         ensures { ReturnsOffence offence_of (first_unauthorized
             (access_view_over P.eq self.now changes.now) key_id.now permissions.now) result }
@@ -171,7 +171,7 @@ impl<P: LogPermission> Authority<P> {
         let held = self.rights_with(changes, key_id, before);
         for permission in permissions {
             if !rights::is_among(held, *permission) {
-                return Err(Refusal::UnauthorizedAction {
+                return Err(LogError::UnauthorizedAction {
                     key_id: key_id.clone()?,
                     needed_permission: *permission,
                 });
@@ -188,7 +188,7 @@ impl<P: LogPermission> Authority<P> {
         signer: &KeyID,
         hash_algorithm: HashAlgorithm,
         key: &PublicKey,
-    ) -> Result<(), Refusal<P>>
+    ) -> Result<(), LogError<P>>
         ensures judges { ReturnsOffence offence_of (init_offence by_own_key
             (access_view_over P.eq self.now changes.old) signer.now key.now) result }
         ensures after { OnOk result (access_view_over P.eq self.now changes.new ≡ after P.eq
@@ -196,7 +196,7 @@ impl<P: LogPermission> Authority<P> {
             (record { signer = signer.now; entry = Init hash_algorithm key.now } ∷ [])) }
     {
         if self.is_begun(changes) {
-            return Err(Refusal::InitialEntryAfterBeginning);
+            return Err(LogError::InitialEntryAfterBeginning);
         }
         let key_id = id_of_owner(self.alloc, by_own_key, signer, key)?;
         changes.algorithm = Some(hash_algorithm);
@@ -210,12 +210,12 @@ impl<P: LogPermission> Authority<P> {
         version: u32,
         key: &PublicKey,
         permissions: &[P],
-    ) -> Result<(), Refusal<P>>
+    ) -> Result<(), LogError<P>>
         ensures { ReturnsOffence offence_of
             (empty_grant version (fingerprint_of key.now) permissions.now) result }
     {
         if version != 0 && permissions.is_empty() {
-            return Err(Refusal::EmptyGrant {
+            return Err(LogError::EmptyGrant {
                 key_id: key.fingerprint(self.alloc)?,
             });
         }
@@ -230,7 +230,7 @@ impl<P: LogPermission> Authority<P> {
         before: Option<&PermissionSet<P>>,
         key: &PublicKey,
         permissions: &[P],
-    ) -> Result<(), Refusal<P>>
+    ) -> Result<(), LogError<P>>
         requires { option_copied before ≡ rights_at self.now origin.now.signer.now }
         ensures judges { ReturnsOffence offence_of (grant_offence origin.now.version
             (access_view_over P.eq self.now changes.old) origin.now.signer.now key.now
@@ -257,7 +257,7 @@ impl<P: LogPermission> Authority<P> {
         before: Option<&PermissionSet<P>>,
         key_id: &KeyID,
         permissions: &[P],
-    ) -> Result<(), Refusal<P>>
+    ) -> Result<(), LogError<P>>
         requires { option_copied before ≡ rights_at self.now signer.now }
         ensures judges { ReturnsOffence offence_of (revoke_offence P.eq
             (access_view_over P.eq self.now changes.old) signer.now key_id.now permissions.now)
@@ -272,7 +272,7 @@ impl<P: LogPermission> Authority<P> {
             .maps
             .take(self.alloc, &mut changes.maps, key_id, permissions)?;
         if let Some(permission) = missing {
-            return Err(Refusal::PermissionNotFoundToRevoke {
+            return Err(LogError::PermissionNotFoundToRevoke {
                 permission,
                 key_id: key_id.clone()?,
             });

@@ -19,7 +19,7 @@ ghost use Rattle.warg_log.specs.Offences.{offence_of};
 ghost use Rattle.warg_log.specs.PossibleOffences.{IsPossible};
 ghost use Rattle.warg_log.specs.States.{State, view_of_state};
 ghost use Rattle.warg_log.specs.declared.head.Head.{Head};
-ghost use Rattle.warg_log.specs.declared.refusal.Refusal.{Refusal};
+ghost use Rattle.warg_log.specs.declared.log_error.LogError.{LogError};
 
 use crate::head::Head;
 use crate::own_state::OwnState;
@@ -51,9 +51,9 @@ pub fn equal_heads()
     ensures { (a b : Head) → (⟦<Head as PartialEq>⟧.eq a b ≡ true) ↔ (a ≡ b) }
 {}
 
-/// No two refusals name the same offence.
+/// No two errors name the same offence.
 pub fn refusals_tell_apart<P>()
-    ensures { (r s : Refusal P) → offence_of r ≡ offence_of s → r ≡ s }
+    ensures { (r s : LogError P) → offence_of r ≡ offence_of s → r ≡ s }
 {}
 
 /// What is wrong with a record is never out of memory within another error, nor a second algorithm,

@@ -5,20 +5,20 @@
 mod authority;
 mod checks;
 mod effects;
-mod fault;
 mod granting;
 mod head;
+mod kind_error;
 pub mod laws;
 mod log;
+mod log_error;
 mod own_state;
-mod refusal;
 mod saved_members;
 mod saved_parts;
 
 pub use head::Head;
 pub use log::Log;
+pub use log_error::LogError;
 pub use own_state::{EntryRef, Origin, OwnState, RecordRef};
-pub use refusal::Refusal;
 pub use saved_members::{members_text, members_value};
 pub use saved_parts::{SavedParts, first_apart, read_parts, second_apart, text_parts};
 pub use warg_permissions::key_maps::{KeyEntry, Keys};

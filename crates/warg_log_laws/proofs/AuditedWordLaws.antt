@@ -1,12 +1,12 @@
 -- What the words of audited logs say is what they say by the parts: each law has a word, and the text in whose place it
--- stands. Both are one type. Above each are the calls of `AuditedLog` and `HostedLog` that say it.
+-- stands. Both are one type. Above each are the calls of `AuditedLog` and `ExternallyVerifiedLog` that say it.
 use Rattle.std.proofs.Common.{◌≡◌, ℕ, List, Option, Some, None, Result, refl}
 use Rattle.warg_crypto.specs.declared.coding.DecodeError.{DecodeError}
 use Rattle.warg_envelope.specs.EnvelopeData.{DecodedEnvelope}
 use Rattle.warg_envelope.specs.Envelopes.{envelope_of, envelope_fault_of}
 use Rattle.warg_envelope.specs.Readings.{Reading}
 use Rattle.warg_log_records.specs.Kinds.{SignatureRelation, Kind}
-use Rattle.warg_log_records.specs.declared.question.Question.{Question}
+use Rattle.warg_log_records.specs.declared.signature_check.SignatureCheck.{SignatureCheck}
 use Rattle.warg_replay.specs.AuditedLog.Audited as audited
 use Rattle.warg_replay.specs.AuditedLog.AuditedWords as word
 use Rattle.warg_replay.specs.AuditedLog.Log.{envelopes}
@@ -18,7 +18,7 @@ use Rattle.warg_replay.specs.declared.replay.RunError.{RunError}
 
 module _ {C M F : Type 0} {read : List ℕ → Result M F} {meaning : C → M} {fault_of : DecodeError → Option F}
     (reading : Reading read meaning fault_of) where
-  -- `append` and `append_by`
+  -- `append` and `append_with`
   pub AreAdded-same : (old : List (DecodedEnvelope C)) (strings : List (List ℕ)) (new : List (DecodedEnvelope C))
       → word.AreAdded reading old strings new ≡ audited.AreAdded (envelope_of read) old strings new
   AreAdded-same old strings new = refl
@@ -27,17 +27,17 @@ module _ {S E View Offence C M F : Type 0} {kind : Kind View Offence} {view : S 
     {offence_of : E → Option Offence} {read : List ℕ → Result M F} {meaning : C → M}
     {fault_of : DecodeError → Option F} (log : LogOf kind view offence_of)
     (reading : Reading read meaning fault_of) (records : List (DecodedEnvelope C)) where
-  -- `state` and `records` of `AuditedLog`; `new` and `append_by` of `HostedLog`
+  -- `state` and `records` of `AuditedLog`; `new` and `append_with` of `ExternallyVerifiedLog`
   pub IsAudited-same : (b : SignatureRelation) (state : S) → word.IsAudited log reading b state records
       ≡ audited.IsAudited kind read meaning b (view state) records
   IsAudited-same b state = refl
 
-  -- `state` and `records` of `HostedLog`
+  -- `state` and `records` of `ExternallyVerifiedLog`
   pub IsKept-same : (state : S) → word.IsKept log reading state records
       ≡ audited.IsKept kind read meaning (view state) records
   IsKept-same state = refl
 
-  -- `append` and `append_by`
+  -- `append` and `append_with`
   pub MayCome-same : (b : SignatureRelation) (bytes : List ℕ) → word.MayCome log reading b records bytes
       ≡ (cause_next kind b (envelope_of read) (kind.view_of (envelopes records)) bytes ≡ None)
   MayCome-same b bytes = refl
@@ -55,7 +55,7 @@ module _ {S E View Offence C M F : Type 0} {kind : Kind View Offence} {view : S 
       → cause_next kind b (envelope_of read) (kind.view_of (envelopes records)) bytes ≡ Some why)
   IsWhyNever-same bytes cause = refl
 
-  pub Asks-same : (bytes : List ℕ) (question : Question) → word.Asks log reading records bytes question
+  pub Asks-same : (bytes : List ℕ) (question : SignatureCheck) → word.Asks log reading records bytes question
       ≡ telling.Asks kind (envelope_of read bytes) (kind.view_of (envelopes records)) question
   Asks-same bytes question = refl
 

@@ -1,4 +1,4 @@
--- The reading of a log by what is computed of its strings is its reading by the grammar.
+-- The reading of a log by what is computed of its inputs is its reading by the grammar.
 use Rattle.std.proofs.Common.{◌≡◌, inl, inr, ℕ, ◌<◌, zero, suc, List, [], ◌∷◌, take, Option, Some, None, Result, Ok, Err, refl, sym, ap, ◌∙◌, subst, arith}
 use Rattle.std.specs.Prelude.{◌↔◌, slice_get}
 use Rattle.std.specs.List.{AllZip, cons_option}
@@ -6,7 +6,7 @@ use Rattle.std.specs.Option.{option_map}
 use Rattle.warg_envelope.specs.EnvelopeData.{EnvelopeData}
 use Rattle.warg_log_records.specs.Kinds.{SignatureRelation, Kind, KindLaws}
 use Rattle.warg_replay.specs.OutcomeRuns.{IfNamed, cause_next, HasNoOffence, IsFirstOffence, IsRun, IfStarted}
-use Rattle.warg_replay.specs.Strings.{Cause, Unread, Unlawful, ok, read_all, cause_of}
+use Rattle.warg_replay.specs.Inputs.{Cause, Unread, Unlawful, ok, read_all, cause_of}
 use Rattle.warg_replay.specs.declared.replay.RunCause.{RunCause}
 use Rattle.warg_replay.specs.declared.replay.RunError.{RunError}
 use Rattle.warg_replay.proofs.LogLaws.{strings-accepted}
@@ -135,6 +135,6 @@ module _ {View Offence F : Type 0} (k : Kind View Offence) (laws : KindLaws k) (
       λ h. started answer (IsReading k b IsEnvelope HasFault view named_by ss) (IsRun k b read k.view_of view named_by ◌≡◌ ss) (reading-run answer) h,
     )
 
-  -- why a string can't come, by the grammar
+  -- why an input can't come, by the grammar
   pub cause-by-grammar : (v : View) (s : List ℕ) (c : Cause F Offence) → (cause_next k b read v s ≡ Some c) ↔ IsCause k b IsEnvelope HasFault v s c
   cause-by-grammar v s c = (caused v s c, cause-is v s c)

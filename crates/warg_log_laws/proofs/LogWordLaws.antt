@@ -9,14 +9,14 @@ use Rattle.warg_envelope.specs.ReadingWords as opened
 use Rattle.warg_envelope.specs.Readings.{Reading}
 use Rattle.warg_envelope.specs.declared.proto_envelope.error.ParseEnvelopeError.{ParseEnvelopeError}
 use Rattle.warg_log_records.specs.Kinds.{SignatureRelation, Kind, view_after}
-use Rattle.warg_log_records.specs.declared.question.Question.{Question}
+use Rattle.warg_log_records.specs.declared.signature_check.SignatureCheck.{SignatureCheck}
 use Rattle.warg_replay.specs.Logs.{LogOf}
 use Rattle.warg_replay.specs.LogWords as word
 use Rattle.warg_replay.specs.OutcomeRuns as run
 use Rattle.warg_replay.specs.OutcomeRuns.{IfNamed, IfStarted, cause_named_by, cause_next}
-use Rattle.warg_replay.specs.Strings.{Cause, read_all}
+use Rattle.warg_replay.specs.Inputs.{Cause, read_all}
 use Rattle.warg_replay.specs.Telling as telling
-use Rattle.warg_replay.specs.declared.host.told.Told.{Told}
+use Rattle.warg_replay.specs.declared.external.signature_verdict.SignatureVerdict.{SignatureVerdict}
 use Rattle.warg_replay.specs.declared.replay.RunCause.{RunCause}
 use Rattle.warg_replay.specs.declared.replay.RunError.{RunError}
 
@@ -28,9 +28,9 @@ module _ {C M F : Type 0} {read : List ℕ → Result M F} {meaning : C → M} {
   pub envelope_in-same : (bytes : List ℕ) → opened.envelope_in reading bytes ≡ envelope_of read bytes
   envelope_in-same bytes = refl
 
-  -- `Validator` and `Hosted`
-  pub IsHonest-same : (e : DecodedEnvelope C) → opened.IsHonest reading e ≡ envelope.IsHonest read meaning e
-  IsHonest-same e = refl
+  -- `Validator` and `ExternallyVerified`
+  pub ContentsMatchBytes-same : (e : DecodedEnvelope C) → opened.ContentsMatchBytes reading e ≡ envelope.ContentsMatchBytes read meaning e
+  ContentsMatchBytes-same e = refl
 
   -- `read_and_ask`
   pub IsOpening-same : (bytes : List ℕ) (answer : Result (DecodedEnvelope C) ParseEnvelopeError)
@@ -76,7 +76,7 @@ module _ {S E View Offence C M F : Type 0} {kind : Kind View Offence} {view : S 
       v bytes answer
   IsStep-same b v bytes answer = refl
 
-  -- ---- strings, one after another
+  -- ---- inputs, one after another
 
   module _ (b : SignatureRelation) (strings : List (List ℕ)) (answer : Result S (RunError E)) where
     pub IsRunSeen-same : (seen : List EnvelopeData → View) (Agrees : View → View → Type 0)
@@ -148,12 +148,12 @@ module _ {S E View Offence C M F : Type 0} {kind : Kind View Offence} {view : S 
   -- ---- signatures that are verified elsewhere
 
   -- `ask` and `read_and_ask`
-  pub Asks-same : (v : View) (bytes : List ℕ) (question : Question)
+  pub Asks-same : (v : View) (bytes : List ℕ) (question : SignatureCheck)
       → word.Asks log reading v bytes question ≡ telling.Asks kind (envelope_of read bytes) v question
   Asks-same v bytes question = refl
 
   -- `append`
-  pub IsAnswered-same : (v : View) (bytes : List ℕ) (told : Told)
+  pub IsAnswered-same : (v : View) (bytes : List ℕ) (told : SignatureVerdict)
       → word.IsAnswered log reading v bytes told ≡ telling.IsAnswered kind (envelope_of read bytes) v told
   IsAnswered-same v bytes told = refl
 

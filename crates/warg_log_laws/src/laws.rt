@@ -25,7 +25,7 @@ ghost use Rattle.warg_log_records.specs.Effects.{holds, GivesWhatIsHeld, HoldsBy
 ghost use Rattle.warg_log_records.specs.Kinds.{SignatureRelation, KindLaws, IsAccepted, StandsFor};
 ghost use Rattle.warg_replay.specs.LogWords.{IsRun, named_cause, why_not};
 ghost use Rattle.warg_replay.specs.OutcomeRuns.{IfStarted};
-ghost use Rattle.warg_replay.specs.Strings.{Cause};
+ghost use Rattle.warg_replay.specs.Inputs.{Cause};
 ghost use Rattle.warg_log_records.specs.Walks.{IsFound, IsAccepted as AllLawful};
 ghost use Rattle.warg_log_records.specs.declared.effect.Effect.TheVariants.{Gives};
 ghost use Rattle.warg_replay.specs.declared.replay.RunError.{RunError};
@@ -151,8 +151,8 @@ pub fn entries_in_turn<L: RuledLog>()
         (record_history L.rules.id_of (place, r)) }
 {}
 
-/// `run` answers by the grammar: a state exactly where the strings are envelopes that are an accepted log,
-/// for which it stands; else the first string that can't come after the log of those before it, and why. Why
+/// `run` answers by the grammar: a state exactly where the inputs are envelopes that are an accepted log,
+/// for which it stands; else the first input that can't come after the log of those before it, and why. Why
 /// one can't come is read so too.
 pub fn run_by_grammar<L: RuledLog>()
     ensures reading { (b : SignatureRelation) (strings : List (List ℕ))

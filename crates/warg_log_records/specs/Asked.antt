@@ -3,7 +3,7 @@ use Rattle.std.specs.Prelude.{◌≡◌, ◌↔◌, ℕ, List, true, Option, Non
 use Rattle.warg_crypto.specs.NamedBytes.{NamedBytes}
 use Rattle.warg_envelope.specs.EnvelopeData.{EnvelopeData}
 use Rattle.warg_log_records.specs.Kinds.{SignatureRelation, Kind, Refuses}
-use Rattle.warg_log_records.specs.declared.question.Question.{Question}
+use Rattle.warg_log_records.specs.declared.signature_check.SignatureCheck.{SignatureCheck}
 
 module _ {View Offence : Type 0} (k : Kind View Offence) where
   -- whatever the relation: nothing is wrong with the envelope exactly if it holds of the key, the message and the signature
@@ -11,7 +11,7 @@ module _ {View Offence : Type 0} (k : Kind View Offence) where
   AsksFor v e key message signature = (b : SignatureRelation) → (k.offence b v e ≡ None) ↔ (b key message signature ≡ true)
 
   -- that is what is asked
-  abbrev pub AsksOf : View → EnvelopeData → Question → Type 0
+  abbrev pub AsksOf : View → EnvelopeData → SignatureCheck → Type 0
   AsksOf v e q = AsksFor v e q.key q.message.items q.signature
 
   -- an envelope that is lawful under some relation asks for one signature

@@ -15,4 +15,4 @@ pub mod Consistent
 pub mod SparseMapLemmas
 pub mod MerkleLogLemmas
 pub mod MapProofLemmas
-pub mod MapTreeLemmas
+pub mod SparseTreeLemmas

@@ -8,9 +8,9 @@ mod hashes;
 mod inclusion;
 mod laws;
 pub mod map_proof;
-pub mod map_tree;
 pub mod merkle_log;
 pub mod sparse_map;
+pub mod sparse_tree;
 mod tree;
 
 pub use extension::verify_consistency;

@@ -9,7 +9,7 @@ use Rattle.warg_permissions.specs.declared.operator.Permission.{Permission}
 use Rattle.warg_replay.specs.declared.replay.RunError.{RunError}
 use Rattle.warg_log_records.specs.Kinds.{SignatureRelation, IsAccepted, StandsFor}
 use Rattle.warg_replay.specs.OutcomeRuns.{IsRun, IfStarted, cause_named_by}
-use Rattle.warg_replay.specs.Strings.{read_all}
+use Rattle.warg_replay.specs.Inputs.{read_all}
 use Rattle.warg_replay.proofs.RunLaws.{run-then}
 use Rattle.warg_permissions.specs.KeyMaps.AuthorityData.{AuthorityData}
 use Rattle.warg_log.specs.States.{State}

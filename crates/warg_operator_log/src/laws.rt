@@ -21,7 +21,7 @@ ghost use Rattle.warg_log_records.specs.OperatorReading.{operator_record_of};
 ghost use Rattle.warg_log_records.specs.Readings.{operator_reading};
 ghost use Rattle.warg_replay.specs.LogWords.{IsRun};
 ghost use Rattle.warg_replay.specs.OutcomeRuns.{IfStarted};
-ghost use Rattle.warg_replay.specs.Strings.{read_all};
+ghost use Rattle.warg_replay.specs.Inputs.{read_all};
 ghost use Rattle.warg_replay.specs.declared.replay.RunError.{RunError};
 ghost use Rattle.warg_log.specs.Admissions.{NoKeyBringsItselfIn};
 ghost use Rattle.warg_permissions.specs.KeyMaps.AuthorityData.{AuthorityData};
@@ -67,7 +67,7 @@ pub fn form()
 
 /// A state that stands for a log says what the log's history says: who holds what, who has
 /// an entry, whose key is which, the namespaces by name and the head, from which the look-ups answer.
-/// What `run` answers as a state is one for an accepted log, the envelopes of the strings.
+/// What `run` answers as a state is one for an accepted log, the envelopes of the inputs.
 pub fn states_tell_history()
     ensures stands { (s : State (AuthorityData Permission) (List (List ℕ × Namespace)))
         (es : List EnvelopeData) →

@@ -2,7 +2,7 @@
 #![tactic(auto)]
 
 mod error;
-mod hosted;
+mod externally_verified;
 pub mod laws;
 mod name;
 mod namespace;

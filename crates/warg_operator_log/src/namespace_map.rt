@@ -28,7 +28,7 @@ use std::marker::Model;
 use warg_crypto::hash::Sha256;
 use warg_crypto::time::Timestamp;
 use warg_envelope::ProtoEnvelope;
-use warg_log::{EntryRef, Origin, OwnState, RecordRef, Refusal};
+use warg_log::{EntryRef, LogError, Origin, OwnState, RecordRef};
 use warg_log_records::RecordId;
 use warg_log_records::laws::envelope_reading_computes;
 use warg_log_records::operator::{OperatorEntry, OperatorRecord, Permission};
@@ -137,7 +137,7 @@ impl NamespaceMap {
                 namespace: name.clone()?,
             });
         }
-        // Behind a refusal the changes count for nothing, also where a namespace among them was replaced.
+        // Behind an error the changes count for nothing, also where a namespace among them was replaced.
         if self.get(name.as_str()).is_some() || !changes.put(name.clone()?, state)? {
             return Err(ValidationError::NamespaceAlreadyDefined {
                 namespace: name.clone()?,
@@ -280,10 +280,10 @@ impl OwnState for NamespaceMap {
         }
     }
 
-    fn refused(refusal: Refusal<Permission>) -> ValidationError
-        ensures { offence_of result ≡ option_map LogOffence.Shared (shared.offence_of refusal) }
+    fn refused(log_error: LogError<Permission>) -> ValidationError
+        ensures { offence_of result ≡ option_map LogOffence.Shared (shared.offence_of log_error) }
     {
-        ValidationError::from(refusal)
+        ValidationError::from(log_error)
     }
 
     fn no_change(

@@ -7,7 +7,7 @@ use std::error::Error;
 use std::fmt;
 use warg_crypto::hash::HashAlgorithm;
 use warg_crypto::signing::{KeyID, SignatureError};
-use warg_log::Refusal;
+use warg_log::LogError;
 use warg_log_records::package::Permission;
 
 /// Why a record of a package log is refused.
@@ -176,7 +176,7 @@ impl From<SignatureError> for ValidationError {
     }
 }
 
-impl From<Refusal<Permission>> for ValidationError {
+impl From<LogError<Permission>> for ValidationError {
     ghost use Rattle.std.specs.Option.{option_map};
     ghost use Rattle.warg_log.specs.Offences as shared;
     ghost use Rattle.warg_log.specs.Rules.{LogOffence};
@@ -184,37 +184,37 @@ impl From<Refusal<Permission>> for ValidationError {
 
     ghost from_gives = { λ r e. offence_of e ≡ option_map LogOffence.Shared (shared.offence_of r) };
 
-    fn from(refusal: Refusal<Permission>) -> ValidationError {
-        match refusal {
-            Refusal::FirstEntryIsNotInit => ValidationError::FirstEntryIsNotInit,
-            Refusal::InitialRecordDoesNotInit => ValidationError::InitialRecordDoesNotInit,
-            Refusal::KeyIDNotRecognized { key_id } => ValidationError::KeyIDNotRecognized {
+    fn from(log_error: LogError<Permission>) -> ValidationError {
+        match log_error {
+            LogError::FirstEntryIsNotInit => ValidationError::FirstEntryIsNotInit,
+            LogError::InitialRecordDoesNotInit => ValidationError::InitialRecordDoesNotInit,
+            LogError::KeyIDNotRecognized { key_id } => ValidationError::KeyIDNotRecognized {
                 key_id,
             },
-            Refusal::InitialEntryAfterBeginning => ValidationError::InitialEntryAfterBeginning,
-            Refusal::UnauthorizedAction {
+            LogError::InitialEntryAfterBeginning => ValidationError::InitialEntryAfterBeginning,
+            LogError::UnauthorizedAction {
                 key_id,
                 needed_permission,
             } => ValidationError::UnauthorizedAction {
                 key_id,
                 needed_permission,
             },
-            Refusal::PermissionNotFoundToRevoke { permission, key_id } => {
+            LogError::PermissionNotFoundToRevoke { permission, key_id } => {
                 ValidationError::PermissionNotFoundToRevoke { permission, key_id }
             }
-            Refusal::SignatureError(error) => ValidationError::SignatureError(error),
-            Refusal::IncorrectHashAlgorithm { found, expected } => {
+            LogError::SignatureError(error) => ValidationError::SignatureError(error),
+            LogError::IncorrectHashAlgorithm { found, expected } => {
                 ValidationError::IncorrectHashAlgorithm { found, expected }
             }
-            Refusal::RecordHashDoesNotMatch => ValidationError::RecordHashDoesNotMatch,
-            Refusal::PreviousHashOnFirstRecord => ValidationError::PreviousHashOnFirstRecord,
-            Refusal::NoPreviousHashAfterInit => ValidationError::NoPreviousHashAfterInit,
-            Refusal::ProtocolVersionNotAllowed { version } => {
+            LogError::RecordHashDoesNotMatch => ValidationError::RecordHashDoesNotMatch,
+            LogError::PreviousHashOnFirstRecord => ValidationError::PreviousHashOnFirstRecord,
+            LogError::NoPreviousHashAfterInit => ValidationError::NoPreviousHashAfterInit,
+            LogError::ProtocolVersionNotAllowed { version } => {
                 ValidationError::ProtocolVersionNotAllowed { version }
             }
-            Refusal::TimestampLowerThanPrevious => ValidationError::TimestampLowerThanPrevious,
-            Refusal::EmptyGrant { key_id } => ValidationError::EmptyGrant { key_id },
-            Refusal::OutOfMemory => ValidationError::OutOfMemory,
+            LogError::TimestampLowerThanPrevious => ValidationError::TimestampLowerThanPrevious,
+            LogError::EmptyGrant { key_id } => ValidationError::EmptyGrant { key_id },
+            LogError::OutOfMemory => ValidationError::OutOfMemory,
         }
     }
 }

@@ -8,7 +8,7 @@ ghost use Rattle.warg_permissions.specs.declared.package.Permission.{Permission}
 ghost use Rattle.warg_log_records.specs.Kinds.{SignatureRelation, IsAccepted, StandsFor};
 ghost use Rattle.warg_replay.specs.LogWords.{IsRun};
 ghost use Rattle.warg_replay.specs.OutcomeRuns.{IfStarted};
-ghost use Rattle.warg_replay.specs.Strings.{read_all};
+ghost use Rattle.warg_replay.specs.Inputs.{read_all};
 ghost use Rattle.warg_replay.specs.declared.replay.RunError.{RunError};
 ghost use Rattle.warg_log.specs.Admissions.{NoKeyBringsItselfIn};
 ghost use Rattle.warg_permissions.specs.KeyMaps.AuthorityData.{AuthorityData};
@@ -74,7 +74,7 @@ pub fn form()
 
 /// A state that stands for a log says what the log's history says: who holds what, who has
 /// an entry, whose key is which, the releases in order and the head, from which the look-ups answer.
-/// What `run` answers as a state is one for an accepted log, the envelopes of the strings.
+/// What `run` answers as a state is one for an accepted log, the envelopes of the inputs.
 pub fn states_tell_history()
     ensures stands { (s : State (AuthorityData Permission) (List ReleaseView))
         (es : List EnvelopeData) →

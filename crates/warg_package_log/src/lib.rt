@@ -2,7 +2,7 @@
 #![tactic(auto)]
 
 mod error;
-mod hosted;
+mod externally_verified;
 mod latest;
 pub mod laws;
 mod name;

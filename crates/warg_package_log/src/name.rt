@@ -1,4 +1,4 @@
-//! The names of refusals, which take no memory.
+//! The names of errors, which take no memory.
 
 ghost use Rattle.std.specs.Prelude.{◌≡◌};
 ghost use Rattle.warg_package_log.specs.OffenceNames.{error_name};

@@ -16,7 +16,7 @@ use Rattle.warg_protobuf.specs.Entry.{Member, entry_table, numbered_of, entry_fr
 use Rattle.warg_protobuf.specs.Entry as oneof
 use Rattle.warg_protobuf.specs.PackageEntry.{package_entry_table, package_entry_from}
 use Rattle.warg_protobuf.specs.OperatorEntry.{operator_entry_table, operator_entry_from}
-use Rattle.warg_protobuf.specs.Drafts.{one_text_with, no_text, two_texts_with, no_texts, MemberKept, Absent, Init, GrantFlat, RevokeFlat, FirstOwn, SecondOwn, init_so_far, grant_flat_so_far, revoke_flat_so_far, first_own_so_far, second_own_so_far, member_with, init_made, grant_flat_made, revoke_flat_made, release_made, yank_made, define_namespace_made, import_namespace_made, entry_made, package_entry_made, operator_entry_made}
+use Rattle.warg_protobuf.specs.MessageDrafts.{one_text_with, no_text, two_texts_with, no_texts, MemberKept, Absent, Init, GrantFlat, RevokeFlat, FirstOwn, SecondOwn, init_so_far, grant_flat_so_far, revoke_flat_so_far, first_own_so_far, second_own_so_far, member_with, init_made, grant_flat_made, revoke_flat_made, release_made, yank_made, define_namespace_made, import_namespace_made, entry_made, package_entry_made, operator_entry_made}
 use Rattle.warg_protobuf.proofs.Finishing.{Finishes, init_finishes, grant_flat_finishes, revoke_flat_finishes, release_finishes, yank_finishes, define_namespace_finishes, import_namespace_finishes}
 use Rattle.warg_protobuf.proofs.Members.{number_of, number_after, member_init_finishes, member_grant_flat_finishes, member_revoke_flat_finishes, first_own_finishes, second_own_finishes}
 

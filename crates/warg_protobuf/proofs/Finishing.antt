@@ -22,7 +22,7 @@ use Rattle.warg_protobuf.specs.Timestamp.{timestamp_table, TimestampValue, times
 use Rattle.warg_protobuf.specs.Record.{record_table, RecordValue, record_from, gathered_of}
 use Rattle.warg_protobuf.specs.Meaning.{Agrees, Computes}
 use Rattle.warg_protobuf.specs.Views.{Fails, option_view}
-use Rattle.warg_protobuf.specs.Drafts.{kept_after, no_text, one_text_with, no_texts, two_texts_with, nothing_kept, text_and_numbers_with, TimestampKept, timestamp_with, no_time, time_made, no_parts, envelope_with, RecordKept, no_record, with_last, time_with, record_with, init_made, release_made, import_namespace_made, yank_made, define_namespace_made, grant_flat_made, revoke_flat_made, record_made}
+use Rattle.warg_protobuf.specs.MessageDrafts.{kept_after, no_text, one_text_with, no_texts, two_texts_with, nothing_kept, text_and_numbers_with, TimestampKept, timestamp_with, no_time, time_made, no_parts, envelope_with, RecordKept, no_record, with_last, time_with, record_with, init_made, release_made, import_namespace_made, yank_made, define_namespace_made, grant_flat_made, revoke_flat_made, record_made}
 use Rattle.warg_protobuf.proofs.Kept.{one_text_after, two_texts_after, text_and_numbers_after, timestamp_after, envelope_after, record_after, splits, fold-joined}
 use Rattle.warg_protobuf.proofs.Meanings.{ok_same, ok_err, err_same, signed_has, pieces_fit, pieces_have, listed_has}
 use Rattle.warg_protobuf.proofs.Decoding.{Fails-at, computes}

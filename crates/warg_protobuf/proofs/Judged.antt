@@ -3,7 +3,7 @@ use Rattle.std.proofs.Common.{◌≡◌, Bool, ℕ, ◌/◌, ◌%◌, ◌<◌, L
 use Rattle.warg_protobuf.specs.declared.error.WireError.{WireError}
 use Rattle.warg_protobuf.specs.declared.error.WireError.TheVariants.{Truncated, VarintTooLong, BadKey, Group, WrongWireType, NotUtf8, OutOfMemory}
 use Rattle.warg_protobuf.specs.Field.{Payload, Field}
-use Rattle.warg_protobuf.specs.Drafts.{no_fault}
+use Rattle.warg_protobuf.specs.MessageDrafts.{no_fault}
 use Rattle.warg_protobuf.specs.Reading.{◌>>=◌, field_at, fields_of, payload_fault, payload_at, unless, varint_at}
 use Rattle.warg_protobuf.specs.Table.{Table, takes, key_fault, HasFault}
 use Rattle.warg_protobuf.specs.Values.{kept_of}

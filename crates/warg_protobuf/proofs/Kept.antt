@@ -8,7 +8,7 @@ use Rattle.warg_protobuf.specs.Table.{Table}
 use Rattle.warg_protobuf.specs.Reading.{◌>>=◌}
 use Rattle.warg_protobuf.specs.Values.{field_contents, numbers, last_from, last_option_from, after, at_number, signed_in, signed_of, item_at, listed_of}
 use Rattle.warg_protobuf.specs.Envelope.{EnvelopeValue}
-use Rattle.warg_protobuf.specs.Drafts.{items_of, OneTextKept, one_text_with, TwoTextsKept, two_texts_with, TextAndNumbersKept, text_and_numbers_with, TimestampKept, timestamp_with, envelope_with, RecordKept, time_with, record_with}
+use Rattle.warg_protobuf.specs.MessageDrafts.{items_of, OneTextKept, one_text_with, TwoTextsKept, two_texts_with, TextAndNumbersKept, text_and_numbers_with, TimestampKept, timestamp_with, envelope_with, RecordKept, time_with, record_with}
 use Rattle.warg_protobuf.proofs.Meanings.{ok_same, ok_err}
 
 last_from-append : {A : Type 0} (d : A) (xs ys : List A) → last_from (last_from d xs) ys ≡ last_from d (xs ++ ys)

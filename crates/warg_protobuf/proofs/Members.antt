@@ -10,7 +10,7 @@ use Rattle.warg_protobuf.specs.Reading.{◌>>=◌, fields_of}
 use Rattle.warg_protobuf.specs.Shapes.{two_texts, text_and_numbers}
 use Rattle.warg_protobuf.specs.Values.{after, gather, of_bytes, piece_at, pieces_at, last_member_from, run_from, run_of, member_of}
 use Rattle.warg_protobuf.specs.Entry.{entry_table}
-use Rattle.warg_protobuf.specs.Drafts.{kept_after, no_texts, two_texts_with, nothing_kept, text_and_numbers_with, MemberKept, Absent, Init, GrantFlat, RevokeFlat, FirstOwn, SecondOwn, init_so_far, grant_flat_so_far, revoke_flat_so_far, first_own_so_far, second_own_so_far, member_with, member_payload, member_bytes}
+use Rattle.warg_protobuf.specs.MessageDrafts.{kept_after, no_texts, two_texts_with, nothing_kept, text_and_numbers_with, MemberKept, Absent, Init, GrantFlat, RevokeFlat, FirstOwn, SecondOwn, init_so_far, grant_flat_so_far, revoke_flat_so_far, first_own_so_far, second_own_so_far, member_with, member_payload, member_bytes}
 use Rattle.warg_protobuf.proofs.Kept.{splits, fold-joined}
 use Rattle.warg_protobuf.proofs.Meanings.{ok_same, pieces_fit, pieces_have, run_fits}
 use Rattle.warg_protobuf.proofs.Finishing.{Finishes}

@@ -1,12 +1,12 @@
 //! The entry that defines a namespace.
 
 ghost use Rattle.std.specs.Prelude.{◌≡◌, IfOk, IsOk};
-ghost use Rattle.warg_protobuf.specs.Drafts.{one_text_kept, define_namespace_made};
+ghost use Rattle.warg_protobuf.specs.MessageDrafts.{one_text_kept, define_namespace_made};
 ghost use Rattle.warg_protobuf.specs.DefineNamespace.{define_namespace_table, DefineNamespaceValue, define_namespace_view, define_namespace_from, IsDefineNamespaceOf, define_namespace_fields, IsSoundDefineNamespace};
 
-use crate::draft::read_draft;
 use crate::error::WireError;
 use crate::message::Codec;
+use crate::message_draft::read_draft;
 use crate::shape::{OneText, push_one_text};
 use std::alloc::{AllocError, Global};
 

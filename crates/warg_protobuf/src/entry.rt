@@ -1,13 +1,13 @@
 //! The oneof of an entry while it is read: the run of the member that came last.
 
 ghost use Rattle.std.specs.Prelude.{◌≡◌};
-ghost use Rattle.warg_protobuf.specs.Drafts.{TwoTextsKept, two_texts_kept, TextAndNumbersKept, text_and_numbers_kept, MemberKept, member_kept, no_member, member_with, init_so_far, grant_flat_so_far, revoke_flat_so_far, first_own_so_far, second_own_so_far};
+ghost use Rattle.warg_protobuf.specs.MessageDrafts.{TwoTextsKept, two_texts_kept, TextAndNumbersKept, text_and_numbers_kept, MemberKept, member_kept, no_member, member_with, init_so_far, grant_flat_so_far, revoke_flat_so_far, first_own_so_far, second_own_so_far};
 ghost use Rattle.warg_protobuf.specs.Entry.{entry_table};
 ghost use Rattle.warg_protobuf.specs.Table.{takes};
 
-use crate::draft::{Draft, grown};
 use crate::error::WireError;
 use crate::field::{RawField, RawPayload};
+use crate::message_draft::{MessageDraft, grown};
 use crate::shape::{TextAndNumbers, TwoTexts};
 use std::alloc::Global;
 use std::mem;
@@ -30,7 +30,7 @@ pub(crate) struct EntryDraft<'a, F, G> {
     pub member: MemberDraft<'a, F, G>,
 }
 
-impl<'a, F: Draft<'a>, G: Draft<'a>> EntryDraft<'a, F, G> {
+impl<'a, F: MessageDraft<'a>, G: MessageDraft<'a>> EntryDraft<'a, F, G> {
     fn take_init(&mut self) -> TwoTexts<'a>
         ensures { two_texts_kept result ≡
             init_so_far (member_kept F.kept_data G.kept_data self.old.member) }
@@ -82,7 +82,7 @@ impl<'a, F: Draft<'a>, G: Draft<'a>> EntryDraft<'a, F, G> {
     }
 }
 
-impl<'a, F: Draft<'a>, G: Draft<'a>> Draft<'a> for EntryDraft<'a, F, G> {
+impl<'a, F: MessageDraft<'a>, G: MessageDraft<'a>> MessageDraft<'a> for EntryDraft<'a, F, G> {
     ghost table = { entry_table F.table G.table };
 
     ghost KeptData = { MemberKept F.KeptData G.KeptData };

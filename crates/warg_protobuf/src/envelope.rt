@@ -3,15 +3,15 @@
 ghost use Rattle.std.specs.Prelude.{◌≡◌, ◌≢◌, Ok, Err, IfOk, IfErr, IsOk};
 ghost use Rattle.warg_protobuf.specs.declared.error.WireError.{WireError};
 ghost use Rattle.warg_protobuf.specs.declared.error.WireError.TheVariants.{OutOfMemory};
-ghost use Rattle.warg_protobuf.specs.Drafts.{no_parts, envelope_with};
+ghost use Rattle.warg_protobuf.specs.MessageDrafts.{no_parts, envelope_with};
 ghost use Rattle.warg_protobuf.specs.Envelope.{envelope_table, EnvelopeValue, envelope_view, borrowed_envelope, envelope_from, IsEnvelope, IsEnvelopeOf, envelope_of, envelope_fields, IsSoundEnvelope};
 ghost use Rattle.warg_protobuf.specs.Reading.{Returns};
 ghost use Rattle.warg_protobuf.specs.Table.{takes, HasFault};
 
-use crate::draft::{Draft, read_into};
 use crate::error::WireError;
 use crate::field::{RawField, RawPayload};
 use crate::message::Codec;
+use crate::message_draft::{MessageDraft, read_into};
 use crate::text::read_text;
 use crate::writing::{push_bytes, push_text};
 use std::alloc::{AllocError, Global};
@@ -63,7 +63,7 @@ impl Envelope {
     }
 }
 
-impl<'a> Draft<'a> for EnvelopeView<'a> {
+impl<'a> MessageDraft<'a> for EnvelopeView<'a> {
     ghost table = { envelope_table };
 
     ghost KeptData = { EnvelopeValue };

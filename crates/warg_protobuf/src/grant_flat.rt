@@ -1,12 +1,12 @@
 //! Entries that grant permissions.
 
 ghost use Rattle.std.specs.Prelude.{◌≡◌, IfOk};
-ghost use Rattle.warg_protobuf.specs.Drafts.{text_and_numbers_kept, grant_flat_made};
+ghost use Rattle.warg_protobuf.specs.MessageDrafts.{text_and_numbers_kept, grant_flat_made};
 ghost use Rattle.warg_protobuf.specs.GrantFlat.{grant_flat_table, GrantFlatValue, grant_flat_view, grant_flat_from, IsGrantFlatOf, grant_flat_fields, IsSoundGrantFlat};
 
-use crate::draft::read_draft;
 use crate::error::WireError;
 use crate::message::Codec;
+use crate::message_draft::read_draft;
 use crate::shape::{TextAndNumbers, push_text_and_numbers};
 use std::alloc::{AllocError, Global};
 

@@ -1,12 +1,12 @@
 //! The entry that imports a namespace.
 
 ghost use Rattle.std.specs.Prelude.{◌≡◌, IfOk, IsOk};
-ghost use Rattle.warg_protobuf.specs.Drafts.{two_texts_kept, import_namespace_made};
+ghost use Rattle.warg_protobuf.specs.MessageDrafts.{two_texts_kept, import_namespace_made};
 ghost use Rattle.warg_protobuf.specs.ImportNamespace.{import_namespace_table, ImportNamespaceValue, import_namespace_view, import_namespace_from, IsImportNamespaceOf, import_namespace_fields, IsSoundImportNamespace};
 
-use crate::draft::read_draft;
 use crate::error::WireError;
 use crate::message::Codec;
+use crate::message_draft::read_draft;
 use crate::shape::{TwoTexts, push_two_texts};
 use std::alloc::{AllocError, Global};
 

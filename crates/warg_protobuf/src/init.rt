@@ -1,12 +1,12 @@
 //! Entries that begin a log.
 
 ghost use Rattle.std.specs.Prelude.{◌≡◌, IfOk, IsOk};
-ghost use Rattle.warg_protobuf.specs.Drafts.{two_texts_kept, init_made};
+ghost use Rattle.warg_protobuf.specs.MessageDrafts.{two_texts_kept, init_made};
 ghost use Rattle.warg_protobuf.specs.Init.{init_table, InitValue, init_view, init_from, IsInitOf, init_fields, IsSoundInit};
 
-use crate::draft::read_draft;
 use crate::error::WireError;
 use crate::message::Codec;
+use crate::message_draft::read_draft;
 use crate::shape::{TwoTexts, push_two_texts};
 use std::alloc::{AllocError, Global};
 

@@ -2,7 +2,6 @@
 #![tactic(auto)]
 
 mod define_namespace;
-mod draft;
 mod entry;
 mod envelope;
 mod error;
@@ -12,6 +11,7 @@ mod import_namespace;
 mod init;
 pub mod laws;
 mod message;
+mod message_draft;
 mod nested;
 pub mod operator_entry;
 pub mod package_entry;

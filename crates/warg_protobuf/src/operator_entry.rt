@@ -1,17 +1,17 @@
 //! An entry of an operator log.
 
 ghost use Rattle.std.specs.Prelude.{◌≡◌, Option, IfOk};
-ghost use Rattle.warg_protobuf.specs.Drafts.{one_text_kept, two_texts_kept, member_kept, operator_entry_made};
+ghost use Rattle.warg_protobuf.specs.MessageDrafts.{one_text_kept, two_texts_kept, member_kept, operator_entry_made};
 ghost use Rattle.warg_protobuf.specs.OperatorEntry.{operator_entry_table, OperatorMember, operator_entry_view, operator_entry_from, IsOperatorEntryOf, operator_entry_fields, IsSoundOperatorEntry};
 
 use crate::define_namespace::OperatorDefineNamespace;
-use crate::draft::read_draft;
 use crate::entry::{EntryDraft, MemberDraft};
 use crate::error::WireError;
 use crate::grant_flat::OperatorGrantFlat;
 use crate::import_namespace::OperatorImportNamespace;
 use crate::init::OperatorInit;
 use crate::message::Codec;
+use crate::message_draft::read_draft;
 use crate::nested::push_message;
 use crate::revoke_flat::OperatorRevokeFlat;
 use crate::shape::{OneText, TwoTexts};
@@ -40,11 +40,11 @@ pub struct OperatorEntry {
 }
 
 /// An entry that is read.
-type Draft<'a> = EntryDraft<'a, OneText<'a>, TwoTexts<'a>>;
+type MessageDraft<'a> = EntryDraft<'a, OneText<'a>, TwoTexts<'a>>;
 
 impl OperatorEntry {
     /// The message of what is kept.
-    fn finish(alloc: Global, draft: Draft<'_>) -> Result<OperatorEntry, AllocError>
+    fn finish(alloc: Global, draft: MessageDraft<'_>) -> Result<OperatorEntry, AllocError>
         ensures { IfOk result (λ v. operator_entry_view v ≡ operator_entry_made
             (member_kept one_text_kept two_texts_kept draft.entry.member)) }
     {
@@ -84,7 +84,7 @@ impl Codec for OperatorEntry {
     ghost TakesMemory = { λ _. Unit {0} };
 
     fn read(alloc: Global, bytes: &[u8]) -> Result<OperatorEntry, WireError> {
-        let draft = read_draft::<Draft<'_>>(alloc, bytes)?;
+        let draft = read_draft::<MessageDraft<'_>>(alloc, bytes)?;
         Ok(OperatorEntry::finish(alloc, draft)?)
     }
 

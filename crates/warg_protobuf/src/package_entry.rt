@@ -1,15 +1,15 @@
 //! An entry of a package log.
 
 ghost use Rattle.std.specs.Prelude.{◌≡◌, Option, IfOk};
-ghost use Rattle.warg_protobuf.specs.Drafts.{one_text_kept, two_texts_kept, member_kept, package_entry_made};
+ghost use Rattle.warg_protobuf.specs.MessageDrafts.{one_text_kept, two_texts_kept, member_kept, package_entry_made};
 ghost use Rattle.warg_protobuf.specs.PackageEntry.{package_entry_table, PackageMember, package_entry_view, package_entry_from, IsPackageEntryOf, package_entry_fields, IsSoundPackageEntry};
 
-use crate::draft::read_draft;
 use crate::entry::{EntryDraft, MemberDraft};
 use crate::error::WireError;
 use crate::grant_flat::PackageGrantFlat;
 use crate::init::PackageInit;
 use crate::message::Codec;
+use crate::message_draft::read_draft;
 use crate::nested::push_message;
 use crate::release::PackageRelease;
 use crate::revoke_flat::PackageRevokeFlat;
@@ -40,11 +40,11 @@ pub struct PackageEntry {
 }
 
 /// An entry that is read.
-type Draft<'a> = EntryDraft<'a, TwoTexts<'a>, OneText<'a>>;
+type MessageDraft<'a> = EntryDraft<'a, TwoTexts<'a>, OneText<'a>>;
 
 impl PackageEntry {
     /// The message of what is kept.
-    fn finish(alloc: Global, draft: Draft<'_>) -> Result<PackageEntry, AllocError>
+    fn finish(alloc: Global, draft: MessageDraft<'_>) -> Result<PackageEntry, AllocError>
         ensures { IfOk result (λ v. package_entry_view v ≡ package_entry_made
             (member_kept two_texts_kept one_text_kept draft.entry.member)) }
     {
@@ -82,7 +82,7 @@ impl Codec for PackageEntry {
     ghost TakesMemory = { λ _. Unit {0} };
 
     fn read(alloc: Global, bytes: &[u8]) -> Result<PackageEntry, WireError> {
-        let draft = read_draft::<Draft<'_>>(alloc, bytes)?;
+        let draft = read_draft::<MessageDraft<'_>>(alloc, bytes)?;
         Ok(PackageEntry::finish(alloc, draft)?)
     }
 

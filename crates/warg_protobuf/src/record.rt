@@ -2,7 +2,7 @@
 
 ghost use Rattle.std.specs.Prelude.{◌≡◌, ◌++◌, List, [], map, Result, Ok, OnOk, IfOk, string_bytes};
 ghost use Rattle.warg_protobuf.specs.declared.error.WireError.{WireError};
-ghost use Rattle.warg_protobuf.specs.Drafts.{timestamp_kept, time_grown, RecordKept, record_kept, no_record, record_with, time_made, record_made, with_last};
+ghost use Rattle.warg_protobuf.specs.MessageDrafts.{timestamp_kept, time_grown, RecordKept, record_kept, no_record, record_with, time_made, record_made, with_last};
 ghost use Rattle.warg_protobuf.specs.Field.{Field};
 ghost use Rattle.warg_protobuf.specs.Meaning.{GivesValues};
 ghost use Rattle.warg_protobuf.specs.Record.{RecordValue, record_table, record_value, record_view, record_from, record_fields, taken_of, gathered_of, IsRecordOf, IsSoundRecord};
@@ -12,10 +12,10 @@ ghost use Rattle.warg_protobuf.specs.Values.{message_of};
 ghost use Rattle.warg_protobuf.specs.Views.{option_view, ReturnsOrNoMemory};
 ghost use Rattle.warg_protobuf.specs.Writing.{bytes_of};
 
-use crate::draft::{Draft, read_draft, read_into};
 use crate::error::WireError;
 use crate::field::{RawField, RawPayload};
 use crate::message::Codec;
+use crate::message_draft::{MessageDraft, read_draft, read_into};
 use crate::nested::{push_list, push_optional};
 use crate::operator_entry::OperatorEntry;
 use crate::package_entry::PackageEntry;
@@ -137,7 +137,7 @@ impl<'a, S: EntrySink> RecordDraft<'a, S> {
     }
 }
 
-impl<'a, S: EntrySink> Draft<'a> for RecordDraft<'a, S> {
+impl<'a, S: EntrySink> MessageDraft<'a> for RecordDraft<'a, S> {
     ghost table = { record_table S.table };
 
     ghost KeptData = { RecordKept S.SinkData };

@@ -1,12 +1,12 @@
 //! The entry that releases a version.
 
 ghost use Rattle.std.specs.Prelude.{◌≡◌, IfOk, IsOk};
-ghost use Rattle.warg_protobuf.specs.Drafts.{two_texts_kept, release_made};
+ghost use Rattle.warg_protobuf.specs.MessageDrafts.{two_texts_kept, release_made};
 ghost use Rattle.warg_protobuf.specs.Release.{release_table, ReleaseValue, release_view, release_from, IsReleaseOf, release_fields, IsSoundRelease};
 
-use crate::draft::read_draft;
 use crate::error::WireError;
 use crate::message::Codec;
+use crate::message_draft::read_draft;
 use crate::shape::{TwoTexts, push_two_texts};
 use std::alloc::{AllocError, Global};
 

@@ -1,12 +1,12 @@
 //! Entries that revoke permissions.
 
 ghost use Rattle.std.specs.Prelude.{◌≡◌, IfOk};
-ghost use Rattle.warg_protobuf.specs.Drafts.{text_and_numbers_kept, revoke_flat_made};
+ghost use Rattle.warg_protobuf.specs.MessageDrafts.{text_and_numbers_kept, revoke_flat_made};
 ghost use Rattle.warg_protobuf.specs.RevokeFlat.{revoke_flat_table, RevokeFlatValue, revoke_flat_view, revoke_flat_from, IsRevokeFlatOf, revoke_flat_fields, IsSoundRevokeFlat};
 
-use crate::draft::read_draft;
 use crate::error::WireError;
 use crate::message::Codec;
+use crate::message_draft::read_draft;
 use crate::shape::{TextAndNumbers, push_text_and_numbers};
 use std::alloc::{AllocError, Global};
 

@@ -1,13 +1,13 @@
 //! A record's time.
 
 ghost use Rattle.std.specs.Prelude.{◌≡◌};
-ghost use Rattle.warg_protobuf.specs.Drafts.{TimestampKept, timestamp_kept, no_time, timestamp_with, time_made};
+ghost use Rattle.warg_protobuf.specs.MessageDrafts.{TimestampKept, timestamp_kept, no_time, timestamp_with, time_made};
 ghost use Rattle.warg_protobuf.specs.Timestamp.{timestamp_table, TimestampValue, timestamp_view, timestamp_from, IsTimestampOf, timestamp_fields, IsSoundTimestamp};
 
-use crate::draft::{Draft, read_draft};
 use crate::error::WireError;
 use crate::field::{RawField, RawPayload};
 use crate::message::Codec;
+use crate::message_draft::{MessageDraft, read_draft};
 use crate::signed::low_signed;
 use crate::writing::{as_number, push_number};
 use std::alloc::{AllocError, Global};
@@ -39,7 +39,7 @@ impl TimestampDraft {
     }
 }
 
-impl<'a> Draft<'a> for TimestampDraft {
+impl<'a> MessageDraft<'a> for TimestampDraft {
     ghost table = { timestamp_table };
 
     ghost KeptData = { TimestampKept };

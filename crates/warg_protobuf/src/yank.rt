@@ -1,12 +1,12 @@
 //! The entry that yanks a version.
 
 ghost use Rattle.std.specs.Prelude.{◌≡◌, IfOk, IsOk};
-ghost use Rattle.warg_protobuf.specs.Drafts.{one_text_kept, yank_made};
+ghost use Rattle.warg_protobuf.specs.MessageDrafts.{one_text_kept, yank_made};
 ghost use Rattle.warg_protobuf.specs.Yank.{yank_table, YankValue, yank_view, yank_from, IsYankOf, yank_fields, IsSoundYank};
 
-use crate::draft::read_draft;
 use crate::error::WireError;
 use crate::message::Codec;
+use crate::message_draft::read_draft;
 use crate::shape::{OneText, push_one_text};
 use std::alloc::{AllocError, Global};
 

@@ -11,7 +11,9 @@ pub use Rattle.warg_permissions.specs.KeyMaps.AuthorityData.{AuthorityData}
 pub use Rattle.warg_log.specs.States.{State, view_of_state}
 pub use Rattle.warg_log.specs.Equal.{same_states}
 -- what a call answers where something is wrong
-pub use Rattle.warg_log.specs.declared.refusal.Refusal.{Refusal}
+pub use Rattle.warg_log.specs.declared.log_error.LogError.{LogError}
 pub use Rattle.warg_log_records.specs.OutcomeOffences.{ReturnsOffence, NamesOffence}
 -- a kind of log by what its own part says
 pub use Rattle.warg_log.specs.KindOfRules.{kind_of, effects_of, effect_of, effect_at, signed_record_of}
+-- the name of 0.1.0 for it
+pub use Rattle.warg_log.specs.declared.log_error.LogError.{LogError as Refusal}

@@ -2,7 +2,7 @@
 -- in their types.
 -- how a record is read, and what bytes are as an envelope
 pub use Rattle.warg_envelope.specs.Readings.{Reading}
-pub use Rattle.warg_envelope.specs.ReadingWords.{envelope_in, IsHonest, IsOpening}
+pub use Rattle.warg_envelope.specs.ReadingWords.{envelope_in, ContentsMatchBytes, IsOpening}
 -- a kind's rules with what its states stand for and which offence an error names
 pub use Rattle.warg_replay.specs.Logs.{LogOf}
 -- what `run`, `run_from`, `ask` and `append` answer

@@ -1,3 +1,5 @@
-//! Logs whose signatures are verified elsewhere: what is to be verified is asked, and what came of it is told.
+//! The names that 0.1.0 gave to what is in [`external`](crate::external).
 
-pub use warg_replay::host::{Hosted, Question, Told, append, ask};
+pub use crate::external::{
+    ExternallyVerified as Hosted, SignatureCheck as Question, SignatureVerdict as Told, append, ask,
+};

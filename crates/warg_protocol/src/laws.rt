@@ -14,7 +14,7 @@ pub use warg_permissions::laws as permissions;
 pub use warg_protobuf::laws as messages;
 pub use warg_registry::laws as registry;
 pub use warg_replay::audited_log::laws as audited_logs;
-pub use warg_replay::host::laws as hosts;
+pub use warg_replay::external::laws as hosts;
 pub use warg_replay::laws as runs;
 pub use warg_saved_states::laws as saved;
 pub use warg_transparency::laws as transparency;

@@ -6,6 +6,7 @@
 //! names `warg_protobuf` too, and who calls `to_value` or `from_value` names `serde_json`.
 #![tactic(auto)]
 
+pub mod external;
 pub mod host;
 pub mod json;
 pub mod laws;
@@ -30,7 +31,10 @@ pub use warg_envelope::{
 pub use warg_log_records::{LogRecord, Version, VersionReq};
 pub use warg_permissions::{InvalidPermission, PermissionParseError};
 pub use warg_protobuf::{Envelope, EnvelopeView, Message, WireError};
-pub use warg_replay::audited_log::{AuditedLog, Comparison, HeadComparison, HostedLog, Link};
+pub use warg_replay::audited_log::{
+    AuditedLog, Comparison, ExternallyVerifiedLog, ExternallyVerifiedLog as HostedLog,
+    HeadComparison, Link,
+};
 pub use warg_replay::{
     Effect, Named, PersistentState, RunCause, RunError, Validator, run, run_from,
 };

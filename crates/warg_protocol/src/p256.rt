@@ -10,7 +10,7 @@ use std::alloc::Global;
 pub use warg_p256::{ALGORITHM, KnownKeys, P256Verifier, laws, verify};
 use warg_replay::{RunError, Validator, run};
 
-/// Reads a whole log whose records are signed by `ecdsa-p256` keys. The result is its state, or the first string that
+/// Reads a whole log whose records are signed by `ecdsa-p256` keys. The result is its state, or the first input that
 /// is refused, as of [`run`](crate::run). A signature by another algorithm is refused.
 pub fn run_signed<L: Validator>(alloc: Global, inputs: &[Vec<u8>]) -> Result<L, RunError<L::Error>>
     ensures { let strings = map vec_items inputs.now in

@@ -1,4 +1,4 @@
--- What the refusal of a text as a package name says.
+-- What the error of a text as a package name says.
 use Rattle.std.specs.Prelude.{◌≡◌, ℕ, List, Option, Some, None, string_bytes}
 use Rattle.warg_registry.specs.KebabNames.{IsPackageText}
 use Rattle.warg_registry.specs.declared.package_name.PackageNameError.{PackageNameError}

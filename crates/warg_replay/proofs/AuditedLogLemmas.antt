@@ -5,6 +5,6 @@ pub mod AppendLemmas
 pub mod NumberLemmas
 pub mod ChainLemmas
 pub mod TrailLemmas
-pub mod LedgerLemmas
+pub mod GrantIndexLemmas
 pub mod HoldLemmas
 pub mod ComparisonLemmas

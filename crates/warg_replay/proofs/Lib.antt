@@ -1,4 +1,4 @@
-pub mod StringLaws
+pub mod InputLaws
 pub mod LoopLaws
 pub mod OutcomeLaws
 pub mod LogLaws

@@ -4,5 +4,5 @@ pub mod Chains
 pub mod Comparisons
 pub mod Extinction
 pub mod Heads
-pub mod Ledgers
+pub mod GrantIndexes
 pub mod Log

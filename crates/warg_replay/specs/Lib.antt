@@ -2,6 +2,6 @@ pub mod LogWords
 pub mod Logs
 pub mod Messages
 pub mod OutcomeRuns
-pub mod Strings
+pub mod Inputs
 pub mod Telling
 pub mod AuditedLog

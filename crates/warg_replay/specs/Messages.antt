@@ -1,4 +1,4 @@
--- The names of causes and refusals, and their texts.
+-- The names of causes and errors, and their texts.
 use Rattle.std.specs.Prelude.{ℕ, List, ◌++◌, codes, Option}
 use Rattle.std.specs.Fmt.{decimal}
 use Rattle.std.specs.Option.{option_map}
@@ -19,5 +19,5 @@ cause_text parse_text validation_text (Parse error) = parse_text error
 cause_text parse_text validation_text (Validation error) = validation_text error
 
 -- `record 4: ` and the text of the cause
-abbrev pub refusal_text : ℕ → Option (List ℕ) → Option (List ℕ)
-refusal_text index text = option_map (λ t. ((codes "record " ++ decimal index) ++ codes ": ") ++ t) text
+abbrev pub run_error_text : ℕ → Option (List ℕ) → Option (List ℕ)
+run_error_text index text = option_map (λ t. ((codes "record " ++ decimal index) ++ codes ": ") ++ t) text

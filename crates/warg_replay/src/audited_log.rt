@@ -4,15 +4,15 @@
 mod audited_log;
 mod comparison;
 mod drafting;
+mod externally_verified_log;
+mod grant_index;
 mod heads;
-mod hosted_log;
 pub mod laws;
-mod ledger;
 mod link;
 mod reading;
 
 pub use audited_log::AuditedLog;
 pub use comparison::Comparison;
+pub use externally_verified_log::ExternallyVerifiedLog;
 pub use heads::HeadComparison;
-pub use hosted_log::HostedLog;
 pub use link::Link;

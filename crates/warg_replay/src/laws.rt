@@ -7,7 +7,7 @@ ghost use Rattle.warg_envelope.specs.EnvelopeData.{EnvelopeData};
 ghost use Rattle.warg_log_records.specs.Kinds.{SignatureRelation, accepted_by_either, IsAccepted, StandsFor, last_id};
 ghost use Rattle.warg_replay.specs.LogWords.{HasNoOffence, HasNoOffenceAfter, IsFirstOffence, IsFirstOffenceAfter, IsFoundBy, envelopes_said, first_offence_from};
 ghost use Rattle.warg_replay.specs.OutcomeRuns.{same_cause};
-ghost use Rattle.warg_replay.specs.Strings.{Cause};
+ghost use Rattle.warg_replay.specs.Inputs.{Cause};
 ghost use Rattle.warg_replay.specs.declared.replay.RunCause.{RunCause};
 ghost use Rattle.warg_replay.specs.declared.replay.RunError.{RunError};
 
@@ -65,7 +65,7 @@ pub fn saved_versions<L: Validator>()
         AreReadBack (L.JsonValue.versions (L.JsonValue.plain s)) }
 {}
 
-/// Strings without offence are an accepted log.
+/// Inputs without offence are an accepted log.
 pub fn strings_are_accepted<L: Validator>()
     ensures { (b : SignatureRelation) (ss : List (List ℕ)) →
         HasNoOffence L.log L.Record.reading b ss →
@@ -95,7 +95,7 @@ pub fn resumption<L: Validator>()
         IsFirstOffence L.log L.Record.reading b (ss ++ ts) (length ss + i) c }
 {}
 
-/// A log whose front one verifier accepted, and whose other strings another: one that takes whatever
+/// A log whose front one verifier accepted, and whose other inputs another: one that takes whatever
 /// either takes accepts the whole.
 pub fn two_verifiers<L: Validator>()
     ensures { (d b : SignatureRelation) (es : List EnvelopeData) (ss : List (List ℕ)) →
@@ -104,8 +104,8 @@ pub fn two_verifiers<L: Validator>()
         IsAccepted L.kind (accepted_by_either d b) (es ++ envelopes_said L.Record.reading ss) }
 {}
 
-/// When `==` is true: of refusals exactly where their places and causes are equal; of causes exactly where both are
-/// faults of reading or both refusals of a record, and these are equal.
+/// When `==` is true: of errors exactly where their places and causes are equal; of causes exactly where both are
+/// faults of reading or both offences of a record, and these are equal.
 pub fn equality<E: PartialEq>()
     ensures causes { (a b : RunCause E) → ⟦<RunCause<E> as PartialEq>⟧.eq a b
         ≡ same_cause ⟦<ParseEnvelopeError as PartialEq>⟧.eq E.eq a b }

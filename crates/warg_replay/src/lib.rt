@@ -4,7 +4,7 @@
 
 pub mod audited_log;
 pub mod beside;
-pub mod host;
+pub mod external;
 pub mod laws;
 mod message;
 mod persistent;

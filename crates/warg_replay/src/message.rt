@@ -1,6 +1,6 @@
-//! The names of causes and refusals, and their texts.
+//! The names of causes and errors, and their texts.
 ghost use Rattle.std.specs.Prelude.{◌≡◌, ℕ, List};
-ghost use Rattle.warg_replay.specs.Messages.{cause_name, cause_text, refusal_text};
+ghost use Rattle.warg_replay.specs.Messages.{cause_name, cause_text, run_error_text};
 
 use crate::replay::{RunCause, RunError};
 use std::error::Error;
@@ -51,7 +51,7 @@ impl<E: fmt::Display> fmt::Display for RunCause<E> {
 }
 
 impl<E: fmt::Display> fmt::Display for RunError<E> {
-    ghost output = { λ error. refusal_text error.index
+    ghost output = { λ error. run_error_text error.index
         (cause_text ⟦<ParseEnvelopeError as fmt::Display>⟧.output E.output error.cause) };
 
     fn fmt<W: fmt::Write>(&self, f: &mut fmt::Formatter<W>) -> fmt::Result {

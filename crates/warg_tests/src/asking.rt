@@ -1,5 +1,5 @@
 //! Asking the program.
-use conformance_logs::scripts::strings_of;
+use conformance_logs::scripts::inputs_of;
 use std::alloc::Global;
 use std::io::{Read, Write};
 use std::test::Fail;
@@ -38,13 +38,13 @@ pub(crate) fn log(alloc: Global) -> Result<String, Fail> {
         bob 2.0: release 1.1.0 \0\x01\x02\x03
         alice 3.0: revoke bob release yank, yank 1.1.0
     ";
-    let strings = match strings_of::<LogState>(alloc, lines) {
-        Ok(strings) => strings,
+    let inputs = match inputs_of::<LogState>(alloc, lines) {
+        Ok(inputs) => inputs,
         Err(fail) => return Err(Fail::new(fail.as_str())),
     };
     let mut log = String::new(alloc);
-    for string in strings.iter() {
-        log.push_str(hex::encode(alloc, string.as_slice())?.as_str())?;
+    for input in inputs.iter() {
+        log.push_str(hex::encode(alloc, input.as_slice())?.as_str())?;
         log.push('\n')?;
     }
     Ok(log)

@@ -1,6 +1,6 @@
 //! Copies, envelopes that are read back, and a time that is not saved.
 use crate::samples::{envelope, state};
-use conformance_logs::scripts::Scripted;
+use conformance_logs::scripts::ScriptLog;
 use std::alloc::{AllocError, Global};
 use std::process::Abort;
 use std::test::Fail;
@@ -66,7 +66,7 @@ fn is_read_back<R: Record + PartialEq>(
     Ok(ProtoEnvelope::<R>::from_protobuf(alloc, bytes.as_slice())? == *envelope)
 }
 
-fn reads_back<L: Scripted>(alloc: Global, line: &str) -> Result<bool, Fail>
+fn reads_back<L: ScriptLog>(alloc: Global, line: &str) -> Result<bool, Fail>
 where
     L::Record: PartialEq,
 {

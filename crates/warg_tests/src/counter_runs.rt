@@ -1,4 +1,4 @@
-//! Strings of the least kind of log, read as a whole.
+//! Inputs of the least kind of log, read as a whole.
 use counting_log::counter::{CountError, Counter};
 use std::alloc::{AllocError, Global};
 use std::test::Fail;
@@ -7,7 +7,7 @@ use warg_crypto::toy::ToyVerifier;
 use warg_envelope::{ParseEnvelopeError, ProtoEnvelope};
 use warg_replay::{RunCause, RunError, Validator, run, run_from};
 
-/// A string whose record says the number; at 255 one whose content is no record.
+/// An input whose record says the number; at 255 one whose content is no record.
 fn line(alloc: Global, number: u8) -> Result<Vec<u8>, AllocError> {
     if number == 255 {
         return [0x0a, 0, 0x1a, 4, b't', b'o', b'y', b':'].to_vec(alloc);
@@ -52,15 +52,15 @@ fn the_first_offence_is_told(rt: HostRuntime) -> Result<(), Fail> {
         ([255, 7, 2], no_record(0)),
         ([0, 7, 255], misplaced(1, 7)),
     ] {
-        let strings = lines(alloc, &numbers)?;
-        let found = run::<Counter, ToyVerifier>(alloc, &ToyVerifier, strings.as_slice());
+        let inputs = lines(alloc, &numbers)?;
+        let found = run::<Counter, ToyVerifier>(alloc, &ToyVerifier, inputs.as_slice());
         assert_eq!(rt; found.map(|state| state.count()), want);
     }
     Ok(())
 }
 
 #[test]
-fn no_strings_are_an_empty_log(rt: HostRuntime) -> Result<(), Fail> {
+fn no_inputs_are_an_empty_log(rt: HostRuntime) -> Result<(), Fail> {
     let state = match run::<Counter, ToyVerifier>(rt.alloc(), &ToyVerifier, &[]) {
         Ok(state) => state,
         Err(_) => return Err(Fail::from("refused")),

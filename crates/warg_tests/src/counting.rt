@@ -3,8 +3,8 @@
 ghost use Rattle.std.specs.Prelude.{⊤};
 ghost use Rattle.warg_protocol.specs.Records.{toy_belongs};
 
-use crate::samples::{envelope, strings};
-use conformance_logs::scripts::{Scripted, signer};
+use crate::samples::{envelope, inputs};
+use conformance_logs::scripts::{ScriptLog, signer};
 use std::alloc::Global;
 use std::cell::Cell;
 use std::fmt::Debug;
@@ -49,27 +49,27 @@ const LOG: &str = "
 ";
 
 // `run` asks once for each record.
-fn runs<L: Scripted>(rt: &impl Abort, alloc: Global, strings: &[Vec<u8>]) {
+fn runs<L: ScriptLog>(rt: &impl Abort, alloc: Global, inputs: &[Vec<u8>]) {
     let calls = Cell::new(0);
     let verifier = CountingVerifier { calls: &calls };
-    let answer = run::<L, CountingVerifier>(alloc, &verifier, strings);
+    let answer = run::<L, CountingVerifier>(alloc, &verifier, inputs);
     assert!(rt; answer.is_ok() && calls.get() == 3);
 }
 
 // So does a log that is kept.
-fn keeps<L: Scripted>(rt: &impl Abort, alloc: Global, strings: &[Vec<u8>])
+fn keeps<L: ScriptLog>(rt: &impl Abort, alloc: Global, inputs: &[Vec<u8>])
 where
     L::Error: Debug,
 {
     let calls = Cell::new(0);
     let verifier = CountingVerifier { calls: &calls };
     let mut log = AuditedLog::<L, CountingVerifier>::new(alloc, verifier).expect(rt, "memory");
-    let answer = log.append_all(strings);
+    let answer = log.append_all(inputs);
     assert!(rt; answer.is_ok() && calls.get() == 3);
 }
 
 // So does a state that takes a record in place.
-fn takes<L: Scripted>(rt: &impl Abort, alloc: Global, envelope: &ProtoEnvelope<L::Record>) -> L {
+fn takes<L: ScriptLog>(rt: &impl Abort, alloc: Global, envelope: &ProtoEnvelope<L::Record>) -> L {
     let calls = Cell::new(0);
     let verifier = CountingVerifier { calls: &calls };
     let mut state = L::new(alloc).expect(rt, "memory");
@@ -79,7 +79,7 @@ fn takes<L: Scripted>(rt: &impl Abort, alloc: Global, envelope: &ProtoEnvelope<L
 }
 
 // So does one that gives another, which is the same.
-fn gives<L: Scripted>(
+fn gives<L: ScriptLog>(
     rt: &impl Abort,
     alloc: Global,
     envelope: &ProtoEnvelope<L::Record>,
@@ -93,13 +93,13 @@ fn gives<L: Scripted>(
     assert!(rt; calls.get() == 1);
 }
 
-fn asks_once<L: Scripted>(rt: &impl Abort, alloc: Global) -> Result<(), Fail>
+fn asks_once<L: ScriptLog>(rt: &impl Abort, alloc: Global) -> Result<(), Fail>
 where
     L::Error: Debug,
 {
-    let strings = strings::<L>(alloc, LOG)?;
-    runs::<L>(rt, alloc, strings.as_slice());
-    keeps::<L>(rt, alloc, strings.as_slice());
+    let inputs = inputs::<L>(alloc, LOG)?;
+    runs::<L>(rt, alloc, inputs.as_slice());
+    keeps::<L>(rt, alloc, inputs.as_slice());
     let envelope = envelope::<L>(alloc, "alice 1.0: init alice")?;
     let state = takes::<L>(rt, alloc, &envelope);
     gives::<L>(rt, alloc, &envelope, &state);

@@ -3,7 +3,7 @@ ghost use Rattle.std.specs.Prelude.{false, ⊤};
 ghost use Rattle.warg_protocol.specs.Records.{toy_belongs};
 
 use crate::samples::{envelope, told};
-use conformance_logs::scripts::{Scripted, cause_words, signer};
+use conformance_logs::scripts::{ScriptLog, cause_words, signer};
 use std::alloc::Global;
 use std::cell::Cell;
 use std::process::Abort;
@@ -66,26 +66,26 @@ fn without_memory() -> Poor {
 }
 
 // The envelope that begins a log.
-fn first<L: Scripted>(alloc: Global) -> Result<Vec<u8>, Fail> {
+fn first<L: ScriptLog>(alloc: Global) -> Result<Vec<u8>, Fail> {
     Ok(envelope::<L>(alloc, "alice 1.0: init alice")?.to_protobuf(alloc)?)
 }
 
 // The first record is refused under this verifier, for this cause.
-fn refuses<L: Scripted, V: Verifier>(
+fn refuses<L: ScriptLog, V: Verifier>(
     rt: &impl Abort,
     alloc: Global,
     verifier: &V,
     words: &str,
 ) -> Result<(), Fail> {
-    let strings = vec![in alloc; first::<L>(alloc)?]?;
-    match run::<L, V>(alloc, verifier, strings.as_slice()) {
+    let inputs = vec![in alloc; first::<L>(alloc)?]?;
+    match run::<L, V>(alloc, verifier, inputs.as_slice()) {
         Ok(_) => Err(Fail::new("the record is taken")),
         Err(error) => is_first::<L>(rt, alloc, &error, words),
     }
 }
 
 // The first record is refused, for this cause.
-fn is_first<L: Scripted>(
+fn is_first<L: ScriptLog>(
     rt: &impl Abort,
     alloc: Global,
     error: &RunError<L::Error>,
@@ -95,7 +95,7 @@ fn is_first<L: Scripted>(
     is_cause::<L>(rt, alloc, &error.cause, words)
 }
 
-fn is_cause<L: Scripted>(
+fn is_cause<L: ScriptLog>(
     rt: &impl Abort,
     alloc: Global,
     cause: &RunCause<L::Error>,
@@ -106,7 +106,7 @@ fn is_cause<L: Scripted>(
 }
 
 // The log has no record, and is as it began.
-fn is_empty<L: Scripted, V: Verifier + Drop>(
+fn is_empty<L: ScriptLog, V: Verifier + Drop>(
     rt: &impl Abort,
     alloc: Global,
     log: &AuditedLog<L, V>,
@@ -115,14 +115,14 @@ fn is_empty<L: Scripted, V: Verifier + Drop>(
     assert!(rt; log.records().is_empty() && *log.state() == state);
 }
 
-// The log, which is empty, refuses the string, and stays as it is.
-fn refuses_string<L: Scripted>(
+// The log, which is empty, refuses the input, and stays as it is.
+fn refuses_input<L: ScriptLog>(
     rt: &impl Abort,
     alloc: Global,
     log: &mut AuditedLog<L, Never>,
-    string: &[u8],
+    input: &[u8],
 ) -> Result<(), Fail> {
-    match log.append(string) {
+    match log.append(input) {
         Ok(()) => Err(Fail::new("the record is taken")),
         Err(cause) => {
             is_empty(rt, alloc, log);
@@ -132,10 +132,10 @@ fn refuses_string<L: Scripted>(
 }
 
 // A log whose verifier takes no signature refuses its first record.
-fn takes_nothing<L: Scripted>(rt: &impl Abort, alloc: Global) -> Result<(), Fail> {
-    let string = first::<L>(alloc)?;
+fn takes_nothing<L: ScriptLog>(rt: &impl Abort, alloc: Global) -> Result<(), Fail> {
+    let input = first::<L>(alloc)?;
     let mut log = AuditedLog::<L, Never>::new(alloc, Never)?;
-    refuses_string(rt, alloc, &mut log, string.as_slice())
+    refuses_input(rt, alloc, &mut log, input.as_slice())
 }
 
 #[test]
@@ -149,38 +149,38 @@ fn a_verifier_may_refuse(rt: HostRuntime) -> Result<(), Fail> {
 }
 
 // Whether the cause stands for out of memory, and for nothing else.
-fn is_out_of_memory<L: Scripted>(cause: &RunCause<L::Error>) -> bool {
+fn is_out_of_memory<L: ScriptLog>(cause: &RunCause<L::Error>) -> bool {
     match cause {
         RunCause::Parse(_) => false,
         RunCause::Validation(error) => L::is_out_of_memory(error),
     }
 }
 
-// The log, which is empty, finds no memory for the string, and stays as it is.
-fn lacks_memory<L: Scripted>(
+// The log, which is empty, finds no memory for the input, and stays as it is.
+fn lacks_memory<L: ScriptLog>(
     rt: &impl Abort,
     alloc: Global,
     log: &mut AuditedLog<L, Poor>,
-    string: &[u8],
+    input: &[u8],
 ) {
-    let refused = log.append(string);
+    let refused = log.append(input);
     assert!(rt; refused.is_err_and(|cause| is_out_of_memory::<L>(&cause)));
     is_empty(rt, alloc, log);
 }
 
-// The log, which is empty, takes the string.
-fn takes<L: Scripted>(rt: &impl Abort, log: &mut AuditedLog<L, Poor>, string: &[u8]) {
-    let answer = log.append(string);
+// The log, which is empty, takes the input.
+fn takes<L: ScriptLog>(rt: &impl Abort, log: &mut AuditedLog<L, Poor>, input: &[u8]) {
+    let answer = log.append(input);
     assert!(rt; answer.is_ok());
     assert!(rt; log.records().len() == 1);
 }
 
 // A log whose verifier finds no memory once takes the same bytes then.
-fn takes_later<L: Scripted>(rt: &impl Abort, alloc: Global) -> Result<(), Fail> {
-    let string = first::<L>(alloc)?;
+fn takes_later<L: ScriptLog>(rt: &impl Abort, alloc: Global) -> Result<(), Fail> {
+    let input = first::<L>(alloc)?;
     let mut log = AuditedLog::<L, Poor>::new(alloc, without_memory())?;
-    lacks_memory(rt, alloc, &mut log, string.as_slice());
-    takes(rt, &mut log, string.as_slice());
+    lacks_memory(rt, alloc, &mut log, input.as_slice());
+    takes(rt, &mut log, input.as_slice());
     Ok(())
 }
 

@@ -31,7 +31,7 @@ fn written(alloc: Global, row: &Row<'_>, writes: usize) -> Result<(u8, u64), Fai
     let mut input = Input::new(row.input);
     let mut output = Output::new(Drain { writes });
     let status = status(alloc, row.words, &mut input, &mut output)?;
-    Ok((status, output.failures()))
+    Ok((status, output.errors()))
 }
 
 // Whether the status is 3 exactly where fewer writes succeed than the answer's text has bytes.

@@ -9,7 +9,7 @@ ghost use Rattle.warg_protocol.specs.Package.{TellsHistory, kind, package_record
 ghost use Rattle.warg_protocol.specs.Package.{AreEqual, rules, same_permission, saved_versions};
 ghost use Rattle.warg_protocol.specs.Package.{IsGreatest, shows_candidate, shown_cmp, release_view};
 
-use crate::samples::strings;
+use crate::samples::inputs;
 use conformance_logs::scripts::id;
 use serde_json::Value;
 use std::alloc::Global;
@@ -26,13 +26,13 @@ use warg_protocol::{
 fn audited<V: Verifier>(
     alloc: Global,
     verifier: &V,
-    strings: &[Vec<u8>],
+    inputs: &[Vec<u8>],
 ) -> Result<LogState, RunError<ValidationError>>
-    ensures { let log = read_all (envelope_of package_record_of) (map vec_items strings.now) in
+    ensures { let log = read_all (envelope_of package_record_of) (map vec_items inputs.now) in
         IfOk result (λ s. IsAccepted kind (V.belongs verifier.now) log × TellsHistory s log) }
 {
     laws::package::states_tell_history();
-    run(alloc, verifier, strings)
+    run(alloc, verifier, inputs)
 }
 
 /// In a log of version 1 each signer was let in by an entry before.
@@ -101,8 +101,8 @@ const LOG: &str = "
 ";
 
 fn state(alloc: Global) -> Result<LogState, Fail> {
-    let strings = strings::<LogState>(alloc, LOG)?;
-    match audited(alloc, &ToyVerifier, strings.as_slice()) {
+    let inputs = inputs::<LogState>(alloc, LOG)?;
+    match audited(alloc, &ToyVerifier, inputs.as_slice()) {
         Ok(state) => Ok(state),
         Err(error) => Err(Fail::from(error)),
     }

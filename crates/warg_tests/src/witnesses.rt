@@ -165,7 +165,7 @@ fn writes_all_by_halves(rt: HostRuntime) -> Result<(), Fail> {
         writes: 0,
     });
     let ended = status(rt.alloc(), row.words, &mut input, &mut output)?;
-    let failed = output.failures();
+    let failed = output.errors();
     let halves = output.into_inner();
     assert!(rt; ended == 0 && failed == 0 && halves.writes == 7);
     assert!(rt; halves.taken.as_slice() == row.printed.as_bytes());

@@ -2,7 +2,7 @@
 use Rattle.std.proofs.Common.{◌≡◌, ◌≢◌, ◌⊎◌, ℕ, true, List, [], ◌∷◌, Option, Some, None, Result, Ok, Err, OnOk, OnErr, is_some, inl, inr, refl, sym, ◌∙◌, ap, subst}
 use Rattle.std.specs.Option.{option_map, ForSome}
 use Rattle.warg_merkle.specs.Trees.{Side, Left, Right}
-use Rattle.warg_merkle.specs.MapTree.Nodes.{Sets}
+use Rattle.warg_merkle.specs.SparseTree.Nodes.{Sets}
 use Rattle.warg_registry.specs.declared.leaf.MapLeaf.{MapLeaf}
 use Rattle.warg_registry.specs.PrefixEncodings.{map_leaf_encoding_of}
 use Rattle.warg_transparency.specs.MapLeaves.{IsLeafEncoding}

@@ -2,7 +2,7 @@
 use Rattle.std.specs.Prelude.{ℕ, List, Option}
 use Rattle.warg_merkle.specs.Trees.{Side}
 use Rattle.warg_merkle.specs.SparseMap.Maps.{way_down}
-use Rattle.warg_merkle.specs.MapTree.MapTree.{map_of}
+use Rattle.warg_merkle.specs.SparseTree.SparseTree.{map_of}
 use Rattle.warg_registry.specs.declared.log_id.LogId.{LogId}
 use Rattle.warg_transparency.specs.declared.map_tree.MapTree.{MapTree}
 

@@ -5,8 +5,8 @@ ghost use Rattle.std.specs.Option.{ForSome};
 ghost use Rattle.sha2.specs.Sha256.{sha256};
 ghost use Rattle.warg_merkle.specs.Trees.{Side};
 ghost use Rattle.warg_merkle.specs.SparseMap.Maps.{map_root, map_path, Leads};
-ghost use Rattle.warg_merkle.specs.MapTree.MapTree.{map_of};
-ghost use Rattle.warg_merkle.specs.MapTree.Nodes.{map_count, Sets};
+ghost use Rattle.warg_merkle.specs.SparseTree.SparseTree.{map_of};
+ghost use Rattle.warg_merkle.specs.SparseTree.Nodes.{map_count, Sets};
 ghost use Rattle.warg_registry.specs.PrefixEncodings.{map_leaf_encoding_of};
 ghost use Rattle.warg_transparency.specs.MapLeaves.{IsLeafEncoding};
 
@@ -22,7 +22,7 @@ use warg_registry::{LogId, MapLeaf};
 #[derive(Drop)]
 pub struct MapTree {
     alloc: Global,
-    tree: warg_merkle::map_tree::MapTree,
+    tree: warg_merkle::sparse_tree::SparseTree,
     ghost leaves: { (way : List Side) → ForSome (map_of tree way) IsLeafEncoding },
 }
 
@@ -33,7 +33,7 @@ impl MapTree {
     pub fn new(alloc: Global) -> Result<MapTree, AllocError>
         ensures { IfOk result (λ map. (way : List Side) → leaves_of map way ≡ None) }
     {
-        let tree = warg_merkle::map_tree::MapTree::new(alloc)?;
+        let tree = warg_merkle::sparse_tree::SparseTree::new(alloc)?;
         Ok(MapTree { alloc, tree })
     }
 

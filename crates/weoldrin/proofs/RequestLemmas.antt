@@ -5,13 +5,13 @@ use Rattle.std.specs.Option.{option_map}
 use Rattle.std.proofs.lemmas.Option.{slice_get-map}
 use Rattle.std.proofs.lemmas.Bool.{false≢true}
 use Rattle.std.specs.declared.alloc.AllocError.{AllocError}
-use Rattle.warg_audit.specs.Printouts.{Printout}
+use Rattle.warg_audit.specs.Printouts.{OutputData}
 use Rattle.semver.specs.Parse.{req_of}
 use Rattle.tool_changes.specs.Latest.{IsRequirement}
-use Rattle.warg_audit.specs.Files.Answers.{IfStopped, IsUnusable, answer_view}
-use Rattle.warg_audit.specs.declared.files.answer.Answer.{Answer}
-use Rattle.warg_audit.specs.declared.files.stop.Stop.{Stop}
-use Rattle.warg_audit.specs.declared.files.stop.Stop.TheVariants as stop
+use Rattle.warg_audit.specs.Files.Answers.{IfOutput, IsUnusable, output_data}
+use Rattle.warg_audit.specs.declared.files.command_output.CommandOutput.{CommandOutput}
+use Rattle.warg_audit.specs.declared.files.command_error.CommandError.{CommandError}
+use Rattle.warg_audit.specs.declared.files.command_error.CommandError.TheVariants as command_error
 use Rattle.tool_checkpoints.specs.Words.{IsUnsaid}
 use Rattle.tool_checkpoints.proofs.WordLemmas.{unsaid_for}
 use Rattle.tool_changes.specs.JsonLines.{IsInJson}
@@ -20,40 +20,40 @@ use Rattle.warg_claims.specs.Verified.Lines.{claim_of}
 use Rattle.warg_claims.specs.Verified.Texts.{IsFirstFault, IsReadFrom}
 use Rattle.warg_claims.specs.declared.verified.error.ClaimParseError.{ClaimParseError}
 use Rattle.weoldrin.specs.Looks.{as_it_is}
-use Rattle.weoldrin.specs.Requests.{IsGivenAs, IsGivenEnd, IsGivenTo}
+use Rattle.weoldrin.specs.Requests.{IsRenderedAs, IsErrorRendered, IsRenderedTo}
 
-module _ (json : Bool) (command : List ℕ) (layout : List ℕ → List ℕ) (P : Printout → Type 0) (told : List ℕ) (printed : Printout) where
+module _ (json : Bool) (command : List ℕ) (layout : List ℕ → List ℕ) (P : OutputData → Type 0) (told : List ℕ) (printed : OutputData) where
   -- verdicts on many logs are printed as they are
-  pub given_many : (many : Bool) → many ≡ true → P printed → IsGivenTo many json command layout P told printed
-  given_many true e h = h
-  given_many false e h = absurd (false≢true e)
+  pub rendered_many : (many : Bool) → many ≡ true → P printed → IsRenderedTo many json command layout P told printed
+  rendered_many true e h = h
+  rendered_many false e h = absurd (false≢true e)
 
   -- and another answer as it is wanted
-  pub given_one : (many : Bool) → many ≡ false → IsGivenAs json command layout P told printed → IsGivenTo many json command layout P told printed
-  given_one true e h = absurd (false≢true (sym e))
-  given_one false e h = h
+  pub rendered_one : (many : Bool) → many ≡ false → IsRenderedAs json command layout P told printed → IsRenderedTo many json command layout P told printed
+  rendered_one true e h = absurd (false≢true (sym e))
+  rendered_one false e h = h
 
 -- JSON of an answer is beside what that tells
-pub json_given : (result : Result Answer AllocError) (command : List ℕ) (plain : Answer)
-    → IfOk result (λ json. IsInJson command (answer_view plain) (string_bytes plain.error_text) (answer_view json))
+pub json_rendered : (result : Result CommandOutput AllocError) (command : List ℕ) (plain : CommandOutput)
+    → IfOk result (λ json. IsInJson command (output_data plain) (string_bytes plain.error_text) (output_data json))
     → IfOk result (λ json. json.error_text ≡ plain.error_text)
-    → IfOk result (λ it. IsInJson command (answer_view plain) (string_bytes it.error_text) (answer_view it))
-json_given (Ok it) command plain is told = rw told is
-json_given (Err e) command plain is told = tt
+    → IfOk result (λ it. IsInJson command (output_data plain) (string_bytes it.error_text) (output_data it))
+json_rendered (Ok it) command plain is told = rw told is
+json_rendered (Err e) command plain is told = tt
 
 -- the answer that ends a command is given as it is wanted
-pub given_stopped : (P : Printout → Type 0) (end : Stop) (json : Bool) (command told : List ℕ) (printed : Printout) → IfStopped P end
-    → IsGivenEnd json command end told printed → IsGivenAs json command as_it_is P told printed
-given_stopped P (stop.Answer answer) json command told printed h is = (answer_view answer, h, is)
-given_stopped P stop.OutOfMemory json command told printed h is = absurd is
+pub render_error : (P : OutputData → Type 0) (end : CommandError) (json : Bool) (command told : List ℕ) (printed : OutputData) → IfOutput P end
+    → IsErrorRendered json command end told printed → IsRenderedAs json command as_it_is P told printed
+render_error P (command_error.Output answer) json command told printed h is = (output_data answer, h, is)
+render_error P command_error.OutOfMemory json command told printed h is = absurd is
 
 never_both : {T E : Type 0} (result : Result T E) (value : T) → IsErr result → result ≡ Ok value → ⊥
 never_both (Ok it) value is_err e = false≢true is_err
 never_both (Err fault) value is_err e = cc
 
 -- a word that is refused is no requirement
-pub no_requirement : (word : List ℕ) (end : Stop) → IfStopped (λ printed. IsErr (req_of word) × IsUnusable printed) end
-    → IfStopped (IsUnsaid (IsRequirement word)) end
+pub no_requirement : (word : List ℕ) (end : CommandError) → IfOutput (λ printed. IsErr (req_of word) × IsUnusable printed) end
+    → IfOutput (IsUnsaid (IsRequirement word)) end
 no_requirement word end h = unsaid_for (IsRequirement word) (IsErr (req_of word)) end h (λ is_err wanted e. never_both (req_of word) _ is_err e)
 
 -- ---- claims

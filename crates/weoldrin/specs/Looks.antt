@@ -4,7 +4,7 @@ use Rattle.std.specs.Borrow.{Bor}
 use Rattle.std.specs.Str.{IsUtf8}
 use Rattle.warg_audit.specs.Files.Answers.{IsUnusable}
 use Rattle.warg_audit.specs.Files.Files.{Files, Reads}
-use Rattle.warg_audit.specs.Files.Printouts.{Printout}
+use Rattle.warg_audit.specs.Files.OutputData.{OutputData}
 use Rattle.warg_audit.specs.Files.Unusable.{IsOfFile}
 use Rattle.tool_layout.specs.Chains.{chain_layout}
 use Rattle.tool_layout.specs.Colours.{painted}
@@ -12,8 +12,8 @@ use Rattle.tool_layout.specs.KeyNames.{KeyName}
 use Rattle.tool_layout.specs.Logs.{log_layout}
 use Rattle.tool_layout.specs.Names.{names_of}
 use Rattle.tool_layout.specs.declared.look.Look.{Look}
-use Rattle.tool_words.specs.declared.request.Question.{Question}
-use Rattle.tool_words.specs.declared.request.Question.TheVariants as question
+use Rattle.tool_words.specs.declared.request.LogQuery.{LogQuery}
+use Rattle.tool_words.specs.declared.request.LogQuery.TheVariants as question
 use Rattle.tool_words.specs.declared.request.Request.{Request}
 use Rattle.tool_words.specs.declared.request.Request.TheVariants as request
 
@@ -28,7 +28,7 @@ abbrev pub ListNoNames : List ℕ → Type 0
 ListNoNames bytes = (IsUtf8 bytes → ⊥) ⊎ IsErr (names_of bytes)
 
 -- nothing is printed for want of the names in the file of a path: it can't be read, or lists none
-abbrev pub IsUnnamed : Option Files → List ℕ → Printout → Type 0
+abbrev pub IsUnnamed : Option Files → List ℕ → OutputData → Type 0
 IsUnnamed files path printed = IsOfFile files path (λ bytes told. ListNoNames bytes × IsUnusable told) printed
 
 -- P of the names that keys have: none, or those that a file lists; Unread of its path, if that can't be used
@@ -41,7 +41,7 @@ abbrev pub as_it_is : List ℕ → List ℕ
 as_it_is text = text
 
 -- how the text that a question is answered is laid out: that of a chain as one, any other stays as it is
-abbrev pub layout_of_question : Question → Look → List ℕ → List ℕ
+abbrev pub layout_of_question : LogQuery → Look → List ℕ → List ℕ
 layout_of_question (question.Chain key_id permission path) look = chain_layout look
 layout_of_question _ look = as_it_is
 
@@ -52,9 +52,9 @@ layout_of (request.Ask kind it) look = layout_of_question it look
 layout_of _ look = as_it_is
 
 -- an answer whose text is laid out so
-abbrev pub laid_out : (List ℕ → List ℕ) → Printout → Printout
+abbrev pub laid_out : (List ℕ → List ℕ) → OutputData → OutputData
 laid_out layout plain = record { text = layout plain.text; status = plain.status }
 
 -- an answer as it is printed: in colour on a terminal, unless its user has asked for none
-abbrev pub coloured : Bool → Bool → Printout → Printout
+abbrev pub coloured : Bool → Bool → OutputData → OutputData
 coloured on_terminal plainly printed = if on_terminal && not plainly then laid_out painted printed else printed

@@ -9,10 +9,10 @@ use Rattle.warg_protocol.specs.Logs.{SignatureRelation}
 use Rattle.warg_protocol.specs.Operator as operators
 use Rattle.warg_protocol.specs.Package as packages
 use Rattle.warg_audit.specs.Answers.{IsIdAnswer}
-use Rattle.warg_audit.specs.LogTypes.{operator_log, package_log}
-use Rattle.warg_audit.specs.declared.log_type.LogType.{LogType}
-use Rattle.warg_audit.specs.declared.log_type.LogType.TheVariants as log_type
-use Rattle.warg_audit.specs.Printouts.{Printout}
+use Rattle.warg_audit.specs.LogKinds.{operator_log, package_log}
+use Rattle.warg_audit.specs.declared.log_kind.LogKind.{LogKind}
+use Rattle.warg_audit.specs.declared.log_kind.LogKind.TheVariants as log_kind
+use Rattle.warg_audit.specs.Printouts.{OutputData}
 use Rattle.warg_claims.specs.Verified.Claims.{ClaimData, is_claimed}
 use Rattle.warg_claims.specs.Verified.Texts.{IsReadFrom}
 use Rattle.warg_audit.specs.Files.Files.{Files}
@@ -29,28 +29,28 @@ use Rattle.tool_answers.specs.ShownWords.{says_operator_words, says_package_word
 use Rattle.tool_questions.specs.Show.ShownLogs.{IsShown}
 use Rattle.tool_changes.specs.Tasks.{DoneLeaves, IsDoneAnswer}
 use Rattle.warg_audit.specs.Files.Unusable.{IsOfLines}
-use Rattle.warg_audit.specs.Files.Answers.{answer_view}
-use Rattle.warg_audit.specs.declared.files.stop.Stop.{Stop}
-use Rattle.warg_audit.specs.declared.files.stop.Stop.TheVariants as stop
+use Rattle.warg_audit.specs.Files.Answers.{output_data}
+use Rattle.warg_audit.specs.declared.files.command_error.CommandError.{CommandError}
+use Rattle.warg_audit.specs.declared.files.command_error.CommandError.TheVariants as command_error
 use Rattle.tool_answers.specs.Verdicts.{IsPrintedOf}
 use Rattle.tool_layout.specs.declared.look.Look.{Look}
 use Rattle.weoldrin.specs.Looks.{as_it_is, IsNamed, IsUnnamed, laid_out, layout_of}
 use Rattle.weoldrin.specs.Schemes.{asked_belongs}
 use Rattle.tool_words.specs.declared.request.Invocation.{Invocation}
-use Rattle.tool_words.specs.declared.request.Question.{Question}
+use Rattle.tool_words.specs.declared.request.LogQuery.{LogQuery}
 use Rattle.tool_words.specs.declared.request.Request.{Request}
 use Rattle.tool_words.specs.declared.request.Request.TheVariants as request
 
 -- what is printed of the log of a kind in words
-abbrev pub IsShownAnswer : LogType → SignatureRelation → Option Files → List ℕ → Printout → Type 0
-IsShownAnswer log_type.Package belongs files path printed =
+abbrev pub IsShownAnswer : LogKind → SignatureRelation → Option Files → List ℕ → OutputData → Type 0
+IsShownAnswer log_kind.Package belongs files path printed =
     IsOfLines files path (IsShown package_log belongs says_package_words shows_releases explains_package) printed
-IsShownAnswer log_type.Operator belongs files path printed =
+IsShownAnswer log_kind.Operator belongs files path printed =
     IsOfLines files path (IsShown operator_log belongs says_operator_words shows_namespaces explains_operator) printed
 
 -- what is answered to a question on logs of a kind
-abbrev pub IsAskedAnswer : LogType → SignatureRelation → Option Files → Question → Printout → Type 0
-IsAskedAnswer log_type.Package belongs files question printed =
+abbrev pub IsAskedAnswer : LogKind → SignatureRelation → Option Files → LogQuery → OutputData → Type 0
+IsAskedAnswer log_kind.Package belongs files question printed =
     IsQuestionAnswer (record {
       shown = package_log;
       view = packages.view_of;
@@ -63,7 +63,7 @@ IsAskedAnswer log_type.Package belongs files question printed =
       text_of = packages.permission_text;
       effects = packages.effects;
     }) says_package_words belongs files question printed
-IsAskedAnswer log_type.Operator belongs files question printed =
+IsAskedAnswer log_kind.Operator belongs files question printed =
     IsQuestionAnswer (record {
       shown = operator_log;
       view = operators.view_of;
@@ -78,12 +78,12 @@ IsAskedAnswer log_type.Operator belongs files question printed =
     }) says_operator_words belongs files question printed
 
 -- the greatest release of the log in a file that meets the requirement that a word says
-abbrev pub IsLatestAnswer : SignatureRelation → Option Files → List ℕ → List ℕ → Printout → Type 0
+abbrev pub IsLatestAnswer : SignatureRelation → Option Files → List ℕ → List ℕ → OutputData → Type 0
 IsLatestAnswer belongs files requirement path printed =
     IsByWords (IsRequirement requirement) (λ wanted. IsOfLines files path (IsPrintedOf package_log belongs (IsLatestOf wanted))) printed
 
 -- what is answered to a request, by what files hold before and after; verdicts behind paths may be in JSON
-abbrev pub IsRequestAnswer : Bool → SignatureRelation → Option Files → Option Files → Request → Printout → Type 0
+abbrev pub IsRequestAnswer : Bool → SignatureRelation → Option Files → Option Files → Request → OutputData → Type 0
 IsRequestAnswer json belongs old new (request.Id kind path) printed = IsOfLines old path.now (IsIdAnswer kind) printed
 IsRequestAnswer json belongs old new (request.Audit kind path demands shows_path) printed = IsOneAnswer json kind belongs old demands shows_path path.now printed
 IsRequestAnswer json belongs old new (request.Audits kind paths allows_empty) printed = IsManyAnswer json kind belongs old allows_empty (texts paths.items) printed
@@ -119,31 +119,31 @@ is_many (request.Ask kind question) = false
 is_many (request.Do kind task) = false
 
 -- what is printed of an answer, beside what is told on standard error: its text laid out so, or its JSON
-abbrev pub IsGiven : Bool → List ℕ → (List ℕ → List ℕ) → Printout → List ℕ → Printout → Type 0
-IsGiven false command layout plain told printed = printed ≡ laid_out layout plain
-IsGiven true command layout plain told printed = IsInJson command plain told printed
+abbrev pub IsRendered : Bool → List ℕ → (List ℕ → List ℕ) → OutputData → List ℕ → OutputData → Type 0
+IsRendered false command layout plain told printed = printed ≡ laid_out layout plain
+IsRendered true command layout plain told printed = IsInJson command plain told printed
 
 -- the same of an answer of which P holds
-abbrev pub IsGivenAs : Bool → List ℕ → (List ℕ → List ℕ) → (Printout → Type 0) → List ℕ → Printout → Type 0
-IsGivenAs json command layout P told printed = (plain : Printout) × P plain × IsGiven json command layout plain told printed
+abbrev pub IsRenderedAs : Bool → List ℕ → (List ℕ → List ℕ) → (OutputData → Type 0) → List ℕ → OutputData → Type 0
+IsRenderedAs json command layout P told printed = (plain : OutputData) × P plain × IsRendered json command layout plain told printed
 
 -- what is printed of the answer that ends a command before its own
-abbrev pub IsGivenEnd : Bool → List ℕ → Stop → List ℕ → Printout → Type 0
-IsGivenEnd json command (stop.Answer answer) told printed = IsGiven json command as_it_is (answer_view answer) told printed
-IsGivenEnd json command stop.OutOfMemory told printed = ⊥
+abbrev pub IsErrorRendered : Bool → List ℕ → CommandError → List ℕ → OutputData → Type 0
+IsErrorRendered json command (command_error.Output answer) told printed = IsRendered json command as_it_is (output_data answer) told printed
+IsErrorRendered json command command_error.OutOfMemory told printed = ⊥
 
 -- what is printed to a request of which P holds; verdicts behind paths have an object for each log already
-abbrev pub IsGivenTo : Bool → Bool → List ℕ → (List ℕ → List ℕ) → (Printout → Type 0) → List ℕ → Printout → Type 0
-IsGivenTo false json command layout P told printed = IsGivenAs json command layout P told printed
-IsGivenTo true json command layout P told printed = P printed
+abbrev pub IsRenderedTo : Bool → Bool → List ℕ → (List ℕ → List ℕ) → (OutputData → Type 0) → List ℕ → OutputData → Type 0
+IsRenderedTo false json command layout P told printed = IsRenderedAs json command layout P told printed
+IsRenderedTo true json command layout P told printed = P printed
 
 -- what is printed to a request in a look, beside what is told on standard error
-abbrev pub IsResponse : Bool → List ℕ → Look → SignatureRelation → Option Files → Option Files → Request → List ℕ → Printout → Type 0
+abbrev pub IsResponse : Bool → List ℕ → Look → SignatureRelation → Option Files → Option Files → Request → List ℕ → OutputData → Type 0
 IsResponse json command look belongs old new it told printed =
-    IsGivenTo (is_many it) json command (layout_of it look) (IsRequestAnswer json belongs old new it) told printed
+    IsRenderedTo (is_many it) json command (layout_of it look) (IsRequestAnswer json belongs old new it) told printed
 
 -- what is answered to an invocation in a look, by which signatures belong
-abbrev pub IsResponseTo : Look → SignatureRelation → Option Files → Option Files → Invocation → List ℕ → Printout → Type 0
+abbrev pub IsResponseTo : Look → SignatureRelation → Option Files → Option Files → Invocation → List ℕ → OutputData → Type 0
 IsResponseTo look belongs old new it told printed =
     IsResponse it.json it.command.now look belongs old new it.request told printed
 
@@ -158,9 +158,9 @@ IsUnder files toy None Unread P = P (asked_belongs toy)
 IsUnder files toy (Some path) Unread P = Unread path.now ⊎ ((claims : List ClaimData) × IsIn files path.now SaysClaims claims × P (is_claimed claims))
 
 -- what is answered to an invocation in a look, under the verifier that it names
-abbrev pub IsAnswerIn : Look → Option Files → Option Files → Invocation → List ℕ → Printout → Type 0
+abbrev pub IsAnswerIn : Look → Option Files → Option Files → Invocation → List ℕ → OutputData → Type 0
 IsAnswerIn look old new it told printed =
-    IsUnder old it.toy it.verified (λ path. IsGivenAs it.json it.command.now as_it_is (IsUnsaidIn old path SaysClaims) told printed)
+    IsUnder old it.toy it.verified (λ path. IsRenderedAs it.json it.command.now as_it_is (IsUnsaidIn old path SaysClaims) told printed)
     (λ belongs. IsResponseTo look belongs old new it told printed)
 
 -- what files hold after that
@@ -168,9 +168,9 @@ abbrev pub AnswerLeaves : Option Files → Option Files → Invocation → Type 
 AnswerLeaves old new it = IsUnder old it.toy it.verified (λ path. new ≡ old) (λ belongs. RequestLeaves belongs old new it.request)
 
 -- what is answered to an invocation, by what files hold before and after, beside what is told on standard error; names are read first
-abbrev pub IsInvocationAnswer : Option Files → Option Files → Invocation → List ℕ → Printout → Type 0
+abbrev pub IsInvocationAnswer : Option Files → Option Files → Invocation → List ℕ → OutputData → Type 0
 IsInvocationAnswer old new it told printed =
-    IsNamed old it.names (λ path. IsGivenAs it.json it.command.now as_it_is (IsUnnamed old path) told printed)
+    IsNamed old it.names (λ path. IsRenderedAs it.json it.command.now as_it_is (IsUnnamed old path) told printed)
     (λ names. IsAnswerIn (record { full = it.full; names = names }) old new it told printed)
 
 -- what files hold after it

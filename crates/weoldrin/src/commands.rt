@@ -2,11 +2,11 @@
 
 ghost use Rattle.std.specs.Prelude.{◌≡◌, IfOk, string_bytes};
 ghost use Rattle.warg_audit.specs.Answers.{IsIdAnswer};
-ghost use Rattle.warg_audit.specs.LogTypes.{package_log};
-ghost use Rattle.warg_audit.specs.Files.Answers.{answer_view, Answers};
+ghost use Rattle.warg_audit.specs.LogKinds.{package_log};
+ghost use Rattle.warg_audit.specs.Files.Answers.{output_data, Answers};
 ghost use Rattle.tool_changes.specs.Latest.{IsLatestOf};
 ghost use Rattle.weoldrin.specs.Looks.{as_it_is, layout_of};
-ghost use Rattle.weoldrin.specs.Requests.{is_many, IsAskedAnswer, IsGiven, IsLatestAnswer, IsRequestAnswer};
+ghost use Rattle.weoldrin.specs.Requests.{is_many, IsAskedAnswer, IsRendered, IsLatestAnswer, IsRequestAnswer};
 ghost use Rattle.weoldrin.specs.Requests.{IsResponseTo, IsShownAnswer, RequestLeaves};
 ghost use Rattle.tool_changes.specs.Tasks.{DoneLeaves, IsDoneAnswer};
 ghost use Rattle.warg_audit.specs.Files.Unusable.{IsOfLines};
@@ -21,11 +21,11 @@ use tool_checkpoints::{prove_answer, verify_answer};
 use tool_layout::Look;
 use tool_questions::question_answer;
 use tool_questions::show::show_of_file;
-use tool_words::{Invocation, Question, Request, Task};
-use warg_audit::LogType;
-use warg_audit::files::answer::Answer;
+use tool_words::{Invocation, LogQuery, Request, Task};
+use warg_audit::LogKind;
+use warg_audit::files::command_error::{CommandError, into_output};
+use warg_audit::files::command_output::CommandOutput;
 use warg_audit::files::input::{Store, read_input};
-use warg_audit::files::stop::{Stop, settled};
 use warg_protocol::signing::Verifier;
 use warg_protocol::{VersionReq, operator, package};
 
@@ -33,17 +33,17 @@ use warg_protocol::{VersionReq, operator, package};
 fn shown_answer<V: Verifier, S: Store>(
     alloc: Global,
     verifier: &V,
-    kind: LogType,
+    kind: LogKind,
     log: &str,
     store: &mut S,
-) -> Result<Answer, Stop>
+) -> Result<CommandOutput, CommandError>
     ensures answered { Answers (IsShownAnswer kind (V.belongs verifier.now) (S.files store.old)
         log.now) result }
     ensures kept { S.files store.new ≡ S.files store.old }
 {
     match kind {
-        LogType::Package => show_of_file::<package::LogState, V, S>(alloc, verifier, log, store),
-        LogType::Operator => show_of_file::<operator::LogState, V, S>(alloc, verifier, log, store),
+        LogKind::Package => show_of_file::<package::LogState, V, S>(alloc, verifier, log, store),
+        LogKind::Operator => show_of_file::<operator::LogState, V, S>(alloc, verifier, log, store),
     }
 }
 
@@ -51,19 +51,19 @@ fn shown_answer<V: Verifier, S: Store>(
 fn asked_answer<V: Verifier, S: Store>(
     alloc: Global,
     verifier: &V,
-    kind: LogType,
-    question: &Question<'_>,
+    kind: LogKind,
+    question: &LogQuery<'_>,
     store: &mut S,
-) -> Result<Answer, Stop>
+) -> Result<CommandOutput, CommandError>
     ensures answered { Answers (IsAskedAnswer kind (V.belongs verifier.now) (S.files store.old)
         question.now) result }
     ensures kept { S.files store.new ≡ S.files store.old }
 {
     match kind {
-        LogType::Package => {
+        LogKind::Package => {
             question_answer::<package::LogState, V, S>(alloc, verifier, question, store)
         }
-        LogType::Operator => {
+        LogKind::Operator => {
             question_answer::<operator::LogState, V, S>(alloc, verifier, question, store)
         }
     }
@@ -73,18 +73,18 @@ fn asked_answer<V: Verifier, S: Store>(
 fn done_answer<V: Verifier, S: Store>(
     alloc: Global,
     verifier: &V,
-    kind: LogType,
+    kind: LogKind,
     task: &Task<'_>,
     store: &mut S,
-) -> Result<Answer, Stop>
+) -> Result<CommandOutput, CommandError>
     ensures answered { Answers (IsDoneAnswer kind (V.belongs verifier.now) (S.files store.old)
         (S.files store.new) task.now) result }
     ensures files { DoneLeaves kind (V.belongs verifier.now) (S.files store.old)
         (S.files store.new) task.now }
 {
     match kind {
-        LogType::Package => task_answer::<package::LogState, V, S>(alloc, verifier, task, store),
-        LogType::Operator => task_answer::<operator::LogState, V, S>(alloc, verifier, task, store),
+        LogKind::Package => task_answer::<package::LogState, V, S>(alloc, verifier, task, store),
+        LogKind::Operator => task_answer::<operator::LogState, V, S>(alloc, verifier, task, store),
     }
 }
 
@@ -95,7 +95,7 @@ fn latest_in_file<V: Verifier, S: Store>(
     wanted: &VersionReq,
     log: &str,
     store: &mut S,
-) -> Result<Answer, Stop>
+) -> Result<CommandOutput, CommandError>
     ensures answered { Answers (IsOfLines (S.files store.old) log.now
         (IsPrintedOf package_log (V.belongs verifier.now)
         (IsLatestOf wanted.now.comparators.items))) result }
@@ -103,7 +103,7 @@ fn latest_in_file<V: Verifier, S: Store>(
 {
     match read_input(alloc, store, log) {
         Ok(input) => latest_answer(alloc, verifier, wanted, input),
-        Err(stop) => Err(stop),
+        Err(error) => Err(error),
     }
 }
 
@@ -114,30 +114,30 @@ fn latest_of_file<V: Verifier, S: Store>(
     requirement: &str,
     log: &str,
     store: &mut S,
-) -> Result<Answer, Stop>
+) -> Result<CommandOutput, CommandError>
     ensures answered { Answers (IsLatestAnswer (V.belongs verifier.now) (S.files store.old)
         requirement.now log.now) result }
     ensures kept { S.files store.new ≡ S.files store.old }
 {
     match requirement_of(alloc, requirement) {
         Ok(wanted) => latest_in_file(alloc, verifier, &wanted, log, store),
-        Err(stop) => Err(stop),
+        Err(error) => Err(error),
     }
 }
 
 // The id of the record in a file.
 fn id_of_file<S: Store>(
     alloc: Global,
-    kind: LogType,
+    kind: LogKind,
     log: &str,
     store: &mut S,
-) -> Result<Answer, Stop>
+) -> Result<CommandOutput, CommandError>
     ensures answered { Answers (IsOfLines (S.files store.old) log.now (IsIdAnswer kind)) result }
     ensures kept { S.files store.new ≡ S.files store.old }
 {
     match read_input(alloc, store, log) {
         Ok(input) => id_answer(alloc, kind, input),
-        Err(stop) => Err(stop),
+        Err(error) => Err(error),
     }
 }
 
@@ -148,7 +148,7 @@ fn request_answer<V: Verifier, S: Store>(
     request: &Request<'_>,
     is_json: bool,
     store: &mut S,
-) -> Result<Answer, Stop>
+) -> Result<CommandOutput, CommandError>
     ensures answered { Answers (IsRequestAnswer is_json (V.belongs verifier.now)
         (S.files store.old) (S.files store.new) request.now) result }
     ensures files { RequestLeaves (V.belongs verifier.now) (S.files store.old)
@@ -197,14 +197,14 @@ fn request_answer<V: Verifier, S: Store>(
 }
 
 /// An answer before that to a request, as it is wanted: as it is, or in JSON.
-pub(crate) fn given(
+pub(crate) fn render(
     alloc: Global,
     is_json: bool,
     command: &str,
-    answer: Answer,
-) -> Result<Answer, AllocError>
-    ensures { IfOk result (λ it. IsGiven is_json command.now as_it_is (answer_view answer)
-        (string_bytes it.error_text) (answer_view it)) }
+    answer: CommandOutput,
+) -> Result<CommandOutput, AllocError>
+    ensures { IfOk result (λ it. IsRendered is_json command.now as_it_is (output_data answer)
+        (string_bytes it.error_text) (output_data it)) }
 {
     if is_json {
         json_answer(alloc, command, answer)
@@ -214,15 +214,15 @@ pub(crate) fn given(
 }
 
 // The answer to a request, as it is wanted: laid out for people, or in JSON.
-fn given_in(
+fn render_in(
     alloc: Global,
     invocation: &Invocation<'_>,
     look: &Look,
-    answer: Answer,
-) -> Result<Answer, AllocError>
-    ensures { IfOk result (λ it. IsGiven invocation.now.json invocation.now.command.now
-        (layout_of invocation.now.request look.now) (answer_view answer)
-        (string_bytes it.error_text) (answer_view it)) }
+    answer: CommandOutput,
+) -> Result<CommandOutput, AllocError>
+    ensures { IfOk result (λ it. IsRendered invocation.now.json invocation.now.command.now
+        (layout_of invocation.now.request look.now) (output_data answer)
+        (string_bytes it.error_text) (output_data it)) }
 {
     if invocation.json {
         json_answer(alloc, invocation.command, answer)
@@ -255,20 +255,20 @@ pub fn respond<V: Verifier, S: Store>(
     invocation: &Invocation<'_>,
     look: &Look,
     store: &mut S,
-) -> Result<Answer, AllocError>
+) -> Result<CommandOutput, AllocError>
     ensures answered { IfOk result (λ answer. IsResponseTo look.now (V.belongs verifier.now)
         (S.files store.old) (S.files store.new) invocation.now
-        (string_bytes answer.error_text) (answer_view answer)) }
+        (string_bytes answer.error_text) (output_data answer)) }
 
     // What files hold is changed by records that are added alone, also where memory runs out.
     ensures files { RequestLeaves (V.belongs verifier.now) (S.files store.old)
         (S.files store.new) invocation.now.request }
 {
     let request = &invocation.request;
-    let answer = settled(request_answer(alloc, verifier, request, invocation.json, store))?;
+    let answer = into_output(request_answer(alloc, verifier, request, invocation.json, store))?;
     if is_many(request) {
         Ok(answer)
     } else {
-        given_in(alloc, invocation, look, answer)
+        render_in(alloc, invocation, look, answer)
     }
 }

@@ -14,10 +14,10 @@ pub use names::invocation_answer;
 pub use schemes::KnownSchemes;
 pub use tool_layout::{Look, NameFault, Names, NamesParseError};
 pub use tool_words::{
-    Demands, Draft, Invocation, LeafIds, Question, Request, Signer, Statement, Task, Wanted,
+    Demands, Invocation, LeafIds, LogQuery, NewRecord, Request, Signer, Statement, Task, Wanted,
 };
-pub use warg_audit::LogType;
-pub use warg_audit::files::answer::Answer;
-pub use warg_audit::files::change::{HoldFault, WriteCause, WriteFault};
-pub use warg_audit::files::input::{ReadFault, Store};
+pub use warg_audit::LogKind;
+pub use warg_audit::files::change::{HoldError, UnwrittenError, WriteError};
+pub use warg_audit::files::command_output::CommandOutput;
+pub use warg_audit::files::input::{ReadError, Store};
 pub use words::{Parsed, parse_words};

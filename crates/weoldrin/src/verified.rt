@@ -4,22 +4,22 @@ ghost use Rattle.std.specs.Prelude.{◌≡◌, IfOk, IfErr, string_bytes};
 ghost use Rattle.std.specs.Str.Lines.{lines};
 ghost use Rattle.warg_claims.specs.Verified.Texts.{IsReadFrom};
 ghost use Rattle.warg_claims.specs.declared.verified.error.ClaimParseError.TheVariants.{OutOfMemory};
-ghost use Rattle.warg_audit.specs.Files.Answers.{answer_view, IfStopped, IsUnusable};
-ghost use Rattle.warg_audit.specs.declared.files.stop.Stop.TheVariants as end;
+ghost use Rattle.warg_audit.specs.Files.Answers.{output_data, IfOutput, IsUnusable};
+ghost use Rattle.warg_audit.specs.declared.files.command_error.CommandError.TheVariants as end;
 ghost use Rattle.tool_checkpoints.specs.Words.{IsIn, IsUnsaid, IsUnsaidIn};
-ghost use Rattle.weoldrin.specs.Requests.{AnswerLeaves, IsAnswerIn, IsGivenEnd, IsResponseTo};
+ghost use Rattle.weoldrin.specs.Requests.{AnswerLeaves, IsAnswerIn, IsErrorRendered, IsResponseTo};
 ghost use Rattle.weoldrin.specs.Requests.{RequestLeaves, SaysClaims};
 ghost use Rattle.weoldrin.specs.Schemes.{asked_belongs};
 
-use crate::commands::{given, respond};
+use crate::commands::{render, respond};
 use crate::schemes::KnownSchemes;
 use std::alloc::{AllocError, Global};
 use std::str;
 use tool_layout::Look;
 use tool_words::Invocation;
-use warg_audit::files::answer::Answer;
-use warg_audit::files::input::{Input, Store, file_stop, line_sentence, read_input};
-use warg_audit::files::stop::{Stop, unusable};
+use warg_audit::files::command_error::{CommandError, unusable};
+use warg_audit::files::command_output::CommandOutput;
+use warg_audit::files::input::{Input, Store, file_error, line_sentence, read_input};
 use warg_claims::verified::{ClaimParseError, Verified, VerifiedParseError};
 use warg_protocol::p256::KnownKeys;
 
@@ -32,64 +32,68 @@ fn claim_sentence(
     line_sentence(alloc, path, error.line, fault.as_str())
 }
 
-// The end of a command for a line that says no claim.
-fn claim_stop(alloc: Global, path: &str, error: VerifiedParseError) -> Stop
-    ensures unusable { IfStopped IsUnusable result }
+// The error of a command for a line that says no claim.
+fn claim_error(alloc: Global, path: &str, error: VerifiedParseError) -> CommandError
+    ensures unusable { IfOutput IsUnusable result }
     ensures memory { error.fault ≡ OutOfMemory → result ≡ end.OutOfMemory }
 {
     if error.fault == ClaimParseError::OutOfMemory {
-        return Stop::OutOfMemory;
+        return CommandError::OutOfMemory;
     }
     unusable(alloc, claim_sentence(alloc, path, error))
 }
 
 // The claims that a text lists.
-fn verified_of(alloc: Global, path: &str, text: &str) -> Result<Verified, Stop>
+fn verified_of(alloc: Global, path: &str, text: &str) -> Result<Verified, CommandError>
     ensures ok { IfOk result (IsReadFrom (lines text.now)) }
-    ensures stopped { IfErr result (IfStopped (IsUnsaid (IsReadFrom (lines text.now)))) }
+    ensures err { IfErr result (IfOutput (IsUnsaid (IsReadFrom (lines text.now)))) }
 {
     match Verified::parse(alloc, text) {
         Ok(verified) => Ok(verified),
-        Err(error) => Err(claim_stop(alloc, path, error)),
+        Err(error) => Err(claim_error(alloc, path, error)),
     }
 }
 
 // The claims that a file lists.
-fn verified_of_file(alloc: Global, input: &Input<'_>) -> Result<Verified, Stop>
+fn verified_of_file(alloc: Global, input: &Input<'_>) -> Result<Verified, CommandError>
     ensures ok { IfOk result (SaysClaims input.now.bytes.items) }
-    ensures stopped { IfErr result (IfStopped (IsUnsaid (SaysClaims input.now.bytes.items))) }
+    ensures err { IfErr result (IfOutput (IsUnsaid (SaysClaims input.now.bytes.items))) }
 {
     match str::from_utf8(input.bytes.as_slice()) {
         Ok(text) => verified_of(alloc, input.path, text),
-        Err(_) => Err(file_stop(alloc, input.path, "it is no UTF-8")),
+        Err(_) => Err(file_error(alloc, input.path, "it is no UTF-8")),
     }
 }
 
 // The claims that the file of this path lists.
-fn read_verified<S: Store>(alloc: Global, path: &str, store: &mut S) -> Result<Verified, Stop>
+fn read_verified<S: Store>(
+    alloc: Global,
+    path: &str,
+    store: &mut S,
+) -> Result<Verified, CommandError>
     ensures ok { IfOk result (IsIn (S.files store.old) path.now SaysClaims) }
-    ensures stopped { IfErr result (IfStopped
+    ensures err { IfErr result (IfOutput
         (IsUnsaidIn (S.files store.old) path.now SaysClaims)) }
     ensures kept { S.files store.new ≡ S.files store.old }
 {
     match read_input(alloc, store, path) {
         Ok(input) => verified_of_file(alloc, &input),
-        Err(stop) => Err(stop),
+        Err(error) => Err(error),
     }
 }
 
-/// The end of a command that can't use a file, as the invocation wants its answer.
-pub(crate) fn given_end(
+/// The error of a command that can't use a file, as the invocation wants its answer.
+pub(crate) fn render_error_output(
     alloc: Global,
     invocation: &Invocation<'_>,
-    stop: Stop,
-) -> Result<Answer, AllocError>
-    ensures { IfOk result (λ it. IsGivenEnd invocation.now.json invocation.now.command.now
-        stop (string_bytes it.error_text) (answer_view it)) }
+    error: CommandError,
+) -> Result<CommandOutput, AllocError>
+    ensures { IfOk result (λ it. IsErrorRendered invocation.now.json invocation.now.command.now
+        error (string_bytes it.error_text) (output_data it)) }
 {
-    match stop {
-        Stop::Answer(answer) => given(alloc, invocation.json, invocation.command, answer),
-        Stop::OutOfMemory => Err(AllocError),
+    match error {
+        CommandError::Output(answer) => render(alloc, invocation.json, invocation.command, answer),
+        CommandError::OutOfMemory => Err(AllocError),
     }
 }
 
@@ -99,10 +103,10 @@ fn known_answer<S: Store>(
     invocation: &Invocation<'_>,
     look: &Look,
     store: &mut S,
-) -> Result<Answer, AllocError>
+) -> Result<CommandOutput, AllocError>
     ensures answered { IfOk result (λ answer. IsResponseTo look.now
         (asked_belongs invocation.now.toy) (S.files store.old) (S.files store.new) invocation.now
-        (string_bytes answer.error_text) (answer_view answer)) }
+        (string_bytes answer.error_text) (output_data answer)) }
     ensures files { RequestLeaves (asked_belongs invocation.now.toy) (S.files store.old)
         (S.files store.new) invocation.now.request }
 {
@@ -119,17 +123,17 @@ pub(crate) fn answer_in<S: Store>(
     invocation: &Invocation<'_>,
     look: &Look,
     store: &mut S,
-) -> Result<Answer, AllocError>
+) -> Result<CommandOutput, AllocError>
     ensures answered { IfOk result (λ answer. IsAnswerIn look.now (S.files store.old)
         (S.files store.new) invocation.now (string_bytes answer.error_text)
-        (answer_view answer)) }
+        (output_data answer)) }
     ensures files { AnswerLeaves (S.files store.old) (S.files store.new) invocation.now }
 {
     match invocation.verified {
         None => known_answer(alloc, invocation, look, store),
         Some(path) => match read_verified(alloc, path, store) {
             Ok(verified) => respond(alloc, &verified, invocation, look, store),
-            Err(stop) => given_end(alloc, invocation, stop),
+            Err(error) => render_error_output(alloc, invocation, error),
         },
     }
 }

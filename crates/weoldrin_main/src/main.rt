@@ -14,7 +14,7 @@ use std::process::ExitCode;
 use std::{env, io};
 use streams::closed_streams;
 use warg_protocol::Timestamp;
-use weoldrin::{Answer, Parsed, coloured, invocation_answer, parse_words};
+use weoldrin::{CommandOutput, Parsed, coloured, invocation_answer, parse_words};
 
 /// The status of trouble.
 const TROUBLE: u8 = 3;
@@ -30,7 +30,11 @@ fn words(rt: &(impl Alloc<A = Global> + Env)) -> io::Result<Vec<String>> {
 }
 
 // What the words are answered.
-fn answered(rt: &HostRuntime, words: &[&str], disk: &mut Disk<'_>) -> Result<Answer, AllocError> {
+fn answered(
+    rt: &HostRuntime,
+    words: &[&str],
+    disk: &mut Disk<'_>,
+) -> Result<CommandOutput, AllocError> {
     let alloc = rt.alloc();
     match parse_words(alloc, words)? {
         Parsed::Invocation(mut invocation) => {
@@ -39,7 +43,7 @@ fn answered(rt: &HostRuntime, words: &[&str], disk: &mut Disk<'_>) -> Result<Ans
             disk.clear_progress();
             answer
         }
-        Parsed::Answer(answer) => Ok(answer),
+        Parsed::Output(answer) => Ok(answer),
     }
 }
 
@@ -54,7 +58,7 @@ fn is_plain(rt: &(impl Alloc<A = Global> + Env)) -> Result<bool, AllocError> {
 }
 
 // The answer as it is printed to standard output.
-fn shown(rt: &HostRuntime, answer: Answer) -> Result<Answer, AllocError> {
+fn shown(rt: &HostRuntime, answer: CommandOutput) -> Result<CommandOutput, AllocError> {
     coloured(rt.alloc(), rt.stdout().is_terminal(), is_plain(rt)?, answer)
 }
 
@@ -73,7 +77,7 @@ fn trouble(rt: &HostRuntime, disk: &Disk<'_>, fault: &str) -> u8 {
 }
 
 // Writes the answer, and gives the exit status. A reader that went away wants no more, so that is no trouble.
-fn print(rt: &HostRuntime, disk: &Disk<'_>, answer: &Answer) -> u8 {
+fn print(rt: &HostRuntime, disk: &Disk<'_>, answer: &CommandOutput) -> u8 {
     let _ = rt.stderr().write_all(answer.error_text.as_bytes());
     match rt.stdout().write_all(answer.text.as_bytes()) {
         Ok(()) => answer.status,

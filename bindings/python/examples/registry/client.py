@@ -16,11 +16,11 @@ import urllib.parse
 from collections.abc import Iterator
 from typing import Self
 
-from weoldrin import Error, Kind, PackageLog, p256, print_lines, printable, records
+from weoldrin import Error, LogKind, PackageLog, p256, print_lines, printable, records
 
 
 class RegistryError(Exception):
-    """The registry refused something. `name` is the refusal's."""
+    """The registry refused something. `name` is the error's."""
 
     def __init__(self, status: int, name: str, sentence: str) -> None:
         super().__init__(printable(f"{status} {name}: {sentence}"))
@@ -77,12 +77,12 @@ class Client:
         response = self._connection.getresponse()
         text = response.read().decode()
         if response.status >= http.HTTPStatus.BAD_REQUEST:
-            refusal = json.loads(text)
-            raise RegistryError(response.status, refusal["error"], refusal["sentence"])
+            told = json.loads(text)
+            raise RegistryError(response.status, told["error"], told["sentence"])
         return text
 
 
-# Refusals of a record that would have been lawful, if no other record had come before it.
+# Errors of a record that would have been lawful, if no other record had come before it.
 _OVERTAKEN = {"RecordHashDoesNotMatch", "NoPreviousHashAfterInit", "TimestampLowerThanPrevious"}
 
 
@@ -99,7 +99,7 @@ def key_in(path: pathlib.Path) -> p256.SigningKey:
 def signed(prev: str | None, key: p256.SigningKey, entries: list[bytes]) -> bytes:
     """The envelope of a package's record that goes on from the one with the id `prev`."""
     contents = records.contents(prev, time.time_ns(), entries)
-    return records.signed(Kind.PACKAGE, contents, key.public_key, key.sign)
+    return records.signed(LogKind.PACKAGE, contents, key.public_key, key.sign)
 
 
 def publish(client: Client, package: str, versions: list[str], key: p256.SigningKey) -> Iterator[int]:

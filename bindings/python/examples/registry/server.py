@@ -6,7 +6,7 @@
     GET  /package/NAME/head                  the id of the last record
     GET  /package/NAME/latest?requirement=R  the greatest release that is not yanked and meets the requirement
 
-and the same under /operator, but for `latest`. A refusal is JSON with its name and its sentence.
+and the same under /operator, but for `latest`. An error is JSON with its name and its sentence.
 """
 
 import argparse
@@ -18,7 +18,7 @@ from http import HTTPStatus
 from http.server import BaseHTTPRequestHandler, ThreadingHTTPServer
 
 from store import Store
-from weoldrin import BadArgument, Error, Kind, NoEnvelope, OutOfMemory, Refused, UnknownAlgorithm
+from weoldrin import BadArgument, Error, LogKind, NoEnvelope, OutOfMemory, Refused, UnknownAlgorithm
 
 LIMIT = 1000
 # An envelope's bytes.
@@ -83,7 +83,7 @@ class Handler(BaseHTTPRequestHandler):
         except NotFound:
             self._refuse(HTTPStatus.NOT_FOUND, "NotFound", "there is no such thing")
 
-    def _path(self) -> tuple[Kind, str, str, dict[str, str]]:
+    def _path(self) -> tuple[LogKind, str, str, dict[str, str]]:
         """What is asked of which log, with which words."""
         try:
             url = urllib.parse.urlsplit(self.path)
@@ -92,7 +92,7 @@ class Handler(BaseHTTPRequestHandler):
         _, kind, name, rest = (*urllib.parse.unquote(url.path).split("/", 3), "", "", "")[:4]
         if kind not in ("package", "operator") or (name and not _NAME.fullmatch(name)):
             raise NotFound
-        return Kind[kind.upper()], name, rest, dict(urllib.parse.parse_qsl(url.query))
+        return LogKind[kind.upper()], name, rest, dict(urllib.parse.parse_qsl(url.query))
 
     def _looked_up(self) -> str:
         kind, name, look_up, words = self._path()
@@ -109,7 +109,7 @@ class Handler(BaseHTTPRequestHandler):
                 if (head := store.head(kind, name)) is None:
                     raise NotFound
                 return f"{head}\n"
-            case "latest" if name and kind is Kind.PACKAGE:
+            case "latest" if name and kind is LogKind.PACKAGE:
                 if (release := store.latest(name, words.get("requirement", "*"))) is None:
                     raise NotFound
                 return json.dumps({"version": release.version, "content": release.content, "record": release.record_id})

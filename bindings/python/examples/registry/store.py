@@ -7,7 +7,7 @@ from collections.abc import Iterator
 from contextlib import contextmanager
 from typing import NamedTuple
 
-from weoldrin import Kind, Log, OperatorLog, PackageLog, Release, record_id, verify
+from weoldrin import Log, LogKind, OperatorLog, PackageLog, Release, record_id, verify
 
 _TABLES = """
 CREATE TABLE IF NOT EXISTS logs (
@@ -20,7 +20,10 @@ CREATE TABLE IF NOT EXISTS records (
 );
 """
 
-_LOGS: dict[Kind, type[PackageLog] | type[OperatorLog]] = {Kind.PACKAGE: PackageLog, Kind.OPERATOR: OperatorLog}
+_LOGS: dict[LogKind, type[PackageLog] | type[OperatorLog]] = {
+    LogKind.PACKAGE: PackageLog,
+    LogKind.OPERATOR: OperatorLog,
+}
 
 
 class Published(NamedTuple):
@@ -37,7 +40,7 @@ class Store:
         self._path, self._threads = path, threading.local()
         self._file().executescript(_TABLES)
 
-    def publish(self, kind: Kind, name: str, envelope: bytes) -> Published:
+    def publish(self, kind: LogKind, name: str, envelope: bytes) -> Published:
         """Appends the record of an envelope to a log, which it begins where there is none. Raises why it is refused.
 
         The signature is verified while nobody waits. If another record came meanwhile, the log refuses this one.
@@ -56,12 +59,12 @@ class Store:
             file.execute("INSERT INTO records VALUES (?, ?, ?, ?, ?)", (kind.name, name, *new, envelope))
         return new
 
-    def names(self, kind: Kind) -> list[str]:
+    def names(self, kind: LogKind) -> list[str]:
         """The names of all logs of a kind."""
         rows = self._file().execute("SELECT name FROM logs WHERE kind = ? ORDER BY name", (kind.name,))
         return [it for (it,) in rows]
 
-    def records(self, kind: Kind, name: str, start: int, limit: int) -> list[bytes]:
+    def records(self, kind: LogKind, name: str, start: int, limit: int) -> list[bytes]:
         """The envelopes of a log from a place on."""
         rows = self._file().execute(
             "SELECT envelope FROM records WHERE kind = ? AND name = ? AND place >= ? ORDER BY place LIMIT ?",
@@ -69,19 +72,19 @@ class Store:
         )
         return [it for (it,) in rows]
 
-    def head(self, kind: Kind, name: str) -> str | None:
+    def head(self, kind: LogKind, name: str) -> str | None:
         """The id of a log's last record."""
         with self._resumed(kind, name) as (log, _):
             return log.head()
 
     def latest(self, name: str, requirement: str) -> Release | None:
         """The greatest release of a package that is not yanked and meets a requirement."""
-        with self._resumed(Kind.PACKAGE, name) as (log, _):
+        with self._resumed(LogKind.PACKAGE, name) as (log, _):
             assert isinstance(log, PackageLog)
             return log.latest(requirement)
 
     @contextmanager
-    def _resumed(self, kind: Kind, name: str) -> Iterator[tuple[Log, int]]:
+    def _resumed(self, kind: LogKind, name: str) -> Iterator[tuple[Log, int]]:
         """A log that goes on from its stored state, and how many records it has."""
         query = "SELECT state, length FROM logs WHERE kind = ? AND name = ?"
         state, length = self._file().execute(query, (kind.name, name)).fetchone() or ("{}", 0)

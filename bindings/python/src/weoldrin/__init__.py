@@ -1,6 +1,6 @@
 """Checks the logs of a Warg package registry by a proved library, which verifies signatures of ECDSA P-256."""
 
-from .auditing import Refusal, Verdict, append_all, audit, audit_many, envelopes_of, processes
+from .auditing import Refusal, RunError, Verdict, append_all, audit, audit_many, envelopes_of, processes
 from .errors import BadArgument, Busy, Error, Forked, NoEnvelope, NotOpen, OutOfMemory, Refused, UnknownAlgorithm
 from .faults import BadLine, Empty, Fault, Missing, Rewritten, RolledBack, SpoiledState, Unfinished, Unreadable, Unsaved
 from .incremental import NewRecords, audit_new
@@ -8,7 +8,20 @@ from .logs import Log, OperatorLog, PackageLog, library_version, log_of, record_
 from .printing import print_lines, printable
 from .proofs import verify_absence, verify_consistency, verify_inclusion, verify_presence
 from .signatures import verify
-from .values import Comparison, Kind, Link, Namespace, Question, Record, Relation, Release, Verify, kind_of
+from .values import (
+    Comparison,
+    Kind,
+    Link,
+    LogKind,
+    Namespace,
+    Question,
+    Record,
+    Relation,
+    Release,
+    SignatureCheck,
+    Verify,
+    kind_of,
+)
 
 __all__ = [
     "BadArgument",
@@ -22,6 +35,7 @@ __all__ = [
     "Kind",
     "Link",
     "Log",
+    "LogKind",
     "Missing",
     "Namespace",
     "NewRecords",
@@ -38,6 +52,8 @@ __all__ = [
     "Release",
     "Rewritten",
     "RolledBack",
+    "RunError",
+    "SignatureCheck",
     "SpoiledState",
     "Unfinished",
     "UnknownAlgorithm",

@@ -13,10 +13,10 @@ from .errors import NoEnvelope, Refused, UnknownAlgorithm
 from .faults import BadLine, Empty, Fault, Missing, Unreadable
 from .logs import Log, log_of
 from .printing import printable
-from .values import Kind, Verify, kind_of
+from .values import LogKind, Verify, kind_of
 
 
-class Refusal(NamedTuple):
+class RunError(NamedTuple):
     """The first record of a log that is refused: its place, from 0, and why."""
 
     place: int
@@ -35,19 +35,28 @@ class Verdict(NamedTuple):
     """How many records were taken."""
     head: str | None
     """The id of the last of them."""
-    refusal: Refusal | None
+    error: RunError | None
     fault: Fault | None
     """What is wrong with the file itself."""
 
     @property
+    def refusal(self) -> RunError | None:
+        """The same as `error`, under the name of 0.1.0."""
+        return self.error
+
+    @property
     def accepted(self) -> bool:
         """Whether the whole log was read and each record of it is lawful."""
-        return self.refusal is None and self.fault is None
+        return self.error is None and self.fault is None
 
     def __str__(self) -> str:
         """A line, as it is printed, whatever stands in the path and in the record that is refused."""
-        told = self.fault or self.refusal or f"ok {self.records} {self.head or 'none'}"
+        told = self.fault or self.error or f"ok {self.records} {self.head or 'none'}"
         return f"{printable(self.path)}: {told}"
+
+
+# The name of 0.1.0 for it.
+Refusal = RunError
 
 
 def envelope_of(place: int, line: RecordLine) -> bytes:
@@ -66,8 +75,8 @@ def envelopes_of(lines: Iterable[bytes]) -> Iterator[bytes]:
     return (envelope_of(place, line) for place, line in enumerate(record_lines(lines)))
 
 
-def append_all(log: Log, envelopes: Iterable[bytes], verify: Verify | None = None) -> tuple[int, Refusal | None]:
-    """Appends envelopes until one is refused: how many were taken, and the refusal, whose place is counted from the
+def append_all(log: Log, envelopes: Iterable[bytes], verify: Verify | None = None) -> tuple[int, RunError | None]:
+    """Appends envelopes until one is refused: how many were taken, and the error, whose place is counted from the
     first of them.
 
     Without `verify` the library verifies, and a record whose key is of another algorithm than it knows is refused as
@@ -78,30 +87,30 @@ def append_all(log: Log, envelopes: Iterable[bytes], verify: Verify | None = Non
         try:
             log.append(envelope, verify)
         except (NoEnvelope, Refused, UnknownAlgorithm) as error:
-            return taken, Refusal(taken, error.name, error.sentence)
+            return taken, RunError(taken, error.name, error.sentence)
         taken += 1
     return taken, None
 
 
-def with_cause(refusal: Refusal, kind: Kind, envelope: bytes) -> Refusal:
-    """The refusal of a record of a file. Where that is likely no fault of a publisher's, its sentence ends with what it
+def with_hint(run_error: RunError, kind: LogKind, envelope: bytes) -> RunError:
+    """The error of a record of a file. Where that is likely no fault of a publisher's, its sentence ends with what it
     is."""
-    cause = ""
+    hint = ""
     if not envelope:
-        cause = "the line is blank: only the last line of a file may be"
-    elif refusal.place == 0:
+        hint = "the line is blank: only the last line of a file may be"
+    elif run_error.place == 0:
         other, name = {
-            Kind.PACKAGE: (Kind.OPERATOR, "an operator log"),
-            Kind.OPERATOR: (Kind.PACKAGE, "a package's log"),
+            LogKind.PACKAGE: (LogKind.OPERATOR, "an operator log"),
+            LogKind.OPERATOR: (LogKind.PACKAGE, "a package's log"),
         }[kind]
         with log_of(other) as log:
             if append_all(log, [envelope])[1] is None:
-                cause = f"it is a record of {name}: is the kind right?"
-    return refusal._replace(sentence=f"{refusal.sentence}; {cause}") if cause else refusal
+                hint = f"it is a record of {name}: is the kind right?"
+    return run_error._replace(sentence=f"{run_error.sentence}; {hint}") if hint else run_error
 
 
 def fault_of(error: OSError | ValueError | MemoryError) -> Fault:
-    """What the failure of a read says of its file."""
+    """What the error of a read says of its file."""
     if isinstance(error, FileNotFoundError):
         return Missing()
     if isinstance(error, MemoryError):
@@ -110,7 +119,11 @@ def fault_of(error: OSError | ValueError | MemoryError) -> Fault:
 
 
 def audit(
-    path: str | bytes | os.PathLike[str], kind: Kind | str, verify: Verify | None = None, *, allow_empty: bool = False
+    path: str | bytes | os.PathLike[str],
+    kind: LogKind | str,
+    verify: Verify | None = None,
+    *,
+    allow_empty: bool = False,
 ) -> Verdict:
     """Audits the log in a file, by the library's verifier or by another one. A log of no records is the fault `Empty`,
     unless that is allowed.
@@ -131,17 +144,17 @@ def audit(
         return Verdict(named, 0, None, None, Empty())
     try:
         with log_of(kind) as log:
-            taken, refusal = append_all(log, envelopes, verify)
-            if refusal is not None:
-                refusal = with_cause(refusal, kind, envelopes[taken])
-            return Verdict(named, taken, log.head(), refusal, None)
+            taken, run_error = append_all(log, envelopes, verify)
+            if run_error is not None:
+                run_error = with_hint(run_error, kind, envelopes[taken])
+            return Verdict(named, taken, log.head(), run_error, None)
     except MemoryError as error:
         return Verdict(named, 0, None, None, fault_of(error))
 
 
 def audit_many(
     paths: Iterable[str | bytes | os.PathLike[str]],
-    kind: Kind | str,
+    kind: LogKind | str,
     verify: Verify | None = None,
     workers: int | None = None,
     executor: Executor | None = None,

@@ -9,12 +9,12 @@ from collections.abc import Iterable
 from typing import NamedTuple
 
 from ._files import RecordLine, held_beside, lines_of, open_regular, record_lines, replace
-from .auditing import Refusal, append_all, envelope_of, fault_of, with_cause
+from .auditing import RunError, append_all, envelope_of, fault_of, with_hint
 from .errors import BadArgument
 from .faults import Empty, Fault, Rewritten, RolledBack, SpoiledState, Unfinished, Unsaved
 from .logs import Log, class_of
 from .printing import printable
-from .values import Kind, Verify, kind_of
+from .values import LogKind, Verify, kind_of
 
 # So many digits of a digest are kept of each line, to tell a rollback from a rewriting.
 _MARK = 16
@@ -30,19 +30,24 @@ class NewRecords(NamedTuple):
     """How many records of the log were taken in all, the new ones among them."""
     head: str | None
     """The id of the last of them."""
-    refusal: Refusal | None
+    error: RunError | None
     """The first record that is refused, by its place in the whole log."""
     fault: Fault | None
     """What else is wrong with the file, or with its state."""
 
     @property
+    def refusal(self) -> RunError | None:
+        """The same as `error`, under the name of 0.1.0."""
+        return self.error
+
+    @property
     def accepted(self) -> bool:
         """Whether the file goes on from what was read, and each record of it is lawful."""
-        return self.refusal is None and self.fault is None
+        return self.error is None and self.fault is None
 
     def __str__(self) -> str:
         """A line, as it is printed, whatever stands in the path and in the record that is refused."""
-        told = self.fault or self.refusal or f"ok {self.length} {self.head or 'none'}"
+        told = self.fault or self.error or f"ok {self.length} {self.head or 'none'}"
         return f"{printable(self.path)}: {told}"
 
 
@@ -80,7 +85,7 @@ class _Digest:
         return "".join(found)
 
 
-def _read_at(path: str, kind: Kind) -> _Read:
+def _read_at(path: str, kind: LogKind) -> _Read:
     """What was kept in a file; nothing where there is no such file."""
     try:
         with open(path, encoding="ascii", opener=open_regular) as file:
@@ -117,7 +122,7 @@ def _check_begins(text: bytes, read: _Read) -> None:
     raise Rewritten(read.records)
 
 
-def _resumed(kind: Kind, read: _Read, old: list[RecordLine], verify: Verify | None) -> Log:
+def _resumed(kind: LogKind, read: _Read, old: list[RecordLine], verify: Verify | None) -> Log:
     """The log of what was read. One whose state could not be kept is audited from its first record."""
     if (old[-1].end if old else 0, len(old)) != (read.bytes, read.records):
         raise SpoiledState("it is not that of this file")
@@ -150,7 +155,7 @@ def _held(path: str, held: contextlib.ExitStack) -> int:
         raise Unsaved(error.strerror) from None
 
 
-def _audited(path: str, kind: Kind, verify: Verify | None, allows_empty: bool, beside: int) -> NewRecords:
+def _audited(path: str, kind: LogKind, verify: Verify | None, allows_empty: bool, beside: int) -> NewRecords:
     """Audits the new lines of a file, whose state is written by way of a file that is held beside it."""
     read, text = _read_at(f"{path}.state", kind), _text_of(path)
     _check_begins(text, read)
@@ -159,11 +164,11 @@ def _audited(path: str, kind: Kind, verify: Verify | None, allows_empty: bool, b
     old, new = found[: read.records], found[read.records :]
     with _resumed(kind, read, old, verify) as log:
         envelopes = [envelope_of(place, line) for place, line in enumerate(new, read.records)]
-        taken, refusal = append_all(log, envelopes, verify)
+        taken, run_error = append_all(log, envelopes, verify)
         length, head = read.records + taken, log.head()
-        if refusal is not None:
-            moved = refusal._replace(place=read.records + refusal.place)
-            return NewRecords(path, taken, length, head, with_cause(moved, kind, envelopes[taken]), None)
+        if run_error is not None:
+            moved = run_error._replace(place=read.records + run_error.place)
+            return NewRecords(path, taken, length, head, with_hint(moved, kind, envelopes[taken]), None)
         fault: Fault | None = None if length or allows_empty else Empty()
         if not text.endswith(b"\n") and text:
             fault = Unfinished(len(lines) + 1)
@@ -179,7 +184,11 @@ def _audited(path: str, kind: Kind, verify: Verify | None, allows_empty: bool, b
 
 
 def audit_new(
-    path: str | bytes | os.PathLike[str], kind: Kind | str, verify: Verify | None = None, *, allow_empty: bool = False
+    path: str | bytes | os.PathLike[str],
+    kind: LogKind | str,
+    verify: Verify | None = None,
+    *,
+    allow_empty: bool = False,
 ) -> NewRecords:
     """Audits the lines of a log's file that came since it was audited last, and keeps in PATH.state how much of the
     file was read, its digest, and the log's state behind it. Signatures are verified as by `audit`.

@@ -10,7 +10,7 @@ from typing import Any, ClassVar, NoReturn, Self, TypeVar
 from . import _library
 from ._library import CALLS, Buffer, Bytes, bytes_of, checked, text_bytes
 from .errors import BadArgument, Busy, Forked
-from .values import Comparison, Kind, Link, Namespace, Question, Record, Relation, Release, Verify, kind_of
+from .values import Comparison, Link, LogKind, Namespace, Record, Relation, Release, SignatureCheck, Verify, kind_of
 
 T = TypeVar("T")
 
@@ -42,7 +42,7 @@ class Log:
     that `fork` made gets `Forked` from each log that was made before.
     """
 
-    KIND: ClassVar[Kind]
+    KIND: ClassVar[LogKind]
 
     __slots__ = ("_buffer", "_is_called", "_lock", "_log", "_process", "__weakref__")
 
@@ -75,7 +75,7 @@ class Log:
 
     # Appending
 
-    def ask(self, envelope: Bytes) -> Question:
+    def ask(self, envelope: Bytes) -> SignatureCheck:
         """What has to be verified before the envelope's record can be appended. Changes nothing.
 
         The record is lawful exactly if the signature belongs. Raises `Refused` where no signature could help.
@@ -84,9 +84,9 @@ class Log:
         text = self._said("ask", envelope, len(envelope), after=(asked,), room=len(envelope) + _SENTENCE)
         assert text is not None
         end = asked.key_len + asked.message_len
-        return Question(text[: asked.key_len].decode(), text[asked.key_len : end], text[end:].decode())
+        return SignatureCheck(text[: asked.key_len].decode(), text[asked.key_len : end], text[end:].decode())
 
-    def append_answered(self, envelope: Bytes, question: Question, belongs: bool) -> None:
+    def append_answered(self, envelope: Bytes, question: SignatureCheck, belongs: bool) -> None:
         """Appends the envelope's record by the answer to its question. The answer to any other question is refused.
 
         An answer is True or False and nothing else: whatever a verifier returns in their place, such as a number or a
@@ -249,7 +249,7 @@ class Log:
 class PackageLog(Log):
     """The log of a package."""
 
-    KIND = Kind.PACKAGE
+    KIND = LogKind.PACKAGE
 
     __slots__ = ()
 
@@ -279,7 +279,7 @@ class PackageLog(Log):
 class OperatorLog(Log):
     """The log of a registry's operators."""
 
-    KIND = Kind.OPERATOR
+    KIND = LogKind.OPERATOR
 
     __slots__ = ()
 
@@ -292,17 +292,17 @@ class OperatorLog(Log):
         return Namespace(said.decode() if is_imported.value else None)
 
 
-def class_of(kind: Kind | str) -> type[PackageLog] | type[OperatorLog]:
+def class_of(kind: LogKind | str) -> type[PackageLog] | type[OperatorLog]:
     """The class of the logs of a kind."""
-    return PackageLog if kind_of(kind) is Kind.PACKAGE else OperatorLog
+    return PackageLog if kind_of(kind) is LogKind.PACKAGE else OperatorLog
 
 
-def log_of(kind: Kind | str) -> PackageLog | OperatorLog:
+def log_of(kind: LogKind | str) -> PackageLog | OperatorLog:
     """A log of no records, of a kind."""
     return class_of(kind)()
 
 
-def record_id(kind: Kind | str, envelope: Bytes) -> str:
+def record_id(kind: LogKind | str, envelope: Bytes) -> str:
     """The id of an envelope's record. The record need not be lawful. Raises `NoEnvelope`."""
     envelope = bytes_of(envelope)
     text = Buffer().filled("id", (kind_of(kind).value, envelope, len(envelope)))

@@ -21,7 +21,7 @@ from .auditing import append_all, envelopes_of
 from .errors import Error, Refused
 from .logs import Log, log_of
 from .printing import print_lines, tell
-from .values import Kind
+from .values import LogKind
 
 if TYPE_CHECKING:
     from .p256 import SigningKey
@@ -74,7 +74,7 @@ def _split(words: str) -> tuple[str, str, str]:
     return verb, subject, rest
 
 
-def entry_of(kind: Kind, words: str) -> bytes:
+def entry_of(kind: LogKind, words: str) -> bytes:
     """The entry that words say: `init KEY`, `grant KEY PERMISSION..`, `revoke KEY_ID PERMISSION..`; of a package's log
     `release VERSION CONTENT` and `yank VERSION`; of an operator's `define NAMESPACE` and `import NAMESPACE REGISTRY`.
 
@@ -96,13 +96,13 @@ def entry_of(kind: Kind, words: str) -> bytes:
                 return records.grant(kind, subject, rest.split())
             case "revoke", _:
                 return records.revoke(kind, subject, rest.split())
-            case "release", Kind.PACKAGE:
+            case "release", LogKind.PACKAGE:
                 return records.release(subject, records.sha256_text(rest.encode()))
-            case "yank", Kind.PACKAGE:
+            case "yank", LogKind.PACKAGE:
                 return records.yank(subject)
-            case "define", Kind.OPERATOR:
+            case "define", LogKind.OPERATOR:
                 return records.define_namespace(subject)
-            case "import", Kind.OPERATOR:
+            case "import", LogKind.OPERATOR:
                 return records.import_namespace(subject, rest)
     except UnicodeEncodeError:
         raise NoRecord("a word is no UTF-8") from None
@@ -180,7 +180,7 @@ def _warn(sentence: str) -> None:
 
 
 def _line(asked: argparse.Namespace) -> tuple[str, int]:
-    kind = Kind[asked.kind.upper()]
+    kind = LogKind[asked.kind.upper()]
     timestamp, entries = time_of(asked.time), []
     for place, words in enumerate(asked.entries):
         try:
@@ -189,10 +189,10 @@ def _line(asked: argparse.Namespace) -> tuple[str, int]:
             raise NoRecord(f"entry {place}: {error}") from None
     key, envelopes = key_of(asked.key), _read(asked.log)
     with log_of(kind) as log:
-        taken, refusal = append_all(log, envelopes)
-        if refusal is not None:
-            _warn(f"{asked.log}: record {taken}: {refusal.sentence}")
-            return f"refused {taken} {refusal.name}", 1
+        taken, run_error = append_all(log, envelopes)
+        if run_error is not None:
+            _warn(f"{asked.log}: record {taken}: {run_error.sentence}")
+            return f"refused {taken} {run_error.name}", 1
         try:
             return next_envelope(log, key, timestamp, entries).hex(), 0
         except Refused as error:

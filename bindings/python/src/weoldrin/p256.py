@@ -10,7 +10,7 @@ from typing import TYPE_CHECKING
 from . import signatures
 from ._library import bytes_of
 from .errors import BadArgument, UnknownAlgorithm
-from .values import Question
+from .values import SignatureCheck
 
 ALGORITHM = "ecdsa-p256"
 
@@ -32,7 +32,7 @@ else:
         return _cryptography.SigningKey
 
 
-def verify(question: Question) -> bool:
+def verify(question: SignatureCheck) -> bool:
     """Whether the signature belongs to the message under the key, by the library.
 
     Texts that can't be read, and those of other algorithms, belong to nothing.
@@ -43,7 +43,7 @@ def verify(question: Question) -> bool:
         return False
 
 
-def verify_by_cryptography(question: Question) -> bool:
+def verify_by_cryptography(question: SignatureCheck) -> bool:
     """The same by the package `cryptography`.
 
     What is read as a key and as a signature is what the library reads, and `cryptography` is asked of nothing else.

@@ -6,12 +6,15 @@ Nothing is judged here: a log does that when the envelope is appended.
 import hashlib
 from collections.abc import Callable, Iterable
 
-from .values import Kind, kind_of
+from .values import LogKind, kind_of
 
-_PREFIX = {Kind.PACKAGE: b"WARG-PACKAGE-RECORD-SIGNATURE-V0:", Kind.OPERATOR: b"WARG-OPERATOR-RECORD-SIGNATURE-V0:"}
+_PREFIX = {
+    LogKind.PACKAGE: b"WARG-PACKAGE-RECORD-SIGNATURE-V0:",
+    LogKind.OPERATOR: b"WARG-OPERATOR-RECORD-SIGNATURE-V0:",
+}
 _PERMISSIONS = {
-    Kind.PACKAGE: {"release": 1, "yank": 2},
-    Kind.OPERATOR: {"commit": 1, "defineNamespace": 2, "importNamespace": 3},
+    LogKind.PACKAGE: {"release": 1, "yank": 2},
+    LogKind.OPERATOR: {"commit": 1, "defineNamespace": 2, "importNamespace": 3},
 }
 _NANOS = 1_000_000_000
 
@@ -47,7 +50,7 @@ def _text(field: int, value: str) -> bytes:
     return _bytes(field, value.encode()) if value else b""
 
 
-def _permissions(kind: Kind | str, names: str | Iterable[str]) -> bytes:
+def _permissions(kind: LogKind | str, names: str | Iterable[str]) -> bytes:
     known = _PERMISSIONS[kind_of(kind)]
     words = names.split() if isinstance(names, str) else list(names)
     for word in words:
@@ -62,7 +65,7 @@ def init(public_key: str) -> bytes:
     return _bytes(1, _text(1, public_key) + _text(2, "sha256"))
 
 
-def grant(kind: Kind | str, public_key: str, permissions: str | Iterable[str]) -> bytes:
+def grant(kind: LogKind | str, public_key: str, permissions: str | Iterable[str]) -> bytes:
     """The entry that gives permissions to a key: their names, or a text of them with spaces between.
 
     Raises `ValueError` where logs of this kind have no such permission, and says which they have.
@@ -70,7 +73,7 @@ def grant(kind: Kind | str, public_key: str, permissions: str | Iterable[str]) -
     return _bytes(2, _text(1, public_key) + _permissions(kind, permissions))
 
 
-def revoke(kind: Kind | str, key_id: str, permissions: str | Iterable[str]) -> bytes:
+def revoke(kind: LogKind | str, key_id: str, permissions: str | Iterable[str]) -> bytes:
     """The entry that takes permissions from a key id, which are named as for `grant`."""
     return _bytes(3, _text(1, key_id) + _permissions(kind, permissions))
 
@@ -104,7 +107,7 @@ def contents(prev: str | None, timestamp: int, entries: Iterable[bytes], version
     return link + _number(2, version) + time + b"".join(_bytes(4, entry) for entry in entries)
 
 
-def message(kind: Kind | str, contents: bytes) -> bytes:
+def message(kind: LogKind | str, contents: bytes) -> bytes:
     """What a record's signature signs."""
     return _PREFIX[kind_of(kind)] + contents
 
@@ -114,6 +117,6 @@ def envelope(contents: bytes, key_id: str, signature: str) -> bytes:
     return _bytes(1, contents) + _text(2, key_id) + _text(3, signature)
 
 
-def signed(kind: Kind | str, contents: bytes, public_key: str, sign: Callable[[bytes], str]) -> bytes:
+def signed(kind: LogKind | str, contents: bytes, public_key: str, sign: Callable[[bytes], str]) -> bytes:
     """The envelope of a record, signed by a key: `sign` gives the text of a signature of a message."""
     return envelope(contents, key_id(public_key), sign(message(kind, contents)))

@@ -5,7 +5,7 @@ from collections.abc import Callable
 from typing import NamedTuple
 
 
-class Question(NamedTuple):
+class SignatureCheck(NamedTuple):
     """What has to be verified before a record can be appended: whether the signature belongs to the message under the
     key."""
 
@@ -17,7 +17,7 @@ class Question(NamedTuple):
     """The signature's text, in the form of the key's."""
 
 
-Verify = Callable[[Question], bool]
+Verify = Callable[[SignatureCheck], bool]
 
 
 class Record(NamedTuple):
@@ -81,18 +81,23 @@ class Comparison(NamedTuple):
     right: int
 
 
-class Kind(enum.Enum):
+class LogKind(enum.Enum):
     """The kinds of logs."""
 
     PACKAGE = 0
     OPERATOR = 1
 
 
-def kind_of(kind: Kind | str) -> Kind:
-    """A kind of logs: one of `Kind`, or its word, "package" or "operator". Raises `ValueError` for anything else."""
-    if isinstance(kind, Kind):
+def kind_of(kind: LogKind | str) -> LogKind:
+    """A kind of logs: one of `LogKind`, or its word, "package" or "operator". Raises `ValueError` for anything else."""
+    if isinstance(kind, LogKind):
         return kind
-    for it in Kind:
+    for it in LogKind:
         if kind == it.name.lower():
             return it
     raise ValueError(f'a log is of Kind.PACKAGE or Kind.OPERATOR, or "package" or "operator", and not of {kind!r}')
+
+
+# The names of 0.1.0 for these.
+Kind = LogKind
+Question = SignatureCheck

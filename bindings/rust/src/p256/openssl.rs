@@ -1,6 +1,6 @@
 //! ECDSA P-256 by OpenSSL's libcrypto, which makes keys and signs, and verifies where it is asked to.
 use super::texts::{point_of, signature_of, text_of};
-use crate::question::Question;
+use crate::question::SignatureCheck;
 use std::fmt;
 use std::os::raw::{c_char, c_int, c_long, c_void};
 use std::ptr::{null, null_mut};
@@ -52,7 +52,7 @@ extern "C" {
 
 /// The same as [`verify`](super::verify) by libcrypto. What is read as a key and as a signature is what the library reads, and
 /// libcrypto is asked of nothing else. Its queue of errors is left as it was.
-pub fn verify_by_openssl(question: &Question) -> bool {
+pub fn verify_by_openssl(question: &SignatureCheck) -> bool {
     let _errors = Errors::mark();
     match (point_of(question.key()), signature_of(question.signature())) {
         (Some(point), Some(signature)) => {

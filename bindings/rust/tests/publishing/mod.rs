@@ -3,7 +3,7 @@
 use std::time::{Duration, SystemTime};
 use weoldrin::p256::{key_id, sha256_text, SigningKey};
 use weoldrin::records::{Entry, NewRecord};
-use weoldrin::{Kind, Log, Package, PackageLog, PackagePermission};
+use weoldrin::{Log, LogKind, Package, PackageLog, PackagePermission};
 
 pub fn key() -> SigningKey {
     SigningKey::generate().expect("a key")
@@ -14,12 +14,12 @@ pub fn start() -> SystemTime {
 }
 
 /// A record that goes on from a log.
-pub fn next<K: Kind>(log: &Log<K>, entries: Vec<Entry<K>>) -> NewRecord<K> {
+pub fn next<K: LogKind>(log: &Log<K>, entries: Vec<Entry<K>>) -> NewRecord<K> {
     NewRecord { prev: log.head().expect("the head"), version: 1, timestamp: start(), entries }
 }
 
 /// The envelope of a record, in the name of a signer's key, signed by a key.
-pub fn signed<K: Kind>(record: &NewRecord<K>, named: &SigningKey, key: &SigningKey) -> Vec<u8> {
+pub fn signed<K: LogKind>(record: &NewRecord<K>, named: &SigningKey, key: &SigningKey) -> Vec<u8> {
     record.signed(&key_id(named.public_key()), |message| key.sign(message)).expect("a signature")
 }
 

@@ -1,7 +1,7 @@
 //! What proofs show: `ok`, the fault `Refused`, or the fault of a text that is no proof.
 
 use crate::proofs::parts::{next_hash, next_leaf, next_length, next_log_id, next_number};
-use conformance_rows::{Answer, Fail, Words};
+use conformance_rows::{Answer, RowError, Words};
 use std::alloc::Global;
 use warg_registry::{Checkpoint, MapLeaf};
 use warg_transparency::{
@@ -14,7 +14,7 @@ pub(crate) fn answer(
     alloc: Global,
     topic: &str,
     mut words: Words<'_>,
-) -> Result<Option<Answer>, Fail> {
+) -> Result<Option<Answer>, RowError> {
     let is_shown = match topic {
         "verify-inclusion" => inclusion(alloc, &mut words)?,
         "verify-consistency" => consistency(alloc, &mut words)?,
@@ -34,7 +34,7 @@ pub(crate) fn answer(
 type Shown = Result<bool, ProofTextError>;
 
 // `LOG_ID RECORD_ID PLACE LENGTH ROOT PROOF`: whether the leaf is at the place of the log of that length and root.
-fn inclusion(alloc: Global, words: &mut Words<'_>) -> Result<Shown, Fail> {
+fn inclusion(alloc: Global, words: &mut Words<'_>) -> Result<Shown, RowError> {
     let leaf = next_leaf(alloc, words)?;
     let place = next_number(alloc, words)?;
     let length = next_number(alloc, words)?;
@@ -44,7 +44,7 @@ fn inclusion(alloc: Global, words: &mut Words<'_>) -> Result<Shown, Fail> {
 }
 
 // The checkpoint of a log of that length and root, and of some map.
-fn next_checkpoint(alloc: Global, words: &mut Words<'_>) -> Result<Checkpoint, Fail> {
+fn next_checkpoint(alloc: Global, words: &mut Words<'_>) -> Result<Checkpoint, RowError> {
     let log_length = next_length(alloc, words)?;
     let log_root = next_hash(alloc, words)?;
     Ok(Checkpoint {
@@ -55,7 +55,7 @@ fn next_checkpoint(alloc: Global, words: &mut Words<'_>) -> Result<Checkpoint, F
 }
 
 // `OLD_LENGTH OLD_ROOT NEW_LENGTH NEW_ROOT PROOF`: whether the new log begins with the old one.
-fn consistency(alloc: Global, words: &mut Words<'_>) -> Result<Shown, Fail> {
+fn consistency(alloc: Global, words: &mut Words<'_>) -> Result<Shown, RowError> {
     let old = next_checkpoint(alloc, words)?;
     let new = next_checkpoint(alloc, words)?;
     let proof = LogProof::parse(alloc, words.next(alloc)?.as_str());
@@ -63,7 +63,7 @@ fn consistency(alloc: Global, words: &mut Words<'_>) -> Result<Shown, Fail> {
 }
 
 // `LOG_ID RECORD_ID ROOT PROOF`: whether the map of that root says this of the log.
-fn presence(alloc: Global, words: &mut Words<'_>) -> Result<Shown, Fail> {
+fn presence(alloc: Global, words: &mut Words<'_>) -> Result<Shown, RowError> {
     let leaf = next_leaf(alloc, words)?;
     let root = next_hash(alloc, words)?;
     let proof = MapProof::parse(alloc, words.next(alloc)?.as_str());
@@ -72,7 +72,7 @@ fn presence(alloc: Global, words: &mut Words<'_>) -> Result<Shown, Fail> {
 }
 
 // `LOG_ID ROOT PROOF`: whether the map of that root says nothing of the log.
-fn absence(alloc: Global, words: &mut Words<'_>) -> Result<Shown, Fail> {
+fn absence(alloc: Global, words: &mut Words<'_>) -> Result<Shown, RowError> {
     let log_id = next_log_id(alloc, words)?;
     let root = next_hash(alloc, words)?;
     let proof = MapProof::parse(alloc, words.next(alloc)?.as_str());

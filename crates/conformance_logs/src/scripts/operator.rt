@@ -2,12 +2,12 @@
 mod answers;
 mod errors;
 
-use crate::scripts::draft::Draft;
 use crate::scripts::operator::answers::answer;
 use crate::scripts::operator::errors::{error, words};
 use crate::scripts::people::{id, key, signed};
-use crate::scripts::script::{Scripted, permissions_of};
-use conformance_rows::Fail;
+use crate::scripts::script::{ScriptLog, permissions_of};
+use crate::scripts::script_draft::ScriptDraft;
+use conformance_rows::RowError;
 use std::alloc::Global;
 use warg_protocol::hash::HashAlgorithm;
 use warg_protocol::operator::{
@@ -17,7 +17,7 @@ use warg_protocol::registry::RecordId;
 use warg_protocol::{JsonError, JsonTextError, ProtoEnvelope};
 
 // Reads `init alice`, `grant bob commit`, `revoke bob commit`, `define name` and `import name registry`.
-fn entry(alloc: Global, verb: &str, subject: &str, rest: &str) -> Result<OperatorEntry, Fail> {
+fn entry(alloc: Global, verb: &str, subject: &str, rest: &str) -> Result<OperatorEntry, RowError> {
     match verb {
         "init" => Ok(OperatorEntry::Init {
             hash_algorithm: HashAlgorithm::Sha256,
@@ -38,27 +38,32 @@ fn entry(alloc: Global, verb: &str, subject: &str, rest: &str) -> Result<Operato
             namespace: String::from_str(alloc, subject)?,
             registry: String::from_str(alloc, rest)?,
         }),
-        _ => Err(Fail::new("a strange entry")),
+        _ => Err(RowError::new("a strange entry")),
     }
 }
 
-impl Scripted for LogState {
+impl ScriptLog for LogState {
     type Entry = OperatorEntry;
 
-    fn permission(name: &str) -> Result<Permission, Fail> {
+    fn permission(name: &str) -> Result<Permission, RowError> {
         Ok(name.parse::<Permission>()?)
     }
 
-    fn entry(alloc: Global, verb: &str, subject: &str, rest: &str) -> Result<OperatorEntry, Fail> {
+    fn entry(
+        alloc: Global,
+        verb: &str,
+        subject: &str,
+        rest: &str,
+    ) -> Result<OperatorEntry, RowError> {
         entry(alloc, verb, subject, rest)
     }
 
     fn signed(
         alloc: Global,
         prev: Option<RecordId>,
-        draft: &Draft<'_>,
+        draft: &ScriptDraft<'_>,
         entries: Vec<OperatorEntry>,
-    ) -> Result<ProtoEnvelope<OperatorRecord>, Fail> {
+    ) -> Result<ProtoEnvelope<OperatorRecord>, RowError> {
         let record = OperatorRecord {
             prev,
             version: draft.version,
@@ -73,7 +78,7 @@ impl Scripted for LogState {
         case: &str,
         subject: &str,
         permission: &str,
-    ) -> Result<ValidationError, Fail> {
+    ) -> Result<ValidationError, RowError> {
         error(alloc, case, subject, permission)
     }
 
@@ -81,16 +86,16 @@ impl Scripted for LogState {
         self.head().as_ref()
     }
 
-    fn words(alloc: Global, error: &ValidationError) -> Result<String, Fail> {
+    fn words(alloc: Global, error: &ValidationError) -> Result<String, RowError> {
         words(alloc, error)
     }
 
     fn next(
         &self,
         alloc: Global,
-        draft: &Draft<'_>,
+        draft: &ScriptDraft<'_>,
         entries: Vec<OperatorEntry>,
-    ) -> Result<ProtoEnvelope<OperatorRecord>, Fail> {
+    ) -> Result<ProtoEnvelope<OperatorRecord>, RowError> {
         let record = self.next_record(draft.timestamp()?, entries);
         signed(alloc, draft.signer, record)
     }
@@ -103,7 +108,7 @@ impl Scripted for LogState {
         LogState::from_json(alloc, json)
     }
 
-    fn answer(&self, alloc: Global, look_up: &str, subject: &str) -> Result<String, Fail> {
+    fn answer(&self, alloc: Global, look_up: &str, subject: &str) -> Result<String, RowError> {
         answer(alloc, self, look_up, subject)
     }
 }

@@ -2,12 +2,12 @@
 mod answers;
 mod errors;
 
-use crate::scripts::draft::Draft;
 use crate::scripts::package::answers::answer;
 use crate::scripts::package::errors::{error, words};
 use crate::scripts::people::{id, key, signed};
-use crate::scripts::script::{Scripted, permissions_of};
-use conformance_rows::{Fail, Words};
+use crate::scripts::script::{ScriptLog, permissions_of};
+use crate::scripts::script_draft::ScriptDraft;
+use conformance_rows::{RowError, Words};
 use std::alloc::Global;
 use warg_protocol::hash::HashAlgorithm;
 use warg_protocol::package::{
@@ -16,13 +16,13 @@ use warg_protocol::package::{
 use warg_protocol::registry::RecordId;
 use warg_protocol::{JsonError, JsonTextError, ProtoEnvelope, Version};
 
-fn content(alloc: Global, text: &str) -> Result<String, Fail> {
+fn content(alloc: Global, text: &str) -> Result<String, RowError> {
     Words::new(text).rest_text(alloc)
 }
 
 // Reads `init alice`, `grant bob release yank`, `revoke bob yank`, `release 1.0.0 content` and `yank 1.0.0`.
 // A content, which may be a JSON string, is hashed; without one it is empty.
-fn entry(alloc: Global, verb: &str, subject: &str, rest: &str) -> Result<PackageEntry, Fail> {
+fn entry(alloc: Global, verb: &str, subject: &str, rest: &str) -> Result<PackageEntry, RowError> {
     match verb {
         "init" => Ok(PackageEntry::Init {
             hash_algorithm: HashAlgorithm::Sha256,
@@ -43,27 +43,32 @@ fn entry(alloc: Global, verb: &str, subject: &str, rest: &str) -> Result<Package
         "yank" => Ok(PackageEntry::Yank {
             version: Version::parse(alloc, subject)?,
         }),
-        _ => Err(Fail::new("a strange entry")),
+        _ => Err(RowError::new("a strange entry")),
     }
 }
 
-impl Scripted for LogState {
+impl ScriptLog for LogState {
     type Entry = PackageEntry;
 
-    fn permission(name: &str) -> Result<Permission, Fail> {
+    fn permission(name: &str) -> Result<Permission, RowError> {
         Ok(name.parse::<Permission>()?)
     }
 
-    fn entry(alloc: Global, verb: &str, subject: &str, rest: &str) -> Result<PackageEntry, Fail> {
+    fn entry(
+        alloc: Global,
+        verb: &str,
+        subject: &str,
+        rest: &str,
+    ) -> Result<PackageEntry, RowError> {
         entry(alloc, verb, subject, rest)
     }
 
     fn signed(
         alloc: Global,
         prev: Option<RecordId>,
-        draft: &Draft<'_>,
+        draft: &ScriptDraft<'_>,
         entries: Vec<PackageEntry>,
-    ) -> Result<ProtoEnvelope<PackageRecord>, Fail> {
+    ) -> Result<ProtoEnvelope<PackageRecord>, RowError> {
         let record = PackageRecord {
             prev,
             version: draft.version,
@@ -78,7 +83,7 @@ impl Scripted for LogState {
         case: &str,
         subject: &str,
         permission: &str,
-    ) -> Result<ValidationError, Fail> {
+    ) -> Result<ValidationError, RowError> {
         error(alloc, case, subject, permission)
     }
 
@@ -86,16 +91,16 @@ impl Scripted for LogState {
         self.head().as_ref()
     }
 
-    fn words(alloc: Global, error: &ValidationError) -> Result<String, Fail> {
+    fn words(alloc: Global, error: &ValidationError) -> Result<String, RowError> {
         words(alloc, error)
     }
 
     fn next(
         &self,
         alloc: Global,
-        draft: &Draft<'_>,
+        draft: &ScriptDraft<'_>,
         entries: Vec<PackageEntry>,
-    ) -> Result<ProtoEnvelope<PackageRecord>, Fail> {
+    ) -> Result<ProtoEnvelope<PackageRecord>, RowError> {
         let record = self.next_record(draft.timestamp()?, entries);
         signed(alloc, draft.signer, record)
     }
@@ -108,7 +113,7 @@ impl Scripted for LogState {
         LogState::from_json(alloc, json)
     }
 
-    fn answer(&self, alloc: Global, look_up: &str, subject: &str) -> Result<String, Fail> {
+    fn answer(&self, alloc: Global, look_up: &str, subject: &str) -> Result<String, RowError> {
         answer(alloc, self, look_up, subject)
     }
 }

@@ -1,6 +1,6 @@
 //! The persons of the scripts. Each signs by the toy scheme, with the name as the bytes of the key; the ids
 //! of their keys were computed elsewhere.
-use conformance_rows::Fail;
+use conformance_rows::RowError;
 use std::alloc::{AllocError, Global};
 use warg_protocol::signing::{KeyID, PublicKey, Signer};
 use warg_protocol::toy::ToySigner;
@@ -35,7 +35,7 @@ pub fn signed<C: Signable + Drop>(
     alloc: Global,
     name: &str,
     record: C,
-) -> Result<ProtoEnvelope<C>, Fail> {
+) -> Result<ProtoEnvelope<C>, RowError> {
     let signer = signer(alloc, name)?;
     Ok(ProtoEnvelope::signed_contents(alloc, &signer, record)?)
 }

@@ -1,12 +1,12 @@
 //! The outer message, whose parts are also found where they stand in its bytes.
-use crate::coded::{Coded, Shown};
 use crate::fields::{Fields, put_braced, put_bytes, put_text};
-use conformance_rows::{Fail, bytes, hex};
+use crate::text_codec::{TextCodec, ToText};
+use conformance_rows::{RowError, bytes, hex};
 use std::alloc::Global;
 use warg_protobuf::{Envelope, EnvelopeView, Message, WireError};
 
 impl Fields for EnvelopeView<'_> {
-    fn put(&self, alloc: Global, out: &mut String) -> Result<(), Fail> {
+    fn put(&self, alloc: Global, out: &mut String) -> Result<(), RowError> {
         put_bytes(alloc, out, "contents", self.contents)?;
         put_text(alloc, out, "key_id", self.key_id)?;
         put_text(alloc, out, "signature", self.signature)
@@ -38,20 +38,20 @@ fn is_viewed(
     }
 }
 
-impl Shown for Outer {
-    fn text(&self, alloc: Global) -> Result<String, Fail> {
+impl ToText for Outer {
+    fn text(&self, alloc: Global) -> Result<String, RowError> {
         let mut text = String::new(alloc);
         put_braced(alloc, &mut text, &view_of(&self.message))?;
         Ok(text)
     }
 }
 
-impl Coded for Outer {
-    fn read(alloc: Global, word: &str) -> Result<Result<Outer, String>, Fail> {
+impl TextCodec for Outer {
+    fn read(alloc: Global, word: &str) -> Result<Result<Outer, String>, RowError> {
         let bytes = bytes(alloc, word)?;
         let message = Envelope::decode(alloc, bytes.as_slice());
         if !is_viewed(&message, Envelope::view(bytes.as_slice())) {
-            return Err(Fail::new("the borrowed parts say otherwise"));
+            return Err(RowError::new("the borrowed parts say otherwise"));
         }
         match message {
             Ok(message) => Ok(Ok(Outer { message })),
@@ -59,7 +59,7 @@ impl Coded for Outer {
         }
     }
 
-    fn write(&self, alloc: Global) -> Result<String, Fail> {
+    fn write(&self, alloc: Global) -> Result<String, RowError> {
         hex(alloc, self.message.encode(alloc)?.as_slice())
     }
 }

@@ -1,7 +1,7 @@
 //! The texts of entries and records.
-use crate::coded::Shown;
+use crate::text_codec::ToText;
 use crate::words::word;
-use conformance_rows::Fail;
+use conformance_rows::RowError;
 use std::alloc::Global;
 use std::fmt::Display;
 use warg_log_records::LogRecord;
@@ -14,7 +14,7 @@ fn with_permissions<P: Display>(
     verb: &str,
     subject: &str,
     permissions: &[P],
-) -> Result<String, Fail> {
+) -> Result<String, RowError> {
     let subject = word(alloc, subject)?;
     let mut text = format!(in alloc; "{verb} {subject}")?;
     for permission in permissions {
@@ -23,8 +23,8 @@ fn with_permissions<P: Display>(
     Ok(text)
 }
 
-impl Shown for PackageEntry {
-    fn text(&self, alloc: Global) -> Result<String, Fail> {
+impl ToText for PackageEntry {
+    fn text(&self, alloc: Global) -> Result<String, RowError> {
         match self {
             PackageEntry::Init {
                 hash_algorithm,
@@ -49,8 +49,8 @@ impl Shown for PackageEntry {
     }
 }
 
-impl Shown for OperatorEntry {
-    fn text(&self, alloc: Global) -> Result<String, Fail> {
+impl ToText for OperatorEntry {
+    fn text(&self, alloc: Global) -> Result<String, RowError> {
         match self {
             OperatorEntry::Init {
                 hash_algorithm,
@@ -83,8 +83,8 @@ impl Shown for OperatorEntry {
     }
 }
 
-impl<E: Shown> Shown for LogRecord<E> {
-    fn text(&self, alloc: Global) -> Result<String, Fail> {
+impl<E: ToText> ToText for LogRecord<E> {
+    fn text(&self, alloc: Global) -> Result<String, RowError> {
         let time = self.timestamp;
         let version = self.version;
         let mut text = format!(in alloc; "{time} v{version}")?;

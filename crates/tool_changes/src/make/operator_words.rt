@@ -5,10 +5,10 @@ ghost use Rattle.tool_changes.specs.Make.Entries.{operator_verbs, HasItsRest, Is
 ghost use Rattle.tool_changes.specs.declared.make.error.EntryFault.TheVariants as fault;
 
 use crate::make::entries::{first_word, key, key_id, permissions, word_and_rest};
+use crate::make::entry_from_words::EntryFromWords;
 use crate::make::error::{EntryFault, MakeError};
 use crate::make::rest::{Rest, check};
 use crate::make::sealed::enveloped;
-use crate::make::worded::Worded;
 use std::alloc::Global;
 use warg_protocol::hash::HashAlgorithm;
 use warg_protocol::operator::{LogState, OperatorEntry, OperatorRecord};
@@ -37,7 +37,7 @@ fn check_rest(verb: &str, rest: &str) -> Result<(), EntryFault>
     check(rest_of(verb)?, rest)
 }
 
-impl Worded for LogState {
+impl EntryFromWords for LogState {
     ghost use Rattle.std.specs.Prelude.{map};
     ghost use Rattle.std.specs.Option.{option_map};
     ghost use Rattle.warg_protocol.specs.Operator.{entry_data, view_of};

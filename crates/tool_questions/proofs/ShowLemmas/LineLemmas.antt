@@ -10,7 +10,7 @@ use Rattle.warg_protocol.specs.ReleaseStates.{Released, Yanked}
 use Rattle.warg_protocol.specs.Operator as operators
 use Rattle.warg_protocol.specs.Package as packages
 use Rattle.warg_audit.specs.LogAnswers.{head_text}
-use Rattle.warg_audit.specs.LogTypes.{package_log}
+use Rattle.warg_audit.specs.LogKinds.{package_log}
 use Rattle.tool_answers.specs.ShownWords.{AreReleaseLines, IsStandingLine, RecordWords, after_spaces, key_line, key_lines, namespace_line, namespace_lines, shows_namespaces, shows_releases}
 use Rattle.warg_printable.specs.Lines.{IsPrintedText}
 use Rattle.warg_printable.proofs.LineLemmas.{both_lines, no_lines, one_line, same_lines}

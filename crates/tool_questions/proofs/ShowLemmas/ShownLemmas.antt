@@ -8,21 +8,21 @@ use Rattle.std.proofs.lemmas.List.{length-take-le, take_all}
 use Rattle.std.proofs.lemmas.List.Elements.{recursion_from_All}
 use Rattle.std.proofs.lemmas.Slice.Zip.{AllZip-long}
 use Rattle.warg_protocol.specs.Records.{RecordId}
-use Rattle.warg_protocol.specs.Logs.{Cause, DecodedEnvelope, EnvelopeData, EnvelopeFault, HasNoOffence, IfNamed, IsFirstOffence, IsHonest, SignatureRelation, envelope_of, envelopes}
-use Rattle.warg_audit.specs.Files.Lines.{strings_of}
+use Rattle.warg_protocol.specs.Logs.{Cause, DecodedEnvelope, EnvelopeData, EnvelopeFault, HasNoOffence, IfNamed, IsFirstOffence, ContentsMatchBytes, SignatureRelation, envelope_of, envelopes}
+use Rattle.warg_audit.specs.Files.Lines.{inputs_of}
 use Rattle.warg_audit.specs.LogAnswers.{LogDisplay, cause_name}
-use Rattle.warg_audit.specs.Printouts.{Printout, bad_line, refused_line}
+use Rattle.warg_audit.specs.Printouts.{OutputData, bad_line, refused_line}
 use Rattle.warg_audit.specs.declared.files.lines.LineError.TheVariants.{Bad}
-use Rattle.warg_audit.proofs.FilesLemmas.StringLemmas as spelling
-use Rattle.warg_audit.specs.Files.Answers.{IfStopped, answer_view}
+use Rattle.warg_audit.proofs.FilesLemmas.InputLemmas as spelling
+use Rattle.warg_audit.specs.Files.Answers.{IfOutput, output_data}
 use Rattle.tool_questions.specs.Show.Advice.{advice_on}
-use Rattle.tool_questions.specs.Show.ShownLogs.{AreEnvelopeLines, AreRecordLines, IsBehindId, IsCutText, IsLogText, IsRefusalText, IsShown, IsShownOf, behind_id, cause_words, first_bad, lines_with_places, placed_line, of_log, of_refused, of_strings}
+use Rattle.tool_questions.specs.Show.ShownLogs.{AreEnvelopeLines, AreRecordLines, IsBehindId, IsCutText, IsLogText, IsRunErrorText, IsShown, IsShownOf, behind_id, cause_words, first_bad, lines_with_places, placed_line, of_log, of_refused, of_inputs}
 use Rattle.tool_answers.specs.ShownWords.{IsLineOf, IsRecordLine, RecordWords}
 use Rattle.warg_audit.specs.Files.Texts.{no, yes}
 use Rattle.tool_answers.specs.Verdicts.{envelopes_of}
-use Rattle.warg_audit.specs.declared.files.answer.Answer.{Answer}
-use Rattle.warg_audit.specs.declared.files.stop.Stop.{Stop}
-use Rattle.tool_answers.proofs.JudgedLemmas.{IfStopped-weaker}
+use Rattle.warg_audit.specs.declared.files.command_output.CommandOutput.{CommandOutput}
+use Rattle.warg_audit.specs.declared.files.command_error.CommandError.{CommandError}
+use Rattle.tool_answers.proofs.LoadingLemmas.{IfOutput-weaker}
 
 -- ---- records
 
@@ -86,11 +86,11 @@ module _ {C : Type 0} (id : List ℕ → RecordId) (words_of : C → RecordWords
     abbrev IsLineBySaying : EnvelopeData → List ℕ → Type 0
     IsLineBySaying it line = IsBehindId (id it.content) (IsLineOf Says it) line
 
-    line_said : (it : DecodedEnvelope C) (line : List ℕ) → IsHonest read meaning it → IsLineOfEnvelope it line → IsLineBySaying it.envelope line
+    line_said : (it : DecodedEnvelope C) (line : List ℕ) → ContentsMatchBytes read meaning it → IsLineOfEnvelope it line → IsLineBySaying it.envelope line
     line_said it line honest is =
         (is.0, record { words = words_of it.contents; says = said it.contents it.envelope.content honest; is = is.1 }, is.2)
 
-    each_said : (records : List (DecodedEnvelope C)) (lines : List (List ℕ)) → AllByRecursion (IsHonest read meaning) records
+    each_said : (records : List (DecodedEnvelope C)) (lines : List (List ℕ)) → AllByRecursion (ContentsMatchBytes read meaning) records
         → AllZip IsLineOfEnvelope records lines → AllZip IsLineBySaying (envelopes records) lines
     each_said [] [] honest each = tt
     each_said [] (line ∷ lines) honest each = each
@@ -101,11 +101,11 @@ module _ {C : Type 0} (id : List ℕ → RecordId) (words_of : C → RecordWords
     )
 
     -- the records are those that their content bytes say
-    pub said_lines : (records : List (DecodedEnvelope C)) (text : List ℕ) → All (IsHonest read meaning) records
+    pub said_lines : (records : List (DecodedEnvelope C)) (text : List ℕ) → All (ContentsMatchBytes read meaning) records
         → AreEnvelopeLines id words_of records text → AreRecordLines id Says (envelopes records) text
     said_lines records text honest are = record {
       lines = are.lines;
-      each = each_said records are.lines (recursion_from_All (IsHonest read meaning) records honest) are.each;
+      each = each_said records are.lines (recursion_from_All (ContentsMatchBytes read meaning) records honest) are.each;
       is = are.is;
     }
 
@@ -120,15 +120,15 @@ three_parts first second third whole so_far added last begun is ended is_last =
 
 module _ {Meaning Fault View Offence : Type 0} (log : LogDisplay Meaning Fault View Offence) (belongs : SignatureRelation) where
   -- the audit's line on a cause, and why
-  pub refusal_told : (Explains : Cause (EnvelopeFault Fault) Offence → List ℕ → Option ℕ → Type 0) (seen : List EnvelopeData → View) (strings : List (List ℕ))
+  pub run_error_told : (Explains : Cause (EnvelopeFault Fault) Offence → List ℕ → Option ℕ → Type 0) (seen : List EnvelopeData → View) (inputs : List (List ℕ))
       (index : ℕ) (cause : Option (Cause (EnvelopeFault Fault) Offence)) (name why : List ℕ) (entry : Option ℕ) (line text : List ℕ)
-      → IfNamed cause (λ c. IsFirstOffence log.kind belongs (envelope_of log.read) seen strings index c)
+      → IfNamed cause (λ c. IsFirstOffence log.kind belongs (envelope_of log.read) seen inputs index c)
       → Some name ≡ option_map (cause_name log.fault_name log.offence_name) cause
       → ((c : Cause (EnvelopeFault Fault) Offence) → cause ≡ Some c → Explains c why entry)
       → line ≡ (refused_line index name).text → text ≡ line ++ cause_words why entry (advice_on name)
-      → IsRefusalText log belongs Explains seen strings index text
-  refusal_told Explains seen strings index None name why entry line text first named explained is more = cc
-  refusal_told Explains seen strings index (Some c) name why entry line text first named explained is more =
+      → IsRunErrorText log belongs Explains seen inputs index text
+  run_error_told Explains seen inputs index None name why entry line text first named explained is more = cc
+  run_error_told Explains seen inputs index (Some c) name why entry line text first named explained is more =
       let same : name ≡ cause_name log.fault_name log.offence_name c = cc in
       record {
         cause = c;
@@ -140,37 +140,37 @@ module _ {Meaning Fault View Offence : Type 0} (log : LogDisplay Meaning Fault V
       }
 
   module _ (Says : List ℕ → RecordWords → Type 0) (Shows : List EnvelopeData → List ℕ → Type 0)
-      (Explains : View → List ℕ → Cause (EnvelopeFault Fault) Offence → List ℕ → Option ℕ → Type 0) (strings : List (List ℕ)) where
-    pub lawful_shown : (es : List EnvelopeData) (result : Result Answer AllocError)
-        → HasNoOffence log.kind belongs (envelope_of log.read) log.kind.view_of strings → es ≡ envelopes_of log strings
+      (Explains : View → List ℕ → Cause (EnvelopeFault Fault) Offence → List ℕ → Option ℕ → Type 0) (inputs : List (List ℕ)) where
+    pub lawful_shown : (es : List EnvelopeData) (result : Result CommandOutput AllocError)
+        → HasNoOffence log.kind belongs (envelope_of log.read) log.kind.view_of inputs → es ≡ envelopes_of log inputs
         → IfOk result (λ answer. (text : List ℕ) × IsLogText log.kind.id Says (log.kind.head (log.kind.view_of es)) Shows es text
-        × (answer_view answer ≡ yes text))
-        → IfOk result (λ answer. IsShownOf log belongs Says Shows Explains strings (answer_view answer))
+        × (output_data answer ≡ yes text))
+        → IfOk result (λ answer. IsShownOf log belongs Says Shows Explains inputs (output_data answer))
     lawful_shown es (Ok answer) none same it =
         let P : List EnvelopeData → Type 0 = λ fs. IsLogText log.kind.id Says (log.kind.head (log.kind.view_of fs)) Shows fs it.0 in
         of_log it.0 none (subst P same it.1) it.2
     lawful_shown es (Err error) none same it = tt
 
-    pub refused_shown : (es : List EnvelopeData) (index : ℕ) (string : List ℕ) (result : Result Answer AllocError) → es ≡ envelopes_of log (take index strings)
-        → slice_get strings index ≡ Some string
-        → IfOk result (λ answer. (text : List ℕ) × IsCutText log.kind.id Says (IsRefusalText log belongs (Explains (log.kind.view_of es) string) log.kind.view_of strings index) es text
-        × (answer_view answer ≡ no text))
-        → IfOk result (λ answer. IsShownOf log belongs Says Shows Explains strings (answer_view answer))
-    refused_shown es index string (Ok answer) same at it =
-        let P : List EnvelopeData → Type 0 = λ fs. IsCutText log.kind.id Says (IsRefusalText log belongs (Explains (log.kind.view_of fs) string) log.kind.view_of strings index) fs it.0 in
-        of_refused index string it.0 at (subst P same it.1) it.2
-    refused_shown es index string (Err error) same at it = tt
+    pub refused_shown : (es : List EnvelopeData) (index : ℕ) (input : List ℕ) (result : Result CommandOutput AllocError) → es ≡ envelopes_of log (take index inputs)
+        → slice_get inputs index ≡ Some input
+        → IfOk result (λ answer. (text : List ℕ) × IsCutText log.kind.id Says (IsRunErrorText log belongs (Explains (log.kind.view_of es) input) log.kind.view_of inputs index) es text
+        × (output_data answer ≡ no text))
+        → IfOk result (λ answer. IsShownOf log belongs Says Shows Explains inputs (output_data answer))
+    refused_shown es index input (Ok answer) same at it =
+        let P : List EnvelopeData → Type 0 = λ fs. IsCutText log.kind.id Says (IsRunErrorText log belongs (Explains (log.kind.view_of fs) input) log.kind.view_of inputs index) fs it.0 in
+        of_refused index input it.0 at (subst P same it.1) it.2
+    refused_shown es index input (Err error) same at it = tt
 
   module _ (Says : List ℕ → RecordWords → Type 0) (Shows : List EnvelopeData → List ℕ → Type 0)
       (Explains : View → List ℕ → Cause (EnvelopeFault Fault) Offence → List ℕ → Option ℕ → Type 0) (ls : List (List ℕ)) where
-    pub spelled_shown : (strings : List (List ℕ)) (printed : Printout) → strings_of ls ≡ Ok strings
-        → IsShownOf log belongs Says Shows Explains strings printed → IsShown log belongs Says Shows Explains ls printed
-    spelled_shown strings printed e it = of_strings strings (spelling.spell_from 0 ls strings e) it
+    pub spelled_shown : (inputs : List (List ℕ)) (printed : OutputData) → inputs_of ls ≡ Ok inputs
+        → IsShownOf log belongs Says Shows Explains inputs printed → IsShown log belongs Says Shows Explains ls printed
+    spelled_shown inputs printed e it = of_inputs inputs (spelling.spell_from 0 ls inputs e) it
 
-    pub bad_shown : (end : Stop)
-        → IfStopped (λ printed. (index : ℕ) × ((strings_of ls ≡ Err (Bad index)) × (printed ≡ bad_line index))) end
-        → IfStopped (IsShown log belongs Says Shows Explains ls) end
+    pub bad_shown : (end : CommandError)
+        → IfOutput (λ printed. (index : ℕ) × ((inputs_of ls ≡ Err (Bad index)) × (printed ≡ bad_line index))) end
+        → IfOutput (IsShown log belongs Says Shows Explains ls) end
     bad_shown end h =
-        IfStopped-weaker (λ printed. (index : ℕ) × ((strings_of ls ≡ Err (Bad index)) × (printed ≡ bad_line index)))
+        IfOutput-weaker (λ printed. (index : ℕ) × ((inputs_of ls ≡ Err (Bad index)) × (printed ≡ bad_line index)))
         (IsShown log belongs Says Shows Explains ls)
         (λ printed it. first_bad it.0 (spelling.first_bad ls it.0 it.1.0) it.1.1) end h

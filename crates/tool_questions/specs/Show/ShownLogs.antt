@@ -4,9 +4,9 @@ use Rattle.std.specs.Fmt.{decimal}
 use Rattle.std.specs.List.{AllZip, slice_get}
 use Rattle.warg_protocol.specs.Logs.{Cause, DecodedEnvelope, EnvelopeData, EnvelopeFault, HasNoOffence, IsFirstOffence, SignatureRelation, envelope_of}
 use Rattle.warg_protocol.specs.Records.{RecordId, hash_text}
-use Rattle.warg_audit.specs.LogAnswers.{LogDisplay, cause_name, head_text, refusal, view_of}
+use Rattle.warg_audit.specs.LogAnswers.{LogDisplay, cause_name, head_text, run_error, view_of}
 use Rattle.warg_audit.specs.Files.Lines.{IsFirstBad, Spell}
-use Rattle.warg_audit.specs.Printouts.{Printout, bad_line}
+use Rattle.warg_audit.specs.Printouts.{OutputData, bad_line}
 use Rattle.tool_answers.specs.ShownWords.{IsLineOf, IsRecordLine, RecordWords}
 use Rattle.warg_audit.specs.Files.Texts.{line, no, yes}
 use Rattle.warg_printable.specs.Printable.{printable}
@@ -78,30 +78,30 @@ module _ (id : List ℕ → RecordId) (Says : List ℕ → RecordWords → Type 
     pub is : text ≡ records ++ refused
 
 module _ {Meaning Fault View Offence : Type 0} (log : LogDisplay Meaning Fault View Offence) (belongs : SignatureRelation) where
-  -- the string at the index is the first that is refused: the audit's line; then the error's sentence, the entry at fault
+  -- the input at the index is the first that is refused: the audit's line; then the error's sentence, the entry at fault
   -- and what a publisher can do
-  pub record IsRefusalText (Explains : Cause (EnvelopeFault Fault) Offence → List ℕ → Option ℕ → Type 0) (seen : List EnvelopeData → View)
-      (strings : List (List ℕ)) (index : ℕ) (text : List ℕ) : Type 0 where
+  pub record IsRunErrorText (Explains : Cause (EnvelopeFault Fault) Offence → List ℕ → Option ℕ → Type 0) (seen : List EnvelopeData → View)
+      (inputs : List (List ℕ)) (index : ℕ) (text : List ℕ) : Type 0 where
     pub cause : Cause (EnvelopeFault Fault) Offence
-    pub first : IsFirstOffence log.kind belongs (envelope_of log.read) seen strings index cause
+    pub first : IsFirstOffence log.kind belongs (envelope_of log.read) seen inputs index cause
     pub why : List ℕ
     pub entry : Option ℕ
     pub explains : Explains cause why entry
-    pub is : text ≡ (refusal log index cause).text ++ cause_words why entry (advice_on (cause_name log.fault_name log.offence_name cause))
+    pub is : text ≡ (run_error log index cause).text ++ cause_words why entry (advice_on (cause_name log.fault_name log.offence_name cause))
 
   module _ (Says : List ℕ → RecordWords → Type 0) (Shows : List EnvelopeData → List ℕ → Type 0)
       (Explains : View → List ℕ → Cause (EnvelopeFault Fault) Offence → List ℕ → Option ℕ → Type 0) where
-    -- what is printed of strings, by what is shown of a record and of a state, and what explains a refusal: the log in words;
+    -- what is printed of inputs, by what is shown of a record and of a state, and what explains an error: the log in words;
     -- or the records before the first that is refused, and why that is
-    pub data IsShownOf (strings : List (List ℕ)) (printed : Printout) : Type 0 where
-      of_log : (text : List ℕ) → HasNoOffence log.kind belongs (envelope_of log.read) log.kind.view_of strings
-          → IsLogText log.kind.id Says (log.kind.head (view_of log strings)) Shows (envelopes_of log strings) text → printed ≡ yes text → IsShownOf strings printed
-      of_refused : (index : ℕ) (string text : List ℕ) → slice_get strings index ≡ Some string
-          → IsCutText log.kind.id Says (IsRefusalText (Explains (view_of log (take index strings)) string) log.kind.view_of strings index)
-          (envelopes_of log (take index strings)) text
-          → printed ≡ no text → IsShownOf strings printed
+    pub data IsShownOf (inputs : List (List ℕ)) (printed : OutputData) : Type 0 where
+      of_log : (text : List ℕ) → HasNoOffence log.kind belongs (envelope_of log.read) log.kind.view_of inputs
+          → IsLogText log.kind.id Says (log.kind.head (view_of log inputs)) Shows (envelopes_of log inputs) text → printed ≡ yes text → IsShownOf inputs printed
+      of_refused : (index : ℕ) (input text : List ℕ) → slice_get inputs index ≡ Some input
+          → IsCutText log.kind.id Says (IsRunErrorText (Explains (view_of log (take index inputs)) input) log.kind.view_of inputs index)
+          (envelopes_of log (take index inputs)) text
+          → printed ≡ no text → IsShownOf inputs printed
 
-    -- what is printed to lines: of the first that spells no bytes, or of the strings that they spell
-    pub data IsShown (lines : List (List ℕ)) (printed : Printout) : Type 0 where
+    -- what is printed to lines: of the first that spells no bytes, or of the inputs that they spell
+    pub data IsShown (lines : List (List ℕ)) (printed : OutputData) : Type 0 where
       first_bad : (index : ℕ) → IsFirstBad lines index → printed ≡ bad_line index → IsShown lines printed
-      of_strings : (strings : List (List ℕ)) → Spell lines strings → IsShownOf strings printed → IsShown lines printed
+      of_inputs : (inputs : List (List ℕ)) → Spell lines inputs → IsShownOf inputs printed → IsShown lines printed

@@ -1,9 +1,9 @@
 //! Why a record is refused, in words.
 
 ghost use Rattle.std.specs.Prelude.{◌≡◌, Some, IfOk, is_some, true, string_bytes};
-ghost use Rattle.tool_answers.specs.Explanations.{IsEntryOfString, IsEntryTold};
+ghost use Rattle.tool_answers.specs.Explanations.{IsEntryOfInput, IsEntryTold};
 ghost use Rattle.tool_answers.specs.ToolWords.{Explains};
-ghost use Rattle.warg_envelope.specs.ReadingWords.{IsHonest};
+ghost use Rattle.warg_envelope.specs.ReadingWords.{ContentsMatchBytes};
 ghost use Rattle.warg_protocol.specs.Logs.{Cause, EnvelopeFault};
 ghost use Rattle.warg_replay.specs.LogWords.{named_cause};
 ghost use Rattle.tool_questions.specs.Show.Reasons.{IsTold, Tells};
@@ -64,7 +64,7 @@ fn is_refused_so<L: ToolLog>(
     offence: &L::Error,
 ) -> Result<bool, AllocError>
     ensures { (o : L.Offence) → L.offence_of offence.now ≡ Some o →
-        IsHonest L.Record.reading envelope.now → IfOk result
+        ContentsMatchBytes L.Record.reading envelope.now → IfOk result
         (IsTold L.has_first L.record_rules.offence (L.view state.now) envelope.now o count) }
 {
     let Some(shorter) = L::first_entries(alloc, envelope, count)? else {
@@ -84,7 +84,7 @@ fn entry_at_fault<L: ToolLog>(
     envelope: &ProtoEnvelope<L::Record>,
     offence: &L::Error,
 ) -> Result<Option<usize>, AllocError>
-    ensures { (o : L.Offence) → L.offence_of offence.now ≡ Some o → IsHonest
+    ensures { (o : L.Offence) → L.offence_of offence.now ≡ Some o → ContentsMatchBytes
         L.Record.reading envelope.now → IfOk result (IsEntryTold L.has_first L.record_rules.offence
         (L.view state.now) envelope.now o (L.count_of envelope.now.contents)) }
 {
@@ -110,18 +110,18 @@ fn entry_at_fault<L: ToolLog>(
     Ok(Some(passed))
 }
 
-// The place of the entry that the offence of a string is of, if it is of one.
+// The place of the entry that the offence of an input is of, if it is of one.
 fn entry_in<L: ToolLog>(
     alloc: Global,
     state: &L,
-    string: &[u8],
+    input: &[u8],
     offence: &L::Error,
 ) -> Result<Option<usize>, AllocError>
     ensures { (o : L.Offence) → L.offence_of offence.now ≡ Some o → IfOk result (λ found.
-        IsEntryOfString L.Record.read L.Record.meaning L.count_of L.has_first
-        L.record_rules.offence (L.view state.now) string.now o found) }
+        IsEntryOfInput L.Record.read L.Record.meaning L.count_of L.has_first
+        L.record_rules.offence (L.view state.now) input.now o found) }
 {
-    match ProtoEnvelope::<L::Record>::from_protobuf(alloc, string) {
+    match ProtoEnvelope::<L::Record>::from_protobuf(alloc, input) {
         Ok(envelope) => entry_at_fault(alloc, state, &envelope, offence),
         Err(error) => {
             unless_out_of_memory(&error)?;
@@ -130,17 +130,17 @@ fn entry_in<L: ToolLog>(
     }
 }
 
-/// Why the string can't come next after the state, whose refusal has this cause.
+/// Why the input can't come next after the state, whose error has this cause.
 pub(crate) fn reason_of<L: ToolLog>(
     alloc: Global,
     state: &L,
-    string: &[u8],
+    input: &[u8],
     cause: &RunCause<L::Error>,
 ) -> Result<Reason, AllocError>
     ensures { (named : Cause (EnvelopeFault L.Record.Fault) L.Offence) →
         named_cause L.log L.Record.reading cause.now ≡ Some named →
         IfOk result (λ it. Explains L.log L.Record.reading L.tool L.count_of L.record_rules
-        (L.view state.now) string.now named (string_bytes it.sentence) it.entry) }
+        (L.view state.now) input.now named (string_bytes it.sentence) it.entry) }
 {
     match cause {
         RunCause::Parse(fault) => Ok(Reason {
@@ -149,7 +149,7 @@ pub(crate) fn reason_of<L: ToolLog>(
         }),
         RunCause::Validation(offence) => Ok(Reason {
             sentence: L::error_sentence(alloc, offence)?,
-            entry: entry_in(alloc, state, string, offence)?,
+            entry: entry_in(alloc, state, input, offence)?,
         }),
     }
 }

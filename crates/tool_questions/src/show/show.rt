@@ -4,23 +4,23 @@ ghost use Rattle.std.specs.Prelude.{◌≡◌, List, ℕ, IfOk, map, string_byte
 ghost use Rattle.std.specs.Option.{option_copied};
 ghost use Rattle.std.specs.Vec.{vec_items};
 ghost use Rattle.warg_protocol.specs.Logs.{envelopes};
-ghost use Rattle.warg_audit.specs.Files.Answers.{answer_view, Answers};
+ghost use Rattle.warg_audit.specs.Files.Answers.{output_data, Answers};
 ghost use Rattle.warg_audit.specs.Files.RecordLines.{record_lines};
 ghost use Rattle.tool_questions.specs.Show.ShownLogs.{AreEnvelopeLines, IsLogText, behind_id, cause_words};
 ghost use Rattle.tool_questions.specs.Show.ShownLogs.{entry_line, head_line, placed_line};
 ghost use Rattle.tool_questions.specs.Show.ShowWords.{AreShownLines, IsCut, IsCutPrinted, IsReason, IsShownLog};
 ghost use Rattle.warg_audit.specs.Files.Texts.{yes};
 ghost use Rattle.warg_audit.specs.Files.Unusable.{IsOfLines};
-ghost use Rattle.warg_audit.specs.ReportWords.{ForDisplay, ForRefusal};
+ghost use Rattle.warg_audit.specs.ReportWords.{ForDisplay, ForRunError};
 
 use crate::show::advice::advice;
 use crate::show::reason::reason_of;
 use std::alloc::{AllocError, Global};
-use tool_answers::judged::{Lent, file_strings};
 use tool_answers::kind::ToolLog;
-use warg_audit::files::answer::Answer;
+use tool_answers::loading::{Lent, file_inputs};
+use warg_audit::files::command_error::CommandError;
+use warg_audit::files::command_output::CommandOutput;
 use warg_audit::files::input::{Input, Store, read_input};
-use warg_audit::files::stop::Stop;
 use warg_audit::{cause_name, refused_reply};
 use warg_printable::printed_line;
 use warg_protocol::registry::RecordId;
@@ -58,22 +58,22 @@ fn cause_words(
 }
 
 // Why the next record is refused: the audit's line, and the cause in words. Refused memory is no cause.
-fn refusal_text<L: ToolLog>(
+fn run_error_text<L: ToolLog>(
     alloc: Global,
     state: &L,
-    string: &[u8],
+    input: &[u8],
     error: &RunError<L::Error>,
 ) -> Result<String, AllocError>
     ensures { ForDisplay L.log L.Record.reading L.report (λ log.
-        IfOk result (λ text. ForRefusal L.log L.Record.reading error.now (λ belongs seen strings.
-        IsReason L.log L.Record.reading L.tool L.count_of L.record_rules log belongs seen strings
-        (L.view state.now) string.now error.now.index (string_bytes text)))) }
+        IfOk result (λ text. ForRunError L.log L.Record.reading error.now (λ belongs seen inputs.
+        IsReason L.log L.Record.reading L.tool L.count_of L.record_rules log belongs seen inputs
+        (L.view state.now) input.now error.now.index (string_bytes text)))) }
 {
     let Some(name) = cause_name::<L>(&error.cause) else {
         return Err(AllocError);
     };
     let reply = refused_reply(alloc, error.index, name)?;
-    let reason = reason_of(alloc, state, string, &error.cause)?;
+    let reason = reason_of(alloc, state, input, &error.cause)?;
     let words = cause_words(alloc, reason.sentence.as_str(), reason.entry, advice(name))?;
     let mut all = String::from_str(alloc, reply.text())?;
     all.push_str(words.as_str())?;
@@ -140,16 +140,16 @@ fn log_text<L: ToolLog, V: Verifier + Drop>(
 fn cut_text<L: ToolLog, V: Verifier + Drop>(
     alloc: Global,
     log: &AuditedLog<L, V>,
-    string: &[u8],
+    input: &[u8],
     error: &RunError<L::Error>,
 ) -> Result<String, AllocError>
     ensures { ForDisplay L.log L.Record.reading L.report (λ shown.
-        IfOk result (λ text. ForRefusal L.log L.Record.reading error.now (λ belongs seen strings.
-        IsCut L.log L.Record.reading L.tool L.count_of L.record_rules shown belongs seen strings
-        (envelopes log.now.records) string.now error.now.index (string_bytes text)))) }
+        IfOk result (λ text. ForRunError L.log L.Record.reading error.now (λ belongs seen inputs.
+        IsCut L.log L.Record.reading L.tool L.count_of L.record_rules shown belongs seen inputs
+        (envelopes log.now.records) input.now error.now.index (string_bytes text)))) }
 {
     let mut text = records_text::<L>(alloc, log.records())?;
-    let refused = refusal_text(alloc, log.state(), string, error)?;
+    let refused = run_error_text(alloc, log.state(), input, error)?;
     text.push_str(refused.as_str())?;
     Ok(text)
 }
@@ -158,46 +158,46 @@ fn cut_text<L: ToolLog, V: Verifier + Drop>(
 fn lawful_answer<L: ToolLog, V: Verifier + Drop>(
     alloc: Global,
     log: &AuditedLog<L, V>,
-) -> Result<Answer, AllocError>
+) -> Result<CommandOutput, AllocError>
     ensures { IfOk result (λ answer. (text : List ℕ) × IsLogText L.kind.id L.says_words
         (L.kind.head (L.kind.view_of (envelopes log.now.records))) L.shows
-        (envelopes log.now.records) text × (answer_view answer ≡ yes text)) }
+        (envelopes log.now.records) text × (output_data answer ≡ yes text)) }
 {
     let text = log_text(alloc, log)?;
-    Ok(Answer::new(alloc, text, 0))
+    Ok(CommandOutput::new(alloc, text, 0))
 }
 
-// The answer to strings of which one is refused, by the log of those before it.
+// The answer to inputs of which one is refused, by the log of those before it.
 fn refused_answer<L: ToolLog, V: Verifier + Drop>(
     alloc: Global,
     log: &AuditedLog<L, V>,
-    string: &[u8],
+    input: &[u8],
     error: &RunError<L::Error>,
-) -> Result<Answer, AllocError>
+) -> Result<CommandOutput, AllocError>
     ensures { ForDisplay L.log L.Record.reading L.report (λ shown.
-        IfOk result (λ answer. ForRefusal L.log L.Record.reading error.now (λ belongs seen all.
+        IfOk result (λ answer. ForRunError L.log L.Record.reading error.now (λ belongs seen all.
         IsCutPrinted L.log L.Record.reading L.tool L.count_of L.record_rules shown belongs seen all
-        (envelopes log.now.records) string.now error.now.index (answer_view answer)))) }
+        (envelopes log.now.records) input.now error.now.index (output_data answer)))) }
 {
-    let text = cut_text(alloc, log, string, error)?;
-    Ok(Answer::new(alloc, text, 1))
+    let text = cut_text(alloc, log, input, error)?;
+    Ok(CommandOutput::new(alloc, text, 1))
 }
 
-// The answer to the strings of a log.
-fn strings_answer<L: ToolLog, V: Verifier + Drop>(
+// The answer to the inputs of a log.
+fn inputs_answer<L: ToolLog, V: Verifier + Drop>(
     alloc: Global,
     verifier: V,
-    strings: &[Vec<u8>],
-) -> Result<Answer, AllocError>
+    inputs: &[Vec<u8>],
+) -> Result<CommandOutput, AllocError>
     ensures { ForDisplay L.log L.Record.reading L.report (λ log. IfOk result (λ answer.
         IsShownLog L.log L.Record.reading L.tool L.count_of L.record_rules log
-        (V.belongs verifier) (map vec_items strings.now) (answer_view answer))) }
+        (V.belongs verifier) (map vec_items inputs.now) (output_data answer))) }
 {
     let mut log = AuditedLog::<L, V>::new(alloc, verifier)?;
-    match log.append_all(strings) {
+    match log.append_all(inputs) {
         Ok(()) => lawful_answer(alloc, &log),
-        Err(error) => match strings.get(error.index) {
-            Some(string) => refused_answer(alloc, &log, string.as_slice(), &error),
+        Err(error) => match inputs.get(error.index) {
+            Some(input) => refused_answer(alloc, &log, input.as_slice(), &error),
             None => Err(AllocError),
         },
     }
@@ -208,18 +208,18 @@ pub fn show_answer<L: ToolLog, V: Verifier>(
     alloc: Global,
     verifier: &V,
     input: Input<'_>,
-) -> Result<Answer, Stop>
+) -> Result<CommandOutput, CommandError>
     ensures { ForDisplay L.log L.Record.reading L.report (λ log.
         Answers (AreShownLines L.log L.Record.reading L.tool L.count_of L.record_rules log
         (V.belongs verifier.now) (record_lines input.entry.bytes.items)) result) }
 {
-    match file_strings(alloc, input.path, input.bytes) {
-        Ok(strings) => Ok(strings_answer::<L, Lent<'_, V>>(
+    match file_inputs(alloc, input.path, input.bytes) {
+        Ok(inputs) => Ok(inputs_answer::<L, Lent<'_, V>>(
             alloc,
             Lent(verifier),
-            strings.as_slice(),
+            inputs.as_slice(),
         )?),
-        Err(stop) => Err(stop),
+        Err(error) => Err(error),
     }
 }
 
@@ -229,7 +229,7 @@ pub fn show_of_file<L: ToolLog, V: Verifier, S: Store>(
     verifier: &V,
     path: &str,
     store: &mut S,
-) -> Result<Answer, Stop>
+) -> Result<CommandOutput, CommandError>
     ensures answered { ForDisplay L.log L.Record.reading L.report (λ log.
         Answers (IsOfLines (S.files store.old) path.now (AreShownLines L.log
         L.Record.reading L.tool L.count_of L.record_rules log (V.belongs verifier.now))) result) }
@@ -237,6 +237,6 @@ pub fn show_of_file<L: ToolLog, V: Verifier, S: Store>(
 {
     match read_input(alloc, store, path) {
         Ok(input) => show_answer::<L, V>(alloc, verifier, input),
-        Err(stop) => Err(stop),
+        Err(error) => Err(error),
     }
 }

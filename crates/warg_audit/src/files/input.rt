@@ -2,21 +2,21 @@
 
 ghost use Rattle.std.specs.Prelude.{◌≡◌, Option, Err, IfOk, IfErr, OnOk, ◌+◌, ◌-◌, ◌^◌, min, string_bytes};
 ghost use Rattle.warg_audit.specs.Files.Files.{Files, Lacks, Puts, Reads, ReadsLog};
-ghost use Rattle.warg_audit.specs.Files.Answers.{IfStopped, IsUnusable};
-ghost use Rattle.warg_audit.specs.Files.ReadFaults.{IsLogUnread, IsUnread, IsUnreadFor, unread_text};
+ghost use Rattle.warg_audit.specs.Files.Answers.{IfOutput, IsUnusable};
+ghost use Rattle.warg_audit.specs.Files.ReadErrors.{IsLogUnread, IsUnread, IsUnreadFor, unread_text};
 ghost use Rattle.warg_audit.specs.Files.Sentences.{line_sentence, sentence, shown_path};
-ghost use Rattle.warg_audit.specs.declared.files.change.WriteFault.TheVariants.{Unflushed, Unwritten};
-ghost use Rattle.warg_audit.specs.declared.files.input.ReadFault.TheVariants.{Missing};
+ghost use Rattle.warg_audit.specs.declared.files.change.WriteError.TheVariants.{Unflushed, Unwritten};
+ghost use Rattle.warg_audit.specs.declared.files.input.ReadError.TheVariants.{Missing};
 
-use crate::files::answer::Answer;
-use crate::files::change::{HoldFault, WriteCause, WriteFault};
-use crate::files::stop::{Stop, unusable};
+use crate::files::change::{HoldError, UnwrittenError, WriteError};
+use crate::files::command_error::{CommandError, unusable};
+use crate::files::command_output::CommandOutput;
 use std::alloc::{AllocError, Global};
 use warg_printable::printed_line;
 
 /// Why a file's bytes are not there.
 #[derive(Clone, Copy, Debug, PartialEq, Eq)]
-pub enum ReadFault {
+pub enum ReadError {
     /// There is no such file.
     Missing,
     /// It is a folder.
@@ -31,14 +31,14 @@ pub enum ReadFault {
     OutOfMemory,
 }
 
-impl ReadFault {
+impl ReadError {
     /// The status of an answer for want of the file: 2 where the file is at fault, 3 for trouble.
     pub fn status(self) -> u8
         ensures { result ≡ (unread_text self).status }
     {
         match self {
-            ReadFault::Missing | ReadFault::Folder | ReadFault::Closed | ReadFault::TooLong => 2,
-            ReadFault::Failed | ReadFault::OutOfMemory => 3,
+            ReadError::Missing | ReadError::Folder | ReadError::Closed | ReadError::TooLong => 2,
+            ReadError::Failed | ReadError::OutOfMemory => 3,
         }
     }
 
@@ -47,12 +47,12 @@ impl ReadFault {
         ensures { result.now ≡ (unread_text self).text }
     {
         match self {
-            ReadFault::Missing => "there is no such file",
-            ReadFault::Folder => "it is a folder",
-            ReadFault::Closed => "it can't be opened",
-            ReadFault::TooLong => "it has more than 16777216 bytes",
-            ReadFault::Failed => "a read failed",
-            ReadFault::OutOfMemory => "out of memory",
+            ReadError::Missing => "there is no such file",
+            ReadError::Folder => "it is a folder",
+            ReadError::Closed => "it can't be opened",
+            ReadError::TooLong => "it has more than 16777216 bytes",
+            ReadError::Failed => "a read failed",
+            ReadError::OutOfMemory => "out of memory",
         }
     }
 }
@@ -63,23 +63,23 @@ pub trait Store {
     ghost files: { Self → Option Files };
 
     /// The bytes of the file of this path; `-` is standard input.
-    fn read(&mut self, path: &str) -> Result<Vec<u8>, ReadFault>
+    fn read(&mut self, path: &str) -> Result<Vec<u8>, ReadError>
         ensures bytes { IfOk result (λ bytes. Reads (files self.old) path.now bytes.items) }
         ensures missing { IfErr result (λ fault. fault ≡ Missing →
             Lacks (files self.old) path.now) }
         ensures kept { files self.new ≡ files self.old };
 
     /// The bytes of the file of this path, or none where it is missing, which no one else that holds it changes from now on.
-    fn hold(&mut self, path: &str) -> Result<Vec<u8>, HoldFault>
+    fn hold(&mut self, path: &str) -> Result<Vec<u8>, HoldError>
         ensures bytes { IfOk result (λ bytes. ReadsLog (files self.old) path.now bytes.items) }
         ensures kept { files self.new ≡ files self.old };
 
     /// Puts these bytes in the place of the file of this path, which is held.
-    fn replace(&mut self, path: &str, bytes: &[u8]) -> Result<(), WriteFault>
+    fn replace(&mut self, path: &str, bytes: &[u8]) -> Result<(), WriteError>
         ensures written { OnOk result (Puts path.now bytes.now (files self.old) (files self.new)) }
         ensures unflushed { result ≡ Err Unflushed →
             Puts path.now bytes.now (files self.old) (files self.new) }
-        ensures kept { (cause : WriteCause) → result ≡ Err (Unwritten cause) →
+        ensures kept { (cause : UnwrittenError) → result ≡ Err (Unwritten cause) →
             files self.new ≡ files self.old };
 }
 
@@ -124,23 +124,23 @@ pub fn line_sentence(
     printed_line(alloc, said.as_str())
 }
 
-/// The end of a command for a file that does not hold what it should.
-pub fn file_stop(alloc: Global, path: &str, fault: &str) -> Stop
-    ensures { IfStopped IsUnusable result }
+/// The error of a command for a file that does not hold what it should.
+pub fn file_error(alloc: Global, path: &str, fault: &str) -> CommandError
+    ensures { IfOutput IsUnusable result }
 {
     unusable(alloc, sentence(alloc, path, fault))
 }
 
 // What is answered where the file of this path can't be read.
-fn unread(alloc: Global, path: &str, fault: ReadFault) -> Stop
-    ensures { IfStopped (IsUnreadFor fault) result }
+fn unread(alloc: Global, path: &str, fault: ReadError) -> CommandError
+    ensures { IfOutput (IsUnreadFor fault) result }
 {
-    if fault == ReadFault::OutOfMemory {
-        return Stop::OutOfMemory;
+    if fault == ReadError::OutOfMemory {
+        return CommandError::OutOfMemory;
     }
     match sentence(alloc, path, fault.text()) {
-        Ok(sentence) => Stop::Answer(Answer::fault(alloc, sentence, fault.status())),
-        Err(_) => Stop::OutOfMemory,
+        Ok(sentence) => CommandError::Output(CommandOutput::fault(alloc, sentence, fault.status())),
+        Err(_) => CommandError::OutOfMemory,
     }
 }
 
@@ -149,10 +149,10 @@ pub fn read_input<'a, S: Store>(
     alloc: Global,
     store: &mut S,
     path: &'a str,
-) -> Result<Input<'a>, Stop>
+) -> Result<Input<'a>, CommandError>
     ensures path { IfOk result (λ input. input.path.now ≡ path.now) }
     ensures bytes { IfOk result (λ input. Reads (S.files store.old) path.now input.bytes.items) }
-    ensures stopped { IfErr result (IfStopped (IsUnread (S.files store.old) path.now)) }
+    ensures err { IfErr result (IfOutput (IsUnread (S.files store.old) path.now)) }
     ensures kept { S.files store.new ≡ S.files store.old }
 {
     match store.read(path) {
@@ -166,16 +166,16 @@ pub fn read_log<'a, S: Store>(
     alloc: Global,
     store: &mut S,
     path: &'a str,
-) -> Result<Input<'a>, Stop>
+) -> Result<Input<'a>, CommandError>
     ensures path { IfOk result (λ input. input.path.now ≡ path.now) }
     ensures bytes { IfOk result (λ input.
         ReadsLog (S.files store.old) path.now input.bytes.items) }
-    ensures stopped { IfErr result (IfStopped IsLogUnread) }
+    ensures err { IfErr result (IfOutput IsLogUnread) }
     ensures kept { S.files store.new ≡ S.files store.old }
 {
     match store.read(path) {
         Ok(bytes) => Ok(Input { path, bytes }),
-        Err(ReadFault::Missing) => Ok(Input {
+        Err(ReadError::Missing) => Ok(Input {
             path,
             bytes: Vec::new(alloc),
         }),

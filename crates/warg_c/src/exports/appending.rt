@@ -1,42 +1,42 @@
 //! Appending, by what the caller says of a signature, or by what the library verifies itself.
 ghost use Rattle.std.specs.Prelude.{◌≡◌, ◌≢◌, ◌≤◌, ◌↔◌, [], ◌∷◌, None, IfOk, IfErr, IsSomeAnd, OnOk, OnErr, length, take, drop};
-ghost use Rattle.warg_replay.specs.Telling.{Holds, told_belongs};
+ghost use Rattle.warg_replay.specs.Telling.{Holds, verdict_belongs};
 ghost use Rattle.warg_p256.specs.Scheme.{p256_belongs};
 ghost use Rattle.warg_log_records.specs.Kinds.{SignatureRelation, AcceptsNoMore};
 ghost use Rattle.warg_c.specs.AppendAnswers.{ask_tells, asks_other, may_come, append_does, told_moves, signed_moves};
 ghost use Rattle.warg_c.specs.AppendAnswers.{is_never_read, is_never_lawful, is_unread, is_unlawful, OfAnswer};
-ghost use Rattle.warg_c.specs.AppendFailures.{ask_fails, append_refuses, append_fails, signed_fails};
-ghost use Rattle.warg_c.specs.Misuses.{misuse_text};
+ghost use Rattle.warg_c.specs.AppendErrors.{ask_errors, append_refuses, append_errors, signed_errors};
+ghost use Rattle.warg_c.specs.ArgumentErrors.{argument_error_text};
 ghost use Rattle.warg_c.specs.Questions.{HoldsOf, SaysNone};
 ghost use Rattle.warg_c.specs.Runs.{IsCall, ByCaller, ByLibrary, call_of};
 ghost use Rattle.warg_c.specs.Statuses.{WARG_OK, WARG_NOT_OPEN, WARG_OUT_OF_MEMORY, WARG_TOO_SMALL, WARG_NO_ENVELOPE};
 ghost use Rattle.warg_c.specs.Statuses.{WARG_REFUSED, WARG_BAD_ARGUMENT, WARG_UNKNOWN_ALGORITHM, IsOneOf, Unless};
 ghost use Rattle.warg_c.specs.Texts.{IsGiven, IsQuiet, IsWithin, NeedsRoom};
-ghost use Rattle.warg_c.specs.declared.failure.Failure.TheVariants.{BadArgument, NoEnvelope, Refused, TooSmall};
-ghost use Rattle.warg_c.specs.declared.misuse.Misuse.TheVariants.{BadQuestion};
+ghost use Rattle.warg_c.specs.declared.call_error.CallError.TheVariants.{BadArgument, NoEnvelope, Refused, TooSmall};
+ghost use Rattle.warg_c.specs.declared.argument_error.ArgumentError.TheVariants.{BadQuestion};
 
+use crate::any_log::AnyLog;
+use crate::argument_error::ArgumentError;
 use crate::asking::{append_log, append_signed_to, ask_log};
-use crate::failure::{Failure, status};
+use crate::call_error::{CallError, status};
 use crate::given::give_if_room;
 use crate::handle::WargLog;
-use crate::held::Held;
-use crate::misuse::Misuse;
+use crate::pending_check::answer_for;
 use crate::question::Asked;
-use crate::spelled::answer_for;
 use std::alloc::Global;
-use warg_replay::host::Told;
+use warg_replay::external::SignatureVerdict;
 
 fn ask_held(
     alloc: Global,
-    held: &mut Held,
+    held: &mut AnyLog,
     envelope: &[u8],
     bytes: &mut [u8],
     used: &mut usize,
     asked: &mut Asked,
-) -> Result<(), Failure>
+) -> Result<(), CallError>
     ensures asked { OnOk result (ask_tells held.old envelope.now asked.new
         (take used.new bytes.new)) }
-    ensures failed { IfErr result (ask_fails held.old envelope.now asked.new
+    ensures err { IfErr result (ask_errors held.old envelope.now asked.new
         bytes.old used.new bytes.new) }
     ensures buffer { IfErr result (λ f. f ≡ TooSmall → bytes.new ≡ bytes.old) }
     ensures behind { used.old ≡ 0 → drop used.new bytes.new ≡ drop used.new bytes.old }
@@ -47,8 +47,8 @@ fn ask_held(
         f ≢ Refused → used.new ≡ 0) }
 {
     match held {
-        Held::Package(log) => ask_log(alloc, log, envelope, bytes, used, asked),
-        Held::Operator(log) => ask_log(alloc, log, envelope, bytes, used, asked),
+        AnyLog::Package(log) => ask_log(alloc, log, envelope, bytes, used, asked),
+        AnyLog::Operator(log) => ask_log(alloc, log, envelope, bytes, used, asked),
     }
 }
 
@@ -90,7 +90,7 @@ pub extern "C" fn warg_ask(
 {
     *used = 0;
     let Some(mut held) = log.take(alloc) else {
-        return status(Err(Failure::NotOpen));
+        return status(Err(CallError::NotOpen));
     };
     let outcome = ask_held(alloc, &mut held, envelope, bytes, used, asked);
     log.put(held);
@@ -99,15 +99,15 @@ pub extern "C" fn warg_ask(
 
 fn append_held(
     alloc: Global,
-    held: &mut Held,
+    held: &mut AnyLog,
     envelope: &[u8],
-    answer: &Told,
+    answer: &SignatureVerdict,
     text: &mut [u8],
     used: &mut usize,
-) -> Result<(), Failure>
+) -> Result<(), CallError>
     ensures appended { OnOk result ((b : SignatureRelation) → Holds b answer.now →
         append_does b envelope.now held.old held.new) }
-    ensures failed { IfErr result (append_refuses held.old answer.now
+    ensures err { IfErr result (append_refuses held.old answer.now
         envelope.now used.new text.new) }
     ensures unchanged { OnErr result (held.new ≡ held.old) }
     ensures behind { used.old ≡ 0 → drop used.new text.new ≡ drop used.new text.old }
@@ -115,47 +115,53 @@ fn append_held(
     ensures quiet { used.old ≡ 0 → IsQuiet result used.new }
 {
     match held {
-        Held::Package(log) => append_log(alloc, log, envelope, answer, text, used),
-        Held::Operator(log) => append_log(alloc, log, envelope, answer, text, used),
+        AnyLog::Package(log) => append_log(alloc, log, envelope, answer, text, used),
+        AnyLog::Operator(log) => append_log(alloc, log, envelope, answer, text, used),
     }
 }
 
-// The caller's word for a question: its bytes, the lengths of its parts, and whether they belong together.
+// The caller's verdict on a question: its bytes, the lengths of its parts, and whether they belong together.
 #[derive(Clone, Copy)]
-struct Word<'a> {
+struct CallerVerdict<'a> {
     question: &'a [u8],
     asked: &'a Asked,
     belongs: bool,
 }
 
-// The record of the bytes, appended by the caller's word for a question.
+// The record of the bytes, appended by the caller's verdict on a question.
 fn append_told(
     alloc: Global,
-    held: &mut Held,
+    held: &mut AnyLog,
     envelope: &[u8],
-    word: &Word<'_>,
+    verdict: &CallerVerdict<'_>,
     text: &mut [u8],
     used: &mut usize,
-) -> Result<(), Failure>
+) -> Result<(), CallError>
     ensures appended { OnOk result ((b : SignatureRelation) →
-        HoldsOf b word.now.belongs word.now.asked.now word.now.question.now →
+        HoldsOf b verdict.now.belongs verdict.now.asked.now verdict.now.question.now →
         append_does b envelope.now held.old held.new) }
-    ensures failed { IfErr result (append_fails held.old word.now.belongs word.now.asked.now
-        word.now.question.now envelope.now used.new text.new) }
+    ensures err { IfErr result (append_errors held.old verdict.now.belongs verdict.now.asked.now
+        verdict.now.question.now envelope.now used.new text.new) }
     ensures unchanged { OnErr result (held.new ≡ held.old) }
     ensures behind { used.old ≡ 0 → drop used.new text.new ≡ drop used.new text.old }
     ensures within { used.old ≡ 0 → used.new ≤ length text.new }
     ensures quiet { used.old ≡ 0 → OnOk result (used.new ≡ 0) ×
         IfErr result (λ f. f ≢ NoEnvelope → f ≢ Refused → f ≢ BadArgument → used.new ≡ 0) }
 {
-    let kept = held.take_spelled();
-    match answer_for(alloc, kept, word.question, word.asked, word.belongs) {
+    let kept = held.take_pending();
+    match answer_for(
+        alloc,
+        kept,
+        verdict.question,
+        verdict.asked,
+        verdict.belongs,
+    ) {
         Ok(answer) => append_held(alloc, held, envelope, &answer, text, used),
-        Err(failure) => {
-            if failure == Failure::BadArgument {
-                give_if_room(Misuse::BadQuestion.text(), text, used);
+        Err(call_error) => {
+            if call_error == CallError::BadArgument {
+                give_if_room(ArgumentError::BadQuestion.text(), text, used);
             }
-            Err(failure)
+            Err(call_error)
         }
     }
 }
@@ -192,12 +198,12 @@ pub extern "C" fn warg_append(
     // Under the answer that the caller gave, as the only one.
     ensures no_envelope { result ≡ WARG_NO_ENVELOPE → IsSomeAnd log.old.owned.kept (λ held.
         OfAnswer belongs asked.now question.now (λ answer.
-        is_unread (told_belongs answer) held envelope.now used.new text.new)) }
+        is_unread (verdict_belongs answer) held envelope.now used.new text.new)) }
     ensures refused { result ≡ WARG_REFUSED → IsSomeAnd log.old.owned.kept (λ held.
         OfAnswer belongs asked.now question.now (λ answer.
-        is_unlawful (told_belongs answer) held envelope.now used.new text.new)) }
+        is_unlawful (verdict_belongs answer) held envelope.now used.new text.new)) }
     ensures bad_argument { result ≡ WARG_BAD_ARGUMENT → SaysNone asked.now question.now ×
-        IsGiven (misuse_text BadQuestion) used.new text.new }
+        IsGiven (argument_error_text BadQuestion) used.new text.new }
     ensures unchanged { result ≢ WARG_OK → log.new.owned.kept ≡ log.old.owned.kept }
     ensures used { Unless (WARG_NO_ENVELOPE ∷ WARG_REFUSED ∷ WARG_BAD_ARGUMENT ∷ []) result
         (used.new ≡ 0) }
@@ -210,14 +216,14 @@ pub extern "C" fn warg_append(
 {
     *used = 0;
     let Some(mut held) = log.take(alloc) else {
-        return status(Err(Failure::NotOpen));
+        return status(Err(CallError::NotOpen));
     };
-    let word = Word {
+    let verdict = CallerVerdict {
         question,
         asked,
         belongs,
     };
-    let outcome = append_told(alloc, &mut held, envelope, &word, text, used);
+    let outcome = append_told(alloc, &mut held, envelope, &verdict, text, used);
     log.put(held);
     status(outcome)
 }
@@ -225,23 +231,23 @@ pub extern "C" fn warg_append(
 // The record of the bytes, appended if its signature is verified.
 fn append_signed_held(
     alloc: Global,
-    held: &mut Held,
+    held: &mut AnyLog,
     envelope: &[u8],
     text: &mut [u8],
     used: &mut usize,
-) -> Result<(), Failure>
+) -> Result<(), CallError>
     ensures appended { OnOk result ((b : SignatureRelation) → AcceptsNoMore p256_belongs b →
         append_does b envelope.now held.old held.new) }
     ensures lawful { OnOk result (may_come p256_belongs envelope.now held.old) }
-    ensures failed { IfErr result (signed_fails held.old envelope.now used.new text.new) }
+    ensures err { IfErr result (signed_errors held.old envelope.now used.new text.new) }
     ensures unchanged { OnErr result (held.new ≡ held.old) }
     ensures behind { used.old ≡ 0 → drop used.new text.new ≡ drop used.new text.old }
     ensures within { used.old ≡ 0 → used.new ≤ length text.new }
     ensures quiet { used.old ≡ 0 → IsQuiet result used.new }
 {
     match held {
-        Held::Package(log) => append_signed_to(alloc, log, envelope, text, used),
-        Held::Operator(log) => append_signed_to(alloc, log, envelope, text, used),
+        AnyLog::Package(log) => append_signed_to(alloc, log, envelope, text, used),
+        AnyLog::Operator(log) => append_signed_to(alloc, log, envelope, text, used),
     }
 }
 
@@ -288,7 +294,7 @@ pub extern "C" fn warg_append_signed(
 {
     *used = 0;
     let Some(mut held) = log.take(alloc) else {
-        return status(Err(Failure::NotOpen));
+        return status(Err(CallError::NotOpen));
     };
     let outcome = append_signed_held(alloc, &mut held, envelope, text, used);
     log.put(held);

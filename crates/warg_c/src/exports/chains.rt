@@ -7,14 +7,14 @@ ghost use Rattle.warg_c.specs.Keys.{IsNoPermission};
 ghost use Rattle.warg_c.specs.Logs.{whole_of};
 ghost use Rattle.warg_c.specs.Statuses.{WARG_OK, WARG_NOT_OPEN, WARG_OUT_OF_MEMORY, WARG_TOO_SMALL, WARG_NONE};
 ghost use Rattle.warg_c.specs.Statuses.{WARG_BAD_ARGUMENT, IsOneOf, Unless};
-ghost use Rattle.warg_c.specs.Texts.{FailsAs, NeedsRoom};
+ghost use Rattle.warg_c.specs.Texts.{ErrorsAs, NeedsRoom};
 
+use crate::any_log::AnyLog;
 use crate::argument::{key_id_of, permission_of};
-use crate::failure::{Failure, status};
+use crate::call_error::{CallError, status};
 use crate::given::finish;
 use crate::handle::WargLog;
-use crate::held::Held;
-use crate::kept_log::KeptLog;
+use crate::log_or_state::LogOrState;
 use std::alloc::{AllocError, Global};
 use warg_permissions::LogPermission;
 use warg_replay::Validator;
@@ -47,16 +47,16 @@ fn shown_all(alloc: Global, found: &[LogLink]) -> Result<Vec<Link>, AllocError>
 // The chain of a key's permission.
 fn chain_of_log<L: Validator>(
     alloc: Global,
-    log: &KeptLog<L>,
+    log: &LogOrState<L>,
     key_id: &[u8],
     permission: &[u8],
-) -> Result<Vec<Link>, Failure>
+) -> Result<Vec<Link>, CallError>
 where
     L::Permission: LogPermission,
     ensures ok { IfOk result (λ v. ChainIs L.effects L.Permission.permission_named
         (whole_of log.now)
         key_id.now permission.now v.items) }
-    ensures err { IfErr result (FailsAs
+    ensures err { IfErr result (ErrorsAs
         (IsSome (whole_of log.now) × IsSome (L.Permission.permission_named permission.now))
         (NoChain L.effects L.Permission.permission_named (whole_of log.now) key_id.now
         permission.now)
@@ -64,35 +64,35 @@ where
         permission.now)) }
 {
     let Some(log) = log.whole() else {
-        return Err(Failure::BadArgument);
+        return Err(CallError::BadArgument);
     };
     let permission = permission_of::<L::Permission>(permission)?;
     let key_id = key_id_of(alloc, key_id)?;
     let found = match log.permission_chain(&key_id, permission) {
         Ok(Some(found)) => found,
-        Ok(None) => return Err(Failure::Absent),
-        Err(_) => return Err(Failure::OutOfMemory),
+        Ok(None) => return Err(CallError::Absent),
+        Err(_) => return Err(CallError::OutOfMemory),
     };
     match shown_all(alloc, found.as_slice()) {
         Ok(links) => Ok(links),
-        Err(_) => Err(Failure::OutOfMemory),
+        Err(_) => Err(CallError::OutOfMemory),
     }
 }
 
 fn chain_of(
     alloc: Global,
-    held: &Held,
+    held: &AnyLog,
     key_id: &[u8],
     permission: &[u8],
-) -> Result<Vec<Link>, Failure>
+) -> Result<Vec<Link>, CallError>
     ensures ok { IfOk result (λ v. chain_tells held.now key_id.now permission.now v.items) }
-    ensures err { IfErr result (FailsAs (chain_takes held.now permission.now)
+    ensures err { IfErr result (ErrorsAs (chain_takes held.now permission.now)
         (chain_lacks held.now key_id.now permission.now)
         (chain_bad held.now key_id.now permission.now)) }
 {
     match held {
-        Held::Package(log) => chain_of_log(alloc, log, key_id, permission),
-        Held::Operator(log) => chain_of_log(alloc, log, key_id, permission),
+        AnyLog::Package(log) => chain_of_log(alloc, log, key_id, permission),
+        AnyLog::Operator(log) => chain_of_log(alloc, log, key_id, permission),
     }
 }
 
@@ -130,7 +130,7 @@ pub extern "C" fn warg_chain(
 {
     *used = 0;
     let Some(held) = log.take(alloc) else {
-        return status(Err(Failure::NotOpen));
+        return status(Err(CallError::NotOpen));
     };
     let outcome = chain_of(alloc, &held, key_id, permission);
     log.put(held);

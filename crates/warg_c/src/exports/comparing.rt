@@ -3,13 +3,13 @@ ghost use Rattle.std.specs.Prelude.{◌≡◌, ◌≢◌, ◌⊎◌, ◌↔◌, 
 ghost use Rattle.warg_c.specs.ComparisonAnswers.{AreBoth, ComparisonIs, compare_tells, compare_bad, shown_of};
 ghost use Rattle.warg_c.specs.Logs.{whole_of};
 ghost use Rattle.warg_c.specs.Statuses.{WARG_OK, WARG_NOT_OPEN, WARG_BAD_ARGUMENT, IsOneOf};
-ghost use Rattle.warg_c.specs.Texts.{FailsAs};
+ghost use Rattle.warg_c.specs.Texts.{ErrorsAs};
 
-use crate::failure::{Failure, status};
+use crate::any_log::AnyLog;
+use crate::call_error::{CallError, status};
 use crate::given::finish_value;
 use crate::handle::WargLog;
-use crate::held::Held;
-use crate::kept_log::KeptLog;
+use crate::log_or_state::LogOrState;
 use std::alloc::Global;
 use warg_replay::Validator;
 use warg_replay::audited_log::Comparison as LogComparison;
@@ -44,33 +44,41 @@ fn shown(comparison: LogComparison) -> Comparison
     Comparison { is, left, right }
 }
 
-fn compare_logs<L: Validator>(left: &KeptLog<L>, right: &KeptLog<L>) -> Result<Comparison, Failure>
+fn compare_logs<L: Validator>(
+    left: &LogOrState<L>,
+    right: &LogOrState<L>,
+) -> Result<Comparison, CallError>
     ensures ok { IfOk result (ComparisonIs L.kind L.view (whole_of left.now) (whole_of right.now)) }
-    ensures err { IfErr result (FailsAs ⊥ ⊥ ((whole_of left.now ≡ None) ⊎
+    ensures err { IfErr result (ErrorsAs ⊥ ⊥ ((whole_of left.now ≡ None) ⊎
         (whole_of right.now ≡ None))) }
 {
     let Some(left) = left.whole() else {
-        return Err(Failure::BadArgument);
+        return Err(CallError::BadArgument);
     };
     let Some(right) = right.whole() else {
-        return Err(Failure::BadArgument);
+        return Err(CallError::BadArgument);
     };
     Ok(shown(left.compare(right)))
 }
 
-fn compare_held(left: &Held, right: &Held) -> Result<Comparison, Failure>
+fn compare_held(left: &AnyLog, right: &AnyLog) -> Result<Comparison, CallError>
     ensures ok { IfOk result (compare_tells left.now right.now) }
-    ensures err { IfErr result (FailsAs ⊥ ⊥ (compare_bad left.now right.now)) }
+    ensures err { IfErr result (ErrorsAs ⊥ ⊥ (compare_bad left.now right.now)) }
 {
     match (left, right) {
-        (Held::Package(left), Held::Package(right)) => compare_logs(left, right),
-        (Held::Operator(left), Held::Operator(right)) => compare_logs(left, right),
-        _ => Err(Failure::BadArgument),
+        (AnyLog::Package(left), AnyLog::Package(right)) => compare_logs(left, right),
+        (AnyLog::Operator(left), AnyLog::Operator(right)) => compare_logs(left, right),
+        _ => Err(CallError::BadArgument),
     }
 }
 
 // Compares a log that is open with a handle's.
-fn compare_with(alloc: Global, left: &Held, right: &mut WargLog, comparison: &mut Comparison) -> u32
+fn compare_with(
+    alloc: Global,
+    left: &AnyLog,
+    right: &mut WargLog,
+    comparison: &mut Comparison,
+) -> u32
     ensures statuses { IsOneOf (WARG_OK ∷ WARG_NOT_OPEN ∷ WARG_BAD_ARGUMENT ∷ []) result }
     ensures not_open { (result ≡ WARG_NOT_OPEN) ↔ (right.old.owned.kept ≡ None) }
     ensures ok { result ≡ WARG_OK → IsSomeAnd right.old.owned.kept (λ held.
@@ -81,7 +89,7 @@ fn compare_with(alloc: Global, left: &Held, right: &mut WargLog, comparison: &mu
     ensures unchanged { right.new.owned.kept ≡ right.old.owned.kept }
 {
     let Some(held) = right.take(alloc) else {
-        return status(Err(Failure::NotOpen));
+        return status(Err(CallError::NotOpen));
     };
     let outcome = compare_held(left, &held);
     right.put(held);
@@ -109,7 +117,7 @@ pub extern "C" fn warg_compare(
         (right.new.owned.kept ≡ right.old.owned.kept) }
 {
     let Some(held) = left.take(alloc) else {
-        return status(Err(Failure::NotOpen));
+        return status(Err(CallError::NotOpen));
     };
     let answer = compare_with(alloc, &held, right, comparison);
     left.put(held);

@@ -1,20 +1,20 @@
 //! The id of an envelope's record.
 ghost use Rattle.std.specs.Prelude.{◌≡◌, ◌≢◌, ◌≤◌, ◌⊎◌, [], ◌∷◌, Ok, Some, IfErr, IsOk, OnOk, length, take, drop};
-ghost use Rattle.warg_c.specs.Held.{IsNoKind, kind_numbered};
-ghost use Rattle.warg_c.specs.Ids.{IsIdIn, IdFailsIn, id_tells, id_fails, is_no_envelope};
-ghost use Rattle.warg_c.specs.Misuses.{misuse_text};
+ghost use Rattle.warg_c.specs.AnyLogs.{IsNoKind, kind_numbered};
+ghost use Rattle.warg_c.specs.Ids.{IsIdIn, IdErrorsIn, id_tells, id_errors, is_no_envelope};
+ghost use Rattle.warg_c.specs.ArgumentErrors.{argument_error_text};
 ghost use Rattle.warg_c.specs.Statuses.{WARG_OK, WARG_OUT_OF_MEMORY, WARG_TOO_SMALL, WARG_NO_ENVELOPE, WARG_REFUSED};
 ghost use Rattle.warg_c.specs.Statuses.{WARG_BAD_ARGUMENT, IsOneOf, Unless};
 ghost use Rattle.warg_c.specs.Texts.{IsGiven, IsWithin, NeedsRoom, SaysCause};
-ghost use Rattle.warg_c.specs.declared.failure.Failure.TheVariants.{BadArgument, NoEnvelope, Refused, TooSmall};
-ghost use Rattle.warg_c.specs.declared.misuse.Misuse.TheVariants.{NoKind};
+ghost use Rattle.warg_c.specs.declared.call_error.CallError.TheVariants.{BadArgument, NoEnvelope, Refused, TooSmall};
+ghost use Rattle.warg_c.specs.declared.argument_error.ArgumentError.TheVariants.{NoKind};
 
+use crate::any_log::LogKind;
+use crate::argument_error::ArgumentError;
+use crate::call_error::{CallError, status};
+use crate::error_text::refuse;
 use crate::exports::records::id_text;
-use crate::failure::{Failure, status};
 use crate::given::{give, give_if_room};
-use crate::held::Kind;
-use crate::misuse::Misuse;
-use crate::refusal::refuse;
 use std::alloc::Global;
 use std::fmt;
 use warg_envelope::ProtoEnvelope;
@@ -28,12 +28,12 @@ fn id_in<L: Validator>(
     envelope: &[u8],
     text: &mut [u8],
     used: &mut usize,
-) -> Result<(), Failure>
+) -> Result<(), CallError>
 where
     L::Error: Named + fmt::Display,
     ensures ok { OnOk result (IsIdIn L.log L.Record.reading envelope.now
         (take used.new text.new)) }
-    ensures err { IfErr result (IdFailsIn L.log L.Record.reading
+    ensures err { IfErr result (IdErrorsIn L.log L.Record.reading
         (SaysCause L.Error.name_of L.Error.output) envelope.now text.old used.new text.new) }
     ensures buffer { IfErr result (λ f. f ≡ TooSmall → text.new ≡ text.old) }
     ensures behind { used.old ≡ 0 → drop used.new text.new ≡ drop used.new text.old }
@@ -58,21 +58,21 @@ fn id_of(
     envelope: &[u8],
     text: &mut [u8],
     used: &mut usize,
-) -> Result<(), Failure>
+) -> Result<(), CallError>
     ensures ok { OnOk result (id_tells kind envelope.now (take used.new text.new)) }
-    ensures err { IfErr result (id_fails kind envelope.now text.old used.new text.new) }
+    ensures err { IfErr result (id_errors kind envelope.now text.old used.new text.new) }
     ensures buffer { IfErr result (λ f. f ≡ TooSmall → text.new ≡ text.old) }
     ensures behind { used.old ≡ 0 → drop used.new text.new ≡ drop used.new text.old }
     ensures within { used.old ≡ 0 → IsWithin result used.new text.new }
     ensures quiet { used.old ≡ 0 → IfErr result (λ f. f ≢ TooSmall → f ≢ NoEnvelope →
         f ≢ Refused → f ≢ BadArgument → used.new ≡ 0) }
 {
-    match Kind::numbered(kind) {
-        Ok(Kind::Package) => id_in::<PackageState>(alloc, envelope, text, used),
-        Ok(Kind::Operator) => id_in::<OperatorState>(alloc, envelope, text, used),
-        Err(failure) => {
-            give_if_room(Misuse::NoKind.text(), text, used);
-            Err(failure)
+    match LogKind::numbered(kind) {
+        Ok(LogKind::Package) => id_in::<PackageState>(alloc, envelope, text, used),
+        Ok(LogKind::Operator) => id_in::<OperatorState>(alloc, envelope, text, used),
+        Err(call_error) => {
+            give_if_room(ArgumentError::NoKind.text(), text, used);
+            Err(call_error)
         }
     }
 }
@@ -97,7 +97,7 @@ pub extern "C" fn warg_id(
     ensures no_envelope { result ≡ WARG_NO_ENVELOPE →
         is_no_envelope kind envelope.now used.new text.new }
     ensures bad_argument { result ≡ WARG_BAD_ARGUMENT →
-        IsNoKind kind × IsGiven (misuse_text NoKind) used.new text.new }
+        IsNoKind kind × IsGiven (argument_error_text NoKind) used.new text.new }
     ensures buffer { result ≡ WARG_TOO_SMALL → text.new ≡ text.old }
     ensures used { Unless (WARG_OK ∷ WARG_TOO_SMALL ∷ WARG_NO_ENVELOPE ∷ WARG_REFUSED ∷
         WARG_BAD_ARGUMENT ∷ []) result (used.new ≡ 0) }

@@ -12,17 +12,17 @@ ghost use Rattle.warg_package_log.specs.State as packages;
 ghost use Rattle.warg_c.specs.Logs.{state_of};
 ghost use Rattle.warg_c.specs.Statuses.{WARG_OK, WARG_NOT_OPEN, WARG_OUT_OF_MEMORY, WARG_TOO_SMALL, WARG_NONE};
 ghost use Rattle.warg_c.specs.Statuses.{WARG_BAD_ARGUMENT, IsOneOf, Unless};
-ghost use Rattle.warg_c.specs.Misuses.{misuse_text};
-ghost use Rattle.warg_c.specs.Texts.{Always, FailsAs, IsGiven, NeedsRoom};
-ghost use Rattle.warg_c.specs.declared.misuse.Misuse.TheVariants.{NotUtf8};
+ghost use Rattle.warg_c.specs.ArgumentErrors.{argument_error_text};
+ghost use Rattle.warg_c.specs.Texts.{Always, ErrorsAs, IsGiven, NeedsRoom};
+ghost use Rattle.warg_c.specs.declared.argument_error.ArgumentError.TheVariants.{NotUtf8};
 
+use crate::any_log::AnyLog;
 use crate::argument::{key_id_of, permission_of};
-use crate::failure::{Failure, status};
+use crate::argument_error::ArgumentError;
+use crate::call_error::{CallError, status};
 use crate::given::finish_text;
 use crate::handle::WargLog;
-use crate::held::Held;
-use crate::kept_log::KeptLog;
-use crate::misuse::Misuse;
+use crate::log_or_state::LogOrState;
 use std::alloc::{AllocError, Global};
 use warg_crypto::signing::{KeyID, PublicKey};
 use warg_operator_log::LogState as OperatorState;
@@ -32,16 +32,16 @@ use warg_replay::Validator;
 
 fn log_holds<L: Validator>(
     alloc: Global,
-    log: &KeptLog<L>,
+    log: &LogOrState<L>,
     key_id: &[u8],
     permission: &[u8],
-) -> Result<(), Failure>
+) -> Result<(), CallError>
 where
     L::Permission: LogPermission,
     ensures ok { OnOk result (HoldsIs L.Permission.permission_named
         (L.holds (L.view (state_of log.now)))
         key_id.now permission.now true) }
-    ensures err { IfErr result (FailsAs (IsSome (L.Permission.permission_named permission.now))
+    ensures err { IfErr result (ErrorsAs (IsSome (L.Permission.permission_named permission.now))
         (HoldsIs L.Permission.permission_named (L.holds (L.view (state_of log.now)))
         key_id.now permission.now false)
         (IsNoPermission L.Permission.permission_named key_id.now permission.now)) }
@@ -51,19 +51,19 @@ where
     if log.state().holds(&key_id, permission) {
         Ok(())
     } else {
-        Err(Failure::Absent)
+        Err(CallError::Absent)
     }
 }
 
-fn holds(alloc: Global, held: &Held, key_id: &[u8], permission: &[u8]) -> Result<(), Failure>
+fn holds(alloc: Global, held: &AnyLog, key_id: &[u8], permission: &[u8]) -> Result<(), CallError>
     ensures ok { OnOk result (holds_tells held.now key_id.now permission.now true) }
-    ensures err { IfErr result (FailsAs (is_permission held.now permission.now)
+    ensures err { IfErr result (ErrorsAs (is_permission held.now permission.now)
         (holds_tells held.now key_id.now permission.now false)
         (holds_bad held.now key_id.now permission.now)) }
 {
     match held {
-        Held::Package(log) => log_holds(alloc, log, key_id, permission),
-        Held::Operator(log) => log_holds(alloc, log, key_id, permission),
+        AnyLog::Package(log) => log_holds(alloc, log, key_id, permission),
+        AnyLog::Operator(log) => log_holds(alloc, log, key_id, permission),
     }
 }
 
@@ -90,7 +90,7 @@ pub extern "C" fn warg_holds(
     ensures unchanged { log.new.owned.kept ≡ log.old.owned.kept }
 {
     let Some(held) = log.take(alloc) else {
-        return status(Err(Failure::NotOpen));
+        return status(Err(CallError::NotOpen));
     };
     let outcome = holds(alloc, &held, key_id, permission);
     log.put(held);
@@ -131,17 +131,17 @@ fn package_permissions(
     alloc: Global,
     state: &PackageState,
     key_id: &KeyID,
-) -> Result<Vec<u8>, Failure>
+) -> Result<Vec<u8>, CallError>
     ensures ok { IfOk result (λ v. PackageText (packages.view_of state.now) key_id.now v.items) }
-    ensures err { IfErr result (FailsAs Always
+    ensures err { IfErr result (ErrorsAs Always
         ((packages.view_of state.now).state.authority.has_entry key_id.now ≡ false) ⊥) }
 {
     let Some(_set) = state.key_permissions(key_id) else {
-        return Err(Failure::Absent);
+        return Err(CallError::Absent);
     };
     match held_names(alloc, state, key_id) {
         Ok(text) => Ok(text),
-        Err(_) => Err(Failure::OutOfMemory),
+        Err(_) => Err(CallError::OutOfMemory),
     }
 }
 
@@ -150,29 +150,29 @@ fn operator_permissions(
     alloc: Global,
     state: &OperatorState,
     key_id: &KeyID,
-) -> Result<Vec<u8>, Failure>
+) -> Result<Vec<u8>, CallError>
     ensures ok { IfOk result (λ v. OperatorText (operators.view_of state.now) key_id.now v.items) }
-    ensures err { IfErr result (FailsAs Always
+    ensures err { IfErr result (ErrorsAs Always
         ((operators.view_of state.now).state.authority.has_entry key_id.now ≡ false) ⊥) }
 {
     let Some(_set) = state.key_permissions(key_id) else {
-        return Err(Failure::Absent);
+        return Err(CallError::Absent);
     };
     match held_names(alloc, state, key_id) {
         Ok(text) => Ok(text),
-        Err(_) => Err(Failure::OutOfMemory),
+        Err(_) => Err(CallError::OutOfMemory),
     }
 }
 
-fn permissions_of(alloc: Global, held: &Held, key_id: &[u8]) -> Result<Vec<u8>, Failure>
+fn permissions_of(alloc: Global, held: &AnyLog, key_id: &[u8]) -> Result<Vec<u8>, CallError>
     ensures ok { IfOk result (λ v. permissions_tell held.now key_id.now v.items) }
-    ensures err { IfErr result (FailsAs Always (permissions_lack held.now key_id.now)
+    ensures err { IfErr result (ErrorsAs Always (permissions_lack held.now key_id.now)
         (IsUtf8 key_id.now → ⊥)) }
 {
     let key_id = key_id_of(alloc, key_id)?;
     match held {
-        Held::Package(log) => package_permissions(alloc, log.state(), &key_id),
-        Held::Operator(log) => operator_permissions(alloc, log.state(), &key_id),
+        AnyLog::Package(log) => package_permissions(alloc, log.state(), &key_id),
+        AnyLog::Operator(log) => operator_permissions(alloc, log.state(), &key_id),
     }
 }
 
@@ -197,7 +197,7 @@ pub extern "C" fn warg_permissions(
     ensures none { result ≡ WARG_NONE → IsSomeAnd log.old.owned.kept (λ held.
         permissions_lack held key_id.now) }
     ensures bad_argument { result ≡ WARG_BAD_ARGUMENT →
-        (IsUtf8 key_id.now → ⊥) × IsGiven (misuse_text NotUtf8) used.new text.new }
+        (IsUtf8 key_id.now → ⊥) × IsGiven (argument_error_text NotUtf8) used.new text.new }
     ensures unchanged { log.new.owned.kept ≡ log.old.owned.kept }
     ensures buffer { Unless (WARG_OK ∷ WARG_BAD_ARGUMENT ∷ []) result (text.new ≡ text.old) }
     ensures used { Unless (WARG_OK ∷ WARG_TOO_SMALL ∷ WARG_BAD_ARGUMENT ∷ []) result
@@ -207,35 +207,35 @@ pub extern "C" fn warg_permissions(
 {
     *used = 0;
     let Some(held) = log.take(alloc) else {
-        return status(Err(Failure::NotOpen));
+        return status(Err(CallError::NotOpen));
     };
     let outcome = permissions_of(alloc, &held, key_id);
     log.put(held);
-    finish_text(outcome, Misuse::NotUtf8, text, used)
+    finish_text(outcome, ArgumentError::NotUtf8, text, used)
 }
 
 // The key of an id.
-fn key_of<'a>(held: &'a Held, key_id: &KeyID) -> Option<&'a PublicKey>
+fn key_of<'a>(held: &'a AnyLog, key_id: &KeyID) -> Option<&'a PublicKey>
     ensures { option_copied result ≡ key_of held.now key_id.now }
 {
     match held {
-        Held::Package(log) => log.state().public_key(key_id),
-        Held::Operator(log) => log.state().public_key(key_id),
+        AnyLog::Package(log) => log.state().public_key(key_id),
+        AnyLog::Operator(log) => log.state().public_key(key_id),
     }
 }
 
-fn key_text(alloc: Global, held: &Held, key_id: &[u8]) -> Result<Vec<u8>, Failure>
+fn key_text(alloc: Global, held: &AnyLog, key_id: &[u8]) -> Result<Vec<u8>, CallError>
     ensures ok { IfOk result (λ v. KeyText (key_of held.now key_id.now) v.items) }
-    ensures err { IfErr result (FailsAs Always (key_of held.now key_id.now ≡ None)
+    ensures err { IfErr result (ErrorsAs Always (key_of held.now key_id.now ≡ None)
         (IsUtf8 key_id.now → ⊥)) }
 {
     let key_id = key_id_of(alloc, key_id)?;
     let Some(key) = key_of(held, &key_id) else {
-        return Err(Failure::Absent);
+        return Err(CallError::Absent);
     };
     match key.to_text(alloc) {
         Ok(text) => Ok(text.into_bytes()),
-        Err(_) => Err(Failure::OutOfMemory),
+        Err(_) => Err(CallError::OutOfMemory),
     }
 }
 
@@ -260,7 +260,7 @@ pub extern "C" fn warg_key(
     ensures none { result ≡ WARG_NONE → IsSomeAnd log.old.owned.kept (λ held.
         key_of held key_id.now ≡ None) }
     ensures bad_argument { result ≡ WARG_BAD_ARGUMENT →
-        (IsUtf8 key_id.now → ⊥) × IsGiven (misuse_text NotUtf8) used.new text.new }
+        (IsUtf8 key_id.now → ⊥) × IsGiven (argument_error_text NotUtf8) used.new text.new }
     ensures unchanged { log.new.owned.kept ≡ log.old.owned.kept }
     ensures buffer { Unless (WARG_OK ∷ WARG_BAD_ARGUMENT ∷ []) result (text.new ≡ text.old) }
     ensures used { Unless (WARG_OK ∷ WARG_TOO_SMALL ∷ WARG_BAD_ARGUMENT ∷ []) result
@@ -270,9 +270,9 @@ pub extern "C" fn warg_key(
 {
     *used = 0;
     let Some(held) = log.take(alloc) else {
-        return status(Err(Failure::NotOpen));
+        return status(Err(CallError::NotOpen));
     };
     let outcome = key_text(alloc, &held, key_id);
     log.put(held);
-    finish_text(outcome, Misuse::NotUtf8, text, used)
+    finish_text(outcome, ArgumentError::NotUtf8, text, used)
 }

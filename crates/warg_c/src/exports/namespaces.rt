@@ -5,19 +5,19 @@ ghost use Rattle.std.specs.Option.{option_copied, option_map};
 ghost use Rattle.std.specs.Str.{IsUtf8};
 ghost use Rattle.warg_operator_log.specs.NamespaceMap.{namespace_view};
 ghost use Rattle.warg_operator_log.specs.State.{view_of};
-ghost use Rattle.warg_c.specs.Misuses.{misuse_text, operator_misuse};
+ghost use Rattle.warg_c.specs.ArgumentErrors.{argument_error_text, operator_argument_error};
 ghost use Rattle.warg_c.specs.NamespaceAnswers.{NamespaceIs, namespace_takes, namespace_tells};
 ghost use Rattle.warg_c.specs.NamespaceAnswers.{namespace_lacks, namespace_bad};
 ghost use Rattle.warg_c.specs.Statuses.{WARG_OK, WARG_NOT_OPEN, WARG_OUT_OF_MEMORY, WARG_TOO_SMALL, WARG_NONE};
 ghost use Rattle.warg_c.specs.Statuses.{WARG_BAD_ARGUMENT, IsOneOf, Unless};
-ghost use Rattle.warg_c.specs.Texts.{FailsAs, IsGiven, NeedsRoom};
-ghost use Rattle.warg_c.specs.declared.misuse.Misuse.TheVariants.{NotUtf8};
+ghost use Rattle.warg_c.specs.Texts.{ErrorsAs, IsGiven, NeedsRoom};
+ghost use Rattle.warg_c.specs.declared.argument_error.ArgumentError.TheVariants.{NotUtf8};
 
-use crate::failure::{Failure, status};
+use crate::any_log::AnyLog;
+use crate::argument_error::ArgumentError;
+use crate::call_error::{CallError, status};
 use crate::given::finish_with;
 use crate::handle::WargLog;
-use crate::held::Held;
-use crate::misuse::Misuse;
 use std::alloc::{AllocError, Global};
 use warg_operator_log::{LogState, NamespaceState};
 
@@ -34,35 +34,35 @@ fn spell_namespace(alloc: Global, state: &NamespaceState) -> Result<(Vec<u8>, u3
     }
 }
 
-fn namespace_in(alloc: Global, state: &LogState, name: &[u8]) -> Result<(Vec<u8>, u32), Failure>
+fn namespace_in(alloc: Global, state: &LogState, name: &[u8]) -> Result<(Vec<u8>, u32), CallError>
     ensures ok { IfOk result (λ p. NamespaceIs ((view_of state.now).state.own_state name.now) p.1
         p.0.items) }
-    ensures err { IfErr result (FailsAs
+    ensures err { IfErr result (ErrorsAs
         (IsSome ((view_of state.now).state.own_state name.now))
         ((view_of state.now).state.own_state name.now ≡ None)
         (IsUtf8 name.now → ⊥)) }
 {
     let Ok(name) = str::from_utf8(name) else {
-        return Err(Failure::BadArgument);
+        return Err(CallError::BadArgument);
     };
     let Some(found) = state.namespace_state(name) else {
-        return Err(Failure::Absent);
+        return Err(CallError::Absent);
     };
     match spell_namespace(alloc, found) {
         Ok(spelled) => Ok(spelled),
-        Err(_) => Err(Failure::OutOfMemory),
+        Err(_) => Err(CallError::OutOfMemory),
     }
 }
 
-fn namespace_of(alloc: Global, held: &Held, name: &[u8]) -> Result<(Vec<u8>, u32), Failure>
+fn namespace_of(alloc: Global, held: &AnyLog, name: &[u8]) -> Result<(Vec<u8>, u32), CallError>
     ensures ok { IfOk result (λ p. namespace_tells held.now name.now p.1 p.0.items) }
-    ensures err { IfErr result (FailsAs (namespace_takes held.now name.now)
+    ensures err { IfErr result (ErrorsAs (namespace_takes held.now name.now)
         (namespace_lacks held.now name.now)
         (namespace_bad held.now name.now)) }
 {
     match held {
-        Held::Package(_) => Err(Failure::BadArgument),
-        Held::Operator(log) => namespace_in(alloc, log.state(), name),
+        AnyLog::Package(_) => Err(CallError::BadArgument),
+        AnyLog::Operator(log) => namespace_in(alloc, log.state(), name),
     }
 }
 
@@ -92,7 +92,7 @@ pub extern "C" fn warg_namespace(
         namespace_lacks held name.now) }
     ensures bad_argument { result ≡ WARG_BAD_ARGUMENT → IsSomeAnd log.old.owned.kept (λ held.
         namespace_bad held name.now ×
-        IsGiven (misuse_text (operator_misuse held NotUtf8)) used.new text.new) }
+        IsGiven (argument_error_text (operator_argument_error held NotUtf8)) used.new text.new) }
     ensures unchanged { log.new.owned.kept ≡ log.old.owned.kept }
     ensures buffer { Unless (WARG_OK ∷ WARG_BAD_ARGUMENT ∷ []) result (text.new ≡ text.old) }
     ensures used { Unless (WARG_OK ∷ WARG_TOO_SMALL ∷ WARG_BAD_ARGUMENT ∷ []) result
@@ -104,10 +104,10 @@ pub extern "C" fn warg_namespace(
 {
     *used = 0;
     let Some(held) = log.take(alloc) else {
-        return status(Err(Failure::NotOpen));
+        return status(Err(CallError::NotOpen));
     };
     let outcome = namespace_of(alloc, &held, name);
-    let wrong = held.operator_misuse(Misuse::NotUtf8);
+    let wrong = held.operator_argument_error(ArgumentError::NotUtf8);
     log.put(held);
     finish_with(outcome, wrong, text, used, is_imported)
 }

@@ -1,26 +1,26 @@
 //! Opening and closing.
 ghost use Rattle.std.specs.Prelude.{◌≡◌, ◌≢◌, ◌⊎◌, [], ◌∷◌, None, Some, IfOk, IfErr, IsOk, IsSomeAnd};
-ghost use Rattle.warg_c.specs.Held.{IsNew, IsOfNumber, IsNoKind, kind_numbered};
+ghost use Rattle.warg_c.specs.AnyLogs.{IsNew, IsOfNumber, IsNoKind, kind_numbered};
 ghost use Rattle.warg_c.specs.Statuses.{WARG_OK, WARG_OUT_OF_MEMORY, WARG_BAD_ARGUMENT, IsOneOf};
-ghost use Rattle.warg_c.specs.Texts.{FailsAs};
+ghost use Rattle.warg_c.specs.Texts.{ErrorsAs};
 
-use crate::failure::{Failure, status};
+use crate::any_log::{AnyLog, LogKind};
+use crate::call_error::{CallError, status};
 use crate::handle::WargLog;
-use crate::held::{Held, Kind};
 use std::alloc::Global;
 
 // A log of no records, of the kind that the number names.
-fn opened(alloc: Global, kind: u32) -> Result<Box<Held>, Failure>
+fn opened(alloc: Global, kind: u32) -> Result<Box<AnyLog>, CallError>
     ensures ok { IfOk result (λ b. IsNew b.value × IsOfNumber kind b.value) }
-    ensures err { IfErr result (FailsAs (IsOk (kind_numbered kind)) ⊥ (IsNoKind kind)) }
+    ensures err { IfErr result (ErrorsAs (IsOk (kind_numbered kind)) ⊥ (IsNoKind kind)) }
 {
-    let kind = Kind::numbered(kind)?;
-    let Ok(held) = Held::new(alloc, kind) else {
-        return Err(Failure::OutOfMemory);
+    let kind = LogKind::numbered(kind)?;
+    let Ok(held) = AnyLog::new(alloc, kind) else {
+        return Err(CallError::OutOfMemory);
     };
     match held.boxed(alloc) {
         Ok(held) => Ok(held),
-        Err(_) => Err(Failure::OutOfMemory),
+        Err(_) => Err(CallError::OutOfMemory),
     }
 }
 
@@ -40,7 +40,7 @@ pub extern "C" fn warg_open(alloc: Global, log: &mut WargLog, kind: u32) -> u32
             log.put(held);
             status(Ok(()))
         }
-        Err(failure) => status(Err(failure)),
+        Err(call_error) => status(Err(call_error)),
     }
 }
 

@@ -1,49 +1,49 @@
 //! What is wrong with the text of a proof.
 ghost use Rattle.std.specs.Prelude.{◌≡◌, ◌≢◌, ◌≤◌, [], ◌∷◌, Err, IfOk, IfErr, IsOk, length, take, drop};
 ghost use Rattle.warg_transparency.specs.Texts.{log_proof_of, map_proof_of};
-ghost use Rattle.warg_c.specs.Misuses.{misuse_text};
+ghost use Rattle.warg_c.specs.ArgumentErrors.{argument_error_text};
 ghost use Rattle.warg_c.specs.ProofFaults.{FaultLacks, FaultTells, IsFaultOf, IsNoTree, proof_fault_name};
 ghost use Rattle.warg_c.specs.ProofFaults.{proof_on, tree_numbered};
 ghost use Rattle.warg_c.specs.Statuses.{WARG_OK, WARG_OUT_OF_MEMORY, WARG_TOO_SMALL, WARG_NONE, WARG_BAD_ARGUMENT};
 ghost use Rattle.warg_c.specs.Statuses.{IsOneOf, Unless};
-ghost use Rattle.warg_c.specs.Texts.{Always, FailsAs, IsGiven, NeedsRoom};
-ghost use Rattle.warg_c.specs.declared.misuse.Misuse.TheVariants.{NoTree};
+ghost use Rattle.warg_c.specs.Texts.{Always, ErrorsAs, IsGiven, NeedsRoom};
+ghost use Rattle.warg_c.specs.declared.argument_error.ArgumentError.TheVariants.{NoTree};
 
-use crate::failure::Failure;
+use crate::argument_error::ArgumentError;
+use crate::call_error::CallError;
 use crate::given::finish_text;
-use crate::misuse::Misuse;
 use crate::proof_text::Tree;
 use std::alloc::Global;
 use warg_transparency::{LogProof, MapProof, ProofTextError};
 
 // Why a text is no proof on a log.
-fn log_fault(alloc: Global, text: &str) -> Result<ProofTextError, Failure>
+fn log_fault(alloc: Global, text: &str) -> Result<ProofTextError, CallError>
     ensures ok { IfOk result (λ e. log_proof_of text.now ≡ Err e) }
-    ensures err { IfErr result (FailsAs Always (IsOk (log_proof_of text.now)) ⊥) }
+    ensures err { IfErr result (ErrorsAs Always (IsOk (log_proof_of text.now)) ⊥) }
 {
     match LogProof::parse(alloc, text) {
-        Ok(_) => Err(Failure::Absent),
-        Err(ProofTextError::OutOfMemory) => Err(Failure::OutOfMemory),
+        Ok(_) => Err(CallError::Absent),
+        Err(ProofTextError::OutOfMemory) => Err(CallError::OutOfMemory),
         Err(fault) => Ok(fault),
     }
 }
 
 // Why a text is no proof on a map.
-fn map_fault(alloc: Global, text: &str) -> Result<ProofTextError, Failure>
+fn map_fault(alloc: Global, text: &str) -> Result<ProofTextError, CallError>
     ensures ok { IfOk result (λ e. map_proof_of text.now ≡ Err e) }
-    ensures err { IfErr result (FailsAs Always (IsOk (map_proof_of text.now)) ⊥) }
+    ensures err { IfErr result (ErrorsAs Always (IsOk (map_proof_of text.now)) ⊥) }
 {
     match MapProof::parse(alloc, text) {
-        Ok(_) => Err(Failure::Absent),
-        Err(ProofTextError::OutOfMemory) => Err(Failure::OutOfMemory),
+        Ok(_) => Err(CallError::Absent),
+        Err(ProofTextError::OutOfMemory) => Err(CallError::OutOfMemory),
         Err(fault) => Ok(fault),
     }
 }
 
 // Why bytes are no text of a proof on the tree.
-fn fault_in(alloc: Global, tree: Tree, proof: &[u8]) -> Result<ProofTextError, Failure>
+fn fault_in(alloc: Global, tree: Tree, proof: &[u8]) -> Result<ProofTextError, CallError>
     ensures ok { IfOk result (IsFaultOf tree proof.now) }
-    ensures err { IfErr result (FailsAs Always (IsOk (proof_on tree proof.now)) ⊥) }
+    ensures err { IfErr result (ErrorsAs Always (IsOk (proof_on tree proof.now)) ⊥) }
 {
     let Ok(text) = str::from_utf8(proof) else {
         return Ok(ProofTextError::BadBase64);
@@ -66,9 +66,9 @@ fn fault_name(fault: ProofTextError) -> &'static str
     }
 }
 
-fn fault_text(alloc: Global, number: u32, proof: &[u8]) -> Result<Vec<u8>, Failure>
+fn fault_text(alloc: Global, number: u32, proof: &[u8]) -> Result<Vec<u8>, CallError>
     ensures ok { IfOk result (λ v. FaultTells number proof.now v.items) }
-    ensures err { IfErr result (FailsAs (IsOk (tree_numbered number)) (FaultLacks number proof.now)
+    ensures err { IfErr result (ErrorsAs (IsOk (tree_numbered number)) (FaultLacks number proof.now)
         (IsNoTree number)) }
 {
     let tree = Tree::numbered(number)?;
@@ -97,7 +97,7 @@ pub extern "C" fn warg_proof_fault(
         NeedsRoom (FaultTells tree proof.now) used.new text.old }
     ensures none { result ≡ WARG_NONE → FaultLacks tree proof.now }
     ensures bad_argument { result ≡ WARG_BAD_ARGUMENT →
-        IsNoTree tree × IsGiven (misuse_text NoTree) used.new text.new }
+        IsNoTree tree × IsGiven (argument_error_text NoTree) used.new text.new }
     ensures buffer { Unless (WARG_OK ∷ WARG_BAD_ARGUMENT ∷ []) result (text.new ≡ text.old) }
     ensures used { Unless (WARG_OK ∷ WARG_TOO_SMALL ∷ WARG_BAD_ARGUMENT ∷ []) result
         (used.new ≡ 0) }
@@ -105,5 +105,5 @@ pub extern "C" fn warg_proof_fault(
     ensures within { result ≢ WARG_TOO_SMALL → used.new ≤ length text.new }
 {
     let outcome = fault_text(alloc, tree, proof);
-    finish_text(outcome, Misuse::NoTree, text, used)
+    finish_text(outcome, ArgumentError::NoTree, text, used)
 }

@@ -11,10 +11,10 @@ ghost use Rattle.warg_c.specs.ProofAnswers.{AreHashes, AreTwoHashes, ShowsConsis
 ghost use Rattle.warg_c.specs.ProofAnswers.{IsConsistency, IsInclusion, IsNoAbsence, IsNoConsistency, IsNoInclusion};
 ghost use Rattle.warg_c.specs.ProofAnswers.{IsNoPresence, IsPresence, ShowsAbsence, ShowsNoConsistency};
 ghost use Rattle.warg_c.specs.ProofAnswers.{ShowsNoInclusion, ShowsNoAbsence, ShowsNoPresence, ShowsPresence};
-ghost use Rattle.warg_c.specs.ProofAnswers.{ProofFails};
+ghost use Rattle.warg_c.specs.ProofAnswers.{ProofErrors};
 ghost use Rattle.warg_c.specs.Statuses.{WARG_OK, WARG_OUT_OF_MEMORY, WARG_REFUSED, WARG_BAD_ARGUMENT, IsOneOf};
 
-use crate::failure::{Failure, status};
+use crate::call_error::{CallError, status};
 use crate::proof_text::{hash_in, leaf_in, log_proof_in, map_proof_in};
 use std::alloc::Global;
 use warg_registry::{Checkpoint, LogId, MapLeaf};
@@ -34,10 +34,10 @@ fn inclusion(
     place: Place,
     root: &[u8],
     proof: &[u8],
-) -> Result<(), Failure>
+) -> Result<(), CallError>
     ensures ok { OnOk result (IsInclusion log_id.now record_id.now root.now proof.now
         (ShowsInclusion place.index place.length)) }
-    ensures err { IfErr result (ProofFails
+    ensures err { IfErr result (ProofErrors
         (AreHashes log_id.now record_id.now root.now)
         (IsInclusion log_id.now record_id.now root.now proof.now
         (ShowsNoInclusion place.index place.length))
@@ -49,7 +49,7 @@ fn inclusion(
     if verify_inclusion(&leaf, place.index, place.length, proof.hashes(), &root) {
         Ok(())
     } else {
-        Err(Failure::Refused)
+        Err(CallError::Refused)
     }
 }
 
@@ -90,10 +90,10 @@ fn consistency(
     new_length: u64,
     new_root: &[u8],
     proof: &[u8],
-) -> Result<(), Failure>
+) -> Result<(), CallError>
     ensures ok { OnOk result (IsConsistency old_root.now new_root.now proof.now
         (ShowsConsistency old_length new_length)) }
-    ensures err { IfErr result (ProofFails (AreTwoHashes old_root.now new_root.now)
+    ensures err { IfErr result (ProofErrors (AreTwoHashes old_root.now new_root.now)
         (IsConsistency old_root.now new_root.now proof.now
         (ShowsNoConsistency old_length new_length))
         (IsNoConsistency old_root.now new_root.now proof.now)) }
@@ -115,7 +115,7 @@ fn consistency(
     if verify_consistency(&old, &new, proof.hashes()) {
         Ok(())
     } else {
-        Err(Failure::Refused)
+        Err(CallError::Refused)
     }
 }
 
@@ -151,10 +151,10 @@ fn presence(
     record_id: &[u8],
     root: &[u8],
     proof: &[u8],
-) -> Result<(), Failure>
+) -> Result<(), CallError>
     ensures ok { OnOk result (IsPresence log_id.now record_id.now root.now proof.now
         ShowsPresence) }
-    ensures err { IfErr result (ProofFails
+    ensures err { IfErr result (ProofErrors
         (AreHashes log_id.now record_id.now root.now)
         (IsPresence log_id.now record_id.now root.now proof.now ShowsNoPresence)
         (IsNoPresence log_id.now record_id.now root.now proof.now)) }
@@ -168,7 +168,7 @@ fn presence(
     if verify_presence(&leaf.log_id, &head, &proof, &root) {
         Ok(())
     } else {
-        Err(Failure::Refused)
+        Err(CallError::Refused)
     }
 }
 
@@ -196,9 +196,9 @@ pub extern "C" fn warg_verify_presence(
     status(presence(alloc, log_id, record_id, root, proof))
 }
 
-fn absence(alloc: Global, log_id: &[u8], root: &[u8], proof: &[u8]) -> Result<(), Failure>
+fn absence(alloc: Global, log_id: &[u8], root: &[u8], proof: &[u8]) -> Result<(), CallError>
     ensures ok { OnOk result (IsAbsence log_id.now root.now proof.now ShowsAbsence) }
-    ensures err { IfErr result (ProofFails (AreTwoHashes log_id.now root.now)
+    ensures err { IfErr result (ProofErrors (AreTwoHashes log_id.now root.now)
         (IsAbsence log_id.now root.now proof.now ShowsNoAbsence)
         (IsNoAbsence log_id.now root.now proof.now)) }
 {
@@ -208,7 +208,7 @@ fn absence(alloc: Global, log_id: &[u8], root: &[u8], proof: &[u8]) -> Result<()
     if verify_absence(&LogId::from(log), &proof, &root) {
         Ok(())
     } else {
-        Err(Failure::Refused)
+        Err(CallError::Refused)
     }
 }
 

@@ -7,16 +7,16 @@ ghost use Rattle.warg_c.specs.Lookups.{has_no_records, record_takes, record_tell
 ghost use Rattle.warg_c.specs.Logs.{whole_of};
 ghost use Rattle.warg_c.specs.Statuses.{WARG_OK, WARG_NOT_OPEN, WARG_OUT_OF_MEMORY, WARG_TOO_SMALL, WARG_NONE};
 ghost use Rattle.warg_c.specs.Statuses.{WARG_BAD_ARGUMENT, IsOneOf, Unless};
-ghost use Rattle.warg_c.specs.Misuses.{misuse_text};
-ghost use Rattle.warg_c.specs.Texts.{Always, FailsAs, IsGiven, NeedsRoom};
-ghost use Rattle.warg_c.specs.declared.misuse.Misuse.TheVariants.{Resumed};
+ghost use Rattle.warg_c.specs.ArgumentErrors.{argument_error_text};
+ghost use Rattle.warg_c.specs.Texts.{Always, ErrorsAs, IsGiven, NeedsRoom};
+ghost use Rattle.warg_c.specs.declared.argument_error.ArgumentError.TheVariants.{Resumed};
 
-use crate::failure::{Failure, status};
+use crate::any_log::AnyLog;
+use crate::argument_error::ArgumentError;
+use crate::call_error::{CallError, status};
 use crate::given::{finish, finish_value, finish_with};
 use crate::handle::WargLog;
-use crate::held::Held;
-use crate::kept_log::KeptLog;
-use crate::misuse::Misuse;
+use crate::log_or_state::LogOrState;
 use std::alloc::{AllocError, Global};
 use warg_envelope::ProtoEnvelope;
 use warg_log_records::RecordId;
@@ -31,33 +31,33 @@ pub struct KeptLengths {
 }
 
 // The text of an id.
-pub(crate) fn id_text(alloc: Global, id: &RecordId) -> Result<Vec<u8>, Failure>
+pub(crate) fn id_text(alloc: Global, id: &RecordId) -> Result<Vec<u8>, CallError>
     ensures ok { IfOk result (λ v. IdText (Some id.now) v.items) }
-    ensures err { IfErr result (FailsAs Always ⊥ ⊥) }
+    ensures err { IfErr result (ErrorsAs Always ⊥ ⊥) }
 {
     match id.to_string(alloc) {
         Ok(text) => Ok(text.into_bytes()),
-        Err(_) => Err(Failure::OutOfMemory),
+        Err(_) => Err(CallError::OutOfMemory),
     }
 }
 
 // The id of the last record.
-fn head_of(held: &Held) -> Option<&RecordId>
+fn head_of(held: &AnyLog) -> Option<&RecordId>
     ensures { option_copied result ≡ head_of held.now }
 {
     match held {
-        Held::Package(log) => log.state().head_digest(),
-        Held::Operator(log) => log.state().head_digest(),
+        AnyLog::Package(log) => log.state().head_digest(),
+        AnyLog::Operator(log) => log.state().head_digest(),
     }
 }
 
-fn head_text(alloc: Global, held: &Held) -> Result<Vec<u8>, Failure>
+fn head_text(alloc: Global, held: &AnyLog) -> Result<Vec<u8>, CallError>
     ensures ok { IfOk result (λ v. IdText (head_of held.now) v.items) }
-    ensures err { IfErr result (FailsAs (IsSome (head_of held.now)) (head_of held.now ≡ None) ⊥) }
+    ensures err { IfErr result (ErrorsAs (IsSome (head_of held.now)) (head_of held.now ≡ None) ⊥) }
 {
     match head_of(held) {
         Some(id) => id_text(alloc, id),
-        None => Err(Failure::Absent),
+        None => Err(CallError::Absent),
     }
 }
 
@@ -88,30 +88,30 @@ pub extern "C" fn warg_head(
 {
     *used = 0;
     let Some(held) = log.take(alloc) else {
-        return status(Err(Failure::NotOpen));
+        return status(Err(CallError::NotOpen));
     };
     let outcome = head_text(alloc, &held);
     log.put(held);
     finish(outcome, text, used)
 }
 
-fn length_of_log<L: Validator>(log: &KeptLog<L>) -> Result<usize, Failure>
+fn length_of_log<L: Validator>(log: &LogOrState<L>) -> Result<usize, CallError>
     ensures ok { IfOk result (λ n. LengthIs (whole_of log.now) n) }
-    ensures err { IfErr result (FailsAs ⊥ ⊥ (whole_of log.now ≡ None)) }
+    ensures err { IfErr result (ErrorsAs ⊥ ⊥ (whole_of log.now ≡ None)) }
 {
     match log.whole() {
         Some(log) => Ok(log.len()),
-        None => Err(Failure::BadArgument),
+        None => Err(CallError::BadArgument),
     }
 }
 
-fn length_of(held: &Held) -> Result<usize, Failure>
+fn length_of(held: &AnyLog) -> Result<usize, CallError>
     ensures ok { IfOk result (length_tells held.now) }
-    ensures err { IfErr result (FailsAs ⊥ ⊥ (has_no_records held.now)) }
+    ensures err { IfErr result (ErrorsAs ⊥ ⊥ (has_no_records held.now)) }
 {
     match held {
-        Held::Package(log) => length_of_log(log),
-        Held::Operator(log) => length_of_log(log),
+        AnyLog::Package(log) => length_of_log(log),
+        AnyLog::Operator(log) => length_of_log(log),
     }
 }
 
@@ -129,7 +129,7 @@ pub extern "C" fn warg_length(alloc: Global, log: &mut WargLog, length: &mut usi
     ensures kept { result ≢ WARG_OK → length.new ≡ length.old }
 {
     let Some(held) = log.take(alloc) else {
-        return status(Err(Failure::NotOpen));
+        return status(Err(CallError::NotOpen));
     };
     let outcome = length_of(&held);
     log.put(held);
@@ -156,33 +156,37 @@ fn spell_record<L: Validator>(
 
 fn record_of<L: Validator>(
     alloc: Global,
-    log: &KeptLog<L>,
+    log: &LogOrState<L>,
     place: usize,
-) -> Result<(Vec<u8>, KeptLengths), Failure>
+) -> Result<(Vec<u8>, KeptLengths), CallError>
     ensures ok { IfOk result (λ p. IsRecordAt L.kind (whole_of log.now) place p.1 p.0.items) }
-    ensures err { IfErr result (FailsAs (IsSome (whole_of log.now))
+    ensures err { IfErr result (ErrorsAs (IsSome (whole_of log.now))
         (IsBeyond (whole_of log.now) place) (whole_of log.now ≡ None)) }
 {
     let Some(log) = log.whole() else {
-        return Err(Failure::BadArgument);
+        return Err(CallError::BadArgument);
     };
     let Some(envelope) = log.records().get(place) else {
-        return Err(Failure::Absent);
+        return Err(CallError::Absent);
     };
     match spell_record::<L>(alloc, envelope) {
         Ok(spelled) => Ok(spelled),
-        Err(_) => Err(Failure::OutOfMemory),
+        Err(_) => Err(CallError::OutOfMemory),
     }
 }
 
-fn record_in(alloc: Global, held: &Held, place: usize) -> Result<(Vec<u8>, KeptLengths), Failure>
+fn record_in(
+    alloc: Global,
+    held: &AnyLog,
+    place: usize,
+) -> Result<(Vec<u8>, KeptLengths), CallError>
     ensures ok { IfOk result (λ p. record_tells held.now place p.1 p.0.items) }
-    ensures err { IfErr result (FailsAs (record_takes held.now) (record_lacks held.now place)
+    ensures err { IfErr result (ErrorsAs (record_takes held.now) (record_lacks held.now place)
         (has_no_records held.now)) }
 {
     match held {
-        Held::Package(log) => record_of(alloc, log, place),
-        Held::Operator(log) => record_of(alloc, log, place),
+        AnyLog::Package(log) => record_of(alloc, log, place),
+        AnyLog::Operator(log) => record_of(alloc, log, place),
     }
 }
 
@@ -212,7 +216,7 @@ pub extern "C" fn warg_record(
     ensures none { result ≡ WARG_NONE → IsSomeAnd log.old.owned.kept (λ held.
         record_lacks held place) }
     ensures bad_argument { result ≡ WARG_BAD_ARGUMENT → IsSomeAnd log.old.owned.kept (λ held.
-        has_no_records held × IsGiven (misuse_text Resumed) used.new bytes.new) }
+        has_no_records held × IsGiven (argument_error_text Resumed) used.new bytes.new) }
     ensures unchanged { log.new.owned.kept ≡ log.old.owned.kept }
     ensures buffer { Unless (WARG_OK ∷ WARG_BAD_ARGUMENT ∷ []) result (bytes.new ≡ bytes.old) }
     ensures used { Unless (WARG_OK ∷ WARG_TOO_SMALL ∷ WARG_BAD_ARGUMENT ∷ []) result
@@ -223,9 +227,9 @@ pub extern "C" fn warg_record(
 {
     *used = 0;
     let Some(held) = log.take(alloc) else {
-        return status(Err(Failure::NotOpen));
+        return status(Err(CallError::NotOpen));
     };
     let outcome = record_in(alloc, &held, place);
     log.put(held);
-    finish_with(outcome, Misuse::Resumed, bytes, used, kept)
+    finish_with(outcome, ArgumentError::Resumed, bytes, used, kept)
 }

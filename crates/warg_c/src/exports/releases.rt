@@ -10,17 +10,17 @@ ghost use Rattle.warg_c.specs.ReleaseAnswers.{IsAt, IsLatest, IsNoRequirement, I
 ghost use Rattle.warg_c.specs.ReleaseAnswers.{is_package, latest_bad, latest_lacks, latest_tells, place_bad};
 ghost use Rattle.warg_c.specs.ReleaseAnswers.{place_lacks, place_takes, place_tells, release_bad, release_lacks};
 ghost use Rattle.warg_c.specs.ReleaseAnswers.{release_tells};
-ghost use Rattle.warg_c.specs.Misuses.{misuse_text, package_misuse};
+ghost use Rattle.warg_c.specs.ArgumentErrors.{argument_error_text, package_argument_error};
 ghost use Rattle.warg_c.specs.Statuses.{WARG_OK, WARG_NOT_OPEN, WARG_OUT_OF_MEMORY, WARG_TOO_SMALL, WARG_NONE};
 ghost use Rattle.warg_c.specs.Statuses.{WARG_BAD_ARGUMENT, IsOneOf, Unless};
-ghost use Rattle.warg_c.specs.Texts.{Always, FailsAs, IsGiven, NeedsRoom};
-ghost use Rattle.warg_c.specs.declared.misuse.Misuse.TheVariants.{BadRequirement, BadVersion, WrongKind};
+ghost use Rattle.warg_c.specs.Texts.{Always, ErrorsAs, IsGiven, NeedsRoom};
+ghost use Rattle.warg_c.specs.declared.argument_error.ArgumentError.TheVariants.{BadRequirement, BadVersion, WrongKind};
 
-use crate::failure::{Failure, status};
+use crate::any_log::AnyLog;
+use crate::argument_error::ArgumentError;
+use crate::call_error::{CallError, status};
 use crate::given::finish_with;
 use crate::handle::WargLog;
-use crate::held::Held;
-use crate::misuse::Misuse;
 use crate::release_text::{ShownRelease, spell_release};
 use semver::{Error as VersionError, Version, VersionReq};
 use std::alloc::{AllocError, Global};
@@ -34,49 +34,49 @@ fn is_memory(error: &VersionError) -> bool
 }
 
 // The requirement that a text says.
-fn parse_requirement(alloc: Global, text: &[u8]) -> Result<VersionReq, Failure>
+fn parse_requirement(alloc: Global, text: &[u8]) -> Result<VersionReq, CallError>
     ensures ok { IfOk result (λ r. req_of text.now ≡ Ok (map comparator_view r.comparators.items)) }
-    ensures err { IfErr result (FailsAs Always ⊥ (IsNoRequirement text.now)) }
+    ensures err { IfErr result (ErrorsAs Always ⊥ (IsNoRequirement text.now)) }
 {
     let Ok(text) = str::from_utf8(text) else {
-        return Err(Failure::BadArgument);
+        return Err(CallError::BadArgument);
     };
     match VersionReq::parse(alloc, text) {
         Ok(requirement) => Ok(requirement),
-        Err(error) if is_memory(&error) => Err(Failure::OutOfMemory),
-        Err(_) => Err(Failure::BadArgument),
+        Err(error) if is_memory(&error) => Err(CallError::OutOfMemory),
+        Err(_) => Err(CallError::BadArgument),
     }
 }
 
 // The version that a text says.
-fn parse_version(alloc: Global, text: &[u8]) -> Result<Version, Failure>
+fn parse_version(alloc: Global, text: &[u8]) -> Result<Version, CallError>
     ensures ok { IfOk result (λ v. version_parts text.now ≡ Ok (parts_of v)) }
-    ensures err { IfErr result (FailsAs Always ⊥ (IsNoVersion text.now)) }
+    ensures err { IfErr result (ErrorsAs Always ⊥ (IsNoVersion text.now)) }
 {
     let Ok(text) = str::from_utf8(text) else {
-        return Err(Failure::BadArgument);
+        return Err(CallError::BadArgument);
     };
     match Version::parse(alloc, text) {
         Ok(version) => Ok(version),
-        Err(error) if is_memory(&error) => Err(Failure::OutOfMemory),
-        Err(_) => Err(Failure::BadArgument),
+        Err(error) if is_memory(&error) => Err(CallError::OutOfMemory),
+        Err(_) => Err(CallError::BadArgument),
     }
 }
 
 // A release as bytes, if there is one.
-fn shown(alloc: Global, release: Option<&Release>) -> Result<(Vec<u8>, ShownRelease), Failure>
+fn shown(alloc: Global, release: Option<&Release>) -> Result<(Vec<u8>, ShownRelease), CallError>
     ensures ok { IfOk result (λ p. (r : ReleaseView) ×
         (option_map release_view (option_copied release.entry) ≡ Some r) × Shows r p.1 p.0.items) }
-    ensures err { IfErr result (FailsAs
+    ensures err { IfErr result (ErrorsAs
         (IsSome (option_map release_view (option_copied release.entry)))
         (option_map release_view (option_copied release.entry) ≡ None) ⊥) }
 {
     let Some(release) = release else {
-        return Err(Failure::Absent);
+        return Err(CallError::Absent);
     };
     match spell_release(alloc, release) {
         Ok(spelled) => Ok(spelled),
-        Err(_) => Err(Failure::OutOfMemory),
+        Err(_) => Err(CallError::OutOfMemory),
     }
 }
 
@@ -84,10 +84,10 @@ fn latest_in(
     alloc: Global,
     state: &LogState,
     requirement: &[u8],
-) -> Result<(Vec<u8>, ShownRelease), Failure>
+) -> Result<(Vec<u8>, ShownRelease), CallError>
     ensures ok { IfOk result (λ p. (r : ReleaseView) ×
         IsLatest state.now.own_state requirement.now (Some r) × Shows r p.1 p.0.items) }
-    ensures err { IfErr result (FailsAs Always
+    ensures err { IfErr result (ErrorsAs Always
         (IsLatest state.now.own_state requirement.now None)
         (IsNoRequirement requirement.now)) }
 {
@@ -97,16 +97,16 @@ fn latest_in(
 
 fn latest_of(
     alloc: Global,
-    held: &Held,
+    held: &AnyLog,
     requirement: &[u8],
-) -> Result<(Vec<u8>, ShownRelease), Failure>
+) -> Result<(Vec<u8>, ShownRelease), CallError>
     ensures ok { IfOk result (λ p. latest_tells held.now requirement.now p.1 p.0.items) }
-    ensures err { IfErr result (FailsAs (is_package held.now)
+    ensures err { IfErr result (ErrorsAs (is_package held.now)
         (latest_lacks held.now requirement.now) (latest_bad held.now requirement.now)) }
 {
     match held {
-        Held::Package(log) => latest_in(alloc, log.state(), requirement),
-        Held::Operator(_) => Err(Failure::BadArgument),
+        AnyLog::Package(log) => latest_in(alloc, log.state(), requirement),
+        AnyLog::Operator(_) => Err(CallError::BadArgument),
     }
 }
 
@@ -135,7 +135,7 @@ pub extern "C" fn warg_latest(
         latest_lacks held requirement.now) }
     ensures bad_argument { result ≡ WARG_BAD_ARGUMENT → IsSomeAnd log.old.owned.kept (λ held.
         latest_bad held requirement.now ×
-        IsGiven (misuse_text (package_misuse held BadRequirement)) used.new text.new) }
+        IsGiven (argument_error_text (package_argument_error held BadRequirement)) used.new text.new) }
     ensures unchanged { log.new.owned.kept ≡ log.old.owned.kept }
     ensures buffer { Unless (WARG_OK ∷ WARG_BAD_ARGUMENT ∷ []) result (text.new ≡ text.old) }
     ensures used { Unless (WARG_OK ∷ WARG_TOO_SMALL ∷ WARG_BAD_ARGUMENT ∷ []) result
@@ -146,10 +146,10 @@ pub extern "C" fn warg_latest(
 {
     *used = 0;
     let Some(held) = log.take(alloc) else {
-        return status(Err(Failure::NotOpen));
+        return status(Err(CallError::NotOpen));
     };
     let outcome = latest_of(alloc, &held, requirement);
-    let wrong = held.package_misuse(Misuse::BadRequirement);
+    let wrong = held.package_argument_error(ArgumentError::BadRequirement);
     log.put(held);
     finish_with(outcome, wrong, text, used, release)
 }
@@ -158,10 +158,10 @@ fn release_in(
     alloc: Global,
     state: &LogState,
     version: &[u8],
-) -> Result<(Vec<u8>, ShownRelease), Failure>
+) -> Result<(Vec<u8>, ShownRelease), CallError>
     ensures ok { IfOk result (λ p. (r : ReleaseView) ×
         IsReleaseOf state.now.own_state version.now (Some r) × Shows r p.1 p.0.items) }
-    ensures err { IfErr result (FailsAs Always
+    ensures err { IfErr result (ErrorsAs Always
         (IsReleaseOf state.now.own_state version.now None)
         (IsNoVersion version.now)) }
 {
@@ -171,16 +171,16 @@ fn release_in(
 
 fn release_of(
     alloc: Global,
-    held: &Held,
+    held: &AnyLog,
     version: &[u8],
-) -> Result<(Vec<u8>, ShownRelease), Failure>
+) -> Result<(Vec<u8>, ShownRelease), CallError>
     ensures ok { IfOk result (λ p. release_tells held.now version.now p.1 p.0.items) }
-    ensures err { IfErr result (FailsAs (is_package held.now) (release_lacks held.now version.now)
+    ensures err { IfErr result (ErrorsAs (is_package held.now) (release_lacks held.now version.now)
         (release_bad held.now version.now)) }
 {
     match held {
-        Held::Package(log) => release_in(alloc, log.state(), version),
-        Held::Operator(_) => Err(Failure::BadArgument),
+        AnyLog::Package(log) => release_in(alloc, log.state(), version),
+        AnyLog::Operator(_) => Err(CallError::BadArgument),
     }
 }
 
@@ -209,7 +209,7 @@ pub extern "C" fn warg_release(
         release_lacks held version.now) }
     ensures bad_argument { result ≡ WARG_BAD_ARGUMENT → IsSomeAnd log.old.owned.kept (λ held.
         release_bad held version.now ×
-        IsGiven (misuse_text (package_misuse held BadVersion)) used.new text.new) }
+        IsGiven (argument_error_text (package_argument_error held BadVersion)) used.new text.new) }
     ensures unchanged { log.new.owned.kept ≡ log.old.owned.kept }
     ensures buffer { Unless (WARG_OK ∷ WARG_BAD_ARGUMENT ∷ []) result (text.new ≡ text.old) }
     ensures used { Unless (WARG_OK ∷ WARG_TOO_SMALL ∷ WARG_BAD_ARGUMENT ∷ []) result
@@ -220,10 +220,10 @@ pub extern "C" fn warg_release(
 {
     *used = 0;
     let Some(held) = log.take(alloc) else {
-        return status(Err(Failure::NotOpen));
+        return status(Err(CallError::NotOpen));
     };
     let outcome = release_of(alloc, &held, version);
-    let wrong = held.package_misuse(Misuse::BadVersion);
+    let wrong = held.package_argument_error(ArgumentError::BadVersion);
     log.put(held);
     finish_with(outcome, wrong, text, used, release)
 }
@@ -235,14 +235,18 @@ fn place_in(state: &LogState, place: usize) -> Option<&Release>
     state.releases().nth(place)
 }
 
-fn release_at(alloc: Global, held: &Held, place: usize) -> Result<(Vec<u8>, ShownRelease), Failure>
+fn release_at(
+    alloc: Global,
+    held: &AnyLog,
+    place: usize,
+) -> Result<(Vec<u8>, ShownRelease), CallError>
     ensures ok { IfOk result (λ p. place_tells held.now place p.1 p.0.items) }
-    ensures err { IfErr result (FailsAs (place_takes held.now place) (place_lacks held.now place)
+    ensures err { IfErr result (ErrorsAs (place_takes held.now place) (place_lacks held.now place)
         (place_bad held.now)) }
 {
     match held {
-        Held::Package(log) => shown(alloc, place_in(log.state(), place)),
-        Held::Operator(_) => Err(Failure::BadArgument),
+        AnyLog::Package(log) => shown(alloc, place_in(log.state(), place)),
+        AnyLog::Operator(_) => Err(CallError::BadArgument),
     }
 }
 
@@ -271,7 +275,7 @@ pub extern "C" fn warg_releases(
     ensures none { result ≡ WARG_NONE → IsSomeAnd log.old.owned.kept (λ held.
         place_lacks held place) }
     ensures bad_argument { result ≡ WARG_BAD_ARGUMENT → IsSomeAnd log.old.owned.kept (λ held.
-        place_bad held × IsGiven (misuse_text WrongKind) used.new text.new) }
+        place_bad held × IsGiven (argument_error_text WrongKind) used.new text.new) }
     ensures unchanged { log.new.owned.kept ≡ log.old.owned.kept }
     ensures buffer { Unless (WARG_OK ∷ WARG_BAD_ARGUMENT ∷ []) result (text.new ≡ text.old) }
     ensures used { Unless (WARG_OK ∷ WARG_TOO_SMALL ∷ WARG_BAD_ARGUMENT ∷ []) result
@@ -282,9 +286,9 @@ pub extern "C" fn warg_releases(
 {
     *used = 0;
     let Some(held) = log.take(alloc) else {
-        return status(Err(Failure::NotOpen));
+        return status(Err(CallError::NotOpen));
     };
     let outcome = release_at(alloc, &held, place);
     log.put(held);
-    finish_with(outcome, Misuse::WrongKind, text, used, release)
+    finish_with(outcome, ArgumentError::WrongKind, text, used, release)
 }

@@ -6,20 +6,20 @@ ghost use Rattle.warg_crypto.specs.Json.Json.{AreReadBack};
 ghost use Rattle.warg_saved_states.specs.JsonText.{TextReadsBack};
 ghost use Rattle.warg_saved_states.specs.Texts.{text_of};
 ghost use Rattle.warg_saved_states.specs.declared.error.JsonTextError.TheVariants as json;
-ghost use Rattle.warg_c.specs.declared.failure.Failure.TheVariants.{OutOfMemory, BadArgument};
-ghost use Rattle.warg_c.specs.Held.{IsNoKind, IsOfKind, kind_numbered};
+ghost use Rattle.warg_c.specs.declared.call_error.CallError.TheVariants.{OutOfMemory, BadArgument};
+ghost use Rattle.warg_c.specs.AnyLogs.{IsNoKind, IsOfKind, kind_numbered};
 ghost use Rattle.warg_c.specs.Saved.{IsWritten, SaysNoState, fault_text, value_text, reads_back, save_tells};
 ghost use Rattle.warg_c.specs.Saved.{save_lacks, saved_text, resume_gives, resume_gives_number, is_no_saved};
 ghost use Rattle.warg_c.specs.Statuses.{WARG_OK, WARG_NOT_OPEN, WARG_OUT_OF_MEMORY, WARG_TOO_SMALL, WARG_NONE};
 ghost use Rattle.warg_c.specs.Statuses.{WARG_BAD_ARGUMENT, IsOneOf, Unless};
-ghost use Rattle.warg_c.specs.Texts.{Always, FailsAs, IsGiven, NeedsRoom};
+ghost use Rattle.warg_c.specs.Texts.{Always, ErrorsAs, IsGiven, NeedsRoom};
 
-use crate::failure::{Failure, status};
+use crate::any_log::{AnyLog, LogKind};
+use crate::argument_error::ArgumentError;
+use crate::call_error::{CallError, status};
 use crate::given::{finish, give_if_room};
 use crate::handle::WargLog;
-use crate::held::{Held, Kind};
-use crate::kept_log::KeptLog;
-use crate::misuse::Misuse;
+use crate::log_or_state::LogOrState;
 use std::alloc::Global;
 use warg_crypto::json::JsonError;
 use warg_operator_log::LogState as OperatorState;
@@ -28,7 +28,7 @@ use warg_replay::PersistentState;
 use warg_saved_states::JsonTextError;
 
 // A state as a text of JSON.
-fn state_text<L: PersistentState>(alloc: Global, state: &L) -> Result<Vec<u8>, Failure>
+fn state_text<L: PersistentState>(alloc: Global, state: &L) -> Result<Vec<u8>, CallError>
     ensures written { IsWritten (λ v. v.items)
         (text_of (L.JsonValue.writes (L.JsonValue.plain state.now))) result }
     ensures back { AreReadBack (L.JsonValue.versions (L.JsonValue.plain state.now)) →
@@ -37,19 +37,19 @@ fn state_text<L: PersistentState>(alloc: Global, state: &L) -> Result<Vec<u8>, F
 {
     match state.to_json(alloc) {
         Ok(text) => Ok(text.into_bytes()),
-        Err(JsonError::OutOfMemory) => Err(Failure::OutOfMemory),
-        Err(_) => Err(Failure::Absent),
+        Err(JsonError::OutOfMemory) => Err(CallError::OutOfMemory),
+        Err(_) => Err(CallError::Absent),
     }
 }
 
 // The state of a log as a text of JSON.
-fn saved_text(alloc: Global, held: &Held) -> Result<Vec<u8>, Failure>
+fn saved_text(alloc: Global, held: &AnyLog) -> Result<Vec<u8>, CallError>
     ensures written { IsWritten (λ v. v.items) (saved_text held.now) result }
     ensures back { IfOk result (λ v. reads_back held.now v.items) }
 {
     match held {
-        Held::Package(log) => state_text(alloc, log.state()),
-        Held::Operator(log) => state_text(alloc, log.state()),
+        AnyLog::Package(log) => state_text(alloc, log.state()),
+        AnyLog::Operator(log) => state_text(alloc, log.state()),
     }
 }
 
@@ -80,7 +80,7 @@ pub extern "C" fn warg_save(
 {
     *used = 0;
     let Some(held) = log.take(alloc) else {
-        return status(Err(Failure::NotOpen));
+        return status(Err(CallError::NotOpen));
     };
     let outcome = saved_text(alloc, &held);
     log.put(held);
@@ -114,33 +114,33 @@ fn fault_text(fault: JsonTextError) -> &'static str
 }
 
 // Says why a text is no saved state, where there is room for it.
-fn refuse_saved(error: JsonTextError, text: &mut [u8], used: &mut usize) -> Failure
-    ensures failure { (result ≡ OutOfMemory) ⊎ ((result ≡ BadArgument) ×
+fn refuse_saved(error: JsonTextError, text: &mut [u8], used: &mut usize) -> CallError
+    ensures call_error { (result ≡ OutOfMemory) ⊎ ((result ≡ BadArgument) ×
         (error ≢ json.OutOfMemory) × IsGiven (fault_text error) used.new text.new) }
     ensures behind { used.old ≡ 0 → drop used.new text.new ≡ drop used.new text.old }
     ensures within { used.old ≡ 0 → used.new ≤ length text.new }
     ensures quiet { used.old ≡ 0 → result ≢ BadArgument → used.new ≡ 0 }
 {
     if let JsonTextError::OutOfMemory | JsonTextError::Value(JsonError::OutOfMemory) = error {
-        return Failure::OutOfMemory;
+        return CallError::OutOfMemory;
     }
     give_if_room(fault_text(error), text, used);
-    Failure::BadArgument
+    CallError::BadArgument
 }
 
 // The log of a state's text.
-fn read_saved(alloc: Global, kind: Kind, saved: &str) -> Result<Held, JsonTextError>
+fn read_saved(alloc: Global, kind: LogKind, saved: &str) -> Result<AnyLog, JsonTextError>
     ensures ok { IfOk result (λ held. IsOfKind kind held × resume_gives saved.now held) }
     ensures err { IfErr result (λ e. (e ≡ json.OutOfMemory) ⊎ SaysNoState kind saved.now e) }
 {
     match kind {
-        Kind::Package => {
+        LogKind::Package => {
             let state = PackageState::from_json(alloc, saved)?;
-            Ok(Held::Package(KeptLog::Resumed(state)))
+            Ok(AnyLog::Package(LogOrState::Resumed(state)))
         }
-        Kind::Operator => {
+        LogKind::Operator => {
             let state = OperatorState::from_json(alloc, saved)?;
-            Ok(Held::Operator(KeptLog::Resumed(state)))
+            Ok(AnyLog::Operator(LogOrState::Resumed(state)))
         }
     }
 }
@@ -151,18 +151,18 @@ fn resumed(
     saved: &[u8],
     text: &mut [u8],
     used: &mut usize,
-) -> Result<Box<Held>, Failure>
+) -> Result<Box<AnyLog>, CallError>
     ensures ok { IfOk result (λ b. resume_gives_number kind saved.now b.value) }
-    ensures err { IfErr result (FailsAs (IsOk (kind_numbered kind)) ⊥
+    ensures err { IfErr result (ErrorsAs (IsOk (kind_numbered kind)) ⊥
         (is_no_saved kind saved.now used.new text.new)) }
     ensures behind { drop used.new text.new ≡ drop used.new text.old }
     ensures within { used.new ≤ length text.new }
     ensures quiet { (used.new ≡ 0) ⊎ (result ≡ Err BadArgument) }
 {
     *used = 0;
-    let Ok(kind) = Kind::numbered(kind) else {
-        give_if_room(Misuse::NoKind.text(), text, used);
-        return Err(Failure::BadArgument);
+    let Ok(kind) = LogKind::numbered(kind) else {
+        give_if_room(ArgumentError::NoKind.text(), text, used);
+        return Err(CallError::BadArgument);
     };
     let Ok(saved) = str::from_utf8(saved) else {
         return Err(refuse_saved(JsonTextError::NotJson, text, used));
@@ -170,7 +170,7 @@ fn resumed(
     match read_saved(alloc, kind, saved) {
         Ok(held) => match held.boxed(alloc) {
             Ok(held) => Ok(held),
-            Err(_) => Err(Failure::OutOfMemory),
+            Err(_) => Err(CallError::OutOfMemory),
         },
         Err(error) => Err(refuse_saved(error, text, used)),
     }
@@ -206,6 +206,6 @@ pub extern "C" fn warg_resume(
             log.put(held);
             status(Ok(()))
         }
-        Err(failure) => status(Err(failure)),
+        Err(call_error) => status(Err(call_error)),
     }
 }

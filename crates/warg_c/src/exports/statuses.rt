@@ -1,15 +1,15 @@
 //! The names of statuses.
 ghost use Rattle.std.specs.Prelude.{◌≡◌, ◌≢◌, ◌≤◌, [], ◌∷◌, None, Some, IfOk, IfErr, length, take, drop};
 ghost use Rattle.warg_c.specs.Statuses.{WARG_OK, WARG_TOO_SMALL, WARG_NONE, IsOneOf, Unless, status_name};
-ghost use Rattle.warg_c.specs.Texts.{FailsAs, NeedsRoom};
+ghost use Rattle.warg_c.specs.Texts.{ErrorsAs, NeedsRoom};
 
-use crate::failure::{Failure, status};
+use crate::call_error::{CallError, status};
 use crate::given::give;
 
 // The name of a status, if the number is one.
-fn name_of(number: u32) -> Result<&'static str, Failure>
+fn name_of(number: u32) -> Result<&'static str, CallError>
     ensures ok { IfOk result (λ name. status_name number ≡ Some name.now) }
-    ensures err { IfErr result (FailsAs ⊥ (status_name number ≡ None) ⊥) }
+    ensures err { IfErr result (ErrorsAs ⊥ (status_name number ≡ None) ⊥) }
 {
     match number {
         0 => Ok("Ok"),
@@ -21,7 +21,7 @@ fn name_of(number: u32) -> Result<&'static str, Failure>
         6 => Ok("None"),
         7 => Ok("BadArgument"),
         8 => Ok("UnknownAlgorithm"),
-        _ => Err(Failure::Absent),
+        _ => Err(CallError::Absent),
     }
 }
 
@@ -42,6 +42,6 @@ pub extern "C" fn warg_status_name(number: u32, text: &mut [u8], used: &mut usiz
     *used = 0;
     match name_of(number) {
         Ok(name) => status(give(name.as_bytes(), text, used)),
-        Err(failure) => status(Err(failure)),
+        Err(call_error) => status(Err(call_error)),
     }
 }

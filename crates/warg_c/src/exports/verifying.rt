@@ -2,27 +2,27 @@
 ghost use Rattle.std.specs.Prelude.{◌≡◌, [], ◌∷◌, true, false, OnOk, IfErr};
 ghost use Rattle.warg_c.specs.Statuses.{WARG_OK, WARG_OUT_OF_MEMORY, WARG_REFUSED, WARG_BAD_ARGUMENT};
 ghost use Rattle.warg_c.specs.Statuses.{WARG_UNKNOWN_ALGORITHM, IsOneOf};
-ghost use Rattle.warg_c.specs.Verifying.{IsJudged, IsNotVerified, IsOtherKey, VerifyFails};
+ghost use Rattle.warg_c.specs.Verifying.{IsJudged, IsNotVerified, IsOtherKey, VerifyErrors};
 
-use crate::failure::{Failure, status};
+use crate::call_error::{CallError, status};
 use crate::question::{is_p256_key, parse_key, parse_signature};
 use std::alloc::Global;
 use warg_crypto::signing::Verifier;
 use warg_p256::P256Verifier;
 
 // The key's text is read first, then its algorithm is looked at, and then the signature's text is read.
-fn verify(alloc: Global, key: &[u8], message: &[u8], signature: &[u8]) -> Result<(), Failure>
+fn verify(alloc: Global, key: &[u8], message: &[u8], signature: &[u8]) -> Result<(), CallError>
     ensures ok { OnOk result (IsJudged key.now message.now signature.now true) }
-    ensures err { IfErr result (VerifyFails key.now message.now signature.now) }
+    ensures err { IfErr result (VerifyErrors key.now message.now signature.now) }
 {
     let key = parse_key(alloc, key)?;
     if !is_p256_key(&key) {
-        return Err(Failure::UnknownAlgorithm);
+        return Err(CallError::UnknownAlgorithm);
     }
     let signature = parse_signature(alloc, signature)?;
     match P256Verifier.verify(alloc, &key, message, &signature) {
         Ok(()) => Ok(()),
-        Err(_) => Err(Failure::Refused),
+        Err(_) => Err(CallError::Refused),
     }
 }
 

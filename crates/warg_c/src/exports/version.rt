@@ -3,7 +3,7 @@ ghost use Rattle.std.specs.Prelude.{◌≡◌, ◌≢◌, ◌≤◌, [], ◌∷�
 ghost use Rattle.warg_c.specs.Statuses.{WARG_OK, WARG_TOO_SMALL, IsOneOf, Unless};
 ghost use Rattle.warg_c.specs.Texts.{NeedsRoom};
 
-use crate::failure::status;
+use crate::call_error::status;
 use crate::given::give;
 
 // tools/release writes the version anew.

@@ -1,4 +1,4 @@
-//! The names of refusals, which take no memory.
+//! The names of errors, which take no memory.
 
 ghost use Rattle.std.specs.Prelude.{◌≡◌, ◌++◌, codes};
 ghost use Rattle.warg_envelope.specs.Envelopes.{contents_fault_of};

@@ -7,7 +7,7 @@ use indexmap::IndexMap;
 use std::alloc::Global;
 use warg_crypto::hash::HashAlgorithm;
 use warg_crypto::signing::{KeyID, PublicKey};
-use warg_permissions::key_maps::Maps;
+use warg_permissions::key_maps::KeyTable;
 use warg_permissions::{LogPermission, PermissionSet};
 
 impl<P: LogPermission> Authority<P> {
@@ -23,7 +23,7 @@ impl<P: LogPermission> Authority<P> {
         Authority {
             alloc,
             algorithm,
-            maps: Maps {
+            maps: KeyTable {
                 permissions,
                 keys,
                 sets: Vec::new(alloc),

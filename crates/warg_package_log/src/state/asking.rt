@@ -9,12 +9,15 @@ use crate::error::ValidationError;
 use crate::state::LogState;
 use warg_envelope::ProtoEnvelope;
 use warg_log_records::package::PackageRecord;
-use warg_replay::host::Question;
+use warg_replay::external::SignatureCheck;
 
 impl LogState {
     /// Judges all of a record but its signature, which is left to the caller: the record is lawful exactly if the
     /// signature of the answer belongs. Anything else is what is wrong first, whatever the signature.
-    pub fn ask(&self, envelope: &ProtoEnvelope<PackageRecord>) -> Result<Question, ValidationError>
+    pub fn ask(
+        &self,
+        envelope: &ProtoEnvelope<PackageRecord>,
+    ) -> Result<SignatureCheck, ValidationError>
         ensures asks { IfOk result (λ q. Asks rules same_permission (view_of self.now)
             (envelope_as_data envelope.now) q) }
         ensures refused { IfErr result

@@ -5,8 +5,8 @@ use Rattle.std.proofs.lemmas.Bool.{cases_Bool}
 use Rattle.std.proofs.lemmas.List.{take-append-drop}
 use Rattle.std.specs.Cmp.{IsEquivalence}
 use Rattle.std.proofs.Common.{inl, inr}
-use Rattle.warg_replay.specs.declared.audited_log.ledger.Holding.{Holding}
-use Rattle.warg_replay.specs.AuditedLog.Ledgers.{number_in}
+use Rattle.warg_replay.specs.declared.audited_log.grant_index.Holding.{Holding}
+use Rattle.warg_replay.specs.AuditedLog.GrantIndexes.{number_in}
 
 module _ {P : Type 0} (same : P → P → Bool) (o : IsEquivalence same) where
   -- one that is not of the permission says nothing of it

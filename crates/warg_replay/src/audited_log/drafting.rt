@@ -1,14 +1,14 @@
-//! What a record adds to a ledger, worked out beside it.
+//! What a record adds to a grant index, worked out beside it.
 ghost use Rattle.std.specs.Prelude.{◌≡◌, ◌+◌, ◌<◌, ◌≤◌, ◌++◌, [], ◌∷◌, true, List, length, map, reverse, IfOk, OnOk, vec_len, vec_capacity};
 ghost use Rattle.std.specs.Str.{bytes_eq};
 ghost use Rattle.indexmap.specs.IndexMap.{IsUnique, index_map_len, spare};
-ghost use Rattle.warg_envelope.specs.ReadingWords.{IsHonest};
+ghost use Rattle.warg_envelope.specs.ReadingWords.{ContentsMatchBytes};
 ghost use Rattle.warg_envelope.specs.EnvelopeData.{EnvelopeData};
 ghost use Rattle.warg_replay.specs.declared.audited_log.link.Link.{Link};
 ghost use Rattle.warg_replay.specs.AuditedLog.Chains.{entries_of};
-ghost use Rattle.warg_replay.specs.AuditedLog.Ledgers.{number_at, number_over, IsTrail, IsEventAdded, AreApplied, IsLedger, GivesOnlyHeld};
+ghost use Rattle.warg_replay.specs.AuditedLog.GrantIndexes.{number_at, number_over, IsTrail, IsEventAdded, AreApplied, IsGrantIndex, GivesOnlyHeld};
 
-use crate::audited_log::ledger::{Gift, Holdings, Ledger, number_of, put_number};
+use crate::audited_log::grant_index::{GrantEvent, GrantIndex, Holdings, number_of, put_number};
 use crate::audited_log::link::Link;
 use crate::{Effect, Validator};
 use std::alloc::{AllocError, Global};
@@ -37,31 +37,31 @@ fn signer_numbers<P: Copy + Eq>(
 /// permission.
 fn add_event<P: Copy + Eq>(
     alloc: Global,
-    ledger: &Ledger<P>,
-    draft: &mut Ledger<P>,
+    grant_index: &GrantIndex<P>,
+    draft: &mut GrantIndex<P>,
     place: Link,
     by: Option<usize>,
     event: &(KeyID, P, Effect),
 ) -> Result<(), AllocError>
     ensures added { OnOk result (IsEventAdded P.eq place by event.now
-        (ledger.now.gifts.items ++ draft.old.gifts.items)
-        (number_over P.eq ledger.now.holdings draft.old.holdings)
-        (ledger.now.gifts.items ++ draft.new.gifts.items)
-        (number_over P.eq ledger.now.holdings draft.new.holdings)) }
+        (grant_index.now.gifts.items ++ draft.old.gifts.items)
+        (number_over P.eq grant_index.now.holdings draft.old.holdings)
+        (grant_index.now.gifts.items ++ draft.new.gifts.items)
+        (number_over P.eq grant_index.now.holdings draft.new.holdings)) }
     ensures unique { OnOk result (IsUnique bytes_eq draft.old.holdings →
         IsUnique bytes_eq draft.new.holdings) }
 {
     let key_id = event.0.try_clone()?;
     match event.2 {
         Effect::Gives => {
-            let Some(number) = ledger.gifts.len().checked_add(draft.gifts.len()) else {
+            let Some(number) = grant_index.gifts.len().checked_add(draft.gifts.len()) else {
                 return Err(AllocError);
             };
             let by = by.unwrap_or(number);
-            draft.gifts.push(Gift { place, by })?;
+            draft.gifts.push(GrantEvent { place, by })?;
             put_number(
                 alloc,
-                &ledger.holdings,
+                &grant_index.holdings,
                 &mut draft.holdings,
                 key_id,
                 event.1,
@@ -71,7 +71,7 @@ fn add_event<P: Copy + Eq>(
         Effect::Takes => {
             put_number(
                 alloc,
-                &ledger.holdings,
+                &grant_index.holdings,
                 &mut draft.holdings,
                 key_id,
                 event.1,
@@ -86,46 +86,52 @@ fn add_event<P: Copy + Eq>(
 /// Adds the events of the entry at the place to the draft. What its signer holds is asked before any is added.
 fn add_entry<P: Copy + Eq>(
     alloc: Global,
-    ledger: &Ledger<P>,
-    draft: &mut Ledger<P>,
+    grant_index: &GrantIndex<P>,
+    draft: &mut GrantIndex<P>,
     place: Link,
     signer: &KeyID,
     events: &[(KeyID, P, Effect)],
 ) -> Result<(), AllocError>
     requires { (p q : P) → P.eq p q ≡ true → p ≡ q }
     ensures applied { OnOk result (AreApplied P.eq place signer.now events.now
-        (ledger.now.gifts.items ++ draft.old.gifts.items)
-        (number_over P.eq ledger.now.holdings draft.old.holdings)
-        (ledger.now.gifts.items ++ draft.new.gifts.items)
-        (number_over P.eq ledger.now.holdings draft.new.holdings)) }
+        (grant_index.now.gifts.items ++ draft.old.gifts.items)
+        (number_over P.eq grant_index.now.holdings draft.old.holdings)
+        (grant_index.now.gifts.items ++ draft.new.gifts.items)
+        (number_over P.eq grant_index.now.holdings draft.new.holdings)) }
     ensures unique { OnOk result (IsUnique bytes_eq draft.old.holdings →
         IsUnique bytes_eq draft.new.holdings) }
 {
-    let numbers = signer_numbers(alloc, &ledger.holdings, &draft.holdings, signer, events)?;
+    let numbers = signer_numbers(
+        alloc,
+        &grant_index.holdings,
+        &draft.holdings,
+        signer,
+        events,
+    )?;
     'events: for i in 0..events.len() {
-        add_event(alloc, ledger, draft, place, numbers[i], &events[i])?;
+        add_event(alloc, grant_index, draft, place, numbers[i], &events[i])?;
     }
     Ok(())
 }
 
-/// What the record adds to the ledger. Where the record is lawful, the ledger stands for the records with it.
+/// What the record adds to the grant index. Where the record is lawful, the grant index stands for the records with it.
 fn draft_of<L: Validator>(
     alloc: Global,
-    ledger: &Ledger<L::Permission>,
+    grant_index: &GrantIndex<L::Permission>,
     record_index: usize,
     envelope: &ProtoEnvelope<L::Record>,
-) -> Result<Ledger<L::Permission>, AllocError>
-    ensures ledger { IsHonest L.Record.reading envelope.now → IfOk result (λ draft.
+) -> Result<GrantIndex<L::Permission>, AllocError>
+    ensures grant_index { ContentsMatchBytes L.Record.reading envelope.now → IfOk result (λ draft.
         (es : List EnvelopeData) → length es ≡ record_index →
         GivesOnlyHeld L.effects es envelope.now.envelope (L.effects.entries envelope.now.envelope) →
-        IsLedger (entries_of L.effects es) ledger.now.gifts.items
-        (number_at L.Permission.eq ledger.now.holdings) →
-        IsLedger (entries_of L.effects (es ++ envelope.now.envelope ∷ []))
-        (ledger.now.gifts.items ++ draft.gifts.items)
-        (number_over L.Permission.eq ledger.now.holdings draft.holdings)) }
+        IsGrantIndex (entries_of L.effects es) grant_index.now.gifts.items
+        (number_at L.Permission.eq grant_index.now.holdings) →
+        IsGrantIndex (entries_of L.effects (es ++ envelope.now.envelope ∷ []))
+        (grant_index.now.gifts.items ++ draft.gifts.items)
+        (number_over L.Permission.eq grant_index.now.holdings draft.holdings)) }
     ensures unique { IfOk result (λ draft. IsUnique bytes_eq draft.holdings) }
 {
-    let mut draft = Ledger::new(alloc);
+    let mut draft = GrantIndex::new(alloc);
     'entries: for entry_index in 0..L::entry_count(envelope) {
         let events = L::effects(alloc, envelope, entry_index)?;
         let place = Link {
@@ -134,7 +140,7 @@ fn draft_of<L: Validator>(
         };
         add_entry(
             alloc,
-            ledger,
+            grant_index,
             &mut draft,
             place,
             envelope.key_id(),
@@ -144,41 +150,41 @@ fn draft_of<L: Validator>(
     Ok(draft)
 }
 
-/// What the envelope's record adds to the ledger, once there is room for that and for the envelope. Nothing else changes.
+/// What the envelope's record adds to the grant index, once there is room for that and for the envelope. Nothing else changes.
 pub(crate) fn room_for<L: Validator>(
     alloc: Global,
     records: &mut Vec<ProtoEnvelope<L::Record>>,
-    ledger: &mut Ledger<L::Permission>,
+    grant_index: &mut GrantIndex<L::Permission>,
     envelope: &ProtoEnvelope<L::Record>,
-) -> Result<Ledger<L::Permission>, AllocError>
+) -> Result<GrantIndex<L::Permission>, AllocError>
     ensures records { records.new.items ≡ records.old.items }
-    ensures gifts { ledger.new.gifts.items ≡ ledger.old.gifts.items }
-    ensures holdings { ledger.new.holdings.entries ≡ ledger.old.holdings.entries }
+    ensures gifts { grant_index.new.gifts.items ≡ grant_index.old.gifts.items }
+    ensures holdings { grant_index.new.holdings.entries ≡ grant_index.old.holdings.entries }
     ensures record_room { OnOk result (vec_len records.new < vec_capacity records.new) }
     ensures gift_room { IfOk result (λ draft.
-        vec_len ledger.new.gifts + vec_len draft.gifts ≤ vec_capacity ledger.new.gifts) }
+        vec_len grant_index.new.gifts + vec_len draft.gifts ≤ vec_capacity grant_index.new.gifts) }
     ensures key_room { IfOk result
-        (λ draft. index_map_len draft.holdings ≤ spare ledger.new.holdings) }
+        (λ draft. index_map_len draft.holdings ≤ spare grant_index.new.holdings) }
     ensures unique { IfOk result (λ draft. IsUnique bytes_eq draft.holdings) }
-    ensures ledger { IsHonest L.Record.reading envelope.now → IfOk result (λ draft.
+    ensures grant_index { ContentsMatchBytes L.Record.reading envelope.now → IfOk result (λ draft.
         (es : List EnvelopeData) → length es ≡ length records.old.items →
         GivesOnlyHeld L.effects es envelope.now.envelope (L.effects.entries envelope.now.envelope) →
-        IsLedger (entries_of L.effects es) ledger.old.gifts.items
-        (number_at L.Permission.eq ledger.old.holdings) →
-        IsLedger (entries_of L.effects (es ++ envelope.now.envelope ∷ []))
-        (ledger.old.gifts.items ++ draft.gifts.items)
-        (number_over L.Permission.eq ledger.old.holdings draft.holdings)) }
+        IsGrantIndex (entries_of L.effects es) grant_index.old.gifts.items
+        (number_at L.Permission.eq grant_index.old.holdings) →
+        IsGrantIndex (entries_of L.effects (es ++ envelope.now.envelope ∷ []))
+        (grant_index.old.gifts.items ++ draft.gifts.items)
+        (number_over L.Permission.eq grant_index.old.holdings draft.holdings)) }
 {
-    let draft = draft_of::<L>(alloc, ledger, records.len(), envelope)?;
+    let draft = draft_of::<L>(alloc, grant_index, records.len(), envelope)?;
     records.reserve(1)?;
-    ledger.reserve(&draft)?;
+    grant_index.reserve(&draft)?;
     Ok(draft)
 }
 
 /// The places that the numbers lead to, from the gift at the number back to the first, in the log's order.
 pub(crate) fn trail_of(
     alloc: Global,
-    gifts: &[Gift],
+    gifts: &[GrantEvent],
     number: usize,
 ) -> Result<Vec<Link>, AllocError>
     requires { (ls : List Link) × IsTrail gifts.now number ls }

@@ -147,12 +147,12 @@ pub fn entries_in_turn<L: RuledLog>()
 
 /// What `run` answers, by the grammar.
 pub fn run_by_grammar<L: RuledLog>()
-    ensures reading { (b : SignatureRelation) (strings : List (List ℕ))
+    ensures reading { (b : SignatureRelation) (inputs : List (List ℕ))
         (answer : Result L (RunError L.Error)) →
-        IfStarted (IsRun L.log L.Record.reading b strings) answer →
+        IfStarted (IsRun L.log L.Record.reading b inputs) answer →
         IfStarted (IsReading (kind L.ruled) b (IsEnvelope L.IsContent L.HasContentFault)
         (HasEnvelopeFault L.IsContent L.HasContentFault) L.says
-        (named_cause L.ruled_log L.ruled_reading) strings) answer }
+        (named_cause L.ruled_log L.ruled_reading) inputs) answer }
     ensures cause { (b : SignatureRelation) (v : LogView L.Permission L.OwnView) (s : List ℕ)
         (c : Cause (EnvelopeFault RecordFault) (LogOffence L.Permission L.OwnOffence)) →
         (why_not L.ruled_log L.ruled_reading b v s ≡ Some c) ↔

@@ -159,12 +159,12 @@ pub fn entries_in_turn()
 pub fn run_by_grammar()
     ensures reading { let read = envelope_of package_record_of in
         let named_by = cause_named_by (envelope_fault_of fault_of) offence_of in
-        (b : SignatureRelation) (strings : List (List ℕ))
+        (b : SignatureRelation) (inputs : List (List ℕ))
         (answer : Result (State (AuthorityData OfPermission) (List ReleaseView))
         (RunError OfError)) →
-        IfStarted (IsRun kind b read kind.view_of view_of named_by ◌≡◌ strings) answer →
+        IfStarted (IsRun kind b read kind.view_of view_of named_by ◌≡◌ inputs) answer →
         IfStarted (IsReading kind b (IsEnvelope IsContent HasContentFault)
-        (HasEnvelopeFault IsContent HasContentFault) view_of named_by strings) answer }
+        (HasEnvelopeFault IsContent HasContentFault) view_of named_by inputs) answer }
     ensures cause { (b : SignatureRelation) (v : View) (s : List ℕ)
         (c : Cause (EnvelopeFault RecordFault) (LogOffence OfPermission OwnOffence)) →
         (cause_next kind b (envelope_of package_record_of) v s ≡ Some c) ↔

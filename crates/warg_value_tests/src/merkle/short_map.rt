@@ -5,7 +5,7 @@ use sha2::{Digest, Sha256};
 use std::alloc::{AllocError, Global};
 use std::test::Fail;
 use warg_merkle::map_proof::{MapProof, MapProofError, verify_absence, verify_presence};
-use warg_merkle::map_tree::MapTree;
+use warg_merkle::sparse_tree::SparseTree;
 
 // The root and the short proof of what stands at "a" and at "c" in the map of "a" to `1` and "b" to `22`.
 const TWO_ROOT: &str = "e4250ad8b526649ce01657a498844c6c0f48fb3b1ad1d31066440cb2f92418b6";
@@ -31,7 +31,7 @@ fn neighbour(key: &[u8; 32]) -> [u8; 32] {
 // Whether no value stood there that this one takes the place of.
 fn puts(
     alloc: Global,
-    map: &mut MapTree,
+    map: &mut SparseTree,
     key: &[u8; 32],
     value: &[u8],
 ) -> Result<bool, AllocError> {
@@ -40,8 +40,8 @@ fn puts(
 }
 
 // A map of that many pairs of neighbours.
-fn pairs(alloc: Global, count: u8) -> Result<MapTree, AllocError> {
-    let mut map = MapTree::new(alloc)?;
+fn pairs(alloc: Global, count: u8) -> Result<SparseTree, AllocError> {
+    let mut map = SparseTree::new(alloc)?;
     for byte in 0..count {
         let first = key(byte);
         puts(alloc, &mut map, &first, &[byte])?;
@@ -51,12 +51,12 @@ fn pairs(alloc: Global, count: u8) -> Result<MapTree, AllocError> {
 }
 
 // Whether the map has the root that the digits spell.
-fn has_root(map: &MapTree, digits: &str) -> Result<bool, Fail> {
+fn has_root(map: &SparseTree, digits: &str) -> Result<bool, Fail> {
     Ok(map.root() == hash(digits)?)
 }
 
 // Whether the map's proof, read back from its short form, shows the value, and neither absence nor another value.
-fn has(alloc: Global, map: &MapTree, key: &[u8; 32], value: &[u8]) -> Result<bool, Fail> {
+fn has(alloc: Global, map: &SparseTree, key: &[u8; 32], value: &[u8]) -> Result<bool, Fail> {
     let proof = MapProof::decode(alloc, map.proof(key)?.as_bytes())?;
     let root = map.root();
     Ok(
@@ -68,7 +68,7 @@ fn has(alloc: Global, map: &MapTree, key: &[u8; 32], value: &[u8]) -> Result<boo
 }
 
 // Whether the map's proof, read back from its short form, shows that nothing stands there, and no value.
-fn lacks(alloc: Global, map: &MapTree, key: &[u8; 32]) -> Result<bool, Fail> {
+fn lacks(alloc: Global, map: &SparseTree, key: &[u8; 32]) -> Result<bool, Fail> {
     let proof = MapProof::decode(alloc, map.proof(key)?.as_bytes())?;
     let root = map.root();
     Ok(
@@ -79,8 +79,8 @@ fn lacks(alloc: Global, map: &MapTree, key: &[u8; 32]) -> Result<bool, Fail> {
 }
 
 // The map of "a" to `1` and "b" to `22`.
-fn two(alloc: Global) -> Result<MapTree, AllocError> {
-    let mut map = MapTree::new(alloc)?;
+fn two(alloc: Global) -> Result<SparseTree, AllocError> {
+    let mut map = SparseTree::new(alloc)?;
     puts(alloc, &mut map, &Sha256::digest(b"a"), b"1")?;
     puts(alloc, &mut map, &Sha256::digest(b"b"), b"22")?;
     Ok(map)
@@ -90,7 +90,7 @@ const EMPTY_ROOT: &str = "dfbe207a8b9bb8228d1b300ba7f792cb99b47a5de57a206926b463
 
 #[test]
 fn the_empty_map(rt: HostRuntime) -> Result<(), Fail> {
-    let map = MapTree::new(rt.alloc())?;
+    let map = SparseTree::new(rt.alloc())?;
     assert!(rt; map.is_empty() && has_root(&map, EMPTY_ROOT)?);
     assert!(rt; lacks(rt.alloc(), &map, &key(0))?);
     Ok(())
@@ -100,7 +100,7 @@ const ONE_ROOT: &str = "5de8c4834b8a6544cc3c7a2fd5b719f4c1aae74712bd0513c4686f15
 
 #[test]
 fn the_map_of_one_key(rt: HostRuntime) -> Result<(), Fail> {
-    let mut map = MapTree::new(rt.alloc())?;
+    let mut map = SparseTree::new(rt.alloc())?;
     let a = Sha256::digest(b"a");
     assert!(rt; puts(rt.alloc(), &mut map, &a, b"1")? && has_root(&map, ONE_ROOT)?);
     assert!(rt; has(rt.alloc(), &map, &a, b"1")? && lacks(rt.alloc(), &map, &neighbour(&a))?);
@@ -131,7 +131,7 @@ fn maps_of_pairs(rt: HostRuntime) -> Result<(), Fail> {
 }
 
 // Whether that short form is what the map has for the key.
-fn is_proof(alloc: Global, map: &MapTree, key: &[u8; 32], digits: &str) -> Result<bool, Fail> {
+fn is_proof(alloc: Global, map: &SparseTree, key: &[u8; 32], digits: &str) -> Result<bool, Fail> {
     let proof = map.proof(key)?;
     Ok(proof.as_bytes() == hex::decode(alloc, digits)?.as_slice())
 }
@@ -151,7 +151,7 @@ fn stood(old: Option<Vec<u8>>, value: &[u8]) -> bool {
 }
 
 // Whether another value takes the place of the one there, and the map is another one then.
-fn changes(alloc: Global, map: &mut MapTree, at: u8) -> Result<bool, Fail> {
+fn changes(alloc: Global, map: &mut SparseTree, at: u8) -> Result<bool, Fail> {
     let root = map.root();
     let old = map.insert(&key(at), Vec::from_slice(alloc, b"new")?)?;
     Ok(stood(old, &[at]) && map.root() != root && has(alloc, map, &key(at), b"new")?)

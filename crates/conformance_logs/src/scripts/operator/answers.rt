@@ -2,7 +2,7 @@
 use crate::scripts::answers::{head, key_entry, permissions, text_of};
 use crate::scripts::checking::check;
 use crate::scripts::people::id;
-use conformance_rows::Fail;
+use conformance_rows::RowError;
 use std::alloc::Global;
 use warg_protocol::operator::{LogState, NamespaceState};
 
@@ -12,7 +12,7 @@ pub fn answer(
     state: &LogState,
     look_up: &str,
     subject: &str,
-) -> Result<String, Fail> {
+) -> Result<String, RowError> {
     match look_up {
         "head" => head(alloc, state.head(), subject),
         "key" => text_of(alloc, state.public_key(&id(alloc, subject)?)),
@@ -21,17 +21,17 @@ pub fn answer(
         "signs" => signs(alloc, state, subject),
         "namespaces" => namespaces(alloc, state),
         "namespace" => namespace(alloc, state, subject),
-        _ => Err(Fail::new("a strange look-up")),
+        _ => Err(RowError::new("a strange look-up")),
     }
 }
 
-fn signs(alloc: Global, state: &LogState, name: &str) -> Result<String, Fail> {
+fn signs(alloc: Global, state: &LogState, name: &str) -> Result<String, RowError> {
     let signs = state.key_has_permission_to_sign_checkpoints(&id(alloc, name)?);
     Ok(signs.to_string(alloc)?)
 }
 
 // The keys of the log, each its owner and what it may do.
-fn keys(alloc: Global, state: &LogState) -> Result<String, Fail> {
+fn keys(alloc: Global, state: &LogState) -> Result<String, RowError> {
     let mut text = String::from_str(alloc, "only")?;
     for entry in state.keys() {
         let (key, permissions) = (state.public_key(entry.id), state.key_permissions(entry.id));
@@ -42,7 +42,7 @@ fn keys(alloc: Global, state: &LogState) -> Result<String, Fail> {
 }
 
 // The namespaces of the log and what they are.
-fn namespaces(alloc: Global, state: &LogState) -> Result<String, Fail> {
+fn namespaces(alloc: Global, state: &LogState) -> Result<String, RowError> {
     let mut text = String::from_str(alloc, "only")?;
     for (name, namespace) in state.namespaces() {
         check(
@@ -55,12 +55,12 @@ fn namespaces(alloc: Global, state: &LogState) -> Result<String, Fail> {
     Ok(text)
 }
 
-fn namespace(alloc: Global, state: &LogState, name: &str) -> Result<String, Fail> {
+fn namespace(alloc: Global, state: &LogState, name: &str) -> Result<String, RowError> {
     told(alloc, state.namespace_state(name))
 }
 
 // What a namespace is, in words.
-fn told(alloc: Global, namespace: Option<&NamespaceState>) -> Result<String, Fail> {
+fn told(alloc: Global, namespace: Option<&NamespaceState>) -> Result<String, RowError> {
     Ok(match namespace {
         Some(NamespaceState::Defined) => String::from_str(alloc, "defined")?,
         Some(NamespaceState::Imported { registry }) => {

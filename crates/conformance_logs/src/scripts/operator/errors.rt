@@ -1,7 +1,7 @@
 //! The errors of operator logs, in words.
+use crate::scripts::log_error::{log_error, with, with_permission};
 use crate::scripts::people::owner;
-use crate::scripts::refusal::{refusal, with, with_permission};
-use conformance_rows::Fail;
+use conformance_rows::RowError;
 use std::alloc::Global;
 use warg_protocol::operator::{Permission, ValidationError};
 
@@ -11,7 +11,7 @@ pub fn error(
     case: &str,
     subject: &str,
     permission: &str,
-) -> Result<ValidationError, Fail> {
+) -> Result<ValidationError, RowError> {
     Ok(match case {
         "InvalidNamespace" => ValidationError::InvalidNamespace {
             namespace: String::from_str(alloc, subject)?,
@@ -19,12 +19,12 @@ pub fn error(
         "NamespaceAlreadyDefined" => ValidationError::NamespaceAlreadyDefined {
             namespace: String::from_str(alloc, subject)?,
         },
-        _ => ValidationError::from(refusal::<Permission>(alloc, case, subject, permission)?),
+        _ => ValidationError::from(log_error::<Permission>(alloc, case, subject, permission)?),
     })
 }
 
 /// The error in words, as `error` reads them.
-pub fn words(alloc: Global, error: &ValidationError) -> Result<String, Fail> {
+pub fn words(alloc: Global, error: &ValidationError) -> Result<String, RowError> {
     let name = error.name();
     match error {
         ValidationError::KeyIDNotRecognized { key_id } | ValidationError::EmptyGrant { key_id } => {

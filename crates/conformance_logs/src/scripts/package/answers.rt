@@ -1,7 +1,7 @@
 //! What package logs answer, in words.
 use crate::scripts::answers::{head, key_entry, none, permissions, shown, text_of, time};
 use crate::scripts::people::{id, owner};
-use conformance_rows::Fail;
+use conformance_rows::RowError;
 use std::alloc::Global;
 use warg_protocol::package::{LogState, Release, ReleaseState};
 use warg_protocol::signing::KeyID;
@@ -13,7 +13,7 @@ pub fn answer(
     state: &LogState,
     look_up: &str,
     subject: &str,
-) -> Result<String, Fail> {
+) -> Result<String, RowError> {
     match look_up {
         "head" => head(alloc, state.head(), subject),
         "key" => text_of(alloc, state.public_key(&id(alloc, subject)?)),
@@ -25,7 +25,7 @@ pub fn answer(
     }
 }
 
-fn latest(alloc: Global, state: &LogState, wanted: &str) -> Result<String, Fail> {
+fn latest(alloc: Global, state: &LogState, wanted: &str) -> Result<String, RowError> {
     let wanted = VersionReq::parse(alloc, wanted)?;
     match state.find_latest_release(&wanted) {
         Some(release) => shown(alloc, &release.version),
@@ -34,7 +34,7 @@ fn latest(alloc: Global, state: &LogState, wanted: &str) -> Result<String, Fail>
 }
 
 // The keys of the log, each its owner and what it may do.
-fn keys(alloc: Global, state: &LogState) -> Result<String, Fail> {
+fn keys(alloc: Global, state: &LogState) -> Result<String, RowError> {
     let mut text = String::from_str(alloc, "only")?;
     for entry in state.keys() {
         let (key, permissions) = (state.public_key(entry.id), state.key_permissions(entry.id));
@@ -44,7 +44,7 @@ fn keys(alloc: Global, state: &LogState) -> Result<String, Fail> {
     Ok(text)
 }
 
-fn releases(alloc: Global, state: &LogState) -> Result<String, Fail> {
+fn releases(alloc: Global, state: &LogState) -> Result<String, RowError> {
     let mut text = String::from_str(alloc, "only")?;
     for release in state.releases() {
         let version = &release.version;
@@ -59,7 +59,7 @@ fn of_version(
     state: &LogState,
     look_up: &str,
     version: &str,
-) -> Result<String, Fail> {
+) -> Result<String, RowError> {
     let version = Version::parse(alloc, version)?;
     match state.release(&version) {
         Some(release) => of_release(alloc, release, look_up),
@@ -67,7 +67,7 @@ fn of_version(
     }
 }
 
-fn of_release(alloc: Global, release: &Release, look_up: &str) -> Result<String, Fail> {
+fn of_release(alloc: Global, release: &Release, look_up: &str) -> Result<String, RowError> {
     match look_up {
         "record" => shown(alloc, &release.record_id),
         "content" => text_of(alloc, release.content()),
@@ -75,7 +75,7 @@ fn of_release(alloc: Global, release: &Release, look_up: &str) -> Result<String,
     }
 }
 
-fn told(alloc: Global, release: &Release) -> Result<String, Fail> {
+fn told(alloc: Global, release: &Release) -> Result<String, RowError> {
     let released = deed(alloc, &release.by, release.timestamp)?;
     match &release.state {
         ReleaseState::Released { .. } => Ok(released),
@@ -87,7 +87,7 @@ fn told(alloc: Global, release: &Release) -> Result<String, Fail> {
 }
 
 // Whose it is, and when it was done.
-fn deed(alloc: Global, key_id: &KeyID, timestamp: Timestamp) -> Result<String, Fail> {
+fn deed(alloc: Global, key_id: &KeyID, timestamp: Timestamp) -> Result<String, RowError> {
     let by = owner(key_id);
     let at = time(alloc, timestamp)?;
     Ok(format!(in alloc; "by {by} at {at}")?)

@@ -1,7 +1,7 @@
 //! The errors of package logs, in words.
+use crate::scripts::log_error::{log_error, with, with_permission};
 use crate::scripts::people::owner;
-use crate::scripts::refusal::{refusal, with, with_permission};
-use conformance_rows::Fail;
+use conformance_rows::RowError;
 use std::alloc::Global;
 use warg_protocol::Version;
 use warg_protocol::package::{Permission, ValidationError};
@@ -12,7 +12,7 @@ pub fn error(
     case: &str,
     subject: &str,
     permission: &str,
-) -> Result<ValidationError, Fail> {
+) -> Result<ValidationError, RowError> {
     Ok(match case {
         "ReleaseOfReleased" => ValidationError::ReleaseOfReleased {
             version: Version::parse(alloc, subject)?,
@@ -23,12 +23,12 @@ pub fn error(
         "YankOfYanked" => ValidationError::YankOfYanked {
             version: Version::parse(alloc, subject)?,
         },
-        _ => ValidationError::from(refusal::<Permission>(alloc, case, subject, permission)?),
+        _ => ValidationError::from(log_error::<Permission>(alloc, case, subject, permission)?),
     })
 }
 
 /// The error in words, as `error` reads them.
-pub fn words(alloc: Global, error: &ValidationError) -> Result<String, Fail> {
+pub fn words(alloc: Global, error: &ValidationError) -> Result<String, RowError> {
     let name = error.name();
     match error {
         ValidationError::KeyIDNotRecognized { key_id } | ValidationError::EmptyGrant { key_id } => {

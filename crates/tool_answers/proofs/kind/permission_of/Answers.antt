@@ -1,6 +1,6 @@
 use Rattle.std.proofs.Common.{◌≡◌, ◌∙◌, Contains, arith, subst, sym}
 use Rattle.std.proofs.lemmas.Bool.{false≢true}
-use Rattle.tool_answers.proofs.ResealedLemmas.{same_text}
+use Rattle.tool_answers.proofs.ReencodedLemmas.{same_text}
 use Rattle.tool_answers.proofs.WordLemmas.{none_at_all, none_more, none_of_none}
 use Rattle.tool_answers.proofs.kind.permission_of.Goals as goal
 

@@ -1,6 +1,6 @@
 use Rattle.std.proofs.Common.{None}
 use Rattle.warg_audit.specs.Files.RecordLines.{record_lines}
-use Rattle.tool_answers.proofs.JudgedLemmas.{stopped_prints}
+use Rattle.tool_answers.proofs.LoadingLemmas.{error_prints}
 use Rattle.tool_changes.specs.Audits.{IsDemanded}
 use Rattle.tool_changes.proofs.AuditLemmas.{demanded_answers}
 use Rattle.tool_changes.proofs.audit.alone.Goals as goal
@@ -16,5 +16,5 @@ returns-in-Ok g c = λ fault_name offence_name shown reports.
 pub returns-in-Err : goal.returns-in-Err
 returns-in-Err g c = λ fault_name offence_name shown reports.
     let belongs = g.V.Verifier.belongs c.args.verifier.now in
-    stopped_prints _ belongs (IsDemanded _ belongs c.args.demands.now None) (record_lines c.args.input.bytes.items) c.in-Err.stop
-    (c.in-Err.ensures.stopped fault_name offence_name shown reports)
+    error_prints _ belongs (IsDemanded _ belongs c.args.demands.now None) (record_lines c.args.input.bytes.items) c.in-Err.error
+    (c.in-Err.ensures.err fault_name offence_name shown reports)

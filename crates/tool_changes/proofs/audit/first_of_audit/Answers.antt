@@ -1,5 +1,5 @@
 use Rattle.std.proofs.Common.{refl}
-use Rattle.warg_audit.specs.LogTypes.{package_log, operator_log}
+use Rattle.warg_audit.specs.LogKinds.{package_log, operator_log}
 use Rattle.tool_changes.proofs.audit.first_of_audit.Goals as goal
 
 pub returns-in-Package : goal.returns-in-Package

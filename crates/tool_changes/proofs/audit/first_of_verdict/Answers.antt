@@ -1,8 +1,8 @@
 use Rattle.std.proofs.Common.{None}
 use Rattle.warg_audit.specs.Files.RecordLines.{record_lines}
-use Rattle.tool_answers.proofs.JudgedLemmas.{stopped_prints}
+use Rattle.tool_answers.proofs.LoadingLemmas.{error_prints}
 use Rattle.tool_changes.specs.Audits.{IsAudited, IsDemanded, records_alone}
-use Rattle.tool_changes.proofs.FirstLineLemmas.{first_answers, stopped_begins}
+use Rattle.tool_changes.proofs.FirstLineLemmas.{first_answers, error_begins}
 use Rattle.tool_changes.proofs.audit.first_of_verdict.Goals as goal
 
 pub returns-in-Ok : goal.returns-in-Ok
@@ -15,6 +15,6 @@ pub returns-in-Err : goal.returns-in-Err
 returns-in-Err g c = λ fault_name offence_name shown reports.
     let belongs = g.V.Verifier.belongs c.args.verifier.now in
     let ls = record_lines c.args.input.bytes.items in
-    stopped_begins (IsAudited _ belongs (records_alone c.args.allows_empty) None ls) c.in-Err.stop
-    (stopped_prints _ belongs (IsDemanded _ belongs (records_alone c.args.allows_empty) None) ls c.in-Err.stop
-    (c.in-Err.ensures.stopped fault_name offence_name shown reports))
+    error_begins (IsAudited _ belongs (records_alone c.args.allows_empty) None ls) c.in-Err.error
+    (error_prints _ belongs (IsDemanded _ belongs (records_alone c.args.allows_empty) None) ls c.in-Err.error
+    (c.in-Err.ensures.err fault_name offence_name shown reports))

@@ -9,8 +9,8 @@ parted-requires g c =
     rw (c.records-here.ensures.records, c.records-there.ensures.records) (parts_within _ _ _ _ _ c.compare-comparison.ensures.answer)
 
 pub returns : goal.returns
-returns g c = λ fault_name offence_name shown reports before strings olds news counted.
-    beside_answers _ before strings _ _ _ (g.L.Validator.view c.args.log.now.state) _ c.compare-comparison.result c.args.count _
+returns g c = λ fault_name offence_name shown reports before inputs olds news counted.
+    beside_answers _ before inputs _ _ _ (g.L.Validator.view c.args.log.now.state) _ c.compare-comparison.result c.args.count _
     (option_map string_bytes c.in_ok-line.line) c.line_or_verdict.result olds news
     (rw c.records-here.ensures.records at c.records-here.ensures.audited.stands)
     (rw c.records-there.ensures.records at c.records-there.ensures.audited.stands)

@@ -6,4 +6,4 @@ returns-in-Ok g c =
     list_answers _ _ _ _ c.list_answer.result c.in-Ok.ensures.ok (rw c.as_slice.ensures.value at c.list_answer.ensures)
 
 pub returns-in-Err : goal.returns-in-Err
-returns-in-Err g c = bad_line_answers _ _ _ c.in-Err.stop c.in-Err.ensures.stopped
+returns-in-Err g c = bad_line_answers _ _ _ c.in-Err.error c.in-Err.ensures.err

@@ -8,5 +8,5 @@ returns-in-Ok g c = λ fault_name offence_name shown reports.
 
 pub returns-in-Err : goal.returns-in-Err
 returns-in-Err g c = λ fault_name offence_name shown reports.
-    toy_unsaid _ _ _ _ _ _ _ _ c.args.name.now _ c.in-Err.error c.make_stop.result c.as_slice-entries.ensures.value c.make_stop.ensures.memory
-    c.in-Err.ensures.err c.make_stop.ensures.unusable
+    toy_unsaid _ _ _ _ _ _ _ _ c.args.name.now _ c.in-Err.error c.make_error.result c.as_slice-entries.ensures.value c.make_error.ensures.memory
+    c.in-Err.ensures.err c.make_error.ensures.unusable

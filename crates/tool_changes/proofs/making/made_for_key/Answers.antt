@@ -8,5 +8,5 @@ returns-in-Ok g c = λ fault_name offence_name shown reports.
 
 pub returns-in-Err : goal.returns-in-Err
 returns-in-Err g c = λ fault_name offence_name shown reports.
-    key_unsaid _ _ _ _ _ _ _ _ c.args.key _ c.in-Err.error c.make_stop.result c.as_slice-entries.ensures.value c.make_stop.ensures.memory
-    c.in-Err.ensures.err c.make_stop.ensures.unusable
+    key_unsaid _ _ _ _ _ _ _ _ c.args.key _ c.in-Err.error c.make_error.result c.as_slice-entries.ensures.value c.make_error.ensures.memory
+    c.in-Err.ensures.err c.make_error.ensures.unusable

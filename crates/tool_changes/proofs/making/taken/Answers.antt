@@ -7,11 +7,11 @@ pub returns-in-Ok-clause-taken : goal.returns-in-Ok-clause-taken
 returns-in-Ok-clause-taken g c =
     let run = rw c.from_ref.ensures.value at c.in-Ok.ensures.from_view in
     next_taken g.L.Validator.kind all_belong (envelope_of g.L.Record.Record.read) (g.L.Validator.view c.args.log.state)
-    c.args.string.now.items run.0
+    c.args.input.now.items run.0
 
 pub returns-clause-refused : goal.returns-clause-refused
 returns-clause-refused g c = λ fault_name offence_name shown reports.
     let run = rw c.from_ref.ensures.value at c.in-Err.ensures.from_view in
-    refused_so _ (g.L.Validator.view c.args.log.state) c.args.log.count c.args.string.now.items
+    refused_so _ (g.L.Validator.view c.args.log.state) c.args.log.count c.args.input.now.items
     (cause_named_by (envelope_fault_of g.L.Record.Record.fault_of) g.L.Validator.offence_of) c.in-Err.error _ run
     (c.in_ok-refused_next-in-Err.ensures fault_name offence_name shown reports)

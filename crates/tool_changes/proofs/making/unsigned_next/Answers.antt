@@ -1,5 +1,5 @@
 use Rattle.tool_changes.specs.MadeRecords.{taken}
-use Rattle.tool_changes.proofs.MadeLemmas.{refusal_printed}
+use Rattle.tool_changes.proofs.MadeLemmas.{run_error_printed}
 use Rattle.tool_changes.proofs.making.unsigned_next.Goals as goal
 
 pub returns-in_ok-unsigned_line-in-Ok : goal.returns-in_ok-unsigned_line-in-Ok
@@ -8,4 +8,4 @@ returns-in_ok-unsigned_line-in-Ok g c = λ fault_name offence_name shown reports
 
 pub returns-in-Err : goal.returns-in-Err
 returns-in-Err g c = λ fault_name offence_name shown reports.
-    refusal_printed _ _ _ _ _ c.in-Err.stop (c.in-Err.ensures.refused fault_name offence_name shown reports)
+    run_error_printed _ _ _ _ _ c.in-Err.error (c.in-Err.ensures.refused fault_name offence_name shown reports)

@@ -5,4 +5,4 @@ pub returns-in-Ok-clause-answered : goal.returns-in-Ok-clause-answered
 returns-in-Ok-clause-answered g c = file_read _ _ _ c.in-Ok.input.bytes.items c.claims_answer.result c.in-Ok.ensures.bytes c.claims_answer.ensures
 
 pub returns-in-Err-clause-answered : goal.returns-in-Err-clause-answered
-returns-in-Err-clause-answered g c = file_unread _ _ _ c.in-Err.stop c.in-Err.ensures.stopped
+returns-in-Err-clause-answered g c = file_unread _ _ _ c.in-Err.error c.in-Err.ensures.err

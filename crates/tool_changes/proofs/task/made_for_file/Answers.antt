@@ -8,4 +8,4 @@ returns-in-Ok-clause-answered g c = λ fault_name offence_name shown reports.
 
 pub returns-in-Err-clause-answered : goal.returns-in-Err-clause-answered
 returns-in-Err-clause-answered g c = λ fault_name offence_name shown reports.
-    made_unread _ _ _ _ _ _ _ _ _ c.in-Err.stop c.in-Err.ensures.stopped
+    made_unread _ _ _ _ _ _ _ _ _ c.in-Err.error c.in-Err.ensures.err

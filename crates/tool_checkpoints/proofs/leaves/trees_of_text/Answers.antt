@@ -16,7 +16,7 @@ loop-rest-preserved c =
 pub returns-clause-ok : goal.returns-clause-ok
 returns-clause-ok c = all_read (lines_of c.args.text.now) _ c.loop-rest.rest.now _ (sym c.loop-rest-test.ensures) c.loop-rest.invariant
 
-pub returns-in_default-clause-stopped : goal.returns-in_default-clause-stopped
-returns-in_default-clause-stopped c =
+pub returns-in_default-clause-err : goal.returns-in_default-clause-err
+returns-in_default-clause-err c =
     unread_at (lines_of c.args.text.now) (lines_of c.loop-rest.rest.now) (lines_of c.cut_line.result.1.now) _ c.cut_line.result.0.now _
     c.no_leaf.result c.cut_line.ensures.line c.in_default.ensures c.loop-rest.invariant c.no_leaf.ensures

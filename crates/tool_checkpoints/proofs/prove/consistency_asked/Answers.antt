@@ -7,6 +7,6 @@ use Rattle.tool_checkpoints.proofs.prove.consistency_asked.Goals as goal
 pub returns-in-Ok-clause-ok : goal.returns-in-Ok-clause-ok
 returns-in-Ok-clause-ok c = (c.in-Ok.first, refl, c.in-Ok.ensures.ok)
 
-pub returns-in-Err-clause-stopped : goal.returns-in-Err-clause-stopped
-returns-in-Err-clause-stopped c =
-    unsaid_to (IsNumber c.args.word.now) (AsksConsistency c.args.word.now) c.in-Err.stop c.in-Err.ensures.stopped (λ it asks. (asks.0, asks.2))
+pub returns-in-Err-clause-err : goal.returns-in-Err-clause-err
+returns-in-Err-clause-err c =
+    unsaid_to (IsNumber c.args.word.now) (AsksConsistency c.args.word.now) c.in-Err.error c.in-Err.ensures.err (λ it asks. (asks.0, asks.2))

@@ -7,4 +7,4 @@ returns-in_ok-trees_answer-in-Ok c =
     let it = c.in-Ok.ensures.ok in of_leaves it.leaves it.said (c.in_ok-trees_answer-in-Ok.ensures it.leaves it.registry)
 
 pub returns-in-Err : goal.returns-in-Err
-returns-in-Err c = leaves_unread _ _ c.in-Err.stop c.in-Err.ensures.stopped
+returns-in-Err c = leaves_unread _ _ c.in-Err.error c.in-Err.ensures.err

@@ -12,11 +12,11 @@ returns-in-Ok-clause-ok c =
     IfOk-weaker c.checkpoint_of.result _ _
     (λ checkpoint said. record { utf8 = it.0; value = view c.in-Ok.value; json = it.1; said = said }) c.checkpoint_of.ensures.ok
 
-pub returns-in-Ok-clause-stopped : goal.returns-in-Ok-clause-stopped
-returns-in-Ok-clause-stopped c =
+pub returns-in-Ok-clause-err : goal.returns-in-Ok-clause-err
+returns-in-Ok-clause-err c =
     let bytes = c.args.input.now.bytes.items in
     unsaid_if (λ checkpoint. checkpoint_in (view c.in-Ok.value) ≡ Ok checkpoint) (IsCheckpoint bytes) c.checkpoint_of.result
-    c.checkpoint_of.ensures.stopped (said_of bytes (view c.in-Ok.value) c.in-Ok.ensures.ok.1)
+    c.checkpoint_of.ensures.err (said_of bytes (view c.in-Ok.value) c.in-Ok.ensures.ok.1)
 
-pub returns-in-Err-clause-stopped : goal.returns-in-Err-clause-stopped
-returns-in-Err-clause-stopped c = unsaid_json c.args.input.now.bytes.items c.in-Err.stop c.in-Err.ensures.stopped
+pub returns-in-Err-clause-err : goal.returns-in-Err-clause-err
+returns-in-Err-clause-err c = unsaid_json c.args.input.now.bytes.items c.in-Err.error c.in-Err.ensures.err

@@ -11,12 +11,12 @@ returns-in-Ok-clause-ok c =
     let it = c.in-Ok.ensures.ok in
     IfOk-weaker c.log_proof_of.result _ _ (λ proof said. record { utf8 = it.0; said = said }) (rw it.1 at c.log_proof_of.ensures.ok)
 
-pub returns-in-Ok-clause-stopped : goal.returns-in-Ok-clause-stopped
-returns-in-Ok-clause-stopped c =
+pub returns-in-Ok-clause-err : goal.returns-in-Ok-clause-err
+returns-in-Ok-clause-err c =
     let bytes = c.args.input.now.bytes.items in
-    unsaid_if (λ proof. log_proof_of (trim_end bytes) ≡ Ok proof) (IsLogProof bytes) c.log_proof_of.result (rw c.in-Ok.ensures.ok.1 at c.log_proof_of.ensures.stopped)
+    unsaid_if (λ proof. log_proof_of (trim_end bytes) ≡ Ok proof) (IsLogProof bytes) c.log_proof_of.result (rw c.in-Ok.ensures.ok.1 at c.log_proof_of.ensures.err)
     (λ proof it. (proof, it.said))
 
-pub returns-in-Err-clause-stopped : goal.returns-in-Err-clause-stopped
-returns-in-Err-clause-stopped c =
-    unsaid_for (IsLogProof c.args.input.now.bytes.items) _ c.in-Err.stop c.in-Err.ensures.stopped (λ never proof it. never it.utf8)
+pub returns-in-Err-clause-err : goal.returns-in-Err-clause-err
+returns-in-Err-clause-err c =
+    unsaid_for (IsLogProof c.args.input.now.bytes.items) _ c.in-Err.error c.in-Err.ensures.err (λ never proof it. never it.utf8)

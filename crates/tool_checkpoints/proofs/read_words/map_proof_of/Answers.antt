@@ -4,8 +4,8 @@ use Rattle.warg_transparency.specs.declared.error.ProofTextError.TheVariants.{Ou
 use Rattle.tool_checkpoints.proofs.WordLemmas.{no_value, unsaid_unless}
 use Rattle.tool_checkpoints.proofs.read_words.map_proof_of.Goals as goal
 
-pub returns-in-Err-clause-stopped : goal.returns-in-Err-clause-stopped
-returns-in-Err-clause-stopped c =
+pub returns-in-Err-clause-err : goal.returns-in-Err-clause-err
+returns-in-Err-clause-err c =
     let want = map_proof_of c.args.text.now in
-    unsaid_unless (λ proof. want ≡ Ok proof) (c.in-Err.fault ≡ OutOfMemory) c.proof_stop.result c.proof_stop.ensures.unusable
-    c.proof_stop.ensures.memory (no_value want (c.in-Err.fault ≡ OutOfMemory) c.in-Err.fault c.in-Err.ensures.value)
+    unsaid_unless (λ proof. want ≡ Ok proof) (c.in-Err.fault ≡ OutOfMemory) c.proof_error.result c.proof_error.ensures.unusable
+    c.proof_error.ensures.memory (no_value want (c.in-Err.fault ≡ OutOfMemory) c.in-Err.fault c.in-Err.ensures.value)

@@ -6,9 +6,9 @@ pub returns-in-Ok-clause-ok : goal.returns-in-Ok-clause-ok
 returns-in-Ok-clause-ok g c =
     in_bytes _ _ IsCheckpoint c.in-Ok.input.bytes.items c.checkpoint_of_file.result c.in-Ok.ensures.bytes c.checkpoint_of_file.ensures.ok
 
-pub returns-in-Ok-clause-stopped : goal.returns-in-Ok-clause-stopped
-returns-in-Ok-clause-stopped g c =
-    unsaid_bytes _ _ IsCheckpoint c.in-Ok.input.bytes.items c.checkpoint_of_file.result c.in-Ok.ensures.bytes c.checkpoint_of_file.ensures.stopped
+pub returns-in-Ok-clause-err : goal.returns-in-Ok-clause-err
+returns-in-Ok-clause-err g c =
+    unsaid_bytes _ _ IsCheckpoint c.in-Ok.input.bytes.items c.checkpoint_of_file.result c.in-Ok.ensures.bytes c.checkpoint_of_file.ensures.err
 
-pub returns-in-Err-clause-stopped : goal.returns-in-Err-clause-stopped
-returns-in-Err-clause-stopped g c = unread_bytes _ _ IsCheckpoint c.in-Err.stop c.in-Err.ensures.stopped
+pub returns-in-Err-clause-err : goal.returns-in-Err-clause-err
+returns-in-Err-clause-err g c = unread_bytes _ _ IsCheckpoint c.in-Err.error c.in-Err.ensures.err

@@ -9,7 +9,7 @@ returns-in_err-old-clause-answered g c =
     let p = err_from_is_err_and c.from_residual.result c.from_residual.ensures.1 in
     let end = c.in_err-old.field-0.0 in
     rw (p.1, p.2) (
-    file_unsaid _ _ IsCheckpoint _ end c.in_err-old.ensures.stopped)
+    file_unsaid _ _ IsCheckpoint _ end c.in_err-old.ensures.err)
 
 pub returns-in_err-new-clause-answered : goal.returns-in_err-new-clause-answered
 returns-in_err-new-clause-answered g c =
@@ -17,7 +17,7 @@ returns-in_err-new-clause-answered g c =
     let end = c.in_err-new.field-0.0 in
     rw (p.1, p.2) (
     file_said _ _ IsCheckpoint _ c.in_ok-old.old (Err end) c.in_ok-old.ensures.ok (
-    file_unsaid _ _ IsCheckpoint _ end (rw c.in_ok-old.ensures.kept at c.in_err-new.ensures.stopped)))
+    file_unsaid _ _ IsCheckpoint _ end (rw c.in_ok-old.ensures.kept at c.in_err-new.ensures.err)))
 
 pub returns-in_err-proof-clause-answered : goal.returns-in_err-proof-clause-answered
 returns-in_err-proof-clause-answered g c =
@@ -26,7 +26,7 @@ returns-in_err-proof-clause-answered g c =
     rw (p.1, p.2) (
     file_said _ _ IsCheckpoint _ c.in_ok-old.old (Err end) c.in_ok-old.ensures.ok (
     file_said _ _ IsCheckpoint _ c.in_ok-new.new (Err end) (rw c.in_ok-old.ensures.kept at c.in_ok-new.ensures.ok) (
-    file_unsaid _ _ IsLogProof _ end (rw (c.in_ok-new.ensures.kept, c.in_ok-old.ensures.kept) at c.in_err-proof.ensures.stopped))))
+    file_unsaid _ _ IsLogProof _ end (rw (c.in_ok-new.ensures.kept, c.in_ok-old.ensures.kept) at c.in_err-proof.ensures.err))))
 
 pub returns-clause-answered : goal.returns-clause-answered
 returns-clause-answered g c =

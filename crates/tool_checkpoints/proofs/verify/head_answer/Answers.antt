@@ -10,7 +10,7 @@ returns-in_err-leaf-clause-answered g c =
     let p = err_from_is_err_and c.from_residual.result c.from_residual.ensures.1 in
     let end = c.in_err-leaf.field-0.0 in
     rw (p.1, p.2) (
-    words_unsaid (IsLeafOf c.args.leaf.now.log_id.now c.args.leaf.now.record_id.now) _ end c.in_err-leaf.ensures.stopped)
+    words_unsaid (IsLeafOf c.args.leaf.now.log_id.now c.args.leaf.now.record_id.now) _ end c.in_err-leaf.ensures.err)
 
 pub returns-in_err-checkpoint-clause-answered : goal.returns-in_err-checkpoint-clause-answered
 returns-in_err-checkpoint-clause-answered g c =
@@ -18,7 +18,7 @@ returns-in_err-checkpoint-clause-answered g c =
     let end = c.in_err-checkpoint.field-0.0 in
     rw (p.1, p.2) (
     words_said (IsLeafOf c.args.leaf.now.log_id.now c.args.leaf.now.record_id.now) _ c.in_ok-leaf.leaf (Err end) c.in_ok-leaf.ensures.ok (
-    file_unsaid _ _ IsCheckpoint _ end c.in_err-checkpoint.ensures.stopped))
+    file_unsaid _ _ IsCheckpoint _ end c.in_err-checkpoint.ensures.err))
 
 pub returns-in_err-proof-clause-answered : goal.returns-in_err-proof-clause-answered
 returns-in_err-proof-clause-answered g c =
@@ -27,7 +27,7 @@ returns-in_err-proof-clause-answered g c =
     rw (p.1, p.2) (
     words_said (IsLeafOf c.args.leaf.now.log_id.now c.args.leaf.now.record_id.now) _ c.in_ok-leaf.leaf (Err end) c.in_ok-leaf.ensures.ok (
     file_said _ _ IsCheckpoint _ c.in_ok-checkpoint.checkpoint (Err end) c.in_ok-checkpoint.ensures.ok (
-    file_unsaid _ _ IsMapProof _ end (rw c.in_ok-checkpoint.ensures.kept at c.in_err-proof.ensures.stopped))))
+    file_unsaid _ _ IsMapProof _ end (rw c.in_ok-checkpoint.ensures.kept at c.in_err-proof.ensures.err))))
 
 pub returns-clause-answered : goal.returns-clause-answered
 returns-clause-answered g c =

@@ -1,6 +1,6 @@
 use Rattle.std.proofs.Common.{sym, subst}
 use Rattle.std.proofs.lemmas.Result.{IfOk-weaker}
-use Rattle.warg_audit.specs.Printouts.{Printout}
+use Rattle.warg_audit.specs.Printouts.{OutputData}
 use Rattle.warg_protocol.specs.Logs.{envelopes}
 use Rattle.tool_questions.specs.Questions.{IsChainTold}
 use Rattle.tool_questions.proofs.chain.asked_chain.Goals as goal
@@ -15,6 +15,6 @@ returns g c =
       stands = c.state.ensures.audited.stands;
       key = key;
       asked = c.in_ok-asked.ensures;
-      told = subst (λ (printed : Printout). IsChainTold g.L.ToolLog.says_words g.L.Validator.effects es key c.args.permission printed) (sym is) c.in_ok-answer.ensures;
+      told = subst (λ (printed : OutputData). IsChainTold g.L.ToolLog.says_words g.L.Validator.effects es key c.args.permission printed) (sym is) c.in_ok-answer.ensures;
     })
     c.with_fault.ensures

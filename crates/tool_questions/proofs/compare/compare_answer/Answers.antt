@@ -9,4 +9,4 @@ returns-in-Ok g c = λ fault_name offence_name shown reports.
 
 pub returns-in-Err : goal.returns-in-Err
 returns-in-Err g c = λ fault_name offence_name shown reports.
-    old_is_compared _ g.L.ToolLog.says_words _ _ _ c.in-Err.stop (c.in-Err.ensures.stopped fault_name offence_name shown reports)
+    old_is_compared _ g.L.ToolLog.says_words _ _ _ c.in-Err.error (c.in-Err.ensures.err fault_name offence_name shown reports)

@@ -1,4 +1,4 @@
-use Rattle.warg_audit.specs.Files.Answers.{answer_view}
+use Rattle.warg_audit.specs.Files.Answers.{output_data}
 use Rattle.tool_answers.proofs.PartingLemmas.{parts_within}
 use Rattle.tool_questions.proofs.CompareLemmas.{told_of_kept}
 use Rattle.tool_questions.proofs.compare.compared.Goals as goal
@@ -15,7 +15,7 @@ comparison_answer-requires-clause-new_honest g c = c.records-there.ensures.audit
 
 pub returns : goal.returns
 returns g c =
-    told_of_kept g.L.ToolLog.says_words g.L.Validator.kind _ _ _ _ c.compare-comparison.result (answer_view c.in_ok-comparison_answer.field-0)
+    told_of_kept g.L.ToolLog.says_words g.L.Validator.kind _ _ _ _ c.compare-comparison.result (output_data c.in_ok-comparison_answer.field-0)
     (rw c.records-here.ensures.records at c.records-here.ensures.audited.stands)
     (rw c.records-there.ensures.records at c.records-there.ensures.audited.stands)
     c.compare-comparison.ensures.answer

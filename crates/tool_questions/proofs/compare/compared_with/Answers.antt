@@ -10,4 +10,4 @@ returns-in-Ok g c = λ fault_name offence_name shown reports here same.
 
 pub returns-in-Err : goal.returns-in-Err
 returns-in-Err g c = λ fault_name offence_name shown reports here same.
-    new_is_compared _ g.L.ToolLog.says_words _ here _ c.in-Err.stop (c.in-Err.ensures.stopped fault_name offence_name shown reports)
+    new_is_compared _ g.L.ToolLog.says_words _ here _ c.in-Err.error (c.in-Err.ensures.err fault_name offence_name shown reports)

@@ -1,4 +1,4 @@
-use Rattle.tool_answers.proofs.JudgedLemmas.{stopped_prints}
+use Rattle.tool_answers.proofs.LoadingLemmas.{error_prints}
 use Rattle.warg_audit.specs.Files.RecordLines.{record_lines}
 use Rattle.tool_answers.specs.Verdicts.{lawful}
 use Rattle.tool_questions.proofs.permissions.permissions_answer.Goals as goal
@@ -10,5 +10,5 @@ returns-in_ok-asked_permissions-in-Ok g c = λ fault_name offence_name shown rep
 
 pub returns-in-Err : goal.returns-in-Err
 returns-in-Err g c = λ fault_name offence_name shown reports.
-    stopped_prints _ (g.V.Verifier.belongs c.args.verifier.now) _ (record_lines c.args.input.bytes.items) c.in-Err.stop
-    (c.in-Err.ensures.stopped fault_name offence_name shown reports)
+    error_prints _ (g.V.Verifier.belongs c.args.verifier.now) _ (record_lines c.args.input.bytes.items) c.in-Err.error
+    (c.in-Err.ensures.err fault_name offence_name shown reports)

@@ -7,4 +7,4 @@ returns-in-Ok-clause-answered g c = λ fault_name offence_name shown reports.
     (rw c.in-Ok.ensures.kept at (c.compared_with_file.ensures.answered fault_name offence_name shown reports))
 
 pub returns-in-Err-clause-answered : goal.returns-in-Err-clause-answered
-returns-in-Err-clause-answered g c = λ fault_name offence_name shown reports. file_unread _ _ _ c.in-Err.stop c.in-Err.ensures.stopped
+returns-in-Err-clause-answered g c = λ fault_name offence_name shown reports. file_unread _ _ _ c.in-Err.error c.in-Err.ensures.err

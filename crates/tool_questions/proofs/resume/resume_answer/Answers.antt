@@ -8,4 +8,4 @@ returns-in-Ok g c = λ fault_name offence_name shown reports.
 
 pub returns : goal.returns
 returns g c = λ fault_name offence_name shown reports.
-    no_state_resumes _ _ _ _ _ _ _ c.in-Err.stop c.in-Err.ensures.stopped
+    no_state_resumes _ _ _ _ _ _ _ c.in-Err.error c.in-Err.ensures.err

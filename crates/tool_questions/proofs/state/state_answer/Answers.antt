@@ -8,4 +8,4 @@ returns-in-Ok g c = λ fault_name offence_name shown reports.
 
 pub returns-in-Err : goal.returns-in-Err
 returns-in-Err g c = λ fault_name offence_name shown reports.
-    no_state_prints _ _ _ _ _ c.in-Err.stop (c.in-Err.ensures.stopped fault_name offence_name shown reports)
+    no_state_prints _ _ _ _ _ c.in-Err.error (c.in-Err.ensures.err fault_name offence_name shown reports)

@@ -4,7 +4,7 @@ use Rattle.warg_audit.specs.Files.Lines.{lines_of}
 use Rattle.warg_audit.proofs.JudgeLemmas.{IsJudgedTo}
 use Rattle.warg_audit.proofs.log.judge.Given as goal
 
--- the lines so far spell strings that may all come, and the state stands for them
+-- the lines so far spell inputs that may all come, and the state stands for them
 abbrev pub invariant-loop-rest : goal.invariant-loop-rest
 invariant-loop-rest g l = record {
   judged : IsJudgedTo g.L.Validator.kind (g.V.Verifier.belongs l.verifier) (envelope_of g.L.Record.Record.read) (lines_of l.fn.text.items) l.count

@@ -18,12 +18,12 @@ returns-in-Ok-Ok g c =
 pub returns-in-Ok-Err : goal.returns-in-Ok-Err
 returns-in-Ok-Err g c =
     let judged = rw c.in-Ok-Err.field-0-is at c.in-Ok-Err.ensures.ok in
-    IfOk-weaker c.refusal_reply.result _ _
+    IfOk-weaker c.run_error_reply.result _ _
     (λ reply is fault_name offence_name shown reports.
     spelled_answers _ _ (lines_of c.args.text.items) (printed_of reply) judged.0 judged.1.0
     (refused_answers _ _ judged.0 (printed_of reply)
     (is (g.V.Verifier.belongs c.args.verifier.now) g.L.Validator.kind.view_of fault_name offence_name shown reports judged.0 judged.1.1)))
-    c.refusal_reply.ensures.refused
+    c.run_error_reply.ensures.refused
 
 pub returns-in-Err-Bad : goal.returns-in-Err-Bad
 returns-in-Err-Bad g c =

@@ -7,7 +7,7 @@ use Rattle.warg_audit.proofs.reading.read_all.Goals as goal
 
 pub returns-in_default-clause-reading : goal.returns-in_default-clause-reading
 returns-in_default-clause-reading g c =
-    last_read _ _ _ _ _ _ [] c.reads.invariant (omega (arith, c.in_default.ensures.reads)) (omega (arith, c.in_default.ensures.failures)) (omega (arith, c.in_default.ensures.taken))
+    last_read _ _ _ _ _ _ [] c.reads.invariant (omega (arith, c.in_default.ensures.reads)) (omega (arith, c.in_default.ensures.errors)) (omega (arith, c.in_default.ensures.taken))
     (λ unended. rw unended at c.in_default.ensures.late) (none_gone _ _ c.in_default.ensures.bytes) (omega arith)
 
 pub returns-then-count-eq0-clause-ok : goal.returns-then-count-eq0-clause-ok
@@ -16,17 +16,17 @@ returns-then-count-eq0-clause-ok g c =
 
 pub returns-then-count-eq0-clause-reading : goal.returns-then-count-eq0-clause-reading
 returns-then-count-eq0-clause-reading g c =
-    last_read _ _ _ _ _ _ (take c.in-Ok.count c.read.new.buf) c.reads.invariant (omega (arith, c.in-Ok.ensures.reads)) (omega (arith, c.in-Ok.ensures.failures)) (omega (arith, c.in-Ok.ensures.taken, c.in-Ok.ensures.bound.1))
+    last_read _ _ _ _ _ _ (take c.in-Ok.count c.read.new.buf) c.reads.invariant (omega (arith, c.in-Ok.ensures.reads)) (omega (arith, c.in-Ok.ensures.errors)) (omega (arith, c.in-Ok.ensures.taken, c.in-Ok.ensures.bound.1))
     (λ unended. rw unended at c.in-Ok.ensures.late) c.in-Ok.ensures.bytes.0 (omega (arith, c.in-Ok.ensures.bound, c.read.auto.buf, length-take c.min-room.result c.reads.buf))
 
 pub returns-then-is_err-clause-reading : goal.returns-then-is_err-clause-reading
 returns-then-is_err-clause-reading g c =
-    last_read _ _ _ _ _ _ (take c.in-Ok.count c.read.new.buf) c.reads.invariant (omega (arith, c.in-Ok.ensures.reads)) (omega (arith, c.in-Ok.ensures.failures)) (omega (arith, c.in-Ok.ensures.taken, c.in-Ok.ensures.bound.1))
+    last_read _ _ _ _ _ _ (take c.in-Ok.count c.read.new.buf) c.reads.invariant (omega (arith, c.in-Ok.ensures.reads)) (omega (arith, c.in-Ok.ensures.errors)) (omega (arith, c.in-Ok.ensures.taken, c.in-Ok.ensures.bound.1))
     (λ unended. rw unended at c.in-Ok.ensures.late) c.in-Ok.ensures.bytes.0 (omega (arith, c.in-Ok.ensures.bound, c.read.auto.buf, length-take c.min-room.result c.reads.buf))
 
 pub returns-then-len-gt-MAX_INPUT-clause-reading : goal.returns-then-len-gt-MAX_INPUT-clause-reading
 returns-then-len-gt-MAX_INPUT-clause-reading g c =
-    last_read _ _ _ _ _ _ (take c.in-Ok.count c.read.new.buf) c.reads.invariant (omega (arith, c.in-Ok.ensures.reads)) (omega (arith, c.in-Ok.ensures.failures)) (omega (arith, c.in-Ok.ensures.taken, c.in-Ok.ensures.bound.1))
+    last_read _ _ _ _ _ _ (take c.in-Ok.count c.read.new.buf) c.reads.invariant (omega (arith, c.in-Ok.ensures.reads)) (omega (arith, c.in-Ok.ensures.errors)) (omega (arith, c.in-Ok.ensures.taken, c.in-Ok.ensures.bound.1))
     (λ unended. rw unended at c.in-Ok.ensures.late) c.in-Ok.ensures.bytes.0 (omega (arith, c.in-Ok.ensures.bound, c.read.auto.buf, length-take c.min-room.result c.reads.buf))
 
 pub returns-then-len-gt-MAX_INPUT-clause-long : goal.returns-then-len-gt-MAX_INPUT-clause-long
@@ -46,7 +46,7 @@ reads-preserved g c =
     let longer : length c.extend_from_slice.new.self.items ≡ length c.reads.bytes.items + c.in-Ok.count = omega (arith, ap length grown, length-append c.reads.bytes.items front, c.in-Ok.ensures.bound.1) in
     record {
       reads = omega (arith, c.in-Ok.ensures.reads);
-      failures = c.in-Ok.ensures.failures ∙ c.reads.invariant.failures;
+      errors = c.in-Ok.ensures.errors ∙ c.reads.invariant.errors;
       bytes_taken = omega (arith, c.in-Ok.ensures.taken);
       late_reads = λ unended.
           let kept = c.reads.invariant.late_reads unended in

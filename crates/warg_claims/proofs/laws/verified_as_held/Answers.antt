@@ -5,7 +5,7 @@ use Rattle.warg_claims.proofs.HeldClaims.{held-holds, holds-held}
 use Rattle.warg_claims.proofs.laws.verified_as_held.Goals as goal
 
 pub returns : goal.returns
-returns g c = λ strings claims held b own right whole. (
-  judged-alike g.L.Validator.kind (envelope_of g.L.Record.Record.read) strings claims (is_claimed held) b own (held-holds claims held b right),
-  judged-alike g.L.Validator.kind (envelope_of g.L.Record.Record.read) strings claims b (is_claimed held) own (holds-held claims held b whole),
+returns g c = λ inputs claims held b own right whole. (
+  judged-alike g.L.Validator.kind (envelope_of g.L.Record.Record.read) inputs claims (is_claimed held) b own (held-holds claims held b right),
+  judged-alike g.L.Validator.kind (envelope_of g.L.Record.Record.read) inputs claims b (is_claimed held) own (holds-held claims held b whole),
 )

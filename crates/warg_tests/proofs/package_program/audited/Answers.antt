@@ -3,4 +3,4 @@ use Rattle.std.specs.Vec.{vec_items}
 use Rattle.warg_tests.proofs.package_program.audited.Goals as goal
 
 pub returns : goal.returns
-returns g c = c.states_tell_history.ensures.run (g.V.Verifier.belongs c.args.verifier.now) (map vec_items c.args.strings.now) c.run.result c.run.ensures
+returns g c = c.states_tell_history.ensures.run (g.V.Verifier.belongs c.args.verifier.now) (map vec_items c.args.inputs.now) c.run.result c.run.ensures

@@ -1,5 +1,5 @@
 use Rattle.std.proofs.Common.{refl}
-use Rattle.warg_audit.specs.LogTypes.{package_log, operator_log}
+use Rattle.warg_audit.specs.LogKinds.{package_log, operator_log}
 use Rattle.weoldrin.proofs.commands.asked_answer.Goals as goal
 
 pub returns-in-Package-clause-answered : goal.returns-in-Package-clause-answered

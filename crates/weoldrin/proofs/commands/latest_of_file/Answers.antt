@@ -10,4 +10,4 @@ returns-in-Ok-clause-answered g c =
 
 pub returns-in-Err-clause-answered : goal.returns-in-Err-clause-answered
 returns-in-Err-clause-answered g c =
-    words_unsaid (IsRequirement c.args.requirement.now) _ c.in-Err.stop (no_requirement c.args.requirement.now c.in-Err.stop c.in-Err.ensures.stopped)
+    words_unsaid (IsRequirement c.args.requirement.now) _ c.in-Err.error (no_requirement c.args.requirement.now c.in-Err.error c.in-Err.ensures.err)

@@ -1,7 +1,7 @@
 use Rattle.std.proofs.Common.{inl, inr}
 use Rattle.std.proofs.lemmas.Result.{IfOk-weaker}
 use Rattle.weoldrin.specs.Looks.{IsUnnamed}
-use Rattle.weoldrin.proofs.RequestLemmas.{given_stopped}
+use Rattle.weoldrin.proofs.RequestLemmas.{render_error}
 use Rattle.weoldrin.proofs.names.invocation_answer.Goals as goal
 
 pub returns-in-None-clause-answered : goal.returns-in-None-clause-answered
@@ -21,9 +21,9 @@ returns-in-Ok-clause-files g c =
 
 pub returns-in-Err-clause-answered : goal.returns-in-Err-clause-answered
 returns-in-Err-clause-answered g c =
-    rw c.in-Some.is (IfOk-weaker c.given_end.result _ _
-    (λ answer told. inl (given_stopped (IsUnnamed (g.S.Store.files c.args.store.now) c.in-Some.path.now) c.in-Err.stop _ _ _ _
-    c.in-Err.ensures.stopped told)) c.given_end.ensures)
+    rw c.in-Some.is (IfOk-weaker c.render_error_output.result _ _
+    (λ answer told. inl (render_error (IsUnnamed (g.S.Store.files c.args.store.now) c.in-Some.path.now) c.in-Err.error _ _ _ _
+    c.in-Err.ensures.err told)) c.render_error_output.ensures)
 
 pub returns-in-Err-clause-files : goal.returns-in-Err-clause-files
 returns-in-Err-clause-files g c = rw c.in-Some.is (inl c.in-Err.ensures.kept)

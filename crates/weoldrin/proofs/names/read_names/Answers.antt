@@ -9,9 +9,9 @@ returns-in-Ok-clause-ok g c =
     (λ names said. record { bytes = c.in-Ok.input.bytes.items; held = c.in-Ok.ensures.bytes; said = said })
     c.names_of_file.ensures.ok
 
-pub returns-in-Ok-clause-stopped : goal.returns-in-Ok-clause-stopped
-returns-in-Ok-clause-stopped g c =
-    unlisted_file _ _ c.in-Ok.input.bytes.items c.names_of_file.result c.in-Ok.ensures.bytes c.names_of_file.ensures.stopped
+pub returns-in-Ok-clause-err : goal.returns-in-Ok-clause-err
+returns-in-Ok-clause-err g c =
+    unlisted_file _ _ c.in-Ok.input.bytes.items c.names_of_file.result c.in-Ok.ensures.bytes c.names_of_file.ensures.err
 
-pub returns-in-Err-clause-stopped : goal.returns-in-Err-clause-stopped
-returns-in-Err-clause-stopped g c = file_unread _ _ _ c.in-Err.stop c.in-Err.ensures.stopped
+pub returns-in-Err-clause-err : goal.returns-in-Err-clause-err
+returns-in-Err-clause-err g c = file_unread _ _ _ c.in-Err.error c.in-Err.ensures.err

@@ -1,6 +1,6 @@
 use Rattle.std.proofs.Common.{inl, inr}
 use Rattle.std.proofs.lemmas.Result.{IfOk-weaker}
-use Rattle.weoldrin.proofs.RequestLemmas.{given_stopped}
+use Rattle.weoldrin.proofs.RequestLemmas.{render_error}
 use Rattle.weoldrin.proofs.verified.answer_in.Goals as goal
 
 pub returns-in-None-clause-answered : goal.returns-in-None-clause-answered
@@ -20,8 +20,8 @@ returns-in-Ok-clause-files g c =
 
 pub returns-in-Err-clause-answered : goal.returns-in-Err-clause-answered
 returns-in-Err-clause-answered g c =
-    rw c.in-Some.is (IfOk-weaker c.given_end.result _ _
-    (λ answer told. inl (given_stopped _ c.in-Err.stop _ _ _ _ c.in-Err.ensures.stopped told)) c.given_end.ensures)
+    rw c.in-Some.is (IfOk-weaker c.render_error_output.result _ _
+    (λ answer told. inl (render_error _ c.in-Err.error _ _ _ _ c.in-Err.ensures.err told)) c.render_error_output.ensures)
 
 pub returns-in-Err-clause-files : goal.returns-in-Err-clause-files
 returns-in-Err-clause-files g c = rw c.in-Some.is (inl c.in-Err.ensures.kept)

@@ -10,13 +10,13 @@ returns-in-Ok-clause-ok c =
     IfOk-weaker c.verified_of.result _ _ (λ claims said. record { utf8 = rw c.as_slice.ensures.value at c.in-Ok.ensures.cases.1; said = said })
     (rw (c.in-Ok.ensures.cases.0, c.as_slice.ensures.value) at c.verified_of.ensures.ok)
 
-pub returns-in-Ok-clause-stopped : goal.returns-in-Ok-clause-stopped
-returns-in-Ok-clause-stopped c =
+pub returns-in-Ok-clause-err : goal.returns-in-Ok-clause-err
+returns-in-Ok-clause-err c =
     let bytes = c.args.input.now.bytes.items in
     unsaid_if (IsReadFrom (lines bytes)) (SaysClaims bytes) c.verified_of.result
-    (rw (c.in-Ok.ensures.cases.0, c.as_slice.ensures.value) at c.verified_of.ensures.stopped) (λ claims it. (claims, it.said))
+    (rw (c.in-Ok.ensures.cases.0, c.as_slice.ensures.value) at c.verified_of.ensures.err) (λ claims it. (claims, it.said))
 
-pub returns-in-Err-clause-stopped : goal.returns-in-Err-clause-stopped
-returns-in-Err-clause-stopped c =
+pub returns-in-Err-clause-err : goal.returns-in-Err-clause-err
+returns-in-Err-clause-err c =
     let bytes = c.args.input.now.bytes.items in
-    unsaid_as (SaysClaims bytes) c.file_stop.result c.file_stop.ensures (λ claims it. (rw c.as_slice.ensures.value at c.in-Err.ensures.cases.0) it.utf8)
+    unsaid_as (SaysClaims bytes) c.file_error.result c.file_error.ensures (λ claims it. (rw c.as_slice.ensures.value at c.in-Err.ensures.cases.0) it.utf8)

@@ -16,10 +16,10 @@ returns-clause-cut c =
       contents = (c.equality.ensures.operator_records found.contents (record { prev = it.prev; version = it.version; timestamp = it.timestamp; entries = c.truncate.new.self })).0 same ∙ cut ∙ ap (first_entries c.args.count) whole;
       key_id = signer;
     })
-    c.resealed.result c.resealed.ensures.contents c.resealed.ensures.signer
+    c.reencode.result c.reencode.ensures.contents c.reencode.ensures.signer
 
 pub returns-clause-found : goal.returns-clause-found
 returns-clause-found c = λ honest.
     let it = c.in_ok-record.record in
     let cut : LogRecord OperatorEntry = record { prev = it.prev; version = it.version; timestamp = it.timestamp; entries = c.truncate.new.self } in
-    c.resealed.ensures.found c.in_ok-content.ensures.same (λ other same. (c.equality.ensures.operator_records other cut).1 same)
+    c.reencode.ensures.found c.in_ok-content.ensures.same (λ other same. (c.equality.ensures.operator_records other cut).1 same)

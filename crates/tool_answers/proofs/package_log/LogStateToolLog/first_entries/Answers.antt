@@ -18,7 +18,7 @@ returns-clause-cut c =
       contents = (c.equality.ensures.package_records found.contents (record { prev = it.prev; version = it.version; timestamp = it.timestamp; entries = c.truncate.new.self })).0 same ∙ cut ∙ ap (first_entries c.args.count) whole;
       key_id = signer;
     })
-    c.resealed.result c.resealed.ensures.contents c.resealed.ensures.signer
+    c.reencode.result c.reencode.ensures.contents c.reencode.ensures.signer
 
 pub returns-clause-found : goal.returns-clause-found
 returns-clause-found c = λ honest.
@@ -29,4 +29,4 @@ returns-clause-found c = λ honest.
     let readable = each_entry_kept IsReadable (record_data cut) (record_data c.args.envelope.now.contents) c.args.count
     (says ∙ ap (first_entries c.args.count) whole)
     (record_readable c.args.envelope.now.envelope.content (record_data c.args.envelope.now.contents) honest) in
-    c.resealed.ensures.found (c.in_ok-content.ensures.same readable) (λ other same. (c.equality.ensures.package_records other cut).1 same)
+    c.reencode.ensures.found (c.in_ok-content.ensures.same readable) (λ other same. (c.equality.ensures.package_records other cut).1 same)

@@ -14,4 +14,4 @@ returns-in-Ok-clause-answered g c =
     c.in-Ok.older.bytes.items c.shown.result c.in-Ok.ensures.bytes (rw c.in-Ok.ensures.kept at c.shown.ensures.answered)
 
 pub returns-in-Err-clause-answered : goal.returns-in-Err-clause-answered
-returns-in-Err-clause-answered g c = file_unread _ _ _ c.in-Err.stop c.in-Err.ensures.stopped
+returns-in-Err-clause-answered g c = file_unread _ _ _ c.in-Err.error c.in-Err.ensures.err

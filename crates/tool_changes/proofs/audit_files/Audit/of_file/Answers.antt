@@ -11,4 +11,4 @@ pub returns-in-Err-clause-answered : goal.returns-in-Err-clause-answered
 returns-in-Err-clause-answered g c =
     let it = c.args.self.now in
     unsaid it.is_json it.kind (g.V.Verifier.belongs it.verifier.now) (g.S.Store.files c.args.store.now) it.demands it.shows_path c.args.path.now
-    c.in-Err.stop c.in-Err.ensures.stopped
+    c.in-Err.error c.in-Err.ensures.err

@@ -17,4 +17,4 @@ returns-in-Ok-clause-answered g c =
     c.in-Ok.input.bytes.items c.answer.result c.in-Ok.ensures.bytes c.answer.ensures)
 
 pub returns-in-Err-clause-answered : goal.returns-in-Err-clause-answered
-returns-in-Err-clause-answered g c = rw c.if-self.false (file_unread _ _ _ c.in-Err.stop c.in-Err.ensures.stopped)
+returns-in-Err-clause-answered g c = rw c.if-self.false (file_unread _ _ _ c.in-Err.error c.in-Err.ensures.err)

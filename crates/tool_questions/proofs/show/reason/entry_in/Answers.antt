@@ -1,6 +1,6 @@
 use Rattle.std.proofs.Common.{refl}
 use Rattle.std.proofs.lemmas.Result.{IfOk-weaker}
-use Rattle.tool_answers.proofs.ResealedLemmas.{unread_err}
+use Rattle.tool_answers.proofs.ReencodedLemmas.{unread_err}
 use Rattle.tool_answers.specs.Explanations.{of_no_record, of_record}
 use Rattle.tool_questions.proofs.show.reason.entry_in.Goals as goal
 

@@ -9,7 +9,7 @@ use Rattle.warg_c.proofs.exports.appending.warg_append.Goals.{After-status-2}
 answer : (c : After-status-2) → AppendCall c.status-2.result c.args.log.now.owned.kept c.put.new.self.owned.kept c.args.belongs c.args.asked.now c.args.question.now c.args.envelope.now c.append_told-outcome.new.used c.append_told-outcome.new.text
 answer c =
     append-each _ _ _ _ _ _ _ _ _ (append-answers c.args.log.now.owned.kept c.put.new.self.owned.kept c.deref_mut.result.now c.append_told-outcome.new.held (ap (λ h. Some h) c.deref_mut.ensures.value ∙ c.in-Some.ensures.taken) c.put.ensures c.append_told-outcome.result c.status-2.result c.status-2.ensures.code c.status-2.ensures.status
-    c.args.belongs c.args.asked.now c.args.question.now c.args.envelope.now c.append_told-outcome.new.used c.append_told-outcome.new.text c.append_told-outcome.ensures.appended c.append_told-outcome.ensures.failed)
+    c.args.belongs c.args.asked.now c.args.question.now c.args.envelope.now c.append_told-outcome.new.used c.append_told-outcome.new.text c.append_told-outcome.ensures.appended c.append_told-outcome.ensures.err)
 
 pub returns-clause-statuses : goal.returns-clause-statuses
 returns-clause-statuses c = (answer (goal.at.returns-clause-statuses c).After-status-2).statuses
@@ -32,4 +32,4 @@ returns-clause-bad_argument c = (answer (goal.at.returns-clause-bad_argument c).
 pub returns-clause-call : goal.returns-clause-call
 returns-clause-call c =
     append-call c.args.log.now.owned.kept c.put.new.self.owned.kept c.deref_mut.result.now c.append_told-outcome.new.held (ap (λ h. Some h) c.deref_mut.ensures.value ∙ c.in-Some.ensures.taken) c.put.ensures c.append_told-outcome.result
-    (record { envelope = c.args.envelope.now; word = ByCaller c.args.question.now c.args.asked.now c.args.belongs; status = c.status-2.result }) c.status-2.ensures.code c.append_told-outcome.ensures.appended c.append_told-outcome.ensures.unchanged
+    (record { envelope = c.args.envelope.now; verdict = ByCaller c.args.question.now c.args.asked.now c.args.belongs; status = c.status-2.result }) c.status-2.ensures.code c.append_told-outcome.ensures.appended c.append_told-outcome.ensures.unchanged

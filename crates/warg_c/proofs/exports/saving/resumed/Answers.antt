@@ -1,11 +1,11 @@
 use Rattle.std.proofs.Common.{◌≡◌, ℕ, zero, suc, inl, inr, Err, refl, sym, ◌∙◌, subst}
-use Rattle.warg_c.specs.declared.failure.Failure.{Failure}
-use Rattle.warg_c.specs.Held.{IsNoKind, kind_numbered}
+use Rattle.warg_c.specs.declared.call_error.CallError.{CallError}
+use Rattle.warg_c.specs.AnyLogs.{IsNoKind, kind_numbered}
 use Rattle.warg_c.specs.Texts.{IsGiven}
 use Rattle.warg_c.proofs.exports.saving.resumed.Goals as goal
 
 -- the number of no kind is a bad argument
-no-kind : (n : ℕ) (f : Failure) → kind_numbered n ≡ Err f → IsNoKind n
+no-kind : (n : ℕ) (f : CallError) → kind_numbered n ≡ Err f → IsNoKind n
 no-kind zero f h = let never : ⊥ = cc in absurd never
 no-kind (suc zero) f h = let never : ⊥ = cc in absurd never
 no-kind (suc (suc n)) f h = refl

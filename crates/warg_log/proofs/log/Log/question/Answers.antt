@@ -1,7 +1,7 @@
 use Rattle.std.proofs.Common.{◌≡◌, sym, ap, ◌∙◌, subst, IfOk, IfErr}
 use Rattle.warg_crypto.specs.Signed.{signed_message}
 use Rattle.warg_log.specs.Asking.{Asks, RefusesAnyway}
-use Rattle.warg_log.specs.States.{state_view_over, view_of_state, record_ref_data, with_envelope, offence_of_fault}
+use Rattle.warg_log.specs.States.{state_view_over, view_of_state, record_ref_data, with_envelope, offence_of_kind_error}
 use Rattle.warg_log.proofs.AskingLaws.{asks-by-key, refused-unknown}
 use Rattle.warg_log.proofs.log.Log.question.Goals as goal
 
@@ -32,5 +32,5 @@ returns-clause-refused g c =
     let w = state_view_over same g.M.OwnState.view_with_change c.self.inside.state.authority c.in_ok-changes.changes.authority c.self.inside.state.own_state c.in_ok-changes.changes.own_state in
     let r = c.question_with.result in
     let refused = refused-unknown rules same v e w c.in_ok-changes.ensures.after c.in_ok-changes.ensures.judges named_by r c.question_with.ensures.unknown in
-    let here = subst (λ u. IfErr r (λ f. RefusesAnyway rules same (offence_of_fault named_by f) u e)) (ap (view_of_state same view) c.self.view_is) refused in
-    subst (λ s. IfErr r (λ f. RefusesAnyway rules same (offence_of_fault named_by f) (view_of_state same view c.args.self.now) (with_envelope s envelope))) (c.record_ref-parts.ensures ∙ ap g.M.OwnState.record_data c.contents.ensures) here
+    let here = subst (λ u. IfErr r (λ f. RefusesAnyway rules same (offence_of_kind_error named_by f) u e)) (ap (view_of_state same view) c.self.view_is) refused in
+    subst (λ s. IfErr r (λ f. RefusesAnyway rules same (offence_of_kind_error named_by f) (view_of_state same view c.args.self.now) (with_envelope s envelope))) (c.record_ref-parts.ensures ∙ ap g.M.OwnState.record_data c.contents.ensures) here

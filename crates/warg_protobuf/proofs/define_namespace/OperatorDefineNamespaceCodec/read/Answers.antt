@@ -1,4 +1,4 @@
-use Rattle.warg_protobuf.specs.Drafts.{one_text_kept, no_text, one_text_with, define_namespace_made}
+use Rattle.warg_protobuf.specs.MessageDrafts.{one_text_kept, no_text, one_text_with, define_namespace_made}
 use Rattle.warg_protobuf.specs.DefineNamespace.{define_namespace_table, define_namespace_from, define_namespace_view}
 use Rattle.warg_protobuf.proofs.Finishing.{finished_as, may_take, define_namespace_finishes}
 use Rattle.warg_protobuf.proofs.define_namespace.OperatorDefineNamespaceCodec.read.Goals as goal

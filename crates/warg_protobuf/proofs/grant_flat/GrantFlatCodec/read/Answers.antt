@@ -1,4 +1,4 @@
-use Rattle.warg_protobuf.specs.Drafts.{text_and_numbers_kept, nothing_kept, text_and_numbers_with, grant_flat_made}
+use Rattle.warg_protobuf.specs.MessageDrafts.{text_and_numbers_kept, nothing_kept, text_and_numbers_with, grant_flat_made}
 use Rattle.warg_protobuf.specs.GrantFlat.{grant_flat_table, grant_flat_from, grant_flat_view}
 use Rattle.warg_protobuf.proofs.Finishing.{finished_as, grant_flat_finishes}
 use Rattle.warg_protobuf.proofs.grant_flat.GrantFlatCodec.read.Goals as goal

@@ -1,4 +1,4 @@
-use Rattle.warg_protobuf.specs.Drafts.{two_texts_kept, no_texts, two_texts_with, import_namespace_made}
+use Rattle.warg_protobuf.specs.MessageDrafts.{two_texts_kept, no_texts, two_texts_with, import_namespace_made}
 use Rattle.warg_protobuf.specs.ImportNamespace.{import_namespace_table, import_namespace_from, import_namespace_view}
 use Rattle.warg_protobuf.proofs.Finishing.{finished_as, may_take, import_namespace_finishes}
 use Rattle.warg_protobuf.proofs.import_namespace.OperatorImportNamespaceCodec.read.Goals as goal

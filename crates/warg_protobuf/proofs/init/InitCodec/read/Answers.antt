@@ -1,4 +1,4 @@
-use Rattle.warg_protobuf.specs.Drafts.{two_texts_kept, no_texts, two_texts_with, init_made}
+use Rattle.warg_protobuf.specs.MessageDrafts.{two_texts_kept, no_texts, two_texts_with, init_made}
 use Rattle.warg_protobuf.specs.Init.{init_table, init_from, init_view}
 use Rattle.warg_protobuf.proofs.Finishing.{finished_as, may_take, init_finishes}
 use Rattle.warg_protobuf.proofs.init.InitCodec.read.Goals as goal

@@ -1,6 +1,6 @@
 use Rattle.warg_protobuf.specs.DefineNamespace.{define_namespace_table}
 use Rattle.warg_protobuf.specs.ImportNamespace.{import_namespace_table}
-use Rattle.warg_protobuf.specs.Drafts.{one_text_kept, one_text_with, no_text, two_texts_kept, two_texts_with, no_texts, Absent, member_kept, member_with, operator_entry_made}
+use Rattle.warg_protobuf.specs.MessageDrafts.{one_text_kept, one_text_with, no_text, two_texts_kept, two_texts_with, no_texts, Absent, member_kept, member_with, operator_entry_made}
 use Rattle.warg_protobuf.specs.OperatorEntry.{operator_entry_table, operator_entry_from, operator_entry_view}
 use Rattle.warg_protobuf.proofs.Entries.{operator_entry_finishes}
 use Rattle.warg_protobuf.proofs.Finishing.{finished_as}

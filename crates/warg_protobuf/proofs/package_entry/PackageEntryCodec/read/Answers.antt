@@ -1,6 +1,6 @@
 use Rattle.warg_protobuf.specs.Release.{release_table}
 use Rattle.warg_protobuf.specs.Yank.{yank_table}
-use Rattle.warg_protobuf.specs.Drafts.{one_text_kept, one_text_with, no_text, two_texts_kept, two_texts_with, no_texts, Absent, member_kept, member_with, package_entry_made}
+use Rattle.warg_protobuf.specs.MessageDrafts.{one_text_kept, one_text_with, no_text, two_texts_kept, two_texts_with, no_texts, Absent, member_kept, member_with, package_entry_made}
 use Rattle.warg_protobuf.specs.PackageEntry.{package_entry_table, package_entry_from, package_entry_view}
 use Rattle.warg_protobuf.proofs.Entries.{package_entry_finishes}
 use Rattle.warg_protobuf.proofs.Finishing.{finished_as}

@@ -1,4 +1,4 @@
-use Rattle.warg_protobuf.specs.Drafts.{record_kept}
+use Rattle.warg_protobuf.specs.MessageDrafts.{record_kept}
 use Rattle.warg_protobuf.specs.Record.{record_view}
 use Rattle.warg_protobuf.proofs.Finishing.{record_gathered}
 use Rattle.warg_protobuf.proofs.record.Record.gather.Goals as goal

@@ -1,4 +1,4 @@
-use Rattle.warg_protobuf.specs.Drafts.{two_texts_kept, no_texts, two_texts_with, release_made}
+use Rattle.warg_protobuf.specs.MessageDrafts.{two_texts_kept, no_texts, two_texts_with, release_made}
 use Rattle.warg_protobuf.specs.Release.{release_table, release_from, release_view}
 use Rattle.warg_protobuf.proofs.Finishing.{finished_as, may_take, release_finishes}
 use Rattle.warg_protobuf.proofs.release.PackageReleaseCodec.read.Goals as goal

@@ -1,4 +1,4 @@
-use Rattle.warg_protobuf.specs.Drafts.{text_and_numbers_kept, nothing_kept, text_and_numbers_with, revoke_flat_made}
+use Rattle.warg_protobuf.specs.MessageDrafts.{text_and_numbers_kept, nothing_kept, text_and_numbers_with, revoke_flat_made}
 use Rattle.warg_protobuf.specs.RevokeFlat.{revoke_flat_table, revoke_flat_from, revoke_flat_view}
 use Rattle.warg_protobuf.proofs.Finishing.{finished_as, revoke_flat_finishes}
 use Rattle.warg_protobuf.proofs.revoke_flat.RevokeFlatCodec.read.Goals as goal

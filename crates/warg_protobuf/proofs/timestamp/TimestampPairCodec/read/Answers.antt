@@ -1,4 +1,4 @@
-use Rattle.warg_protobuf.specs.Drafts.{timestamp_kept, no_time, timestamp_with, time_made}
+use Rattle.warg_protobuf.specs.MessageDrafts.{timestamp_kept, no_time, timestamp_with, time_made}
 use Rattle.warg_protobuf.specs.Timestamp.{timestamp_table, timestamp_from, timestamp_view}
 use Rattle.warg_protobuf.proofs.Finishing.{finished_as, timestamp_finishes}
 use Rattle.warg_protobuf.proofs.timestamp.TimestampPairCodec.read.Goals as goal

@@ -1,4 +1,4 @@
-use Rattle.warg_protobuf.specs.Drafts.{one_text_kept, no_text, one_text_with, yank_made}
+use Rattle.warg_protobuf.specs.MessageDrafts.{one_text_kept, no_text, one_text_with, yank_made}
 use Rattle.warg_protobuf.specs.Yank.{yank_table, yank_from, yank_view}
 use Rattle.warg_protobuf.proofs.Finishing.{finished_as, may_take, yank_finishes}
 use Rattle.warg_protobuf.proofs.yank.PackageYankCodec.read.Goals as goal

@@ -1,12 +1,12 @@
 use Rattle.std.proofs.Common.{◌++◌}
-use Rattle.warg_replay.specs.AuditedLog.Ledgers.{number_over}
-use Rattle.warg_replay.proofs.AuditedLogLemmas.LedgerLemmas.{AreApplied-next}
+use Rattle.warg_replay.specs.AuditedLog.GrantIndexes.{number_over}
+use Rattle.warg_replay.proofs.AuditedLogLemmas.GrantIndexLemmas.{AreApplied-next}
 use Rattle.warg_replay.proofs.audited_log.drafting.add_entry.Goals as goal
 
 pub events-preserved : goal.events-preserved
 events-preserved g c =
     let same = g.P.PartialEq.eq in
-    let base = c.args.ledger.now in
+    let base = c.args.grant_index.now in
     let was = c.args.draft.now in
     let mid = c.events.draft in
     let new = c.add_event.new.draft in

@@ -1,5 +1,5 @@
 use Rattle.std.proofs.Common.{◌≡◌, map, take}
-use Rattle.warg_replay.specs.AuditedLog.Ledgers.{number_over}
+use Rattle.warg_replay.specs.AuditedLog.GrantIndexes.{number_over}
 use Rattle.warg_replay.proofs.audited_log.drafting.signer_numbers.Given as goal
 
 abbrev pub invariant-loop-event : goal.invariant-loop-event

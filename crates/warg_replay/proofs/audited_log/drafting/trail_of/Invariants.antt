@@ -1,6 +1,6 @@
 use Rattle.std.proofs.Common.{◌≡◌, ◌++◌, ◌<◌, List, length}
 use Rattle.warg_replay.specs.declared.audited_log.link.Link.{Link}
-use Rattle.warg_replay.specs.AuditedLog.Ledgers.{IsTrail}
+use Rattle.warg_replay.specs.AuditedLog.GrantIndexes.{IsTrail}
 use Rattle.warg_replay.proofs.audited_log.drafting.trail_of.Given as goal
 
 -- a trail goes on from here, and each trail from the start is what was passed and one from here

@@ -1,5 +1,5 @@
 use Rattle.warg_replay.proofs.AuditedLogLemmas.HoldLemmas.{held-last}
-use Rattle.warg_replay.proofs.AuditedLogLemmas.LedgerLemmas.{held-all}
+use Rattle.warg_replay.proofs.AuditedLogLemmas.GrantIndexLemmas.{held-all}
 use Rattle.warg_replay.proofs.audited_log.laws.last_entry_decides.Goals as goal
 
 pub returns-clause-held : goal.returns-clause-held

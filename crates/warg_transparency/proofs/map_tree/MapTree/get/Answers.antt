@@ -1,7 +1,7 @@
 use Rattle.std.proofs.Common.{◌≡◌, ◌∙◌, sym, ap, Some}
 use Rattle.std.specs.Option.{option_map}
 use Rattle.warg_merkle.specs.SparseMap.Maps.{way_down}
-use Rattle.warg_merkle.specs.MapTree.MapTree.{map_of}
+use Rattle.warg_merkle.specs.SparseTree.SparseTree.{map_of}
 use Rattle.warg_registry.specs.PrefixEncodings.{map_leaf_encoding_of}
 use Rattle.warg_transparency.specs.MapTree.{way_of}
 use Rattle.warg_transparency.proofs.map_tree.MapTree.get.Goals as goal

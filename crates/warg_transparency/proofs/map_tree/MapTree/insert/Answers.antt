@@ -1,7 +1,7 @@
 use Rattle.std.proofs.Common.{◌≡◌, ◌∙◌, ◌+◌, if◌then◌else◌, true, is_some, sym, ap, subst, Some, option_map}
 use Rattle.warg_merkle.specs.SparseMap.Maps.{way_down}
-use Rattle.warg_merkle.specs.MapTree.MapTree.{map_of}
-use Rattle.warg_merkle.specs.MapTree.Nodes.{map_count}
+use Rattle.warg_merkle.specs.SparseTree.SparseTree.{map_of}
+use Rattle.warg_merkle.specs.SparseTree.Nodes.{map_count}
 use Rattle.warg_registry.specs.PrefixEncodings.{map_leaf_encoding_of}
 use Rattle.warg_transparency.specs.MapLeaves.{IsLeafEncoding, leaf_read}
 use Rattle.warg_transparency.specs.MapTree.{way_of}

@@ -1,7 +1,0 @@
--- What a program prints.
-use Rattle.std.specs.Prelude.{ℕ, List}
-
--- the text that is printed, and the exit status
-pub record Printout : Type 0 where
-  pub text : List ℕ
-  pub status : ℕ

@@ -1,9 +1,0 @@
-use Rattle.std.proofs.Common.{sym, ◌∙◌}
-use Rattle.sha2.specs.Sha256.{sha256}
-use Rattle.warg_merkle.specs.MapTree.MapTree.{map_of}
-use Rattle.warg_merkle.proofs.MapTreeLemmas.Values.{count}
-use Rattle.warg_merkle.proofs.map_tree.map_tree.MapTree.len.Goals as goal
-
-pub returns : goal.returns
-unfolding map_of
-returns c = c.args.self.now.counted ∙ sym (count sha256 c.args.self.now.node 256 c.args.self.now.hashed)

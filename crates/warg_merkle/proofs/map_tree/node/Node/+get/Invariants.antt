@@ -1,5 +1,0 @@
-use Rattle.std.proofs.Common.{◌-◌}
-use Rattle.warg_merkle.proofs.map_tree.node.Node.+get.Given as goal
-
-abbrev pub decreases-get : goal.decreases-get
-decreases-get l = 256 - l.depth

@@ -1,5 +1,0 @@
-use Rattle.std.proofs.Common.{◌-◌}
-use Rattle.warg_merkle.proofs.map_tree.node.Node.+insert.Given as goal
-
-abbrev pub decreases-insert : goal.decreases-insert
-decreases-insert l = 256 - l.depth

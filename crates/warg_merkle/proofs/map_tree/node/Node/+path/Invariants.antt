@@ -1,5 +1,0 @@
-use Rattle.std.proofs.Common.{◌-◌}
-use Rattle.warg_merkle.proofs.map_tree.node.Node.+path.Given as goal
-
-abbrev pub decreases-path : goal.decreases-path
-decreases-path l = 256 - l.depth

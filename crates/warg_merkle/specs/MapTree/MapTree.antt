@@ -1,9 +1,0 @@
--- The map that the tree stores.
-use Rattle.std.specs.Prelude.{ℕ, List, Option}
-use Rattle.warg_merkle.specs.Trees.{Side}
-use Rattle.warg_merkle.specs.declared.map_tree.map_tree.MapTree.{MapTree}
-use Rattle.warg_merkle.specs.MapTree.Stored.{value_at}
-
--- what stands at the end of a way
-unfoldable pub map_of : MapTree → List Side → Option (List ℕ)
-map_of tree = value_at tree.node

@@ -1,7 +1,0 @@
-use Rattle.std.proofs.Common.{◌≡◌, drop}
-use Rattle.warg_replay.specs.AuditedLog.Ledgers.{number_in}
-use Rattle.warg_replay.proofs.audited_log.ledger.find_number.Given as goal
-
--- none so far is of the permission
-abbrev pub invariant-loop-holding : goal.invariant-loop-holding
-invariant-loop-holding g l = number_in g.P.PartialEq.eq l.holdings l.permission ≡ number_in g.P.PartialEq.eq (drop l.holding-index l.holdings) l.permission

@@ -1,5 +1,0 @@
-use Rattle.warg_replay.proofs.Tellings.{accepted-asked}
-use Rattle.warg_replay.proofs.host.laws.accepted_as_asked.Goals as goal
-
-pub returns : goal.returns
-returns g c = accepted-asked g.L.Validator.kind g.met.L.Hosted.asks_where_lawful

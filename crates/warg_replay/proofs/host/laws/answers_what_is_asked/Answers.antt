@@ -1,5 +1,0 @@
-use Rattle.warg_replay.proofs.Tellings.{answers}
-use Rattle.warg_replay.proofs.host.laws.answers_what_is_asked.Goals as goal
-
-pub returns : goal.returns
-returns g c = answers g.L.Validator.kind g.met.L.Hosted.asks_where_lawful
