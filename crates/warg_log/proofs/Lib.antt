@@ -15,7 +15,7 @@ pub mod EquivalentLaws
 pub mod FormLaws
 pub mod AdmissionLaws
 pub mod HeadJsonLaws
-pub mod SavedParts
+pub mod SavedPartLaws
 pub mod SavedHead
 pub mod SavedEqual
 pub mod CanonicalHead

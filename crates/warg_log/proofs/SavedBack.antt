@@ -1,6 +1,6 @@
 -- What was written of a state's parts reads back, and fits together where the state is coherent.
 use Rattle.std.proofs.Common.{◌≡◌, refl, ap, ◌∙◌, subst}
-use Rattle.std.specs.Prelude.{ℕ, List, [], ◌∷◌, true, ◌&&◌, Option, Some, None, is_some, is_none, Result, Ok}
+use Rattle.std.specs.Prelude.{Bool, ℕ, List, [], ◌∷◌, true, ◌&&◌, Option, Some, None, is_some, is_none, Result, Ok}
 use Rattle.serde_json.specs.Data.{Data}
 use Rattle.warg_crypto.specs.declared.hash.HashAlgorithm.{HashAlgorithm}
 use Rattle.warg_crypto.specs.declared.json.error.Incoherence.{Incoherence}

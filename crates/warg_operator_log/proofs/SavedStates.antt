@@ -3,7 +3,7 @@ use Rattle.std.proofs.Common.{◌≡◌, None, ap}
 use Rattle.warg_permissions.specs.OperatorPermissions.{same_permission}
 use Rattle.warg_saved_states.proofs.Cases.{nil}
 use Rattle.warg_log.specs.Rules.{IsCoherent}
-use Rattle.warg_log.proofs.SavedParts.{coherent_saved, parts_fit}
+use Rattle.warg_log.proofs.SavedPartLaws.{coherent_saved, parts_fit}
 use Rattle.warg_operator_log.specs.Namespaces.{names, rules}
 use Rattle.warg_operator_log.specs.SavedState.{Parts, incoherence, namespaces_case, state_of}
 use Rattle.warg_operator_log.specs.State.{view_of}

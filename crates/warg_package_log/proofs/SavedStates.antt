@@ -3,7 +3,7 @@ use Rattle.std.proofs.Common.{◌≡◌, List, map, None, ap}
 use Rattle.warg_permissions.specs.PackagePermissions.{same_permission}
 use Rattle.warg_saved_states.proofs.Cases.{nil}
 use Rattle.warg_log.specs.Rules.{IsCoherent}
-use Rattle.warg_log.proofs.SavedParts.{coherent_saved, parts_fit}
+use Rattle.warg_log.proofs.SavedPartLaws.{coherent_saved, parts_fit}
 use Rattle.warg_package_log.specs.Releases.{ReleaseView, rules}
 use Rattle.warg_package_log.specs.SavedState.{Parts, incoherence, releases_case, state_of}
 use Rattle.warg_package_log.specs.State.{view_of}

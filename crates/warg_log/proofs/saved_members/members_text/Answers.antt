@@ -20,7 +20,7 @@ returns-in_err-put_optional-clause-written g c =
     let p = err_from_is_err_and c.from_residual.result c.from_residual.ensures.1 in
     rw (p.1, p.2) (saved.moved
     (saved.same_json (permissions_json g.M.Permission.LogPermission.text_of) c.args.first.now g.K.SavedName.name_of g.V.SavedValue.writes c.args.second.now g.L.SavedName.name_of g.W.SavedValue.writes (plain_pairs g.K.SavedName.plain g.V.SavedValue.plain c.args.firsts.now.entries) (plain_pairs g.L.SavedName.plain g.W.SavedValue.plain c.args.seconds.now.entries)
-    (same_option c.algorithm.result.now ∙ c.algorithm.ensures) refl refl) _
+    (same_option c.algorithm.result.now ∙ c.algorithm.ensures) (refl {a = s.head}) (refl {a = s.authority.rights})) _
     (saved.algorithm_fault (permissions_json g.M.Permission.LogPermission.text_of) c.args.first.now g.K.SavedName.name_of g.V.SavedValue.writes c.args.second.now g.L.SavedName.name_of g.W.SavedValue.writes
     (option_map (λ a. a) c.algorithm.result.now) s.head s.authority.rights (plain_pairs g.K.SavedName.plain g.V.SavedValue.plain c.args.firsts.now.entries) (plain_pairs g.L.SavedName.plain g.W.SavedValue.plain c.args.seconds.now.entries)
     _ c.new-members.ensures _ c.in_err-put_optional.ensures.written))
@@ -31,7 +31,7 @@ returns-in_err-put_head_text-clause-written g c =
     let p = err_from_is_err_and c.from_residual-in_err-put_head_text.result c.from_residual-in_err-put_head_text.ensures.1 in
     rw (p.1, p.2) (saved.moved
     (saved.same_json (permissions_json g.M.Permission.LogPermission.text_of) c.args.first.now g.K.SavedName.name_of g.V.SavedValue.writes c.args.second.now g.L.SavedName.name_of g.W.SavedValue.writes (plain_pairs g.K.SavedName.plain g.V.SavedValue.plain c.args.firsts.now.entries) (plain_pairs g.L.SavedName.plain g.W.SavedValue.plain c.args.seconds.now.entries)
-    (same_option c.algorithm.result.now ∙ c.algorithm.ensures) c.head.ensures.value refl) _
+    (same_option c.algorithm.result.now ∙ c.algorithm.ensures) c.head.ensures.value (refl {a = s.authority.rights})) _
     (saved.head_fault (permissions_json g.M.Permission.LogPermission.text_of) c.args.first.now g.K.SavedName.name_of g.V.SavedValue.writes c.args.second.now g.L.SavedName.name_of g.W.SavedValue.writes
     (option_map (λ a. a) c.algorithm.result.now) c.head.result.now s.authority.rights (plain_pairs g.K.SavedName.plain g.V.SavedValue.plain c.args.firsts.now.entries) (plain_pairs g.L.SavedName.plain g.W.SavedValue.plain c.args.seconds.now.entries)
     _ c.new-members.ensures _ c.in_ok-put_optional.ensures.written _ c.in_err-put_head_text.ensures.written))
@@ -85,7 +85,7 @@ returns-clause-read g c =
     let json = saved_json (permissions_json g.M.Permission.LogPermission.text_of) c.args.first.now g.K.SavedName.name_of g.V.SavedValue.writes c.args.second.now g.L.SavedName.name_of g.W.SavedValue.writes s.authority.algorithm s.head s.authority.rights (plain_pairs g.K.SavedName.plain g.V.SavedValue.plain c.args.firsts.now.entries) (plain_pairs g.L.SavedName.plain g.W.SavedValue.plain c.args.seconds.now.entries) in
     gives_reads string_bytes c.text.result json
     (saved.saved_canonical (permissions_json g.M.Permission.LogPermission.text_of) c.args.first.now g.K.SavedName.name_of g.V.SavedValue.writes c.args.second.now g.L.SavedName.name_of g.W.SavedValue.writes s.authority.algorithm s.head s.authority.rights (plain_pairs g.K.SavedName.plain g.V.SavedValue.plain c.args.firsts.now.entries) (plain_pairs g.L.SavedName.plain g.W.SavedValue.plain c.args.seconds.now.entries)
-    c.head.ensures.coherent.versioned (λ ps. texts_canonical 124 g.M.Permission.LogPermission.text_of ps) g.met.V.SavedValue.canonical g.met.W.SavedValue.canonical)
+    c.head.ensures.coherent.versioned (λ ps. texts_canonical 124 g.M.Permission.LogPermission.text_of ps) g.V.SavedValue.canonical g.W.SavedValue.canonical)
     (returns-clause-written g c)
 
 pub returns-clause-coherent : goal.returns-clause-coherent
