@@ -30,7 +30,6 @@ use warg_crypto::time::Timestamp;
 use warg_envelope::ProtoEnvelope;
 use warg_log::{EntryRef, LogError, Origin, OwnState, RecordRef};
 use warg_log_records::RecordId;
-use warg_log_records::laws::envelope_reading_computes;
 use warg_log_records::operator::{OperatorEntry, OperatorRecord, Permission};
 use warg_permissions::key_maps::put_all;
 use warg_registry::PackageName;
@@ -149,12 +148,6 @@ impl NamespaceMap {
 
 impl OwnState for NamespaceMap {
     ghost use Rattle.std.proofs.Common as common;
-    ghost use Rattle.warg_log_records.specs.OperatorReading.{operator_entry_of, operator_record_of};
-    ghost use Rattle.warg_log_records.specs.Relations.{HasRecordFault, IsRecord};
-    ghost use Rattle.warg_operator_log.proofs.AcceptedLaws.{accepted-extension};
-    ghost use Rattle.warg_operator_log.specs.Namespaces.{KeepsNamespaces};
-    ghost use Rattle.warg_operator_log.specs.StateLaws.{listed_namespaces};
-    ghost use Rattle.warg_protobuf.specs.OperatorRecord.{IsOperatorRecord, operator_record_table};
     ghost use Rattle.warg_operator_log.specs.ErrorLaws as errors;
 
     type Permission = Permission;
@@ -175,17 +168,6 @@ impl OwnState for NamespaceMap {
 
     ghost rules = { rules };
 
-    ghost read = { operator_record_of };
-
-    ghost listed = { listed_namespaces };
-
-    // Each namespace keeps its state.
-    ghost keeps = { KeepsNamespaces };
-
-    ghost IsContent = { IsRecord operator_record_table IsOperatorRecord operator_entry_of };
-
-    ghost HasContentFault = { HasRecordFault operator_record_table IsOperatorRecord operator_entry_of };
-
     ghost view = { names };
 
     ghost view_with_change = { names_over };
@@ -200,12 +182,6 @@ impl OwnState for NamespaceMap {
 
     ghost signs_under = { refl };
 
-    ghost owns_its_key = { refl };
-
-    ghost reads_data = { λ r content h. h };
-
-    ghost one_data = { λ r s h. h };
-
     ghost one_out_of_memory = { errors.one_out_of_memory };
 
     ghost equal_errors = { Prim.search common.rules };
@@ -213,10 +189,6 @@ impl OwnState for NamespaceMap {
     ghost after_none = { names-none };
 
     ghost after_append = { names-append };
-
-    ghost by_list = { λ es h. refl };
-
-    ghost longer_keeps = { accepted-extension };
 
     ghost equals = { namespaces_decide };
 
@@ -314,10 +286,6 @@ impl OwnState for NamespaceMap {
             }
             _ => Ok(()),
         }
-    }
-
-    fn reading_computes() {
-        envelope_reading_computes();
     }
 
     fn commit(&mut self, change: NamespaceMap) -> Result<(), AllocError> {
