@@ -24,7 +24,7 @@ loop-rest-preserved g c =
           (cause_named_by (envelope_fault_of g.L.Record.Record.fault_of) g.L.Validator.offence_of) (lines_of c.args.text.items)
           c.loop-rest.count c.cut_line.result.0.now (lines_of c.cut_line.result.1.now)
           (g.L.Validator.view c.loop-rest.state) so_far input (c.in_ok-decode_line.ensures.bytes (ap Ok good))
-          c.in-Ok-run_next.next (rw c.as_slice-input.ensures.value at (c.in-Ok-run_next.ensures so_far.inputs so_far.many so_far.lawful so_far.stands));
+          c.in-Ok-run_next.next (rw c.as_slice-bytes.ensures.value at (c.in-Ok-run_next.ensures so_far.inputs so_far.many so_far.lawful so_far.stands));
       short = omega arith;
     }
 
@@ -44,7 +44,7 @@ returns-in-Err-run_next-clause-ok g c =
         rest_read 0 lines (c.loop-rest.count + 1) rest inputs more.0 read more.1,
         rw c.in_ok-run_error-in-Err-run_next.ensures.ok (still_refused g.L.Validator.kind (g.V.Verifier.belongs c.args.verifier.now) (envelope_of g.L.Record.Record.read) g.L.Validator.kind.view_of
             inputs more.0 (cause_named_by (envelope_fault_of g.L.Record.Record.fault_of) g.L.Validator.offence_of)
-            c.in-Err-run_next.error (rw c.as_slice-input.ensures.value at (c.in-Err-run_next.ensures judged.inputs judged.many judged.lawful judged.stands))),
+            c.in-Err-run_next.error (rw c.as_slice-bytes.ensures.value at (c.in-Err-run_next.ensures judged.inputs judged.many judged.lawful judged.stands))),
         tt,
       ),
     )
