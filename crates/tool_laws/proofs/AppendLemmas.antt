@@ -90,18 +90,18 @@ module _ {Meaning Fault View Offence : Type 0} (log : LogDisplay Meaning Fault V
   run_error_clean file whole printed (whole_refused h) = negative_clean log plain belongs (record_lines whole) printed h
   run_error_clean file whole printed (file_refused h) = negative_clean log plain believed (record_lines file) printed h
 
-  put_clean : (path bytes : List ℕ) (verdict : OutputData) (old new : Option Files) (printed : OutputData) → IsPutOf path bytes verdict old new printed
-      → IsClean verdict → IsClean printed
-  put_clean path bytes verdict old new printed (put puts is) h = clean_same printed verdict is h
-  put_clean path bytes verdict old new printed (unflushed puts is) h = silent_clean 3 printed is
-  put_clean path bytes verdict old new printed (unwritten same is) h = silent_clean 3 printed is
+  put_clean : (path bytes : List ℕ) (verdict : OutputData) (old new : Option Files) (printed : OutputData) (told : List ℕ)
+      → IsPutOf path bytes verdict old new printed told → IsClean verdict → IsClean printed
+  put_clean path bytes verdict old new printed told (put puts flushed is) h = clean_same printed verdict is h
+  put_clean path bytes verdict old new printed told (unflushed puts is) h = silent_clean 3 printed is.failed
+  put_clean path bytes verdict old new printed told (unwritten cause same is) h = silent_clean 3 printed is.failed
 
   all_clean : (path file added : List ℕ) (old new : Option Files) (printed : OutputData) → IsAllOrNone log belongs path file added old new printed
       → IsClean printed
   all_clean path file added old new printed (too_long long same is) = silent_clean 2 printed is
   all_clean path file added old new printed (refused fits h same) = run_error_clean file (with_lines file added) printed h
-  all_clean path file added old new printed (taken verdict fits h is_put) =
-      put_clean path (with_lines file added) verdict old new printed is_put (added_clean file (with_lines file added) verdict h)
+  all_clean path file added old new printed (taken verdict fits h told is_put) =
+      put_clean path (with_lines file added) verdict old new printed told is_put (added_clean file (with_lines file added) verdict h)
 
   to_clean : (old new : Option Files) (path added : List ℕ) (printed : OutputData) → IsAddedTo log belongs old new path added printed → IsClean printed
   to_clean old new path added printed (bad index at is same) = clean_line printed (bad_line index) is (bad_one index)

@@ -21,6 +21,12 @@ abbrev pub Answers : (OutputData → Type 0) → Result CommandOutput CommandErr
 Answers P (Ok answer) = P (output_data answer)
 Answers P (Err end) = IfOutput P end
 
+-- the same of what is printed and what is told on standard error
+abbrev pub AnswersTold : (OutputData → List ℕ → Type 0) → Result CommandOutput CommandError → Type 0
+AnswersTold P (Ok answer) = P (output_data answer) (string_bytes answer.error_text)
+AnswersTold P (Err (command_error.Output answer)) = P (output_data answer) (string_bytes answer.error_text)
+AnswersTold P (Err command_error.OutOfMemory) = Unit {0}
+
 -- the error is that of a side, with the side's name in front of what is answered
 abbrev pub IsSideError : List ℕ → CommandError → CommandError → Type 0
 IsSideError name own (command_error.Output answer) = (it : CommandOutput) × (own ≡ command_error.Output it) × (output_data answer ≡ side_text name (output_data it))

@@ -43,7 +43,8 @@ impl CommandOutput {
 
     /// An answer that says nothing on standard output.
     pub fn fault(alloc: Global, error_text: String, status: u8) -> CommandOutput
-        ensures { output_data result ≡ record { text = []; status = status } }
+        ensures printed { output_data result ≡ record { text = []; status = status } }
+        ensures told { result.error_text ≡ error_text }
     {
         CommandOutput {
             text: String::new(alloc),

@@ -1,7 +1,7 @@
 //! Files, by their paths and bytes.
 
 ghost use Rattle.std.specs.Prelude.{◌≡◌, Option, Err, IfOk, IfErr, OnOk, ◌+◌, ◌-◌, ◌^◌, min, string_bytes};
-ghost use Rattle.warg_audit.specs.Files.Files.{Files, Lacks, Puts, Reads, ReadsLog};
+ghost use Rattle.warg_audit.specs.Files.Files.{Files, IsOnDisk, Lacks, Puts, Reads, ReadsLog};
 ghost use Rattle.warg_audit.specs.Files.Answers.{IfOutput, IsUnusable};
 ghost use Rattle.warg_audit.specs.Files.ReadErrors.{IsLogUnread, IsUnread, IsUnreadFor, unread_text};
 ghost use Rattle.warg_audit.specs.Files.Sentences.{line_sentence, sentence, shown_path};
@@ -59,7 +59,7 @@ impl ReadError {
 
 /// Where files are read from, and written to.
 pub trait Store {
-    // What the files hold, by their paths, where it is known.
+    // What the files hold, and what of it is on the disk, by their paths, where it is known.
     ghost files: { Self → Option Files };
 
     /// The bytes of the file of this path; `-` is standard input.
@@ -74,9 +74,10 @@ pub trait Store {
         ensures bytes { IfOk result (λ bytes. ReadsLog (files self.old) path.now bytes.items) }
         ensures kept { files self.new ≡ files self.old };
 
-    /// Puts these bytes in the place of the file of this path, which is held.
+    /// Puts these bytes in the place of the file of this path, which is held, down to the disk.
     fn replace(&mut self, path: &str, bytes: &[u8]) -> Result<(), WriteError>
         ensures written { OnOk result (Puts path.now bytes.now (files self.old) (files self.new)) }
+        ensures flushed { OnOk result (IsOnDisk (files self.new) path.now bytes.now) }
         ensures unflushed { result ≡ Err Unflushed →
             Puts path.now bytes.now (files self.old) (files self.new) }
         ensures kept { (cause : UnwrittenError) → result ≡ Err (Unwritten cause) →

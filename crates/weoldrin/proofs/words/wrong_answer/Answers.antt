@@ -4,5 +4,5 @@ use Rattle.weoldrin.proofs.words.wrong_answer.Goals as goal
 
 pub returns : goal.returns
 returns c =
-    IfOk-weaker c.render.result _ _ (λ answer is. (output_data c.fault-answer.result, c.fault-answer.ensures, is))
+    IfOk-weaker c.render.result _ _ (λ answer is. (output_data c.fault-answer.result, c.fault-answer.ensures.printed, is))
     (rw (c.asks_for_json.ensures, c.named_command.ensures) at c.render.ensures)
