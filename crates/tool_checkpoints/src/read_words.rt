@@ -1,6 +1,6 @@
 //! Ids, numbers, checkpoints and proofs, by words and files.
 
-ghost use Rattle.std.specs.Prelude.{◌≡◌, Ok, Err, Some, None, IfOk, IfErr, IsUtf8};
+ghost use Rattle.std.specs.Prelude.{◌≡◌, ◌↔◌, Ok, Err, Some, None, IfOk, IfErr, IsOk, IsUtf8};
 ghost use Rattle.std.specs.Str.{trim_end};
 ghost use Rattle.warg_transparency.specs.Texts.{log_proof_of, map_proof_of};
 ghost use Rattle.warg_transparency.specs.declared.error.ProofTextError.TheVariants.{OutOfMemory};
@@ -17,7 +17,7 @@ use std::alloc::Global;
 use std::str::FromStr;
 use warg_audit::files::command_error::{CommandError, unusable};
 use warg_audit::files::input::{Input, Store, file_error, read_input};
-use warg_crypto::json::{JsonError, JsonValue};
+use warg_crypto::json::JsonValue;
 use warg_log_records::RecordId;
 use warg_printable::printed_line;
 use warg_registry::{Checkpoint, LogId, LogLeaf};
@@ -100,15 +100,15 @@ fn json_of(alloc: Global, input: &Input<'_>) -> Result<Value, CommandError>
     }
 }
 
-// The checkpoint that JSON is.
+// The checkpoint that JSON is. It is found without memory, which the sentence alone takes.
 fn checkpoint_of(alloc: Global, path: &str, value: &Value) -> Result<Checkpoint, CommandError>
+    ensures found { IsOk result ↔ IsOk (checkpoint_in (view value.now)) }
     ensures ok { IfOk result (λ checkpoint. checkpoint_in (view value.now) ≡ Ok checkpoint) }
     ensures err { IfErr result (IfOutput (IsUnsaid (λ checkpoint.
         checkpoint_in (view value.now) ≡ Ok checkpoint))) }
 {
     match Checkpoint::from_value(alloc, value) {
         Ok(checkpoint) => Ok(checkpoint),
-        Err(JsonError::OutOfMemory) => Err(CommandError::OutOfMemory),
         Err(_) => Err(file_error(alloc, path, "it holds no checkpoint")),
     }
 }
