@@ -29,9 +29,7 @@ use std::alloc::Global;
 use warg_crypto::json::members::object_value;
 use warg_crypto::json::{Incoherence, JsonError, JsonValue};
 use warg_crypto::signing::{KeyID, PublicKey};
-use warg_log::{
-    Log, SavedParts, first_apart, members_text, members_value, read_parts, text_parts,
-};
+use warg_log::{Log, SavedParts, first_apart, members_text, members_value, read_parts, text_parts};
 use warg_log_records::package::Permission;
 use warg_saved_states::JsonTextError;
 
