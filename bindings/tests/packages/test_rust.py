@@ -1,0 +1,154 @@
+"""The Rust crate, as `cargo package` packs it and as a program of another folder gets it."""
+
+import pathlib
+import re
+import shutil
+import tarfile
+import unittest
+
+from installing import HEAD, LOG, MACHINE, ROOT, VERSION, Installing, links, needs
+
+assert MACHINE
+MAIN = """
+use weoldrin::PackageLog;
+
+fn main() -> Result<(), Box<dyn std::error::Error>> {
+    let mut log = PackageLog::new()?;
+    for line in std::fs::read_to_string("@LOG@")?.lines().filter(|it| !it.starts_with('#')) {
+        let pairs = (0..line.len()).step_by(2).map(|at| &line[at..at + 2]);
+        let bytes: Result<Vec<u8>, _> = pairs.map(|it| u8::from_str_radix(it, 16)).collect();
+        log.append_signed(&bytes?)?;
+    }
+    println!("{} {}", weoldrin::library_version()?, log.head()?.unwrap_or_default());
+    Ok(())
+}
+"""
+SAID = f"{VERSION} {HEAD}\n"
+
+
+@needs("cargo", "cc")
+@unittest.skipUnless(links("-lcrypto"), "libcrypto is not installed (libssl-dev)")
+class Crate(Installing):
+    """A copy of the crate's folder, from where nothing else of the repository is reached."""
+
+    def setUp(self) -> None:
+        super().setUp()
+        self.crate = self.copied("bindings/rust", "crate")
+        self.environment["CARGO_TARGET_DIR"] = str(self.folder / "target")
+
+    def app(self, *words: str, **more: str) -> pathlib.Path:
+        """A new program that stands on the crate, which these words of `cargo add` name."""
+        self.said("cargo", "new", "--quiet", "--vcs", "none", "app")
+        app = self.folder / "app"
+        self.said("cargo", "add", "--quiet", "--offline", *words, at=app, env=more)
+        self.write("app/src/main.rs", MAIN.replace("@LOG@", str(LOG)))
+        return app
+
+    def runs(self, app: pathlib.Path, *words: str, **more: str) -> None:
+        """The program builds and says what it has to."""
+        self.assertEqual(self.said("cargo", "run", "--quiet", "--offline", *words, at=app, env=more), SAID)
+
+    def packed(self) -> pathlib.Path:
+        """The folder that the crate's package unpacks to, which cargo has built."""
+        self.said("cargo", "package", "--offline", at=self.crate)
+        (made,) = (self.folder / "target/package").glob("*.crate")
+        self.assertEqual(made.name, f"weoldrin-{VERSION}.crate")
+        with tarfile.open(made) as tar:
+            tar.extractall(self.folder)
+        return self.folder / f"weoldrin-{VERSION}"
+
+    def test_package(self) -> None:
+        """It has the library, the header and the licence, and nothing that is of use in the repository alone."""
+        folder = self.packed()
+        files = {str(it.relative_to(folder)) for it in folder.rglob("*") if it.is_file()}
+        assert MACHINE
+        own = {"README.md", "LICENSE", "NOTICE", "build.rs", "include/warg.h", "examples/publish_and_audit.rs"}
+        own |= {"benches/toy_log.rs", f"lib/{MACHINE.name}/libwarg.a"}
+        sources = {it for it in files if re.fullmatch(r"src/[\w/]+\.rs", it)}
+        self.assertLessEqual(own, files)
+        cargos = {"Cargo.toml", "Cargo.toml.orig", "Cargo.lock", ".cargo_vcs_info.json"}
+        others = files - own - sources - cargos
+        self.assertEqual({it for it in others if not re.fullmatch(r"lib/[\w-]+/libwarg\.a", it)}, set())
+        library = (folder / f"lib/{MACHINE.name}/libwarg.a").read_bytes()
+        self.assertEqual(library, (MACHINE.folder() / "libwarg.a").read_bytes())
+
+    def test_packed(self) -> None:
+        """A program stands on what the package has."""
+        self.runs(self.app("--path", str(self.packed())))
+
+    def test_path(self) -> None:
+        """`cargo add --path`, with and without OpenSSL's library."""
+        app = self.app("--path", str(self.crate))
+        self.runs(app)
+        shutil.rmtree(app)
+        app = self.app("--path", str(self.crate), "--no-default-features")
+        self.runs(app)
+        needed = self.said("readelf", "-d", self.folder / "target/debug/app")
+        self.assertNotIn("libcrypto", needed)
+        self.assertNotIn("libwarg", needed)
+
+    @needs("git")
+    def test_vendor(self) -> None:
+        """`cargo vendor` of a crate that a repository has, which is away then."""
+        git: list[str | pathlib.Path] = ["git", "-c", "user.name=x", "-c", "user.email=x@example.org", "-C", self.crate]
+        for words in (["init", "-q"], ["add", "-A"], ["commit", "-q", "-m", "x"]):
+            self.said(*git, *words)
+        home = {"CARGO_HOME": str(self.folder / "cargo"), "CARGO_NET_OFFLINE": "false"}
+        self.said("cargo", "new", "--quiet", "--vcs", "none", "app")
+        app = self.folder / "app"
+        with open(app / "Cargo.toml", "a", encoding="utf-8") as manifest:
+            manifest.write(f'weoldrin = {{ git = "file://{self.crate}" }}\n')
+        self.write("app/src/main.rs", MAIN.replace("@LOG@", str(LOG)))
+        said = self.said("cargo", "vendor", at=app, env=home)
+        self.write("app/.cargo/config.toml", said[said.index("[source") :])
+        shutil.rmtree(self.crate)
+        shutil.rmtree(self.folder / "cargo")
+        self.assertTrue((app / "vendor/weoldrin/build.rs").is_file())
+        self.runs(app, CARGO_HOME=str(self.folder / "cargo"))
+
+    @needs("make", "pkg-config", "readelf")
+    def test_system(self) -> None:
+        """The feature `system` links what pkg-config finds, also where its path has a space, and no other version."""
+        prefix = self.installed(prefix=self.folder / "a place")
+        app = self.app("--path", str(self.crate), "--features", "system")
+        found = {"PKG_CONFIG_PATH": str(prefix / "lib/pkgconfig")}
+        self.runs(app, LD_LIBRARY_PATH=str(prefix / "lib"), **found)
+        self.assertIn("libwarg.so.", self.said("readelf", "-d", self.folder / "target/debug/app"))
+        said = self.said("cargo", "build", "--offline", at=app, status=101)
+        self.assertIn("warg >= ", said)
+        file = prefix / "lib/pkgconfig/warg.pc"
+        first, second, third = map(int, VERSION.split("."))
+        for other in (f"{first}.{second + 1}.0", f"{first + 1}.0.0"):
+            file.write_text(re.sub("(?m)^Version:.*", f"Version: {other}", file.read_text()))
+            self.said("cargo", "build", "--offline", at=app, status=101, env=found)
+
+    def test_other_libraries(self) -> None:
+        """WARG_LIBRARY_DIR names another library. A machine that the package has none for is told so."""
+        assert MACHINE
+        shutil.move(self.crate / f"lib/{MACHINE.name}", self.folder / "elsewhere")
+        (self.crate / "lib/mips-linux").mkdir(parents=True)
+        app = self.app("--path", str(self.crate))
+        said = self.said("cargo", "build", "--offline", at=app, status=101)
+        self.assertIn(f'there is no library for {MACHINE.name} with the C library "gnu", but for mips-linux', said)
+        self.runs(app, WARG_LIBRARY_DIR=str(self.folder / "elsewhere"))
+        said = self.said("cargo", "build", "--offline", at=app, status=101, WARG_LIBRARY_DIR="/nowhere")
+        self.assertIn("there is no library /nowhere/libwarg.a", said)
+
+    def test_documents(self) -> None:
+        """The documents are made as docs.rs makes them, but for what its own compiler alone has."""
+        self.said("cargo", "doc", "--quiet", "--offline", "--no-deps", "--all-features", at=self.crate, DOCS_RS="1")
+        self.assertTrue((self.folder / "target/doc/weoldrin/struct.Log.html").is_file())
+        self.assertTrue((self.folder / "target/doc/weoldrin/p256/struct.SigningKey.html").is_file())
+
+    def test_header(self) -> None:
+        """A crate that stands on this one finds the header, for code of C of its own."""
+        app = self.app("--path", str(self.crate))
+        asks = 'println!("cargo:warning={}", std::env::var("DEP_WARG_INCLUDE").unwrap());'
+        self.write("app/build.rs", f"fn main() {{ {asks} }}")
+        said = self.said("cargo", "build", "--offline", at=app)
+        self.assertIn(f"{self.crate}/include", said)
+        self.assertEqual((self.crate / "include/warg.h").read_bytes(), (ROOT / "include/warg.h").read_bytes())
+
+
+if __name__ == "__main__":
+    unittest.main()
