@@ -5,3 +5,4 @@ pub mod ResealedLemmas
 pub mod PartingLemmas
 pub mod KeyIdLemmas
 pub mod WordLemmas
+pub mod ToolWordLaws

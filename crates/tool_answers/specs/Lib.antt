@@ -6,3 +6,5 @@ pub mod IdWords
 pub mod Causes
 pub mod KeyIds
 pub mod Words
+pub mod Tools
+pub mod ToolWords

@@ -1,12 +1,15 @@
 //! What the commands ask of a kind of log.
 
-ghost use Rattle.std.specs.Prelude.{◌≡◌, ℕ, Bool, Contains, List, Result, Ok, IfNone, IfOk, IfSome, is_some, string_bytes, true};
-ghost use Rattle.warg_protocol.specs.Json.{JsonError as OfJsonError, JsonTextError as OfJsonTextError, ReturnsOrNoMemory};
+ghost use Rattle.std.specs.Prelude.{◌≡◌, ℕ, Bool, Contains, List, Result, Ok, IfNone};
+ghost use Rattle.std.specs.Prelude.{IfOk, IfSome, is_some, string_bytes, true};
+ghost use Rattle.warg_protocol.specs.Json.{JsonError as OfJsonError, JsonTextError as OfJsonTextError};
+ghost use Rattle.warg_protocol.specs.Json.{ReturnsOrNoMemory};
 ghost use Rattle.warg_protocol.specs.Logs.{EnvelopeData, IsHonest};
 ghost use Rattle.warg_saved_states.specs.JsonText.{ReturnsOfText};
 ghost use Rattle.tool_answers.specs.Explanations.{HoldsFirst};
 ghost use Rattle.tool_answers.specs.KeyIds.{AreIdsOf};
 ghost use Rattle.tool_answers.specs.ShownWords.{IsRecordLine, IsTimeText, RecordWords};
+ghost use Rattle.tool_answers.specs.Tools.{ToolOf};
 
 use std::alloc::{AllocError, Global};
 use warg_audit::Report;
@@ -44,6 +47,10 @@ pub trait ToolLog: Report {
 
     // Whether a text shows the state that records lead to.
     ghost shows: { List EnvelopeData → List ℕ → Type 0 };
+
+    // All above, as one word for contracts: `Explains L.log L.Record.reading L.tool ..`.
+    ghost tool: { ToolOf order text_of knows has_key json_of state_of words_of says_words
+        sentence_of has_first shows };
 
     /// The permissions of the kind, in their order.
     fn permissions(alloc: Global) -> Result<Vec<Self::Permission>, AllocError>

@@ -89,10 +89,12 @@ impl ToolLog for LogState {
     ghost use Rattle.std.proofs.lemmas.Simd.{map-map};
     ghost use Rattle.std.specs.Prelude.{is_some, map};
     ghost use Rattle.warg_protocol.specs.Json.{in_text, text_of as written_text};
-    ghost use Rattle.warg_protocol.specs.Operator.{entry_data, permission_text, record_data, state_in, state_json, view_of};
+    ghost use Rattle.warg_protocol.specs.Operator.{entry_data, permission_text, record_data};
+    ghost use Rattle.warg_protocol.specs.Operator.{state_in, state_json, view_of};
     ghost use Rattle.warg_operator_log.specs.ErrorTexts.{error_text};
     ghost use Rattle.tool_answers.specs.Explanations.{has_first_operator_entries};
-    ghost use Rattle.tool_answers.specs.ShownWords.{operator_entry_words, says_operator_words, shows_namespaces, words_at};
+    ghost use Rattle.tool_answers.specs.ShownWords.{operator_entry_words, says_operator_words};
+    ghost use Rattle.tool_answers.specs.ShownWords.{shows_namespaces, words_at};
     ghost use Rattle.tool_answers.specs.Words.{in_operator_order, operator_order};
 
     ghost order = { operator_order };
@@ -119,6 +121,8 @@ impl ToolLog for LogState {
     ghost has_first = { has_first_operator_entries };
 
     ghost shows = { shows_namespaces };
+
+    ghost tool = { record {} };
 
     fn permissions(alloc: Global) -> Result<Vec<Permission>, AllocError> {
         Permission::all().to_vec(alloc)

@@ -3,7 +3,8 @@
 ghost use Rattle.std.specs.Prelude.{◌≡◌, string_bytes, IfOk};
 ghost use Rattle.semver.specs.Identifiers.{parts_of, parts_text};
 ghost use Rattle.warg_protocol.specs.Package.{release_view};
-ghost use Rattle.tool_answers.specs.ShownWords.{AreReleaseLines, IsReleaseLine, IsStandingLine, released_line, yanked_line};
+ghost use Rattle.tool_answers.specs.ShownWords.{AreReleaseLines, IsReleaseLine, IsStandingLine};
+ghost use Rattle.tool_answers.specs.ShownWords.{released_line, yanked_line};
 
 use crate::key_ids::key_ids;
 use crate::kind::ToolLog;
@@ -114,7 +115,8 @@ impl ToolLog for LogState {
     ghost use Rattle.std.proofs.lemmas.Simd.{map-map};
     ghost use Rattle.std.specs.Prelude.{is_some, map};
     ghost use Rattle.warg_protocol.specs.Json.{in_text, text_of as written_text};
-    ghost use Rattle.warg_protocol.specs.Package.{entry_data, permission_text, record_data, state_in, state_json, view_of};
+    ghost use Rattle.warg_protocol.specs.Package.{entry_data, permission_text, record_data};
+    ghost use Rattle.warg_protocol.specs.Package.{state_in, state_json, view_of};
     ghost use Rattle.warg_package_log.specs.ErrorTexts.{error_text};
     ghost use Rattle.tool_answers.specs.Explanations.{has_first_package_entries};
     ghost use Rattle.tool_answers.specs.ShownWords.{package_entry_words, says_package_words, shows_releases, words_at};
@@ -144,6 +146,8 @@ impl ToolLog for LogState {
     ghost has_first = { has_first_package_entries };
 
     ghost shows = { shows_releases };
+
+    ghost tool = { record {} };
 
     fn permissions(alloc: Global) -> Result<Vec<Permission>, AllocError> {
         Permission::all().to_vec(alloc)

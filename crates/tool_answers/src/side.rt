@@ -1,12 +1,13 @@
 //! The sides of a comparison.
 
-ghost use Rattle.std.specs.Prelude.{◌≡◌, List, ℕ, IfOk, IfErr};
+ghost use Rattle.std.specs.Prelude.{◌≡◌, IfOk, IfErr};
 ghost use Rattle.warg_protocol.specs.Logs.{envelopes};
 ghost use Rattle.warg_audit.specs.Printouts.{Printout};
 ghost use Rattle.warg_audit.specs.Files.Answers.{answer_view, IfStopped, IsSideStop};
 ghost use Rattle.warg_audit.specs.Files.RecordLines.{record_lines};
 ghost use Rattle.warg_audit.specs.Files.Texts.{side_text};
-ghost use Rattle.tool_answers.specs.Verdicts.{ForDisplay, IsLawful, IsNegative, envelopes_of};
+ghost use Rattle.warg_audit.specs.ReportWords.{ForDisplay};
+ghost use Rattle.tool_answers.specs.Verdicts.{AreEnvelopesOf, IsNegative};
 
 use crate::judged::kept;
 use crate::kind::ToolLog;
@@ -48,16 +49,12 @@ pub fn side<L: ToolLog, V: Verifier + Drop>(
     name: &str,
     input: Input<'_>,
 ) -> Result<AuditedLog<L, V>, Stop>
-    ensures lawful { ForDisplay L.view L.kind L.Record.read L.Record.fault_of L.offence_of
-        L.name_of L.lines_of (λ log.
-        IfOk result (λ kept. (strings : List (List ℕ)) ×
-        (IsLawful log (V.belongs verifier) (record_lines input.entry.bytes.items) strings
-        × (envelopes kept.records ≡ envelopes_of log strings)))) }
-    ensures stopped { ForDisplay L.view L.kind L.Record.read L.Record.fault_of L.offence_of
-        L.name_of L.lines_of (λ log.
-        IfErr result (IfStopped (λ printed. (it : Printout) ×
-        (IsNegative log (V.belongs verifier) (record_lines input.entry.bytes.items) it
-        × (printed ≡ side_text name.now it))))) }
+    ensures lawful { ForDisplay L.log L.Record.reading L.report (λ log.
+        IfOk result (λ kept. AreEnvelopesOf log
+        (V.belongs verifier) (record_lines input.entry.bytes.items) (envelopes kept.records))) }
+    ensures stopped { ForDisplay L.log L.Record.reading L.report (λ log.
+        IfErr result (IfStopped (λ printed. (it : Printout) × (IsNegative log (V.belongs verifier)
+        (record_lines input.entry.bytes.items) it × (printed ≡ side_text name.now it))))) }
 {
     match kept::<L, V>(alloc, verifier, input) {
         Ok(log) => Ok(log),

@@ -3,7 +3,8 @@
 ghost use Rattle.std.specs.Prelude.{◌≡◌, [], ◌∷◌, ◌++◌, codes, true, IfOk, IfSome, OnOk, map, string_bytes, unwrap_or};
 ghost use Rattle.std.specs.Option.{option_map};
 ghost use Rattle.jiff.specs.Words.{iso_datetime_text};
-ghost use Rattle.tool_answers.specs.ShownWords.{after_commas, IsRecordLine, IsTimeText, key_line, key_lines, comma_list, record_line, after_spaces};
+ghost use Rattle.tool_answers.specs.ShownWords.{after_commas, IsRecordLine, IsTimeText, key_line};
+ghost use Rattle.tool_answers.specs.ShownWords.{key_lines, comma_list, record_line, after_spaces};
 
 use jiff::civil::DateTime;
 use jiff::tz::Offset;

@@ -6,7 +6,7 @@ ghost use Rattle.warg_audit.specs.Answers.{IsIdAnswer};
 ghost use Rattle.warg_audit.specs.LogAnswers.{accepted_line, accepted_start};
 ghost use Rattle.warg_audit.specs.Files.Answers.{Answers};
 ghost use Rattle.warg_audit.specs.Files.RecordLines.{record_lines};
-ghost use Rattle.tool_answers.specs.Verdicts.{ForDisplay};
+ghost use Rattle.warg_audit.specs.ReportWords.{ForDisplay};
 ghost use Rattle.tool_changes.specs.Audits.{BeginsAs, IsAudited, IsAuditOf, line_or, records_alone, unmet};
 
 use crate::beside::beside;
@@ -82,10 +82,8 @@ fn alone<L: ToolLog, V: Verifier>(
     demands: &Demands<'_>,
     input: Input<'_>,
 ) -> Result<Answer, Stop>
-    ensures { ForDisplay L.view L.kind L.Record.read L.Record.fault_of L.offence_of
-        L.name_of L.lines_of (λ log.
-        Answers (IsAudited log (V.belongs verifier.now) demands.now None
-        (record_lines input.entry.bytes.items)) result) }
+    ensures { ForDisplay L.log L.Record.reading L.report (λ log. Answers (IsAudited log
+        (V.belongs verifier.now) demands.now None (record_lines input.entry.bytes.items)) result) }
 {
     match judged::<L, V>(alloc, verifier, input) {
         Ok((state, count)) => demanded(alloc, demands, &state, count),
@@ -101,11 +99,9 @@ fn audited<L: ToolLog, V: Verifier>(
     older: Option<Input<'_>>,
     input: Input<'_>,
 ) -> Result<Answer, Stop>
-    ensures { ForDisplay L.view L.kind L.Record.read L.Record.fault_of L.offence_of
-        L.name_of L.lines_of (λ log.
-        Answers (IsAudited log (V.belongs verifier.now) demands.now
-        (option_map (λ it. record_lines it.bytes.items) older.entry)
-        (record_lines input.entry.bytes.items)) result) }
+    ensures { ForDisplay L.log L.Record.reading L.report (λ log.
+        Answers (IsAudited log (V.belongs verifier.now) demands.now (option_map (λ it.
+        record_lines it.bytes.items) older.entry) (record_lines input.entry.bytes.items)) result) }
 {
     match older {
         Some(older) => beside::<L, V>(alloc, verifier, demands, older, input),
@@ -142,10 +138,9 @@ fn first_of_verdict<L: ToolLog, V: Verifier>(
     allows_empty: bool,
     input: Input<'_>,
 ) -> Result<Answer, Stop>
-    ensures { ForDisplay L.view L.kind L.Record.read L.Record.fault_of L.offence_of
-        L.name_of L.lines_of (λ log.
-        Answers (BeginsAs (IsAudited log (V.belongs verifier.now) (records_alone allows_empty) None
-        (record_lines input.entry.bytes.items))) result) }
+    ensures { ForDisplay L.log L.Record.reading L.report (λ log.
+        Answers (BeginsAs (IsAudited log (V.belongs verifier.now)
+        (records_alone allows_empty) None (record_lines input.entry.bytes.items))) result) }
 {
     match judged::<L, V>(alloc, verifier, input) {
         Ok((state, count)) => first_line(alloc, allows_empty, state.head_digest(), count),

@@ -61,9 +61,8 @@ impl<'v, 'a, V: Verifier> Audit<'v, 'a, V> {
         store: &mut S,
     ) -> Result<Answer, AllocError>
         ensures verdict { IfOk result (λ answer. IsVerdictOn (S.files store.old)
-            (IsAuditOf self.now.kind (V.belongs self.now.verifier.now) self.now.demands
-            (option_map (λ it. record_lines it.bytes.items) older.entry)) path.now
-            (answer_view answer)) }
+            (IsAuditOf self.now.kind (V.belongs self.now.verifier.now) self.now.demands (option_map
+            (λ it. record_lines it.bytes.items) older.entry)) path.now (answer_view answer)) }
         ensures kept { S.files store.new ≡ S.files store.old }
     {
         match store.read(path) {
@@ -81,9 +80,8 @@ impl<'v, 'a, V: Verifier> Audit<'v, 'a, V> {
         store: &mut S,
     ) -> Result<Answer, AllocError>
         ensures line { IfOk result (λ answer. IsPathLine self.now.is_json (S.files store.old)
-            (IsAuditOf self.now.kind (V.belongs self.now.verifier.now) self.now.demands
-            (option_map (λ it. record_lines it.bytes.items) older.entry)) path.now
-            (answer_view answer)) }
+            (IsAuditOf self.now.kind (V.belongs self.now.verifier.now) self.now.demands (option_map
+            (λ it. record_lines it.bytes.items) older.entry)) path.now (answer_view answer)) }
         ensures kept { S.files store.new ≡ S.files store.old }
     {
         let answer = self.verdict(older, path, store)?;
@@ -103,9 +101,8 @@ impl<'v, 'a, V: Verifier> Audit<'v, 'a, V> {
         store: &mut S,
     ) -> Result<Answer, Stop>
         ensures answered { Answers (IsShownBy self.now.is_json (S.files store.old)
-            (IsAuditOf self.now.kind (V.belongs self.now.verifier.now) self.now.demands
-            (option_map (λ it. record_lines it.bytes.items) older.entry)) path.now
-            self.now.shows_path) result }
+            (IsAuditOf self.now.kind (V.belongs self.now.verifier.now) self.now.demands (option_map
+            (λ it. record_lines it.bytes.items) older.entry)) path.now self.now.shows_path) result }
         ensures kept { S.files store.new ≡ S.files store.old }
     {
         if self.shows_path {
@@ -134,9 +131,8 @@ impl<'v, 'a, V: Verifier> Audit<'v, 'a, V> {
     // The answer beside the older copy that is named, if one is.
     fn beside_named<S: Store>(&self, path: &str, store: &mut S) -> Result<Answer, Stop>
         ensures answered { Answers (IsByOlder (S.files store.old) self.now.demands.older (λ older.
-            IsShownBy self.now.is_json (S.files store.old) (IsAuditOf self.now.kind
-            (V.belongs self.now.verifier.now) self.now.demands older) path.now
-            self.now.shows_path)) result }
+            IsShownBy self.now.is_json (S.files store.old) (IsAuditOf self.now.kind (V.belongs
+            self.now.verifier.now) self.now.demands older) path.now self.now.shows_path)) result }
         ensures kept { S.files store.new ≡ S.files store.old }
     {
         match self.demands.older {

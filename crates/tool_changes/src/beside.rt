@@ -8,7 +8,8 @@ ghost use Rattle.warg_protocol.specs.Logs.{contents, envelopes};
 ghost use Rattle.warg_audit.specs.Files.Answers.{Answers};
 ghost use Rattle.warg_audit.specs.Files.RecordLines.{record_lines};
 ghost use Rattle.tool_answers.specs.Texts.{PartsWithin};
-ghost use Rattle.tool_answers.specs.Verdicts.{ForDisplay, envelopes_of};
+ghost use Rattle.warg_audit.specs.ReportWords.{ForDisplay};
+ghost use Rattle.tool_answers.specs.Verdicts.{ForStrings, envelopes_of};
 ghost use Rattle.tool_changes.specs.Audits.{IsAudited, IsBeside, IsBesideLines, IsDemanded, parted};
 
 use crate::audit::line_or_verdict;
@@ -68,11 +69,10 @@ fn beside_older<L: ToolLog, V: Verifier + Drop>(
     log: &AuditedLog<L, V>,
     count: usize,
 ) -> Result<Answer, Stop>
-    ensures { ForDisplay L.view L.kind L.Record.read L.Record.fault_of L.offence_of
-        L.name_of L.lines_of (λ shown. (before strings : List (List ℕ)) →
-        envelopes older.now.records ≡ envelopes_of shown before →
-        envelopes log.now.records ≡ envelopes_of shown strings → count ≡ length strings →
-        Answers (IsBeside shown before strings) result) }
+    ensures { ForDisplay L.log L.Record.reading L.report (λ shown.
+        (before strings : List (List ℕ)) → envelopes older.now.records ≡ envelopes_of shown before →
+        envelopes log.now.records ≡ envelopes_of shown strings →
+        count ≡ length strings → Answers (IsBeside shown before strings) result) }
 {
     let comparison = older.compare(log);
     let (here, there) = (older.records(), log.records());
@@ -89,11 +89,9 @@ fn beside_file<L: ToolLog, V: Verifier + Drop>(
     log: &AuditedLog<L, V>,
     count: usize,
 ) -> Result<Answer, Stop>
-    ensures { ForDisplay L.view L.kind L.Record.read L.Record.fault_of L.offence_of
-        L.name_of L.lines_of (λ shown. (strings : List (List ℕ)) →
-        envelopes log.now.records ≡ envelopes_of shown strings → count ≡ length strings →
-        Answers (IsBesideLines shown (V.belongs verifier) demands.now
-        (record_lines older.entry.bytes.items) strings) result) }
+    ensures { ForDisplay L.log L.Record.reading L.report (λ shown.
+        ForStrings shown (envelopes log.now.records) count (λ strings. Answers (IsBesideLines shown
+        (V.belongs verifier) demands.now (record_lines older.entry.bytes.items) strings) result)) }
 {
     match side::<L, V>(alloc, verifier, "older", older) {
         Ok(older) => {
@@ -115,11 +113,9 @@ fn demanded_beside<L: ToolLog, V: Verifier + Drop>(
     log: &AuditedLog<L, V>,
     count: usize,
 ) -> Result<Answer, Stop>
-    ensures { ForDisplay L.view L.kind L.Record.read L.Record.fault_of L.offence_of
-        L.name_of L.lines_of (λ shown. (strings : List (List ℕ)) →
-        envelopes log.now.records ≡ envelopes_of shown strings → count ≡ length strings →
-        Answers (IsDemanded shown (V.belongs verifier) demands.now
-        (Some (record_lines older.entry.bytes.items)) strings) result) }
+    ensures { ForDisplay L.log L.Record.reading L.report (λ shown. ForStrings shown
+        (envelopes log.now.records) count (λ strings. Answers (IsDemanded shown (V.belongs verifier)
+        demands.now (Some (record_lines older.entry.bytes.items)) strings) result)) }
 {
     let state = log.state();
     match unmet(alloc, demands, count, state.head_digest())? {
@@ -136,11 +132,9 @@ pub(crate) fn beside<L: ToolLog, V: Verifier>(
     older: Input<'_>,
     input: Input<'_>,
 ) -> Result<Answer, Stop>
-    ensures { ForDisplay L.view L.kind L.Record.read L.Record.fault_of L.offence_of
-        L.name_of L.lines_of (λ shown.
-        Answers (IsAudited shown (V.belongs verifier.now) demands.now
-        (Some (record_lines older.entry.bytes.items))
-        (record_lines input.entry.bytes.items)) result) }
+    ensures { ForDisplay L.log L.Record.reading L.report (λ shown.
+        Answers (IsAudited shown (V.belongs verifier.now) demands.now (Some
+        (record_lines older.entry.bytes.items)) (record_lines input.entry.bytes.items)) result) }
 {
     match counted::<L, Lent<'_, V>>(alloc, Lent(verifier), input) {
         Ok((log, count)) => demanded_beside(alloc, Lent(verifier), demands, older, &log, count),

@@ -1,10 +1,11 @@
 //! `claims`: what a host has to verify of a log, a line a record.
 
 ghost use Rattle.std.specs.Prelude.{◌≡◌, ◌++◌, false, IfOk, OnOk, is_none, map, string_bytes};
-ghost use Rattle.warg_protocol.specs.Logs.{cause_named_by, envelope_fault_of};
+ghost use Rattle.warg_envelope.specs.ReadingWords.{envelope_in};
+ghost use Rattle.warg_protocol.specs.Logs.{envelope_fault_of};
+ghost use Rattle.warg_replay.specs.LogWords.{named_cause};
 ghost use Rattle.std.specs.Vec.{vec_items};
 ghost use Rattle.warg_claims.specs.Verified.Claims.{claim_text};
-ghost use Rattle.warg_protocol.specs.Logs.{envelope_of};
 ghost use Rattle.warg_audit.specs.Files.Answers.{Answers};
 ghost use Rattle.tool_changes.specs.ClaimTexts.{IsClaimList, IsClaimsAnswer};
 ghost use Rattle.warg_audit.specs.Files.RecordLines.{record_lines};
@@ -45,8 +46,7 @@ fn claim_lines(alloc: Global, claims: &[Claim]) -> Result<String, AllocError>
 
 // Whether memory was refused, so that the cause names nothing.
 fn is_out_of_memory<L: Hosted>(cause: &RunCause<L::Error>) -> bool
-    ensures { result ≡ is_none (cause_named_by (envelope_fault_of L.Record.fault_of)
-        L.offence_of cause.now) }
+    ensures { result ≡ is_none (named_cause L.log L.Record.reading cause.now) }
 {
     match cause {
         RunCause::Parse(error) => is_memory_fault::<L>(error),
@@ -88,8 +88,7 @@ fn cut_answer<L: ToolLog + Hosted>(
     cause: RunCause<L::Error>,
 ) -> Result<Answer, Stop>
     ensures { Answers (λ printed. (printed ≡ no (string_bytes text)) ×
-        (is_none (cause_named_by (envelope_fault_of L.Record.fault_of) L.offence_of cause)
-        ≡ false)) result }
+        (is_none (named_cause L.log L.Record.reading cause) ≡ false)) result }
 {
     if is_out_of_memory::<L>(&cause) {
         return Err(Stop::OutOfMemory);
@@ -108,8 +107,8 @@ fn list_answer<L: ToolLog + Hosted>(
     path: &str,
     strings: &[Vec<u8>],
 ) -> Result<Answer, Stop>
-    ensures { Answers (IsClaimList L.kind (envelope_of L.Record.read) (map vec_items strings.now))
-        result }
+    ensures { Answers (IsClaimList L.kind (envelope_in L.Record.reading)
+        (map vec_items strings.now)) result }
 {
     let LogClaims { claims, refusal } = claims::<L>(alloc, strings);
     let text = claim_lines(alloc, claims.as_slice())?;
@@ -121,7 +120,7 @@ fn list_answer<L: ToolLog + Hosted>(
 
 /// The claims of the log in a file, up to the first record that can't come next whatever its signature.
 pub fn claims_answer<L: ToolLog + Hosted>(alloc: Global, input: Input<'_>) -> Result<Answer, Stop>
-    ensures { Answers (IsClaimsAnswer L.kind (envelope_of L.Record.read)
+    ensures { Answers (IsClaimsAnswer L.kind (envelope_in L.Record.reading)
         (record_lines input.entry.bytes.items)) result }
 {
     match file_strings(alloc, input.path, input.bytes) {

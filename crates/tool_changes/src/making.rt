@@ -2,14 +2,14 @@
 
 ghost use Rattle.std.specs.Prelude.{◌≡◌, IfErr, IfOk, IsErr, None, Ok};
 ghost use Rattle.warg_crypto.specs.Keys.{public_key_of};
-ghost use Rattle.warg_protocol.specs.Logs.{cause_named_by, envelope_fault_of, envelope_of};
-ghost use Rattle.warg_replay.specs.OutcomeRuns.{cause_next};
+ghost use Rattle.warg_replay.specs.LogWords.{named_cause, why_not};
 ghost use Rattle.tool_answers.specs.Explanations.{all_belong};
 ghost use Rattle.warg_audit.specs.LogAnswers.{cause_name, IsNamedRefusal};
 ghost use Rattle.warg_audit.specs.Files.Answers.{answer_view, Answers, IfStopped, IsUnusable};
 ghost use Rattle.tool_changes.specs.declared.make.error.MakeError.TheVariants.{OutOfMemory};
-ghost use Rattle.tool_changes.specs.MadeRecords.{IsMadeBy, IsMadeByToy, IsMadeForKey, IsMadeForText, IsMadeOf, IsPrintedNext, IsRefusedNext, signed_line, unsigned_line};
-ghost use Rattle.tool_answers.specs.Verdicts.{ForDisplay};
+ghost use Rattle.tool_changes.specs.MadeRecords.{IsMadeBy, IsMadeByToy, IsMadeForKey, IsMadeForText, IsMadeOf};
+ghost use Rattle.tool_changes.specs.MadeRecords.{IsPrintedNext, IsRefusedNext, signed_line, unsigned_line};
+ghost use Rattle.warg_audit.specs.ReportWords.{ForDisplay};
 
 use crate::make::{MakeError, UnsignedRecord, Worded, make, make_unsigned};
 use std::alloc::{AllocError, Global};
@@ -110,11 +110,9 @@ fn refused_next<L: ToolLog>(
     path: &str,
     error: &RunError<L::Error>,
 ) -> Result<Answer, AllocError>
-    ensures { ForDisplay L.view L.kind L.Record.read L.Record.fault_of L.offence_of
-        L.name_of L.lines_of (λ log.
-        IfOk result (λ answer. IsNamedRefusal (cause_name log.fault_name log.offence_name)
-        (cause_named_by (envelope_fault_of L.Record.fault_of) L.offence_of error.now.cause)
-        error.now.index (answer_view answer))) }
+    ensures { ForDisplay L.log L.Record.reading L.report (λ log. IfOk result (λ answer.
+        IsNamedRefusal (cause_name log.fault_name log.offence_name) (named_cause
+        L.log L.Record.reading error.now.cause) error.now.index (answer_view answer))) }
 {
     let reply = refusal_reply::<L>(alloc, error)?;
     let sentence = refusal_sentence::<L>(alloc, path, error)?;
@@ -123,10 +121,9 @@ fn refused_next<L: ToolLog>(
 
 // Whether the log takes the record in these bytes, whatever its signature; the end of the command where it does not.
 fn taken<L: ToolLog>(alloc: Global, log: Lawful<'_, L>, string: &Vec<u8>) -> Result<(), Stop>
-    ensures taken { IfOk result (λ _. cause_next L.kind all_belong (envelope_of L.Record.read)
+    ensures taken { IfOk result (λ _. why_not L.log L.Record.reading all_belong
         (L.view log.entry.state) string.now.items ≡ None) }
-    ensures refused { ForDisplay L.view L.kind L.Record.read L.Record.fault_of L.offence_of
-        L.name_of L.lines_of (λ shown. IfErr result (IfStopped
+    ensures refused { ForDisplay L.log L.Record.reading L.report (λ shown. IfErr result (IfStopped
         (IsRefusedNext shown (L.view log.entry.state) log.entry.count string.now.items))) }
 {
     match run_from(alloc, log.state, &AnySignature, slice::from_ref(string)) {
@@ -147,9 +144,8 @@ fn signed_next<L: ToolLog>(
     log: Lawful<'_, L>,
     envelope: &Vec<u8>,
 ) -> Result<Answer, Stop>
-    ensures { ForDisplay L.view L.kind L.Record.read L.Record.fault_of L.offence_of
-        L.name_of L.lines_of (λ shown. Answers (IsPrintedNext shown
-        (L.view log.entry.state) log.entry.count envelope.now.items
+    ensures { ForDisplay L.log L.Record.reading L.report (λ shown.
+        Answers (IsPrintedNext shown (L.view log.entry.state) log.entry.count envelope.now.items
         (signed_line envelope.now.items)) result) }
 {
     match taken(alloc, log, envelope) {
@@ -164,9 +160,8 @@ fn unsigned_next<L: ToolLog>(
     log: Lawful<'_, L>,
     made: &UnsignedRecord,
 ) -> Result<Answer, Stop>
-    ensures { ForDisplay L.view L.kind L.Record.read L.Record.fault_of L.offence_of
-        L.name_of L.lines_of (λ shown. Answers (IsPrintedNext shown
-        (L.view log.entry.state) log.entry.count made.now.draft.items
+    ensures { ForDisplay L.log L.Record.reading L.report (λ shown.
+        Answers (IsPrintedNext shown (L.view log.entry.state) log.entry.count made.now.draft.items
         (unsigned_line made.now.envelope.items made.now.message.items)) result) }
 {
     match taken(alloc, log, &made.draft) {
@@ -182,9 +177,9 @@ fn made_by_toy<L: ToolLog + Worded>(
     name: &str,
     draft: &Draft<'_>,
 ) -> Result<Answer, Stop>
-    ensures { ForDisplay L.view L.kind L.Record.read L.Record.fault_of L.offence_of
-        L.name_of L.lines_of (λ shown. Answers (IsMadeByToy L.says L.lacks L.content L.prefix
-        shown draft.now (L.view log.entry.state) log.entry.count name.now) result) }
+    ensures { ForDisplay L.log L.Record.reading L.report (λ shown.
+        Answers (IsMadeByToy L.says L.lacks L.content L.prefix shown draft.now
+        (L.view log.entry.state) log.entry.count name.now) result) }
 {
     let entries = draft.entries.as_slice();
     match make::<L>(alloc, &log.state, name, draft.clock, draft.time, entries) {
@@ -200,9 +195,9 @@ fn made_for_key<L: ToolLog + Worded>(
     key: PublicKey,
     draft: &Draft<'_>,
 ) -> Result<Answer, Stop>
-    ensures { ForDisplay L.view L.kind L.Record.read L.Record.fault_of L.offence_of
-        L.name_of L.lines_of (λ shown. Answers (IsMadeForKey L.says L.lacks L.content L.prefix
-        shown draft.now (L.view log.entry.state) log.entry.count key) result) }
+    ensures { ForDisplay L.log L.Record.reading L.report (λ shown.
+        Answers (IsMadeForKey L.says L.lacks L.content L.prefix shown draft.now
+        (L.view log.entry.state) log.entry.count key) result) }
 {
     let entries = draft.entries.as_slice();
     match make_unsigned::<L>(alloc, &log.state, key, draft.clock, draft.time, entries) {
@@ -218,9 +213,9 @@ fn made_for_text<L: ToolLog + Worded>(
     text: &str,
     draft: &Draft<'_>,
 ) -> Result<Answer, Stop>
-    ensures { ForDisplay L.view L.kind L.Record.read L.Record.fault_of L.offence_of
-        L.name_of L.lines_of (λ shown. Answers (IsMadeForText L.says L.lacks L.content L.prefix
-        shown draft.now (L.view log.entry.state) log.entry.count text.now) result) }
+    ensures { ForDisplay L.log L.Record.reading L.report (λ shown.
+        Answers (IsMadeForText L.says L.lacks L.content L.prefix shown draft.now
+        (L.view log.entry.state) log.entry.count text.now) result) }
 {
     match key_of(alloc, text) {
         Ok(key) => made_for_key(alloc, log, key, draft),
@@ -234,9 +229,9 @@ fn made<L: ToolLog + Worded>(
     log: Lawful<'_, L>,
     draft: &Draft<'_>,
 ) -> Result<Answer, Stop>
-    ensures { ForDisplay L.view L.kind L.Record.read L.Record.fault_of L.offence_of
-        L.name_of L.lines_of (λ shown. Answers (IsMadeBy L.says L.lacks L.content L.prefix
-        shown draft.now (L.view log.entry.state) log.entry.count draft.now.signer) result) }
+    ensures { ForDisplay L.log L.Record.reading L.report (λ shown.
+        Answers (IsMadeBy L.says L.lacks L.content L.prefix shown draft.now
+        (L.view log.entry.state) log.entry.count draft.now.signer) result) }
 {
     match draft.signer {
         Signer::Toy(name) => made_by_toy(alloc, log, name, draft),
@@ -252,10 +247,8 @@ pub(crate) fn make_answer<L: ToolLog + Worded, V: Verifier>(
     draft: &Draft<'_>,
 ) -> Result<Answer, Stop>
     // Where the log is not lawful, or would not be with the record, the audit's line is the answer, and no record is made.
-    ensures { ForDisplay L.view L.kind L.Record.read L.Record.fault_of L.offence_of
-        L.name_of L.lines_of (λ log.
-        Answers (IsMadeOf L.says L.lacks L.content L.prefix log draft.now
-        (V.belongs verifier.now) input.entry.bytes.items) result) }
+    ensures { ForDisplay L.log L.Record.reading L.report (λ log. Answers (IsMadeOf L.says L.lacks
+        L.content L.prefix log draft.now (V.belongs verifier.now) input.entry.bytes.items) result) }
 {
     let path = input.path;
     match judged::<L, V>(alloc, verifier, input) {

@@ -5,7 +5,8 @@ ghost use Rattle.std.specs.List.{list_any};
 ghost use Rattle.std.specs.Str.Lines.{lines};
 ghost use Rattle.warg_audit.specs.Files.Answers.{answer_view, Answers, IfStopped, IsUnanswered};
 ghost use Rattle.tool_changes.specs.Audits.{BeginsAs, IsAuditOf, first_of, records_alone};
-ghost use Rattle.tool_changes.specs.ManyAudits.{audit_line, empty_list_line, is_path, IsManyAnswer, IsVerdictOn, IsWith, IsWithAll, IsWithListed, IsWithNamed, IsWithPaths};
+ghost use Rattle.tool_changes.specs.ManyAudits.{audit_line, empty_list_line, is_path, IsManyAnswer, IsVerdictOn};
+ghost use Rattle.tool_changes.specs.ManyAudits.{IsWith, IsWithAll, IsWithListed, IsWithNamed, IsWithPaths};
 ghost use Rattle.warg_audit.specs.Files.RecordLines.{texts};
 
 use crate::audit::first_of_audit;
@@ -117,8 +118,7 @@ impl<'v, V: Verifier> Verdicts<'v, V> {
     ) -> Result<(), AllocError>
         ensures added { OnOk result (IsWithAll self.now.is_json self.now.kind
             (V.belongs self.now.verifier.now) (S.files store.old) self.now.allows_empty
-            (filter is_path (line.now ∷ []))
-            (answer_view all.old) (answer_view all.new)) }
+            (filter is_path (line.now ∷ [])) (answer_view all.old) (answer_view all.new)) }
         ensures kept { S.files store.new ≡ S.files store.old }
     {
         if line.is_empty() {
@@ -137,8 +137,7 @@ impl<'v, V: Verifier> Verdicts<'v, V> {
     ) -> Result<(), AllocError>
         ensures added { OnOk result (IsWithAll self.now.is_json self.now.kind
             (V.belongs self.now.verifier.now) (S.files store.old) self.now.allows_empty
-            (filter is_path (lines paths.now))
-            (answer_view all.old) (answer_view all.new)) }
+            (filter is_path (lines paths.now)) (answer_view all.old) (answer_view all.new)) }
         ensures kept { S.files store.new ≡ S.files store.old }
     {
         for line in paths.lines() {

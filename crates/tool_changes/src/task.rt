@@ -1,13 +1,13 @@
 //! The commands that list what is to be verified, make records, and add to logs.
 
 ghost use Rattle.std.specs.Prelude.{◌≡◌};
-ghost use Rattle.warg_protocol.specs.Logs.{envelope_of};
+ghost use Rattle.warg_envelope.specs.ReadingWords.{envelope_in};
 ghost use Rattle.warg_audit.specs.Files.Answers.{Answers};
 ghost use Rattle.tool_changes.specs.ClaimTexts.{IsClaimsAnswer};
 ghost use Rattle.tool_changes.specs.MadeRecords.{IsMade};
 ghost use Rattle.tool_changes.specs.Tasks.{IsTaskAnswer, Leaves};
 ghost use Rattle.warg_audit.specs.Files.Unusable.{IsOfLines};
-ghost use Rattle.tool_answers.specs.Verdicts.{ForDisplay};
+ghost use Rattle.warg_audit.specs.ReportWords.{ForDisplay};
 
 use crate::append::append_answer;
 use crate::claim_lines::claims_answer;
@@ -29,7 +29,7 @@ fn claims_of_file<L: ToolLog + Hosted, S: Store>(
     store: &mut S,
 ) -> Result<Answer, Stop>
     ensures answered { Answers (IsOfLines (S.files store.old) log.now
-        (IsClaimsAnswer L.kind (envelope_of L.Record.read))) result }
+        (IsClaimsAnswer L.kind (envelope_in L.Record.reading))) result }
     ensures kept { S.files store.new ≡ S.files store.old }
 {
     match read_input(alloc, store, log) {
@@ -46,10 +46,9 @@ fn made_for_file<L: ToolLog + Worded, V: Verifier, S: Store>(
     draft: &Draft<'_>,
     store: &mut S,
 ) -> Result<Answer, Stop>
-    ensures answered { ForDisplay L.view L.kind L.Record.read L.Record.fault_of L.offence_of
-        L.name_of L.lines_of (λ shown. Answers
-        (IsMade L.says L.lacks L.content L.prefix shown draft.now (V.belongs verifier.now)
-        (S.files store.old) log.now) result) }
+    ensures answered { ForDisplay L.log L.Record.reading L.report (λ shown.
+        Answers (IsMade L.says L.lacks L.content L.prefix shown draft.now
+        (V.belongs verifier.now) (S.files store.old) log.now) result) }
     ensures kept { S.files store.new ≡ S.files store.old }
 {
     match read_log(alloc, store, log) {
@@ -65,13 +64,11 @@ pub fn task_answer<L: ToolLog + Hosted + Worded, V: Verifier, S: Store>(
     task: &Task<'_>,
     store: &mut S,
 ) -> Result<Answer, Stop>
-    ensures answered { ForDisplay L.view L.kind L.Record.read L.Record.fault_of L.offence_of
-        L.name_of L.lines_of (λ shown. Answers
-        (IsTaskAnswer L.says L.lacks L.content L.prefix shown (V.belongs verifier.now)
-        (S.files store.old) (S.files store.new) task.now) result) }
-    ensures files { ForDisplay L.view L.kind L.Record.read L.Record.fault_of L.offence_of
-        L.name_of L.lines_of (λ shown. Leaves shown (V.belongs verifier.now)
-        (S.files store.old) (S.files store.new) task.now) }
+    ensures answered { ForDisplay L.log L.Record.reading L.report (λ shown.
+        Answers (IsTaskAnswer L.says L.lacks L.content L.prefix shown
+        (V.belongs verifier.now) (S.files store.old) (S.files store.new) task.now) result) }
+    ensures files { ForDisplay L.log L.Record.reading L.report (λ shown.
+        Leaves shown (V.belongs verifier.now) (S.files store.old) (S.files store.new) task.now) }
 {
     match task {
         Task::Claims { log } => claims_of_file::<L, S>(alloc, log, store),

@@ -11,7 +11,8 @@ ghost use Rattle.warg_registry.specs.PrefixEncodings.{log_leaf_encoding_of};
 ghost use Rattle.warg_transparency.specs.Heads.{head_leaf};
 ghost use Rattle.warg_audit.specs.Files.Answers.{IfStopped, IsUnusable};
 ghost use Rattle.warg_audit.specs.Files.RecordLines.{record_lines};
-ghost use Rattle.tool_checkpoints.specs.RegistryLeaves.{HasNoLeaf, IsRegistryOf, leaf_of_ids, leaf_of_line, leaf_of_text, SayRegistry};
+ghost use Rattle.tool_checkpoints.specs.RegistryLeaves.{HasNoLeaf, IsRegistryOf, leaf_of_ids, leaf_of_line};
+ghost use Rattle.tool_checkpoints.specs.RegistryLeaves.{leaf_of_text, SayRegistry};
 
 use std::alloc::{AllocError, Global};
 use warg_audit::files::input::{Input, line_sentence};

@@ -8,7 +8,9 @@ ghost use Rattle.warg_registry.specs.PrefixEncodings.{log_leaf_encoding_of};
 ghost use Rattle.warg_transparency.specs.Heads.{ShowsHead};
 ghost use Rattle.warg_transparency.specs.Views.{GoesOn};
 ghost use Rattle.warg_audit.specs.Files.Answers.{answer_view, Answers};
-ghost use Rattle.tool_checkpoints.specs.Proofs.{IsAbsenceVerdict, IsConsistencyVerdict, IsHeadVerdict, IsInclusionVerdict, IsStatementVerdict, IsVerdict, verdict_text};
+ghost use Rattle.tool_checkpoints.specs.Proofs.{IsAbsenceVerdict, IsConsistencyVerdict};
+ghost use Rattle.tool_checkpoints.specs.Proofs.{IsHeadVerdict, IsInclusionVerdict, IsStatementVerdict};
+ghost use Rattle.tool_checkpoints.specs.Proofs.{IsVerdict, verdict_text};
 
 use crate::read_words::{
     leaf_of, log_id_of, number_of, read_checkpoint, read_log_proof, read_map_proof,

@@ -39,9 +39,9 @@ pub fn ids_are_printed()
 
 /// So are verdicts on logs, with their releases, and behind paths.
 pub fn audits_are_printed()
-    ensures one { (json : Bool) (files : Option Files) (kind : LogType) (belongs : SignatureRelation)
-        (demands : Demands) (shows_path : Bool) (path : List ℕ) (printed : Printout) →
-        IsOneAnswer json kind belongs files demands shows_path path printed →
+    ensures one { (json : Bool) (files : Option Files) (kind : LogType)
+        (belongs : SignatureRelation) (demands : Demands) (shows_path : Bool) (path : List ℕ)
+        (printed : Printout) → IsOneAnswer json kind belongs files demands shows_path path printed →
         IsPrintedText printed.text }
     ensures many { (json : Bool) (kind : LogType) (belongs : SignatureRelation)
         (files : Option Files) (allows_empty : Bool) (words : List (List ℕ)) (printed : Printout) →
@@ -84,10 +84,9 @@ pub fn statements_are_printed()
 
 /// So are the answers to tasks: claims, records that are made, where their hex digits are those of bytes, and additions.
 pub fn tasks_are_printed()
-    ensures { (kind : LogType) (belongs : SignatureRelation) (old new : Option Files) (task : Task)
-        (printed : Printout) →
-        IsDoneAnswer kind belongs old new task printed → IfMade task printed.text →
-        IsPrintedText printed.text }
+    ensures { (kind : LogType) (belongs : SignatureRelation) (old new : Option Files)
+        (task : Task) (printed : Printout) → IsDoneAnswer kind belongs old new task printed →
+        IfMade task printed.text → IsPrintedText printed.text }
 {}
 
 /// So is every answer in JSON.

@@ -5,3 +5,4 @@ pub mod StateLemmas
 pub mod CompareLemmas
 pub mod ResumeLemmas
 pub mod ShowLemmas
+pub mod QuestionWordLaws

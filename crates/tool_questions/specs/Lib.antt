@@ -3,4 +3,5 @@ pub mod AskedKeys
 pub mod Questions
 pub mod Resumption
 pub mod QuestionAnswers
+pub mod QuestionWords
 pub mod Show

@@ -1,3 +1,4 @@
 pub mod Advice
 pub mod Reasons
 pub mod ShownLogs
+pub mod ShowWords

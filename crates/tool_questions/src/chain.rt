@@ -8,7 +8,8 @@ ghost use Rattle.warg_audit.specs.Files.Answers.{answer_view, Answers, IfStopped
 ghost use Rattle.tool_questions.specs.Questions.{AreWithin, IsAskedChain, IsChainText, IsChainTold};
 ghost use Rattle.warg_audit.specs.Files.RecordLines.{record_lines};
 ghost use Rattle.tool_answers.specs.Texts.{AreLinkLines, IsChainPrinted, IsLinkLine, link_text, receiver, signer_at};
-ghost use Rattle.tool_answers.specs.Verdicts.{ForDisplay, IsPrintedOf};
+ghost use Rattle.warg_audit.specs.ReportWords.{ForDisplay};
+ghost use Rattle.tool_answers.specs.Verdicts.{IsPrintedOf};
 ghost use Rattle.tool_answers.specs.Words.{IsUnsaid};
 
 use crate::asked::{asked_key, with_fault};
@@ -172,11 +173,9 @@ pub fn chain_answer<L: ToolLog, V: Verifier>(
     permission: L::Permission,
     input: Input<'_>,
 ) -> Result<Answer, Stop>
-    ensures { ForDisplay L.view L.kind L.Record.read L.Record.fault_of L.offence_of
-        L.name_of L.lines_of (λ log.
-        Answers (IsPrintedOf log (V.belongs verifier.now)
-        (IsChainText log L.says_words L.view L.has_key L.effects word.now permission)
-        (record_lines input.entry.bytes.items)) result) }
+    ensures { ForDisplay L.log L.Record.reading L.report (λ log.
+        Answers (IsPrintedOf log (V.belongs verifier.now) (IsChainText log L.says_words L.view
+        L.has_key L.effects word.now permission) (record_lines input.entry.bytes.items)) result) }
 {
     match kept::<L, Lent<'_, V>>(alloc, Lent(verifier), input) {
         Ok(log) => Ok(asked_chain(alloc, &log, word, permission)?),

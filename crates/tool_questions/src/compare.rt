@@ -9,7 +9,8 @@ ghost use Rattle.tool_questions.specs.Questions.{IsCompared, IsComparedWith, IsC
 ghost use Rattle.warg_audit.specs.Files.RecordLines.{record_lines};
 ghost use Rattle.tool_answers.specs.Texts.{IsComparisonPrinted, IsForkText, PartsWithin};
 ghost use Rattle.warg_audit.specs.LogAnswers.{head_text};
-ghost use Rattle.tool_answers.specs.Verdicts.{ForDisplay, envelopes_of};
+ghost use Rattle.warg_audit.specs.ReportWords.{ForDisplay};
+ghost use Rattle.tool_answers.specs.Verdicts.{envelopes_of};
 
 use std::alloc::{AllocError, Global};
 use tool_answers::judged::Lent;
@@ -118,11 +119,9 @@ fn compared_with<L: ToolLog, V: Verifier + Drop>(
     verifier: V,
     new: Input<'_>,
 ) -> Result<Answer, Stop>
-    ensures { ForDisplay L.view L.kind L.Record.read L.Record.fault_of L.offence_of
-        L.name_of L.lines_of (λ log.
-        (here : List (List ℕ)) → envelopes old.now.records ≡ envelopes_of log here →
-        Answers (IsComparedWith log L.says_words (V.belongs verifier) here
-        (record_lines new.entry.bytes.items)) result) }
+    ensures { ForDisplay L.log L.Record.reading L.report (λ log. (here : List (List ℕ)) →
+        envelopes old.now.records ≡ envelopes_of log here → Answers (IsComparedWith log L.says_words
+        (V.belongs verifier) here (record_lines new.entry.bytes.items)) result) }
 {
     match side::<L, V>(alloc, verifier, "new", new) {
         Ok(new) => compared(alloc, old, &new),
@@ -137,8 +136,7 @@ pub fn compare_answer<L: ToolLog, V: Verifier>(
     old: Input<'_>,
     new: Input<'_>,
 ) -> Result<Answer, Stop>
-    ensures { ForDisplay L.view L.kind L.Record.read L.Record.fault_of L.offence_of
-        L.name_of L.lines_of (λ log.
+    ensures { ForDisplay L.log L.Record.reading L.report (λ log.
         Answers (IsCompared log L.says_words (V.belongs verifier.now)
         (record_lines old.entry.bytes.items) (record_lines new.entry.bytes.items)) result) }
 {

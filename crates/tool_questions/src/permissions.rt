@@ -6,7 +6,8 @@ ghost use Rattle.tool_questions.specs.Questions.{ArePermissionsTold, IsPermissio
 ghost use Rattle.warg_audit.specs.Files.RecordLines.{record_lines};
 ghost use Rattle.warg_audit.specs.Files.Texts.{all_lines, line};
 ghost use Rattle.tool_answers.specs.Texts.{permissions_text};
-ghost use Rattle.tool_answers.specs.Verdicts.{ForDisplay, IsPrintedOf};
+ghost use Rattle.warg_audit.specs.ReportWords.{ForDisplay};
+ghost use Rattle.tool_answers.specs.Verdicts.{IsPrintedOf};
 
 use crate::asked::{asked_key, with_fault};
 use std::alloc::{AllocError, Global};
@@ -91,11 +92,9 @@ pub fn permissions_answer<L: ToolLog, V: Verifier>(
     word: &str,
     input: Input<'_>,
 ) -> Result<Answer, Stop>
-    ensures { ForDisplay L.view L.kind L.Record.read L.Record.fault_of L.offence_of
-        L.name_of L.lines_of (λ log.
-        Answers (IsPrintedOf log (V.belongs verifier.now)
-        (IsPermissionsText log L.view L.has_key L.knows L.holds L.order L.text_of word.now)
-        (record_lines input.entry.bytes.items)) result) }
+    ensures { ForDisplay L.log L.Record.reading L.report (λ log. Answers
+        (IsPrintedOf log (V.belongs verifier.now) (IsPermissionsText log L.view L.has_key L.knows
+        L.holds L.order L.text_of word.now) (record_lines input.entry.bytes.items)) result) }
 {
     match judged::<L, V>(alloc, verifier, input) {
         Ok((state, _)) => Ok(asked_permissions(alloc, &state, word)?),

@@ -4,9 +4,11 @@ ghost use Rattle.warg_audit.specs.Files.Answers.{Answers};
 ghost use Rattle.tool_questions.specs.Questions.{IsChainText, IsCompared, IsPermissionsText, IsStateText};
 ghost use Rattle.warg_audit.specs.Files.RecordLines.{record_lines};
 ghost use Rattle.tool_questions.specs.QuestionAnswers.{IsQuestionAnswer};
+ghost use Rattle.tool_questions.specs.QuestionWords.{askable};
 ghost use Rattle.warg_audit.specs.Files.Unusable.{IsOfFile, IsOfLines};
 ghost use Rattle.tool_questions.specs.Resumption.{IsResumed};
-ghost use Rattle.tool_answers.specs.Verdicts.{ForDisplay, IsPrintedOf};
+ghost use Rattle.warg_audit.specs.ReportWords.{ForDisplay};
+ghost use Rattle.tool_answers.specs.Verdicts.{IsPrintedOf};
 ghost use Rattle.tool_answers.specs.Words.{IsByWord};
 ghost use Rattle.std.specs.Prelude.{◌≡◌};
 
@@ -29,8 +31,7 @@ fn state_of_file<L: ToolLog, V: Verifier, S: Store>(
     path: &str,
     store: &mut S,
 ) -> Result<Answer, Stop>
-    ensures answered { ForDisplay L.view L.kind L.Record.read L.Record.fault_of L.offence_of
-        L.name_of L.lines_of (λ log.
+    ensures answered { ForDisplay L.log L.Record.reading L.report (λ log.
         Answers (IsOfLines (S.files store.old) path.now
         (IsPrintedOf log (V.belongs verifier.now) (IsStateText log L.view L.json_of))) result) }
     ensures kept { S.files store.new ≡ S.files store.old }
@@ -48,11 +49,9 @@ fn permissions_of_file<L: ToolLog, V: Verifier, S: Store>(
     path: &str,
     store: &mut S,
 ) -> Result<Answer, Stop>
-    ensures answered { ForDisplay L.view L.kind L.Record.read L.Record.fault_of L.offence_of
-        L.name_of L.lines_of (λ log.
-        Answers (IsOfLines (S.files store.old) path.now (IsPrintedOf log (V.belongs verifier.now)
-        (IsPermissionsText log L.view L.has_key L.knows L.holds L.order L.text_of key_id.now)))
-        result) }
+    ensures answered { ForDisplay L.log L.Record.reading L.report (λ log. Answers (IsOfLines
+        (S.files store.old) path.now (IsPrintedOf log (V.belongs verifier.now) (IsPermissionsText
+        log L.view L.has_key L.knows L.holds L.order L.text_of key_id.now))) result) }
     ensures kept { S.files store.new ≡ S.files store.old }
 {
     match read_input(alloc, store, path) {
@@ -69,12 +68,9 @@ fn chain_of_file<L: ToolLog, V: Verifier, S: Store>(
     path: &str,
     store: &mut S,
 ) -> Result<Answer, Stop>
-    ensures answered { ForDisplay L.view L.kind L.Record.read L.Record.fault_of L.offence_of
-        L.name_of L.lines_of (λ log.
-        Answers (IsOfLines (S.files store.old) path.now
-        (IsPrintedOf log (V.belongs verifier.now)
-        (IsChainText log L.says_words L.view L.has_key L.effects key_id.now permission)))
-        result) }
+    ensures answered { ForDisplay L.log L.Record.reading L.report (λ log.
+        Answers (IsOfLines (S.files store.old) path.now (IsPrintedOf log (V.belongs verifier.now)
+        (IsChainText log L.says_words L.view L.has_key L.effects key_id.now permission))) result) }
     ensures kept { S.files store.new ≡ S.files store.old }
 {
     match read_input(alloc, store, path) {
@@ -92,12 +88,10 @@ fn chain_of_word<L: ToolLog, V: Verifier, S: Store>(
     path: &str,
     store: &mut S,
 ) -> Result<Answer, Stop>
-    ensures answered { ForDisplay L.view L.kind L.Record.read L.Record.fault_of L.offence_of
-        L.name_of L.lines_of (λ log.
-        Answers (IsByWord (λ permission. L.text_of permission ≡ word.now) (λ permission.
-        IsOfLines (S.files store.old) path.now
-        (IsPrintedOf log (V.belongs verifier.now)
-        (IsChainText log L.says_words L.view L.has_key L.effects key_id.now permission)))) result) }
+    ensures answered { ForDisplay L.log L.Record.reading L.report (λ log.
+        Answers (IsByWord (λ it. L.text_of it ≡ word.now) (λ it.
+        IsOfLines (S.files store.old) path.now (IsPrintedOf log (V.belongs verifier.now)
+        (IsChainText log L.says_words L.view L.has_key L.effects key_id.now it)))) result) }
     ensures kept { S.files store.new ≡ S.files store.old }
 {
     match wanted_permission::<L>(alloc, word) {
@@ -115,12 +109,9 @@ fn resumed_from_file<L: ToolLog, V: Verifier, S: Store>(
     path: &str,
     store: &mut S,
 ) -> Result<Answer, Stop>
-    ensures answered { ForDisplay L.view L.kind L.Record.read L.Record.fault_of L.offence_of
-        L.name_of L.lines_of (λ log.
-        Answers (IsOfLines (S.files store.old) path.now
-        (IsResumed log (V.belongs verifier.now) L.view L.json_of L.state_of
-        saved.entry.bytes.items))
-        result) }
+    ensures answered { ForDisplay L.log L.Record.reading L.report (λ log.
+        Answers (IsOfLines (S.files store.old) path.now (IsResumed log
+        (V.belongs verifier.now) L.view L.json_of L.state_of saved.entry.bytes.items)) result) }
     ensures kept { S.files store.new ≡ S.files store.old }
 {
     match read_input(alloc, store, path) {
@@ -136,10 +127,8 @@ fn resumed_from_files<L: ToolLog, V: Verifier, S: Store>(
     path: &str,
     store: &mut S,
 ) -> Result<Answer, Stop>
-    ensures answered { ForDisplay L.view L.kind L.Record.read L.Record.fault_of L.offence_of
-        L.name_of L.lines_of (λ log.
-        Answers (IsOfFile (S.files store.old) state.now (λ saved.
-        IsOfLines (S.files store.old) path.now
+    ensures answered { ForDisplay L.log L.Record.reading L.report (λ log. Answers
+        (IsOfFile (S.files store.old) state.now (λ saved. IsOfLines (S.files store.old) path.now
         (IsResumed log (V.belongs verifier.now) L.view L.json_of L.state_of saved))) result) }
     ensures kept { S.files store.new ≡ S.files store.old }
 {
@@ -156,11 +145,9 @@ fn compared_with_file<L: ToolLog, V: Verifier, S: Store>(
     path: &str,
     store: &mut S,
 ) -> Result<Answer, Stop>
-    ensures answered { ForDisplay L.view L.kind L.Record.read L.Record.fault_of L.offence_of
-        L.name_of L.lines_of (λ log.
-        Answers (IsOfLines (S.files store.old) path.now
-        (IsCompared log L.says_words (V.belongs verifier.now) (record_lines old.entry.bytes.items)))
-        result) }
+    ensures answered { ForDisplay L.log L.Record.reading L.report (λ log.
+        Answers (IsOfLines (S.files store.old) path.now (IsCompared log L.says_words
+        (V.belongs verifier.now) (record_lines old.entry.bytes.items))) result) }
     ensures kept { S.files store.new ≡ S.files store.old }
 {
     match read_input(alloc, store, path) {
@@ -176,10 +163,8 @@ fn compared_files<L: ToolLog, V: Verifier, S: Store>(
     new: &str,
     store: &mut S,
 ) -> Result<Answer, Stop>
-    ensures answered { ForDisplay L.view L.kind L.Record.read L.Record.fault_of L.offence_of
-        L.name_of L.lines_of (λ log.
-        Answers (IsOfLines (S.files store.old) old.now
-        (λ before. IsOfLines (S.files store.old) new.now
+    ensures answered { ForDisplay L.log L.Record.reading L.report (λ log. Answers
+        (IsOfLines (S.files store.old) old.now (λ before. IsOfLines (S.files store.old) new.now
         (IsCompared log L.says_words (V.belongs verifier.now) before))) result) }
     ensures kept { S.files store.new ≡ S.files store.old }
 {
@@ -196,21 +181,9 @@ pub fn question_answer<L: ToolLog, V: Verifier, S: Store>(
     question: &Question<'_>,
     store: &mut S,
 ) -> Result<Answer, Stop>
-    ensures answered { ForDisplay L.view L.kind L.Record.read L.Record.fault_of L.offence_of
-        L.name_of L.lines_of (λ log. Answers
-        (IsQuestionAnswer (record {
-          shown = log;
-          view = L.view;
-          json = L.json_of;
-          reads = L.state_of;
-          has_key = L.has_key;
-          knows = L.knows;
-          held = L.holds;
-          order = L.order;
-          text_of = L.text_of;
-          effects = L.effects;
-        })
-        L.says_words (V.belongs verifier.now) (S.files store.old) question.now) result) }
+    ensures answered { ForDisplay L.log L.Record.reading L.report (λ log.
+        Answers (IsQuestionAnswer (askable L.log L.tool L.holds L.effects log) L.says_words
+        (V.belongs verifier.now) (S.files store.old) question.now) result) }
     ensures kept { S.files store.new ≡ S.files store.old }
 {
     match question {

@@ -10,7 +10,7 @@ ghost use Rattle.warg_audit.specs.Files.Answers.{answer_view, Answers, IfStopped
 ghost use Rattle.tool_questions.specs.Resumption.{IsGoneOn, IsResumed, read_state};
 ghost use Rattle.warg_audit.specs.Files.RecordLines.{record_lines};
 ghost use Rattle.tool_questions.specs.StateFaults.{bad_state, case_name, state_fault_name, value_name};
-ghost use Rattle.tool_answers.specs.Verdicts.{ForDisplay};
+ghost use Rattle.warg_audit.specs.ReportWords.{ForDisplay};
 
 use crate::state::json_answer;
 use std::alloc::{AllocError, Global};
@@ -125,8 +125,7 @@ fn state_after_strings<L: ToolLog, V: Verifier>(
     path: &str,
     strings: &[Vec<u8>],
 ) -> Result<Answer, Stop>
-    ensures { ForDisplay L.view L.kind L.Record.read L.Record.fault_of L.offence_of
-        L.name_of L.lines_of (λ log.
+    ensures { ForDisplay L.log L.Record.reading L.report (λ log.
         (lines : List (List ℕ)) → strings_of lines ≡ Ok (map vec_items strings.now) →
         Answers (IsGoneOn log (V.belongs verifier.now) L.view L.json_of state lines) result) }
 {
@@ -143,10 +142,8 @@ fn state_after<L: ToolLog, V: Verifier>(
     state: L,
     input: Input<'_>,
 ) -> Result<Answer, Stop>
-    ensures { ForDisplay L.view L.kind L.Record.read L.Record.fault_of L.offence_of
-        L.name_of L.lines_of (λ log.
-        Answers (IsGoneOn log (V.belongs verifier.now) L.view L.json_of state
-        (record_lines input.entry.bytes.items)) result) }
+    ensures { ForDisplay L.log L.Record.reading L.report (λ log. Answers (IsGoneOn log (V.belongs
+        verifier.now) L.view L.json_of state (record_lines input.entry.bytes.items)) result) }
 {
     match file_strings(alloc, input.path, input.bytes) {
         Ok(strings) => {
@@ -163,10 +160,8 @@ pub fn resume_answer<L: ToolLog, V: Verifier>(
     saved: Input<'_>,
     input: Input<'_>,
 ) -> Result<Answer, Stop>
-    ensures { ForDisplay L.view L.kind L.Record.read L.Record.fault_of L.offence_of
-        L.name_of L.lines_of (λ log.
-        Answers (IsResumed log (V.belongs verifier.now) L.view L.json_of L.state_of
-        saved.entry.bytes.items
+    ensures { ForDisplay L.log L.Record.reading L.report (λ log. Answers
+        (IsResumed log (V.belongs verifier.now) L.view L.json_of L.state_of saved.entry.bytes.items
         (record_lines input.entry.bytes.items)) result) }
 {
     match saved_state::<L>(alloc, &saved) {

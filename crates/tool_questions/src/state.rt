@@ -4,7 +4,8 @@ ghost use Rattle.warg_audit.specs.Files.Answers.{Answers};
 ghost use Rattle.tool_questions.specs.Questions.{IsStateText};
 ghost use Rattle.warg_audit.specs.Files.RecordLines.{record_lines};
 ghost use Rattle.tool_answers.specs.Texts.{json_text};
-ghost use Rattle.tool_answers.specs.Verdicts.{ForDisplay, IsPrintedOf};
+ghost use Rattle.warg_audit.specs.ReportWords.{ForDisplay};
+ghost use Rattle.tool_answers.specs.Verdicts.{IsPrintedOf};
 ghost use Rattle.std.specs.Prelude.{◌≡◌};
 
 use std::alloc::Global;
@@ -38,10 +39,9 @@ pub fn state_answer<L: ToolLog, V: Verifier>(
     verifier: &V,
     input: Input<'_>,
 ) -> Result<Answer, Stop>
-    ensures { ForDisplay L.view L.kind L.Record.read L.Record.fault_of L.offence_of
-        L.name_of L.lines_of (λ log.
-        Answers (IsPrintedOf log (V.belongs verifier.now) (IsStateText log L.view L.json_of)
-        (record_lines input.entry.bytes.items)) result) }
+    ensures { ForDisplay L.log L.Record.reading L.report (λ log.
+        Answers (IsPrintedOf log (V.belongs verifier.now)
+        (IsStateText log L.view L.json_of) (record_lines input.entry.bytes.items)) result) }
 {
     match judged::<L, V>(alloc, verifier, input) {
         Ok((state, _)) => json_answer(alloc, &state),

@@ -4,5 +4,6 @@ pub mod InputLemmas
 pub mod JudgeLemmas
 pub mod LogLemmas
 pub mod NameLemmas
+pub mod ReportWordLaws
 pub mod WholeAnswers
 pub mod FilesLemmas

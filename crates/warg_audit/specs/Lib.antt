@@ -1,6 +1,8 @@
 pub mod Commands
 pub mod Printouts
 pub mod LogAnswers
+pub mod Reports
+pub mod ReportWords
 pub mod ReleaseLines
 pub mod LogTypes
 pub mod Answers

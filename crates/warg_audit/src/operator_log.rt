@@ -15,6 +15,8 @@ impl Report for LogState {
 
     ghost lines_of = { λ _. [] };
 
+    ghost report = { record {} };
+
     fn error_name(error: &ValidationError) -> Option<&'static str> {
         match error {
             ValidationError::OutOfMemory => None,

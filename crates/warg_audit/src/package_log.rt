@@ -44,6 +44,8 @@ impl Report for LogState {
 
     ghost lines_of = { λ state. release_lines (view_of state).state.own_state };
 
+    ghost report = { record {} };
+
     fn error_name(error: &ValidationError) -> Option<&'static str> {
         match error {
             ValidationError::OutOfMemory => None,

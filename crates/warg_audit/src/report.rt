@@ -2,6 +2,7 @@
 
 ghost use Rattle.std.specs.Prelude.{◌≡◌, ◌++◌, ℕ, List, Option, OnOk, string_bytes};
 ghost use Rattle.std.specs.Option.{option_copied};
+ghost use Rattle.warg_audit.specs.Reports.{ReportOf};
 
 use std::alloc::{AllocError, Global};
 use warg_replay::Validator;
@@ -13,6 +14,9 @@ pub trait Report: Validator {
 
     // What is printed of a log after the first line.
     ghost lines_of: { Self → List ℕ };
+
+    // The two above, as one word for contracts: `ForDisplay L.log L.Record.reading L.report ..`.
+    ghost report: { ReportOf name_of lines_of };
 
     /// The name of the offence that the error says; none where memory was refused.
     fn error_name(error: &Self::Error) -> Option<&'static str>

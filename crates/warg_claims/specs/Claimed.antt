@@ -1,5 +1,5 @@
 -- What the records of a log claim of their signatures.
-use Rattle.std.specs.Prelude.{◌≡◌, ℕ, true, List, length, take, Option, Some, None, Result, Ok, Err}
+use Rattle.std.specs.Prelude.{◌≡◌, ℕ, true, List, Contains, length, take, Option, Some, None, Result, Ok, Err}
 use Rattle.std.specs.List.{slice_get}
 use Rattle.warg_envelope.specs.EnvelopeData.{EnvelopeData}
 use Rattle.warg_log_records.specs.Asked.{AsksFor}
@@ -16,6 +16,18 @@ any_signature key message signature = true
 -- the relation holds of each claim
 abbrev pub HoldsOf : SignatureRelation → List ClaimData → Type 0
 HoldsOf b claims = (i : ℕ) (c : ClaimData) → slice_get claims i ≡ Some c → b c.key c.message c.signature ≡ true
+
+-- each of these claims is one that the relation holds of
+abbrev pub AreHeld : SignatureRelation → List ClaimData → Type 0
+AreHeld b held = (c : ClaimData) → Contains held c → b c.key c.message c.signature ≡ true
+
+-- all claims that the relation holds of are among these
+abbrev pub HasAllHeld : SignatureRelation → List ClaimData → List ClaimData → Type 0
+HasAllHeld b claims held = (c : ClaimData) → Contains claims c → b c.key c.message c.signature ≡ true → Contains held c
+
+-- the first claims are among the second
+abbrev pub IsWithin : List ClaimData → List ClaimData → Type 0
+IsWithin few many = (c : ClaimData) → Contains few c → Contains many c
 
 module _ {View Offence : Type 0} (k : Kind View Offence) where
   -- what was read is an envelope that asks for just the claim: whatever the relation, nothing is wrong with it exactly if

@@ -1,2 +1,3 @@
 pub mod Claimed
+pub mod ClaimWords
 pub mod Verified

@@ -1,9 +1,8 @@
 //! The claims of a log.
 ghost use Rattle.std.specs.Prelude.{◌≡◌, IfOk, IfErr, OnOk, Some, length, map, take};
 ghost use Rattle.std.specs.Vec.{vec_items};
-ghost use Rattle.warg_envelope.specs.Envelopes.{envelope_of, envelope_fault_of};
-ghost use Rattle.warg_replay.specs.OutcomeRuns.{cause_named_by};
-ghost use Rattle.warg_claims.specs.Claimed.{AreClaims, AsksClaim, EndsAt, IsTaken, RefusesAnyway};
+ghost use Rattle.warg_replay.specs.LogWords.{IsWhyNever};
+ghost use Rattle.warg_claims.specs.ClaimWords.{AreClaims, AsksClaim, EndsAt, IsTaken};
 ghost use Rattle.warg_envelope.specs.declared.proto_envelope.error.ParseEnvelopeError.TheVariants.{OutOfMemory};
 ghost use Rattle.warg_replay.specs.declared.replay.RunCause.TheVariants.{Parse};
 
@@ -28,13 +27,10 @@ fn take_next<L: Hosted>(
     state: &mut L,
     bytes: &[u8],
 ) -> Result<Claim, RunCause<L::Error>>
-    ensures claim { IfOk result (AsksClaim L.kind (L.view state.old)
-        (envelope_of L.Record.read bytes.now)) }
-    ensures taken { OnOk result (IsTaken L.kind L.view state.old
-        (envelope_of L.Record.read bytes.now) state.new) }
-    ensures refused { IfErr result (λ c. RefusesAnyway L.kind (envelope_of L.Record.read)
-        (cause_named_by (envelope_fault_of L.Record.fault_of) L.offence_of) (L.view state.old)
-        bytes.now c) }
+    ensures claim { IfOk result (AsksClaim L.log L.Record.reading (L.view state.old) bytes.now) }
+    ensures taken { OnOk result (IsTaken L.log L.Record.reading state.old bytes.now state.new) }
+    ensures refused { IfErr result
+        (IsWhyNever L.log L.Record.reading (L.view state.old) bytes.now) }
 {
     let question = ask(alloc, &*state, bytes)?;
     let answer = Told {
@@ -67,11 +63,10 @@ fn out_of_memory<E>(claims: Vec<Claim>) -> LogClaims<E>
 /// The claim of each record of a log, in order, without a word on whether it is true. They end at the first record that
 /// can't come next whatever its signature.
 pub fn claims<L: Hosted>(alloc: Global, log: &[Vec<u8>]) -> LogClaims<L::Error>
-    ensures claims { AreClaims L.kind (envelope_of L.Record.read)
+    ensures claims { AreClaims L.log L.Record.reading
         (take (length result.claims.items) (map vec_items log.now)) result.claims.items }
-    ensures end { EndsAt L.kind (envelope_of L.Record.read)
-        (cause_named_by (envelope_fault_of L.Record.fault_of) L.offence_of)
-        (map vec_items log.now) (length result.claims.items) result.refusal }
+    ensures end { EndsAt L.log L.Record.reading (map vec_items log.now)
+        (length result.claims.items) result.refusal }
 {
     let mut claims = Vec::new(alloc);
     let Ok(mut state) = L::new(alloc) else {

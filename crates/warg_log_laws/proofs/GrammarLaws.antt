@@ -17,6 +17,12 @@ told-each : {C : Type 0} (o : Option C) (P Q : C → Type 0) → ((c : C) → P 
 told-each None P Q each h = tt
 told-each (Some c) P Q each h = each c h
 
+-- what follows of an answer, follows also where memory ran out at the start
+pub started : {S E : Type 0} (answer : Result S (RunError E)) (A B : Result S (RunError E) → Type 0)
+    → (A answer → B answer) → IfStarted A answer → IfStarted B answer
+started answer A B each (inl run) = inl (each run)
+started answer A B each (inr none) = inr none
+
 within_take : {A : Type 0} (xs : List A) (n i : ℕ) (x : A) → i < n → slice_get xs i ≡ Some x → slice_get (take n xs) i ≡ Some x
 within_take xs zero i x lt at = absurd (omega (arith, lt))
 within_take [] (suc n) i x lt at = no_item x at
@@ -121,10 +127,6 @@ module _ {View Offence F : Type 0} (k : Kind View Offence) (laws : KindLaws k) (
                     ∙ none j x (within_take ss error.index j x lt at);
               }) reading.first;
         }
-
-    started : (answer : Result S (RunError E)) (A B : Result S (RunError E) → Type 0) → (A answer → B answer) → IfStarted A answer → IfStarted B answer
-    started answer A B each (inl run) = inl (each run)
-    started answer A B each (inr none) = inr none
 
     -- `run` by the grammar
     pub run-by-grammar : (answer : Result S (RunError E)) → IfStarted (IsRun k b read k.view_of view named_by ◌≡◌ ss) answer ↔ IfStarted (IsReading k b IsEnvelope HasFault view named_by ss) answer

@@ -6,5 +6,7 @@ pub mod Holdings
 pub mod EntryWalks
 pub mod GrammarLaws
 pub mod AuditedLaws
-pub mod PackageAudited
-pub mod OperatorAudited
+pub mod AuditedGrowth
+pub mod LogWordLaws
+pub mod AuditedWordLaws
+pub mod KindWordLaws

@@ -1,5 +1,6 @@
 pub mod GrantChains
 pub mod EntryByEntry
 pub mod Grammars
-pub mod Package
-pub mod Operator
+pub mod RuledLogs
+pub mod OperatorKind
+pub mod PackageKind

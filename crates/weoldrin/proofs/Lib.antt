@@ -1,2 +1,3 @@
 pub mod RequestLemmas
 pub mod NameLemmas
+pub mod ResponseLaws

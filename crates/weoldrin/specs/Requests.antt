@@ -142,6 +142,11 @@ abbrev pub IsResponse : Bool → List ℕ → Look → SignatureRelation → Opt
 IsResponse json command look belongs old new it told printed =
     IsGivenTo (is_many it) json command (layout_of it look) (IsRequestAnswer json belongs old new it) told printed
 
+-- what is answered to an invocation in a look, by which signatures belong
+abbrev pub IsResponseTo : Look → SignatureRelation → Option Files → Option Files → Invocation → List ℕ → Printout → Type 0
+IsResponseTo look belongs old new it told printed =
+    IsResponse it.json it.command.now look belongs old new it.request told printed
+
 -- the lines of the text that bytes are say claims, and these are what is held
 pub record SaysClaims (bytes : List ℕ) (claims : List ClaimData) : Type 0 where
   pub utf8 : IsUtf8 bytes
@@ -156,7 +161,7 @@ IsUnder files toy (Some path) Unread P = Unread path.now ⊎ ((claims : List Cla
 abbrev pub IsAnswerIn : Look → Option Files → Option Files → Invocation → List ℕ → Printout → Type 0
 IsAnswerIn look old new it told printed =
     IsUnder old it.toy it.verified (λ path. IsGivenAs it.json it.command.now as_it_is (IsUnsaidIn old path SaysClaims) told printed)
-    (λ belongs. IsResponse it.json it.command.now look belongs old new it.request told printed)
+    (λ belongs. IsResponseTo look belongs old new it told printed)
 
 -- what files hold after that
 abbrev pub AnswerLeaves : Option Files → Option Files → Invocation → Type 0

@@ -6,7 +6,8 @@ ghost use Rattle.warg_audit.specs.LogTypes.{package_log};
 ghost use Rattle.warg_audit.specs.Files.Answers.{answer_view, Answers};
 ghost use Rattle.tool_changes.specs.Latest.{IsLatestOf};
 ghost use Rattle.weoldrin.specs.Looks.{as_it_is, layout_of};
-ghost use Rattle.weoldrin.specs.Requests.{is_many, IsAskedAnswer, IsGiven, IsLatestAnswer, IsRequestAnswer, IsResponse, IsShownAnswer, RequestLeaves};
+ghost use Rattle.weoldrin.specs.Requests.{is_many, IsAskedAnswer, IsGiven, IsLatestAnswer, IsRequestAnswer};
+ghost use Rattle.weoldrin.specs.Requests.{IsResponseTo, IsShownAnswer, RequestLeaves};
 ghost use Rattle.tool_changes.specs.Tasks.{DoneLeaves, IsDoneAnswer};
 ghost use Rattle.warg_audit.specs.Files.Unusable.{IsOfLines};
 ghost use Rattle.tool_answers.specs.Verdicts.{IsPrintedOf};
@@ -255,10 +256,9 @@ pub fn respond<V: Verifier, S: Store>(
     look: &Look,
     store: &mut S,
 ) -> Result<Answer, AllocError>
-    ensures answered { IfOk result (λ answer. IsResponse invocation.now.json
-        invocation.now.command.now look.now (V.belongs verifier.now) (S.files store.old)
-        (S.files store.new) invocation.now.request (string_bytes answer.error_text)
-        (answer_view answer)) }
+    ensures answered { IfOk result (λ answer. IsResponseTo look.now (V.belongs verifier.now)
+        (S.files store.old) (S.files store.new) invocation.now
+        (string_bytes answer.error_text) (answer_view answer)) }
 
     // What files hold is changed by records that are added alone, also where memory runs out.
     ensures files { RequestLeaves (V.belongs verifier.now) (S.files store.old)

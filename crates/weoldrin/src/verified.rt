@@ -7,7 +7,8 @@ ghost use Rattle.warg_claims.specs.declared.verified.error.ClaimParseError.TheVa
 ghost use Rattle.warg_audit.specs.Files.Answers.{answer_view, IfStopped, IsUnusable};
 ghost use Rattle.warg_audit.specs.declared.files.stop.Stop.TheVariants as end;
 ghost use Rattle.tool_checkpoints.specs.Words.{IsIn, IsUnsaid, IsUnsaidIn};
-ghost use Rattle.weoldrin.specs.Requests.{AnswerLeaves, IsAnswerIn, IsGivenEnd, IsResponse, RequestLeaves, SaysClaims};
+ghost use Rattle.weoldrin.specs.Requests.{AnswerLeaves, IsAnswerIn, IsGivenEnd, IsResponseTo};
+ghost use Rattle.weoldrin.specs.Requests.{RequestLeaves, SaysClaims};
 ghost use Rattle.weoldrin.specs.Schemes.{asked_belongs};
 
 use crate::commands::{given, respond};
@@ -99,9 +100,8 @@ fn known_answer<S: Store>(
     look: &Look,
     store: &mut S,
 ) -> Result<Answer, AllocError>
-    ensures answered { IfOk result (λ answer. IsResponse invocation.now.json
-        invocation.now.command.now look.now (asked_belongs invocation.now.toy)
-        (S.files store.old) (S.files store.new) invocation.now.request
+    ensures answered { IfOk result (λ answer. IsResponseTo look.now
+        (asked_belongs invocation.now.toy) (S.files store.old) (S.files store.new) invocation.now
         (string_bytes answer.error_text) (answer_view answer)) }
     ensures files { RequestLeaves (asked_belongs invocation.now.toy) (S.files store.old)
         (S.files store.new) invocation.now.request }

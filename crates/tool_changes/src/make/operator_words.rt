@@ -18,7 +18,8 @@ use warg_protocol::{ProtoEnvelope, Timestamp};
 // What an entry has behind its second word, by its first.
 fn rest_of(verb: &str) -> Result<Rest, EntryFault>
     ensures ok { IfOk result (λ rest. IsVerb (λ it. it ≡ rest) operator_verbs verb.now) }
-    ensures err { IfErr result (λ it. (it ≡ fault.UnknownEntry) × IsNoVerb operator_verbs verb.now) }
+    ensures err { IfErr result (λ it.
+        (it ≡ fault.UnknownEntry) × IsNoVerb operator_verbs verb.now) }
 {
     match verb {
         "init" | "define" => Ok(Rest::Nothing),
@@ -94,8 +95,8 @@ impl Worded for LogState {
         entries: Vec<OperatorEntry>,
     ) -> Result<ProtoEnvelope<OperatorRecord>, MakeError>
         ensures ok { IfOk result (λ it. IsSigned (S.gives signer.now) (S.key_of signer.now)
-            operator_prefix (operator_content (option_map (λ head. head.digest) (view_of self.now).head)
-            timestamp (map entry_data entries.items)) it.envelope) }
+            operator_prefix (operator_content (option_map (λ head. head.digest)
+            (view_of self.now).head) timestamp (map entry_data entries.items)) it.envelope) }
         ensures err { IfErr result (λ error. error ≡ MakeError.OutOfMemory) }
     {
         enveloped(alloc, signer, self.next_record(timestamp, entries))

@@ -119,8 +119,8 @@ impl Worded for LogState {
         entries: Vec<PackageEntry>,
     ) -> Result<ProtoEnvelope<PackageRecord>, MakeError>
         ensures ok { IfOk result (λ it. IsSigned (S.gives signer.now) (S.key_of signer.now)
-            package_prefix (package_content (option_map (λ head. head.digest) (view_of self.now).head)
-            timestamp (map entry_data entries.items)) it.envelope) }
+            package_prefix (package_content (option_map (λ head. head.digest)
+            (view_of self.now).head) timestamp (map entry_data entries.items)) it.envelope) }
         ensures err { IfErr result (λ error. error ≡ MakeError.OutOfMemory) }
     {
         enveloped(alloc, signer, self.next_record(timestamp, entries))

@@ -3,7 +3,8 @@
 ghost use Rattle.std.specs.Prelude.{ℕ, List, Option};
 ghost use Rattle.warg_protocol.specs.Logs.{EnvelopeData};
 ghost use Rattle.warg_protocol.specs.Records.{RecordId};
-ghost use Rattle.tool_answers.specs.ShownWords.{says_operator_words, says_package_words, shows_namespaces, shows_releases};
+ghost use Rattle.tool_answers.specs.ShownWords.{says_operator_words, says_package_words};
+ghost use Rattle.tool_answers.specs.ShownWords.{shows_namespaces, shows_releases};
 ghost use Rattle.warg_printable.specs.Lines.{IsPrintedText};
 ghost use Rattle.tool_questions.specs.Show.ShownLogs.{IsLogText};
 
@@ -17,7 +18,6 @@ pub fn package_lines()
 /// So is an operator log.
 pub fn operator_lines()
     ensures { (id : List ℕ → RecordId) (head : Option RecordId) (envelopes : List EnvelopeData)
-        (text : List ℕ) →
-        IsLogText id says_operator_words head shows_namespaces envelopes text →
+        (text : List ℕ) → IsLogText id says_operator_words head shows_namespaces envelopes text →
         IsPrintedText text }
 {}

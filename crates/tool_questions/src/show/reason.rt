@@ -1,8 +1,11 @@
 //! Why a record is refused, in words.
 
 ghost use Rattle.std.specs.Prelude.{◌≡◌, Some, IfOk, is_some, true, string_bytes};
-ghost use Rattle.tool_answers.specs.Explanations.{Explains, IsEntryOfString, IsEntryTold};
-ghost use Rattle.warg_protocol.specs.Logs.{Cause, EnvelopeFault, IsHonest, cause_named_by, envelope_fault_of};
+ghost use Rattle.tool_answers.specs.Explanations.{IsEntryOfString, IsEntryTold};
+ghost use Rattle.tool_answers.specs.ToolWords.{Explains};
+ghost use Rattle.warg_envelope.specs.ReadingWords.{IsHonest};
+ghost use Rattle.warg_protocol.specs.Logs.{Cause, EnvelopeFault};
+ghost use Rattle.warg_replay.specs.LogWords.{named_cause};
 ghost use Rattle.tool_questions.specs.Show.Reasons.{IsTold, Tells};
 
 use std::alloc::{AllocError, Global};
@@ -61,9 +64,8 @@ fn is_refused_so<L: ToolLog>(
     offence: &L::Error,
 ) -> Result<bool, AllocError>
     ensures { (o : L.Offence) → L.offence_of offence.now ≡ Some o →
-        IsHonest L.Record.read L.Record.meaning envelope.now →
-        IfOk result (IsTold L.has_first L.record_rules.offence (L.view state.now)
-        envelope.now o count) }
+        IsHonest L.Record.reading envelope.now → IfOk result
+        (IsTold L.has_first L.record_rules.offence (L.view state.now) envelope.now o count) }
 {
     let Some(shorter) = L::first_entries(alloc, envelope, count)? else {
         return Ok(false);
@@ -82,10 +84,9 @@ fn entry_at_fault<L: ToolLog>(
     envelope: &ProtoEnvelope<L::Record>,
     offence: &L::Error,
 ) -> Result<Option<usize>, AllocError>
-    ensures { (o : L.Offence) → L.offence_of offence.now ≡ Some o →
-        IsHonest L.Record.read L.Record.meaning envelope.now →
-        IfOk result (IsEntryTold L.has_first L.record_rules.offence (L.view state.now)
-        envelope.now o (L.count_of envelope.now.contents)) }
+    ensures { (o : L.Offence) → L.offence_of offence.now ≡ Some o → IsHonest
+        L.Record.reading envelope.now → IfOk result (IsEntryTold L.has_first L.record_rules.offence
+        (L.view state.now) envelope.now o (L.count_of envelope.now.contents)) }
 {
     let count = L::entry_count(envelope);
     if count == 0 {
@@ -137,10 +138,9 @@ pub(crate) fn reason_of<L: ToolLog>(
     cause: &RunCause<L::Error>,
 ) -> Result<Reason, AllocError>
     ensures { (named : Cause (EnvelopeFault L.Record.Fault) L.Offence) →
-        cause_named_by (envelope_fault_of L.Record.fault_of) L.offence_of cause.now ≡ Some named →
-        IfOk result (λ it. Explains L.sentence_of L.Record.fault_of L.offence_of L.Record.read
-        L.Record.meaning L.count_of L.has_first L.record_rules.offence (L.view state.now) string.now named
-        (string_bytes it.sentence) it.entry) }
+        named_cause L.log L.Record.reading cause.now ≡ Some named →
+        IfOk result (λ it. Explains L.log L.Record.reading L.tool L.count_of L.record_rules
+        (L.view state.now) string.now named (string_bytes it.sentence) it.entry) }
 {
     match cause {
         RunCause::Parse(fault) => Ok(Reason {

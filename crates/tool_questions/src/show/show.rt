@@ -3,14 +3,15 @@
 ghost use Rattle.std.specs.Prelude.{◌≡◌, List, ℕ, IfOk, map, string_bytes};
 ghost use Rattle.std.specs.Option.{option_copied};
 ghost use Rattle.std.specs.Vec.{vec_items};
-ghost use Rattle.warg_protocol.specs.Logs.{EnvelopeData, SignatureRelation, envelope_of, envelope_fault_of, envelopes, cause_named_by, IsRefusal};
+ghost use Rattle.warg_protocol.specs.Logs.{envelopes};
 ghost use Rattle.warg_audit.specs.Files.Answers.{answer_view, Answers};
-ghost use Rattle.tool_answers.specs.Explanations.{Explains};
 ghost use Rattle.warg_audit.specs.Files.RecordLines.{record_lines};
-ghost use Rattle.tool_questions.specs.Show.ShownLogs.{AreEnvelopeLines, behind_id, cause_words, entry_line, head_line, placed_line, IsCutText, IsLogText, IsRefusalText, IsShown, IsShownOf};
-ghost use Rattle.warg_audit.specs.Files.Texts.{no, yes};
+ghost use Rattle.tool_questions.specs.Show.ShownLogs.{AreEnvelopeLines, IsLogText, behind_id, cause_words};
+ghost use Rattle.tool_questions.specs.Show.ShownLogs.{entry_line, head_line, placed_line};
+ghost use Rattle.tool_questions.specs.Show.ShowWords.{AreShownLines, IsCut, IsCutPrinted, IsReason, IsShownLog};
+ghost use Rattle.warg_audit.specs.Files.Texts.{yes};
 ghost use Rattle.warg_audit.specs.Files.Unusable.{IsOfLines};
-ghost use Rattle.tool_answers.specs.Verdicts.{ForDisplay};
+ghost use Rattle.warg_audit.specs.ReportWords.{ForDisplay, ForRefusal};
 
 use crate::show::advice::advice;
 use crate::show::reason::reason_of;
@@ -63,16 +64,10 @@ fn refusal_text<L: ToolLog>(
     string: &[u8],
     error: &RunError<L::Error>,
 ) -> Result<String, AllocError>
-    ensures { ForDisplay L.view L.kind L.Record.read L.Record.fault_of L.offence_of
-        L.name_of L.lines_of (λ log.
-        IfOk result (λ text. (belongs : SignatureRelation) (seen : List EnvelopeData → L.View)
-        (strings : List (List ℕ)) →
-        IsRefusal L.kind belongs (envelope_of L.Record.read) seen
-        (cause_named_by (envelope_fault_of L.Record.fault_of) L.offence_of) strings error.now →
-        IsRefusalText log belongs
-        (Explains L.sentence_of L.Record.fault_of L.offence_of L.Record.read L.Record.meaning
-        L.count_of L.has_first L.record_rules.offence (L.view state.now) string.now)
-        seen strings error.now.index (string_bytes text))) }
+    ensures { ForDisplay L.log L.Record.reading L.report (λ log.
+        IfOk result (λ text. ForRefusal L.log L.Record.reading error.now (λ belongs seen strings.
+        IsReason L.log L.Record.reading L.tool L.count_of L.record_rules log belongs seen strings
+        (L.view state.now) string.now error.now.index (string_bytes text)))) }
 {
     let Some(name) = cause_name::<L>(&error.cause) else {
         return Err(AllocError);
@@ -148,17 +143,10 @@ fn cut_text<L: ToolLog, V: Verifier + Drop>(
     string: &[u8],
     error: &RunError<L::Error>,
 ) -> Result<String, AllocError>
-    ensures { ForDisplay L.view L.kind L.Record.read L.Record.fault_of L.offence_of
-        L.name_of L.lines_of (λ shown.
-        IfOk result (λ text. (belongs : SignatureRelation) (seen : List EnvelopeData → L.View)
-        (strings : List (List ℕ)) →
-        IsRefusal L.kind belongs (envelope_of L.Record.read) seen
-        (cause_named_by (envelope_fault_of L.Record.fault_of) L.offence_of) strings error.now →
-        IsCutText L.kind.id L.says_words (IsRefusalText shown belongs
-        (Explains L.sentence_of L.Record.fault_of L.offence_of L.Record.read L.Record.meaning
-        L.count_of L.has_first L.record_rules.offence (L.kind.view_of (envelopes log.now.records)) string.now)
-        seen strings error.now.index)
-        (envelopes log.now.records) (string_bytes text))) }
+    ensures { ForDisplay L.log L.Record.reading L.report (λ shown.
+        IfOk result (λ text. ForRefusal L.log L.Record.reading error.now (λ belongs seen strings.
+        IsCut L.log L.Record.reading L.tool L.count_of L.record_rules shown belongs seen strings
+        (envelopes log.now.records) string.now error.now.index (string_bytes text)))) }
 {
     let mut text = records_text::<L>(alloc, log.records())?;
     let refused = refusal_text(alloc, log.state(), string, error)?;
@@ -186,17 +174,10 @@ fn refused_answer<L: ToolLog, V: Verifier + Drop>(
     string: &[u8],
     error: &RunError<L::Error>,
 ) -> Result<Answer, AllocError>
-    ensures { ForDisplay L.view L.kind L.Record.read L.Record.fault_of L.offence_of
-        L.name_of L.lines_of (λ shown.
-        IfOk result (λ answer. (belongs : SignatureRelation) (seen : List EnvelopeData → L.View)
-        (all : List (List ℕ)) →
-        IsRefusal L.kind belongs (envelope_of L.Record.read) seen
-        (cause_named_by (envelope_fault_of L.Record.fault_of) L.offence_of) all error.now →
-        (text : List ℕ) × IsCutText L.kind.id L.says_words (IsRefusalText shown belongs
-        (Explains L.sentence_of L.Record.fault_of L.offence_of L.Record.read L.Record.meaning
-        L.count_of L.has_first L.record_rules.offence (L.kind.view_of (envelopes log.now.records)) string.now)
-        seen all error.now.index) (envelopes log.now.records) text
-        × (answer_view answer ≡ no text))) }
+    ensures { ForDisplay L.log L.Record.reading L.report (λ shown.
+        IfOk result (λ answer. ForRefusal L.log L.Record.reading error.now (λ belongs seen all.
+        IsCutPrinted L.log L.Record.reading L.tool L.count_of L.record_rules shown belongs seen all
+        (envelopes log.now.records) string.now error.now.index (answer_view answer)))) }
 {
     let text = cut_text(alloc, log, string, error)?;
     Ok(Answer::new(alloc, text, 1))
@@ -208,12 +189,9 @@ fn strings_answer<L: ToolLog, V: Verifier + Drop>(
     verifier: V,
     strings: &[Vec<u8>],
 ) -> Result<Answer, AllocError>
-    ensures { ForDisplay L.view L.kind L.Record.read L.Record.fault_of L.offence_of
-        L.name_of L.lines_of (λ log.
-        IfOk result (λ answer. IsShownOf log (V.belongs verifier) L.says_words L.shows
-        (Explains L.sentence_of L.Record.fault_of L.offence_of L.Record.read L.Record.meaning
-        L.count_of L.has_first L.record_rules.offence)
-        (map vec_items strings.now) (answer_view answer))) }
+    ensures { ForDisplay L.log L.Record.reading L.report (λ log. IfOk result (λ answer.
+        IsShownLog L.log L.Record.reading L.tool L.count_of L.record_rules log
+        (V.belongs verifier) (map vec_items strings.now) (answer_view answer))) }
 {
     let mut log = AuditedLog::<L, V>::new(alloc, verifier)?;
     match log.append_all(strings) {
@@ -231,12 +209,9 @@ pub fn show_answer<L: ToolLog, V: Verifier>(
     verifier: &V,
     input: Input<'_>,
 ) -> Result<Answer, Stop>
-    ensures { ForDisplay L.view L.kind L.Record.read L.Record.fault_of L.offence_of
-        L.name_of L.lines_of (λ log.
-        Answers (IsShown log (V.belongs verifier.now) L.says_words L.shows
-        (Explains L.sentence_of L.Record.fault_of L.offence_of L.Record.read L.Record.meaning
-        L.count_of L.has_first L.record_rules.offence)
-        (record_lines input.entry.bytes.items)) result) }
+    ensures { ForDisplay L.log L.Record.reading L.report (λ log.
+        Answers (AreShownLines L.log L.Record.reading L.tool L.count_of L.record_rules log
+        (V.belongs verifier.now) (record_lines input.entry.bytes.items)) result) }
 {
     match file_strings(alloc, input.path, input.bytes) {
         Ok(strings) => Ok(strings_answer::<L, Lent<'_, V>>(
@@ -255,12 +230,9 @@ pub fn show_of_file<L: ToolLog, V: Verifier, S: Store>(
     path: &str,
     store: &mut S,
 ) -> Result<Answer, Stop>
-    ensures answered { ForDisplay L.view L.kind L.Record.read L.Record.fault_of L.offence_of
-        L.name_of L.lines_of (λ log.
-        Answers (IsOfLines (S.files store.old) path.now
-        (IsShown log (V.belongs verifier.now) L.says_words L.shows
-        (Explains L.sentence_of L.Record.fault_of L.offence_of L.Record.read L.Record.meaning
-        L.count_of L.has_first L.record_rules.offence))) result) }
+    ensures answered { ForDisplay L.log L.Record.reading L.report (λ log.
+        Answers (IsOfLines (S.files store.old) path.now (AreShownLines L.log
+        L.Record.reading L.tool L.count_of L.record_rules log (V.belongs verifier.now))) result) }
     ensures kept { S.files store.new ≡ S.files store.old }
 {
     match read_input(alloc, store, path) {

@@ -40,8 +40,8 @@ impl Model for Claim {
 // The three parts of a line, cut at its first two spaces.
 fn cut(line: &str) -> Option<(&str, &str, &str)>
     ensures { MatchOption result (claim_of line.now ≡ Err fault.MissingPart)
-        (λ p. claim_of line.now ≡
-        claim_of_parts (printed_key_of p.0.now) (decode_of p.1.now) (printed_signature_of p.2.now)) }
+        (λ p. claim_of line.now ≡ claim_of_parts (printed_key_of p.0.now) (decode_of p.1.now)
+        (printed_signature_of p.2.now)) }
 {
     let Some((key, rest)) = line.split_once(' ') else {
         return None;

@@ -31,9 +31,8 @@ pub fn claim_is_printable()
 /// What is written of a claim reads back, whatever the names of its key and its signature.
 pub fn claim_reads_back()
     ensures { (c : ClaimData) → IsName c.key.name → IsName c.signature.name →
-        IsUtf8 c.key.name → IsUtf8 c.signature.name →
-        IsBytes c.key.bytes → IsBytes c.message → IsBytes c.signature.bytes →
-        claim_of (claim_text c) ≡ Ok c }
+        IsUtf8 c.key.name → IsUtf8 c.signature.name → IsBytes c.key.bytes →
+        IsBytes c.message → IsBytes c.signature.bytes → claim_of (claim_text c) ≡ Ok c }
 {}
 
 /// Where nothing is to be escaped in its key's and its signature's text, a claim's line has them as they are.

@@ -2,7 +2,9 @@
 ghost use Rattle.std.specs.Prelude.{◌≡◌, ◌↔◌, ◌⊎◌, ◌++◌, ◌<◌, ◌+◌, ℕ, List, [], ◌∷◌, length, map, take, All, Option, Some, None, is_some, true, Result, IfOk, IfSome, OnErr, slice_get, slice_index_or};
 ghost use Rattle.warg_log_laws.specs.Grammars.{IsCause, IsReading};
 ghost use Rattle.warg_log_laws.specs.GrantChains.{IsGrantTo};
-ghost use Rattle.warg_log_laws.specs.Package.{StateData, is_held, is_held_by, IsChainOfGrants, IsHeldByNoKey, state_view_of, entry_offence, IsEnvelope, HasEnvelopeFault};
+ghost use Rattle.warg_envelope.specs.EnvelopeRelations.{IsEnvelope, HasEnvelopeFault};
+ghost use Rattle.warg_log_laws.specs.PackageKind.{IsContent, HasContentFault, ruled};
+ghost use Rattle.warg_log_laws.specs.RuledLogs.{is_held, is_held_by, IsChainOfGrants, IsHeldByNoKey, state_view_of, entry_offence};
 ghost use Rattle.warg_log.specs.History.{PlacedEvent, Holds, entry_on, record_history};
 ghost use Rattle.warg_log.specs.Listings.{IsGift};
 ghost use Rattle.warg_log.specs.KindOfRules.{effect_of};
@@ -10,8 +12,9 @@ ghost use Rattle.warg_log.specs.Rules.{SignedRecord};
 ghost use Rattle.warg_package_log.specs.Extensions.{IsExtension};
 ghost use Rattle.warg_package_log.specs.Releases.{record_id_of};
 ghost use Rattle.warg_package_log.specs.StateHistory.{OneYankEach};
+ghost use Rattle.warg_protocol.specs.History.{AuthorityData, State};
 ghost use Rattle.warg_protocol.specs.Logs.{EnvelopeData, Cause, EnvelopeFault, HasForm, HaveCollision, IfStarted, IsAccepted, IsChainAnswer, IsExtinct, IsRun, KindLaws, NoKeyBringsItselfIn, SignatureRelation, StandsFor, StaysExtinct, LogOffence, cause_next, contents, envelope_fault_of, envelope_of, envelopes, cause_named_by};
-ghost use Rattle.warg_protocol.specs.Package.{AreDistinct, OwnOffence, Permission as OfPermission, PackageOwnEntry, View, effects, history, kind, offence_of, package_record_of, envelope_as_data, records_of, same_permission, versions, view_of};
+ghost use Rattle.warg_protocol.specs.Package.{AreDistinct, OwnOffence, ReleaseView, Permission as OfPermission, PackageOwnEntry, View, effects, history, kind, offence_of, package_record_of, envelope_as_data, records_of, same_permission, versions, view_of};
 ghost use Rattle.warg_protocol.specs.Records.{EntryData, RecordFault, RecordId as OfRecordId, fault_of};
 ghost use Rattle.warg_protocol.specs.Transparency as checkpoints;
 ghost use Rattle.sha2.specs.Sha256.{sha256};
@@ -26,8 +29,8 @@ ghost use Rattle.warg_log_records.specs.declared.effect.Effect.TheVariants.{Give
 ghost use Rattle.warg_replay.specs.declared.replay.RunError.{RunError};
 
 use std::alloc::AllocError;
-use warg_log_laws::package as laws;
-use warg_log_laws::package::audited;
+use warg_log_laws as laws;
+use warg_log_laws::audited;
 use warg_protocol::laws::{audited_logs, logs, package, runs, transparency};
 use warg_protocol::package::{LogState, PackageRecord, Permission, ValidationError};
 use warg_protocol::signing::{KeyID, Verifier};
@@ -40,11 +43,11 @@ pub fn chain_exactly_where_held<V: Verifier + Drop>(
     permission: Permission,
 ) -> Result<Option<Vec<Link>>, AllocError>
     ensures history { IfOk result (λ chain.
-        is_some chain ≡ is_held (envelopes log.now.records) key_id.now permission) }
+        is_some chain ≡ is_held ruled (envelopes log.now.records) key_id.now permission) }
     ensures state { IfOk result (λ chain.
         is_some chain ≡ (view_of log.now.state).state.authority.holds key_id.now permission) }
     ensures grants { IfOk result (λ chain. IfSome chain (λ links.
-        IsChainOfGrants (envelopes log.now.records) key_id.now permission links.items)) }
+        IsChainOfGrants ruled (envelopes log.now.records) key_id.now permission links.items)) }
 {
     audited::permission_chain(log, key_id, permission)
 }
@@ -59,7 +62,7 @@ pub fn has_chain<V: Verifier + Drop>(
         IsChainAnswer effects (envelopes log.now.records) key_id.now permission chain →
         is_some chain ≡ result }
 {
-    laws::chains_where_held();
+    laws::chains_where_held::<LogState>();
     audited::holds(log, key_id, permission)
 }
 
@@ -87,30 +90,30 @@ pub fn formed_records<V: Verifier + Drop>(
 /// Who holds what, by effects, by history and by a state.
 pub fn one_holding()
     ensures effects { (es : List EnvelopeData) (k : List ℕ) (p : OfPermission) →
-        by_effects.holds effects es k p ≡ is_held es k p }
-    ensures state { (s : StateData) (es : List EnvelopeData) →
-        StandsFor kind view_of s es → (k : List ℕ) (p : OfPermission) →
-        (view_of s).state.authority.holds k p ≡ is_held es k p }
+        by_effects.holds effects es k p ≡ is_held ruled es k p }
+    ensures state { (s : State (AuthorityData OfPermission) (List ReleaseView))
+        (es : List EnvelopeData) → StandsFor kind view_of s es → (k : List ℕ) (p : OfPermission) →
+        (view_of s).state.authority.holds k p ≡ is_held ruled es k p }
 {
-    laws::holding();
+    laws::holding::<LogState>();
 }
 
 /// A chain of an accepted log is one of grants.
 pub fn chains_of_grants()
     ensures { (b : SignatureRelation) (es : List EnvelopeData) → IsAccepted kind b es →
         (k : List ℕ) (p : OfPermission) (links : List OfLink) →
-        IsChainAnswer effects es k p (Some links) → IsChainOfGrants es k p links }
+        IsChainAnswer effects es k p (Some links) → IsChainOfGrants ruled es k p links }
 {
-    laws::chains_of_grants();
+    laws::chains_of_grants::<LogState>();
 }
 
 /// What no key holds is extinct.
 pub fn extinct_where_unheld()
-    ensures { (s : StateData) (es : List EnvelopeData) →
-        StandsFor kind view_of s es → (p : OfPermission) →
+    ensures { (s : State (AuthorityData OfPermission) (List ReleaseView))
+        (es : List EnvelopeData) → StandsFor kind view_of s es → (p : OfPermission) →
         IsExtinct effects es p ↔ IsHeldByNoKey (view_of s) p }
 {
-    laws::extinct_permissions();
+    laws::extinct_permissions::<LogState>();
 }
 
 /// The kind's laws, and what its entries give.
@@ -121,7 +124,7 @@ pub fn entries_give()
         (effect_of (entry_on same_permission k p signer entry) ≡ Gives) ↔
         IsGift same_permission k p signer entry }
     ensures last { (es : List EnvelopeData) (k : List ℕ) (p : OfPermission) →
-        (is_held es k p ≡ true) ↔ Holds same_permission (history es) k p }
+        (is_held ruled es k p ≡ true) ↔ Holds same_permission (history es) k p }
     ensures held { HoldsByEffects kind effects (λ v k p. v.state.authority.holds k p) }
     ensures gives { GivesWhatIsHeld kind effects }
     ensures grants { (b : SignatureRelation) (es : List EnvelopeData) → IsAccepted kind b es →
@@ -130,14 +133,14 @@ pub fn entries_give()
         (n : ℕ) (e : PlacedEvent (EntryData OfPermission PackageOwnEntry)) →
         slice_get (record_history record_id_of (place, r)) n ≡ Some e →
         (k : List ℕ) (p : OfPermission) → IsGrantTo same_permission p k e.event.entry →
-        is_held_by (history (take place es) ++ take n (record_history record_id_of (place, r)))
-        e.event.signer p ≡ true }
+        is_held_by ruled (history (take place es)
+        ++ take n (record_history record_id_of (place, r))) e.event.signer p ≡ true }
 {
-    laws::is_a_kind();
-    laws::gifts();
-    laws::last_entry_decides();
-    laws::effects_are_what_is_held();
-    laws::gives_what_is_held();
+    laws::is_a_kind::<LogState>();
+    laws::gifts::<LogState>();
+    laws::last_entry_decides::<LogState>();
+    laws::effects_are_what_is_held::<LogState>();
+    laws::gives_what_is_held::<LogState>();
 }
 
 /// No entry of an accepted log has an offence after the one list of those before it.
@@ -145,11 +148,11 @@ pub fn entries_in_turn()
     ensures { (b : SignatureRelation) (es : List EnvelopeData) → IsAccepted kind b es →
         (place : ℕ) (r : SignedRecord OfPermission PackageOwnEntry) →
         slice_get (records_of es) place ≡ Some r →
-        AllLawful (entry_offence r.contents.version)
-        (λ before. state_view_of (history (take place es) ++ before))
+        AllLawful (entry_offence ruled r.contents.version)
+        (λ before. state_view_of ruled (history (take place es) ++ before))
         (record_history record_id_of (place, r)) }
 {
-    laws::entries_in_turn();
+    laws::entries_in_turn::<LogState>();
 }
 
 /// What `run` answers, by the grammar.
@@ -157,15 +160,18 @@ pub fn run_by_grammar()
     ensures reading { let read = envelope_of package_record_of in
         let named_by = cause_named_by (envelope_fault_of fault_of) offence_of in
         (b : SignatureRelation) (strings : List (List ℕ))
-        (answer : Result StateData (RunError OfError)) →
+        (answer : Result (State (AuthorityData OfPermission) (List ReleaseView))
+        (RunError OfError)) →
         IfStarted (IsRun kind b read kind.view_of view_of named_by ◌≡◌ strings) answer →
-        IfStarted (IsReading kind b IsEnvelope HasEnvelopeFault view_of named_by strings) answer }
+        IfStarted (IsReading kind b (IsEnvelope IsContent HasContentFault)
+        (HasEnvelopeFault IsContent HasContentFault) view_of named_by strings) answer }
     ensures cause { (b : SignatureRelation) (v : View) (s : List ℕ)
         (c : Cause (EnvelopeFault RecordFault) (LogOffence OfPermission OwnOffence)) →
         (cause_next kind b (envelope_of package_record_of) v s ≡ Some c) ↔
-        IsCause kind b IsEnvelope HasEnvelopeFault v s c }
+        IsCause kind b (IsEnvelope IsContent HasContentFault)
+        (HasEnvelopeFault IsContent HasContentFault) v s c }
 {
-    laws::run_by_grammar();
+    laws::run_by_grammar::<LogState>();
 }
 
 /// The laws of all audited logs, at this kind.
