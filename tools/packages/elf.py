@@ -1,6 +1,7 @@
 """What a library or a program of ELF needs of the machine that it runs on, by its dynamic section."""
 
 import pathlib
+import re
 import struct
 from typing import NamedTuple
 
@@ -72,8 +73,9 @@ def needs(path: pathlib.Path) -> Needs:
     pairs = file.dynamic()
     section = dict(pairs)
     names = file.at(section[_STRTAB]) if section else 0
-    numbers = [it.removeprefix("GLIBC_").split(".") for it in file.versions(section, names) if it.startswith("GLIBC_")]
-    glibc = max(((int(it[0]), int(it[1])) for it in numbers), default=(2, 0))
+    # Names such as GLIBC_PRIVATE have no numbers.
+    numbers = (re.match(r"GLIBC_(\d+)\.(\d+)", it) for it in file.versions(section, names))
+    glibc = max(((int(it[1]), int(it[2])) for it in numbers if it), default=(2, 0))
     soname = file.text(names + section[_SONAME]) if _SONAME in section else None
     libraries = tuple(file.text(names + value) for tag, value in pairs if tag == _NEEDED)
     return Needs(MACHINES.get(file.machine, str(file.machine)), soname, libraries, glibc)
