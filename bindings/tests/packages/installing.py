@@ -80,12 +80,13 @@ class Installing(unittest.TestCase):
     def said(
         self,
         *words: str | pathlib.Path,
-        status: int = 0,
+        status: int | range = 0,
         at: pathlib.Path | None = None,
         env: dict[str, str] | None = None,
         **more: str,
     ) -> str:
-        """What a command prints, on both outputs, whose status has to be this one; with this in its environment."""
+        """What a command prints, on both outputs, whose status has to be this one, or one of these; with this in its
+        environment."""
         done = subprocess.run(
             [*alone(), *map(str, words)],
             cwd=at or self.folder,
@@ -96,7 +97,8 @@ class Installing(unittest.TestCase):
             text=True,
             check=False,
         )
-        self.assertEqual(done.returncode, status, f"{' '.join(map(str, words))}\n{done.stdout}")
+        wanted = status if isinstance(status, range) else [status]
+        self.assertIn(done.returncode, wanted, f"{' '.join(map(str, words))}\n{done.stdout}")
         return done.stdout
 
     def write(self, name: str, text: str) -> pathlib.Path:
