@@ -1,5 +1,6 @@
 """The Rust crate, as `cargo package` packs it and as a program of another folder gets it."""
 
+import json
 import pathlib
 import re
 import shutil
@@ -24,6 +25,8 @@ fn main() -> Result<(), Box<dyn std::error::Error>> {
 }
 """
 SAID = f"{VERSION} {HEAD}\n"
+# A program that needs the feature `openssl`.
+SIGNS = 'fn main() { println!("{}", weoldrin::p256::SigningKey::generate().unwrap().public_key().len()); }'
 
 
 @needs("cargo", "cc")
@@ -47,6 +50,12 @@ class Crate(Installing):
     def runs(self, app: pathlib.Path, *words: str, **more: str) -> None:
         """The program builds and says what it has to."""
         self.assertEqual(self.said("cargo", "run", "--quiet", "--offline", *words, at=app, env=more), SAID)
+
+    def linked(self, app: pathlib.Path, *words: str, **more: str) -> list[str]:
+        """The libraries that cargo is told to link, by its messages on a build."""
+        said = self.said("cargo", "build", "--offline", "--quiet", "--message-format=json", *words, at=app, env=more)
+        messages = (json.loads(it) for it in said.splitlines() if it.startswith("{"))
+        return [name for it in messages for name in it.get("linked_libs", [])]
 
     def packed(self) -> pathlib.Path:
         """The folder that the crate's package unpacks to, which cargo has built."""
@@ -80,12 +89,13 @@ class Crate(Installing):
         """`cargo add --path`, with and without OpenSSL's library."""
         app = self.app("--path", str(self.crate))
         self.runs(app)
+        self.assertEqual(self.linked(app), ["static=warg", "crypto"])
+        self.write("app/src/main.rs", SIGNS)
+        self.assertGreater(int(self.said("cargo", "run", "--quiet", "--offline", at=app)), 0)
         shutil.rmtree(app)
         app = self.app("--path", str(self.crate), "--no-default-features")
         self.runs(app)
-        needed = self.said("readelf", "-d", self.folder / "target/debug/app")
-        self.assertNotIn("libcrypto", needed)
-        self.assertNotIn("libwarg", needed)
+        self.assertEqual(self.linked(app), ["static=warg"])
 
     @needs("git")
     def test_vendor(self) -> None:
@@ -114,13 +124,21 @@ class Crate(Installing):
         found = {"PKG_CONFIG_PATH": str(prefix / "lib/pkgconfig")}
         self.runs(app, LD_LIBRARY_PATH=str(prefix / "lib"), **found)
         self.assertIn("libwarg.so.", self.said("readelf", "-d", self.folder / "target/debug/app"))
+        self.assertEqual(self.linked(app, **found), ["dylib=warg", "crypto"])
         said = self.said("cargo", "build", "--offline", at=app, status=101)
         self.assertIn("warg >= ", said)
         file = prefix / "lib/pkgconfig/warg.pc"
         first, second, third = map(int, VERSION.split("."))
-        for other in (f"{first}.{second + 1}.0", f"{first + 1}.0.0"):
+        earlier = f"{first}.{second - 1}.9" if second else f"{first - 1}.9.9"
+        fits = f"{first}.{second}.{third + 7}"
+        for other in (f"{first}.{second + 1}.0", f"{first + 1}.0.0", earlier, fits):
             file.write_text(re.sub("(?m)^Version:.*", f"Version: {other}", file.read_text()))
-            self.said("cargo", "build", "--offline", at=app, status=101, env=found)
+            self.said("cargo", "build", "--offline", at=app, status=0 if other == fits else 101, env=found)
+        # Each time it is asked anew.
+        said = self.said("cargo", "build", "--offline", at=app, status=101, env=found, PKG_CONFIG="/no/pkg-config")
+        self.assertIn("/no/pkg-config: No such file", said)
+        for folder, status in ((file.parent, 0), (self.folder, 101)):
+            self.said("cargo", "build", "--offline", at=app, status=status, PKG_CONFIG_LIBDIR=str(folder))
 
     def test_other_libraries(self) -> None:
         """WARG_LIBRARY_DIR names another library. A machine that the package has none for is told so."""
@@ -133,6 +151,23 @@ class Crate(Installing):
         self.runs(app, WARG_LIBRARY_DIR=str(self.folder / "elsewhere"))
         said = self.said("cargo", "build", "--offline", at=app, status=101, WARG_LIBRARY_DIR="/nowhere")
         self.assertIn("there is no library /nowhere/libwarg.a", said)
+        # One that changes is linked anew.
+        (self.folder / "elsewhere/libwarg.a").write_bytes(b"!<arch>\n")
+        self.said("cargo", "build", "--offline", at=app, status=101, WARG_LIBRARY_DIR=str(self.folder / "elsewhere"))
+
+    def test_other_targets(self) -> None:
+        """A machine of another C library is told that there is none for it, and which there are."""
+        assert MACHINE
+        script = self.crate / "build.rs"
+        self.said("rustc", "--edition=2021", script, "-o", "script")
+        arch, _, system = MACHINE.name.partition("-")
+        machine = {"CARGO_CFG_TARGET_ARCH": arch, "CARGO_CFG_TARGET_OS": system, "CARGO_MANIFEST_DIR": str(self.crate)}
+        for abi, status in (("gnu", 0), ("musl", 1), ("", 1)):
+            said = self.said(self.folder / "script", status=status, env=machine, CARGO_CFG_TARGET_ENV=abi)
+            if status:
+                self.assertIn(f'for {MACHINE.name} with the C library "{abi}", but for ', said)
+            else:
+                self.assertIn(f"cargo:rustc-link-search=native={self.crate}/lib/{MACHINE.name}\n", said)
 
     def test_documents(self) -> None:
         """The documents are made as docs.rs makes them, but for what its own compiler alone has."""
