@@ -4,6 +4,7 @@ import contextlib
 import io
 import os
 import pathlib
+import platform
 import signal
 import subprocess
 import sys
@@ -65,6 +66,31 @@ class Library(unittest.TestCase):
         last = done.stderr.splitlines()[-1]
         self.assertTrue(last.startswith("weoldrin.errors.NoLibrary: NoLibrary: "), last)
         self.assertIn("no\\u{1b}library.so can't be loaded: ", last)
+
+    def test_found(self) -> None:
+        """The wheel's own file is the one, then that of an archive of the sources, and then that of the repository; the
+        latter two only where the package is used from its sources, and on Linux."""
+        with tempfile.TemporaryDirectory() as folder:
+            root = pathlib.Path(folder)
+            here, sources = root / "bindings/python/src/weoldrin", root / "bindings/python"
+            machine = f"{platform.machine()}-linux"
+            places = [here / "_native", sources / "native" / machine, root / "dist" / machine]
+            for it in (*places, root / "dist/mips-linux"):
+                it.mkdir(parents=True)
+                (it / "it").touch()
+            (sources / "hatch_build.py").touch()
+            with mock.patch.multiple(_native, _HERE=here, _SOURCES=sources):
+                self.assertIsNone(_native.found("other"))
+                for it in places:
+                    self.assertEqual(_native.found("it"), it / "it")
+                    if it != places[-1]:
+                        (it / "it").unlink()
+                with mock.patch.object(sys, "platform", "darwin"):
+                    self.assertIsNone(_native.found("it"))
+                with mock.patch.object(platform, "machine", lambda: "mips"):
+                    self.assertEqual(_native.found("it"), root / "dist/mips-linux/it")
+                (sources / "hatch_build.py").unlink()
+                self.assertIsNone(_native.found("it"))
 
     def test_machine(self) -> None:
         self.assertRegex(_native.machine(), r"^\w+ on \w+")

@@ -15,10 +15,23 @@ from packages import elf
 assert MACHINE
 SOURCES = ROOT / "bindings/python/src/weoldrin"
 LIBRARY, PROGRAM = "weoldrin/_native/libwarg.so", "weoldrin/_native/weoldrin"
-OLD = f"manylinux2014_{MACHINE.name.partition('-')[0]}"
+ARCH = MACHINE.name.partition("-")[0]
+# The names of the wheels for this machine: the one with the program, and the one without.
+GLIBC = elf.needs(MACHINE.folder() / "weoldrin").glibc
+NEW, OLD = f"manylinux_{GLIBC[0]}_{GLIBC[1]}_{ARCH}", f"manylinux2014_{ARCH}"
 # What says whose version a package is, and audits a log by it.
 SAYS = "import weoldrin; print(weoldrin.__version__, weoldrin.library_version(), weoldrin.audit({!r}, 'package').head)"
 SAID = f"{VERSION} {VERSION} {HEAD}\n"
+# Says which wheel is built on a machine that is named, and which ones there are.
+HERE = """
+import platform, sys
+import hatch_build
+
+sys.platform, machine, *libc = sys.argv[1:]
+platform.machine, platform.libc_ver = lambda: machine, lambda: tuple(libc)
+print(hatch_build.of_this_machine())
+print(*hatch_build.wheels())
+"""
 
 
 def interpreter() -> str | None:
@@ -65,14 +78,21 @@ class Wheels(Installing):
 
     def test_own(self) -> None:
         """The wheel for this machine has the library and the program, and needs neither a compiler nor a network."""
-        wheel = self.built(self.package())
+        package = self.package()
+        wheel = self.built(package)
         with zipfile.ZipFile(wheel) as files:
             self.assertIn(LIBRARY, files.namelist())
             assert MACHINE
             self.assertEqual(files.read(LIBRARY), (MACHINE.folder() / "libwarg.so").read_bytes())
             self.assertEqual(files.read(PROGRAM), (MACHINE.folder() / "weoldrin").read_bytes())
             metadata = files.read(f"weoldrin-{VERSION}.dist-info/METADATA").decode()
+            about = files.read(f"weoldrin-{VERSION}.dist-info/WHEEL").decode().splitlines()
             licences = [it for it in files.namelist() if it.endswith(("LICENSE", "NOTICE"))]
+            sources = {str(it.relative_to(package / "src")) for it in (package / "src/weoldrin").iterdir()}
+            within = {it for it in files.namelist() if it.startswith("weoldrin/")}
+        self.assertEqual(within, sources | {LIBRARY, PROGRAM})
+        self.assertEqual(wheel.name, f"weoldrin-{VERSION}-py3-none-{NEW}.whl")
+        self.assertLessEqual({"Root-Is-Purelib: false", f"Tag: py3-none-{NEW}"}, set(about))
         self.assertIn(f"\nVersion: {VERSION}\n", metadata)
         self.assertIn("\nRequires-Python: >=3.10\n", metadata)
         self.assertEqual(len(licences), 2)
@@ -90,6 +110,7 @@ class Wheels(Installing):
             wheel = self.built(self.package(), name)
             tag = wheel.name.removesuffix(".whl").split("-")[-1]
             found = PLATFORM.fullmatch(tag)
+            self.assertTrue(found or tag == OLD, tag)
             promised = (int(found[1]), int(found[2])) if found else (2, 17)
             with zipfile.ZipFile(wheel) as files:
                 files.extractall(self.folder / "unpacked" / tag)
@@ -111,6 +132,9 @@ class Wheels(Installing):
         """The wheel for all machines says what it lacks, and works with a library that is named to it."""
         wheel = self.built(self.package(), "any")
         self.assertEqual(wheel.name, f"weoldrin-{VERSION}-py3-none-any.whl")
+        with zipfile.ZipFile(wheel) as files:
+            self.assertEqual([it for it in files.namelist() if "_native/" in it], [])
+            self.assertIn(b"Root-Is-Purelib: true\n", files.read(f"weoldrin-{VERSION}.dist-info/WHEEL"))
         to = self.environment_of(wheel)
         self.assertIn("has no program for", self.said(to / "bin/weoldrin", status=3))
         asks = "import weoldrin\ntry: weoldrin.PackageLog()\nexcept weoldrin.NoLibrary as error: print(error)"
@@ -136,11 +160,39 @@ class Wheels(Installing):
             said = self.said(PYTHON, "-m", "pip", "wheel", *words, status=1, WEOLDRIN_WHEEL=wheel)
             self.assertIn(told, said)
 
+    def test_late(self) -> None:
+        """A library that needs a later glibc than the name of the wheel promises is refused."""
+        assert PYTHON and MACHINE
+        words = ["--quiet", "--no-deps", "--no-build-isolation", str(self.package())]
+        late = {"WEOLDRIN_WHEEL": OLD, "WEOLDRIN_LIBRARY": str(MACHINE.folder() / "weoldrin")}
+        said = self.said(PYTHON, "-m", "pip", "wheel", *words, status=1, env=late)
+        self.assertIn(f"needs a later glibc than the name {OLD} promises", said)
+
+    def test_machines(self) -> None:
+        """The wheel that is built on a machine is the first one that runs there, and none of another C library."""
+        assert PYTHON
+        package, (first, second) = self.package(), GLIBC
+        self.write("here.py", HERE)
+        machines = {
+            ("linux", ARCH, "glibc", "3.0"): NEW,
+            ("linux", ARCH, "glibc", f"{first}.{second}"): NEW,
+            ("linux", ARCH, "glibc", f"{first}.{second - 1}"): OLD,
+            ("linux", ARCH, "glibc", "2.17"): OLD,
+            ("linux", ARCH, "glibc", "2.5"): "any",
+            ("linux", ARCH, "", ""): "any",
+            ("linux", "mips", "glibc", "2.36"): "any",
+            ("darwin", ARCH, "glibc", "2.36"): "any",
+        }
+        for machine, wheel in machines.items():
+            said = self.said(PYTHON, self.folder / "here.py", *machine, env={"PYTHONPATH": str(package)})
+            self.assertEqual(said.splitlines(), [wheel, f"{NEW} {OLD} any"], machine)
+
     def test_twice(self) -> None:
-        """The same sources make the same bytes."""
+        """The same sources make the same bytes, whenever they were written, and whoever may read them."""
         package = self.package()
         first = self.built(package).read_bytes()
-        self.said("sh", "-c", "rm -r wheels-own; sleep 2.1; find clone -exec touch {} +")
+        changes = "find clone -exec touch {} + && chmod -R go= clone"
+        self.said("sh", "-c", f"rm -r wheels-own; sleep 2.1; {changes}")
         self.assertEqual(self.built(package).read_bytes(), first)
 
     def test_sources(self) -> None:
@@ -152,9 +204,14 @@ class Wheels(Installing):
         with tarfile.open(package / f"made/weoldrin-{VERSION}.tar.gz") as tar:
             names = tar.getnames()
             tar.extractall(self.folder / "sources")
-        assert MACHINE
-        for it in ("LICENSE", "NOTICE", "README.md", "hatch_build.py", f"native/{MACHINE.name}/libwarg.so"):
-            self.assertIn(f"weoldrin-{VERSION}/{it}", names)
+        within = {it.removeprefix(f"weoldrin-{VERSION}/") for it in names}
+        own = {"LICENSE", "NOTICE", "README.md", "hatch_build.py", "pyproject.toml", "PKG-INFO"}
+        native = {str(it.relative_to(ROOT / "dist")) for it in (ROOT / "dist").glob("*-linux/*")}
+        own |= {f"native/{it}" for it in native if it.endswith(("/libwarg.so", "/weoldrin"))}
+        for it in ("src", "tests", "examples"):
+            own |= {str(path.relative_to(package)) for path in (package / it).rglob("*") if path.is_file()}
+        # A .gitignore is put in by some versions of hatchling.
+        self.assertEqual(within - {".gitignore"}, own)
         wheel = self.built(package).read_bytes()
         self.said("rm", "-r", "clone", "wheels-own")
         again = self.built(self.folder / f"sources/weoldrin-{VERSION}")
