@@ -45,6 +45,8 @@ class Versions(unittest.TestCase):
 
     def test_files(self) -> None:
         """All name one version, and one that names another is told, and made right."""
+        rust = {"bindings/rust/Cargo.toml", "bindings/rust/Cargo.lock"}
+        self.assertEqual(set(versions.NAMED), {*rust, "bindings/python/src/weoldrin/_version.py"})
         self.assertEqual(versions.faults(), [])
         self.assertEqual(versions.changed(), versions.of_library())
         for name in versions.NAMED:
@@ -106,6 +108,28 @@ class Link(unittest.TestCase):
             self.assertEqual({it.name: str(it.readlink()) for it in root.iterdir()}, {"libwarg.so.0.1": "libwarg.so"})
         self.assertEqual(done.mock_calls, [mock.call.run([ROOT / "tools/c_header"], check=True), mock.call.copies()])
 
+    def status(self, *words: str) -> int:
+        """The status of the tool, run with these words."""
+        with mock.patch.object(sys, "argv", ["release", *words]), contextlib.redirect_stdout(io.StringIO()):
+            return int(RELEASE["main"]())
+
+    def test_check(self) -> None:
+        """A check of the library is one of the packages too, and a check of a program alone is none."""
+        changed = {"faults": lambda of: [], "faults_of_packages": lambda: ["a fault"]}
+        with mock.patch.dict(RELEASE["main"].__globals__, changed):
+            for words, status in ((("libwarg",), 1), ((), 1), (("weoldrin",), 0)):
+                self.assertEqual(self.status("--check", *words), status)
+
+    def test_words(self) -> None:
+        """The copies alone are written by one word, and the files of a release by another."""
+        done = mock.Mock()
+        done.archive.return_value = 7
+        with mock.patch.object(versions, "write", done.versions), mock.patch.object(copies, "write", done.copies):
+            with mock.patch.object(archive, "write", done.archive):
+                self.assertEqual((self.status("--copies"), self.status("--archive", "a")), (0, 7))
+        of_copies = [mock.call.versions(), mock.call.copies()]
+        self.assertEqual(done.mock_calls, [*of_copies, mock.call.archive(pathlib.Path("a"))])
+
     def test_told(self) -> None:
         """What is said of the versions and of the copies is said of the packages."""
         with mock.patch.object(versions, "faults", lambda: ["a"]), mock.patch.object(copies, "faults", lambda: ["b"]):
@@ -150,13 +174,25 @@ class Elf(unittest.TestCase):
 
     @unittest.skipUnless(shutil.which("readelf"), "readelf is not installed")
     def test_readelf(self) -> None:
-        """All that Python itself stands on, as readelf has it."""
-        for path in {pathlib.Path(sys.executable).resolve(), pathlib.Path("/bin/sh").resolve()}:
+        """Programs that need more libraries, and one that has a fixed address, as readelf has them."""
+        for path in filter(pathlib.Path.is_file, map(pathlib.Path, (sys.executable, "/usr/bin/python3", "/bin/sh"))):
             words = ["readelf", "--wide", "--dynamic", "--version-info", str(path)]
             said = subprocess.run(words, stdout=subprocess.PIPE, text=True, check=True).stdout
             needed = [(int(first), int(second)) for first, second in re.findall(r"Name: GLIBC_(\d+)\.(\d+)", said)]
             libraries = tuple(re.findall(r"\(NEEDED\) .*\[(.*)\]", said))
             self.assertEqual(elf.needs(path)[1:], (None, libraries, max(needed)))
+            file = elf._File(path.read_bytes())
+            section = dict(file.dynamic())
+            named = file.versions(section, file.at(section[elf._STRTAB]))
+            self.assertEqual(named, re.findall(r" Name: (\S+) +Flags: ", said))
+
+    def test_machines(self) -> None:
+        data = bytearray((ROOT / "dist/x86_64-linux/libwarg.so").read_bytes())
+        with clean() as root:
+            for number, name in ((62, "x86_64"), (183, "aarch64"), (8, "8")):
+                struct.pack_into("<H", data, 18, number)
+                (root / "it").write_bytes(data)
+                self.assertEqual(elf.needs(root / "it").machine, name)
 
     def test_names(self) -> None:
         """A version is compared by its numbers, and a name without any is passed over."""
@@ -175,6 +211,16 @@ class Elf(unittest.TestCase):
             for data in (b"", b"#!/bin/sh\n", b"\x7fELF\x01\x01" + struct.pack("60x")):
                 path.write_bytes(data)
                 self.assertRaises(ValueError, elf.needs, path)
+
+
+class Targets(unittest.TestCase):
+    """The machines, as others name them."""
+
+    def test_names(self) -> None:
+        seen = {it.name: (it.go, it.debian, it.multiarch) for it in TARGETS}
+        wanted = {"x86_64-linux": ("amd64", "amd64", "x86_64-linux-gnu")}
+        wanted["aarch64-linux"] = ("arm64", "arm64", "aarch64-linux-gnu")
+        self.assertEqual(seen, wanted)
 
 
 class Trees(unittest.TestCase):
@@ -208,7 +254,7 @@ class Trees(unittest.TestCase):
     def test_bytes(self) -> None:
         """A tar file is of names, of what the files are, and of who may run them, and of nothing else."""
         seen = set()
-        for name, (file, program, folder), time in (("one", (0o644, 0o755, 0o755), 1), ("b", (0o600, 0o711, 0o700), 2)):
+        for name, (file, program, folder), time in (("one", (0o644, 0o755, 0o755), 1), ("b", (0o600, 0o700, 0o700), 2)):
             with clean() as root:
                 (root / name / "folder").mkdir(parents=True)
                 for it, mode in (("file", file), ("program", program)):

@@ -1,5 +1,6 @@
 """`tools/release --archive`: the files of a release, as they are verified, unpacked and installed."""
 
+import gzip
 import hashlib
 import pathlib
 import shutil
@@ -175,7 +176,31 @@ class Debian(Release):
             size = sum(file.stat().st_size for file in files)
             self.assertLess(abs(int(self.field(it, "Installed-Size")) - size / 1024), 24)
             self.assertEqual(self.field(it, "Maintainer"), debian.MAINTAINER)
-            self.assertIn("checked by a proved library", self.field(it, "Description"))
+            first, *lines = self.field(it, "Description").splitlines()
+            self.assertRegex(first, r"checked by a proved library \([a-z ]+\)$")
+            self.assertGreater(len(lines), 2)
+        named = {it: [self.field(it, name) for name in ("Source", "Section", "Priority")] for it in self.files}
+        sections = {LIBRARY: "libs", "libwarg-dev": "libdevel", "weoldrin": "utils"}
+        self.assertEqual(named, {it: ["weoldrin", section, "optional"] for it, section in sections.items()})
+
+    def test_documents(self) -> None:
+        """The licence, in Debian's form, and the change log; and the form that Debian's own tools unpack."""
+        form = "Format: https://www.debian.org/doc/packaging-manuals/copyright-format/1.0/\n"
+        texts = [(ROOT / it).read_text(encoding="utf-8").splitlines() for it in ("NOTICE", "LICENSE")]
+        for it, path in self.files.items():
+            self.assertIn(b"data.tar.xz ", path.read_bytes())
+            self.said("dpkg-deb", "-x", path, self.folder / "root")
+            folder = self.folder / f"root/usr/share/doc/{it}"
+            changes = gzip.decompress((folder / "changelog.gz").read_bytes())
+            self.assertEqual(changes, (ROOT / "CHANGELOG.md").read_bytes())
+            head, _, licence = (folder / "copyright").read_text(encoding="utf-8").partition("\nLicense: ")
+            self.assertTrue(head.startswith(form))
+            name, *lines = licence.splitlines()
+            self.assertEqual(name, "Apache-2.0 WITH LLVM-exception")
+            # Each line is indented, and an empty one has a full stop.
+            self.assertTrue(all(line.startswith(" ") and line.strip() for line in lines))
+            own = [line for text in texts for line in text if line.strip()]
+            self.assertEqual([line[1:] for line in lines if line != " ."], own)
 
     def test_controls(self) -> None:
         """What the library's package says to the system, and to packages that are built with it."""
