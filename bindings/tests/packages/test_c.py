@@ -36,8 +36,22 @@ foreach(kind IN ITEMS warg static)
   target_link_libraries(${kind} PRIVATE warg::${kind})
 endforeach()
 file(GENERATE OUTPUT soname.txt CONTENT $<TARGET_SONAME_FILE_NAME:warg::warg>)
-# A second look finds the same.
+# A second look finds the same, and leaves nothing behind.
 find_package(warg @WANTED@ REQUIRED)
+get_cmake_property(left VARIABLES)
+list(FILTER left INCLUDE REGEX "^_warg")
+if(left)
+  message(FATAL_ERROR "left behind: ${left}")
+endif()
+"""
+# A program that can do without it.
+OPTIONAL = """
+cmake_minimum_required(VERSION 3.13)
+project(app C)
+find_package(warg QUIET)
+if(warg_FOUND OR TARGET warg::warg OR TARGET warg::static)
+  message(FATAL_ERROR "found")
+endif()
 """
 
 
@@ -74,6 +88,8 @@ class Installed(Installing):
             self.assertEqual(it.stat().st_mode & 0o777, mode, it)
         self.installed("uninstall", prefix=prefix)
         self.assertEqual([it for it in prefix.rglob("*") if not it.is_dir()], [])
+        own = [prefix / "share/doc/weoldrin", prefix / "lib/cmake/warg"]
+        self.assertEqual([it for it in own if it.exists()], [])
 
     def test_library(self) -> None:
         """What the library is called, and what it needs of the machine."""
@@ -103,15 +119,28 @@ class Installed(Installing):
         self.assertEqual(self.said(alone), SAID)
 
     def test_other_places(self) -> None:
-        """Each folder may be set, and a folder stand for the root while a package is made."""
-        root = self.folder / "root"
-        words = ["PREFIX=/usr", "LIBDIR=/usr/lib/x-y", "INCLUDEDIR=/usr/include/w", f"DESTDIR={root}"]
-        self.said("make", "-s", "-C", ROOT, "install", *words)
-        said = self.said("pkg-config", "--cflags", "--libs", "warg", PKG_CONFIG_LIBDIR=f"{root}/usr/lib/x-y/pkgconfig")
-        program = self.built("other", *said.split())
-        self.assertEqual(self.said(program, LD_LIBRARY_PATH=f"{root}/usr/lib/x-y"), SAID)
-        self.said("make", "-s", "-C", ROOT, "uninstall", *words)
-        self.assertEqual([it for it in root.rglob("*") if not it.is_dir()], [])
+        """Each folder may be set, and a folder stand for the root while a package is made. Links of the machine where
+        that is done don't matter then."""
+        (self.folder / "behind/the/link").mkdir(parents=True)
+        (self.folder / "link").symlink_to("behind/the/link")
+        link = str(self.folder / "link")
+        places = [("/usr", "/usr/lib/x-y", "/usr/include/w"), (link, f"{link}/lib", f"{self.folder}/headers")]
+        for prefix, libraries, headers in places:
+            root = self.folder / "root"
+            words = [f"PREFIX={prefix}", f"LIBDIR={libraries}", f"INCLUDEDIR={headers}", f"DESTDIR={root}"]
+            self.said("make", "-s", "-C", ROOT, "install", *words)
+            found = {"PKG_CONFIG_LIBDIR": f"{root}{libraries}/pkgconfig"}
+            program = self.built("other", *self.said("pkg-config", "--cflags", "--libs", "warg", env=found).split())
+            self.assertEqual(self.said(program, LD_LIBRARY_PATH=f"{root}{libraries}"), SAID)
+            self.said("make", "-s", "-C", ROOT, "uninstall", *words)
+            self.assertEqual([it for it in root.rglob("*") if not it.is_dir()], [])
+
+    def test_own_place(self) -> None:
+        """Where no place is named, it is /usr/local."""
+        self.said("make", "-s", "-C", ROOT, "install", f"DESTDIR={self.folder}/root")
+        self.assertEqual([it.name for it in (self.folder / "root").iterdir()], ["usr"])
+        for it in ("bin/weoldrin-sign", "include/warg.h", "lib/libwarg.so", "share/doc/weoldrin/NOTICE"):
+            self.assertTrue((self.folder / "root/usr/local" / it).is_file(), it)
 
     def test_programs(self) -> None:
         """The programs run from where they were installed."""
@@ -122,10 +151,21 @@ class Installed(Installing):
         self.assertIn("weoldrin-sign new KEY.pem", self.said(prefix / "bin/weoldrin-sign", "--help"))
 
     def test_other_machines(self) -> None:
-        said = self.said("make", "-s", "-C", ROOT, f"PREFIX={self.folder}/p", "TARGET=mips-linux", "install", status=2)
+        """A machine that there is no library for is told, whether it is named or this one; and so are programs that are
+        left out."""
         assert MACHINE
-        self.assertIn(f"dist/ has no library for mips-linux, but for: {MACHINE.name}", said)
+        told = f"dist/ has no library for mips-linux, but for: {MACHINE.name}"
+        words = ["make", "-s", "-C", str(ROOT), f"PREFIX={self.folder}/p"]
+        for part in ("install", "install-library", "install-development"):
+            self.assertIn(told, self.said(*words, "TARGET=mips-linux", part, status=2))
+        self.write("bin/uname", "#!/bin/sh\necho mips\n").chmod(0o755)
+        path = f"{self.folder}/bin:{self.environment['PATH']}"
+        self.assertIn(told, self.said(*words, "install", status=2, PATH=path))
         self.assertFalse((self.folder / "p").exists())
+        said = self.said(*words, "TARGET=mips-linux", "install-programs")
+        left_out = [f"left out: dist/ has no {it} for mips-linux" for it in ("weoldrin", "warg_audit")]
+        self.assertEqual(said.splitlines(), left_out)
+        self.assertEqual([it.name for it in (self.folder / "p/bin").iterdir()], ["weoldrin-sign"])
 
     @unittest.skipUnless(links("-lcrypto"), "libcrypto is not installed (libssl-dev)")
     def test_readme(self) -> None:
@@ -141,10 +181,10 @@ class Installed(Installing):
 class ByCMake(Installing):
     """`find_package`."""
 
-    def configured(self, wanted: str, prefix: pathlib.Path, status: int = 0) -> str:
+    def configured(self, wanted: str, prefix: pathlib.Path, status: int = 0, text: str = CMAKE) -> str:
         """What cmake says of a program that wants a version."""
         shutil.rmtree(self.folder / "build", ignore_errors=True)
-        self.write("app/CMakeLists.txt", CMAKE.replace("@WANTED@", wanted))
+        self.write("app/CMakeLists.txt", text.replace("@WANTED@", wanted))
         self.write("app/main.c", PROGRAM)
         return self.said("cmake", "-S", "app", "-B", "build", f"-DCMAKE_PREFIX_PATH={prefix}", status=status)
 
@@ -183,6 +223,7 @@ class ByCMake(Installing):
             away = (prefix / it).rename(self.folder / "away")
             said = re.sub(r"\s+", "", self.configured("", prefix, status=1))
             self.assertIn(f"thereisno{prefix}/{it}", said)
+            self.configured("", prefix, text=OPTIONAL)
             away.rename(prefix / it)
         self.configured("", prefix)
 
@@ -199,8 +240,9 @@ class ByCMake(Installing):
         file = next((prefix / "lib/cmake/warg").glob("*version.cmake"))
         for size, found in ((4, "TRUE"), (8, ""), ("", "")):
             script = f'set(CMAKE_SIZEOF_VOID_P "{size}")\ninclude("{file}")\n'
-            self.write("it.cmake", script + 'message("seen <${PACKAGE_VERSION_UNSUITABLE}>")\n')
-            self.assertIn(f"seen <{found}>", self.said("cmake", "-P", "it.cmake"))
+            self.write("it.cmake", script + 'message("<${PACKAGE_VERSION_UNSUITABLE}> ${PACKAGE_VERSION}")\n')
+            version = f"{VERSION} (for machines of 64 bits)" if found else VERSION
+            self.assertEqual(self.said("cmake", "-P", "it.cmake"), f"<{found}> {version}\n")
 
 
 if __name__ == "__main__":

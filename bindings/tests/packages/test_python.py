@@ -221,6 +221,7 @@ class Wheels(Installing):
         """An editable install is the sources themselves, with the library and the program of dist/."""
         package = self.package()
         to = self.environment_of("--no-build-isolation", "--editable", package)
+        self.assertEqual(list(to.rglob("_native")), [])
         where = "import weoldrin; print(weoldrin.__file__)"
         self.assertEqual(self.said(to / "bin/python", "-c", where), f"{package}/src/weoldrin/__init__.py\n")
         self.assertEqual(self.said(to / "bin/python", "-c", SAYS.format(str(LOG))), SAID)

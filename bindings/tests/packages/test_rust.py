@@ -6,6 +6,7 @@ import re
 import shutil
 import tarfile
 import unittest
+from typing import Any
 
 from installing import HEAD, LOG, MACHINE, ROOT, VERSION, Installing, links, needs
 
@@ -134,11 +135,24 @@ class Crate(Installing):
         for other in (f"{first}.{second + 1}.0", f"{first + 1}.0.0", earlier, fits):
             file.write_text(re.sub("(?m)^Version:.*", f"Version: {other}", file.read_text()))
             self.said("cargo", "build", "--offline", at=app, status=0 if other == fits else 101, env=found)
-        # Each time it is asked anew.
+        self.asked_anew(app, found)
         said = self.said("cargo", "build", "--offline", at=app, status=101, env=found, PKG_CONFIG="/no/pkg-config")
         self.assertIn("/no/pkg-config: No such file", said)
-        for folder, status in ((file.parent, 0), (self.folder, 101)):
-            self.said("cargo", "build", "--offline", at=app, status=status, PKG_CONFIG_LIBDIR=str(folder))
+
+    def asked_anew(self, app: pathlib.Path, found: dict[str, str]) -> None:
+        """pkg-config is asked once, and anew where it might say something else."""
+        asked = self.folder / "asked"
+        asks = self.write("asks", f'#!/bin/sh\necho asked >> "{asked}"\nexec pkg-config "$@"\n')
+        asks.chmod(0o755)
+        found = found | {"PKG_CONFIG": str(asks)}
+        others = {"PKG_CONFIG_LIBDIR": "/nowhere", "PKG_CONFIG_SYSROOT_DIR": "/"}
+        others["PKG_CONFIG_PATH"] = f"{found['PKG_CONFIG_PATH']}:/nowhere"
+        times = []
+        for name in (None, None, *others):
+            other = {name: others[name]} if name else {}
+            self.said("cargo", "build", "--offline", at=app, env=found | other)
+            times.append(asked.read_text().count("asked"))
+        self.assertEqual(times, [1, 1, 2, 3, 4])
 
     def test_other_libraries(self) -> None:
         """WARG_LIBRARY_DIR names another library. A machine that the package has none for is told so."""
@@ -147,33 +161,60 @@ class Crate(Installing):
         (self.crate / "lib/mips-linux").mkdir(parents=True)
         app = self.app("--path", str(self.crate))
         said = self.said("cargo", "build", "--offline", at=app, status=101)
-        self.assertIn(f'there is no library for {MACHINE.name} with the C library "gnu", but for mips-linux', said)
+        told = f'there is no library for {MACHINE.name} with the C library "gnu", but for mips-linux with glibc: '
+        self.assertRegex(said, f"(?m)^warning: .*{told}")
         self.runs(app, WARG_LIBRARY_DIR=str(self.folder / "elsewhere"))
-        said = self.said("cargo", "build", "--offline", at=app, status=101, WARG_LIBRARY_DIR="/nowhere")
-        self.assertIn("there is no library /nowhere/libwarg.a", said)
         # One that changes is linked anew.
         (self.folder / "elsewhere/libwarg.a").write_bytes(b"!<arch>\n")
         self.said("cargo", "build", "--offline", at=app, status=101, WARG_LIBRARY_DIR=str(self.folder / "elsewhere"))
+        said = self.said("cargo", "build", "--offline", at=app, status=101, WARG_LIBRARY_DIR="/nowhere")
+        self.assertIn("there is no library /nowhere/libwarg.a", said)
 
     def test_other_targets(self) -> None:
         """A machine of another C library is told that there is none for it, and which there are."""
         assert MACHINE
         script = self.crate / "build.rs"
         self.said("rustc", "--edition=2021", script, "-o", "script")
+        for it in ("z-linux", "b-linux", "c-linux", "a-linux"):
+            (self.crate / f"lib/{it}").mkdir()
         arch, _, system = MACHINE.name.partition("-")
         machine = {"CARGO_CFG_TARGET_ARCH": arch, "CARGO_CFG_TARGET_OS": system, "CARGO_MANIFEST_DIR": str(self.crate)}
         for abi, status in (("gnu", 0), ("musl", 1), ("", 1)):
             said = self.said(self.folder / "script", status=status, env=machine, CARGO_CFG_TARGET_ENV=abi)
             if status:
-                self.assertIn(f'for {MACHINE.name} with the C library "{abi}", but for ', said)
+                machines = ", ".join(sorted(it.name for it in (self.crate / "lib").iterdir()))
+                self.assertIn(f'for {MACHINE.name} with the C library "{abi}", but for {machines} with glibc', said)
             else:
                 self.assertIn(f"cargo:rustc-link-search=native={self.crate}/lib/{MACHINE.name}\n", said)
 
+    def about(self) -> dict[str, Any]:
+        """What cargo says of the crate."""
+        said = self.said("cargo", "metadata", "--offline", "--no-deps", "--format-version=1", at=self.crate)
+        (package,) = json.loads(said[said.index("{") :])["packages"]
+        assert isinstance(package, dict)
+        return package
+
+    def test_about(self) -> None:
+        """What a registry shows of it, and who may build it."""
+        said = self.about()
+        wanted = {"license": "Apache-2.0 WITH LLVM-exception", "readme": "README.md", "links": "warg"}
+        wanted |= {"rust_version": "1.63", "documentation": "https://docs.rs/weoldrin", "edition": "2021"}
+        self.assertEqual({it: said[it] for it in wanted}, wanted)
+        self.assertEqual(said["features"], {"default": ["openssl"], "openssl": [], "system": []})
+        self.assertEqual(said["dependencies"], [])
+        for it in ("description", "keywords", "categories"):
+            self.assertTrue(said[it], it)
+
     def test_documents(self) -> None:
-        """The documents are made as docs.rs makes them, but for what its own compiler alone has."""
-        self.said("cargo", "doc", "--quiet", "--offline", "--no-deps", "--all-features", at=self.crate, DOCS_RS="1")
-        self.assertTrue((self.folder / "target/doc/weoldrin/struct.Log.html").is_file())
-        self.assertTrue((self.folder / "target/doc/weoldrin/p256/struct.SigningKey.html").is_file())
+        """The documents are made as docs.rs makes them, by its words, and say what needs a feature."""
+        words = self.about()["metadata"]["docs"]["rs"]
+        self.assertEqual((words["all-features"], words["targets"]), (True, ["x86_64-unknown-linux-gnu"]))
+        # The variable lets any compiler take what docs.rs has of its own one.
+        made = {"DOCS_RS": "1", "RUSTDOCFLAGS": " ".join(words["rustdoc-args"]), "RUSTC_BOOTSTRAP": "1"}
+        self.said("cargo", "doc", "--quiet", "--offline", "--no-deps", "--all-features", at=self.crate, env=made)
+        folder = self.folder / "target/doc/weoldrin"
+        self.assertTrue((folder / "struct.Log.html").is_file())
+        self.assertIn("crate feature <code>openssl</code>", (folder / "p256/struct.SigningKey.html").read_text())
 
     def test_header(self) -> None:
         """A crate that stands on this one finds the header, for code of C of its own."""
