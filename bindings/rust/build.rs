@@ -1,5 +1,5 @@
-//! Links the library: that of the folder which `WARG_LIBRARY_DIR` names, the one that pkg-config finds where the feature `system`
-//! asks for it, or the package's own in `lib/`.
+//! Links the library: that of the folder which `WARG_LIBRARY_DIR` names, the one that pkg-config finds where the feature
+//! `system` asks for it, or the package's own in `lib/`.
 use std::path::{Path, PathBuf};
 use std::process::{exit, Command};
 use std::{env, fs};
@@ -31,8 +31,8 @@ fn own(root: &Path) -> PathBuf {
     let folder = lib.join(&machine);
     if abi != "gnu" || !folder.join("libwarg.a").is_file() {
         fail(&format!(
-            "there is no library for {machine} with the C library {abi:?}, but for {} with glibc: name the folder of a libwarg.a \
-             in WARG_LIBRARY_DIR, or link an installed one by the feature `system`",
+            "there is no library for {machine} with the C library {abi:?}, but for {} with glibc: name the folder of a \
+             libwarg.a in WARG_LIBRARY_DIR, or link an installed one by the feature `system`",
             machines(&lib)
         ));
     }
@@ -50,7 +50,8 @@ fn link(folder: &Path) {
     println!("cargo:rustc-link-lib=static=warg");
 }
 
-/// Links what pkg-config finds. Its calls have to be those of this version: below 1.0.0 another second number may change them.
+/// Links what pkg-config finds. Its calls have to be those of this version: below 1.0.0 another second number may change
+/// them.
 fn link_installed() {
     let version = said("CARGO_PKG_VERSION");
     let (first, second) = (said("CARGO_PKG_VERSION_MAJOR"), said("CARGO_PKG_VERSION_MINOR"));

@@ -119,6 +119,17 @@ class Program(unittest.TestCase):
         for it in (signal.SIGPIPE, signal.SIGXFSZ):
             self.assertFalse(bits >> (it - 1) & 1, it)
 
+    def test_name(self) -> None:
+        """It is called by its own name, however the command was."""
+        code = (
+            "import sys\n"
+            "from weoldrin import _native, _program\n"
+            "_native.found = lambda name: '/bin/sh'\n"
+            "sys.argv = ['anything', '-c', 'tr \"\\\\0\" \" \" < /proc/$$/cmdline']\n"
+            "_program.main()\n"
+        )
+        self.assertTrue(run(code).stdout.startswith("weoldrin -c tr "), run(code))
+
     def _told(self, program: pathlib.Path | None) -> str:
         """What the command says on standard error where the program can't be run; its status is 3."""
         said = io.StringIO()

@@ -3,6 +3,7 @@
 import ast
 import pathlib
 import re
+import shutil
 import subprocess
 import sys
 import tarfile
@@ -95,6 +96,11 @@ class Wheels(Installing):
         self.assertLessEqual({"Root-Is-Purelib: false", f"Tag: py3-none-{NEW}"}, set(about))
         self.assertIn(f"\nVersion: {VERSION}\n", metadata)
         self.assertIn("\nRequires-Python: >=3.10\n", metadata)
+        self.assertIn("\nLicense: Apache-2.0 WITH LLVM-exception\n", metadata)
+        self.assertIn("\n# weoldrin for Python\n", metadata)
+        extras = re.findall(r"^Requires-Dist: (\w+)>=([\d.]+); extra == .(\w+).$", metadata, re.M)
+        self.assertEqual(extras, [("distributed", "2022.12", "dask"), ("cryptography", "38", "signing")])
+        self.assertEqual(metadata.count("\nRequires-Dist: "), len(extras))
         self.assertEqual(len(licences), 2)
         to = self.environment_of(wheel)
         self.assertEqual(self.said(to / "bin/python", "-c", SAYS.format(str(LOG))), SAID)
@@ -186,6 +192,12 @@ class Wheels(Installing):
         for machine, wheel in machines.items():
             said = self.said(PYTHON, self.folder / "here.py", *machine, env={"PYTHONPATH": str(package)})
             self.assertEqual(said.splitlines(), [wheel, f"{NEW} {OLD} any"], machine)
+        # A program that needs no more than the library makes no wheel of its own.
+        assert MACHINE
+        native = self.folder / "clone/dist" / MACHINE.name
+        shutil.copy(native / "libwarg.so", native / "weoldrin")
+        said = self.said(PYTHON, "here.py", "linux", ARCH, "glibc", "2.36", env={"PYTHONPATH": str(package)})
+        self.assertEqual(said.splitlines(), [OLD, f"{OLD} any"])
 
     def test_twice(self) -> None:
         """The same sources make the same bytes, whenever they were written, and whoever may read them."""
