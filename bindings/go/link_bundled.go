@@ -1,4 +1,4 @@
-//go:build cgo && linux && (amd64 || arm64) && !warg_system
+//go:build !warg_system
 
 package weoldrin
 

@@ -1,4 +1,4 @@
-//go:build cgo && warg_system
+//go:build warg_system
 
 package weoldrin
 
