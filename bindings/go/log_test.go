@@ -208,7 +208,14 @@ func TestComparisons(t *testing.T) {
 	alice, bob := two()
 	made := envelopes(4, alice, bob)
 	log, other := logOf(made), logOf(made[:2])
-	equal(t, must(log.Compare(log)), weoldrin.Comparison{})
+	alone := make(chan weoldrin.Comparison, 1)
+	go func() { alone <- must(log.Compare(log)) }()
+	select {
+	case found := <-alone:
+		equal(t, found, weoldrin.Comparison{})
+	case <-time.After(10 * time.Second):
+		t.Fatal("it waits for itself")
+	}
 	equal(t, must(log.Compare(logOf(made))), weoldrin.Comparison{})
 	equal(t, must(log.Compare(other)), weoldrin.Comparison{Relation: weoldrin.RightIsPrefix, Left: 2, Right: 2})
 	equal(t, must(other.Compare(log)), weoldrin.Comparison{Relation: weoldrin.LeftIsPrefix, Left: 2, Right: 2})
