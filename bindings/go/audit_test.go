@@ -30,6 +30,9 @@ func told(t *testing.T, by weoldrin.Auditor, text string) string {
 	verdict := must(by.Audit(path))
 	line := verdict.String()
 	equal(t, verdict.Accepted(), strings.HasPrefix(line, path+": ok "))
+	if verdict.Refusal != nil {
+		equal(t, verdict.Records, verdict.Refusal.Place)
+	}
 	return strings.TrimPrefix(line, path+": ")
 }
 

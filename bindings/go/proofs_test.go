@@ -143,8 +143,10 @@ func TestFaultsOfProofs(t *testing.T) {
 	// 64 hashes are the most that a proof on a log has, and 256 that one on a map has behind its 32 bytes.
 	for groups, fault := range map[int]string{1: "BadLength", 683: "BadLength", 684: "TooLong", 700_000: "TooLong"} {
 		equal(t, answer(weoldrin.VerifyInclusion(log2, record5, 5, 8, root8, strings.Repeat("AAAA", groups))), fault)
+		equal(t, answer(weoldrin.VerifyConsistency(6, root6, 8, root8, strings.Repeat("AAAA", groups))), fault)
 	}
 	for groups, fault := range map[int]string{1: "BadLength", 2742: "BadLength", 2743: "TooLong", 700_000: "TooLong"} {
 		equal(t, answer(weoldrin.VerifyAbsence(log2, mapRoot, strings.Repeat("AAAA", groups))), fault)
+		equal(t, answer(weoldrin.VerifyPresence(log0, record6, mapRoot, strings.Repeat("AAAA", groups))), fault)
 	}
 }

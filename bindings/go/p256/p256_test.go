@@ -209,3 +209,30 @@ func TestKeysOfOpenSSL(t *testing.T) {
 		}
 	}
 }
+
+// The form of a signature is read as the library reads it, before crypto/ecdsa is asked.
+func TestIntegers(t *testing.T) {
+	one := func(bytes ...byte) []byte { return append([]byte{2, byte(len(bytes))}, bytes...) }
+	long := func(first byte, length int) []byte { return append([]byte{first}, make([]byte, length-1)...) }
+	for name, it := range map[string]struct {
+		integer []byte
+		isOne   bool
+	}{
+		"small":       {one(1), true},
+		"zero":        {one(0), true},
+		"greatest":    {one(append([]byte{0}, long(255, 32)...)...), true},
+		"32 bytes":    {one(long(127, 32)...), true},
+		"none":        {one(), false},
+		"negative":    {one(128), false},
+		"not minimal": {one(0, 127), false},
+		"33 bytes":    {one(long(1, 33)...), false},
+		"34 bytes":    {one(append([]byte{0}, long(128, 33)...)...), false},
+		"other tag":   {[]byte{3, 1, 1}, false},
+		"cut off":     {[]byte{2, 2, 1}, false},
+	} {
+		rest, isRead := behindInteger(it.integer)
+		if isRead != it.isOne || isRead && len(rest) != 0 {
+			t.Errorf("%s: %v is read as %v", name, it.integer, isRead)
+		}
+	}
+}

@@ -95,6 +95,25 @@ class Module(Installing):
             said = self.said("go", "build", ".", at=app, status=FAILS, env=other, CGO_ENABLED="0")
             self.assertIn("weoldrin_needs_cgo_and_linux", said)
 
+    def test_files(self) -> None:
+        """Which files are built: on a machine that there is no library for, the one that says so."""
+        bundled, system, lacking = "link_bundled.go", "link_system.go", "unsupported.go"
+        wanted = {
+            ("linux", "amd64", "1", ""): {bundled},
+            ("linux", "arm64", "1", ""): {bundled},
+            ("linux", "amd64", "1", "warg_system"): {system},
+            ("darwin", "arm64", "1", "warg_system"): {system},
+            ("darwin", "amd64", "1", ""): {bundled, lacking},
+            ("linux", "386", "1", ""): {bundled, lacking},
+            ("linux", "amd64", "0", ""): {lacking},
+            ("linux", "amd64", "0", "warg_system"): {lacking},
+        }
+        listed = '{{join .GoFiles " "}} {{join .CgoFiles " "}}'
+        for (system_of, machine, cgo, tags), files in wanted.items():
+            env = {"GOOS": system_of, "GOARCH": machine, "CGO_ENABLED": cgo}
+            said = self.said("go", "list", "-tags", tags, "-f", listed, ".", at=self.module, env=env)
+            self.assertEqual({bundled, system, lacking} & set(said.split()), files, env)
+
 
 if __name__ == "__main__":
     unittest.main()

@@ -149,8 +149,8 @@ class Crate(Installing):
         others["PKG_CONFIG_PATH"] = f"{found['PKG_CONFIG_PATH']}:/nowhere"
         times = []
         for name in (None, None, *others):
-            other = {name: others[name]} if name else {}
-            self.said("cargo", "build", "--offline", at=app, env=found | other)
+            found |= {name: others[name]} if name else {}
+            self.said("cargo", "build", "--offline", at=app, env=found)
             times.append(asked.read_text().count("asked"))
         self.assertEqual(times, [1, 1, 2, 3, 4])
 
