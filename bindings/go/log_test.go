@@ -375,3 +375,25 @@ func TestGoroutines(t *testing.T) {
 	equal(t, count, must(shared.Len()))
 	equal(t, must(shared.Head()), head)
 }
+
+// Two logs are compared from both sides at once, and neither waits for the other for good.
+func TestBothCompared(t *testing.T) {
+	alice, bob := two()
+	one, other := logOf(envelopes(2, alice, bob)), logOf(envelopes(2, alice, bob))
+	done := make(chan bool, 2)
+	for _, it := range [][2]*weoldrin.PackageLog{{one, other}, {other, one}} {
+		go func(left, right *weoldrin.PackageLog) {
+			for count := 0; count < 20_000; count++ {
+				must(left.Compare(right))
+			}
+			done <- true
+		}(it[0], it[1])
+	}
+	for range []int{1, 2} {
+		select {
+		case <-done:
+		case <-time.After(60 * time.Second):
+			t.Fatal("they wait for each other")
+		}
+	}
+}
