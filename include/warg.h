@@ -45,6 +45,13 @@
 #include <stddef.h>
 #include <stdint.h>
 
+/* The version of this header, as a text and as its numbers. What is linked may be another one: `warg_version`
+ * says that one's. */
+#define WARG_VERSION "0.1.0"
+#define WARG_VERSION_MAJOR 0
+#define WARG_VERSION_MINOR 1
+#define WARG_VERSION_PATCH 0
+
 #ifdef __cplusplus
 extern "C" {
 #endif

@@ -39,6 +39,15 @@ class Counts(unittest.TestCase):
         self.assertEqual(HOSTS["counted_of_cargo"](OF_CARGO), (13, 1, 1))
         self.assertEqual(HOSTS["counted_of_cargo"]("error: could not compile\n"), (0, 0, 0))
 
+    def test_go(self) -> None:
+        said = (
+            "=== RUN   TestA\n=== RUN   TestA/one\n    --- PASS: TestA/one (0.00s)\n--- PASS: TestA (0.00s)\n"
+            "--- SKIP: TestB (0.00s)\n    rows.go:1: there are no rows here\n--- FAIL: TestC (0.00s)\nFAIL\n"
+            "--- PASS: TestD (0.01s)\nok  \tweoldrin.example/weoldrin\t0.01s\n?   \tx\t[no test files]\n"
+        )
+        self.assertEqual(HOSTS["counted_of_go"](said), (2, 1, 1))
+        self.assertEqual(HOSTS["counted_of_go"]("# weoldrin\nlog.go:1: syntax error\nFAIL\n"), (0, 0, 0))
+
     def test_unittest(self) -> None:
         ends = {
             "Ran 150 tests in 3.1s\n\nOK": (150, 0, 0),

@@ -36,6 +36,7 @@
 //! # fn main() {}
 //! ```
 #![warn(missing_docs, clippy::undocumented_unsafe_blocks)]
+#![cfg_attr(docsrs, feature(doc_cfg))]
 
 mod buffer;
 mod error;

@@ -11,6 +11,7 @@ mod openssl;
 mod texts;
 
 #[cfg(feature = "openssl")]
+#[cfg_attr(docsrs, doc(cfg(feature = "openssl")))]
 pub use openssl::{key_id, sha256_text, verify_by_openssl, CryptoError, SigningKey};
 
 /// Whether the signature belongs to the message under the key, by the library. Texts that can't be read, and those of other

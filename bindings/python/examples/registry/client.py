@@ -6,6 +6,8 @@
 Status: 0 done, 1 the registry refused something or has no such package, 2 wrong words, 3 a read or a write failed.
 """
 
+from __future__ import annotations
+
 import argparse
 import http.client
 import json
@@ -14,7 +16,6 @@ import sys
 import time
 import urllib.parse
 from collections.abc import Iterator
-from typing import Self
 
 from weoldrin import Error, LogKind, PackageLog, p256, print_lines, printable, records
 
@@ -37,7 +38,7 @@ class Client:
     def __init__(self, url: str) -> None:
         self._connection = http.client.HTTPConnection(urllib.parse.urlsplit(url).netloc, timeout=60)
 
-    def __enter__(self) -> Self:
+    def __enter__(self) -> Client:
         return self
 
     def __exit__(self, *_: object) -> None:

@@ -1,7 +1,19 @@
 """Checks the logs of a Warg package registry by a proved library, which verifies signatures of ECDSA P-256."""
 
+from ._version import __version__
 from .auditing import Refusal, RunError, Verdict, append_all, audit, audit_many, envelopes_of, processes
-from .errors import BadArgument, Busy, Error, Forked, NoEnvelope, NotOpen, OutOfMemory, Refused, UnknownAlgorithm
+from .errors import (
+    BadArgument,
+    Busy,
+    Error,
+    Forked,
+    NoEnvelope,
+    NoLibrary,
+    NotOpen,
+    OutOfMemory,
+    Refused,
+    UnknownAlgorithm,
+)
 from .faults import BadLine, Empty, Fault, Missing, Rewritten, RolledBack, SpoiledState, Unfinished, Unreadable, Unsaved
 from .incremental import NewRecords, audit_new
 from .logs import Log, OperatorLog, PackageLog, library_version, log_of, record_id
@@ -40,6 +52,7 @@ __all__ = [
     "Namespace",
     "NewRecords",
     "NoEnvelope",
+    "NoLibrary",
     "NotOpen",
     "OperatorLog",
     "OutOfMemory",
@@ -61,6 +74,7 @@ __all__ = [
     "Unsaved",
     "Verdict",
     "Verify",
+    "__version__",
     "append_all",
     "audit",
     "audit_many",

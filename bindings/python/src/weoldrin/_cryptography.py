@@ -1,6 +1,6 @@
 """ECDSA P-256 by the package `cryptography`, which nothing else imports."""
 
-from typing import Self
+from __future__ import annotations
 
 from cryptography.exceptions import InvalidSignature, UnsupportedAlgorithm
 from cryptography.hazmat.primitives import hashes, serialization
@@ -33,14 +33,14 @@ class SigningKey:
         """The text of the public key."""
 
     @classmethod
-    def generate(cls) -> Self:
+    def generate(cls) -> SigningKey:
         """A new key."""
         key = ec.generate_private_key(ec.SECP256R1())
         assert isinstance(key, ec.EllipticCurvePrivateKeyWithSerialization)
         return cls(key)
 
     @classmethod
-    def from_pem(cls, pem: bytes, password: bytes | None = None) -> Self:
+    def from_pem(cls, pem: bytes, password: bytes | None = None) -> SigningKey:
         """A key that was saved as PEM, as `openssl ecparam -genkey -name prime256v1` writes it. Raises `ValueError` of
         what is none of P-256, and `TypeError` where a password is missing, or not wanted."""
         try:

@@ -1,12 +1,13 @@
 """The library's calls, as include/warg.h declares them. WEOLDRIN_LIBRARY names another file of the library."""
 
 import ctypes
+import functools
 import os
-import pathlib
 from collections.abc import Callable
 from typing import Any
 
-from .errors import BadArgument, Error, NoEnvelope, NotOpen, OutOfMemory, Refused, UnknownAlgorithm
+from . import _native
+from .errors import BadArgument, Error, NoEnvelope, NoLibrary, NotOpen, OutOfMemory, Refused, UnknownAlgorithm
 
 OK, TOO_SMALL, NO_ENVELOPE, REFUSED, NONE, BAD_ARGUMENT, UNKNOWN_ALGORITHM = 0, 3, 4, 5, 6, 7, 8
 
@@ -125,12 +126,21 @@ _CALLS: dict[str, list[Any]] = {
 
 
 class Calls(dict[str, Callable[..., int]]):
-    """All calls, by their names in C without `warg_`, each looked up when it is first made. They let go of the
-    interpreter's lock while they run."""
+    """All calls, by their names in C without `warg_`, each looked up when it is first made, which is when the library
+    is loaded. They let go of the interpreter's lock while they run."""
 
-    def __init__(self) -> None:
-        beside = pathlib.Path(__file__).parent / "libwarg.so"
-        self._library = ctypes.CDLL(os.environ.get("WEOLDRIN_LIBRARY") or str(beside))
+    @functools.cached_property
+    def _library(self) -> ctypes.CDLL:
+        path = os.environ.get("WEOLDRIN_LIBRARY") or _native.found("libwarg.so")
+        if path is None:
+            raise NoLibrary(
+                f"NoLibrary: this package has no library for {_native.machine()}: a wheel for Linux with glibc 2.17 or "
+                "later has it, and the environment's WEOLDRIN_LIBRARY may name another one"
+            )
+        try:
+            return ctypes.CDLL(str(path))
+        except OSError as error:
+            raise NoLibrary(f"NoLibrary: {path} can't be loaded: {error}") from None
 
     def __missing__(self, name: str) -> Callable[..., int]:
         call = getattr(self._library, f"warg_{name}")

@@ -55,6 +55,11 @@ class BadArgument(Error, ValueError):
         super().__init__(text or "BadArgument: an argument is not of its form, or the log has no such call")
 
 
+class NoLibrary(Error):
+    """The library, which decides, is not there for this machine, or can't be loaded. Records are written without it,
+    and nothing is judged. The sentence says where it is had."""
+
+
 class Busy(Error):
     """A handler of a signal used a log whose call it interrupted. The interrupted call goes on when the handler
     ends."""

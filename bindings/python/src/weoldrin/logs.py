@@ -5,7 +5,7 @@ import operator
 import os
 import threading
 from collections.abc import Callable, Iterator
-from typing import Any, ClassVar, NoReturn, Self, TypeVar
+from typing import Any, ClassVar, NoReturn, TypeVar
 
 from . import _library
 from ._library import CALLS, Buffer, Bytes, bytes_of, checked, text_bytes
@@ -13,6 +13,8 @@ from .errors import BadArgument, Busy, Forked
 from .values import Comparison, Link, LogKind, Namespace, Record, Relation, Release, SignatureCheck, Verify, kind_of
 
 T = TypeVar("T")
+# A log of one kind: the class that a call is made of.
+L = TypeVar("L", bound="Log")
 
 _NANOS = 1_000_000_000
 # An error's text has so many bytes beside what it quotes of an envelope, and fewer.
@@ -47,10 +49,11 @@ class Log:
     __slots__ = ("_buffer", "_is_called", "_lock", "_log", "_process", "__weakref__")
 
     def __init__(self) -> None:
+        opens = CALLS["open"]
         self._log, self._buffer, self._process = _library.Log(), Buffer(), os.getpid()
         # A thread passes its own lock again, so that a handler of a signal that interrupts a call is told and not kept.
         self._lock, self._is_called = threading.RLock(), False
-        checked("open", CALLS["open"](self._log, self.KIND.value))
+        checked("open", opens(self._log, self.KIND.value))
 
     def close(self) -> None:
         """Gives the log's memory back. Closing twice is harmless; any other call then raises `NotOpen`.
@@ -60,13 +63,14 @@ class Log:
         if os.getpid() == self._process:
             self._alone(CALLS["close"], self._log)
 
-    def __enter__(self) -> Self:
+    def __enter__(self: L) -> L:
         return self
 
     def __exit__(self, *_: object) -> None:
         self.close()
 
     def __del__(self) -> None:
+        # Where there is no library, nothing was made.
         if hasattr(self, "_is_called"):
             self.close()
 
@@ -183,7 +187,7 @@ class Log:
 
     # Two logs, and saved states
 
-    def compare(self, other: Self) -> Comparison:
+    def compare(self: L, other: L) -> Comparison:
         """Compares the records of this log, the left one, with those of another. A resumed log has none to compare."""
         if other is self:
             len(self)
@@ -209,7 +213,7 @@ class Log:
         return text
 
     @classmethod
-    def from_json(cls, saved: str) -> Self:
+    def from_json(cls: type[L], saved: str) -> L:
         """A log that goes on from a saved state. It has no records: `len`, `record`, `chain` and `compare` raise
         `BadArgument`.
 

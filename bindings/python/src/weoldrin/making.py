@@ -35,7 +35,7 @@ _DATE = re.compile(
     r"([0-9]{4}-[0-9]{2}-[0-9]{2})[Tt ]([0-9]{2}:[0-9]{2}:)([0-9]{2})(?:\.([0-9]{1,9}))?"
     r"([Zz]|[+-][0-9]{2}:[0-5][0-9])"
 )
-_EPOCH = datetime.datetime(1970, 1, 1, tzinfo=datetime.UTC)
+_EPOCH = datetime.datetime(1970, 1, 1, tzinfo=datetime.timezone.utc)
 
 
 class NoRecord(ValueError):
@@ -56,8 +56,10 @@ def time_of(word: str) -> int:
             return since_1970
     elif it := _DATE.fullmatch(word):
         date, clock, second, fraction, offset = it.groups()
+        # Python 3.10 reads no Z.
+        offset = offset.upper().replace("Z", "+00:00")
         try:
-            at = datetime.datetime.fromisoformat(f"{date}T{clock}{'59' if second == '60' else second}{offset.upper()}")
+            at = datetime.datetime.fromisoformat(f"{date}T{clock}{'59' if second == '60' else second}{offset}")
         except ValueError:
             at = None
         if at is not None:

@@ -1,0 +1,3 @@
+module weoldrin.example/weoldrin
+
+go 1.19

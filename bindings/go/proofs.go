@@ -1,0 +1,63 @@
+package weoldrin
+
+// #include "warg.h"
+import "C"
+
+// What a registry proves of its log and its map. Roots are texts of hashes, ids are texts of ids, proofs are texts of
+// base64.
+
+const badText = "BadText: a root or an id is not the text of one"
+
+// VerifyInclusion is whether the leaf of a log's record stands at a place of the registry's log, which has so many
+// leaves and this root. The error is ErrBadArgument where a text is not of its form; if that is the proof's, its name
+// is the fault: TooLong, BadBase64, BadLength or EmptySibling. So it is for all four calls.
+//
+// What an accepted proof shows is so of every log of that length and root, and of every map of that root, or two
+// strings that differ have one hash. No call knows whose root it is, or how long its log is: take a log's length and
+// root, and the map's root, from one signed checkpoint.
+func VerifyInclusion(logID, recordID string, place, length uint64, root, proof string) (bool, error) {
+	log, record, hash, text := []byte(logID), []byte(recordID), []byte(root), []byte(proof)
+	status := C.warg_verify_inclusion(at(log), size(log), at(record), size(record), C.uint64_t(place), C.uint64_t(length),
+		at(hash), size(hash), at(text), size(text))
+	return shown(status, logTree, text)
+}
+
+// VerifyConsistency is whether the registry's log of newLength leaves begins with the one of oldLength leaves.
+func VerifyConsistency(oldLength uint64, oldRoot string, newLength uint64, newRoot, proof string) (bool, error) {
+	before, after, text := []byte(oldRoot), []byte(newRoot), []byte(proof)
+	status := C.warg_verify_consistency(C.uint64_t(oldLength), at(before), size(before), C.uint64_t(newLength),
+		at(after), size(after), at(text), size(text))
+	return shown(status, logTree, text)
+}
+
+// VerifyPresence is whether the registry's map says that a log's last record is this one.
+func VerifyPresence(logID, recordID, root, proof string) (bool, error) {
+	log, record, hash, text := []byte(logID), []byte(recordID), []byte(root), []byte(proof)
+	status := C.warg_verify_presence(at(log), size(log), at(record), size(record), at(hash), size(hash),
+		at(text), size(text))
+	return shown(status, mapTree, text)
+}
+
+// VerifyAbsence is whether the registry's map says nothing of a log.
+func VerifyAbsence(logID, root, proof string) (bool, error) {
+	log, hash, text := []byte(logID), []byte(root), []byte(proof)
+	status := C.warg_verify_absence(at(log), size(log), at(hash), size(hash), at(text), size(text))
+	return shown(status, mapTree, text)
+}
+
+// shown is the answer of a call on a proof: where an argument is bad and that is the proof, its fault is told.
+func shown(status rawStatus, tree C.uint32_t, proof []byte) (bool, error) {
+	if uint32(status) != badArgument {
+		return holds(status, "")
+	}
+	fault, found, err := filled(0, "", func(to []byte, used *rawSize) rawStatus {
+		return C.warg_proof_fault(tree, at(proof), size(proof), at(to), size(to), used)
+	})
+	if err != nil {
+		return false, err
+	}
+	if found {
+		return false, errorNamed(ErrBadArgument, string(fault))
+	}
+	return false, errorNamed(ErrBadArgument, badText)
+}

@@ -1,0 +1,143 @@
+package weoldrin
+
+import (
+	"fmt"
+	"time"
+)
+
+// Kind is a kind of logs.
+type Kind uint32
+
+const (
+	// Package is the kind of the logs of packages: their releases.
+	Package Kind = 0
+	// Operator is the kind of the logs of a registry's operators: their namespaces.
+	Operator Kind = 1
+)
+
+// String is the word of a kind: package or operator.
+func (k Kind) String() string {
+	switch k {
+	case Package:
+		return "package"
+	case Operator:
+		return "operator"
+	default:
+		return fmt.Sprintf("Kind(%d)", uint32(k))
+	}
+}
+
+// KindOf is the kind of a word, package or operator.
+func KindOf(word string) (Kind, error) {
+	for _, it := range []Kind{Package, Operator} {
+		if it.String() == word {
+			return it, nil
+		}
+	}
+	return 0, errorNamed(ErrBadArgument, "NoKind: a log is one of a package or of an operator, and none of "+word)
+}
+
+// Permission is what a key may do in a log.
+type Permission string
+
+const (
+	// MayRelease is the permission to release versions, in the log of a package.
+	MayRelease Permission = "release"
+	// MayYank is the permission to yank versions, in the log of a package.
+	MayYank Permission = "yank"
+	// MayCommit is the permission to sign checkpoints, in the log of operators.
+	MayCommit Permission = "commit"
+	// MayDefineNamespace is the permission to define namespaces, in the log of operators.
+	MayDefineNamespace Permission = "defineNamespace"
+	// MayImportNamespace is the permission to import namespaces from other registries, in the log of operators.
+	MayImportNamespace Permission = "importNamespace"
+)
+
+// Question is what has to be verified before a record can be appended: whether the signature belongs to the message
+// under the key.
+type Question struct {
+	// Key is the text of the signer's key: the algorithm's name, a colon, base64.
+	Key string
+	// Message is what was signed.
+	Message []byte
+	// Signature is the signature's text, in the form of the key's.
+	Signature string
+}
+
+// Record is a record that a log keeps.
+type Record struct {
+	// Envelope is the record's envelope, written anew: it has the contents, the key id and the signature that were
+	// appended, and nothing else that stood in those bytes.
+	Envelope []byte
+	// ID is the text of the record's id.
+	ID string
+}
+
+// Release is a release, and what became of it. A time that time.Time does not reach has the right Unix and Nanosecond
+// all the same.
+type Release struct {
+	Version string
+	// RecordID is the id of the record that released it.
+	RecordID string
+	// By is the id of the key that signed that record.
+	By string
+	// Timestamp is the time of that record.
+	Timestamp time.Time
+	// Yanked is whether the release was yanked.
+	Yanked bool
+	// Content is the digest of the content, of a release that was not yanked.
+	Content string
+	// YankedBy is the id of the key that signed the yank.
+	YankedBy string
+	// YankedTimestamp is the time of the yank's record.
+	YankedTimestamp time.Time
+}
+
+// Namespace is what a namespace is.
+type Namespace struct {
+	// Imported is whether its packages are those of another registry. Otherwise it is the registry's own.
+	Imported bool
+	// Registry is the name of that other registry.
+	Registry string
+}
+
+// Link is the place of an entry.
+type Link struct {
+	// Record is the place of the entry's record in the log, from 0.
+	Record int
+	// Entry is the place of the entry in its record, from 0.
+	Entry int
+}
+
+// Relation is how two logs stand to each other, by the contents of their records.
+type Relation uint32
+
+const (
+	// Same is of logs with equal records.
+	Same Relation = 0
+	// LeftIsPrefix is where the right log begins with all of the left one, and goes on.
+	LeftIsPrefix Relation = 1
+	// RightIsPrefix is where the left log begins with all of the right one, and goes on.
+	RightIsPrefix Relation = 2
+	// Fork is where both logs have a record at a place, and these differ.
+	Fork Relation = 3
+	// Collision is where the heads are one, and the records are not: two of them differ and have one id.
+	Collision Relation = 4
+)
+
+// String is the name of a relation.
+func (r Relation) String() string {
+	names := []string{"same", "left is prefix", "right is prefix", "fork", "collision"}
+	if int(r) < len(names) {
+		return names[r]
+	}
+	return fmt.Sprintf("Relation(%d)", uint32(r))
+}
+
+// Comparison is how two logs compare, and where they part: two places for a collision, one place twice otherwise, and
+// 0 for equal logs.
+type Comparison struct {
+	Relation Relation
+	Left     int
+	Right    int
+}

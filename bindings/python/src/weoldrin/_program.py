@@ -1,0 +1,33 @@
+"""The command `weoldrin`: the program that the wheel carries, in the place of this process."""
+
+import os
+import signal
+import sys
+
+from . import _native
+from .printing import tell
+
+# What Python has ignored since it began, and the program is to find as the shell left it.
+_IGNORED = ("SIGPIPE", "SIGXFSZ")
+
+
+def main() -> int:
+    """Runs the program with the words of the command line. It returns where that can't be done, with the status 3."""
+    program = _native.found("weoldrin")
+    if program is None:
+        tell(
+            f"weoldrin: this package has no program for {_native.machine()}: the wheel for Linux on x86-64 with glibc "
+            "2.34 or later has it. `python3 -m weoldrin` audits logs by the library"
+        )
+        return 3
+    for name in _IGNORED:
+        signal.signal(getattr(signal, name), signal.SIG_DFL)
+    try:
+        os.execv(program, ["weoldrin", *sys.argv[1:]])
+    except OSError as error:
+        tell(f"weoldrin: {program} can't be run: {error.strerror}")
+        return 3
+
+
+if __name__ == "__main__":
+    sys.exit(main())

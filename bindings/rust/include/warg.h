@@ -1,0 +1,374 @@
+/* The logs of a package registry, checked by the proved library. docs/PROOFS.md says what is proved of each call.
+ *
+ * Link with `pkg-config --cflags --libs warg`, or with libwarg.a or libwarg.so of dist/.
+ *
+ *     struct warg_log log = {0};
+ *     uint32_t status = warg_open(&log, WARG_PACKAGE);
+ *     status = warg_append_signed(&log, envelope, envelope_len, text, sizeof text, &used);
+ *     warg_close(&log);
+ *
+ * The library verifies ECDSA P-256 itself; any other scheme is the caller's: `warg_ask` judges all of a record but its signature and
+ * says what has to be verified, and `warg_append` takes the caller's word for it, and the record with it.
+ *
+ *     struct warg_asked asked = {0};
+ *     status = warg_ask(&log, envelope, envelope_len, bytes, sizeof bytes, &used, &asked);
+ *     bool belongs = verify(bytes, &asked);
+ *     status = warg_append(&log, envelope, envelope_len, bytes, used, &asked, belongs, text, sizeof text, &used);
+ *
+ * What the caller owes in every call. The library can't see it, and nothing is promised where it does not hold:
+ *   - No pointer is null, also where it leads to no bytes (pass "" there).
+ *   - Each pointer leads to as many bytes, or links, as its length says, all of them initialised, fewer than 2^63.
+ *   - What a call writes to overlaps nothing else that is passed to it; so two logs of a call are two.
+ *   - A `bool` is 0 or 1.
+ *   - A `struct warg_log` is all 0 bytes, or as the last call left it. It is not copied to be used twice.
+ *   - A log serves one call at a time. It may go to another thread, ordered by a lock, a thread's start or join, or a
+ *     sequentially consistent atomic. Different logs may be used by different threads at once: there is no global state.
+ *
+ * What every call keeps. It returns a status. At any status but WARG_OK all logs stay as they were. Calls that only look also
+ * leave them so at WARG_OK. All texts are UTF-8, with no zero byte behind them. WARG_OUT_OF_MEMORY is an answer of calls that take memory
+ * alone, and only where they came to take some: `warg_length`, `warg_compare`, `warg_version` and `warg_status_name` never do.
+ *
+ * Calls that give bytes write them to the start of the caller's buffer, and to `used` how many they are. What stands behind them stays as it
+ * was:
+ *   - at WARG_OK, how many bytes were written;
+ *   - at WARG_TOO_SMALL, how many there have to be room for; the buffer stays as it was;
+ *   - at WARG_NO_ENVELOPE, WARG_REFUSED and WARG_BAD_ARGUMENT, the length of the error's text, which stands in the buffer: the error's name,
+ *     a colon, a space, and a sentence; or 0 where the buffer had no room for it. Where there was no memory for the sentence of a
+ *     WARG_NO_ENVELOPE or a WARG_REFUSED, the text is the name alone;
+ *   - at any other status 0, and the buffer stays as it was. `warg_status_name` gives the name of each status.
+ * What else a call gives (`asked`, `kept`, `release`, `is_imported`) is written at WARG_OK and at WARG_TOO_SMALL, and `length` and
+ * `comparison` at WARG_OK. At any other status it stays as it was. */
+#ifndef WARG_H
+#define WARG_H
+
+#include <stdbool.h>
+#include <stddef.h>
+#include <stdint.h>
+
+/* The version of this header, as a text and as its numbers. What is linked may be another one: `warg_version`
+ * says that one's. */
+#define WARG_VERSION "0.1.0"
+#define WARG_VERSION_MAJOR 0
+#define WARG_VERSION_MINOR 1
+#define WARG_VERSION_PATCH 0
+
+#ifdef __cplusplus
+extern "C" {
+#endif
+
+/* What a call returns. */
+enum warg_status {
+    /* It was done. */
+    WARG_OK = 0,
+    /* The log is none: it was not opened, or it was closed. */
+    WARG_NOT_OPEN = 1,
+    /* There was no memory. The same call may be made again. */
+    WARG_OUT_OF_MEMORY = 2,
+    /* The caller's buffer is too small. `used` says how much is needed. */
+    WARG_TOO_SMALL = 3,
+    /* The bytes are no envelope of a record of the log's kind. */
+    WARG_NO_ENVELOPE = 4,
+    /* The record is unlawful; or the proof does not hold; or the signature does not belong. */
+    WARG_REFUSED = 5,
+    /* There is no such thing. */
+    WARG_NONE = 6,
+    /* An argument is not of its form, or the log is none that has this call: it is of the other kind, or it was resumed and
+     * has no records. */
+    WARG_BAD_ARGUMENT = 7,
+    /* The key's algorithm is none that the library verifies. */
+    WARG_UNKNOWN_ALGORITHM = 8
+};
+
+/* The kinds of logs. */
+enum warg_kind {
+    /* The log of a package: its releases. */
+    WARG_PACKAGE = 0,
+    /* The log of a registry's operators: its namespaces. */
+    WARG_OPERATOR = 1
+};
+
+/* The trees of a registry, on which proofs are. */
+enum warg_tree {
+    /* The log of all records: proofs of inclusion and of consistency. */
+    WARG_LOG_TREE = 0,
+    /* The map of the heads of logs: proofs of presence and of absence. */
+    WARG_MAP_TREE = 1
+};
+
+/* How two logs compare, by the contents of their records. */
+enum warg_comparison_case {
+    /* The contents are equal, record for record. */
+    WARG_SAME = 0,
+    /* The right log begins with all of the left one, and goes on at `left`, which is `right`. */
+    WARG_LEFT_IS_PREFIX = 1,
+    /* The left log begins with all of the right one, and goes on at `left`, which is `right`. */
+    WARG_RIGHT_IS_PREFIX = 2,
+    /* The logs fork: `left`, which is `right`, is the first place where both have a record and the contents differ. */
+    WARG_FORK = 3,
+    /* The heads are one and the contents are not: the record at the place `left` of the left log and that at `right` of the right one
+     * differ, and have one id. */
+    WARG_COLLISION = 4
+};
+
+/* A log, or none: all bytes 0 is none. */
+struct warg_log {
+    void *at;
+    bool is_open;
+};
+
+/* How many bytes of a question are the key's text, the message, and the signature's text. They stand one behind the other. */
+struct warg_asked {
+    size_t key_len;
+    size_t message_len;
+    size_t signature_len;
+};
+
+/* How many bytes of a kept record are its envelope, and the text of its id behind it. */
+struct warg_kept {
+    size_t envelope_len;
+    size_t id_len;
+};
+
+/* A release. Its texts stand one behind the other: the version, the id of the record that released it, the id of the key that signed that
+ * record, and then the content's digest; or, if it was yanked, the id of the key that signed the yank. Times are those of the records, in
+ * seconds and nanoseconds since 1970; those of the yank are 0 where there is none. */
+struct warg_release {
+    size_t version_len;
+    size_t record_id_len;
+    size_t key_id_len;
+    /* The length of the digest's text, or of the id of the key that yanked. */
+    size_t state_len;
+    int64_t seconds;
+    int64_t yanked_seconds;
+    uint32_t nanos;
+    uint32_t yanked_nanos;
+    /* 1 if the release was yanked, otherwise 0. */
+    uint32_t is_yanked;
+};
+
+/* The place of an entry, counted from 0: of its record in the log, and of the entry in the record. */
+struct warg_link {
+    size_t record_index;
+    size_t entry_index;
+};
+
+/* How two logs compare, and where. */
+struct warg_comparison {
+    /* One of `enum warg_comparison_case`. */
+    uint32_t is;
+    size_t left;
+    size_t right;
+};
+
+/* Opening and closing. */
+
+/* Begins a log of no records, of one of `enum warg_kind`. A log that was open is closed first.
+ *   WARG_OUT_OF_MEMORY, WARG_BAD_ARGUMENT (no such kind): the log is as it was, open if it was open. */
+uint32_t warg_open(struct warg_log *log, uint32_t kind);
+
+/* Closes a log and gives its memory back: it is none then. A log that is none stays so; closing twice is harmless. */
+void warg_close(struct warg_log *log);
+
+/* Appending, by what the caller says of a signature, or by what the library verifies itself. */
+
+/* Says what has to be verified before the record of an envelope can be appended. Changes nothing, but a log that has its records keeps a
+ * copy of the envelope until the next append, which then need not read it again.
+ *   WARG_OK: the record is lawful exactly if the signature that stands in the question belongs to the message under the key. The question
+ *     is in `bytes`: the key's text, the message, the signature's text; `used` and `asked` say how much of it is what.
+ *   WARG_TOO_SMALL: as WARG_OK, but there was no room for the question. `asked` is written too.
+ *   WARG_NO_ENVELOPE: the bytes are no envelope. The error's text is in `bytes`.
+ *   WARG_REFUSED: the record is unlawful, whatever its signature. The error's text is in `bytes`; an envelope's length and 512 more are
+ *     room enough for it where key ids are short. */
+uint32_t warg_ask(struct warg_log *log, const uint8_t *envelope, size_t envelope_len, uint8_t *bytes, size_t bytes_len,
+                  size_t *used, struct warg_asked *asked);
+
+/* Appends the record of an envelope, by the caller's word for its signature. `question` and `asked` are what `warg_ask` gave for it, and
+ * `belongs` says whether the signature belongs to the message under the key.
+ *   WARG_OK: the record is the log's last one now. Where the caller's yeses were right, a log that was opened has at any time just the
+ *     records that were taken, in order, each lawful after those before it, and a resumed one goes on by just these.
+ *   WARG_NO_ENVELOPE: as of `warg_ask`. The error's text is in `text`.
+ *   WARG_REFUSED: the record is unlawful after those of the log; the error's text is in `text`. So is every record whose `belongs` is
+ *     false, and one whose question is not the one that is passed (also where another record was appended in between, if that changes
+ *     the key): they are refused as wrong signatures.
+ *   WARG_BAD_ARGUMENT (BadQuestion): the bytes are no question: the lengths reach beyond its end, or the key or the signature can't be
+ *     read. */
+uint32_t warg_append(struct warg_log *log, const uint8_t *envelope, size_t envelope_len, const uint8_t *question,
+                     size_t question_len, const struct warg_asked *asked, bool belongs, uint8_t *text, size_t text_len,
+                     size_t *used);
+
+/* Appends the record of an envelope, whose signature the library verifies itself: ECDSA on the curve P-256 with SHA-256, which keys and
+ * signatures name `ecdsa-p256`. A key is a point of SEC 1, compressed or not, and a signature is the DER of RFC 3279. No question is asked
+ * before; where one was, the envelope need not be read again.
+ *   WARG_OK: the record is the log's last one now, and lawful, and its signature belongs to it under the key of its signer. A log that was
+ *     opened and had this call alone has at any time just the records that were taken, in order, each lawful after those before it.
+ *   WARG_NO_ENVELOPE: as of `warg_ask`. The error's text is in `text`.
+ *   WARG_REFUSED: the record is unlawful after those of the log, or its signature does not belong. The error's text is in `text`.
+ *   WARG_UNKNOWN_ALGORITHM: the record is lawful exactly if its signature belongs, and its key is of another algorithm. The log is as it
+ *     was: `warg_ask` says what has to be verified, and `warg_append` appends by what the caller found. */
+uint32_t warg_append_signed(struct warg_log *log, const uint8_t *envelope, size_t envelope_len, uint8_t *text, size_t text_len,
+                            size_t *used);
+
+/* Verifying a signature. */
+
+/* Whether a signature belongs to a message under a key, by the texts of the key and of the signature, as they stand in questions:
+ * `ecdsa-p256:` and base64. WARG_OK if it does, WARG_REFUSED if it does not. No log is needed.
+ *   WARG_BAD_ARGUMENT: the key's text can't be read; or it is one of `ecdsa-p256`, and the signature's can't be read.
+ *   WARG_UNKNOWN_ALGORITHM: the key's algorithm is not `ecdsa-p256`. The signature's text was not looked at. */
+uint32_t warg_verify(const uint8_t *key, size_t key_len, const uint8_t *message, size_t message_len, const uint8_t *signature,
+                     size_t signature_len);
+
+/* The records of a log. */
+
+/* The text of the id of the last record.
+ *   WARG_NONE: there was no record yet. */
+uint32_t warg_head(struct warg_log *log, uint8_t *text, size_t text_len, size_t *used);
+
+/* How many records the log has.
+ *   WARG_BAD_ARGUMENT: the log was resumed. */
+uint32_t warg_length(struct warg_log *log, size_t *length);
+
+/* The record at a place, counted from 0: its envelope, and the text of its id behind it. The envelope is written anew, so it may differ from
+ * the bytes that were appended: it has the contents, the key id and the signature that came, and nothing else that stood there, such as fields
+ * that no envelope has. Its record has the same id.
+ *   WARG_NONE: the log has no record at this place.
+ *   WARG_BAD_ARGUMENT (Resumed): the log was resumed. */
+uint32_t warg_record(struct warg_log *log, size_t place, uint8_t *bytes, size_t bytes_len, size_t *used, struct warg_kept *kept);
+
+/* The id of an envelope's record. */
+
+/* The text of the id of an envelope's record, of one of `enum warg_kind`. No log is needed, and the record need not be lawful.
+ *   WARG_NO_ENVELOPE: the error's text is in `text`.
+ *   WARG_BAD_ARGUMENT (NoKind): no such kind. */
+uint32_t warg_id(uint32_t kind, const uint8_t *envelope, size_t envelope_len, uint8_t *text, size_t text_len, size_t *used);
+
+/* The releases of a package log. */
+
+/* The release that is not yanked, meets the requirement (as ">=1.2, <2"), and has the greatest version.
+ *   WARG_NONE: there is none.
+ *   WARG_BAD_ARGUMENT: the text is no requirement (BadRequirement), or the log is one of operators (WrongKind). */
+uint32_t warg_latest(struct warg_log *log, const uint8_t *requirement, size_t requirement_len, uint8_t *text, size_t text_len,
+                     size_t *used, struct warg_release *release);
+
+/* The release of a version, yanked or not.
+ *   WARG_NONE: the version was not released.
+ *   WARG_BAD_ARGUMENT: the text is no version (BadVersion), or the log is one of operators (WrongKind). */
+uint32_t warg_release(struct warg_log *log, const uint8_t *version, size_t version_len, uint8_t *text, size_t text_len,
+                      size_t *used, struct warg_release *release);
+
+/* The release at a place, counted from 0, in the order in which they were released; those of a resumed log come first, by the bytes of their
+ * versions.
+ *   WARG_NONE: there are not so many releases.
+ *   WARG_BAD_ARGUMENT (WrongKind): the log is one of operators. */
+uint32_t warg_releases(struct warg_log *log, size_t place, uint8_t *text, size_t text_len, size_t *used,
+                       struct warg_release *release);
+
+/* The namespaces of an operator log. */
+
+/* What a namespace is. `is_imported` is 0 where this registry defines it, and `text` is empty; it is 1 where its packages are those of another
+ * registry, and `text` is that one's name.
+ *   WARG_NONE: the log has no such namespace.
+ *   WARG_BAD_ARGUMENT: the name is no UTF-8 (NotUtf8), or the log is one of a package (WrongKind). */
+uint32_t warg_namespace(struct warg_log *log, const uint8_t *name, size_t name_len, uint8_t *text, size_t text_len, size_t *used,
+                        uint32_t *is_imported);
+
+/* Keys, and what they may do. A key id is the fingerprint of a key, and permissions are `release` and `yank` of package logs, and
+ * `commit`, `defineNamespace` and `importNamespace` of operator logs. */
+
+/* Whether a key id holds a permission: WARG_OK if it does, WARG_NONE if it does not.
+ *   WARG_BAD_ARGUMENT: the key id is no UTF-8, or logs of this kind have no such permission. */
+uint32_t warg_holds(struct warg_log *log, const uint8_t *key_id, size_t key_id_len, const uint8_t *permission,
+                    size_t permission_len);
+
+/* The permissions of a key id, with a space between two: no text where it holds none.
+ *   WARG_NONE: the log does not know the key id.
+ *   WARG_BAD_ARGUMENT (NotUtf8): the key id is no UTF-8. */
+uint32_t warg_permissions(struct warg_log *log, const uint8_t *key_id, size_t key_id_len, uint8_t *text, size_t text_len,
+                          size_t *used);
+
+/* The text of the key of a key id.
+ *   WARG_NONE: the log does not know the key.
+ *   WARG_BAD_ARGUMENT (NotUtf8): the key id is no UTF-8. */
+uint32_t warg_key(struct warg_log *log, const uint8_t *key_id, size_t key_id_len, uint8_t *text, size_t text_len, size_t *used);
+
+/* By which entries keys came to hold permissions. */
+
+/* By which entries a key id came to hold a permission, from the log's first entry on. `links_len` is how many links there is room for, and
+ * `used` how many there are; at WARG_TOO_SMALL, how many there have to be room for.
+ *   WARG_NONE: the key id does not hold the permission.
+ *   WARG_BAD_ARGUMENT: as of `warg_holds`, or the log was resumed. */
+uint32_t warg_chain(struct warg_log *log, const uint8_t *key_id, size_t key_id_len, const uint8_t *permission,
+                    size_t permission_len, struct warg_link *links, size_t links_len, size_t *used);
+
+/* Two logs. */
+
+/* Compares the records of two logs. They are two: one log may not be passed twice.
+ *   WARG_BAD_ARGUMENT: one is of a package and one of operators, or one was resumed. */
+uint32_t warg_compare(struct warg_log *left, struct warg_log *right, struct warg_comparison *comparison);
+
+/* Saving a state, and going on from one. */
+
+/* The state of the log as a text of JSON: all that further records are judged by, and that is looked up, but no records.
+ *   WARG_NONE: a time of the state lies before 1970, which its text can't say. */
+uint32_t warg_save(struct warg_log *log, uint8_t *text, size_t text_len, size_t *used);
+
+/* Goes on from a saved state of one of `enum warg_kind`. A log that was open is closed first. Of a resumed log nothing is known of its
+ * records, those that are appended to it included: `warg_length`, `warg_record`, `warg_chain` and `warg_compare` are not for it. All else is as if its
+ * records were there. Whether the text is what was saved is the caller's to keep.
+ *   WARG_BAD_ARGUMENT: no such kind (NoKind), or the text is no saved state of this kind (NotJson, WrongType, Missing, BadText,
+ *     TimeBeforeEpoch, TimeOutOfRange, Incoherent). The log is as it was. */
+uint32_t warg_resume(struct warg_log *log, uint32_t kind, const uint8_t *saved, size_t saved_len, uint8_t *text, size_t text_len,
+                     size_t *used);
+
+/* What a registry proves of its log and its map. These are functions of their arguments alone. Roots are texts of hashes (`sha256:` and 64
+ * digits of hex), ids are texts of ids, proofs are texts of base64.
+ *   WARG_OK: the proof holds. What that is worth is said of each call: there, two strings collide if they differ and have one hash, and are
+ *     hashed at one place on two ways to the root, the proof's and the log's or the map's own. No call knows whose root it is, nor whether
+ *     a log of this root has this length: so a log's length and root have to be signed together, and the map's root with them.
+ *   WARG_REFUSED: it does not hold.
+ *   WARG_BAD_ARGUMENT: a text is not of its form. `warg_proof_fault` says what is wrong with a proof's.
+ *   WARG_OUT_OF_MEMORY: nothing is said. The texts of the hashes are of their form. */
+
+/* That the leaf of a log's record stands at a place of the registry's log, which has `length` leaves and this root.
+ *   WARG_OK: every log of this length and root has the leaf at this place, or two strings collide. */
+uint32_t warg_verify_inclusion(const uint8_t *log_id, size_t log_id_len, const uint8_t *record_id, size_t record_id_len,
+                               uint64_t place, uint64_t length, const uint8_t *root, size_t root_len, const uint8_t *proof,
+                               size_t proof_len);
+
+/* That the registry's log of `new_length` leaves begins with the one of `old_length` leaves.
+ *   WARG_OK: every log of the new length and root begins with one of the old length and root, or two strings collide. */
+uint32_t warg_verify_consistency(uint64_t old_length, const uint8_t *old_root, size_t old_root_len, uint64_t new_length,
+                                 const uint8_t *new_root, size_t new_root_len, const uint8_t *proof, size_t proof_len);
+
+/* That the registry's map says that a log's last record is this one.
+ *   WARG_OK: every map of this root says so, or two strings collide. */
+uint32_t warg_verify_presence(const uint8_t *log_id, size_t log_id_len, const uint8_t *record_id, size_t record_id_len,
+                              const uint8_t *root, size_t root_len, const uint8_t *proof, size_t proof_len);
+
+/* That the registry's map says nothing of a log.
+ *   WARG_OK: no map of this root says anything of the log, or two strings collide. */
+uint32_t warg_verify_absence(const uint8_t *log_id, size_t log_id_len, const uint8_t *root, size_t root_len, const uint8_t *proof,
+                             size_t proof_len);
+
+/* What is wrong with the text of a proof. */
+
+/* The name of what is wrong with the text of a proof on one of `enum warg_tree`, so that a caller can say it: TooLong, BadBase64, BadLength
+ * or EmptySibling.
+ *   WARG_NONE: nothing is wrong: it is the text of a proof, whatever that shows.
+ *   WARG_BAD_ARGUMENT (NoTree): no such tree. */
+uint32_t warg_proof_fault(uint32_t tree, const uint8_t *proof, size_t proof_len, uint8_t *text, size_t text_len, size_t *used);
+
+/* The names of statuses. */
+
+/* The name of one of `enum warg_status`: Ok, NotOpen, OutOfMemory, TooSmall, NoEnvelope, Refused, None, BadArgument or UnknownAlgorithm.
+ *   WARG_NONE: the number is no status. */
+uint32_t warg_status_name(uint32_t number, uint8_t *text, size_t text_len, size_t *used);
+
+/* The library's version. */
+
+/* The library's version, as "1.2.3". */
+uint32_t warg_version(uint8_t *text, size_t text_len, size_t *used);
+
+#ifdef __cplusplus
+}
+#endif
+#endif

@@ -1,0 +1,331 @@
+"""Tests of tools/packages: versions, copies, and what is read off a library."""
+
+import contextlib
+import hashlib
+import io
+import os
+import pathlib
+import re
+import runpy
+import shutil
+import struct
+import subprocess
+import sys
+import tarfile
+import tempfile
+import unittest
+from collections.abc import Iterator
+from unittest import mock
+
+TOOLS = pathlib.Path(__file__).resolve().parents[1]
+sys.path.insert(0, str(TOOLS))
+
+from packages import archive, copies, debian, elf, trees, versions
+from packages.targets import TARGETS, Target
+
+ROOT = TOOLS.parent
+RELEASE = runpy.run_path(str(TOOLS / "release"), run_name="release")
+
+
+@contextlib.contextmanager
+def clean() -> Iterator[pathlib.Path]:
+    """A folder of its own."""
+    with tempfile.TemporaryDirectory() as folder:
+        yield pathlib.Path(folder)
+
+
+class Versions(unittest.TestCase):
+    """The version, and the files that name it."""
+
+    def test_binary_versions(self) -> None:
+        """The numbers that may change the calls: below 1.0.0 the second one too."""
+        wanted = {"0.1.0": "0.1", "0.12.3": "0.12", "0.0.1": "0.0", "1.2.3": "1", "10.0.1": "10"}
+        self.assertEqual({it: versions.binary_version(it) for it in wanted}, wanted)
+        self.assertEqual(versions.soname("0.1.7"), "libwarg.so.0.1")
+
+    def test_files(self) -> None:
+        """All name one version, and one that names another is told, and made right."""
+        rust = {"bindings/rust/Cargo.toml", "bindings/rust/Cargo.lock"}
+        self.assertEqual(set(versions.NAMED), {*rust, "bindings/python/src/weoldrin/_version.py"})
+        self.assertEqual(versions.faults(), [])
+        self.assertEqual(versions.changed(), versions.of_library())
+        for name in versions.NAMED:
+            with tempfile.TemporaryDirectory() as folder:
+                for it in versions.NAMED:
+                    text = (TOOLS.parent / it).read_text(encoding="utf-8")
+                    path = pathlib.Path(folder) / it
+                    path.parent.mkdir(parents=True, exist_ok=True)
+                    path.write_text(text.replace(versions.changed(), "9.9.9") if it == name else text, encoding="utf-8")
+                with mock.patch.object(versions, "ROOT", pathlib.Path(folder)):
+                    self.assertEqual(versions.faults(), [f"{name} names another version than CHANGELOG.md"])
+                    versions.write()
+                    self.assertEqual(versions.faults(), [])
+
+    def test_none(self) -> None:
+        """A file that names no version is told, and none is written."""
+        with clean() as root:
+            for it in versions.NAMED:
+                (root / it).parent.mkdir(parents=True, exist_ok=True)
+                (root / it).write_text("nothing", encoding="utf-8")
+            with mock.patch.object(versions, "ROOT", root):
+                self.assertEqual(len(versions.faults()), len(versions.NAMED))
+                self.assertRaisesRegex(SystemExit, "Cargo.toml names no version", versions.write)
+                for name, call in (("CHANGELOG", versions.changed), ("LIBRARY", versions.of_library)):
+                    with mock.patch.object(versions, name, root / "bindings/rust/Cargo.toml"):
+                        self.assertRaisesRegex(SystemExit, "names no version", call)
+
+
+class Link(unittest.TestCase):
+    """The name by which programs look for the library, beside the one of dist/."""
+
+    def test_link(self) -> None:
+        """It leads to the library; none, another file, or a link to something else, is told."""
+        name = versions.soname(versions.of_library())
+        with clean() as root:
+            faults, link = RELEASE["faults_of_packages"], root / name
+            with mock.patch.dict(faults.__globals__, library_link=lambda of: link, ROOT=root):
+                told = [f"{name} is no link to libwarg.so"]
+                self.assertEqual(faults(), told)
+                link.write_text("another file")
+                self.assertEqual(faults(), told)
+                link.unlink()
+                link.symlink_to("libwarg.so.0")
+                self.assertEqual(faults(), told)
+                link.unlink()
+                link.symlink_to("libwarg.so")
+                self.assertEqual(faults(), [])
+        of = RELEASE["PRODUCTS"]["libwarg"]
+        self.assertEqual(RELEASE["library_link"](of), ROOT / "dist/x86_64-linux" / name)
+
+    def test_made(self) -> None:
+        """It is made anew, without those of earlier versions, and then the header and the copies are."""
+        makes, done = RELEASE["link_library"], mock.Mock()
+        with clean() as root:
+            (root / "libwarg.so.0.0").symlink_to("libwarg.so")
+            changed = {"library_link": lambda of: root / "libwarg.so.0.1", "write_copies": done.copies}
+            with mock.patch.dict(makes.__globals__, changed), mock.patch("subprocess.run", done.run):
+                makes(None)
+            self.assertEqual({it.name: str(it.readlink()) for it in root.iterdir()}, {"libwarg.so.0.1": "libwarg.so"})
+        self.assertEqual(done.mock_calls, [mock.call.run([ROOT / "tools/c_header"], check=True), mock.call.copies()])
+
+    def status(self, *words: str) -> int:
+        """The status of the tool, run with these words."""
+        with mock.patch.object(sys, "argv", ["release", *words]), contextlib.redirect_stdout(io.StringIO()):
+            return int(RELEASE["main"]())
+
+    def test_check(self) -> None:
+        """A check of the library is one of the packages too, and a check of a program alone is none."""
+        changed = {"faults": lambda of: [], "faults_of_packages": lambda: ["a fault"]}
+        with mock.patch.dict(RELEASE["main"].__globals__, changed):
+            for words, status in ((("libwarg",), 1), ((), 1), (("weoldrin",), 0)):
+                self.assertEqual(self.status("--check", *words), status)
+
+    def test_words(self) -> None:
+        """The copies alone are written by one word, and the files of a release by another."""
+        done = mock.Mock()
+        done.archive.return_value = 7
+        with mock.patch.object(versions, "write", done.versions), mock.patch.object(copies, "write", done.copies):
+            with mock.patch.object(archive, "write", done.archive):
+                self.assertEqual((self.status("--copies"), self.status("--archive", "a")), (0, 7))
+        of_copies = [mock.call.versions(), mock.call.copies()]
+        self.assertEqual(done.mock_calls, [*of_copies, mock.call.archive(pathlib.Path("a"))])
+
+    def test_told(self) -> None:
+        """What is said of the versions and of the copies is said of the packages."""
+        with mock.patch.object(versions, "faults", lambda: ["a"]), mock.patch.object(copies, "faults", lambda: ["b"]):
+            self.assertEqual(RELEASE["faults_of_packages"](), ["a", "b"])
+
+
+class Copies(unittest.TestCase):
+    """The copies in the packages."""
+
+    def test_copies(self) -> None:
+        """Each is what it is one of; one that is another, or is not there, is told, and made anew."""
+        self.assertEqual(copies.faults(), [])
+        wanted = {f"{package}/{it}": it for package in ("go", "python", "rust") for it in ("LICENSE", "NOTICE")}
+        wanted |= {it: "include/warg.h" for it in ("go/warg.h", "rust/include/warg.h")}
+        for target in (it for it in TARGETS if it.is_there()):
+            library = f"dist/{target.name}/libwarg.a"
+            wanted |= {f"go/libwarg_linux_{target.go}.a": library, f"rust/lib/{target.name}/libwarg.a": library}
+        seen = {str(to.relative_to(ROOT / "bindings")): str(of.relative_to(ROOT)) for to, of in copies.copies().items()}
+        self.assertEqual(seen, wanted)
+        with tempfile.TemporaryDirectory() as folder:
+            root = pathlib.Path(folder)
+            of, other, missing = root / "of", root / "other", root / "a/missing"
+            of.write_text("of")
+            other.write_text("other")
+            with mock.patch.object(copies, "ROOT", root):
+                with mock.patch.object(copies, "copies", lambda: {other: of, missing: of}):
+                    told = copies.faults()
+                    copies.write()
+                    self.assertEqual(copies.faults(), [])
+        self.assertEqual([it.split(" is not ")[0] for it in told], ["other", "a/missing"])
+
+
+class Elf(unittest.TestCase):
+    """What is read off a library."""
+
+    def test_needs(self) -> None:
+        """By the programs of dist/, as readelf has them."""
+        for name, soname in (("libwarg.so", versions.soname(versions.of_library())), ("weoldrin", None)):
+            needs = elf.needs(TOOLS.parent / "dist/x86_64-linux" / name)
+            self.assertEqual((needs.machine, needs.soname, needs.libraries), ("x86_64", soname, ("libc.so.6",)))
+            self.assertEqual(needs.glibc, {"libwarg.so": (2, 14), "weoldrin": (2, 34)}[name])
+
+    @unittest.skipUnless(shutil.which("readelf"), "readelf is not installed")
+    def test_readelf(self) -> None:
+        """Programs that need more libraries, and one that has a fixed address, as readelf has them."""
+        for path in filter(pathlib.Path.is_file, map(pathlib.Path, (sys.executable, "/usr/bin/python3", "/bin/sh"))):
+            words = ["readelf", "--wide", "--dynamic", "--version-info", str(path)]
+            said = subprocess.run(words, stdout=subprocess.PIPE, text=True, check=True).stdout
+            needed = [(int(first), int(second)) for first, second in re.findall(r"Name: GLIBC_(\d+)\.(\d+)", said)]
+            libraries = tuple(re.findall(r"\(NEEDED\) .*\[(.*)\]", said))
+            self.assertEqual(elf.needs(path)[1:], (None, libraries, max(needed)))
+            file = elf._File(path.read_bytes())
+            section = dict(file.dynamic())
+            named = file.versions(section, file.at(section[elf._STRTAB]))
+            self.assertEqual(named, re.findall(r" Name: (\S+) +Flags: ", said))
+
+    def test_machines(self) -> None:
+        data = bytearray((ROOT / "dist/x86_64-linux/libwarg.so").read_bytes())
+        with clean() as root:
+            for number, name in ((62, "x86_64"), (183, "aarch64"), (8, "8")):
+                struct.pack_into("<H", data, 18, number)
+                (root / "it").write_bytes(data)
+                self.assertEqual(elf.needs(root / "it").machine, name)
+
+    def test_names(self) -> None:
+        """A version is compared by its numbers, and a name without any is passed over."""
+        names = {
+            (2, 17): ["GLIBC_2.2.5", "GLIBC_2.17", "GLIBC_2.4", "GLIBC_PRIVATE", "GLIBC_ABI_DT_RELR", "GCC_4.2"],
+            (2, 0): ["GLIBC_PRIVATE", "GCC_12.0"],
+        }
+        for wanted, seen in names.items():
+            with mock.patch.object(elf._File, "versions", lambda self, section, names, seen=seen: seen):
+                self.assertEqual(elf.needs(ROOT / "dist/x86_64-linux/libwarg.so").glibc, wanted)
+
+    def test_others(self) -> None:
+        """A file of another form is none."""
+        with tempfile.TemporaryDirectory() as folder:
+            path = pathlib.Path(folder) / "it"
+            for data in (b"", b"#!/bin/sh\n", b"\x7fELF\x01\x01" + struct.pack("60x")):
+                path.write_bytes(data)
+                self.assertRaises(ValueError, elf.needs, path)
+
+
+class Targets(unittest.TestCase):
+    """The machines, as others name them."""
+
+    def test_names(self) -> None:
+        seen = {it.name: (it.go, it.debian, it.multiarch) for it in TARGETS}
+        wanted = {"x86_64-linux": ("amd64", "amd64", "x86_64-linux-gnu")}
+        wanted["aarch64-linux"] = ("arm64", "arm64", "aarch64-linux-gnu")
+        self.assertEqual(seen, wanted)
+
+
+class Trees(unittest.TestCase):
+    """What is packed."""
+
+    def test_order(self) -> None:
+        """A folder stands before what it has, and names are in the order of their bytes."""
+        with tempfile.TemporaryDirectory() as folder:
+            root = pathlib.Path(folder)
+            for it in ("a/b", "a.c", "a/B", "Z", "ä"):
+                (root / it).parent.mkdir(exist_ok=True)
+                (root / it).touch()
+            seen = [str(it.relative_to(root)) for it in trees.files(root)]
+        self.assertEqual(seen, ["Z", "a", "a/B", "a/b", "a.c", "ä"])
+
+    def test_links(self) -> None:
+        """A link to a folder is one file, and nothing that lies behind it is packed."""
+        with clean() as root:
+            (root / "behind").mkdir()
+            (root / "behind/file").touch()
+            (root / "tree").mkdir()
+            (root / "tree/link").symlink_to("../behind")
+            (root / "tree/nowhere").symlink_to("nothing")
+            self.assertEqual([it.name for it in trees.files(root / "tree")], ["link", "nowhere"])
+            archive.pack(root / "tree", "it", root / "it.tar.gz")
+            with tarfile.open(root / "it.tar.gz") as tar:
+                seen = [(it.name, it.linkname, it.mode) for it in tar.getmembers()]
+        links = [("it/link", "../behind", 0o777), ("it/nowhere", "nothing", 0o777)]
+        self.assertEqual(seen, [("it", "", 0o755), *links])
+
+    def test_bytes(self) -> None:
+        """A tar file is of names, of what the files are, and of who may run them, and of nothing else."""
+        seen = set()
+        for name, (file, program, folder), time in (("one", (0o644, 0o755, 0o755), 1), ("b", (0o600, 0o700, 0o700), 2)):
+            with clean() as root:
+                (root / name / "folder").mkdir(parents=True)
+                for it, mode in (("file", file), ("program", program)):
+                    (root / name / it).write_text(it)
+                    (root / name / it).chmod(mode)
+                for path in (*(root / name).iterdir(), root / name):
+                    os.utime(path, (time, time))
+                (root / name / "folder").chmod(folder)
+                (root / name).chmod(folder)
+                archive.pack(root / name, "it", root / f"{name}.tar.gz")
+                seen.add(hashlib.sha256((root / f"{name}.tar.gz").read_bytes()).hexdigest())
+        self.assertEqual(len(seen), 1)
+
+    def test_time(self) -> None:
+        with mock.patch.dict("os.environ", {"SOURCE_DATE_EPOCH": "7"}):
+            self.assertEqual(archive.epoch(), 7)
+        with mock.patch.dict("os.environ", clear=True):
+            self.assertEqual(archive.epoch(), 315532800)
+
+
+class Releases(unittest.TestCase):
+    """The files of a release, and what is left out."""
+
+    def said(self, targets: list[Target], program: str | None) -> tuple[list[str], list[str]]:
+        """The files that are written for these machines, and what is said, where this is `dpkg-deb`."""
+        said = io.StringIO()
+        with clean() as root, contextlib.redirect_stdout(said), mock.patch("shutil.which", lambda it: program):
+            with mock.patch.object(archive, "TARGETS", targets), mock.patch.object(debian, "write") as packed:
+                self.assertEqual(archive.write(root / "a/release"), 0)
+                self.assertEqual(packed.call_count, len(targets) if program else 0)
+            return sorted(it.name for it in (root / "a/release").iterdir()), said.getvalue().splitlines()
+
+    def test_without_dpkg(self) -> None:
+        target = TARGETS[0]
+        for program in (None, "/usr/bin/dpkg-deb"):
+            files, said = self.said([target], program)
+            name = f"weoldrin-{versions.of_library()}-{target.name}.tar.gz"
+            self.assertEqual(files, ["SHA256SUMS", name])
+            told = ["left out: dpkg-deb, which makes the packages for Debian, is not installed"]
+            self.assertEqual(said[:-1], [] if program else told)
+            self.assertRegex(said[-1], rf"^[0-9a-f]{{64}}  {name}$")
+
+    def test_sums(self) -> None:
+        """They are in the order of the names, and none is that of the sums."""
+        with clean() as root:
+            for it in ("b", "a", "c", "SHA256SUMS"):
+                (root / it).write_text(it)
+            lines = archive.sums_of(root).splitlines()
+        self.assertEqual(lines, [f"{hashlib.sha256(it.encode()).hexdigest()}  {it}" for it in "abc"])
+
+    @unittest.skipUnless(shutil.which("dpkg-deb"), "dpkg-deb is not installed")
+    def test_without_programs(self) -> None:
+        """Of a machine that dist/ has a library and no programs for, there is no package of programs. All of the others
+        is root's, whoever made it."""
+
+        def install(target: Target, folder: pathlib.Path, *parts: str, **places: str) -> None:
+            (folder / "usr/bin").mkdir(parents=True)
+            (folder / "usr/bin/weoldrin-sign").write_text("#!/usr/bin/env python3\n")
+            if os.geteuid() == 0:
+                os.chown(folder / "usr/bin/weoldrin-sign", 1, 1)
+
+        said, target = io.StringIO(), TARGETS[1]
+        with clean() as root, contextlib.redirect_stdout(said), mock.patch.object(trees, "install", install):
+            debian.write(target, root, 0)
+            files = {it.name.partition("_")[0] for it in root.iterdir()}
+            for it in root.iterdir():
+                listed = subprocess.run(["dpkg-deb", "-c", it], stdout=subprocess.PIPE, text=True, check=True).stdout
+                self.assertEqual({line.split()[1] for line in listed.splitlines()}, {"root/root"})
+        self.assertEqual(files, {it.name for it in debian.packages()} - {"weoldrin"})
+        self.assertEqual(said.getvalue(), f"left out: dist/ has no programs for {target.name}\n")
+
+
+if __name__ == "__main__":
+    unittest.main()
