@@ -75,37 +75,40 @@ class Versions(unittest.TestCase):
                         self.assertRaisesRegex(SystemExit, "names no version", call)
 
 
-class Link(unittest.TestCase):
-    """The name by which programs look for the library, beside the one of dist/."""
+class Named(unittest.TestCase):
+    """The shared library by the name by which programs look for it, beside the one of dist/."""
 
-    def test_link(self) -> None:
-        """It leads to the library; none, another file, or a link to something else, is told."""
+    def test_same(self) -> None:
+        """It is the same file; none, another file, or a link, is told."""
         name = versions.soname(versions.of_library())
         with clean() as root:
-            faults, link = RELEASE["faults_of_packages"], root / name
-            with mock.patch.dict(faults.__globals__, library_link=lambda of: link, ROOT=root):
-                told = [f"{name} is no link to libwarg.so"]
+            faults, named = RELEASE["faults_of_packages"], root / name
+            (root / "libwarg.so").write_text("the library")
+            with mock.patch.dict(faults.__globals__, named_library=lambda of: named, ROOT=root):
+                told = [f"{name} is not libwarg.so once more"]
                 self.assertEqual(faults(), told)
-                link.write_text("another file")
+                named.write_text("another file")
                 self.assertEqual(faults(), told)
-                link.unlink()
-                link.symlink_to("libwarg.so.0")
+                named.unlink()
+                named.symlink_to("libwarg.so")
                 self.assertEqual(faults(), told)
-                link.unlink()
-                link.symlink_to("libwarg.so")
+                named.unlink()
+                named.write_text("the library")
                 self.assertEqual(faults(), [])
         of = RELEASE["PRODUCTS"]["libwarg"]
-        self.assertEqual(RELEASE["library_link"](of), ROOT / "dist/x86_64-linux" / name)
+        self.assertEqual(RELEASE["named_library"](of), ROOT / "dist/x86_64-linux" / name)
 
     def test_made(self) -> None:
         """It is made anew, without those of earlier versions, and then the copies are."""
-        makes, done = RELEASE["link_library"], mock.Mock()
+        makes, done = RELEASE["name_library"], mock.Mock()
         with clean() as root:
-            (root / "libwarg.so.0.0").symlink_to("libwarg.so")
-            changed = {"library_link": lambda of: root / "libwarg.so.0.1", "write_copies": done.copies}
+            (root / "libwarg.so").write_text("the library")
+            (root / "libwarg.so.0.0").write_text("an older one")
+            changed = {"named_library": lambda of: root / "libwarg.so.0.1", "write_copies": done.copies}
             with mock.patch.dict(makes.__globals__, changed):
                 makes(None)
-            self.assertEqual({it.name: str(it.readlink()) for it in root.iterdir()}, {"libwarg.so.0.1": "libwarg.so"})
+            found = {it.name: it.read_text() for it in root.iterdir() if not it.is_symlink()}
+            self.assertEqual(found, {"libwarg.so": "the library", "libwarg.so.0.1": "the library"})
         self.assertEqual(done.mock_calls, [mock.call.copies()])
 
     def status(self, *words: str) -> int:
