@@ -36,6 +36,11 @@ exec {clang} "$@"
 """
 
 
+# A module that has a memory of 64-bit addresses, and nothing else.
+PROBE = "process.exit(WebAssembly.validate(Uint8Array.of(0, 97, 115, 109, 1, 0, 0, 0, 5, 3, 1, 4, 1)) ? 0 : 1)"
+FLAG = "--experimental-wasm-memory64"
+
+
 class NoModule(Exception):
     """The text is none that can be written for WebAssembly, and why."""
 
@@ -77,6 +82,18 @@ def retargeted(text: str) -> str:
 def exported(header: pathlib.Path) -> list[str]:
     """The names of the functions that the header declares."""
     return sorted(set(re.findall(r"^(?:uint32_t|void) (warg_\w+)\(", header.read_text(encoding="utf-8"), re.M)))
+
+
+def node_words() -> list[str]:
+    """The words that begin a Node with 64-bit memory, which it may have behind a flag; none where there is no such."""
+    for words in (["node"], ["node", FLAG]):
+        try:
+            done = subprocess.run([*words, "-e", PROBE], capture_output=True, check=False)
+        except OSError:
+            break
+        if done.returncode == 0:
+            return words
+    return []
 
 
 class Compiler:

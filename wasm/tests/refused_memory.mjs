@@ -84,8 +84,8 @@ const calls = (it) => ({
   "warg_save of operators": () => operators.toJson(),
   warg_verify_inclusion: () => library.verifyInclusion(root, root, 5, 2 ** 40, root, proof),
   warg_verify_consistency: () => library.verifyConsistency(3, root, 2 ** 40, root, proof),
-  warg_verify_presence: () => library.verifyPresence(root, root, root, Buffer.alloc(32).toString("base64")),
-  warg_verify_absence: () => library.verifyAbsence(root, root, Buffer.alloc(32).toString("base64")),
+  warg_verify_presence: () => library.verifyPresence(root, root, root, Buffer.alloc(32, 255).toString("base64")),
+  warg_verify_absence: () => library.verifyAbsence(root, root, Buffer.alloc(32, 255).toString("base64")),
   warg_proof_fault: () => library.verifyAbsence(root, root, "x"),
   warg_version: () => library.version(),
 });

@@ -57,27 +57,31 @@ function thrown(name, status, text = "") {
   return new Thrown(text || (status === BAD_ARGUMENT ? MISUSES[name] : undefined));
 }
 
+/** How much room is taken for what is passed, so that what stands behind it begins at a multiple of 8. */
+const roomOf = (passed) => 8 * Math.ceil(passed.byteLength / 8);
+
 /** A piece of the module's memory, which is taken anew where more is needed. */
 class Room {
-  /** @param {Library} library */
-  constructor(library) {
-    this.library = library;
-    this.at = 0n;
-    this.size = 0;
+  /**
+   * @param {(size: number) => bigint} take
+   * @param {(at: bigint) => void} give
+   */
+  constructor(take, give) {
+    Object.assign(this, { take, give, at: 0n, size: 0 });
   }
 
   /** @param {number} size */
   atLeast(size) {
     if (this.size < size) {
       this.giveBack();
-      this.at = this.library.taken(size);
+      this.at = this.take(size);
       this.size = size;
     }
     return this.at;
   }
 
   giveBack() {
-    if (this.size) this.library.givenBack(this.at);
+    if (this.size) this.give(this.at);
     this.size = 0;
   }
 }
@@ -96,18 +100,24 @@ export class Library {
   #room;
   #beside;
   #trap;
+  // Whether a call is under way. One that ended in any other way than by an answer leaves this so.
+  #isCalled = false;
 
   /** @param {WebAssembly.Module} module */
   constructor(module) {
     try {
       this.#instance = new WebAssembly.Instance(module, {});
       this.#view = new Uint8Array(this.#instance.exports.memory.buffer);
+      for (const it of ["host_alloc", "warg_open"]) {
+        if (typeof this.#instance.exports[it] !== "function") throw new TypeError(`it has no call ${it}`);
+      }
     } catch (error) {
       throw new NoLibrary(`NoLibrary: the library can't be begun: ${error}`);
     }
     this.module = module;
-    this.#given = new Room(this);
-    this.#room = new Room(this);
+    const ways = [(size) => this.#take(size), (at) => this.#run("host_free", at)];
+    this.#given = new Room(...ways);
+    this.#room = new Room(...ways);
     this.#beside = this.taken(USED + BESIDE);
   }
 
@@ -123,18 +133,18 @@ export class Library {
 
   /** Whether a call trapped, so that the library is given up. */
   get isGivenUp() {
-    return this.#trap !== undefined;
+    return this.#isCalled || this.#trap !== undefined;
   }
 
   /** How much memory the module has, and how much of it is in use, in bytes. */
   memory() {
-    return { size: this.#bytes().length, used: Number(this.#run("host_used")) };
+    return { size: this.#bytes().length, used: this.#whole(() => Number(this.#run("host_used"))) };
   }
 
   /** @param {number} bytes how much memory the module may have */
   limit(bytes) {
     if (!Number.isSafeInteger(bytes) || bytes <= 0) throw new RangeError("a limit is a whole number of bytes above 0");
-    this.#run("host_limit", BigInt(bytes));
+    this.#whole(() => this.#run("host_limit", BigInt(bytes)));
   }
 
   /** The library's version. */
@@ -192,27 +202,29 @@ export class Library {
 
   /** A handle that is no log: its address. */
   newHandle() {
-    const at = this.taken(16);
-    this.#bytes().fill(0, Number(at), Number(at) + 16);
-    return at;
+    return this.#whole(() => {
+      const at = this.#take(16);
+      this.#bytes().fill(0, Number(at), Number(at) + 16);
+      return at;
+    });
   }
 
   /** Closes the log of a handle and gives both back. A library that is given up is left alone. */
   closeHandle(at) {
     if (this.isGivenUp) return;
-    this.#run("warg_close", at);
-    this.#run("host_free", at);
+    this.#whole(() => {
+      this.#run("warg_close", at);
+      this.#run("host_free", at);
+    });
   }
 
   /** Room of the module's memory. Throws `OutOfMemory`. */
   taken(size) {
-    const at = this.#run("host_alloc", BigInt(size));
-    if (at === 0n) throw new OutOfMemory();
-    return at;
+    return this.#whole(() => this.#take(size));
   }
 
   givenBack(at) {
-    this.#run("host_free", at);
+    this.#whole(() => this.#run("host_free", at));
   }
 
   /**
@@ -234,10 +246,11 @@ export class Library {
    * least 4096 bytes. With `beside` the call is passed, at the end, where to write what else it gives.
    */
   filled(name, passed, { beside = false, room = 0 } = {}) {
-    const [status, bytes] = this.#whole(() => {
+    return this.#whole(() => {
       const words = this.#passed(passed);
       const after = beside ? [this.#beside + BigInt(USED)] : [];
-      let status, used, size = Math.max(room, ROOM);
+      let status, used;
+      let size = Math.max(room, ROOM);
       do {
         const at = this.#room.atLeast(size);
         status = this.#run(`warg_${name}`, ...words, at, BigInt(this.#room.size), this.#beside, ...after);
@@ -247,11 +260,10 @@ export class Library {
       const from = Number(this.#room.at);
       const found = this.#bytes().slice(from, from + used);
       for (const it of [this.#given, this.#room]) if (it.size > KEPT_ROOM) it.giveBack();
-      return [status, found];
+      if (status === OK) return found;
+      if (status === NONE) return null;
+      throw thrown(name, status, textOf(found));
     });
-    if (status === OK) return bytes;
-    if (status === NONE) return null;
-    throw thrown(name, status, textOf(bytes));
   }
 
   /** Where a call writes what it gives beside bytes. */
@@ -268,14 +280,14 @@ export class Library {
 
   // What is passed to a call: numbers as they are, and where bytes and arrays of words were copied to.
   #passed(passed) {
-    const size = passed.reduce((sum, it) => sum + (ArrayBuffer.isView(it) ? (it.byteLength + 15) & ~7 : 0), 16);
+    const size = passed.reduce((sum, it) => sum + (ArrayBuffer.isView(it) ? roomOf(it) : 0), 0);
     let at = this.#given.atLeast(Math.max(size, ROOM));
     const bytes = this.#bytes();
     return passed.flatMap((it) => {
       if (!ArrayBuffer.isView(it)) return [it];
       const here = at;
       bytes.set(bytesOf(it), Number(at));
-      at += BigInt((it.byteLength + 15) & ~7);
+      at += BigInt(roomOf(it));
       return it instanceof BigUint64Array ? [here] : [here, BigInt(it.byteLength)];
     });
   }
@@ -287,27 +299,38 @@ export class Library {
     return this.#view;
   }
 
+  #take(size) {
+    const at = this.#run("host_alloc", BigInt(size));
+    if (at === 0n) throw new OutOfMemory();
+    return at;
+  }
+
   #run(name, ...words) {
-    if (this.isGivenUp) throw new NotOpen("NotOpen: the library trapped before, and its logs are closed");
     try {
       return this.#instance.exports[name](...words);
     } catch (error) {
-      throw this.#giveUp(error);
+      this.#trap = error;
+      throw new Trapped(error);
     }
   }
 
-  // What is done in one piece: where anything but a refusal ends it, as the engine's stack, no one knows what was done.
+  // What is done in one piece. Where anything but an answer or a refusal ends it, as where the engine's stack does in the
+  // midst of this very function, no one knows what was done: the mark stays, and the library is given up.
   #whole(done) {
+    if (this.isGivenUp) throw new NotOpen("NotOpen: the library trapped before, and its logs are closed");
+    this.#isCalled = true;
     try {
-      return done();
+      const found = done();
+      this.#isCalled = false;
+      return found;
     } catch (error) {
-      throw error instanceof WeoldrinError ? error : this.#giveUp(error);
+      if (error instanceof WeoldrinError) {
+        this.#isCalled = false;
+        throw error;
+      }
+      this.#trap = error;
+      throw new Trapped(error);
     }
-  }
-
-  #giveUp(error) {
-    this.#trap = error;
-    return new Trapped(error);
   }
 }
 

@@ -170,8 +170,8 @@ test("where growth is refused, each call says so or does without, and the log is
     save: () => log.toJson(),
     verify_inclusion: () => library.verifyInclusion(root, root, 0, 2 ** 40, root, proof),
     verify_consistency: () => library.verifyConsistency(3, root, 2 ** 40, root, proof),
-    verify_presence: () => library.verifyPresence(root, root, root, proof),
-    verify_absence: () => library.verifyAbsence(root, root, proof),
+    verify_presence: () => library.verifyPresence(root, root, root, Buffer.alloc(32, 255).toString("base64")),
+    verify_absence: () => library.verifyAbsence(root, root, Buffer.alloc(32, 255).toString("base64")),
     proof_fault: () => library.verifyAbsence(root, root, "x"),
     version: () => library.version(),
     open: () => new PackageLog(library).close(),
@@ -285,13 +285,18 @@ test("where the engine's stack ends, the log is closed, and never half changed",
 
 test("a trap is told, and the shared library is another one then", async () => {
   const log = await PackageLog.open();
+  log.appendSigned(made[0]);
   const { library } = log;
-  const found = atTheEnd(() => log.appendSigned(made[0]));
-  assert.ok(library.isGivenUp, "the stack did not end in the library");
-  assert.ok(found.some(({ error }) => error instanceof Trapped && /^Trapped: the library trapped, and its logs are closed: RangeError/.test(String(error))));
+  // What was never given can't be given back: the heap traps.
+  assert.throws(
+    () => library.givenBack(4096n),
+    (error) => error instanceof Trapped && /^Trapped: the library trapped, and its logs are closed: RuntimeError/.test(String(error)),
+  );
+  assert.throws(() => log.head(), NotOpen);
   const next = await PackageLog.open();
   assert.notEqual(next.library, library);
   next.appendSigned(made[0]);
   next.close();
+  log.close();
   log.close();
 });

@@ -1,6 +1,9 @@
 // The grammar of conformance/README.md: the rows and scripts of a file, and the words of a row.
 import { readFileSync } from "node:fs";
 
+// A mark of the byte order is no white space here.
+const stripped = (text) => text.replace(/^[ \t\r\f\v]+|[ \t\r\f\v]+$/g, "");
+
 /** The blocks of a file, without comments and blank lines: a row, or the head of a script with its lines. */
 export function blocks(path) {
   const found = [];
@@ -8,10 +11,10 @@ export function blocks(path) {
   readFileSync(path, "utf8")
     .split("\n")
     .forEach((line, place) => {
-      const stripped = line.trim();
-      if (!isOpen && (!stripped || stripped.startsWith("#"))) return;
-      const goesOn = stripped.endsWith("\\");
-      const text = goesOn ? stripped.slice(0, -1) : stripped;
+      const part = stripped(line);
+      if (!isOpen && (!part || part.startsWith("#"))) return;
+      const goesOn = part.endsWith("\\");
+      const text = goesOn ? part.slice(0, -1) : part;
       if (isOpen) {
         const block = found.at(-1);
         (block.lines.at(-1) ?? block.head).text += text;
@@ -33,7 +36,7 @@ export function rowOf(text) {
     if (inside && sign === "\\") place++;
     else if (sign === '"') inside = !inside;
     else if (!inside && [" = ", " ! "].includes(text.slice(place, place + 3))) {
-      return { question: text.slice(0, place).trim(), wanted: text.slice(place).trim() };
+      return { question: stripped(text.slice(0, place)), wanted: stripped(text.slice(place)) };
     }
   }
   throw new Error(`a row without an answer: ${text}`);
@@ -47,7 +50,7 @@ export const wordsOf = (text) => (text.match(/"(?:[^"\\]|\\.)*"|\S+/g) ?? []).ma
 
 /** A text as it stands in an answer: a JSON string where it has to be. */
 export const quoted = (text) =>
-  text && text === text.trim() && !/["\\\x00-\x1f\x7f]/.test(text) ? text : JSON.stringify(text);
+  text && text === stripped(text) && !/["\\\x00-\x1f\x7f]/.test(text) ? text : JSON.stringify(text);
 
 const byBytes = (left, right) => Buffer.compare(Buffer.from(left), Buffer.from(right));
 

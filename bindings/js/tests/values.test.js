@@ -11,6 +11,8 @@ import * as trees from "./trees.js";
 
 // A hash, to which no proof leads.
 const ANY = records.sha256Text(new Uint8Array());
+// The text of a proof on a map whose siblings are all roots of empty subtrees.
+const NO_SIBLINGS = Buffer.alloc(32, 255).toString("base64");
 const KINDS = { package: [Kind.PACKAGE], operator: [Kind.OPERATOR], both: Object.values(Kind) };
 const RECORD = { [Kind.PACKAGE]: "WARG-PACKAGE-LOG-RECORD-V0:", [Kind.OPERATOR]: "WARG-OPERATOR-LOG-RECORD-V0:" };
 const KEY = "ecdsa-p256:AwAAAAAAAAAAAAAAAAAAAAAAAAAAAAAAAAAAAAAAAAAA";
@@ -61,7 +63,7 @@ class Answers {
         // Digits are printed in lower case.
         const passed = [ANY, ANY, ANY];
         passed[["log-id", "record-id", "hash"].indexOf(kind)] = text;
-        const seen = this.#read(text, wanted, () => library.verifyPresence(...passed, Buffer.alloc(32).toString("base64")));
+        const seen = this.#read(text, wanted, () => library.verifyPresence(...passed, NO_SIBLINGS));
         return seen.startsWith("= ") ? seen.toLowerCase() : seen;
       }
       case "package-permission":

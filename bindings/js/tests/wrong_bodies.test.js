@@ -32,7 +32,7 @@ const WRONG = {
   "a forgotten log stays": ["logs.js", "    forgotten.register(this, { library, at: this.#handle }, this);\n", "", "memory", "forgotten is closed"],
   "what was passed stays": ["library.js", "if (it.size > KEPT_ROOM) it.giveBack()", "void it", "memory", "larger"],
   "what is chained stays": ["logs.js", "if (!this.#library.isGivenUp) this.#library.givenBack(at);", "", "memory", "given back"],
-  "a trap leaves the log open": ["library.js", "this.#trap = error;", "", "memory", "stack|trap"],
+  "a trap leaves the log open": ["library.js", "    if (this.isGivenUp) throw", "    if (false) throw", "memory", "stack|trap"],
   "a shared library that trapped is shared on": ["library.js", "if (shared === had) shared = Library.load();", "shared ??= Library.load();", "memory", "stack|trap"],
   "a load that failed is kept": ["library.js", "(await had.catch(() => ({ isGivenUp: true }))).isGivenUp", "(await had).isGivenUp", "engine", "tried again"],
   "no one asks for 64-bit memory": ["engine.js", "if (!has64BitMemory()) throw", "if (false) throw", "engine", "without"],
