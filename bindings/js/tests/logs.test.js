@@ -181,7 +181,7 @@ test("what is misused is said", async () => {
   const log = await packageLog();
   const operators = await operatorLog(alice);
   const named = (name) => (error) => error instanceof BadArgument && error.name === name && error.sentence !== "";
-  assert.throws(() => log.latest("x"), named("BadRequirement"));
+  assert.throws(() => log.latest(">=x"), named("BadRequirement"));
   assert.throws(() => log.release("x"), named("BadVersion"));
   assert.throws(() => log.holds("x", "commit"), named("UnknownPermission"));
   assert.throws(() => log.chain("x", "commit"), named("UnknownPermission"));

@@ -21,7 +21,7 @@ test("a log's memory is given back where it is closed", async () => {
     for (const it of made) log.appendSigned(it);
     assert.throws(() => log.appendSigned(made[0]), WeoldrinError);
     assert.throws(() => log.ask(Buffer.from("0b", "hex")), WeoldrinError);
-    assert.throws(() => log.latest("x"), WeoldrinError);
+    assert.throws(() => log.latest(">=x"), WeoldrinError);
     assert.equal(log.latest(">=1").version, "1.3.0");
     assert.equal([...log.records()].length, 4);
     log.chain(records.keyId(bob.publicKey), "release");
