@@ -97,7 +97,7 @@ test("a log of the other kind", async () => {
   const log = await operatorLog(alice);
   const text = textOf([log.record(0).envelope]);
   const found = await auditBytes("x", Buffer.from(text), "package");
-  assert.match(String(found), /^x: refused 0 \w+: .*; it is a record of an operator log: is the kind right\?$/);
+  assert.match(String(found), /^x: refused 0 [\w.]+: .*; it is a record of an operator log: is the kind right\?$/);
   const other = await auditBytes("x", Buffer.from(good), "operator");
   assert.match(String(other), /; it is a record of a package's log: is the kind right\?$/);
   assert.doesNotMatch(String(await auditBytes("x", Buffer.from(textOf([made[1]])), "package")), /kind/);

@@ -58,10 +58,14 @@ test("a log that is forgotten is closed", async () => {
   const library = await Library.load();
   new PackageLog(library).close();
   const before = used(library);
-  for (let turn = 0; turn < 100; turn++) {
-    const log = new PackageLog(library);
-    for (const it of made) log.appendSigned(it);
-  }
+  // In a function of its own, which leaves nothing that holds the last one.
+  const forget = () => {
+    for (let turn = 0; turn < 100; turn++) {
+      const log = new PackageLog(library);
+      for (const it of made) log.appendSigned(it);
+    }
+  };
+  forget();
   assert.ok(used(library) > before);
   for (let turn = 0; turn < 100 && used(library) !== before; turn++) {
     collect();
