@@ -47,6 +47,8 @@ class Retargeted(unittest.TestCase):
         for text in lines:
             with self.assertRaisesRegex(NoModule, "assembler"):
                 retargeted(f"{HEAD}{text}\n")
+        barrier = '  call void asm sideeffect "", "~{memory}"()\n'
+        self.assertIn(barrier, retargeted(HEAD + barrier))
 
     def test_no_module(self) -> None:
         for text in ("", CODE, HEAD.splitlines()[0], HEAD + HEAD):
