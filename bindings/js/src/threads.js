@@ -6,11 +6,18 @@
 const isNode = globalThis.process?.versions?.node !== undefined && globalThis.Deno === undefined;
 
 /**
- * Begins a thread, which runs `worker.js`. `heard` gets what it says, and `ended` why it ended, if it did so by itself.
+ * Begins a thread, which runs `worker.js`. `heard` gets what it says, and `told` why it ended, if it did so by itself.
  * @param {(said: any) => void} heard
- * @param {(why: string) => void} ended
+ * @param {(why: string) => void} told
  */
-export async function begun(heard, ended) {
+export async function begun(heard, told) {
+  // Of one that was told to end, or that said so once, no one hears any more.
+  let isEnded = false;
+  const ended = (why) => {
+    if (isEnded) return;
+    isEnded = true;
+    told(why);
+  };
   const script = new URL("worker.js", import.meta.url);
   if (isNode) {
     const { Worker } = await import("node:worker_threads");
@@ -18,7 +25,7 @@ export async function begun(heard, ended) {
     worker.on("message", heard);
     worker.on("error", (error) => ended(error.message));
     worker.on("exit", (status) => ended(`it ended with status ${status}`));
-    return { tell: (said) => worker.postMessage(said), end: () => void worker.terminate() };
+    return { tell: (said) => worker.postMessage(said), end: () => void ((isEnded = true), worker.terminate()) };
   }
   const worker = new Worker(script, { type: "module" });
   worker.onmessage = ({ data }) => heard(data);
@@ -26,7 +33,7 @@ export async function begun(heard, ended) {
     event.preventDefault?.();
     ended(event.message ?? "it could not be begun");
   };
-  return { tell: (said) => worker.postMessage(said), end: () => worker.terminate() };
+  return { tell: (said) => worker.postMessage(said), end: () => void ((isEnded = true), worker.terminate()) };
 }
 
 /** How many threads the machine runs at once. */

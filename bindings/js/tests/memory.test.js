@@ -56,7 +56,9 @@ test("a resumed log's memory too, and that of one that could not be resumed", as
 
 test("a log that is forgotten is closed", async () => {
   const library = await Library.load();
-  new PackageLog(library).close();
+  const first = new PackageLog(library);
+  for (const it of made) first.appendSigned(it);
+  first.close();
   const before = used(library);
   // In a function of its own, which leaves nothing that holds the last one.
   const forget = () => {
