@@ -48,6 +48,11 @@ class Counts(unittest.TestCase):
         self.assertEqual(HOSTS["counted_of_go"](said), (2, 1, 1))
         self.assertEqual(HOSTS["counted_of_go"]("# weoldrin\nlog.go:1: syntax error\nFAIL\n"), (0, 0, 0))
 
+    def test_node(self) -> None:
+        said = "ok 1 - a\nnot ok 2 - b\n# tests 9\n# pass 4\n# fail 1\n# cancelled 1\n# skipped 2\n# todo 1\n"
+        self.assertEqual(HOSTS["counted_of_node"](said), (4, 2, 3))
+        self.assertEqual(HOSTS["counted_of_node"]("node: bad option: --tests\n"), (0, 0, 0))
+
     def test_unittest(self) -> None:
         ends = {
             "Ran 150 tests in 3.1s\n\nOK": (150, 0, 0),
