@@ -10,9 +10,6 @@ from .shared import ROOT, crates_below, dependencies
 # The path of each item and module that was met, by its file and name, or by its file.
 Seen = dict[tuple[str, str] | str, str]
 KINDS = ("struct", "enum", "trait", "type", "fn", "const")
-# A name for a type at an argument, as `= LogRecord<PackageEntry>;`, and an impl for every argument with a bound.
-NAMED = re.compile(r"= (\w+)<(\w+)>;$")
-FOR_ALL = re.compile(r"<(\w+): (\w+)> (.+) for \w+<\1>$")
 # Members of impls that are proofs, or repeat what another member says.
 PROOFS = re.compile(
     r"(laws|inverse|styled_output|one_\w+|equal_errors|equals|versions_written|versions_read|equivalent_\w+"
@@ -104,54 +101,10 @@ def crates() -> list[str]:
     return [crate for crate in crates_below() if crate in below]
 
 
-def all_impls_of(item: Item) -> list[tuple[str, Item]]:
-    return [(trait, it) for crate in crates() for trait, of, it in impls(crate) if of == key(item)]
-
-
 def impls_of(item: Item) -> list[tuple[str, Item]]:
-    """The impls of a type, those of its own file first. One for every argument with a bound that users can't name is
-    shown where the type has a name at an argument."""
-    found = [(trait, it) for trait, it in all_impls_of(item) if hidden_bound(it) is None]
-    return sorted([*found, *instances_of(item)], key=lambda it: it[1].file != item.file)
-
-
-def hidden_bound(impl: Item) -> tuple[re.Match[str], Item] | None:
-    """Of an impl for every argument with a bound that users can't name: what its head says, and the bound."""
-    head = FOR_ALL.match(impl.name)
-    bound = items.resolve(impl.file, [head[2]]) if head else None
-    return (head, bound) if head and isinstance(bound, Item) and not bound.is_public else None
-
-
-def instances_of(item: Item) -> Iterator[tuple[str, Item]]:
-    """Of a name for a type at an argument: the impls that the type has for every argument, as of this one, whose own
-    impl of the bound says what the bound's members are."""
-    named = NAMED.search(" ".join(item.lines)) if item.kind == "type" else None
-    of, argument = (items.resolve(item.file, [it]) for it in named.groups()) if named else (None, None)
-    if not isinstance(of, Item) or not isinstance(argument, Item):
-        return
-    for trait, impl in all_impls_of(of):
-        if hidden := hidden_bound(impl):
-            head, bound = hidden
-            own = next(it for name, it in all_impls_of(argument) if name == bound.name)
-            yield trait, instance(item.name, trait, impl, head[1], own)
-
-
-def instance(name: str, trait: str, impl: Item, variable: str, own: Item) -> Item:
-    """The impl as of a type by this name, where the impl `own` says what the members of its variable are."""
-    said = {it.name: items.ghost_text(it) for it in items.members_of(own) if it.kind == "ghost"}
-    values = {it.name: it.lines[0].partition(" = ")[2][:-1] for it in items.members_of(own) if it.kind == "const"}
-
-    def text(found: re.Match[str]) -> str:
-        is_argument, word = re.search(r"[\w)] $", found.string[: found.start()]), said[found[1]]
-        is_applied = found.string[found.end() :].startswith((" (", " {"))
-        return f"({word})" if " " in word and (is_argument or (word[0] == "λ" and is_applied)) else word
-
-    lines = [re.sub(rf"\b{variable}\.(\w+)", text, line) for line in impl.lines[1:]]
-    lines = [re.sub(rf"\b{variable}::([A-Z]+)\b", lambda it: values[it[1]], line) for line in lines]
-    beside = [it for file in (impl.file, own.file) for it in items.items_of(file)]
-    uses = [line for it in beside if it.kind == "ghost use" for line in it.lines]
-    head = f"{trait} for {name}"
-    return impl._replace(name=head, lines=[f"impl {head} {{", *(f"    {line}" for line in uses), *lines])
+    """The impls of a type, those of its own file first."""
+    found = [(trait, it) for crate in crates() for trait, of, it in impls(crate) if of == key(item)]
+    return sorted(found, key=lambda it: it[1].file != item.file)
 
 
 def is_public(impl: Item, member: Item) -> bool:

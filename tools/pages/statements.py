@@ -1,9 +1,7 @@
 """The statements of docs/HEADLINE.md: the functions with their clauses, and what the members of traits are."""
 import functools
-import re
 import textwrap
 from collections.abc import Iterable, Sequence
-from typing import NamedTuple
 
 from . import items, specs
 from .closure import source
@@ -23,19 +21,6 @@ def trait_members(file: str, name: str, wanted: Sequence[str]) -> list[Item]:
 
 def impl_of(file: str, head: str) -> Item:
     return next(it for it in items.items_of(file) if it.kind == "impl" and it.name == head)
-
-
-def ghost_of(members: Sequence[Item], name: str) -> str:
-    """What a ghost member of an impl is."""
-    return items.ghost_text(next(it for it in members if it.kind == "ghost" and it.name == name))
-
-
-class Impl(NamedTuple):
-    """An impl by its file and head. Where it is for every kind, `entry` is the impl that its `E` has in one of them."""
-
-    file: str
-    head: str
-    entry: tuple[str, str] | None = None
 
 
 class Statements:
@@ -83,12 +68,12 @@ class Statements:
             self.roots[Place("rust", item.file, item.name)] = None
 
     def members(
-        self, letter: str, file: str, trait: str, wanted: Sequence[str], kinds: Sequence[Impl]
+        self, letter: str, file: str, trait: str, wanted: Sequence[str], kinds: Sequence[tuple[str, str]]
     ) -> None:
         """An item of the list for each member of the trait: what it is of each kind."""
         for member in trait_members(file, trait, wanted):
             about = " ".join(line.removeprefix("//").strip() for line in member.comments)
-            cells = [self.member(of, member.name) for of in kinds]
+            cells = [self.member(of, head, member.name) for of, head in kinds]
             self.member_lines(f"{letter}.{member.name}", about, cells)
 
     def member_lines(self, name: str, about: str, cells: Sequence[str]) -> None:
@@ -98,25 +83,20 @@ class Statements:
         for kind, cell in zip(("package", "operator"), cells, strict=True):
             self.lines += wrapped(f"  - {kind}: {cell}", subsequent_indent="    ")
 
-    def member(self, of: Impl, name: str) -> str:
-        members = items.members_of(impl_of(of.file, of.head))
-        text = ghost_of(members, name)
-        uses = [*items.items_of(of.file), *members]
-        if of.entry:
-            of_entry = items.members_of(impl_of(*of.entry))
-            uses += [*items.items_of(of.entry[0]), *of_entry]
-            text = re.sub(r"\bE\.(\w+)", lambda found: ghost_of(of_entry, found[1]), text)
-        scope = specs.ghost_scope(uses)
+    def member(self, file: str, head: str, name: str) -> str:
+        members = items.members_of(impl_of(file, head))
+        item = next(it for it in members if it.kind == "ghost" and it.name == name)
+        text = items.ghost_text(item)
+        scope = specs.ghost_scope([*items.items_of(file), *members])
         self.cite(scope, text, ())
         place = Names(scope).look_up(text)
         return f"`{place.name}` of `{source(place)}`" if place else f"`{text}`"
 
 
-PACKAGE = Impl("crates/warg_package_log/src/validator.rt", "Validator for LogState")
-OPERATOR = Impl("crates/warg_operator_log/src/validator.rt", "Validator for LogState")
-RECORD = Impl("crates/warg_log_records/src/log_record.rt", "<E: LogEntry> Record for LogRecord<E>")
-PACKAGE_RECORD = RECORD._replace(entry=("crates/warg_log_records/src/package.rt", "LogEntry for PackageEntry"))
-OPERATOR_RECORD = RECORD._replace(entry=("crates/warg_log_records/src/operator.rt", "LogEntry for OperatorEntry"))
+PACKAGE = ("crates/warg_package_log/src/validator.rt", "Validator for LogState")
+OPERATOR = ("crates/warg_operator_log/src/validator.rt", "Validator for LogState")
+PACKAGE_RECORD = ("crates/warg_log_records/src/package.rt", "Record for PackageRecord")
+OPERATOR_RECORD = ("crates/warg_log_records/src/operator.rt", "Record for OperatorRecord")
 
 
 def statements() -> Statements:
@@ -134,8 +114,8 @@ def statements() -> Statements:
     it.lines += ["", "What the members are in the two kinds, `LogState` of `warg_protocol::package` and of"]
     it.lines += ["`warg_protocol::operator`:", ""]
     kinds = (PACKAGE, OPERATOR)
-    states = [Impl(of.file.replace("validator.rt", "state.rt"), "Model for LogState") for of in kinds]
-    cells = [it.member(state, "Value") for state in states]
+    states = [file.replace("validator.rt", "state.rt") for file, _ in kinds]
+    cells = [it.member(file, "Model for LogState", "Value") for file in states]
     it.member_lines("L", "What a state itself is seen as.", cells)
     members = ("View", "Offence", "kind", "view", "offence_of")
     it.members("L", "crates/warg_replay/src/validator.rt", "Validator", members, kinds)
