@@ -17,8 +17,8 @@ SOURCES = ROOT / "wasm"
 TARGET = "wasm64-unknown-unknown"
 LAYOUT = "e-m:e-p:64:64-p10:8:8-p20:8:8-i64:64-i128:128-n32:64-S128-ni:1:10:20"
 FEATURES = ["-mbulk-memory", "-msign-ext", "-mnontrapping-fptoint", "-msimd128"]
-# Loops are not made ones over vectors: with that, clang compiled the proofs of consistency of the log wrongly, which the
-# rows of `conformance/` showed.
+# Loops are not made ones over vectors: with that, clang compiled the proofs of consistency of the log wrongly, which
+# the rows of `conformance/` showed.
 COMPILED = [f"--target={TARGET}", *FEATURES, "-O3", "-fno-vectorize", "-fno-slp-vectorize"]
 # How much of memory the stack has, which lies before everything else: what goes beyond it is no memory, and a trap.
 STACK = 1 << 20
@@ -77,7 +77,8 @@ def retargeted(text: str) -> str:
     if others := sorted(set(re.findall(r"@(llvm\.x86\.[\w.]+)", text))):
         raise NoModule(f"the module names instructions of x86-64: {', '.join(others)}")
     # A text of nothing is a barrier for the compiler alone.
-    if re.search(r'\basm (?:sideeffect |alignstack |inteldialect )*"[^"]', text) or re.search("^module asm ", text, re.M):
+    called = r'\basm (?:sideeffect |alignstack |inteldialect )*"[^"]'
+    if re.search(called, text) or re.search("^module asm ", text, re.M):
         raise NoModule("the module has text of an assembler")
     return text
 

@@ -1,10 +1,12 @@
-/* The heap of the library as WebAssembly: what the proved code asks for by `rattle_alloc` and its like, as the toolchain names them, and what the host asks
- * for. Memory grows by pages, as it is needed, and no page is given back to the engine: the host forgets the whole module for that.
+/* The heap of the library as WebAssembly: what the proved code asks for by `rattle_alloc` and its like, as the
+ * toolchain names them, and what the host asks for. Memory grows by pages, as it is needed, and no page is given back
+ * to the engine: the host forgets the whole module for that.
  *
- * Blocks lie one behind the other. A block is a word with its size and two marks, and what is given of it, which begins at a multiple of 16. A free block has
- * links behind the word, and its size once more at its end, so that the block behind it finds its beginning. Two free blocks are never neighbours: they are
- * joined. Free blocks are kept in lists by their size: sixteen lists for each power of two. A request takes the first block of the first list whose blocks are
- * all large enough, so it is answered in a few steps, however many blocks there are. */
+ * Blocks lie one behind the other. A block is a word with its size and two marks, and what is given of it, which begins
+ * at a multiple of 16. A free block has links behind the word, and its size once more at its end, so that the block
+ * behind it finds its beginning. Two free blocks are never neighbours: they are joined. Free blocks are kept in lists
+ * by their size: sixteen lists for each power of two. A request takes the first block of the first list whose blocks
+ * are all large enough, so it is answered in a few steps, however many blocks there are. */
 #include "pages.h"
 
 typedef unsigned char byte;
@@ -87,8 +89,8 @@ static void take_from_list(struct block *block) {
         filled[list / 64] &= ~((word)1 << list % 64);
 }
 
-/* A free block that has the size, or none. In the size's own list, which may have smaller blocks too, a few are looked at: what was given back and is asked for
- * again is found there. */
+/* A free block that has the size, or none. In the size's own list, which may have smaller blocks too, a few are looked
+ * at: what was given back and is asked for again is found there. */
 static struct block *find(word size) {
     unsigned list = first_list_for(size), at = list / 64;
     struct block *near = list_of(size) < list ? lists[list_of(size)] : 0;
@@ -104,7 +106,8 @@ static struct block *find(word size) {
     return lists[at * 64 + (unsigned)__builtin_ctzl(bits)];
 }
 
-/* Makes a free block of what lies there, joined with its neighbours where these are free, and gives it. The mark of the block before it is the one of its word. */
+/* Makes a free block of what lies there, joined with its neighbours where these are free, and gives it. The mark of the
+ * block before it is the one of its word. */
 static struct block *set_free(struct block *block, word size) {
     struct block *next = (struct block *)((byte *)block + size);
     if (!(next->size & IN_USE)) {
@@ -267,7 +270,8 @@ struct given rattle_realloc(void *room, word kept, word bytes, word alignment) {
     return given;
 }
 
-/* What the host calls: room for what it passes to calls, null where there is none; and how much memory there may be, and is in use. */
+/* What the host calls: room for what it passes to calls, null where there is none; and how much memory there may be,
+ * and is in use. */
 void *host_alloc(word bytes) {
     return take(bytes);
 }

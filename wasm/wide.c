@@ -1,5 +1,5 @@
-/* Products and shifts of numbers of 128 bits, which clang calls for by these names where WebAssembly has no instruction. Its own library of them is no part of
- * the toolchain. */
+/* Products and shifts of numbers of 128 bits, which clang calls for by these names where WebAssembly has no
+ * instruction. Its own library of them is no part of the toolchain. */
 typedef unsigned long word;
 typedef __int128 wide;
 

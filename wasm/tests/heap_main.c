@@ -1,5 +1,5 @@
-/* heap_main SEED REQUESTS: the trial of the heap on this machine, whose pages are those of a piece of its own memory: once where the heap alone takes some, and
- * once where others take some in between. */
+/* heap_main SEED REQUESTS: the trial of the heap on this machine, whose pages are those of a piece of its own memory:
+ * once where the heap alone takes some, and once where others take some in between. */
 #include <stdio.h>
 #include <stdlib.h>
 #include <sys/mman.h>
@@ -34,7 +34,8 @@ int main(int argc, char **words) {
     word seed = argc > 1 ? strtoul(words[1], 0, 10) : 1, requests = argc > 2 ? strtoul(words[2], 0, 10) : 1000000;
     has_gaps = argc > 3;
     /* Low, so that a limit is a number of bytes from 0, as it is in WebAssembly. */
-    void *at = mmap((void *)0x20000000, MOST * PAGE, PROT_READ | PROT_WRITE, MAP_PRIVATE | MAP_ANONYMOUS | MAP_FIXED_NOREPLACE, -1, 0);
+    int flags = MAP_PRIVATE | MAP_ANONYMOUS | MAP_FIXED_NOREPLACE;
+    void *at = mmap((void *)0x20000000, MOST * PAGE, PROT_READ | PROT_WRITE, flags, -1, 0);
     if (at == MAP_FAILED)
         return perror("mmap"), 2;
     base = (word)at;

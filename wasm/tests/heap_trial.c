@@ -1,5 +1,5 @@
-/* Random requests to the heap, beside a model of what is in use: whose each 16 bytes are, and what was written there. Runs on the machine itself, where the
- * sanitizers look on, and as WebAssembly. */
+/* Random requests to the heap, beside a model of what is in use: whose each 16 bytes are, and what was written there.
+ * Runs on the machine itself, where the sanitizers look on, and as WebAssembly. */
 #include "../pages.h"
 
 typedef unsigned char byte;
@@ -120,15 +120,18 @@ static int give_back(struct held *it) {
 /* More than there is: it is refused, and nothing has changed. */
 static int ask_too_much(void) {
     word before = host_used();
-    word numbers[] = {~(word)0, ~(word)0 - 7, ~(word)0 - 15, (word)1 << 63, ((word)1 << 46) + 1, (word)1 << 46, (word)1 << 40};
+    word numbers[] = {
+        ~(word)0, ~(word)0 - 7, ~(word)0 - 15, (word)1 << 63, ((word)1 << 46) + 1, (word)1 << 46, (word)1 << 40,
+    };
     for (unsigned place = 0; place < sizeof numbers / sizeof *numbers; place++)
         if (rattle_alloc(numbers[place], 1).ok || host_alloc(numbers[place]))
             return 0;
     return host_used() == before && !rattle_alloc(8, 32).ok && host_used() == before;
 }
 
-/* 0 where all was well; else the number of the request, from 1, at which it was not. Memory may end at this address; at first, and half of the time
- * behind that, it ends where it does. Where others take no pages meanwhile, they are one piece in the end. */
+/* 0 where all was well; else the number of the request, from 1, at which it was not. Memory may end at this address; at
+ * first, and half of the time behind that, it ends where it does. Where others take no pages meanwhile, they are one
+ * piece in the end. */
 word heap_trial(word seed, word requests, word most, int is_one_piece) {
     state = seed * 2 + 1;
     origin = first_address() / PAGE * PAGE;

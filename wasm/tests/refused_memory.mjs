@@ -1,7 +1,7 @@
-// refused_memory.mjs PACKAGE MODULE: refuses each request for memory of the proved code in turn, in each call, by the module
-// that is linked with refusing.c, on logs that have their records and on resumed ones. The call then says that there was no
-// memory, and all logs are as they were; or it does without, and at most gives an error without its text. Made again it
-// does what it does with memory. PACKAGE is the folder of the package of JavaScript.
+// refused_memory.mjs PACKAGE MODULE: refuses each request for memory of the proved code in turn, in each call, by the
+// module that is linked with refusing.c, on logs that have their records and on resumed ones. The call then says that
+// there was no memory, and all logs are as they were; or it does without, and at most gives an error without its text.
+// Made again it does what it does with memory. PACKAGE is the folder of the package of JavaScript.
 import { readFileSync } from "node:fs";
 import { argv, exit } from "node:process";
 import { pathToFileURL } from "node:url";
@@ -33,17 +33,32 @@ const record = (log, signer, entries) =>
   records.signed(log.kind, records.contents(log.head(), START, entries), signer.publicKey, sign(signer));
 
 const log = new PackageLog(library);
-log.appendSigned(await record(log, alice, [records.init(alice.publicKey), records.grant("package", bob.publicKey, "release")]));
+log.appendSigned(
+  await record(log, alice, [records.init(alice.publicKey), records.grant("package", bob.publicKey, "release")]),
+);
 for (const version of ["1.1.0", "1.2.0"]) log.appendSigned(await record(log, bob, [records.release(version, root)]));
 const operators = new OperatorLog(library);
-const entries = [records.init(alice.publicKey), records.defineNamespace("own"), records.importNamespace("other", "r.example")];
+const entries = [
+  records.init(alice.publicKey),
+  records.defineNamespace("own"),
+  records.importNamespace("other", "r.example"),
+];
 operators.appendSigned(await record(operators, alice, entries));
 const other = new PackageLog(library);
 for (const it of log.records()) other.appendSigned(it.envelope);
 const saved = [log.toJson(), operators.toJson()];
 const next = await record(log, bob, [records.release("1.3.0", root)]);
-const forged = await records.signed("package", records.contents(log.head(), START, [records.release("1.3.0", root)]), bob.publicKey, sign(mallory));
-const toy = records.envelope(records.contents(null, START, [records.init("toy:YQ==")]), records.keyId("toy:YQ=="), "toy:YQ==");
+const forged = await records.signed(
+  "package",
+  records.contents(log.head(), START, [records.release("1.3.0", root)]),
+  bob.publicKey,
+  sign(mallory),
+);
+const toy = records.envelope(
+  records.contents(null, START, [records.init("toy:YQ==")]),
+  records.keyId("toy:YQ=="),
+  "toy:YQ==",
+);
 const first = log.record(0).envelope;
 const ids = [alice, bob].map((it) => records.keyId(it.publicKey));
 const question = log.ask(next);
@@ -119,7 +134,10 @@ function seen(call, number, goesOn) {
 // The same, or the same error without its sentence, or that there was no memory.
 function isWell(wanted, found) {
   if (found.error instanceof OutOfMemory) return true;
-  if (wanted.error) return found.error?.name === wanted.error.name && ["", wanted.error.sentence].includes(found.error.sentence);
+  if (wanted.error) {
+    const isNamed = found.error?.name === wanted.error.name;
+    return isNamed && ["", wanted.error.sentence].includes(found.error.sentence);
+  }
   return !found.error && found.given === wanted.given;
 }
 
@@ -142,9 +160,13 @@ async function trial(name, make) {
       if (found.error) {
         const behind = [it.toJson(), it.head(), operators.toJson(), other.toJson(), library.memory().used];
         // What was asked may be kept: that is all that a refused call changes.
-        if (before.slice(0, 4).join() !== behind.slice(0, 4).join()) throw new Error(`${name} at request ${number}: a log is changed`);
+        if (before.slice(0, 4).join() !== behind.slice(0, 4).join()) {
+          throw new Error(`${name} at request ${number}: a log is changed`);
+        }
         const again = seen(call, 0, 0);
-        if (!isWell(wanted, again) || again.error instanceof OutOfMemory) throw new Error(`${name} behind request ${number}: ${again.error}`);
+        if (!isWell(wanted, again) || again.error instanceof OutOfMemory) {
+          throw new Error(`${name} behind request ${number}: ${again.error}`);
+        }
       }
     }
     if (!count) return;

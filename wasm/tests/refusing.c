@@ -1,5 +1,5 @@
-/* Refuses requests for memory of the proved code, by its number, counted from 1; 0 refuses none. Linked with --wrap for both, in front of the heap: what the host
- * asks for is not refused. */
+/* Refuses requests for memory of the proved code, by its number, counted from 1; 0 refuses none. Linked with --wrap for
+ * both, in front of the heap: what the host asks for is not refused. */
 typedef unsigned long word;
 
 struct given {

@@ -1,5 +1,5 @@
-// trials.mjs heap|wide|shuffle MODULE SEED: tries a part of the library by itself, beside what it has to answer. The status
-// is 1 where it answers otherwise.
+// trials.mjs heap|wide|shuffle MODULE SEED: tries a part of the library by itself, beside what it has to answer. The
+// status is 1 where it answers otherwise.
 import { readFileSync } from "node:fs";
 import { argv, exit } from "node:process";
 import { setFlagsFromString } from "node:v8";

@@ -25,7 +25,11 @@ export class Refusal {
 
 /** What an audit found in a file. */
 export class Verdict {
-  /** @param {{ path: string, records?: number, head?: string | null, refusal?: Refusal | null, fault?: Fault | null }} found */
+  /**
+   * @param {{
+   *   path: string, records?: number, head?: string | null, refusal?: Refusal | null, fault?: Fault | null,
+   * }} found
+   */
   constructor({ path, records = 0, head = null, refusal = null, fault = null }) {
     Object.assign(this, { path, records, head, refusal, fault });
     Object.freeze(this);
@@ -44,8 +48,8 @@ export class Verdict {
 }
 
 /**
- * Appends envelopes until one is refused: how many were taken, and the refusal, whose place is counted from the first of
- * them, or null.
+ * Appends envelopes until one is refused: how many were taken, and the refusal, whose place is counted from the first
+ * of them, or null.
  *
  * Without `verify` the library verifies, and a record whose key is of another algorithm than it knows is refused as
  * `UnknownAlgorithm`.

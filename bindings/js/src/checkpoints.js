@@ -100,8 +100,8 @@ export const message = (bytes) => joined([utf8Of(PREFIX), bytesOf(bytes)]);
 
 /**
  * Whether a key that may sign checkpoints by an operator log has signed this one, which has its time. The library
- * verifies the signature, or `verify`, which gets the question. A key of another algorithm than the library verifies has
- * signed nothing without a `verify`.
+ * verifies the signature, or `verify`, which gets the question. A key of another algorithm than the library verifies
+ * has signed nothing without a `verify`.
  */
 export async function isSigned(operators, { checkpoint, keyId, signature }, verify) {
   if (!(operators instanceof OperatorLog)) throw new TypeError("the keys of checkpoints stand in an OperatorLog");

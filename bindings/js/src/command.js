@@ -131,7 +131,8 @@ function ended(words, asked, sentence, status) {
 
 async function version() {
   const library = await Library.load();
-  return end([`weoldrin ${library.version()}`, "the library is WebAssembly", "input: files of hex, one envelope a line"], 0);
+  const lines = [`weoldrin ${library.version()}`, "the library is WebAssembly"];
+  return end([...lines, "input: files of hex, one envelope a line"], 0);
 }
 
 /**
@@ -151,7 +152,8 @@ export async function main(words) {
     if (!(error instanceof WrongWords) && !(error instanceof WeoldrinError)) throw error;
     tell(`${error instanceof WrongWords ? "" : "weoldrin: "}${error.message}\n`);
     const isJson = words.slice(0, words.includes("--") ? words.indexOf("--") : undefined).includes("--json");
-    if (isJson && !print(`${printableJson({ command: "", message: error.message.split("\n")[0], status: 2 })}\n`)) return 3;
+    const told = { command: "", message: error.message.split("\n")[0], status: 2 };
+    if (isJson && !print(`${printableJson(told)}\n`)) return 3;
     return error instanceof WeoldrinError ? 3 : 2;
   }
 }

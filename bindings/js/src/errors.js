@@ -81,8 +81,8 @@ export class NoWebCrypto extends WeoldrinError {
   constructor(text = "") {
     super(
       text ||
-        "NoWebCrypto: there is no WebCrypto here; a page has it where it is served by HTTPS or from localhost, and the " +
-          "library verifies without it: append(envelope)",
+        "NoWebCrypto: there is no WebCrypto here; a page has it where it is served by HTTPS or from localhost, and " +
+          "the library verifies without it: append(envelope)",
     );
   }
 }

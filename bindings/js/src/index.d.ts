@@ -10,7 +10,9 @@ export type Kind = "package" | "operator";
 /** A kind of logs. Throws `RangeError` for anything else. */
 export function kindOf(kind: unknown): Kind;
 
-/** What has to be verified before a record can be appended: whether the signature belongs to the message under the key. */
+/**
+ * What has to be verified before a record can be appended: whether the signature belongs to the message under the key.
+ */
 export interface Question {
   /** The text of the signer's key: the algorithm's name, a colon, base64. */
   readonly key: string;
@@ -127,7 +129,9 @@ export abstract class Log {
   readonly kind: Kind;
   /** Gives the log's memory back. Closing twice is harmless; any other call then throws `NotOpen`. */
   close(): void;
-  /** What has to be verified before the envelope's record can be appended. Throws `Refused` where nothing could help. */
+  /**
+   * What has to be verified before the envelope's record can be appended. Throws `Refused` where nothing could help.
+   */
   ask(envelope: Bytes): Question;
   /** Appends the envelope's record by the answer to its question. */
   appendAnswered(envelope: Bytes, question: Question, belongs: boolean): void;

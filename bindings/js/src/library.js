@@ -87,8 +87,8 @@ class Room {
 }
 
 /**
- * The proved library: an instance of its module, with its memory. Logs are made over one, and two logs that are compared
- * are of the same. Its calls that need no log stand here, and look at their arguments alone.
+ * The proved library: an instance of its module, with its memory. Logs are made over one, and two logs that are
+ * compared are of the same. Its calls that need no log stand here, and look at their arguments alone.
  *
  * Where the engine's stack ends in a call, or another trap does, that call throws `Trapped`, and the library is given
  * up: its logs are closed, and each further call throws `NotOpen`.
@@ -122,8 +122,8 @@ export class Library {
   }
 
   /**
-   * A library of its own: of an address, a response, bytes or a module, and of the package's own file where no source is
-   * given. Memory that it may not have beyond `maximum` bytes is refused. Throws `NoLibrary`.
+   * A library of its own: of an address, a response, bytes or a module, and of the package's own file where no source
+   * is given. Memory that it may not have beyond `maximum` bytes is refused. Throws `NoLibrary`.
    */
   static async load({ source, maximum } = {}) {
     const library = new Library(await moduleOf(source));
@@ -159,8 +159,8 @@ export class Library {
 
   /**
    * Whether the signature belongs to the message under the key, by their texts. Throws `BadArgument` where the key's
-   * text can't be read, `UnknownAlgorithm` where its algorithm is not `ecdsa-p256`, and otherwise `BadArgument` where the
-   * signature's text can't be read.
+   * text can't be read, `UnknownAlgorithm` where its algorithm is not `ecdsa-p256`, and otherwise `BadArgument` where
+   * the signature's text can't be read.
    */
   verify(key, message, signature) {
     const status = this.status("verify", [utf8Of(key), bytesOf(message), utf8Of(signature)]);
@@ -242,8 +242,8 @@ export class Library {
   }
 
   /**
-   * What a call writes that gives bytes, or null where it says that there are none. An error's text finds `room`, and at
-   * least 4096 bytes. With `beside` the call is passed, at the end, where to write what else it gives.
+   * What a call writes that gives bytes, or null where it says that there are none. An error's text finds `room`, and
+   * at least 4096 bytes. With `beside` the call is passed, at the end, where to write what else it gives.
    */
   filled(name, passed, { beside = false, room = 0 } = {}) {
     return this.#whole(() => {
@@ -314,8 +314,8 @@ export class Library {
     }
   }
 
-  // What is done in one piece. Where anything but an answer or a refusal ends it, as where the engine's stack does in the
-  // midst of this very function, no one knows what was done: the mark stays, and the library is given up.
+  // What is done in one piece. Where anything but an answer or a refusal ends it, as where the engine's stack does in
+  // the midst of this very function, no one knows what was done: the mark stays, and the library is given up.
   #whole(done) {
     if (this.isGivenUp) throw new NotOpen("NotOpen: the library trapped before, and its logs are closed");
     this.#isCalled = true;

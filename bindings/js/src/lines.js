@@ -14,8 +14,8 @@ const MARKS = [
 
 /**
  * The lines that stand for records: each ends with a line feed, which the last may lack, and a carriage return before
- * that is dropped. Lines that begin with `#` are passed over, and so is the last of the others if it is blank. A line is
- * its number, from 1, and its bytes.
+ * that is dropped. Lines that begin with `#` are passed over, and so is the last of the others if it is blank. A line
+ * is its number, from 1, and its bytes.
  * @param {Uint8Array} bytes
  * @returns {Generator<{ number: number, digits: Uint8Array }>}
  */
@@ -48,7 +48,8 @@ function causeOf({ number, digits }) {
 }
 
 /**
- * The envelope that a line says in hex, whose place among those of records is told where it says none. Throws `BadLine`.
+ * The envelope that a line says in hex, whose place among those of records is told where it says none. Throws
+ * `BadLine`.
  */
 export function envelopeOf(place, line) {
   const { number, digits } = line;

@@ -154,8 +154,8 @@ export class Log {
   }
 
   /**
-   * Appends the envelope's record if its signature belongs. The library verifies it, as `appendSigned`, or `verify` where
-   * there is one: it gets the question, and gives whether the signature belongs, or a promise of that.
+   * Appends the envelope's record if its signature belongs. The library verifies it, as `appendSigned`, or `verify`
+   * where there is one: it gets the question, and gives whether the signature belongs, or a promise of that.
    *
    * The log may be used by others while `verify` runs. If the record is no longer the next one then, it is refused.
    */
@@ -248,8 +248,8 @@ export class Log {
   // Two logs, and saved states
 
   /**
-   * Compares the records of this log, the left one, with those of another, of the same library. A resumed log has none to
-   * compare.
+   * Compares the records of this log, the left one, with those of another, of the same library. A resumed log has none
+   * to compare.
    */
   compare(other) {
     if (!(other instanceof Log)) throw new TypeError("a log is wanted to compare with");
@@ -305,7 +305,11 @@ export class Log {
 }
 
 if (Symbol.dispose) {
-  Object.defineProperty(Log.prototype, Symbol.dispose, { value: Log.prototype.close, writable: true, configurable: true });
+  Object.defineProperty(
+    Log.prototype,
+    Symbol.dispose,
+    { value: Log.prototype.close, writable: true, configurable: true },
+  );
 }
 
 /** The log of a package. */

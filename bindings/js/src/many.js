@@ -55,8 +55,8 @@ async function drained(left, job, found) {
 }
 
 /**
- * Audits the logs in many files side by side, and gives their verdicts in the order of the files. What is wrong with one
- * of them is in its own verdict.
+ * Audits the logs in many files side by side, and gives their verdicts in the order of the files. What is wrong with
+ * one of them is in its own verdict.
  *
  * By threads, so many as `workers`, of which each has a library of its own, which may have `maximum` bytes of memory. A
  * function does not go to another thread, so `verifier` is a word: "library", or "web-crypto".

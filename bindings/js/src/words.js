@@ -184,7 +184,13 @@ export function askedOf(words) {
 export function noCommand(word) {
   const shown = printable(word);
   if (OTHERS.includes(word)) {
-    return wrong(`'${shown}' is a command of the repository's tool, and not of this package`, `\n\nUsage: weoldrin <COMMAND>`);
+    return wrong(
+      `'${shown}' is a command of the repository's tool, and not of this package`,
+      `\n\nUsage: weoldrin <COMMAND>`,
+    );
   }
-  return wrong(`unrecognized subcommand '${shown}'`, `${tip(word, ["audit", "help"], "subcommand")}\n\nUsage: weoldrin <COMMAND>`);
+  return wrong(
+    `unrecognized subcommand '${shown}'`,
+    `${tip(word, ["audit", "help"], "subcommand")}\n\nUsage: weoldrin <COMMAND>`,
+  );
 }

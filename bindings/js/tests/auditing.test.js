@@ -5,7 +5,18 @@ import { chmodSync, mkdirSync, mkdtempSync, readFileSync, rmSync, symlinkSync, w
 import { tmpdir } from "node:os";
 import { after, test } from "node:test";
 import { pathToFileURL } from "node:url";
-import { BadLine, Empty, Library, Missing, Unreadable, auditBytes, auditFile, auditMany, envelopesOf, p256 } from "weoldrin";
+import {
+  BadLine,
+  Empty,
+  Library,
+  Missing,
+  Unreadable,
+  auditBytes,
+  auditFile,
+  auditMany,
+  envelopesOf,
+  p256,
+} from "weoldrin";
 import { envelopes, keys, operatorLog, textOf } from "./published.js";
 import * as toy from "./toy.js";
 
@@ -52,12 +63,16 @@ test("lines as the tool reads them", async () => {
   assert.equal(envelopesOf(Buffer.from("")).length, 0);
   assert.deepEqual(envelopesOf(Buffer.from("\n\n00\n\n")).map((it) => it.length), [0, 0, 1]);
   const blank = await auditBytes("x", Buffer.from(`${good}\n\n`), "package");
-  assert.equal(String(blank.refusal).replace(/:.*;/, ":..;"), "refused 4 Contents.MissingTime:..; the line is blank: only the last line of a file may be");
+  assert.equal(
+    String(blank.refusal).replace(/:.*;/, ":..;"),
+    "refused 4 Contents.MissingTime:..; the line is blank: only the last line of a file may be",
+  );
 });
 
 test("what is wrong with a file is said", async () => {
   mkdirSync(`${folder}/folder`);
   symlinkSync("nowhere", `${folder}/link`);
+  const program = readFileSync(process.execPath).subarray(0, 100_000);
   const words = {
     [`${folder}/none`]: [Missing, "there is no such file"],
     [`${folder}/link`]: [Missing, "there is no such file"],
@@ -69,9 +84,12 @@ test("what is wrong with a file is said", async () => {
     [file("letters", "# x\nzz\n")]: [BadLine, "bad line 0"],
     [file("space", `${good.split("\n")[0]} \n`)]: [BadLine, "bad line 0"],
     [file("marked", `\ufeff${good}`)]: [BadLine, "bad line 0: the file begins with a byte order mark"],
-    [file("utf-16", Buffer.from(`\ufeff${good}`, "utf16le"))]: [BadLine, "bad line 0: the file is no plain text: it is UTF-16"],
+    [file("utf-16", Buffer.from(`\ufeff${good}`, "utf16le"))]: [
+      BadLine,
+      "bad line 0: the file is no plain text: it is UTF-16",
+    ],
     [file("zeros", Buffer.alloc(5000))]: [BadLine, "bad line 0: the file is no plain text"],
-    [file("program", readFileSync(process.execPath).subarray(0, 100_000))]: [BadLine, "bad line 0: the file is no plain text"],
+    [file("program", program)]: [BadLine, "bad line 0: the file is no plain text"],
     [file("page", "<!doctype html>\n<title>404</title>\n")]: [BadLine, "bad line 0"],
   };
   for (const [path, [Fault, wanted]] of Object.entries(words)) {
@@ -85,7 +103,10 @@ test("what is wrong with a file is said", async () => {
   assert.equal((await auditFile(`${folder}/empty`, "package", null, { allowEmpty: true })).accepted, true);
   if (process.getuid() !== 0) {
     chmodSync(file("closed", good), 0);
-    assert.equal(String((await auditFile(`${folder}/closed`, "package")).fault), "it can't be read: it is closed to the reader");
+    assert.equal(
+      String((await auditFile(`${folder}/closed`, "package")).fault),
+      "it can't be read: it is closed to the reader",
+    );
   }
   const bad = await auditBytes("x", Buffer.from("# x\n00\nz\n"), "package");
   assert.deepEqual([bad.fault.line, bad.fault.number], [1, 3]);
@@ -113,7 +134,10 @@ test("a refused record, and keys of other algorithms", async () => {
   const text = textOf([await toy.envelope("alice")]);
   assert.equal((await auditBytes("x", Buffer.from(text), "package")).refusal.name, "UnknownAlgorithm");
   assert.equal((await auditBytes("x", Buffer.from(text), "package", toy.verify)).accepted, true);
-  await assert.rejects(() => auditBytes("x", Buffer.from(text), "package", () => { throw new Error("no answer"); }), /no answer/);
+  await assert.rejects(
+    () => auditBytes("x", Buffer.from(text), "package", () => { throw new Error("no answer"); }),
+    /no answer/,
+  );
 });
 
 test("a log that is more than there is memory for", async () => {
@@ -129,7 +153,9 @@ test("many logs by threads, in the order of the files", async () => {
   const bad = file("bad.hex", `${good}zz\n`);
   const forged = file("forged.hex", good.split("\n").reverse().slice(1).join("\n"));
   const files = [];
-  for (let turn = 0; turn < 30; turn++) files.push(goodFile, bad, pathToFileURL(goodFile), forged, `${folder}/none`, new Blob([good]));
+  for (let turn = 0; turn < 30; turn++) {
+    files.push(goodFile, bad, pathToFileURL(goodFile), forged, `${folder}/none`, new Blob([good]));
+  }
   for (const verifier of ["library", "web-crypto"]) {
     const found = await auditMany(files, "package", { workers: 3, verifier });
     const alone = await Promise.all(files.map((it) => auditFile(it, "package")));
@@ -147,7 +173,10 @@ test("many logs by threads, in the order of the files", async () => {
 test("a thread's library may have so much memory, and a thread that ends is another one's", async () => {
   const many = file("many.hex", textOf(await envelopes(1200, alice, bob)));
   const found = await auditMany([many, goodFile, many], "package", { workers: 1, maximum: 1_600_000 });
-  assert.deepEqual(found.map((it) => it.fault?.message), ["it can't be read: there is no memory for it", undefined, "it can't be read: there is no memory for it"]);
+  assert.deepEqual(
+    found.map((it) => it.fault?.message),
+    ["it can't be read: there is no memory for it", undefined, "it can't be read: there is no memory for it"],
+  );
   // What can't be handed to a thread at all is no verdict of the others.
   const odd = { toString: () => "x" };
   const [first, second] = await auditMany([odd, goodFile], "package", { workers: 1 });

@@ -40,7 +40,11 @@ async function audits() {
   const bytes = await (await fetch("/log")).arrayBuffer();
   const file = new File([bytes], "package.hex");
   must(String(await auditFile(file, "package")).startsWith("package.hex: ok 4 sha256:8e61d0"), "the audit");
-  const found = await auditMany([file, new File(["zz"], "x"), file, "a path"], "package", { workers: 2, verifier: "web-crypto" });
+  const found = await auditMany(
+    [file, new File(["zz"], "x"), file, "a path"],
+    "package",
+    { workers: 2, verifier: "web-crypto" },
+  );
   must(found.map((it) => it.accepted).join() === "true,false,true,false", found.map(String).join());
   must(String(found[1]) === "x: bad line 0", String(found[1]));
   must(/hand in a File/.test(String(found[3])), String(found[3]));

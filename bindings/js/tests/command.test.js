@@ -2,7 +2,18 @@
 import { ROOT, at, without } from "./place.js";
 import assert from "node:assert/strict";
 import { spawnSync } from "node:child_process";
-import { copyFileSync, existsSync, mkdirSync, mkdtempSync, openSync, closeSync, readFileSync, readdirSync, rmSync, writeFileSync } from "node:fs";
+import {
+  copyFileSync,
+  existsSync,
+  mkdirSync,
+  mkdtempSync,
+  openSync,
+  closeSync,
+  readFileSync,
+  readdirSync,
+  rmSync,
+  writeFileSync,
+} from "node:fs";
 import { tmpdir } from "node:os";
 import { execPath } from "node:process";
 import { after, test } from "node:test";
@@ -29,7 +40,11 @@ function laidOut(row) {
 }
 
 function run(program, words, cwd, input = "") {
-  const { stdout, stderr, status } = spawnSync(program[0], [...program.slice(1), ...words], { cwd, input, encoding: "utf8" });
+  const { stdout, stderr, status } = spawnSync(
+    program[0],
+    [...program.slice(1), ...words],
+    { cwd, input, encoding: "utf8" },
+  );
   return { printed: stdout, said: stderr, status };
 }
 
@@ -42,7 +57,8 @@ function isPlayed({ words, prints_with: helps }) {
 }
 
 /** The fragments of help that name commands of the tool alone. */
-const isOwn = (fragment) => !/^\n {2}(id|show|state|resume|latest|permissions|chain|compare|claims|make|append|prove|verify) /.test(fragment);
+const OTHERS = "id|show|state|resume|latest|permissions|chain|compare|claims|make|append|prove|verify";
+const isOwn = (fragment) => !new RegExp(`^\\n {2}(${OTHERS}) `).test(fragment);
 
 test("the rows of the tool that ask for an audit", { skip: without("conformance/tool") }, (context) => {
   const rows = ["audit", "words"].flatMap((it) => JSON.parse(readFileSync(at(`conformance/tool/${it}.json`), "utf8")));
@@ -65,7 +81,9 @@ test("the rows of the tool that ask for an audit", { skip: without("conformance/
   assert.ok(played > 90);
 });
 
-test("beside the tool", { skip: existsSync(TOOL) && process.arch === "x64" ? false : "the tool is not here" }, async () => {
+const LEFT_OUT = existsSync(TOOL) && process.arch === "x64" ? false : "the tool is not here";
+
+test("beside the tool", { skip: LEFT_OUT }, async () => {
   const folder = laidOut({});
   const made = textOf(await envelopes(3, ...(await keys())));
   const files = {
@@ -87,7 +105,8 @@ test("beside the tool", { skip: existsSync(TOOL) && process.arch === "x64" ? fal
   };
   for (const [name, text] of Object.entries(files)) writeFileSync(`${folder}/${name}`, text);
   mkdirSync(`${folder}/folder`);
-  const all = ["package good", "package two", "operator good", "package blank", "package odd", "package big", "package most",
+  const all = [
+    "package good", "package two", "operator good", "package blank", "package odd", "package big", "package most",
     "package folder", "package good/x", "package none", "package", "package -", "package - --goes-on-from good",
     "package good two none folder odd big", "package @list", "package @no-list", "package @empty-list", "package @none",
     "package @empty-list @empty-list --allow-empty", "package @folder", "package good --goes-on-from two",
@@ -99,9 +118,11 @@ test("beside the tool", { skip: existsSync(TOOL) && process.arch === "x64" ? fal
     "package good --verified none", "package good --verified folder", "package none --verified none2",
     "package package_forged.hex --toy", "package package_unauthorized.hex --toy", "package package_unauthorized.hex",
     "package package_bad_line.hex", "package package_yanked.hex --toy", "operator operator_namespaces.hex --toy",
-    "operator package_yanked.hex --toy", "package operator_namespaces.hex", "package -- -x", "operator -- good"];
+    "operator package_yanked.hex --toy", "package operator_namespaces.hex", "package -- -x", "operator -- good",
+  ];
   const wrong = [];
-  for (const words of all.flatMap((it) => [it, `${it.replace(" -- ", " --json -- ")}${it.includes(" -- ") ? "" : " --json"}`, `--paths ${it}`])) {
+  const asJson = (it) => `${it.replace(" -- ", " --json -- ")}${it.includes(" -- ") ? "" : " --json"}`;
+  for (const words of all.flatMap((it) => [it, asJson(it), `--paths ${it}`])) {
     const split = ["audit", ...words.split(" ")];
     const [tool, own] = [[fileURLToPath(TOOL)], byNode].map((it) => run(it, split, folder));
     if (JSON.stringify(tool) !== JSON.stringify(own)) wrong.push({ words, tool, own });
@@ -118,7 +139,11 @@ test("what no one reads", () => {
   assert.deepEqual([done.status, done.stderr], [3, "weoldrin: standard output could not be written\n"]);
   const many = Array.from({ length: 20_000 }, () => "package_releases.hex").join("\n");
   writeFileSync(`${folder}/many`, many);
-  const gone = spawnSync("sh", ["-c", '"$0" "$1" audit --toy package @many | head -n 1', execPath, COMMAND], { cwd: folder, encoding: "utf8" });
+  const gone = spawnSync(
+    "sh",
+    ["-c", '"$0" "$1" audit --toy package @many | head -n 1', execPath, COMMAND],
+    { cwd: folder, encoding: "utf8" },
+  );
   assert.deepEqual([gone.stderr, gone.stdout.split("\n").length], ["", 2]);
 });
 
@@ -130,7 +155,11 @@ test("commands of the tool that are not here", () => {
 
 test("a library that is not there", () => {
   const environment = { ...process.env, WEOLDRIN_LIBRARY: "/none/x" };
-  const done = spawnSync(execPath, [COMMAND, "audit", "package", "-"], { input: "", env: environment, encoding: "utf8" });
+  const done = spawnSync(
+    execPath,
+    [COMMAND, "audit", "package", "-"],
+    { input: "", env: environment, encoding: "utf8" },
+  );
   assert.deepEqual([done.status, done.stdout], [3, ""]);
   assert.match(done.stderr, /^weoldrin: the library can't be had from file:\/\/\/none\/x: ENOENT/);
 });

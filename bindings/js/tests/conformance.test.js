@@ -152,7 +152,11 @@ class Rows {
       this.played++;
       const { status, printed, refusal } = found;
       const isTold = !refusal || this.sentences.isToldByName(kind, refusal.name, refusal.sentence);
-      if (`= ${status} ${quoted(printed)}` !== wanted || !isTold) this.fail(name, block, `${number}: ${status} ${printed}`);
+      if (`= ${status} ${quoted(printed)}` !== wanted || !isTold) this.fail(
+        name,
+        block,
+        `${number}: ${status} ${printed}`,
+      );
     }
   }
 

@@ -25,29 +25,48 @@ function elsewhere(code, flags = []) {
 }
 
 test("an engine without 64-bit memory", () => {
-  const code = 'import { PackageLog, has64BitMemory } from "weoldrin"; console.log(has64BitMemory()); await PackageLog.open().catch((error) => console.log(String(error)))';
   // The engine says no, where it does not have it behind a flag.
-  const hidden = `WebAssembly.validate = () => false; ${code.replace("import {", "const {").replace('} from "weoldrin"', '} = await import("weoldrin")')}`;
-  const { stdout } = elsewhere(hidden);
+  const { stdout } = elsewhere(`
+    WebAssembly.validate = () => false;
+    const { PackageLog, has64BitMemory } = await import("weoldrin");
+    console.log(has64BitMemory());
+    await PackageLog.open().catch((error) => console.log(String(error)));
+  `);
   assert.equal(
     stdout,
-    "false\nNoLibrary: this engine has no WebAssembly with 64-bit memory; Chromium 133, Firefox 134 and Node 24 have it, " +
-      "and later ones, and Node 20 with --experimental-wasm-memory64\n",
+    "false\nNoLibrary: this engine has no WebAssembly with 64-bit memory; Chromium 133, Firefox 134 and Node 24 have " +
+      "it, and later ones, and Node 20 with --experimental-wasm-memory64\n",
   );
   assert.equal(has64BitMemory(), true);
 });
 
 test("an engine without WebAssembly", () => {
-  const { stdout } = elsewhere('delete globalThis.WebAssembly; const { PackageLog } = await import("weoldrin"); await PackageLog.open().catch((error) => console.log(String(error)))');
+  const { stdout } = elsewhere(`
+    delete globalThis.WebAssembly;
+    const { PackageLog } = await import("weoldrin");
+    await PackageLog.open().catch((error) => console.log(String(error)));
+  `);
   assert.match(stdout, /^NoLibrary: this engine has no WebAssembly with 64-bit memory/);
 });
 
 test("a module that is not there, is none, or is another", async () => {
-  await assert.rejects(() => Library.load({ source: pathToFileURL("/none/lib.wasm") }), said(/^NoLibrary: the library can't be had from file:\/\/\/none\/lib\.wasm: ENOENT/));
-  await assert.rejects(() => Library.load({ source: pathToFileURL("/") }), said(/can't be had from file:\/\/\/: EISDIR/));
+  await assert.rejects(
+    () => Library.load({ source: pathToFileURL("/none/lib.wasm") }),
+    said(/^NoLibrary: the library can't be had from file:\/\/\/none\/lib\.wasm: ENOENT/),
+  );
+  await assert.rejects(
+    () => Library.load({ source: pathToFileURL("/") }),
+    said(/can't be had from file:\/\/\/: EISDIR/),
+  );
   await assert.rejects(() => Library.load({ source: "no address" }), said(/^NoLibrary: the library can't be had: /));
-  await assert.rejects(() => Library.load({ source: Buffer.from("no module") }), said(/^NoLibrary: what is had is no library: /));
-  await assert.rejects(() => Library.load({ source: new Uint8Array() }), said(/^NoLibrary: what is had is no library: /));
+  await assert.rejects(
+    () => Library.load({ source: Buffer.from("no module") }),
+    said(/^NoLibrary: what is had is no library: /),
+  );
+  await assert.rejects(
+    () => Library.load({ source: new Uint8Array() }),
+    said(/^NoLibrary: what is had is no library: /),
+  );
   const empty = Uint8Array.of(0, 97, 115, 109, 1, 0, 0, 0);
   await assert.rejects(() => Library.load({ source: empty }), said(/^NoLibrary: the library can't be begun: /));
   const importing = Uint8Array.of(0, 97, 115, 109, 1, 0, 0, 0, 1, 4, 1, 0x60, 0, 0, 2, 7, 1, 1, 97, 1, 98, 0, 0);
@@ -55,7 +74,9 @@ test("a module that is not there, is none, or is another", async () => {
 });
 
 test("a module of the network, whose server may say no", async () => {
-  const bytes = readFileSync(process.env.WEOLDRIN_LIBRARY ?? new URL("libwarg.wasm", import.meta.resolve("weoldrin/package.json")));
+  const bytes = readFileSync(
+    process.env.WEOLDRIN_LIBRARY ?? new URL("libwarg.wasm", import.meta.resolve("weoldrin/package.json")),
+  );
   const server = createServer((request, response) => {
     if (request.url !== "/libwarg.wasm") response.writeHead(404).end("none");
     else response.writeHead(200, { "content-type": "text/plain" }).end(bytes);
@@ -65,12 +86,18 @@ test("a module of the network, whose server may say no", async () => {
   try {
     assert.equal((await Library.load({ source: `${base}/libwarg.wasm` })).version(), library.version());
     assert.equal((await Library.load({ source: await fetch(`${base}/libwarg.wasm`) })).version(), library.version());
-    await assert.rejects(() => Library.load({ source: `${base}/x` }), said(/can't be had from http:.*\/x: the server answers 404$/));
+    await assert.rejects(
+      () => Library.load({ source: `${base}/x` }),
+      said(/can't be had from http:.*\/x: the server answers 404$/),
+    );
   } finally {
     server.closeAllConnections();
     server.close();
   }
-  await assert.rejects(() => Library.load({ source: `${base}/libwarg.wasm` }), said(/^NoLibrary: the library can't be had from http:/));
+  await assert.rejects(
+    () => Library.load({ source: `${base}/libwarg.wasm` }),
+    said(/^NoLibrary: the library can't be had from http:/),
+  );
 });
 
 test("bytes, and a module that was compiled", async () => {
@@ -79,7 +106,10 @@ test("bytes, and a module that was compiled", async () => {
   const names = WebAssembly.Module.exports(library.module).map((it) => it.name);
   const header = readFileSync(at("include/warg.h"), "utf8");
   const wanted = [...header.matchAll(/^(?:uint32_t|void) (warg_\w+)\(/gm)].map((it) => it[1]);
-  assert.deepEqual(names.sort(), [...new Set([...wanted, "host_alloc", "host_free", "host_limit", "host_used", "memory"])].sort());
+  assert.deepEqual(
+    names.sort(),
+    [...new Set([...wanted, "host_alloc", "host_free", "host_limit", "host_used", "memory"])].sort(),
+  );
 });
 
 test("a load that failed is tried again", () => {
@@ -88,7 +118,9 @@ test("a load that failed is tried again", () => {
   try {
     const good = process.env.WEOLDRIN_LIBRARY ?? new URL("libwarg.wasm", import.meta.resolve("weoldrin/package.json"));
     writeFileSync(`${folder}/good`, readFileSync(good));
-    const code = `import "./place.js"; import { copyFileSync } from "node:fs"; process.env.WEOLDRIN_LIBRARY = ${JSON.stringify(path)};
+    const code = `import "./place.js";
+      import { copyFileSync } from "node:fs";
+      process.env.WEOLDRIN_LIBRARY = ${JSON.stringify(path)};
       const { PackageLog } = await import("weoldrin");
       await PackageLog.open().catch((error) => console.log(error.constructor.name));
       copyFileSync(${JSON.stringify(`${folder}/good`)}, ${JSON.stringify(path)});

@@ -1,6 +1,6 @@
-// in_browser.mjs PACKAGE BROWSER: tries the package in a browser, which is begun without a window: a log that is signed and
-// appended, the rows of P-256 by WebCrypto and by the library, an audit of a file, and audits by workers. PACKAGE is the
-// folder of the installed package.
+// in_browser.mjs PACKAGE BROWSER: tries the package in a browser, which is begun without a window: a log that is signed
+// and appended, the rows of P-256 by WebCrypto and by the library, an audit of a file, and audits by workers. PACKAGE
+// is the folder of the installed package.
 import { spawn } from "node:child_process";
 import { mkdtempSync, readFileSync, rmSync } from "node:fs";
 import { createServer } from "node:http";
@@ -14,7 +14,8 @@ const files = {
   "/log": `${root}/examples/p256/package.hex`,
   "/rows.js": new URL("browser_page.js", import.meta.url),
 };
-const PAGE = '<!doctype html><meta charset="utf-8"><title>weoldrin</title><script type="module" src="/rows.js"></script>';
+const PAGE =
+  '<!doctype html><meta charset="utf-8"><title>weoldrin</title><script type="module" src="/rows.js"></script>';
 const TYPES = { js: "text/javascript", wasm: "application/wasm" };
 const profile = mkdtempSync(`${tmpdir()}/weoldrin-`);
 
@@ -25,7 +26,8 @@ const words = browser.includes("firefox")
 function served(request, response) {
   const [path] = request.url.split("?");
   if (path === "/") return response.writeHead(200, { "content-type": "text/html" }).end(PAGE);
-  const file = files[path] ?? (/^\/package\/[\w./]+$/.test(path) && !path.includes("..") ? `${folder}${path.slice(8)}` : null);
+  const isOfPackage = /^\/package\/[\w./]+$/.test(path) && !path.includes("..");
+  const file = files[path] ?? (isOfPackage ? `${folder}${path.slice(8)}` : null);
   try {
     const bytes = readFileSync(file);
     return response.writeHead(200, { "content-type": TYPES[path.split(".").at(-1)] ?? "text/plain" }).end(bytes);

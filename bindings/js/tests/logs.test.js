@@ -61,8 +61,14 @@ test("records, releases and keys", async () => {
   assert.equal(log.latest("^2"), null);
   assert.equal(log.release("1.9.0"), null);
   const [aliceId, bobId] = [alice, bob].map((it) => records.keyId(it.publicKey));
-  assert.deepEqual([log.permissions(aliceId), log.permissions(bobId), log.permissions("x")], [["release", "yank"], ["release"], null]);
-  assert.deepEqual([log.holds(bobId, "release"), log.holds(bobId, "yank"), log.holds("x", "yank")], [true, false, false]);
+  assert.deepEqual(
+    [log.permissions(aliceId), log.permissions(bobId), log.permissions("x")],
+    [["release", "yank"], ["release"], null],
+  );
+  assert.deepEqual(
+    [log.holds(bobId, "release"), log.holds(bobId, "yank"), log.holds("x", "yank")],
+    [true, false, false],
+  );
   assert.deepEqual([log.publicKey(bobId), log.publicKey("x")], [bob.publicKey, null]);
   assert.deepEqual(log.chain(bobId, "release"), [{ record: 0, entry: 0 }, { record: 0, entry: 1 }]);
   assert.equal(log.chain(bobId, "yank"), null);
@@ -102,7 +108,10 @@ test("a record is asked for and answered", async () => {
   }
   assert.throws(() => log.appendAnswered(made[0], question, false), (error) => error.name === "SignatureError");
   assert.throws(() => log.appendAnswered(made[0], { ...question, message: Buffer.from("other") }, true), Refused);
-  assert.throws(() => log.appendAnswered(made[0], { ...question, key: "no key" }, true), (error) => error.name === "BadQuestion");
+  assert.throws(
+    () => log.appendAnswered(made[0], { ...question, key: "no key" }, true),
+    (error) => error.name === "BadQuestion",
+  );
   log.appendAnswered(made[0], question, true);
   assert.equal(log.length, 1);
   await log.append(made[1], p256.verifyByWebCrypto);
@@ -113,7 +122,10 @@ test("a record is asked for and answered", async () => {
   assert.equal(log.length, 3);
   log.appendSigned(made[3]);
   assert.throws(() => log.appendSigned(made[3]), Refused);
-  assert.throws(() => log.appendSigned(Buffer.from("0b", "hex")), (error) => error instanceof NoEnvelope && error.sentence !== "");
+  assert.throws(
+    () => log.appendSigned(Buffer.from("0b", "hex")),
+    (error) => error instanceof NoEnvelope && error.sentence !== "",
+  );
   log.close();
 });
 
@@ -165,12 +177,29 @@ test("a log goes on from its saved state", async () => {
   await log.append(made[3]);
   assert.equal(resumed.head(), log.head());
   assert.deepEqual(resumed.latest("*"), log.latest("*"));
-  for (const call of [() => resumed.length, () => resumed.record(0), () => resumed.chain(records.keyId(bob.publicKey), "release"), () => resumed.compare(log), () => resumed.compare(resumed)]) {
+  const calls = [
+    () => resumed.length,
+    () => resumed.record(0),
+    () => resumed.chain(records.keyId(bob.publicKey), "release"),
+    () => resumed.compare(log),
+    () => resumed.compare(resumed),
+  ];
+  for (const call of calls) {
     assert.throws(call, (error) => error instanceof BadArgument && error.name === "Resumed");
   }
-  const wrong = { "": "NotJson", "[]": "WrongType", "\ud800": "NotJson", '{"head":{}}': "Missing", '{"algorithm":"sha256"}': "Incoherent" };
+  const wrong = {
+    "": "NotJson",
+    "[]": "WrongType",
+    "\ud800": "NotJson",
+    '{"head":{}}': "Missing",
+    '{"algorithm":"sha256"}': "Incoherent",
+  };
   for (const [text, name] of Object.entries(wrong)) {
-    await assert.rejects(() => PackageLog.fromJson(text), (error) => error instanceof BadArgument && error.name === name, text);
+    await assert.rejects(
+      () => PackageLog.fromJson(text),
+      (error) => error instanceof BadArgument && error.name === name,
+      text,
+    );
   }
   await assert.rejects(() => PackageLog.fromJson(7), TypeError);
   log.close();
@@ -186,7 +215,14 @@ test("what is misused is said", async () => {
   assert.throws(() => log.holds("x", "commit"), named("UnknownPermission"));
   assert.throws(() => log.chain("x", "commit"), named("UnknownPermission"));
   assert.throws(() => operators.holds("x", "yank"), named("UnknownPermission"));
-  for (const call of [() => log.latest(1), () => log.publicKey(null), () => log.appendSigned("0a"), () => log.ask(null), () => log.holds("x")]) {
+  const calls = [
+    () => log.latest(1),
+    () => log.publicKey(null),
+    () => log.appendSigned("0a"),
+    () => log.ask(null),
+    () => log.holds("x"),
+  ];
+  for (const call of calls) {
     assert.throws(call, TypeError);
   }
   assert.throws(() => new Log(log.library), TypeError);
@@ -204,7 +240,16 @@ test("a closed log says so", async () => {
   const log = await packageLog(1);
   log.close();
   log.close();
-  const calls = [() => log.head(), () => log.length, () => log.ask(made[1]), () => log.appendSigned(made[1]), () => log.record(0), () => log.chain("x", "release"), () => log.toJson(), () => log.latest("*")];
+  const calls = [
+    () => log.head(),
+    () => log.length,
+    () => log.ask(made[1]),
+    () => log.appendSigned(made[1]),
+    () => log.record(0),
+    () => log.chain("x", "release"),
+    () => log.toJson(),
+    () => log.latest("*"),
+  ];
   for (const call of calls) assert.throws(call, NotOpen);
   const open = await packageLog(1);
   assert.throws(() => open.compare(log), NotOpen);
@@ -247,10 +292,21 @@ test("each number of a character is printed by the rule", () => {
 });
 
 test("texts that are none are written into no record", () => {
-  for (const call of [() => records.init("\ud800"), () => records.release("1.0.0\udfff", "x"), () => records.keyId("\ud800"), () => records.importNamespace("x", "\ud800"), () => records.grant("package", "k", ["commit"]), () => records.grant("package", "k", "\x1b")]) {
+  const calls = [
+    () => records.init("\ud800"),
+    () => records.release("1.0.0\udfff", "x"),
+    () => records.keyId("\ud800"),
+    () => records.importNamespace("x", "\ud800"),
+    () => records.grant("package", "k", ["commit"]),
+    () => records.grant("package", "k", "\x1b"),
+  ];
+  for (const call of calls) {
     assert.throws(call, RangeError);
   }
   assert.throws(() => records.contents(null, 5, []), TypeError);
-  assert.equal(Buffer.from(records.contents(null, -1n, [], 0)).toString("hex"), "1a1108ffffffffffffffffff0110ff93ebdc03");
+  assert.equal(
+    Buffer.from(records.contents(null, -1n, [], 0)).toString("hex"),
+    "1a1108ffffffffffffffffff0110ff93ebdc03",
+  );
 });
 

@@ -3,7 +3,17 @@ import { collect } from "./place.js";
 import assert from "node:assert/strict";
 import { setTimeout as after } from "node:timers/promises";
 import { test } from "node:test";
-import { Library, NotOpen, OperatorLog, OutOfMemory, PackageLog, Trapped, WeoldrinError, p256, records } from "weoldrin";
+import {
+  Library,
+  NotOpen,
+  OperatorLog,
+  OutOfMemory,
+  PackageLog,
+  Trapped,
+  WeoldrinError,
+  p256,
+  records,
+} from "weoldrin";
 import { START, envelopes, keys, operatorLog, record } from "./published.js";
 
 const [alice, bob] = await keys();
@@ -96,7 +106,10 @@ test("memory grows in the midst of calls", async () => {
   let grown = 0;
   for (let turn = 1; turn < 60; turn++) {
     const size = library.memory().size;
-    const entries = Array.from({ length: 20 }, (_, it) => records.release(`${turn}.${it}.0+${"a".repeat(turn * 20)}`, records.sha256Text(Buffer.from("x"))));
+    const entries = Array.from(
+      { length: 20 },
+      (_, it) => records.release(`${turn}.${it}.0+${"a".repeat(turn * 20)}`, records.sha256Text(Buffer.from("x"))),
+    );
     const envelope = await record(log, bob, entries);
     log.appendSigned(envelope);
     const found = log.record(turn);
@@ -118,7 +131,10 @@ test("what is passed and given may be larger than all memory before", async () =
   assert.equal(log.publicKey(long), null);
   const contents = records.contents(log.head(), START, [records.release("1.0.0", records.sha256Text(Buffer.from("")))]);
   const before = used(library);
-  assert.throws(() => log.appendSigned(records.envelope(contents, `k${long}`, p256.textOf(new Uint8Array(8)))), (error) => error.sentence.includes(long));
+  assert.throws(
+    () => log.appendSigned(records.envelope(contents, `k${long}`, p256.textOf(new Uint8Array(8)))),
+    (error) => error.sentence.includes(long),
+  );
   // What was so large is not kept.
   assert.ok(used(library) - before < 5_000_000 && used(library) < 5_000_000, `${used(library)} bytes are in use`);
   log.close();
@@ -223,7 +239,10 @@ test("a limit bounds what a log may take", async () => {
   log.appendSigned(made[0]);
   let refused;
   for (let turn = 1; turn < 1000 && !refused; turn++) {
-    const entries = Array.from({ length: 50 }, (_, it) => records.release(`${turn}.${it}.0`, records.sha256Text(Buffer.from("x"))));
+    const entries = Array.from(
+      { length: 50 },
+      (_, it) => records.release(`${turn}.${it}.0`, records.sha256Text(Buffer.from("x"))),
+    );
     const envelope = await record(log, bob, entries);
     const before = log.head();
     try {
@@ -273,7 +292,14 @@ test("where the engine's stack ends, the log is closed, and never half changed",
     atTheEnd(() => (turn % 2 ? log.appendSigned(made[3]) : log.toJson()));
     if (library.isGivenUp) {
       trapped++;
-      for (const call of [() => log.head(), () => log.appendSigned(made[3]), () => other.head(), () => library.version(), () => new PackageLog(library)]) {
+      const calls = [
+        () => log.head(),
+        () => log.appendSigned(made[3]),
+        () => other.head(),
+        () => library.version(),
+        () => new PackageLog(library),
+      ];
+      for (const call of calls) {
         assert.throws(call, (error) => error instanceof NotOpen && /trapped/.test(error.sentence));
       }
       log.close();
@@ -296,7 +322,10 @@ test("a trap is told, and the shared library is another one then", async () => {
   // What was never given can't be given back: the heap traps.
   assert.throws(
     () => library.givenBack(4096n),
-    (error) => error instanceof Trapped && /^Trapped: the library trapped, and its logs are closed: RuntimeError/.test(String(error)),
+    (error) => {
+      const isTold = /^Trapped: the library trapped, and its logs are closed: RuntimeError/.test(String(error));
+      return error instanceof Trapped && isTold;
+    },
   );
   assert.throws(() => log.head(), NotOpen);
   const next = await PackageLog.open();

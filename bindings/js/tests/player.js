@@ -98,8 +98,8 @@ const unordered = (answer) => answer.replaceAll(/ defined| imported from /g, "="
 const same = (left, right) => jsonWritten(JSON.parse(left)) === jsonWritten(JSON.parse(right));
 
 /**
- * A script on the way: a log that keeps its records, the state, which may have been saved and read back, and what was put
- * aside.
+ * A script on the way: a log that keeps its records, the state, which may have been saved and read back, and what was
+ * put aside.
  */
 export class Player {
   constructor(kind, sentences, library) {
@@ -131,7 +131,8 @@ export class Player {
       this.rows++;
       const refusal = this.refusal;
       this.refusal = null;
-      if (!refusal || !answers(refusal.error, text.slice(2), this.sentences, this.kind)) this.#fail(line, refusal?.error);
+      const isWell = refusal && answers(refusal.error, text.slice(2), this.sentences, this.kind);
+      if (!isWell) this.#fail(line, refusal?.error);
       return;
     }
     this.#unnamed();
@@ -181,7 +182,8 @@ export class Player {
       return;
     }
     this.strings.push(envelope);
-    if (this.state.head() !== this.library.recordId(this.kind, envelope)) this.#fail(line, "the head is not the record's id");
+    const id = this.library.recordId(this.kind, envelope);
+    if (this.state.head() !== id) this.#fail(line, "the head is not the record's id");
   }
 
   #unnamed() {
@@ -286,7 +288,8 @@ export function stateAnswer(log, lookUp, subject) {
     case "saved":
       return jsonWritten(subject ? saved().permissions[idOf(subject)] : saved());
     default:
-      return log instanceof PackageLog ? packageAnswer(log, lookUp, subject) : operatorAnswer(log, lookUp, subject, saved);
+      if (log instanceof PackageLog) return packageAnswer(log, lookUp, subject);
+      return operatorAnswer(log, lookUp, subject, saved);
   }
 }
 

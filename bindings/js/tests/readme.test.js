@@ -14,7 +14,8 @@ test("each block of JavaScript", { skip: without(README) }, () => {
   assert.ok(blocks.length);
   blocks.forEach((block, place) => {
     const file = fileURLToPath(new URL(`readme-${process.pid}-${place}.mjs`, import.meta.url));
-    writeFileSync(file, `import "./place.js";\n${block.replace(/^import (.*) from "weoldrin";$/gm, 'const $1 = await import("weoldrin");')}`);
+    const code = block.replace(/^import (.*) from "weoldrin";$/gm, 'const $1 = await import("weoldrin");');
+    writeFileSync(file, `import "./place.js";\n${code}`);
     try {
       const { stdout, stderr } = spawnSync(execPath, [file], { encoding: "utf8" });
       assert.equal(stderr, "");
@@ -27,7 +28,9 @@ test("each block of JavaScript", { skip: without(README) }, () => {
 });
 
 test("each name of the package has its type, and each type its name", async () => {
-  const { default: types } = { default: readFileSync(new URL("src/index.d.ts", import.meta.resolve("weoldrin/package.json")), "utf8") };
+  const { default: types } = {
+    default: readFileSync(new URL("src/index.d.ts", import.meta.resolve("weoldrin/package.json")), "utf8"),
+  };
   const package_ = await import("weoldrin");
   const values = [...types.matchAll(/^export (?:abstract )?(?:const|class|function) (\w+)/gm)].map((it) => it[1]);
   const spaces = [...types.matchAll(/^export \* as (\w+)/gm)].map((it) => it[1]);
@@ -39,12 +42,28 @@ test("each name of the package has its type, and each type its name", async () =
   }
   for (const name of ["Library", "Log", "PackageLog", "OperatorLog"]) {
     const body = new RegExp(`^export (?:abstract )?class ${name} .*?^}$`, "ms").exec(types)[0];
-    const typed = [...body.matchAll(/^ {2}(?:static )?(?:readonly )?(\w+)[(:]/gm)].map((it) => it[1]).filter((it) => it !== "constructor");
+    const members = [...body.matchAll(/^ {2}(?:static )?(?:readonly )?(\w+)[(:]/gm)].map((it) => it[1]);
+    const typed = members.filter((it) => it !== "constructor");
     const Class = package_[name];
     for (const it of typed) assert.ok(it in Class.prototype || it in Class || it === "module", `${name}.${it}`);
     const own = [...Object.getOwnPropertyNames(Class.prototype), ...Object.getOwnPropertyNames(Class)];
     // What serves the package's own files alone has no type.
-    const hidden = ["constructor", "length", "name", "prototype", "newHandle", "closeHandle", "taken", "givenBack", "status", "isDone", "filled", "beside", "words", "said"];
+    const hidden = [
+      "constructor",
+      "length",
+      "name",
+      "prototype",
+      "newHandle",
+      "closeHandle",
+      "taken",
+      "givenBack",
+      "status",
+      "isDone",
+      "filled",
+      "beside",
+      "words",
+      "said",
+    ];
     for (const it of own.filter((it) => !hidden.includes(it))) {
       const isInherited = name.endsWith("Log") && /open|fromJson|KIND/.test(it);
       assert.ok(typed.includes(it) || isInherited, `${name}.${it} has no type`);

@@ -59,7 +59,8 @@ export class Sentences {
     const form = this.forms.get(key);
     if (!form) return sentence !== "";
     this.compared.set(key, (this.compared.get(key) ?? 0) + 1);
-    return new RegExp(`^${form.map((it) => (typeof it === "number" ? ".*" : escaped(it))).join("")}$`, "s").test(sentence);
+    const pattern = form.map((it) => (typeof it === "number" ? ".*" : escaped(it))).join("");
+    return new RegExp(`^${pattern}$`, "s").test(sentence);
   }
 
   /** The cases of refusals of both kinds, and of envelopes, whose sentence was not compared. */

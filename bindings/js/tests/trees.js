@@ -39,7 +39,8 @@ export function inclusion(place, leaves) {
   if (leaves.length === 1) return [];
   const half = leftSize(leaves.length);
   const [left, right] = [leaves.slice(0, half), leaves.slice(half)];
-  return place < half ? [...inclusion(place, left), logRoot(right)] : [...inclusion(place - half, right), logRoot(left)];
+  if (place < half) return [...inclusion(place, left), logRoot(right)];
+  return [...inclusion(place - half, right), logRoot(left)];
 }
 
 /** The proof that a log begins with its first leaves, by section 2.1.4.1; from none it is empty. */

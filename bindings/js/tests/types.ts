@@ -50,7 +50,11 @@ export async function program(envelope: Uint8Array, buffer: ArrayBuffer, file: F
   const other: Log = await logOf(kindOf("package"));
   const exact: PackageLog = await logOf("package");
   const key = await p256.SigningKey.generate();
-  const contents = records.contents(log.head(), records.now(), [records.grant(Kind.PACKAGE, key.publicKey, ["release"])]);
+  const contents = records.contents(
+    log.head(),
+    records.now(),
+    [records.grant(Kind.PACKAGE, key.publicKey, ["release"])],
+  );
   await records.signed("package", contents, key.publicKey, (message) => key.sign(message));
   const checkpoint = checkpoints.parseTimestamped("{}");
   await checkpoints.isSigned(operators, { checkpoint, keyId: "x", signature: "y" }, later);
