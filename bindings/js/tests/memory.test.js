@@ -47,6 +47,32 @@ test("a log's memory is given back where it is closed", async () => {
   }
 });
 
+test("a log that was closed may be closed again", async () => {
+  const library = await Library.load();
+  const first = new PackageLog(library);
+  first.appendSigned(made[0]);
+  first.close();
+  const before = used(library);
+  for (let turn = 0; turn < 20; turn++) {
+    const log = new PackageLog(library);
+    log.appendSigned(made[0]);
+    log.close();
+    assert.equal(used(library), before);
+    // What lies where it lay is another's.
+    const other = new PackageLog(library);
+    other.appendSigned(made[0]);
+    const inUse = used(library);
+    log.close();
+    log.close();
+    assert.deepEqual([used(library), other.length, library.isGivenUp], [inUse, 1, false]);
+    for (const call of [() => log.head(), () => log.length, () => log.appendSigned(made[1]), () => other.compare(log)]) {
+      assert.throws(call, NotOpen);
+    }
+    other.close();
+    assert.equal(used(library), before);
+  }
+});
+
 test("a resumed log's memory too, and that of one that could not be resumed", async () => {
   const library = await Library.load();
   const log = new PackageLog(library);

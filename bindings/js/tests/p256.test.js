@@ -110,6 +110,23 @@ test("each character of the first planes, behind the texts and in their midst", 
   }
 });
 
+test("each of these texts is written in one way", async () => {
+  const { key, message, signature } = await right();
+  const whole = p256.wholePoint(Buffer.from(key.split(":")[1], "base64"));
+  // A point of 65 bytes has one `=` at the end, and two bits before it that say nothing.
+  const long = p256.textOf(whole);
+  assert.equal(await alike({ key: long, message, signature }), true);
+  const DIGITS = "ABCDEFGHIJKLMNOPQRSTUVWXYZabcdefghijklmnopqrstuvwxyz0123456789+/";
+  for (const other of [1, 2, 3]) {
+    const written = `${long.slice(0, -2)}${DIGITS[DIGITS.indexOf(long.at(-2)) + other]}=`;
+    assert.deepEqual(Buffer.from(written.split(":")[1], "base64"), Buffer.from(whole));
+    assert.equal(await alike({ key: written, message, signature }), false, written);
+  }
+  for (const written of [long.slice(0, -1), `${long}=`, ` ${long}`, `${long}\n`, long.replace(/(.{20})/, "$1\n")]) {
+    assert.equal(await alike({ key: written, message, signature }), false, written);
+  }
+});
+
 test("the DER is strict, and each number has its 32 bytes at the right end", () => {
   const der = (r, s) => Uint8Array.from([0x30, r.length + s.length + 4, 2, r.length, ...r, 2, s.length, ...s]);
   const raw = (r, s) => Uint8Array.from([...Array(32 - r.length).fill(0), ...r, ...Array(32 - s.length).fill(0), ...s]);
@@ -127,6 +144,11 @@ test("the DER is strict, and each number has its 32 bytes at the right end", () 
     "no digits": der([], low),
     "33 bytes that begin with no zero": der([1, ...low], [1]),
     "34 bytes": der([0, 0x80, ...Array(32).fill(0)], [1]),
+    "a whole that is said to be shorter": der(low, low).map((it, place) => (place === 1 ? it - 1 : it)),
+    "a whole that is said to be empty": der(low, low).map((it, place) => (place === 1 ? 0 : it)),
+    "a whole that is said to be longer": der(low, low).map((it, place) => (place === 1 ? it + 1 : it)),
+    "a second number that is said to be shorter": der([1], [1, 1]).map((it, place) => (place === 6 ? 1 : it)),
+    "a second number that is said to be longer": der([1], [1, 1]).map((it, place) => (place === 6 ? 3 : it)),
     "another tag": Uint8Array.from([0x31, ...der(low, low).slice(1)]),
     "another tag of the first number": der(low, low).map((it, place) => (place === 2 ? 3 : it)),
     "another tag of the second number": der([1], [1, 1]).map((it, place) => (place === 5 ? 3 : it)),

@@ -54,7 +54,7 @@ const WRONG = {
     "return base64Of(bytes) === text ? bytes : null;",
     "return bytes;",
     "p256",
-    "texts|character",
+    "in one way",
   ],
   "WebCrypto is asked of any algorithm": [
     "p256.js",
@@ -79,7 +79,7 @@ const WRONG = {
     "this.#handle = undefined;\n    this.#library",
     "this.#library",
     "memory",
-    "given back",
+    "closed again",
   ],
   "a closed log is closed where it is forgotten": [
     "logs.js",
