@@ -13,6 +13,7 @@ import {
   PackageLog,
   Refused,
   UnknownAlgorithm,
+  checkpoints,
   kindOf,
   libraryVersion,
   logOf,
@@ -234,6 +235,57 @@ test("what is misused is said", async () => {
   await assert.rejects(() => recordId("package", Buffer.from("ff", "hex")), NoEnvelope);
   log.close();
   operators.close();
+});
+
+test("bytes are those of a view, from its place on", async () => {
+  const log = await PackageLog.open();
+  const [first, second, third] = made;
+  const odd = new Uint8Array(first.length + 7);
+  odd.set(first, 3);
+  log.appendSigned(new DataView(odd.buffer, 3, first.length));
+  const shared = new SharedArrayBuffer(second.length);
+  new Uint8Array(shared).set(second);
+  log.appendSigned(shared);
+  log.appendSigned(third.buffer.slice(third.byteOffset, third.byteOffset + third.length));
+  assert.equal(log.length, 3);
+  assert.deepEqual(Buffer.from(log.record(0).envelope), Buffer.from(first));
+});
+
+test("what a log gave stays, whatever it gives then", async () => {
+  const log = await PackageLog.open();
+  for (const it of made) log.appendSigned(it);
+  const found = [...log.records()];
+  const copies = found.map((it) => [Buffer.from(it.envelope), it.id]);
+  log.toJson();
+  assert.deepEqual(found.map((it) => [Buffer.from(it.envelope), it.id]), copies);
+});
+
+test("places and lengths are whole numbers of 64 bits", async () => {
+  const library = await Library.load();
+  const id = records.sha256Text(new Uint8Array());
+  for (const wrong of [-1, -1n, 0.5, NaN, Infinity, 2 ** 53, 2 ** 60, 2n ** 64n, "1", null, undefined]) {
+    const calls = [
+      () => library.verifyInclusion(id, id, wrong, 1, id, ""),
+      () => library.verifyInclusion(id, id, 0, wrong, id, ""),
+      () => library.verifyConsistency(wrong, id, 1, id, ""),
+      () => library.verifyConsistency(1, id, wrong, id, ""),
+      () => checkpoints.toJson({ logRoot: id, logLength: wrong, mapRoot: id }),
+    ];
+    for (const call of calls) {
+      assert.throws(call, (error) => error instanceof BadArgument && error.name === "OutOfRange", String(wrong));
+    }
+  }
+  for (const well of [1, 1n, 2 ** 53 - 1, 2n ** 53n, 2n ** 64n - 1n]) {
+    assert.equal(library.verifyInclusion(id, id, 0, well, id, ""), false);
+  }
+});
+
+test("a checkpoint's JSON is nested at most 127 deep", () => {
+  const root = records.sha256Text(new Uint8Array());
+  const nested = (depth) =>
+    `{"logLength":1,"logRoot":"${root}","mapRoot":"${root}","more":${"[".repeat(depth - 1)}${"]".repeat(depth - 1)}}`;
+  assert.equal(checkpoints.parse(nested(127)).logLength, 1n);
+  assert.throws(() => checkpoints.parse(nested(128)), (error) => error.name === "NotJson");
 });
 
 test("a closed log says so", async () => {

@@ -73,6 +73,17 @@ test("a log that was closed may be closed again", async () => {
   }
 });
 
+test("a handle begins as no log, whatever lay there", async () => {
+  const library = await Library.load();
+  // Of pieces that were given back, with others between them, the heap keeps a list, whose links lie in them.
+  const pieces = Array.from({ length: 60 }, () => library.taken(16));
+  for (const it of pieces.filter((_, place) => place % 2)) library.givenBack(it);
+  const logs = Array.from({ length: 40 }, () => new PackageLog(library));
+  for (const it of logs) it.appendSigned(made[0]);
+  assert.deepEqual([library.isGivenUp, ...logs.map((it) => it.length)], [false, ...logs.map(() => 1)]);
+  for (const it of logs) it.close();
+});
+
 test("a resumed log's memory too, and that of one that could not be resumed", async () => {
   const library = await Library.load();
   const log = new PackageLog(library);
@@ -159,7 +170,11 @@ test("what is passed and given may be larger than all memory before", async () =
   const before = used(library);
   assert.throws(
     () => log.appendSigned(records.envelope(contents, `k${long}`, p256.textOf(new Uint8Array(8)))),
-    (error) => error.sentence.includes(long),
+    (error) => {
+      const parts = ["the key with ID k", " did not have required permission release"];
+      assert.deepEqual([error.name, ...error.sentence.split(long)], ["UnauthorizedAction", ...parts]);
+      return true;
+    },
   );
   // What was so large is not kept.
   assert.ok(used(library) - before < 5_000_000 && used(library) < 5_000_000, `${used(library)} bytes are in use`);

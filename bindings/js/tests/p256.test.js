@@ -178,6 +178,12 @@ test("a point is made whole, and what is none is none", async () => {
     Uint8Array.from(whole, (it, place) => (place === 64 ? it ^ 2 : it)),
     Uint8Array.from(bytes, (it, place) => (place ? 255 : it)),
     whole.subarray(0, 64),
+    // A point of the curve, were 5 not written as 5 and the prime.
+    Buffer.from(
+      "04d7325d7646cd60d80a92738ceb345f844cffaf35841022cab176f692de8de1d7" +
+        "ffffffff00000001000000000000000000000001000000000000000000000004",
+      "hex",
+    ),
   ];
   for (const it of none) assert.equal(p256.wholePoint(it), null);
   const texts = [p256.textOf(whole), p256.textOf(bytes)];
