@@ -82,7 +82,7 @@ class Node(unittest.TestCase):
     """Whether a Node is new enough."""
 
     def _is_enough(self, said: str, probed: int = 0) -> bool:
-        """Whether one is that says this version, and that answers with this status what it is asked of 64-bit memory."""
+        """Whether one is that says this version, and answers with this status what it is asked of 64-bit memory."""
         with tempfile.TemporaryDirectory() as folder:
             node = pathlib.Path(folder) / "node"
             node.write_text(

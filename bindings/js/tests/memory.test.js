@@ -65,9 +65,8 @@ test("a log that was closed may be closed again", async () => {
     log.close();
     log.close();
     assert.deepEqual([used(library), other.length, library.isGivenUp], [inUse, 1, false]);
-    for (const call of [() => log.head(), () => log.length, () => log.appendSigned(made[1]), () => other.compare(log)]) {
-      assert.throws(call, NotOpen);
-    }
+    const calls = [() => log.head(), () => log.length, () => log.appendSigned(made[1]), () => other.compare(log)];
+    for (const call of calls) assert.throws(call, NotOpen);
     other.close();
     assert.equal(used(library), before);
   }
