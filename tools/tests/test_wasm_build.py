@@ -44,7 +44,7 @@ class Retargeted(unittest.TestCase):
 
     def test_assembler(self) -> None:
         lines = ['  call void asm sideeffect "nop", ""()', '  %a = call i64 asm "rdtsc", "=r"()', 'module asm "nop"']
-        for text in lines:
+        for text in [*lines, 'module asm ""']:
             with self.assertRaisesRegex(NoModule, "assembler"):
                 retargeted(f"{HEAD}{text}\n")
         barrier = '  call void asm sideeffect "", "~{memory}"()\n'
