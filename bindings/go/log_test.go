@@ -11,6 +11,7 @@ import (
 	"time"
 
 	"weoldrin.example/weoldrin"
+	"weoldrin.example/weoldrin/internal/rows"
 	"weoldrin.example/weoldrin/p256"
 	"weoldrin.example/weoldrin/records"
 )
@@ -158,13 +159,52 @@ func TestNamespaces(t *testing.T) {
 	isRefused(t, err, weoldrin.ErrBadArgument, "NotUtf8")
 	id := records.KeyID(alice.PublicKey())
 	equal(t, must(log.KeyHasPermissionToSignCheckpoints(id)), true)
-	all := []weoldrin.Permission{weoldrin.MayCommit, weoldrin.MayDefineNamespace, weoldrin.MayImportNamespace}
-	if held := must(log.Permissions(id)); !reflect.DeepEqual(held, all) {
-		t.Errorf("seen %v", held)
-	}
 	other := operators(must(p256.Generate()))
 	equal(t, must(log.Compare(other)), weoldrin.Comparison{Relation: weoldrin.Fork})
 	equal(t, must(must(weoldrin.OperatorLogFromJSON(must(log.ToJSON()))).Head()), must(log.Head()))
+}
+
+// permitting is a log of either kind that says what keys may do.
+type permitting interface {
+	appender
+	Permissions(keyID string) ([]weoldrin.Permission, error)
+}
+
+// Who begins a log holds all permissions, as the rows list them, and can grant all to another.
+func TestPermissions(t *testing.T) {
+	listed := 0
+	for _, path := range rows.Files(t, 2, "values/permissions.rows") {
+		for _, block := range must(rows.Blocks(path)) {
+			row := must(rows.RowOf(block.Text))
+			alice, bob := two()
+			switch words := strings.Fields(row.Wanted); row.Question {
+			case "permissions package-permission":
+				holdAll(t, must(weoldrin.NewPackageLog()), alice, bob, words[1:])
+				listed++
+			case "permissions operator-permission":
+				holdAll(t, must(weoldrin.NewOperatorLog()), alice, bob, words[1:])
+				listed++
+			}
+		}
+	}
+	equal(t, listed, 2)
+}
+
+func holdAll(t *testing.T, log permitting, alice, bob *p256.SigningKey, words []string) {
+	t.Helper()
+	var all []weoldrin.Permission
+	for _, it := range words {
+		all = append(all, weoldrin.Permission(it))
+	}
+	grant := must(records.Grant(log.Kind(), bob.PublicKey(), all...))
+	if err := log.AppendSigned(record(log, alice, start, records.Init(alice.PublicKey()), grant)); err != nil {
+		t.Fatal(err)
+	}
+	for _, key := range []*p256.SigningKey{alice, bob} {
+		if held := must(log.Permissions(records.KeyID(key.PublicKey()))); !reflect.DeepEqual(held, all) {
+			t.Errorf("%v: seen %v, wanted %v", log.Kind(), held, all)
+		}
+	}
 }
 
 func TestSavedStates(t *testing.T) {

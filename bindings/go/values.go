@@ -40,12 +40,13 @@ func KindOf(word string) (Kind, error) {
 // Permission is what a key may do in a log.
 type Permission string
 
+// The permissions are those of crates/warg_permissions: `tools/release --copies` writes them.
 const (
 	// MayRelease is the permission to release versions, in the log of a package.
 	MayRelease Permission = "release"
 	// MayYank is the permission to yank versions, in the log of a package.
 	MayYank Permission = "yank"
-	// MayCommit is the permission to sign checkpoints, in the log of operators.
+	// MayCommit is the permission to sign checkpoints, and grant and revoke permissions, in the log of operators.
 	MayCommit Permission = "commit"
 	// MayDefineNamespace is the permission to define namespaces, in the log of operators.
 	MayDefineNamespace Permission = "defineNamespace"

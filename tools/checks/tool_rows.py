@@ -1,18 +1,41 @@
 """The rows of conformance/tool/: what the program weoldrin is asked, in which files, and what it answers."""
+import functools
 import json
 import pathlib
+import re
 import shutil
 from typing import Any
 
 from common import ROOT
 
 ROWS = ROOT / "conformance/tool"
+# The rows that say which permissions there are.
+PERMISSIONS = ROOT / "conformance/values/permissions.rows"
 Row = dict[str, Any]
 
 
 def text_of(value: str | list[str]) -> str:
     """A text as it is, or its lines."""
     return value if isinstance(value, str) else "".join(f"{line}\n" for line in value)
+
+
+@functools.cache
+def permissions(kind: str) -> list[str]:
+    """All permissions of a kind, as the row of `permissions` has them."""
+    found = re.search(rf"^permissions {kind} = (.*)$", PERMISSIONS.read_text(encoding="utf-8"), re.M)
+    if not found:
+        raise SystemExit(f"{PERMISSIONS.name} has no row of all permissions of the kind {kind}")
+    return found[1].split()
+
+
+def with_permissions(lines: list[str]) -> list[str]:
+    """The lines with all permissions where they ask for them: as words, or each as a line."""
+    found = []
+    for line in lines:
+        each = re.fullmatch(r"\{each (\S+)\}", line)
+        all_of = re.compile(r"\{all (\S+)\}")
+        found += permissions(each[1]) if each else [all_of.sub(lambda it: " ".join(permissions(it[1])), line)]
+    return found
 
 
 def lay_out(row: Row, folder: pathlib.Path) -> None:
@@ -38,6 +61,8 @@ def wanted_of(row: Row) -> tuple[str, str, int]:
     prints = row.get("prints", [])
     if isinstance(prints, dict):
         prints = (ROOT / prints["file"]).read_text(encoding="utf-8")
+    if isinstance(prints, list):
+        prints = with_permissions(prints)
     return text_of(prints), text_of(row.get("says", [])), row["status"]
 
 

@@ -20,7 +20,7 @@ from unittest import mock
 TOOLS = pathlib.Path(__file__).resolve().parents[1]
 sys.path.insert(0, str(TOOLS))
 
-from packages import archive, copies, debian, elf, trees, versions
+from packages import archive, copies, debian, elf, permissions, trees, versions
 from packages.targets import TARGETS, Target
 
 ROOT = TOOLS.parent
@@ -75,38 +75,41 @@ class Versions(unittest.TestCase):
                         self.assertRaisesRegex(SystemExit, "names no version", call)
 
 
-class Link(unittest.TestCase):
-    """The name by which programs look for the library, beside the one of dist/."""
+class Named(unittest.TestCase):
+    """The shared library by the name by which programs look for it, beside the one of dist/."""
 
-    def test_link(self) -> None:
-        """It leads to the library; none, another file, or a link to something else, is told."""
+    def test_same(self) -> None:
+        """It is the same file; none, another file, or a link, is told."""
         name = versions.soname(versions.of_library())
         with clean() as root:
-            faults, link = RELEASE["faults_of_packages"], root / name
-            with mock.patch.dict(faults.__globals__, library_link=lambda of: link, ROOT=root):
-                told = [f"{name} is no link to libwarg.so"]
+            faults, named = RELEASE["faults_of_packages"], root / name
+            (root / "libwarg.so").write_text("the library")
+            with mock.patch.dict(faults.__globals__, named_library=lambda of: named, ROOT=root):
+                told = [f"{name} is not libwarg.so once more"]
                 self.assertEqual(faults(), told)
-                link.write_text("another file")
+                named.write_text("another file")
                 self.assertEqual(faults(), told)
-                link.unlink()
-                link.symlink_to("libwarg.so.0")
+                named.unlink()
+                named.symlink_to("libwarg.so")
                 self.assertEqual(faults(), told)
-                link.unlink()
-                link.symlink_to("libwarg.so")
+                named.unlink()
+                named.write_text("the library")
                 self.assertEqual(faults(), [])
         of = RELEASE["PRODUCTS"]["libwarg"]
-        self.assertEqual(RELEASE["library_link"](of), ROOT / "dist/x86_64-linux" / name)
+        self.assertEqual(RELEASE["named_library"](of), ROOT / "dist/x86_64-linux" / name)
 
     def test_made(self) -> None:
-        """It is made anew, without those of earlier versions, and then the header and the copies are."""
-        makes, done = RELEASE["link_library"], mock.Mock()
+        """It is made anew, without those of earlier versions, and then the copies are."""
+        makes, done = RELEASE["name_library"], mock.Mock()
         with clean() as root:
-            (root / "libwarg.so.0.0").symlink_to("libwarg.so")
-            changed = {"library_link": lambda of: root / "libwarg.so.0.1", "write_copies": done.copies}
-            with mock.patch.dict(makes.__globals__, changed), mock.patch("subprocess.run", done.run):
+            (root / "libwarg.so").write_text("the library")
+            (root / "libwarg.so.0.0").write_text("an older one")
+            changed = {"named_library": lambda of: root / "libwarg.so.0.1", "write_copies": done.copies}
+            with mock.patch.dict(makes.__globals__, changed):
                 makes(None)
-            self.assertEqual({it.name: str(it.readlink()) for it in root.iterdir()}, {"libwarg.so.0.1": "libwarg.so"})
-        self.assertEqual(done.mock_calls, [mock.call.run([ROOT / "tools/c_header"], check=True), mock.call.copies()])
+            found = {it.name: it.read_text() for it in root.iterdir() if not it.is_symlink()}
+            self.assertEqual(found, {"libwarg.so": "the library", "libwarg.so.0.1": "the library"})
+        self.assertEqual(done.mock_calls, [mock.call.copies()])
 
     def status(self, *words: str) -> int:
         """The status of the tool, run with these words."""
@@ -124,16 +127,112 @@ class Link(unittest.TestCase):
         """The copies alone are written by one word, and the files of a release by another."""
         done = mock.Mock()
         done.archive.return_value = 7
-        with mock.patch.object(versions, "write", done.versions), mock.patch.object(copies, "write", done.copies):
-            with mock.patch.object(archive, "write", done.archive):
-                self.assertEqual((self.status("--copies"), self.status("--archive", "a")), (0, 7))
-        of_copies = [mock.call.versions(), mock.call.copies()]
+        with contextlib.ExitStack() as patched:
+            for it in (versions, permissions, copies, archive):
+                name = it.__name__.removeprefix("packages.")
+                patched.enter_context(mock.patch.object(it, "write", getattr(done, name)))
+            patched.enter_context(mock.patch("subprocess.run", done.run))
+            self.assertEqual((self.status("--copies"), self.status("--archive", "a")), (0, 7))
+        header = mock.call.run([ROOT / "tools/c_header"], check=True)
+        of_copies = [mock.call.versions(), mock.call.permissions(), header, mock.call.copies()]
         self.assertEqual(done.mock_calls, [*of_copies, mock.call.archive(pathlib.Path("a"))])
 
     def test_told(self) -> None:
-        """What is said of the versions and of the copies is said of the packages."""
-        with mock.patch.object(versions, "faults", lambda: ["a"]), mock.patch.object(copies, "faults", lambda: ["b"]):
-            self.assertEqual(RELEASE["faults_of_packages"](), ["a", "b"])
+        """What is said of the versions, of the permissions and of the copies is said of the packages."""
+        with mock.patch.object(versions, "faults", lambda: ["a"]), mock.patch.object(copies, "faults", lambda: ["c"]):
+            with mock.patch.object(permissions, "faults", lambda: ["b"]):
+                self.assertEqual(RELEASE["faults_of_packages"](), ["a", "b", "c"])
+
+
+class Permissions(unittest.TestCase):
+    """What keys may do, and the files that repeat it."""
+
+    SPECS = f"{permissions.CRATE}/specs/OperatorPermissions.antt"
+    CODE = f"{permissions.CRATE}/src/operator.rt"
+    # What one permission more changes, by what stands behind it: the list, a number and a text, and the case.
+    CASES = ("[]\n\n-- the number", "Another ∷ []\n\n-- the number")
+    NUMBER = ("\n-- the permission that a number ", "number_of Another = 99\n\n-- the permission that a number ")
+    TEXT = ("\n-- the permission that a text ", 'permission_text Another = codes "another"\n\n-- a text ')
+    COMMENT = ("}\n\nimpl Permission", "    /// The key may do\n    /// all.\n    Another,\n}\n\nimpl Permission")
+
+    def setUp(self) -> None:
+        """The files, in a folder of their own."""
+        self.files = list(dict.fromkeys(it.file for it in permissions.places()))
+        sources = [f"src/{it}.rt" for it in permissions.KINDS]
+        sources += [f"specs/{it.capitalize()}Permissions.antt" for it in permissions.KINDS]
+        self.root = pathlib.Path(self.enterContext(tempfile.TemporaryDirectory()))
+        for name in [*self.files, *(f"{permissions.CRATE}/{it}" for it in sources)]:
+            (self.root / name).parent.mkdir(parents=True, exist_ok=True)
+            shutil.copy(ROOT / name, self.root / name)
+        self.enterContext(mock.patch.object(permissions, "ROOT", self.root))
+
+    def change(self, name: str, *pairs: tuple[str, str]) -> None:
+        """Puts texts in the place of others, each of which stands there."""
+        text = (self.root / name).read_text(encoding="utf-8")
+        for old, new in pairs:
+            self.assertIn(old, text)
+            text = text.replace(old, new, 1)
+        (self.root / name).write_text(text, encoding="utf-8")
+
+    def told(self) -> list[str]:
+        """The files that faults are told of."""
+        return [it.partition(" lists other permissions than ")[0] for it in permissions.faults()]
+
+    def test_files(self) -> None:
+        """All are as the definitions have it, and so are the rows of conformance/, which are written by hand."""
+        self.assertEqual(self.told(), [])
+        rows = (ROOT / "conformance/values/permissions.rows").read_text(encoding="utf-8").splitlines()
+        for kind in permissions.KINDS:
+            its, topic = permissions.all_of(kind), f"{kind}-permission"
+            self.assertIn(f"permissions {topic} = {' '.join(it.text for it in its)}", rows)
+            for it in its:
+                self.assertIn(f"permission-number {topic} {it.text} = {it.number}", rows)
+
+    def test_one_more(self) -> None:
+        """Each file is told, and then written so that it has it."""
+        self.change(self.SPECS, self.CASES, self.NUMBER, self.TEXT)
+        self.change(self.CODE, self.COMMENT)
+        self.assertEqual(permissions.all_of("operator")[-1], ("Another", "another", 99, "do all"))
+        self.assertEqual(self.told(), self.files)
+        permissions.write()
+        self.assertEqual(self.told(), [])
+        for it in self.files:
+            self.assertRegex((self.root / it).read_text(encoding="utf-8"), "[Aa]nother")
+        proof = "((refl, (refl, (refl, tt))), ((refl, (refl, tt)), ((refl, tt), (tt, tt))))"
+        self.assertEqual(permissions.distinct(4), proof)
+
+    def test_stale(self) -> None:
+        """A place that says something else is told, and written anew."""
+        for place in permissions.places():
+            kept = (self.root / place.file).read_text(encoding="utf-8")
+            self.change(place.file, (place.wanted, re.sub("(?i)(release|commit|, tt)", r"\1d", place.wanted)))
+            self.assertEqual(self.told(), [place.file])
+            permissions.write()
+            self.assertEqual((self.root / place.file).read_text(encoding="utf-8"), kept)
+
+    def test_long(self) -> None:
+        """In Python a line has room for so many, and then each has a line of its own."""
+        its = [permissions.Permission(f"It{at}", f"it{at}", at, "do it") for at in range(20)]
+        wanted = next(it.wanted for it in permissions.of_packages("operator", its))
+        self.assertEqual(wanted.splitlines()[1:3], ['        "it0": 0,', '        "it1": 1,'])
+
+    def test_lacking(self) -> None:
+        """A permission that lacks its number, its text or its comment is told."""
+        in_specs = {"number": self.NUMBER, "text": self.TEXT, 'comment "The key may .."': None}
+        for what, lacking in in_specs.items():
+            for name in (self.SPECS, self.CODE):
+                shutil.copy(ROOT / name, self.root / name)
+            self.change(self.SPECS, *(it for it in (self.CASES, self.NUMBER, self.TEXT) if it != lacking))
+            self.change(self.CODE, self.COMMENT)
+            if lacking is None:
+                self.change(self.CODE, ("/// The key may do\n", "/// It does\n"))
+            with self.subTest(what), self.assertRaisesRegex(SystemExit, f"that have a {what} are not those that"):
+                permissions.faults()
+
+    def test_no_list(self) -> None:
+        """A file without its list is told, and none is written."""
+        self.change("docs/FORMATS.md", ("Package permissions: ", "Permissions: "))
+        self.assertRaisesRegex(SystemExit, "FORMATS.md does not list the permissions once", permissions.write)
 
 
 class Copies(unittest.TestCase):

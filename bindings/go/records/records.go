@@ -16,11 +16,10 @@ var prefixes = map[weoldrin.Kind]string{
 	weoldrin.Operator: "WARG-OPERATOR-RECORD-SIGNATURE-V0:",
 }
 
+// The numbers are those of crates/warg_permissions: `tools/release --copies` writes them.
 var permissions = map[weoldrin.Kind]map[weoldrin.Permission]byte{
-	weoldrin.Package: {weoldrin.MayRelease: 1, weoldrin.MayYank: 2},
-	weoldrin.Operator: {
-		weoldrin.MayCommit: 1, weoldrin.MayDefineNamespace: 2, weoldrin.MayImportNamespace: 3,
-	},
+	weoldrin.Package:  {weoldrin.MayRelease: 1, weoldrin.MayYank: 2},
+	weoldrin.Operator: {weoldrin.MayCommit: 1, weoldrin.MayDefineNamespace: 2, weoldrin.MayImportNamespace: 3},
 }
 
 // Newest is the newest version of the protocol.

@@ -3,6 +3,7 @@
 import copy
 import ctypes
 import gc
+import pathlib
 import pickle
 import unittest
 from collections.abc import Callable
@@ -20,6 +21,7 @@ from weoldrin import (
     Relation,
     SignatureCheck,
     library_version,
+    log_of,
     p256,
     record_id,
     records,
@@ -28,6 +30,10 @@ from weoldrin._library import CALLS, Asked
 from weoldrin._library import Log as RawLog
 
 from . import published
+from .rows import blocks, row_of
+
+# The rows that say which permissions there are.
+ROWS = pathlib.Path(__file__).resolve().parents[3] / "conformance/values/permissions.rows"
 
 
 class Packages(unittest.TestCase):
@@ -165,13 +171,27 @@ class Operators(unittest.TestCase):
             assert own is not None and other is not None
             self.assertEqual((own.imported_from, other.imported_from), (None, "registry.example.com"))
             self.assertIsNone(log.namespace_state("none"))
-            self.assertEqual(
-                log.permissions(records.key_id(alice.public_key)), ["commit", "defineNamespace", "importNamespace"]
-            )
             self.assertRaises(BadArgument, log.holds, "x", "release")
             again = OperatorLog.from_json(log.to_json())
             self.assertEqual(again.namespace_state("other"), other)
             self.assertRaises(BadArgument, PackageLog.from_json, '{"head":{}}')
+
+
+@unittest.skipUnless(ROWS.is_file(), "there are no rows here")
+class Permissions(unittest.TestCase):
+    """What there is, by the rows that list it."""
+
+    def test_all(self) -> None:
+        """Who begins a log holds all, and can grant all to another."""
+        rows = dict(row_of(it.head.text) for it in blocks(ROWS))
+        alice, bob = p256.SigningKey.generate(), p256.SigningKey.generate()
+        for kind in ("package", "operator"):
+            wanted = rows[f"permissions {kind}-permission"].split()[1:]
+            with log_of(kind) as log:
+                grant = records.grant(kind, bob.public_key, wanted)
+                log.append(published.record(log, alice, [records.init(alice.public_key), grant]))
+                for key in (alice, bob):
+                    self.assertEqual(log.permissions(records.key_id(key.public_key)), wanted)
 
 
 class WrongUse(unittest.TestCase):

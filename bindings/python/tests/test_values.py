@@ -198,7 +198,7 @@ class Sentences(unittest.TestCase):
         for wrong in others("commit", ["commit"], "releaseyank", ["release yank"], ["release", None]):
             with self.assertRaisesRegex(ValueError, "the permissions .* are release, yank, and not "):
                 records.grant(LogKind.PACKAGE, "toy:", wrong)
-        with self.assertRaisesRegex(ValueError, "are commit, defineNamespace, importNamespace, and not 'yank'"):
+        with self.assertRaisesRegex(ValueError, "the permissions .* are commit, .*, and not 'yank'"):
             records.revoke(LogKind.OPERATOR, "x", "commit yank")
 
 

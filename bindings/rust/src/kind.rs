@@ -95,6 +95,7 @@ macro_rules! permission {
     };
 }
 
+// The cases are those of crates/warg_permissions: `tools/release --copies` writes them.
 permission! {
     /// What a key may do in the log of a package.
     PackagePermission {
@@ -108,7 +109,7 @@ permission! {
 permission! {
     /// What a key may do in the log of a registry's operators.
     OperatorPermission {
-        /// Sign checkpoints.
+        /// Sign checkpoints, and grant and revoke permissions.
         Commit "commit" 1
         /// Define namespaces.
         DefineNamespace "defineNamespace" 2

@@ -22,5 +22,5 @@ pub record IsWrong (words : List (List ℕ)) (told : List ℕ) (printed : Output
 -- what words say: the invocation that they are; else they are answered at once
 abbrev pub IsParsed : List (List ℕ) → Parsed → Type 0
 IsParsed words (parsed.Invocation it) = IsCalled (invocation_of words) words (Some it)
-IsParsed words (parsed.CommandOutput answer) =
+IsParsed words (parsed.Output answer) =
     (invocation_of words ≡ None) × (IsText words (output_data answer) ⊎ IsWrong words (string_bytes answer.error_text) (output_data answer))

@@ -12,6 +12,7 @@ _PREFIX = {
     LogKind.PACKAGE: b"WARG-PACKAGE-RECORD-SIGNATURE-V0:",
     LogKind.OPERATOR: b"WARG-OPERATOR-RECORD-SIGNATURE-V0:",
 }
+# Those of crates/warg_permissions: `tools/release --copies` writes them.
 _PERMISSIONS = {
     LogKind.PACKAGE: {"release": 1, "yank": 2},
     LogKind.OPERATOR: {"commit": 1, "defineNamespace": 2, "importNamespace": 3},
