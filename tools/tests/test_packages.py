@@ -46,7 +46,8 @@ class Versions(unittest.TestCase):
     def test_files(self) -> None:
         """All name one version, and one that names another is told, and made right."""
         rust = {"bindings/rust/Cargo.toml", "bindings/rust/Cargo.lock"}
-        self.assertEqual(set(versions.NAMED), {*rust, "bindings/python/src/weoldrin/_version.py"})
+        js = {"bindings/js/package.json", "bindings/js/README.md"}
+        self.assertEqual(set(versions.NAMED), {*rust, *js, "bindings/python/src/weoldrin/_version.py"})
         self.assertEqual(versions.faults(), [])
         self.assertEqual(versions.changed(), versions.of_library())
         for name in versions.NAMED:
@@ -241,7 +242,7 @@ class Copies(unittest.TestCase):
     def test_copies(self) -> None:
         """Each is what it is one of; one that is another, or is not there, is told, and made anew."""
         self.assertEqual(copies.faults(), [])
-        wanted = {f"{package}/{it}": it for package in ("go", "python", "rust") for it in ("LICENSE", "NOTICE")}
+        wanted = {f"{package}/{it}": it for package in ("go", "js", "python", "rust") for it in ("LICENSE", "NOTICE")}
         wanted |= {it: "include/warg.h" for it in ("go/warg.h", "rust/include/warg.h")}
         for target in (it for it in TARGETS if it.is_there()):
             library = f"dist/{target.name}/libwarg.a"

@@ -13,9 +13,17 @@ const PREFIX = {
   [Kind.PACKAGE]: "WARG-PACKAGE-RECORD-SIGNATURE-V0:",
   [Kind.OPERATOR]: "WARG-OPERATOR-RECORD-SIGNATURE-V0:",
 };
+// What keys may do in the logs of each kind, and its number in messages.
 const PERMISSIONS = {
-  [Kind.PACKAGE]: ["release", "yank"],
-  [Kind.OPERATOR]: ["commit", "defineNamespace", "importNamespace"],
+  [Kind.PACKAGE]: new Map([
+    ["release", 1],
+    ["yank", 2],
+  ]),
+  [Kind.OPERATOR]: new Map([
+    ["commit", 1],
+    ["defineNamespace", 2],
+    ["importNamespace", 3],
+  ]),
 };
 const NANOS = 1_000_000_000n;
 
@@ -45,13 +53,13 @@ function permissionsField(kind, names) {
   const known = PERMISSIONS[kindOf(kind)];
   const words = typeof names === "string" ? names.split(/\s+/).filter((it) => it !== "") : [...names];
   for (const word of words) {
-    if (!known.includes(word)) {
-      const shown = printable(String(word));
-      throw new RangeError(`the permissions of a log of this kind are ${known.join(", ")}, and not ${shown}`);
+    if (!known.has(word)) {
+      const [shown, all] = [printable(String(word)), [...known.keys()].join(", ")];
+      throw new RangeError(`the permissions of a log of this kind are ${all}, and not ${shown}`);
     }
   }
   if (!words.length) return new Uint8Array();
-  return bytesField(2, joined(words.map((it) => varint(known.indexOf(it) + 1))));
+  return bytesField(2, joined(words.map((it) => varint(known.get(it)))));
 }
 
 /** The entry that begins a log, by the key that signs it. */
