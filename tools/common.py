@@ -64,6 +64,16 @@ PRODUCTS = {
             "crates/warg_c/src/exports/version.rt",
         ),
         Product(
+            "libwarg.aarch64",
+            ("libwarg.a", "libwarg.so", "warg.pc"),
+            "warg_c",
+            "aarch64",
+            "MANIFEST.aarch64",
+            "crates/warg_c/src/exports/version.rt",
+            "aarch64-linux",
+            ("tools/aarch64_build.py", "aarch64/heap.c"),
+        ),
+        Product(
             "libwarg.wasm",
             ("libwarg.wasm",),
             "warg_c",

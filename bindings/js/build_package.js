@@ -1,4 +1,5 @@
-// Lays the library of dist/ beside the package's sources, for `npm pack`. WEOLDRIN_LIBRARY names another file of it.
+// Lays the library of dist/ beside the package's sources, as `npm pack` has it, and `npm install` of the folder.
+// WEOLDRIN_LIBRARY names another file of it.
 import { copyFileSync } from "node:fs";
 import { env, exit } from "node:process";
 

@@ -180,6 +180,21 @@ test("what is passed and given may be larger than all memory before", async () =
   log.close();
 });
 
+test("what is given stays as it is, however large it was", async () => {
+  const library = await Library.load();
+  const log = new PackageLog(library);
+  log.appendSigned(made[0]);
+  const version = `1.0.0+${"a".repeat(1_500_000)}`;
+  const envelope = await record(log, bob, [records.release(version, records.sha256Text(Buffer.from("x")))]);
+  log.appendSigned(envelope);
+  // What was so large is given back to the heap, which writes to it.
+  for (let turn = 0; turn < 3; turn++) {
+    assert.ok(Buffer.from(log.record(1).envelope).equals(envelope));
+    assert.ok(log.latest(">=1").version === version);
+  }
+  log.close();
+});
+
 /** Takes all memory that there is, and gives what gives it back. */
 function fill(library) {
   const taken = [];
@@ -195,6 +210,21 @@ function fill(library) {
   }
   return () => taken.splice(0).forEach((it) => library.givenBack(it));
 }
+
+test("a log that there is no room for leaves nothing behind", async () => {
+  const library = await Library.load();
+  library.limit(library.memory().size);
+  const handle = library.taken(16);
+  const giveBack = fill(library);
+  library.givenBack(handle);
+  const before = used(library);
+  for (let turn = 0; turn < 3; turn++) {
+    assert.throws(() => new PackageLog(library), OutOfMemory);
+    assert.equal(used(library), before);
+  }
+  giveBack();
+  new PackageLog(library).close();
+});
 
 test("where growth is refused, each call says so or does without, and the log is as it was", async () => {
   const library = await Library.load();

@@ -103,6 +103,20 @@ const WRONG = {
     "memory",
     "given back",
   ],
+  "a view of memory is given away": [
+    "library.js",
+    "this.#bytes().slice(from, from + used)",
+    "this.#bytes().subarray(from, from + used)",
+    "memory",
+    "stays as it is",
+  ],
+  "a handle that could not be opened stays": [
+    "logs.js",
+    "      library.closeHandle(this.#handle);\n      throw error;",
+    "      throw error;",
+    "memory",
+    "no room for",
+  ],
   "a trap leaves the log open": [
     "library.js",
     "    if (this.isGivenUp) throw",
