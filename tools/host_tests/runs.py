@@ -93,7 +93,6 @@ class Hosts:
         self.failed += count if self.is_all else 0
         print(f"{'FAILED, left out' if self.is_all else 'left out'} {name}: {why}", flush=True)
 
-
     def pass_over(self, name: str, why: str) -> None:
         """Says what is not tested here, which is no failure whatever has to be there: Debian has no package of it that
         goes beside the machine's own, or it takes more of a machine than all else here."""
