@@ -4,11 +4,12 @@ import os
 import pathlib
 import shlex
 import shutil
+import zipfile
 
 from aarch64_build import TARGET
 from common import ROOT
 
-from .machine import CROSS, PROGRAM, QEMU, compiles, has_go, succeeds
+from .machine import CROSS, PROGRAM, QEMU, backend, compiles, has_go, succeeds
 from .runs import RELEASED, Hosts, Kept, counted_of_cargo, counted_of_go, counted_of_make, counted_of_unittest
 
 # Where Debian has the C library beside that compiler.
@@ -57,16 +58,37 @@ def test_rust_on_arm(hosts: Hosts, library: pathlib.Path, kept: Kept) -> None:
     hosts.run("aarch64: cargo test", words, kept, counted_of_cargo)
 
 
+def wheel_of(hosts: Hosts, library: pathlib.Path) -> pathlib.Path | None:
+    """The folder of what the wheel for 64-bit ARM has; none where nothing here builds it."""
+    python, folder = backend(), hosts.folder / "aarch64-wheel"
+    if python is None:
+        return None
+    named = {"WEOLDRIN_LIBRARY": str(library / "libwarg.so"), "WEOLDRIN_WHEEL": "manylinux2014_aarch64"}
+    words = ["wheel", "-q", "--no-deps", "--no-build-isolation", "-w", str(folder), str(ROOT / "bindings/python")]
+    hosts.run("aarch64: pip wheel", [python, "-m", "pip", *words], named | {"PIP_NO_INDEX": "1"})
+    for it in folder.glob("*_aarch64.whl"):
+        with zipfile.ZipFile(it) as wheel:
+            wheel.extractall(folder)
+    return folder if (folder / "weoldrin").is_dir() else None
+
+
 def test_python_on_arm(hosts: Hosts, library: pathlib.Path, kept: Kept) -> None:
-    """The package's sources, by an interpreter for that machine."""
+    """The package of the wheel, by an interpreter for that machine."""
     python = pathlib.Path(kept["QEMU_LD_PREFIX"]) / "usr/bin/python3"
     if not succeeds(QEMU, str(python), "-c", "import cryptography"):
         hosts.pass_over("aarch64: python", f"there is no {python}, or it has no package cryptography")
         return
+    package = wheel_of(hosts, library)
+    if package is None:
+        hosts.leave_out("aarch64: python", "no Python here has pip and hatchling (python3-hatchling)")
+        return
+    # Tests begin the interpreter once more, by the name that it was called by.
+    named = hosts.folder / "aarch64-python"
+    named.write_text(f'#!/bin/sh\nexec {QEMU} -0 "$0" {shlex.quote(str(python))} "$@"\n', encoding="utf-8")
+    named.chmod(0o755)
     tests = ROOT / "bindings/python"
-    kept = kept | {"PYTHONPATH": str(tests / "src"), "PYTHONDONTWRITEBYTECODE": "1"}
-    kept |= {"WEOLDRIN_LIBRARY": str(library / "libwarg.so")}
-    words = [QEMU, str(python), "-m", "unittest", "discover", "-v", "-s", str(tests / "tests"), "-t", str(tests)]
+    kept = kept | {"PYTHONPATH": str(package), "PYTHONDONTWRITEBYTECODE": "1"}
+    words = [str(named), "-m", "unittest", "discover", "-v", "-s", str(tests / "tests"), "-t", str(tests)]
     hosts.run("aarch64: unittest", words, kept, counted_of_unittest)
 
 

@@ -18,6 +18,7 @@ import {
   p256,
 } from "weoldrin";
 import { envelopes, keys, operatorLog, textOf } from "./published.js";
+import { standIn } from "./stand_in.js";
 import * as toy from "./toy.js";
 
 const folder = mkdtempSync(`${tmpdir()}/weoldrin-`);
@@ -149,34 +150,13 @@ test("a log that is more than there is memory for", async () => {
   assert.equal((await auditFile(goodFile, "package", null, { library })).accepted, true);
 });
 
-/** A module with the calls of a library, of which the one that appends traps. */
-function trapping() {
-  const names = ["host_alloc", "host_free", "host_limit", "host_used", "warg_open", "warg_close", "warg_append_signed"];
-  // Of functions without parameters: one gives 64 bits, one 32, one nothing; numbers that are passed are passed over.
-  const [long, short, none] = [0, 1, 2];
-  const types = [long, none, none, long, short, none, short];
-  // At 1024 there is room; an open is answered by 0, and an append by a trap.
-  const codes = [[0x42, 0x80, 0x08], [], [], [0x42, 0], [0x41, 0], [], [0x00]];
-  const text = (it) => [it.length, ...Buffer.from(it)];
-  const section = (number, bytes) => [number, (bytes.length & 127) | 128, bytes.length >> 7, ...bytes];
-  const exports = [...names.map((it, place) => [...text(it), 0, place]), [...text("memory"), 2, 0]];
-  return Uint8Array.from([
-    ...[0, 0x61, 0x73, 0x6d, 1, 0, 0, 0],
-    ...section(1, [3, ...[0x60, 0, 1, 0x7e], ...[0x60, 0, 1, 0x7f], ...[0x60, 0, 0]]),
-    ...section(3, [types.length, ...types]),
-    ...section(5, [1, 4, 1]),
-    ...section(7, [exports.length, ...exports.flat()]),
-    ...section(10, [codes.length, ...codes.flatMap((it) => [it.length + 2, 0, ...it, 0x0b])]),
-  ]);
-}
-
 test("a trap is no verdict on a log, and the next one is judged by another library", async () => {
-  const library = await Library.load({ source: trapping() });
+  const library = await Library.load({ source: standIn() });
   const verdict = await auditBytes("x", Buffer.from(good), "package", undefined, { library });
   assert.deepEqual([verdict.accepted, verdict.refusal, verdict.fault instanceof Unreadable], [false, null, true]);
   assert.match(String(verdict), /^x: it can't be read: the library trapped, and its logs are closed: RuntimeError/);
   assert.equal(library.isGivenUp, true);
-  const found = await auditMany([goodFile, goodFile, goodFile], "package", { workers: 1, source: trapping() });
+  const found = await auditMany([goodFile, goodFile, goodFile], "package", { workers: 1, source: standIn() });
   for (const it of found) {
     assert.equal(it.accepted, false);
     assert.match(String(it.fault), /^it can't be read: the library trapped, and its logs are closed: RuntimeError/);

@@ -19,6 +19,7 @@ import { execPath } from "node:process";
 import { after, test } from "node:test";
 import { fileURLToPath } from "node:url";
 import { envelopes, keys, textOf } from "./published.js";
+import { TRAP, atMost, standIn, status } from "./stand_in.js";
 
 const COMMAND = fileURLToPath(new URL("bin/weoldrin.js", import.meta.resolve("weoldrin/package.json")));
 const TOOL = at("dist/x86_64-linux/weoldrin");
@@ -97,6 +98,8 @@ test("beside the tool", { skip: LEFT_OUT }, async () => {
     big: "0".repeat(16_777_217),
     most: `#${"x".repeat(16_777_214)}\n`,
     list: "good\n\ntwo\r\nnone\nx\x1b\u202e\n",
+    "list-cr": "good\ntwo\r",
+    mixed: [made, readFileSync(`${folder}/operator_namespaces.hex`, "utf8")].map((it) => it.split("\n")[0]).join("\n"),
     "no-list": Buffer.from("ff0a", "hex"),
     "empty-list": "\n\n",
     claims: "toy:YQ== 00 toy:YQ==\n",
@@ -105,10 +108,14 @@ test("beside the tool", { skip: LEFT_OUT }, async () => {
   };
   for (const [name, text] of Object.entries(files)) writeFileSync(`${folder}/${name}`, text);
   mkdirSync(`${folder}/folder`);
+  const head = run(byNode, ["audit", "package", "good"], folder).printed.split(" ")[2];
+  const capitals = `sha256:${head.slice(7, 20).toUpperCase()}`;
   const all = [
     "package good", "package two", "operator good", "package blank", "package odd", "package big", "package most",
     "package folder", "package good/x", "package none", "package", "package -", "package - --goes-on-from good",
-    "package good two none folder odd big", "package @list", "package @no-list", "package @empty-list", "package @none",
+    "package good two none folder odd big", "package none good", "package @list-cr", "package mixed --toy",
+    "package good --expect-head sha256:", `package good --expect-head ${capitals}`,
+    "package @list", "package @no-list", "package @empty-list", "package @none",
     "package @empty-list @empty-list --allow-empty", "package @folder", "package good --goes-on-from two",
     "package two --goes-on-from good", "package good --goes-on-from none", "package good --goes-on-from folder",
     "package good --goes-on-from odd", "package good --goes-on-from package_releases.hex",
@@ -151,6 +158,36 @@ test("commands of the tool that are not here", () => {
   const { said, status, printed } = run(byNode, ["show", "package", "x", "--json"], fileURLToPath(ROOT));
   assert.match(said, /^error: 'show' is a command of the repository's tool, and not of this package/);
   assert.deepEqual([status, JSON.parse(printed).status], [2, 2]);
+});
+
+/** What the command answers by a library that does what it is told. */
+function byStandIn(calls, ...words) {
+  // The byte is where the call says how long the text of an error is.
+  const folder = laidOut({ files: { good: ["05"] } });
+  writeFileSync(`${folder}/library.wasm`, standIn(calls));
+  const env = { ...process.env, WEOLDRIN_LIBRARY: `${folder}/library.wasm` };
+  const done = spawnSync(execPath, [COMMAND, "audit", "package", ...words], { cwd: folder, encoding: "utf8", env });
+  return [done.stdout, done.stderr, done.status];
+}
+
+test("a library that has no memory, or traps", () => {
+  assert.deepEqual(byStandIn({ append: status(2) }, "good"), ["", "weoldrin: good: out of memory\n", 3]);
+  const lines = "good: out of memory\ngood: out of memory\n";
+  assert.deepEqual(byStandIn({ append: status(2) }, "good", "good"), [lines, "", 3]);
+  const [printed, said, ended] = byStandIn({ append: TRAP }, "good");
+  assert.match(said, /^weoldrin: good: the library trapped, and its logs are closed: RuntimeError: .*\n$/);
+  assert.deepEqual([printed, ended], ["", 3]);
+  // Of many each is judged by another library.
+  const [many, told, last] = byStandIn({ append: TRAP }, "good", "good", "good");
+  assert.match(many, /^(good: the library trapped, and its logs are closed: RuntimeError: .*\n){3}$/);
+  assert.deepEqual([told, last], ["", 3]);
+});
+
+test("a log that is refused is closed", () => {
+  const calls = { append: status(5), ask: status(5), open: atMost(2) };
+  const [printed, said, ended] = byStandIn(calls, "good", "good", "good", "good");
+  assert.match(printed, /^(good: refused 0 .*\n){4}$/);
+  assert.deepEqual([said, ended], ["", 1]);
 });
 
 test("a library that is not there", () => {

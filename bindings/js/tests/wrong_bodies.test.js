@@ -196,6 +196,20 @@ const WRONG = {
     "auditing",
     "threads",
   ],
+  "a library that trapped judges on": [
+    "command.js",
+    "if (library.isGivenUp) library = new Library(library.module);",
+    "",
+    "command",
+    "has no memory",
+  ],
+  "a log that is refused stays": [
+    "answers.js",
+    "envelope, error);\n      log.close();",
+    "envelope, error);",
+    "command",
+    "refused is closed",
+  ],
   "a checkpoint's number is one of JavaScript": [
     "checkpoints.js",
     "return BigInt(said);",
