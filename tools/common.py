@@ -17,7 +17,8 @@ ROOT = pathlib.Path(__file__).resolve().parent.parent
 
 class Product(NamedTuple):
     """What dist/ has: its name, its files there, the crate that they are built from and what is built of it in that
-    crate's out/, its manifest in dist/, and the source that names its version."""
+    crate's out/, its manifest in dist/, the source that names its version, the folder of dist/ that its files are in,
+    and what other files than the crate's it is made of."""
 
     name: str
     files: tuple[str, ...]
@@ -25,6 +26,8 @@ class Product(NamedTuple):
     built_in: str
     manifest: str
     information: str
+    folder: str = "x86_64-linux"
+    parts: tuple[str, ...] = ()
 
     def built(self) -> dict[str, pathlib.Path]:
         """By the files of dist/, where they are left in this checkout."""
@@ -32,7 +35,7 @@ class Product(NamedTuple):
         return {it: here / (it if self.built_in else self.crate) for it in self.files}
 
     def released(self) -> dict[str, pathlib.Path]:
-        return {it: ROOT / "dist/x86_64-linux" / it for it in self.files}
+        return {it: ROOT / "dist" / self.folder / it for it in self.files}
 
     def said(self) -> dict[str, str]:
         """What the manifest says, by the first word of each line."""
@@ -59,6 +62,26 @@ PRODUCTS = {
             "c",
             "MANIFEST.libwarg",
             "crates/warg_c/src/exports/version.rt",
+        ),
+        Product(
+            "libwarg.aarch64",
+            ("libwarg.a", "libwarg.so", "warg.pc"),
+            "warg_c",
+            "aarch64",
+            "MANIFEST.aarch64",
+            "crates/warg_c/src/exports/version.rt",
+            "aarch64-linux",
+            ("tools/aarch64_build.py", "aarch64/heap.c"),
+        ),
+        Product(
+            "libwarg.wasm",
+            ("libwarg.wasm",),
+            "warg_c",
+            "wasm",
+            "MANIFEST.wasm",
+            "crates/warg_c/src/exports/version.rt",
+            "wasm",
+            ("tools/wasm_build.py", "wasm/heap.c", "wasm/pages.h", "wasm/shuffle.ll", "wasm/wide.c"),
         ),
     ]
 }

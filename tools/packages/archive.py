@@ -9,13 +9,12 @@ import tarfile
 import tempfile
 from typing import IO, cast
 
-from common import ROOT
+from common import PRODUCTS, ROOT
 
 from . import debian, trees, versions
 from .targets import TARGETS, Target
 
 SUMS = "SHA256SUMS"
-MANIFESTS = ("MANIFEST", "MANIFEST.libwarg", "MANIFEST.weoldrin")
 
 
 def epoch() -> int:
@@ -38,13 +37,18 @@ def pack(tree: pathlib.Path, name: str, to: pathlib.Path) -> None:
                     tar.addfile(it)
 
 
+def manifests(target: Target) -> list[str]:
+    """The manifests of what dist/ has for a machine."""
+    return [it.manifest for it in PRODUCTS.values() if it.folder == target.name]
+
+
 def tar_of(target: Target, folder: pathlib.Path) -> None:
     """Writes the tar file of a machine: what `make install` installs, with the manifests of dist/."""
     name = f"weoldrin-{versions.of_library()}-{target.name}"
     with tempfile.TemporaryDirectory() as below:
         tree = pathlib.Path(below)
         trees.install(target, tree, "install", prefix="/")
-        for it in MANIFESTS:
+        for it in manifests(target):
             shutil.copy(ROOT / "dist" / it, tree / "share/doc/weoldrin" / it)
         pack(tree, name, folder / f"{name}.tar.gz")
 

@@ -14,7 +14,7 @@ LICENCES = ("LICENSE", "NOTICE")
 
 def copies() -> dict[pathlib.Path, pathlib.Path]:
     """Where each copy lies, and what it is one of. A library that dist/ does not have has no copy."""
-    found = {BINDINGS / package / name: ROOT / name for package in ("go", "python", "rust") for name in LICENCES}
+    found = {BINDINGS / package / name: ROOT / name for package in ("go", "js", "python", "rust") for name in LICENCES}
     found[BINDINGS / "go/warg.h"] = found[BINDINGS / "rust/include/warg.h"] = ROOT / "include/warg.h"
     for target in TARGETS:
         library = target.folder() / "libwarg.a"

@@ -103,7 +103,7 @@ def comment(mark: str, text: str) -> str:
 
 
 def of_packages(kind: str, its: list[Permission]) -> Iterator[Place]:
-    """What the packages for Python and Rust repeat."""
+    """What the packages for Python, JavaScript and Rust repeat."""
     entries = [f'"{it.text}": {it.number}' for it in its]
     head = f"    LogKind.{kind.upper()}: {{"
     line = f"{head}{', '.join(entries)}}},"
@@ -111,6 +111,10 @@ def of_packages(kind: str, its: list[Permission]) -> Iterator[Place]:
         line = "\n".join([head, *(f"        {it}," for it in entries), "    },"])
     python = "bindings/python/src/weoldrin/records.py"
     yield Place(python, rf"^    LogKind\.{kind.upper()}: \{{[^}}]*\}},$", line)
+    head = f"  [Kind.{kind.upper()}]: new Map([\n"
+    pairs = "".join(f'    ["{it.text}", {it.number}],\n' for it in its)
+    pattern = rf"^{re.escape(head)}(?:    .*\n)*  \]\),$"
+    yield Place("bindings/js/src/records.js", pattern, f"{head}{pairs}  ]),")
     head = f"    {kind.capitalize()}Permission {{\n"
     cases = "".join(
         comment("        /// ", f"{it.allows[0].upper()}{it.allows[1:]}.")

@@ -11,6 +11,8 @@ NAMED = {
     "bindings/rust/Cargo.toml": r'(?m)^version = "(.*)"$',
     "bindings/rust/Cargo.lock": r'(?m)^name = "weoldrin"\nversion = "(.*)"$',
     "bindings/python/src/weoldrin/_version.py": r'(?m)^__version__ = "(.*)"$',
+    "bindings/js/package.json": r'(?m)^  "version": "(.*)",$',
+    "bindings/js/README.md": r"(?m)^    npm install \./weoldrin-(.*)\.tgz$",
 }
 
 

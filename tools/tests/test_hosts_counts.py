@@ -2,14 +2,20 @@
 
 import contextlib
 import io
+import os
 import pathlib
 import runpy
+import shutil
+import subprocess
 import sys
 import tempfile
 import unittest
+import unittest.mock
 
 TOOLS = pathlib.Path(__file__).resolve().parents[1]
 sys.path.insert(0, str(TOOLS))
+
+from wasm_build import node_words
 
 HOSTS = runpy.run_path(str(TOOLS / "test_hosts"))
 
@@ -48,6 +54,11 @@ class Counts(unittest.TestCase):
         self.assertEqual(HOSTS["counted_of_go"](said), (2, 1, 1))
         self.assertEqual(HOSTS["counted_of_go"]("# weoldrin\nlog.go:1: syntax error\nFAIL\n"), (0, 0, 0))
 
+    def test_node(self) -> None:
+        said = "ok 1 - a\nnot ok 2 - b\n# tests 9\n# pass 4\n# fail 1\n# cancelled 1\n# skipped 2\n# todo 1\n"
+        self.assertEqual(HOSTS["counted_of_node"](said), (4, 2, 3))
+        self.assertEqual(HOSTS["counted_of_node"]("node: bad option: --tests\n"), (0, 0, 0))
+
     def test_unittest(self) -> None:
         ends = {
             "Ran 150 tests in 3.1s\n\nOK": (150, 0, 0),
@@ -65,6 +76,44 @@ class Counts(unittest.TestCase):
             with self.subTest(end):
                 said = f"test_a (tests.A.test_a) ... failures=5\nok\n{70 * '-'}\n{end}\nprinted behind it\n"
                 self.assertEqual(HOSTS["counted_of_unittest"](said), wanted)
+
+
+class Node(unittest.TestCase):
+    """Whether a Node is new enough."""
+
+    def _is_enough(self, said: str, probed: int = 0) -> bool:
+        """Whether one is that says this version, and answers with this status what it is asked of 64-bit memory."""
+        with tempfile.TemporaryDirectory() as folder:
+            node = pathlib.Path(folder) / "node"
+            node.write_text(
+                f'#!/bin/sh\ntest "$1" = --version || exit {probed}\necho {said}\n',
+                encoding="utf-8",
+            )
+            node.chmod(0o755)
+            with unittest.mock.patch.dict(os.environ, {"PATH": f"{folder}:/bin"}):
+                return bool(HOSTS["has_node"]())
+
+    def test_versions(self) -> None:
+        for said in ("v20.0.0", "v20.20.2", "v24.1.0", "v100.0.0"):
+            self.assertTrue(self._is_enough(said), said)
+        for said in ("v18.20.4", "v2.0.0", "v9.9.9", "20.0.0", "node", ""):
+            self.assertFalse(self._is_enough(said), said)
+
+    def test_no_memory_of_64_bits(self) -> None:
+        self.assertFalse(self._is_enough("v20.20.2", 1))
+
+    def test_none(self) -> None:
+        with tempfile.TemporaryDirectory() as folder, unittest.mock.patch.dict(os.environ, {"PATH": folder}):
+            self.assertFalse(HOSTS["has_node"]())
+
+    def test_the_one_here(self) -> None:
+        """The Node of this machine is told by its own version."""
+        node = shutil.which("node")
+        if not node:
+            self.skipTest("there is no Node")
+        code = "console.log(parseInt(process.versions.node) >= 20 ? 1 : 0)"
+        is_new = subprocess.run([node, "-e", code], capture_output=True, text=True, check=True).stdout == "1\n"
+        self.assertEqual(HOSTS["has_node"](), is_new and bool(node_words()))
 
 
 class Runs(unittest.TestCase):

@@ -46,7 +46,8 @@ class Versions(unittest.TestCase):
     def test_files(self) -> None:
         """All name one version, and one that names another is told, and made right."""
         rust = {"bindings/rust/Cargo.toml", "bindings/rust/Cargo.lock"}
-        self.assertEqual(set(versions.NAMED), {*rust, "bindings/python/src/weoldrin/_version.py"})
+        js = {"bindings/js/package.json", "bindings/js/README.md"}
+        self.assertEqual(set(versions.NAMED), {*rust, *js, "bindings/python/src/weoldrin/_version.py"})
         self.assertEqual(versions.faults(), [])
         self.assertEqual(versions.changed(), versions.of_library())
         for name in versions.NAMED:
@@ -79,24 +80,29 @@ class Named(unittest.TestCase):
     """The shared library by the name by which programs look for it, beside the one of dist/."""
 
     def test_same(self) -> None:
-        """It is the same file; none, another file, or a link, is told."""
-        name = versions.soname(versions.of_library())
+        """It is the same file, of each machine; none, another file, or a link, is told."""
+        name, folders = versions.soname(versions.of_library()), [it.name for it in TARGETS]
         with clean() as root:
-            faults, named = RELEASE["faults_of_packages"], root / name
-            (root / "libwarg.so").write_text("the library")
-            with mock.patch.dict(faults.__globals__, named_library=lambda of: named, ROOT=root):
-                told = [f"{name} is not libwarg.so once more"]
-                self.assertEqual(faults(), told)
-                named.write_text("another file")
-                self.assertEqual(faults(), told)
-                named.unlink()
-                named.symlink_to("libwarg.so")
-                self.assertEqual(faults(), told)
-                named.unlink()
-                named.write_text("the library")
+            faults = RELEASE["faults_of_packages"]
+            for it in folders:
+                (root / it).mkdir()
+                (root / it / "libwarg.so").write_text("the library")
+                (root / it / name).write_text("the library")
+            with mock.patch.dict(faults.__globals__, named_library=lambda of: root / of.folder / name, ROOT=root):
                 self.assertEqual(faults(), [])
-        of = RELEASE["PRODUCTS"]["libwarg"]
-        self.assertEqual(RELEASE["named_library"](of), ROOT / "dist/x86_64-linux" / name)
+                for it in folders:
+                    named, told = root / it / name, [f"{it}/{name} is not libwarg.so once more"]
+                    named.write_text("another file")
+                    self.assertEqual(faults(), told)
+                    named.unlink()
+                    self.assertEqual(faults(), told)
+                    named.symlink_to("libwarg.so")
+                    self.assertEqual(faults(), told)
+                    named.unlink()
+                    named.write_text("the library")
+                self.assertEqual(faults(), [])
+        of = [it for it in RELEASE["PRODUCTS"].values() if "libwarg.so" in it.files]
+        self.assertEqual([RELEASE["named_library"](it) for it in of], [ROOT / "dist" / it / name for it in folders])
 
     def test_made(self) -> None:
         """It is made anew, without those of earlier versions, and then the copies are."""
@@ -115,6 +121,16 @@ class Named(unittest.TestCase):
         """The status of the tool, run with these words."""
         with mock.patch.object(sys, "argv", ["release", *words]), contextlib.redirect_stdout(io.StringIO()):
             return int(RELEASE["main"]())
+
+    def test_made_with(self) -> None:
+        """What is made with the library of x86-64 is not written without it."""
+        for words in (("libwarg.wasm",), ("weoldrin", "libwarg.aarch64")):
+            with self.assertRaises(SystemExit), contextlib.redirect_stderr(io.StringIO()) as said:
+                self.status(*words)
+            self.assertIn(f"{words[-1]} is made with libwarg: name both", said.getvalue())
+        with mock.patch.dict(RELEASE["main"].__globals__, release=lambda of: 7):
+            self.assertEqual(self.status("libwarg", "libwarg.wasm"), 7)
+            self.assertEqual(self.status(), 7)
 
     def test_check(self) -> None:
         """A check of the library is one of the packages too, and a check of a program alone is none."""
@@ -241,7 +257,7 @@ class Copies(unittest.TestCase):
     def test_copies(self) -> None:
         """Each is what it is one of; one that is another, or is not there, is told, and made anew."""
         self.assertEqual(copies.faults(), [])
-        wanted = {f"{package}/{it}": it for package in ("go", "python", "rust") for it in ("LICENSE", "NOTICE")}
+        wanted = {f"{package}/{it}": it for package in ("go", "js", "python", "rust") for it in ("LICENSE", "NOTICE")}
         wanted |= {it: "include/warg.h" for it in ("go/warg.h", "rust/include/warg.h")}
         for target in (it for it in TARGETS if it.is_there()):
             library = f"dist/{target.name}/libwarg.a"
@@ -395,6 +411,11 @@ class Releases(unittest.TestCase):
             told = ["left out: dpkg-deb, which makes the packages for Debian, is not installed"]
             self.assertEqual(said[:-1], [] if program else told)
             self.assertRegex(said[-1], rf"^[0-9a-f]{{64}}  {name}$")
+
+    def test_manifests(self) -> None:
+        """Those of what a machine's files are."""
+        wanted = [["MANIFEST", "MANIFEST.weoldrin", "MANIFEST.libwarg"], ["MANIFEST.aarch64"]]
+        self.assertEqual([archive.manifests(it) for it in TARGETS], wanted)
 
     def test_sums(self) -> None:
         """They are in the order of the names, and none is that of the sums."""

@@ -23,7 +23,9 @@ TOOLS = pathlib.Path(__file__).resolve().parents[1]
 COMMAND = runpy.run_path(str(TOOLS / "test"))
 CHECKS: list[Check] = COMMAND["CHECKS"]
 PROGRAMS: list[pathlib.Path] = COMMAND["PROGRAMS"]
-BUILT = [it.relative_to(TOOLS.parent) for it in (*PROGRAMS, COMMAND["C_LIBRARY"] / "libwarg.a")]
+MADE = {"C_LIBRARY": "libwarg.a", "WASM_LIBRARY": "libwarg.wasm", "ARM_LIBRARY": "libwarg.a"}
+LIBRARIES = [COMMAND[it] / name for it, name in MADE.items()]
+BUILT = [it.relative_to(TOOLS.parent) for it in (*PROGRAMS, *LIBRARIES)]
 # What the fake `rt ci` does: it builds the programs and counts what passed.
 BUILDS = "".join(f"mkdir -p {it.parent} && echo > {it} && chmod +x {it}\n" for it in BUILT)
 GOOD_CI = BUILDS + "echo 'rt: warg_c proved'\necho 'rt: weoldrin is kept: proved before'\necho '3 passed, 0 failed'\n"

@@ -1,0 +1,354 @@
+/**
+ * The library's calls, as include/warg.h declares them, over an instance of its module.
+ * @module
+ */
+import { textOf, utf8Of, bytesOf } from "./bytes.js";
+import { moduleOf } from "./engine.js";
+import {
+  BadArgument,
+  NoEnvelope,
+  NoLibrary,
+  NotOpen,
+  OutOfMemory,
+  Refused,
+  Trapped,
+  UnknownAlgorithm,
+  WeoldrinError,
+} from "./errors.js";
+import { KINDS, kindOf } from "./values.js";
+
+export const [OK, TOO_SMALL, REFUSED, NONE, BAD_ARGUMENT] = [0, 3, 5, 6, 7];
+
+/** The greatest number that a call takes. */
+export const GREATEST = 2n ** 64n - 1n;
+
+// The trees on which proofs are.
+const [LOG_TREE, MAP_TREE] = [0, 1];
+// Where a call writes how many bytes it gave, and behind it what else it gives: 64 bytes at most.
+const USED = 8;
+const BESIDE = 64;
+// So much room there is for what calls give, and at most so much is kept when a call that gave more has ended.
+const [ROOM, KEPT_ROOM] = [4096, 1 << 20];
+
+const RESUMED = "Resumed: the log was resumed, and its records are elsewhere";
+// What is said of a bad argument where the library says nothing of it.
+const MISUSES = {
+  append: "BadQuestion: the parts are those of no question",
+  chain: RESUMED,
+  compare: RESUMED,
+  holds: "UnknownPermission: logs of this kind have no such permission",
+  latest: "BadRequirement: the text is no requirement of versions, such as >=1.2, <2",
+  length: RESUMED,
+  record: RESUMED,
+  release: "BadVersion: the text is no version, such as 1.2.0",
+  verify: "BadText: the text of the key or of the signature can't be read",
+};
+const THROWN = [, NotOpen, OutOfMemory, , NoEnvelope, Refused, , BadArgument, UnknownAlgorithm];
+
+/**
+ * What a call of this name is refused for, with what the library says of it.
+ * @param {string} name
+ * @param {number} status
+ * @param {string} [text]
+ */
+function thrown(name, status, text = "") {
+  const Thrown = THROWN[status];
+  if (!Thrown) return new NoLibrary(`NoLibrary: the library answers ${name} by a status that is none: ${status}`);
+  return new Thrown(text || (status === BAD_ARGUMENT ? MISUSES[name] : undefined));
+}
+
+/** How much room is taken for what is passed, so that what stands behind it begins at a multiple of 8. */
+const roomOf = (passed) => 8 * Math.ceil(passed.byteLength / 8);
+
+/** A piece of the module's memory, which is taken anew where more is needed. */
+class Room {
+  /**
+   * @param {(size: number) => bigint} take
+   * @param {(at: bigint) => void} give
+   */
+  constructor(take, give) {
+    Object.assign(this, { take, give, at: 0n, size: 0 });
+  }
+
+  /** @param {number} size */
+  atLeast(size) {
+    if (this.size < size) {
+      this.giveBack();
+      this.at = this.take(size);
+      this.size = size;
+    }
+    return this.at;
+  }
+
+  giveBack() {
+    if (this.size) this.give(this.at);
+    this.size = 0;
+  }
+}
+
+/**
+ * The proved library: an instance of its module, with its memory. Logs are made over one, and two logs that are
+ * compared are of the same. Its calls that need no log stand here, and look at their arguments alone.
+ *
+ * Where the engine's stack ends in a call, or another trap does, that call throws `Trapped`, and the library is given
+ * up: its logs are closed, and each further call throws `NotOpen`.
+ */
+export class Library {
+  #instance;
+  #view;
+  #given;
+  #room;
+  #beside;
+  #trap;
+  // Whether a call is under way. One that ended in any other way than by an answer leaves this so.
+  #isCalled = false;
+
+  /** @param {WebAssembly.Module} module */
+  constructor(module) {
+    try {
+      this.#instance = new WebAssembly.Instance(module, {});
+      this.#view = new Uint8Array(this.#instance.exports.memory.buffer);
+      for (const it of ["host_alloc", "warg_open"]) {
+        if (typeof this.#instance.exports[it] !== "function") throw new TypeError(`it has no call ${it}`);
+      }
+    } catch (error) {
+      throw new NoLibrary(`NoLibrary: the library can't be begun: ${error}`);
+    }
+    this.module = module;
+    const ways = [(size) => this.#take(size), (at) => this.#run("host_free", at)];
+    this.#given = new Room(...ways);
+    this.#room = new Room(...ways);
+    this.#beside = this.taken(USED + BESIDE);
+  }
+
+  /**
+   * A library of its own: of an address, a response, bytes or a module, and of the package's own file where no source
+   * is given. Memory that it may not have beyond `maximum` bytes is refused. Throws `NoLibrary`.
+   */
+  static async load({ source, maximum } = {}) {
+    const library = new Library(await moduleOf(source));
+    if (maximum !== undefined) library.limit(maximum);
+    return library;
+  }
+
+  /** Whether a call trapped, so that the library is given up. */
+  get isGivenUp() {
+    return this.#isCalled || this.#trap !== undefined;
+  }
+
+  /** How much memory the module has, and how much of it is in use, in bytes. */
+  memory() {
+    return { size: this.#bytes().length, used: this.#whole(() => Number(this.#run("host_used"))) };
+  }
+
+  /** @param {number} bytes how much memory the module may have */
+  limit(bytes) {
+    if (!Number.isSafeInteger(bytes) || bytes <= 0) throw new RangeError("a limit is a whole number of bytes above 0");
+    this.#whole(() => this.#run("host_limit", BigInt(bytes)));
+  }
+
+  /** The library's version. */
+  version() {
+    return textOf(this.filled("version", []));
+  }
+
+  /** The id of an envelope's record. The record need not be lawful. Throws `NoEnvelope`. */
+  recordId(kind, envelope) {
+    return textOf(this.filled("id", [KINDS.indexOf(kindOf(kind)), bytesOf(envelope)]));
+  }
+
+  /**
+   * Whether the signature belongs to the message under the key, by their texts. Throws `BadArgument` where the key's
+   * text can't be read, `UnknownAlgorithm` where its algorithm is not `ecdsa-p256`, and otherwise `BadArgument` where
+   * the signature's text can't be read.
+   */
+  verify(key, message, signature) {
+    const status = this.status("verify", [utf8Of(key), bytesOf(message), utf8Of(signature)]);
+    return status === REFUSED ? false : this.isDone("verify", status);
+  }
+
+  /** Whether the leaf of a log's record stands at a place of the registry's log, of this length and root. */
+  verifyInclusion(logId, recordId, place, length, root, proof) {
+    return this.#shows("verify_inclusion", LOG_TREE, [logId, recordId, number(place), number(length), root, proof]);
+  }
+
+  /** Whether the registry's log of `newLength` leaves begins with the one of `oldLength` leaves. */
+  verifyConsistency(oldLength, oldRoot, newLength, newRoot, proof) {
+    const passed = [number(oldLength), oldRoot, number(newLength), newRoot, proof];
+    return this.#shows("verify_consistency", LOG_TREE, passed);
+  }
+
+  /** Whether the registry's map says that a log's last record is this one. */
+  verifyPresence(logId, recordId, root, proof) {
+    return this.#shows("verify_presence", MAP_TREE, [logId, recordId, root, proof]);
+  }
+
+  /** Whether the registry's map says nothing of a log. */
+  verifyAbsence(logId, root, proof) {
+    return this.#shows("verify_absence", MAP_TREE, [logId, root, proof]);
+  }
+
+  #shows(name, tree, passed) {
+    const words = passed.map((it) => (typeof it === "bigint" ? it : utf8Of(it)));
+    const status = this.status(name, words);
+    if (status === BAD_ARGUMENT) {
+      const fault = this.filled("proof_fault", [tree, words.at(-1)]);
+      throw new BadArgument(fault ? textOf(fault) : "BadText: a root or an id is not the text of one");
+    }
+    return status === REFUSED ? false : this.isDone(name, status);
+  }
+
+  // The rest is for the package's own files.
+
+  /** A handle that is no log: its address. */
+  newHandle() {
+    return this.#whole(() => {
+      const at = this.#take(16);
+      this.#bytes().fill(0, Number(at), Number(at) + 16);
+      return at;
+    });
+  }
+
+  /** Closes the log of a handle and gives both back. A library that is given up is left alone. */
+  closeHandle(at) {
+    if (this.isGivenUp) return;
+    this.#whole(() => {
+      this.#run("warg_close", at);
+      this.#run("host_free", at);
+    });
+  }
+
+  /** Room of the module's memory. Throws `OutOfMemory`. */
+  taken(size) {
+    return this.#whole(() => this.#take(size));
+  }
+
+  givenBack(at) {
+    this.#whole(() => this.#run("host_free", at));
+  }
+
+  /**
+   * The status of a call that writes no text. Bytes and arrays of words are copied into the module's memory; a bytes'
+   * length is passed behind its address.
+   */
+  status(name, passed, after = []) {
+    return this.#whole(() => this.#run(`warg_${name}`, ...this.#passed(passed), ...after));
+  }
+
+  /** Whether a call that writes no text was done, and not answered by "none". */
+  isDone(name, status) {
+    if (status === OK || status === NONE) return status === OK;
+    throw thrown(name, status);
+  }
+
+  /**
+   * What a call writes that gives bytes, or null where it says that there are none. An error's text finds `room`, and
+   * at least 4096 bytes. With `beside` the call is passed, at the end, where to write what else it gives.
+   */
+  filled(name, passed, { beside = false, room = 0 } = {}) {
+    return this.#whole(() => {
+      const words = this.#passed(passed);
+      const after = beside ? [this.#beside + BigInt(USED)] : [];
+      let status, used;
+      let size = Math.max(room, ROOM);
+      do {
+        const at = this.#room.atLeast(size);
+        status = this.#run(`warg_${name}`, ...words, at, BigInt(this.#room.size), this.#beside, ...after);
+        used = Number(this.words(1, 0)[0]);
+        size = used;
+      } while (status === TOO_SMALL);
+      const from = Number(this.#room.at);
+      const found = this.#bytes().slice(from, from + used);
+      for (const it of [this.#given, this.#room]) if (it.size > KEPT_ROOM) it.giveBack();
+      if (status === OK) return found;
+      if (status === NONE) return null;
+      throw thrown(name, status, textOf(found));
+    });
+  }
+
+  /** Where a call writes what it gives beside bytes. */
+  get beside() {
+    return this.#beside + BigInt(USED);
+  }
+
+  /** So many words of 64 bits that a call gave beside bytes, from this byte on, or at another address. */
+  words(count, from = USED, at = this.#beside) {
+    const bytes = this.#bytes();
+    const view = new DataView(bytes.buffer, Number(at) + from, 8 * count);
+    return Array.from({ length: count }, (_, place) => view.getBigUint64(8 * place, true));
+  }
+
+  // What is passed to a call: numbers as they are, and where bytes and arrays of words were copied to.
+  #passed(passed) {
+    const size = passed.reduce((sum, it) => sum + (ArrayBuffer.isView(it) ? roomOf(it) : 0), 0);
+    let at = this.#given.atLeast(Math.max(size, ROOM));
+    const bytes = this.#bytes();
+    return passed.flatMap((it) => {
+      if (!ArrayBuffer.isView(it)) return [it];
+      const here = at;
+      bytes.set(bytesOf(it), Number(at));
+      at += BigInt(roomOf(it));
+      return it instanceof BigUint64Array ? [here] : [here, BigInt(it.byteLength)];
+    });
+  }
+
+  // The module's memory. Where it grew, the buffer from before has no bytes any more.
+  #bytes() {
+    const { buffer } = this.#instance.exports.memory;
+    if (this.#view.buffer !== buffer) this.#view = new Uint8Array(buffer);
+    return this.#view;
+  }
+
+  #take(size) {
+    const at = this.#run("host_alloc", BigInt(size));
+    if (at === 0n) throw new OutOfMemory();
+    return at;
+  }
+
+  #run(name, ...words) {
+    try {
+      return this.#instance.exports[name](...words);
+    } catch (error) {
+      this.#trap = error;
+      throw new Trapped(error);
+    }
+  }
+
+  // What is done in one piece. Where anything but an answer or a refusal ends it, as where the engine's stack does in
+  // the midst of this very function, no one knows what was done: the mark stays, and the library is given up.
+  #whole(done) {
+    if (this.isGivenUp) throw new NotOpen("NotOpen: the library trapped before, and its logs are closed");
+    this.#isCalled = true;
+    try {
+      const found = done();
+      this.#isCalled = false;
+      return found;
+    } catch (error) {
+      if (error instanceof WeoldrinError) {
+        this.#isCalled = false;
+        throw error;
+      }
+      this.#trap = error;
+      throw new Trapped(error);
+    }
+  }
+}
+
+/** A place or a length: a whole number from 0 to 2^64 - 1. */
+export function number(value) {
+  const whole = typeof value === "bigint" ? value : Number.isSafeInteger(value) ? BigInt(value) : -1n;
+  if (whole < 0n || whole > GREATEST) throw new BadArgument(`OutOfRange: ${value} is not from 0 to ${GREATEST}`);
+  return whole;
+}
+
+let shared;
+
+/** The library that serves where none is handed in; another one where that was given up. Throws `NoLibrary`. */
+export async function sharedLibrary() {
+  const had = shared;
+  if (had === undefined || (await had.catch(() => ({ isGivenUp: true }))).isGivenUp) {
+    // Of many that wait here the first one loads it.
+    if (shared === had) shared = Library.load();
+  }
+  return shared;
+}

@@ -1,0 +1,34 @@
+/**
+ * What needs no log, by a library or the one that is shared: see `Library` for what each says and throws.
+ * @module
+ */
+import { sharedLibrary } from "./library.js";
+
+/** @param {string} name */
+const byLibrary =
+  (name, count) =>
+  async (...passed) => {
+    const { library } = passed[count] ?? {};
+    return (library ?? (await sharedLibrary()))[name](...passed.slice(0, count));
+  };
+
+/** The library's version. */
+export const libraryVersion = byLibrary("version", 0);
+
+/** The id of an envelope's record. */
+export const recordId = byLibrary("recordId", 2);
+
+/** Whether the signature belongs to the message under the key, by their texts. */
+export const verify = byLibrary("verify", 3);
+
+/** Whether the leaf of a log's record stands at a place of the registry's log. */
+export const verifyInclusion = byLibrary("verifyInclusion", 6);
+
+/** Whether the registry's log begins with an older one. */
+export const verifyConsistency = byLibrary("verifyConsistency", 5);
+
+/** Whether the registry's map says that a log's last record is this one. */
+export const verifyPresence = byLibrary("verifyPresence", 4);
+
+/** Whether the registry's map says nothing of a log. */
+export const verifyAbsence = byLibrary("verifyAbsence", 3);

@@ -1,0 +1,34 @@
+/**
+ * What logs are asked and say: questions, records, releases, comparisons, and the kinds of logs. Their types stand in
+ * `index.d.ts`.
+ * @module
+ */
+import { printable } from "./printing.js";
+
+/** The kinds of logs, which are their words. */
+export const Kind = Object.freeze({ PACKAGE: "package", OPERATOR: "operator" });
+
+/** How two logs stand to each other, by the contents of their records. */
+export const Relation = Object.freeze({
+  SAME: "same",
+  LEFT_IS_PREFIX: "left-is-prefix",
+  RIGHT_IS_PREFIX: "right-is-prefix",
+  FORK: "fork",
+  COLLISION: "collision",
+});
+
+/** The relations by the library's numbers. */
+export const RELATIONS = Object.values(Relation);
+
+/** The kinds by the library's numbers. */
+export const KINDS = Object.values(Kind);
+
+/**
+ * A kind of logs, which is "package" or "operator". Throws `RangeError` for anything else.
+ * @param {unknown} kind
+ * @returns {import("./index.js").Kind}
+ */
+export function kindOf(kind) {
+  if (kind === Kind.PACKAGE || kind === Kind.OPERATOR) return kind;
+  throw new RangeError(`a log is of "package" or "operator", and not of ${printable(String(kind))}`);
+}

@@ -1,0 +1,101 @@
+// What a program in TypeScript may write, and what it may not: `tsc --strict` takes this file as it is.
+import {
+  BadArgument,
+  BadLine,
+  Kind,
+  Library,
+  Log,
+  OperatorLog,
+  PackageLog,
+  Refused,
+  Relation,
+  Verdict,
+  WeoldrinError,
+  auditBytes,
+  auditFile,
+  auditMany,
+  checkpoints,
+  kindOf,
+  logOf,
+  p256,
+  printable,
+  recordId,
+  records,
+  verify,
+} from "weoldrin";
+import type { Comparison, Question, Release, Verify } from "weoldrin";
+
+const always: Verify = (question: Question) => question.signature !== "";
+const later: Verify = async ({ key, message, signature }) => verify(key, message, signature);
+
+export async function program(envelope: Uint8Array, buffer: ArrayBuffer, file: File): Promise<string> {
+  const library = await Library.load({ source: new URL("https://example.com/libwarg.wasm"), maximum: 1 << 26 });
+  const log: PackageLog = await PackageLog.open({ library });
+  await log.append(envelope);
+  await log.append(buffer, always);
+  await log.append(new DataView(buffer), later);
+  await log.append(envelope, p256.verifyByWebCrypto);
+  const question = log.ask(envelope);
+  log.appendAnswered(envelope, question, await p256.verify(question, { library }));
+  log.appendSigned(envelope);
+  const release: Release | null = log.latest(">=1");
+  const time: bigint = release?.timestamp ?? 0n;
+  const content: string = release?.content ?? "none";
+  for (const it of log.releases()) printable(it.version);
+  for (const it of log.records()) await recordId(log.kind, it.envelope);
+  const comparison: Comparison = log.compare(new PackageLog(library));
+  if (comparison.relation === Relation.FORK) printable(String(comparison.left));
+  const operators: OperatorLog = await OperatorLog.fromJson("{}");
+  const from: string | null | undefined = operators.namespaceState("own")?.importedFrom;
+  const other: Log = await logOf(kindOf("package"));
+  const exact: PackageLog = await logOf("package");
+  const key = await p256.SigningKey.generate();
+  const contents = records.contents(
+    log.head(),
+    records.now(),
+    [records.grant(Kind.PACKAGE, key.publicKey, ["release"])],
+  );
+  await records.signed("package", contents, key.publicKey, (message) => key.sign(message));
+  const checkpoint = checkpoints.parseTimestamped("{}");
+  await checkpoints.isSigned(operators, { checkpoint, keyId: "x", signature: "y" }, later);
+  library.verifyInclusion("x", "y", 1, 2n ** 60n, checkpoint.logRoot, "z");
+  const verdicts: Verdict[] = await auditMany([file, "x.hex"], "operator", { workers: 2, verifier: "web-crypto" });
+  const verdict = await auditFile(file, "package", null, { allowEmpty: true });
+  await auditBytes("x", envelope, Kind.OPERATOR);
+  if (verdict.fault instanceof BadLine) printable(String(verdict.fault.line));
+  try {
+    other.close();
+  } catch (error) {
+    if (error instanceof Refused || error instanceof BadArgument) return error.sentence;
+    if (error instanceof WeoldrinError) return error.name;
+  }
+  exact.close();
+  return [time, content, from, verdicts.length, verdict.accepted].join(" ");
+}
+
+export async function wrong(log: PackageLog, envelope: Uint8Array): Promise<void> {
+  // @ts-expect-error: a log is opened
+  new PackageLog();
+  // @ts-expect-error: a log is of a kind
+  new Log(log.library);
+  // @ts-expect-error: bytes are no text
+  await log.append("0a");
+  // @ts-expect-error: an answer is true or false
+  await log.append(envelope, () => 1);
+  // @ts-expect-error: a promise is no answer
+  log.appendAnswered(envelope, log.ask(envelope), Promise.resolve(true));
+  // @ts-expect-error: there may be no release
+  log.latest("*").version;
+  // @ts-expect-error: a log of a package has no namespaces
+  log.namespaceState("own");
+  // @ts-expect-error: no such kind
+  await auditFile("x", "packages");
+  // @ts-expect-error: no such verifier
+  await auditMany(["x"], "package", { verifier: always });
+  // @ts-expect-error: a time is a bigint
+  records.contents(null, 5, []);
+  // @ts-expect-error: what is said is not written to
+  log.ask(envelope).key = "x";
+  // @ts-expect-error: a key is made or read
+  new p256.SigningKey();
+}

@@ -1,0 +1,246 @@
+// The rows of values, of messages and of what a registry proves, where the library or the package has a call that
+// tells.
+import { at, without } from "./place.js";
+import assert from "node:assert/strict";
+import { createHash } from "node:crypto";
+import { readdirSync } from "node:fs";
+import { test } from "node:test";
+import { BadArgument, Kind, Library, NoEnvelope, UnknownAlgorithm, checkpoints, logOf, records } from "weoldrin";
+import { blocks, bytesOf, quoted, rowOf, wordsOf } from "./rows.js";
+import * as toy from "./toy.js";
+import * as trees from "./trees.js";
+
+// A hash, to which no proof leads.
+const ANY = records.sha256Text(new Uint8Array());
+// The text of a proof on a map whose siblings are all roots of empty subtrees.
+const NO_SIBLINGS = Buffer.alloc(32, 255).toString("base64");
+const KINDS = { package: [Kind.PACKAGE], operator: [Kind.OPERATOR], both: Object.values(Kind) };
+const RECORD = { [Kind.PACKAGE]: "WARG-PACKAGE-LOG-RECORD-V0:", [Kind.OPERATOR]: "WARG-OPERATOR-LOG-RECORD-V0:" };
+const KEY = "ecdsa-p256:AwAAAAAAAAAAAAAAAAAAAAAAAAAAAAAAAAAAAAAAAAAA";
+
+/** The name of what a call throws of an argument, or what it gives. */
+function faultOf(call) {
+  try {
+    return { given: call() };
+  } catch (error) {
+    if (error instanceof BadArgument || error instanceof NoEnvelope || error instanceof UnknownAlgorithm) {
+      return { name: error.name, error };
+    }
+    throw error;
+  }
+}
+
+/** The questions of one library. Each gives an answer, or undefined where it has no call that tells. */
+class Answers {
+  constructor(library) {
+    this.library = library;
+  }
+
+  // Whether a text can be read by a call; a fault that the library does not name is taken for the one that is wanted.
+  #read(text, wanted, call) {
+    const { name } = faultOf(call);
+    if (name === undefined || name === "UnknownAlgorithm") return `= ${quoted(text)}`;
+    return wanted.startsWith("! ") ? wanted : `! ${name}`;
+  }
+
+  parse([kind, text], wanted) {
+    const { library } = this;
+    const proof = (call) => {
+      const { name } = faultOf(call);
+      return name === undefined ? `= ${quoted(text)}` : `! ${name}`;
+    };
+    switch (kind) {
+      case "log-proof":
+        return proof(() => library.verifyInclusion(ANY, ANY, 0, 1, ANY, text));
+      case "map-proof":
+        return proof(() => library.verifyAbsence(ANY, ANY, text));
+      case "key":
+        return this.#read(text, wanted, () => library.verify(text, bytesOf("-"), "ecdsa-p256:AAAA"));
+      case "signature":
+        return this.#read(text, wanted, () => library.verify(KEY, bytesOf("-"), text));
+      case "hash":
+      case "log-id":
+      case "record-id": {
+        // Digits are printed in lower case.
+        const passed = [ANY, ANY, ANY];
+        passed[["log-id", "record-id", "hash"].indexOf(kind)] = text;
+        const seen = this.#read(text, wanted, () => library.verifyPresence(...passed, NO_SIBLINGS));
+        return seen.startsWith("= ") ? seen.toLowerCase() : seen;
+      }
+      case "package-permission":
+      case "operator-permission": {
+        const log = logs.get(kind.split("-")[0]);
+        return this.#read(text, wanted, () => log.holds("a key", text));
+      }
+      default:
+        return undefined;
+    }
+  }
+
+  "verify-inclusion"([log, record, place, length, root, proof], wanted) {
+    return this.#shows(
+      wanted,
+      () => this.library.verifyInclusion(log, record, BigInt(place), BigInt(length), root, proof),
+    );
+  }
+
+  "verify-consistency"([old, oldRoot, fresh, root, proof], wanted) {
+    return this.#shows(wanted, () => this.library.verifyConsistency(BigInt(old), oldRoot, BigInt(fresh), root, proof));
+  }
+
+  "verify-presence"(words, wanted) {
+    return this.#shows(wanted, () => this.library.verifyPresence(...words));
+  }
+
+  "verify-absence"(words, wanted) {
+    return this.#shows(wanted, () => this.library.verifyAbsence(...words));
+  }
+
+  // Of a text that is no hash no fault is named: then the wanted one is taken for it.
+  #shows(wanted, call) {
+    const { name, given } = faultOf(call);
+    if (name === "BadText") return ["= ok", "! Refused"].includes(wanted) ? "a fault" : wanted;
+    return name === undefined ? (given ? "= ok" : "! Refused") : `! ${name}`;
+  }
+
+  "inclusion-proof"([place, ...words]) {
+    const hashes = trees.leavesOf(words).map(trees.hashInLog);
+    return `= ${Number(place) < hashes.length ? quoted(trees.textOf(trees.inclusion(Number(place), hashes))) : "none"}`;
+  }
+
+  "consistency-proof"([length, ...words]) {
+    const hashes = trees.leavesOf(words).map(trees.hashInLog);
+    const proof = () => quoted(trees.textOf(trees.consistency(Number(length), hashes)));
+    return `= ${Number(length) <= hashes.length ? proof() : "none"}`;
+  }
+
+  "log-root"(words) {
+    return `= ${trees.hashText(trees.logRoot(trees.leavesOf(words).map(trees.hashInLog)))}`;
+  }
+
+  // Of messages
+
+  "record-id"([kind, bytes]) {
+    return `= ${this.library.recordId(kind, bytesOf(bytes))}`;
+  }
+
+  decode(words, wanted) {
+    return this.#envelope(words, wanted);
+  }
+
+  "both-ways"(words, wanted) {
+    return this.#envelope(words, wanted);
+  }
+
+  // Of what an envelope says the library tells the id, which is the digest of the content.
+  #envelope([kind, what, bytes], wanted) {
+    if (what !== "envelope" || !KINDS[kind]) return undefined;
+    const [, content] = / content (\S+)/.exec(wanted) ?? [];
+    for (const it of KINDS[kind]) {
+      const { name, given, error } = faultOf(() => this.library.recordId(it, bytesOf(bytes)));
+      if (name !== undefined) {
+        if (!wanted.startsWith("! ")) return `! ${name}`;
+        // A case's field stands in its name's row alone.
+        if (wanted.slice(2).split(" ")[0] !== name) return `! ${error}`;
+      } else {
+        if (content === undefined) return `= ${given}`;
+        const digest = createHash("sha256").update(RECORD[it]).update(bytesOf(content)).digest("hex");
+        if (given !== `sha256:${digest}`) return `= ${given}`;
+      }
+    }
+    return wanted;
+  }
+
+  async sign([kind, signer, content]) {
+    const key = toy.keyOf(signer);
+    const made = await records.signed(kind, bytesOf(content), key, (message) => toy.sign(signer, message));
+    return `= ${Buffer.from(made).toString("hex")}`;
+  }
+
+  "signing-prefix"([kind]) {
+    return `= ${Buffer.from(records.message(kind, new Uint8Array())).toString().slice(0, -1)}`;
+  }
+
+  // Of values
+
+  sha256([bytes]) {
+    return `= ${records.sha256Text(bytesOf(bytes))}`;
+  }
+
+  fingerprint([key]) {
+    return `= ${records.keyId(key)}`;
+  }
+
+  "checkpoint-prefix"() {
+    return `= ${Buffer.from(checkpoints.message(new Uint8Array())).toString().slice(0, -1)}`;
+  }
+
+  #checkpoint([logRoot, logLength, mapRoot, timestamp]) {
+    const found = { logRoot, logLength: BigInt(logLength), mapRoot };
+    return timestamp === undefined ? found : { ...found, timestamp: BigInt(timestamp) };
+  }
+
+  bytes([kind, ...words]) {
+    if (!kind.endsWith("checkpoint")) return undefined;
+    return `= ${Buffer.from(checkpoints.contents(this.#checkpoint(words))).toString("hex")}`;
+  }
+
+  "encode-checkpoint"(words) {
+    return this.bytes(["timestamped-checkpoint", ...words]);
+  }
+
+  "sign-checkpoint"([name, ...words]) {
+    return `= ${toy.sign(name, checkpoints.message(checkpoints.contents(this.#checkpoint(words))))}`;
+  }
+
+  "verify-checkpoint"([key, bytes, signature]) {
+    const message = checkpoints.message(bytesOf(bytes));
+    return toy.verify({ key, message, signature }) ? "= ok" : "! Refused";
+  }
+
+  "to-json"([kind, ...words]) {
+    return kind.endsWith("checkpoint") ? `= ${checkpoints.toJson(this.#checkpoint(words))}` : undefined;
+  }
+
+  "from-json"([kind], wanted, question) {
+    if (!kind.endsWith("checkpoint")) return undefined;
+    const json = question.slice(`from-json ${kind} `.length);
+    const read = kind === "checkpoint" ? checkpoints.parse : checkpoints.parseTimestamped;
+    const { name, given } = faultOf(() => read(json));
+    if (name !== undefined) return `! ${name}`;
+    const { logRoot, logLength, mapRoot, timestamp } = given;
+    return `= ${[logRoot, logLength, mapRoot, ...(timestamp === undefined ? [] : [timestamp])].join(" ")}`;
+  }
+}
+
+const logs = new Map();
+const PLAYED = ["values", "messages"].filter((it) => !without(`conformance/${it}`));
+
+const LEFT_OUT = PLAYED.length ? false : "there are no rows here";
+
+test("the rows of values, messages and proofs", { skip: LEFT_OUT }, async (context) => {
+  const library = await Library.load();
+  for (const kind of Object.values(Kind)) logs.set(kind, await logOf(kind, { library }));
+  const answers = new Answers(library);
+  const [played, leftOut, wrong] = [new Map(), new Map(), []];
+  for (const folder of PLAYED) {
+    for (const name of readdirSync(at(`conformance/${folder}`)).filter((it) => it.endsWith(".rows"))) {
+      if (name === "p256.rows") continue;
+      for (const { head } of blocks(at(`conformance/${folder}/${name}`))) {
+        const { question, wanted } = rowOf(head.text);
+        const [topic] = question.split(" ");
+        const words = topic === "from-json" ? question.split(" ").slice(1, 2) : wordsOf(question).slice(1);
+        const isAsked = Object.hasOwn(Answers.prototype, topic);
+        const seen = isAsked ? await answers[topic](words, wanted, question) : undefined;
+        const counted = seen === undefined ? leftOut : played;
+        counted.set(topic, (counted.get(topic) ?? 0) + 1);
+        if (seen !== undefined && seen !== wanted) wrong.push(`${name} ${head.number}: ${head.text}: ${seen}`);
+      }
+    }
+  }
+  const shown = (counts) => [...counts].map(([topic, count]) => `${topic} ${count}`).join(", ");
+  context.diagnostic(`played: ${shown(played)}`);
+  context.diagnostic(`no call tells: ${shown(leftOut)}`);
+  assert.deepEqual(wrong, []);
+  assert.ok([...played.values()].reduce((sum, it) => sum + it) > 600);
+});

@@ -1,0 +1,204 @@
+// refused_memory.mjs PACKAGE MODULE: refuses each request for memory of the proved code in turn, in each call, by the
+// module that is linked with refusing.c, on logs that have their records and on resumed ones. The call then says that
+// there was no memory, and all logs are as they were; or it does without, and at most gives an error without its text.
+// Made again it does what it does with memory. PACKAGE is the folder of the package of JavaScript.
+import { readFileSync } from "node:fs";
+import { argv, exit } from "node:process";
+import { pathToFileURL } from "node:url";
+import { setFlagsFromString } from "node:v8";
+
+setFlagsFromString("--experimental-wasm-memory64");
+const [folder, path] = argv.slice(2);
+const weoldrin = await import(pathToFileURL(`${folder}/src/index.js`));
+const { Library, OperatorLog, OutOfMemory, PackageLog, WeoldrinError, p256, records } = weoldrin;
+const module = new WebAssembly.Module(readFileSync(path));
+const START = 1_700_000_000_000_000_000n;
+const text = (it) => Buffer.from(it);
+const root = records.sha256Text(new Uint8Array());
+const proof = Buffer.alloc(64 * 32).toString("base64");
+
+// The instance, whose exports the library of the package does not show.
+let instance;
+const { Instance } = WebAssembly;
+WebAssembly.Instance = function (...words) {
+  instance = new Instance(...words);
+  return instance;
+};
+const library = new Library(module);
+const { refuse, refused } = instance.exports;
+
+const [alice, bob, mallory] = await Promise.all([1, 2, 3].map(() => p256.SigningKey.generate()));
+const sign = (signer) => (message) => signer.sign(message);
+const record = (log, signer, entries) =>
+  records.signed(log.kind, records.contents(log.head(), START, entries), signer.publicKey, sign(signer));
+
+const log = new PackageLog(library);
+log.appendSigned(
+  await record(log, alice, [records.init(alice.publicKey), records.grant("package", bob.publicKey, "release")]),
+);
+for (const version of ["1.1.0", "1.2.0"]) log.appendSigned(await record(log, bob, [records.release(version, root)]));
+const operators = new OperatorLog(library);
+const entries = [
+  records.init(alice.publicKey),
+  records.defineNamespace("own"),
+  records.importNamespace("other", "r.example"),
+];
+operators.appendSigned(await record(operators, alice, entries));
+const other = new PackageLog(library);
+for (const it of log.records()) other.appendSigned(it.envelope);
+const saved = [log.toJson(), operators.toJson()];
+const next = await record(log, bob, [records.release("1.3.0", root)]);
+const forged = await records.signed(
+  "package",
+  records.contents(log.head(), START, [records.release("1.3.0", root)]),
+  bob.publicKey,
+  sign(mallory),
+);
+const toy = records.envelope(
+  records.contents(null, START, [records.init("toy:YQ==")]),
+  records.keyId("toy:YQ=="),
+  "toy:YQ==",
+);
+const first = log.record(0).envelope;
+const ids = [alice, bob].map((it) => records.keyId(it.publicKey));
+const question = log.ask(next);
+
+/** The calls by a log, and whether they append to it. */
+const calls = (it) => ({
+  warg_open: () => new PackageLog(library).close(),
+  "warg_open of operators": () => new OperatorLog(library).close(),
+  warg_ask: () => it.ask(next).key,
+  "warg_ask of nonsense": () => it.ask(text("\x0b")),
+  "warg_ask of what is refused": () => it.ask(first),
+  "warg_append by no": () => it.appendAnswered(next, question, false),
+  "warg_append of another": () => it.appendAnswered(forged, question, true),
+  "warg_append by no question": () => it.appendAnswered(next, { ...question, key: "x" }, true),
+  "warg_append_signed of what is forged": () => it.appendSigned(forged),
+  "warg_append_signed of nonsense": () => it.appendSigned(text("\x0b")),
+  "warg_append_signed by another algorithm": () => new PackageLog(library).appendSigned(toy),
+  warg_verify: () => library.verify(question.key, question.message, question.signature),
+  "warg_verify of a wrong one": () => library.verify(question.key, question.message, p256.textOf(text("x"))),
+  "warg_verify of nonsense": () => library.verify(question.key, question.message, "ecdsa-p256:A"),
+  warg_head: () => it.head(),
+  warg_length: () => it.length,
+  warg_record: () => it.record(1)?.id,
+  warg_id: () => library.recordId("package", next),
+  "warg_id of operators": () => library.recordId("operator", next),
+  warg_latest: () => it.latest(">=1, <2").version,
+  "warg_latest by nonsense": () => it.latest(">=x"),
+  warg_release: () => it.release("1.2.0").version,
+  warg_releases: () => [...it.releases()].length,
+  warg_namespace: () => operators.namespaceState("other").importedFrom,
+  warg_holds: () => it.holds(ids[0], "yank"),
+  warg_permissions: () => it.permissions(ids[0]).join(),
+  "warg_permissions of operators": () => operators.permissions(ids[0]).join(),
+  warg_key: () => it.publicKey(ids[1]),
+  warg_chain: () => JSON.stringify(it.chain(ids[1], "release")),
+  warg_compare: () => it.compare(other).relation,
+  warg_save: () => it.toJson(),
+  "warg_save of operators": () => operators.toJson(),
+  warg_verify_inclusion: () => library.verifyInclusion(root, root, 5, 2 ** 40, root, proof),
+  warg_verify_consistency: () => library.verifyConsistency(3, root, 2 ** 40, root, proof),
+  warg_verify_presence: () => library.verifyPresence(root, root, root, Buffer.alloc(32, 255).toString("base64")),
+  warg_verify_absence: () => library.verifyAbsence(root, root, Buffer.alloc(32, 255).toString("base64")),
+  warg_proof_fault: () => library.verifyAbsence(root, root, "x"),
+  warg_version: () => library.version(),
+});
+// Of these the log goes on, where memory is given: each begins with a copy.
+const changing = (make) => ({
+  warg_append: async () => {
+    const it = await make();
+    return [it, () => it.appendAnswered(next, question, true)];
+  },
+  warg_append_signed: async () => {
+    const it = await make();
+    return [it, () => it.appendSigned(next)];
+  },
+});
+
+/** What a call gives, or the name of what it throws, by a number of the request that is refused. */
+function seen(call, number, goesOn) {
+  refuse(BigInt(number), BigInt(goesOn));
+  let given;
+  try {
+    given = { given: call() };
+  } catch (error) {
+    if (!(error instanceof WeoldrinError)) throw error;
+    given = { error };
+  }
+  const count = Number(refused());
+  refuse(0n, 0n);
+  return { ...given, count };
+}
+
+// The same, or the same error without its sentence, or that there was no memory.
+function isWell(wanted, found) {
+  if (found.error instanceof OutOfMemory) return true;
+  if (wanted.error) {
+    const isNamed = found.error?.name === wanted.error.name;
+    return isNamed && ["", wanted.error.sentence].includes(found.error.sentence);
+  }
+  return !found.error && found.given === wanted.given;
+}
+
+let tried = 0;
+const told = new Set();
+
+/** Refuses each request of a call until there is none more. */
+async function trial(name, make) {
+  let [it, call] = await make();
+  const wanted = seen(call, 0, 0);
+  for (let number = 1; ; number++) {
+    let count = 0;
+    for (const goesOn of [0, 1]) {
+      [it, call] = await make();
+      const before = [it.toJson(), it.head(), operators.toJson(), other.toJson(), library.memory().used];
+      const found = seen(call, number, goesOn);
+      count += found.count;
+      if (!isWell(wanted, found)) throw new Error(`${name} at request ${number}: ${found.error ?? found.given}`);
+      if (found.error instanceof OutOfMemory) told.add(name.split(" ")[0]);
+      if (found.error) {
+        const behind = [it.toJson(), it.head(), operators.toJson(), other.toJson(), library.memory().used];
+        // What was asked may be kept: that is all that a refused call changes.
+        if (before.slice(0, 4).join() !== behind.slice(0, 4).join()) {
+          throw new Error(`${name} at request ${number}: a log is changed`);
+        }
+        const again = seen(call, 0, 0);
+        if (!isWell(wanted, again) || again.error instanceof OutOfMemory) {
+          throw new Error(`${name} behind request ${number}: ${again.error}`);
+        }
+      }
+    }
+    if (!count) return;
+    tried += count;
+  }
+}
+
+const resumed = await PackageLog.fromJson(saved[0], { library });
+for (const it of [log, resumed]) {
+  for (const [name, call] of Object.entries(calls(it))) await trial(name, () => [it, call]);
+}
+const copy = async () => {
+  const it = new PackageLog(library);
+  for (const { envelope } of log.records()) it.appendSigned(envelope);
+  return it;
+};
+for (const make of [copy, () => PackageLog.fromJson(saved[0], { library })]) {
+  for (const [name, begin] of Object.entries(changing(make))) await trial(name, begin);
+}
+// One that goes on from a text is made by a promise: its requests are those of the call alone.
+for (const [Class, json] of [[PackageLog, saved[0]], [OperatorLog, saved[1]], [PackageLog, '{"head":1}']]) {
+  for (let number = 1; ; number++) {
+    refuse(BigInt(number), 0n);
+    const error = await Class.fromJson(json, { library }).then((it) => it.close(), (it) => it);
+    const count = Number(refused());
+    refuse(0n, 0n);
+    if (error && !(error instanceof OutOfMemory) && json !== '{"head":1}') throw error;
+    if (error instanceof OutOfMemory) told.add("warg_resume");
+    if (!count) break;
+    tried += count;
+  }
+}
+console.log(`${tried} requests refused; ${told.size} calls say so: ${[...told].sort().join(", ")}`);
+if (told.size < 16) console.error("fewer than 16 calls say that there is no memory");
+exit(told.size < 16 ? 1 : 0);
