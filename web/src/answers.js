@@ -76,20 +76,20 @@ export function keysOf(log, { ids, signers }, from, count) {
   }));
 }
 
-/** Who gave, and to whom, by the entry of a link. */
-function grantAt(log, { record, entry }) {
+/** Who gave, and to whom, by the entry of a link, and whether that one holds the permission at the end. */
+function grantAt(log, { record, entry }, permission) {
   const { signer, time, entries } = recordOf(log.kind, log.record(record).envelope);
-  const { id } = entries[entry];
-  return { record, entry, by: signer, to: id, time, isInit: entries[entry].what === "init" };
+  const { id, what } = entries[entry];
+  return { record, entry, by: signer, to: id, time, isInit: what === "init", holds: log.holds(id, permission) };
 }
 
 /** The rows of a tree, its branches in the order of their links, each with how deep it stands. */
-function rowsOf(branch, depth = 0, found = []) {
-  const open = [[...branch.values()].reverse(), depth];
-  const stack = open[0].map((it) => [it, open[1]]);
+function rowsOf(branch) {
+  const found = [];
+  const stack = [...branch.values()].reverse().map((it) => [it, 0]);
   while (stack.length) {
     const [node, level] = stack.pop();
-    found.push({ ...node.grant, level, holds: node.holds });
+    found.push({ ...node.grant, level });
     for (const below of [...node.below.values()].reverse()) stack.push([below, level + 1]);
   }
   return found;
@@ -104,14 +104,12 @@ export async function treeOf(log, { ids }, permission, most) {
   const roots = new Map();
   let last = performance.now();
   for (const id of holders.slice(0, most)) {
-    let [branch, node] = [roots];
+    let branch = roots;
     for (const link of log.chain(id, permission)) {
       const name = `${link.record} ${link.entry}`;
-      if (!branch.has(name)) branch.set(name, { grant: grantAt(log, link), holds: false, below: new Map() });
-      node = branch.get(name);
-      branch = node.below;
+      if (!branch.has(name)) branch.set(name, { grant: grantAt(log, link, permission), below: new Map() });
+      branch = branch.get(name).below;
     }
-    if (node) node.holds = true;
     if (performance.now() - last > 40) {
       await pause();
       last = performance.now();

@@ -76,13 +76,14 @@ export function comparing(thread, logs) {
 
   left.addEventListener("change", compare);
   right.addEventListener("change", compare);
-  return () => {
+  return (wanted = []) => {
     const those = logs();
     at("compare").hidden = those.length < 2;
     const had = [left, right].map((it) => those.find(({ number }) => String(number) === it.value)?.number);
-    const first = had[0] ?? those.find(({ number }) => number !== had[1])?.number;
-    const second = had[1] ?? those.find(({ number }) => number !== first)?.number;
-    fill(left, ...those.map((it) => option(it, first)));
+    const [one = had[0] ?? those[0]?.number, other = had[1]] = wanted;
+    const isOther = other !== undefined && other !== one;
+    const second = isOther ? other : those.findLast(({ number }) => number !== one)?.number;
+    fill(left, ...those.map((it) => option(it, one)));
     fill(right, ...those.map((it) => option(it, second)));
     if (those.length >= 2) void compare();
     else fill(box);

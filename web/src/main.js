@@ -114,6 +114,8 @@ async function take(sources) {
   const words = asked();
   told(fresh.length === 1 ? `Checking ${quoted(fresh[0].name)}.` : `Checking ${fresh.length} files.`);
   for (const log of fresh) await check(log, words);
+  const judged = fresh.filter(({ found }) => found).map(({ number }) => number);
+  if (judged.length === 2) tellCompared(judged);
 }
 
 function listen() {

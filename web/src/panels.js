@@ -81,7 +81,7 @@ function branchRow({ level, record, entry, by, to, time, isInit, holds }) {
     keyText(to),
     isInit ? " began the log" : [" by ", keyText(by)],
     el("span", { class: "small" }, ` in entry ${number(entry)} of record ${number(record)}, `, timeText(time)),
-    holds ? "" : el("em", {}, " (gave it on, and may not hold it now)"),
+    holds ? "" : el("em", {}, ", and lost it since"),
   );
   row.style.setProperty("--level", String(Math.min(level, DEEPEST)));
   return row;

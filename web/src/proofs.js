@@ -35,7 +35,11 @@ const FAULTS = {
   NotJson: "The checkpoint is no JSON.",
   Missing: "The checkpoint lacks a member: it has logRoot, logLength and mapRoot.",
   WrongType: "A member of the checkpoint is of another type than it should be.",
-  BadText: "A text is no hash: those are sha256: and 64 digits.",
+  BadText: "A root or an id is no hash: those are sha256: and 64 digits.",
+  BadBase64: "The proof is no base64.",
+  TooLong: "The proof is longer than any can be.",
+  BadLength: "The proof has not as many bytes as it should: a part of it may be missing.",
+  EmptySibling: "The proof has a hash in it that it has to leave out.",
 };
 
 const TYPED = { spellcheck: "false", autocomplete: "off" };

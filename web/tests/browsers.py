@@ -126,8 +126,8 @@ class Chromium(Browser):
     def __init__(self, program: str, profile: str) -> None:
         read, to_browser = os.pipe()
         from_browser, write = os.pipe()
-        words = [program, "--headless=new", "--no-sandbox", "--disable-gpu", "--hide-scrollbars", "--no-first-run"]
-        words += ["--remote-debugging-pipe", f"--user-data-dir={profile}", "about:blank"]
+        words = [program, "--headless=new", "--no-sandbox", "--disable-gpu", "--hide-scrollbars", "--disable-lcd-text"]
+        words += ["--no-first-run", "--remote-debugging-pipe", f"--user-data-dir={profile}", "about:blank"]
         # The browser has its pipes as the numbers 3 and 4.
         super().__init__(["bash", "-c", f'exec "$@" 3<&{read} 4>&{write}', "bash", *words], pass_fds=(read, write))
         os.close(read)
@@ -201,10 +201,9 @@ class Chromium(Browser):
         self.ask("DOM.setFileInputFiles", nodeId=node, files=[str(it) for it in paths])
 
     def drop(self, paths: list[pathlib.Path]) -> None:
-        at = self.run('const it = document.getElementById("drop").getBoundingClientRect(); return [it.x + 9, it.y + 9]')
         data = {"items": [], "files": [str(it) for it in paths], "dragOperationsMask": 1}
         for word in ("dragEnter", "dragOver", "drop"):
-            self.ask("Input.dispatchDragEvent", type=word, x=at[0], y=at[1], data=data)
+            self.ask("Input.dispatchDragEvent", type=word, x=40, y=40, data=data)
 
     def press(self, key: str) -> None:
         of_key = {"key": key, "windowsVirtualKeyCode": KEYS[key]}
