@@ -7,11 +7,15 @@ import { printable } from "../../bindings/js/src/printing.js";
 
 // A text of a stranger is cut behind so many characters, which is said.
 const LONGEST = 240;
-const ATTRIBUTES = new Set([
-  "class", "id", "type", "name", "value", "for", "hidden", "open", "scope", "start", "datetime", "title", "max", "min",
-  "rows", "disabled", "checked", "selected", "spellcheck", "autocomplete", "inputmode", "placeholder", "required",
-  "tabindex", "role", "viewBox", "x", "y", "width", "height", "lang",
-]);
+const ATTRIBUTES = new Set(
+  [
+    "class id type name value for hidden open scope start datetime title max min rows disabled",
+    "checked selected spellcheck autocomplete inputmode placeholder required tabindex role viewBox",
+    "preserveAspectRatio x y width height lang",
+  ]
+    .join(" ")
+    .split(" "),
+);
 
 /** @param {Element} node */
 function setAll(node, attributes) {
@@ -70,13 +74,17 @@ const short = (id) => (/^sha256:[0-9a-f]{64}$/.test(id) ? id.slice(0, 19) : quot
 /** The id of a record, of a log or of a content, short, with the whole of it to be read. */
 export const idText = (id) => el("code", { class: "id", title: quoted(id) }, short(id));
 
-/** The id of a key, with a mark of its own color beside it, which says no more than the id does. */
-export function keyText(id) {
-  const mark = el("span", { class: "mark", "aria-hidden": "true" });
+/** Gives an element the color of a key, which says no more than its id does. */
+export function colored(node, id) {
   let hue = 0;
   for (const sign of id.slice(7, 13)) hue = (hue * 16 + (Number.parseInt(sign, 16) || 0)) % 360;
-  mark.style.setProperty("--hue", String(hue));
-  return el("span", { class: "key" }, mark, idText(id));
+  node.style.setProperty("--hue", String(hue));
+  return node;
+}
+
+/** The id of a key, with a mark of its own color beside it. */
+export function keyText(id) {
+  return el("span", { class: "key" }, colored(el("span", { class: "mark", "aria-hidden": "true" }), id), idText(id));
 }
 
 /** A time of nanoseconds since 1970, in UTC. */

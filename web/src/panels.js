@@ -3,7 +3,22 @@
  * is a tab.
  * @module
  */
-import { button, el, fill, idText, keyText, many, number, quoted, row, said, svg, table, timeText } from "./dom.js";
+import {
+  button,
+  colored,
+  el,
+  fill,
+  idText,
+  keyText,
+  many,
+  number,
+  quoted,
+  row,
+  said,
+  svg,
+  table,
+  timeText,
+} from "./dom.js";
 import { entriesOf, permissionsText } from "./entries.js";
 import { paged } from "./paging.js";
 
@@ -17,12 +32,8 @@ export function recordItem(record) {
   const head = isRead
     ? [timeText(time), el("span", { class: "by" }, "signed by ", keyText(signer))]
     : [el("span", {}, "a record that can't be read")];
-  return el(
-    "li",
-    { class: "record" },
-    el("div", { class: "row head" }, el("b", { class: "number" }, number(place)), head, id && idText(id)),
-    entriesOf(record),
-  );
+  const top = el("div", { class: "row head" }, el("b", { class: "number" }, number(place)), head, id && idText(id));
+  return colored(el("li", { class: isRead ? "record signed" : "record" }, top, entriesOf(record)), signer ?? "");
 }
 
 /** How many records there are over time, as a picture of columns. */
@@ -33,7 +44,8 @@ function picture({ columns, span: [first, last] }) {
     return svg("rect", { x: place * 10 + 1, y: 40 - height, width: 8, height });
   });
   const label = `Records over time: at most ${many(most, "record")} in one of ${many(columns.length, "column")}`;
-  const words = { viewBox: `0 0 ${columns.length * 10} 40`, role: "img", "aria-label": label, class: "columns" };
+  const size = { viewBox: `0 0 ${columns.length * 10} 40`, preserveAspectRatio: "none" };
+  const words = { ...size, role: "img", "aria-label": label, class: "columns" };
   return el(
     "figure",
     {},
@@ -56,7 +68,7 @@ function recordsPanel({ thread, number: log, found, ask }) {
   });
   ask("summary", { number: log }).then((summary) => {
     const { keys, signers } = summary;
-    const signed = `signed by ${many(signers, "key")} of ${many(keys, "key")} that it names`;
+    const signed = `signed by ${number(signers)} of the ${many(keys, "key")} that it names`;
     const text = el("p", {}, `${many(found.taken, "record")}, ${signed}.`);
     fill(facts, text, summary.columns.length > 1 && picture(summary));
   });

@@ -109,7 +109,7 @@ function shownProof({ what }, { holds, checkpoint, signer, logId }) {
   const verdict = holds === null ? null : holds ? ["good", HOLDS[what]] : ["bad", "The proof does not hold."];
   return [
     verdict && el("span", { class: `box ${verdict[0]}`, "data-holds": String(holds) }, verdict[1]),
-    el("span", { class: `box ${SIGNERS[signer][0]}`, "data-signer": signer }, SIGNERS[signer][1]),
+    el("span", { class: SIGNERS[signer][0] ? `box ${SIGNERS[signer][0]}` : "line" }, SIGNERS[signer][1]),
     el("span", { class: "line" }, `The checkpoint is of ${number(logLength)} leaves, with the root `, idText(logRoot)),
     el("span", { class: "line" }, "and the map's root ", idText(mapRoot)),
     timestamp === undefined ? null : el("span", { class: "line" }, "at ", timeText(timestamp * 1_000_000_000n)),

@@ -92,7 +92,7 @@ function bodyOf(log) {
   return [
     el("p", { class: "kind" }, `The log of ${kindText(found.kind)}.`),
     found.refusal ? refusalOf(found) : lawfulOf(found),
-    before > 0 && el("p", {}, `The ${many(before, "record")} before it can be looked at, but the file is refused.`),
+    before > 0 && el("p", {}, `${many(before, "record")} before it can be looked at, but the file is refused.`),
   ];
 }
 

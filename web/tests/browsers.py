@@ -15,8 +15,12 @@ from abc import ABC, abstractmethod
 from collections.abc import Callable
 from typing import Any
 
+# A name of this machine by which no engine takes it for a safe place.
+UNSAFE = "weoldrin.test"
+# What each script of a test has.
+AT = "const at = (id) => document.getElementById(id);"
 # So many seconds an answer is waited for.
-PATIENCE = 90.0
+PATIENCE = float(os.environ.get("WEOLDRIN_PATIENCE", "240"))
 
 # Has the page take a drop of files that were put into a field: no driver of Firefox drags files.
 DROP = """
@@ -75,6 +79,10 @@ class Browser(ABC):
         """Has the page be of so many pixels."""
 
     @abstractmethod
+    def darken(self, is_dark: bool) -> None:
+        """Has the page be dark or light."""
+
+    @abstractmethod
     def picture(self) -> bytes:
         """A PNG of what is to be seen."""
 
@@ -127,7 +135,8 @@ class Chromium(Browser):
         read, to_browser = os.pipe()
         from_browser, write = os.pipe()
         words = [program, "--headless=new", "--no-sandbox", "--disable-gpu", "--hide-scrollbars", "--disable-lcd-text"]
-        words += ["--no-first-run", "--remote-debugging-pipe", f"--user-data-dir={profile}", "about:blank"]
+        words += [f"--host-resolver-rules=MAP {UNSAFE} 127.0.0.1", "--no-first-run"]
+        words += ["--remote-debugging-pipe", f"--user-data-dir={profile}", "about:blank"]
         # The browser has its pipes as the numbers 3 and 4.
         super().__init__(["bash", "-c", f'exec "$@" 3<&{read} 4>&{write}', "bash", *words], pass_fds=(read, write))
         os.close(read)
@@ -180,7 +189,7 @@ class Chromium(Browser):
 
     def run(self, script: str) -> Any:
         # A page that is being left has no answer for a moment.
-        expression = f"(async () => {{ {script} }})()"
+        expression = f"(async () => {{ {AT} {script} }})()"
         for _ in range(100):
             try:
                 found = self.ask("Runtime.evaluate", expression=expression, awaitPromise=True, returnByValue=True)
@@ -216,7 +225,6 @@ class Chromium(Browser):
         self.ask("Emulation.setDeviceMetricsOverride", **words)
 
     def darken(self, is_dark: bool) -> None:
-        """Has the page be dark or light."""
         feature = {"name": "prefers-color-scheme", "value": "dark" if is_dark else "light"}
         self.ask("Emulation.setEmulatedMedia", features=[feature])
 
@@ -244,7 +252,8 @@ DRIVER_KEYS = {
 }
 
 # As a window of Firefox is no narrower than 450 pixels, one of the page is one and a half of the window.
-PREFERENCES = """
+PREFERENCES = f"""
+user_pref("network.dns.localDomains", "{UNSAFE}");
 user_pref("marionette.port", 0);
 user_pref("layout.css.devPixelsPerPx", "1.5");
 user_pref("datareporting.policy.dataSubmissionEnabled", false);
@@ -263,7 +272,9 @@ class Firefox(Browser):
     def __init__(self, program: str, profile: str) -> None:
         folder = pathlib.Path(profile)
         (folder / "user.js").write_text(PREFERENCES, encoding="utf-8")
-        words = [program, "--headless", "--marionette", "--profile", profile, "--no-remote", "about:blank"]
+        # The browser's own script, too, may be run: it darkens the page.
+        words = [program, "--headless", "--marionette", "--remote-allow-system-access", "--no-remote"]
+        words += ["--profile", profile, "about:blank"]
         super().__init__(words, env=os.environ | {"MOZ_HEADLESS": "1"})
         end = time.monotonic() + PATIENCE
         port = folder / "MarionetteActivePort"
@@ -307,7 +318,7 @@ class Firefox(Browser):
         self.ask("WebDriver:Navigate", url=address)
 
     def run(self, script: str) -> Any:
-        words = {"script": f"return (async () => {{ {script} }})()", "args": [], "sandbox": "default"}
+        words = {"script": f"return (async () => {{ {AT} {script} }})()", "args": [], "sandbox": None}
         return self.ask("WebDriver:ExecuteScript", **words)["value"]
 
     def element(self, selector: str) -> str:
@@ -332,6 +343,15 @@ class Firefox(Browser):
             words = {"width": (width + beside[0]) * 3 // 2, "height": (height + beside[1]) * 3 // 2}
             self.ask("WebDriver:SetWindowRect", **words)
 
+    def darken(self, is_dark: bool) -> None:
+        name = "layout.css.prefers-color-scheme.content-override"
+        self.ask("Marionette:SetContext", value="chrome")
+        try:
+            script = f'Services.prefs.setIntPref("{name}", {0 if is_dark else 1})'
+            self.ask("WebDriver:ExecuteScript", script=script, args=[], sandbox=None)
+        finally:
+            self.ask("Marionette:SetContext", value="content")
+
     def picture(self) -> bytes:
         return base64.b64decode(self.ask("WebDriver:TakeScreenshot", full=False)["value"])
 
@@ -350,10 +370,24 @@ def is_there(name: str) -> bool:
     return shutil.which(name) is not None
 
 
-def begun(name: str) -> tuple[Browser, tempfile.TemporaryDirectory[str]]:
-    """A browser that is begun, and the folder of its profile, which goes when it was closed."""
+# The browsers that were begun, each with its profile's folder.
+running: dict[str, tuple[Browser, tempfile.TemporaryDirectory[str]]] = {}
+
+
+def begun(name: str) -> Browser:
+    """The browser of a name. It is begun once: that takes longer than many tests."""
     program = shutil.which(name)
     if program is None:
         raise BrowserError(f"{name} is not installed")
-    profile = tempfile.TemporaryDirectory(prefix="weoldrin-", ignore_cleanup_errors=True)
-    return BROWSERS[name](program, profile.name), profile
+    if name not in running:
+        profile = tempfile.TemporaryDirectory(prefix="weoldrin-", ignore_cleanup_errors=True)
+        running[name] = (BROWSERS[name](program, profile.name), profile)
+    return running[name][0]
+
+
+def end_all() -> None:
+    """Ends all browsers that were begun."""
+    while running:
+        browser, profile = running.popitem()[1]
+        browser.close()
+        profile.cleanup()

@@ -86,6 +86,25 @@ def refused_by_text() -> bytes:
     return f"{envelope('alice', first)}{signed.hex()}\n".encode()
 
 
+def written_otherwise() -> bytes:
+    """A log whose bytes are those of no careful writer: members that do not count, one in two pieces, permissions in
+    both forms, fields that no one knows, and a time of more nanoseconds than a second has."""
+    grant = field(2, field(1, key_text("bob")) + varint(2 * 8) + varint(2) + field(2, bytes([1, 1])))
+    version, content = field(1, "3.0.0"), field(2, hash_text(b"3.0.0"))
+    pieces = field(5, field(1, "9.9.9")) + field(4, version) + varint(9 * 8) + varint(7) + field(4, content)
+    time = field(3, varint(8) + varint(1)) + field(3, varint(2 * 8) + varint(2_000_000_005 - 1_000_000_000))
+    entries = [field(4, it) for it in (init("alice"), grant, pieces)]
+    return envelope("alice", varint(2 * 8) + varint(1) + time + b"".join(entries)).encode()
+
+
+def changed(data: bytes) -> bytes:
+    """A log whose last record yanks another version, 1.1.0, than the one that was signed."""
+    *lines, last = data.splitlines()
+    old, new = (it.encode().hex().encode() for it in ("1.0.0", "1.1.0"))
+    assert last.count(old) == 1
+    return b"".join(it + b"\n" for it in [*lines, last.replace(old, new)])
+
+
 def without_last(data: bytes) -> bytes:
     """A log without its last record."""
     return b"".join(data.splitlines(keepends=True)[:-1])

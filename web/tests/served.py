@@ -1,23 +1,29 @@
 """Serves the page, or a copy of it with edits."""
+import os
 import pathlib
 import shutil
 import subprocess
 import tempfile
 
 ROOT = pathlib.Path(__file__).resolve().parents[2]
+# Whose page is tested: that of this repository, or a copy of it.
+PAGE_ROOT = pathlib.Path(os.environ.get("WEOLDRIN_WEB_ROOT", ROOT))
+# Another file of the library than that of dist/.
+LIBRARY = os.environ.get("WEOLDRIN_LIBRARY")
 # What the page and its server are made of.
 PARTS = ("web/index.html", "web/style.css", "web/fallback.js", "web/src", "bindings/js/src", "dist/wasm", "examples")
 TOOLS = ("web", "web_page.py", "common.py")
-# A file, a text that stands once in it, and what stands there in its place. A text of null is the whole file, which
-# goes.
-Edit = tuple[str, str | None, str]
+# A file, a text that stands once in it, and what stands there in its place.
+Edit = tuple[str, str, str]
 
 
 class Served:
     """A server of the page, until it is closed."""
 
-    def __init__(self, root: pathlib.Path = ROOT) -> None:
+    def __init__(self, root: pathlib.Path = PAGE_ROOT) -> None:
         words = [str(root / "tools/web"), "--no-browser"]
+        if LIBRARY:
+            words += ["--library", LIBRARY]
         self.process = subprocess.Popen(words, stdout=subprocess.PIPE, text=True)
         assert self.process.stdout
         self.address = self.process.stdout.readline().split()[4]
@@ -30,7 +36,7 @@ class Served:
         self.process.stdout.close()
 
 
-def copied(to: pathlib.Path, edits: list[Edit], root: pathlib.Path = ROOT) -> None:
+def copied(to: pathlib.Path, edits: list[Edit], root: pathlib.Path = PAGE_ROOT) -> None:
     """Lays a copy of the page into a folder, with these edits."""
     for part in PARTS:
         (to / part).parent.mkdir(parents=True, exist_ok=True)
@@ -43,9 +49,6 @@ def copied(to: pathlib.Path, edits: list[Edit], root: pathlib.Path = ROOT) -> No
         shutil.copy(root / "tools" / name, to / "tools")
     for name, old, new in edits:
         file = to / name
-        if old is None:
-            file.unlink()
-            continue
         text = file.read_text(encoding="utf-8")
         if text.count(old) != 1:
             raise ValueError(f"{name} has not once {old}")

@@ -1,4 +1,5 @@
-// Prints a registry's operator log, a checkpoint that its key has signed, and one that it has not.
+// Prints what signed_checkpoint.json has: a registry's operator log, a checkpoint that its key has signed, and one that
+// it has not. The key is a new one, and is not kept.
 import { stdout } from "node:process";
 import { checkpoints, p256, records } from "../../bindings/js/src/index.js";
 import { hexOf } from "../../bindings/js/src/bytes.js";

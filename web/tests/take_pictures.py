@@ -7,7 +7,7 @@ import sys
 import tempfile
 
 import logs
-from browsers import Chromium, begun
+from browsers import Chromium, begun, end_all
 from logs import EXAMPLES
 from served import ROOT, Served
 from small_png import smaller
@@ -80,16 +80,15 @@ def take_all(pictures: Pictures, folder: pathlib.Path) -> None:
 def main() -> int:
     """Takes all."""
     FOLDER.mkdir(exist_ok=True)
-    browser, profile = begun("chromium")
+    browser = begun("chromium")
     assert isinstance(browser, Chromium)
     served = Served()
     try:
         with tempfile.TemporaryDirectory() as folder:
             take_all(Pictures(browser, served.address), pathlib.Path(folder))
     finally:
-        browser.close()
+        end_all()
         served.close()
-        profile.cleanup()
     return 0
 
 
