@@ -55,7 +55,16 @@ function forget(log) {
   at("results").focus();
 }
 
+/** Puts the focus back on the button that had it, where that was made anew, or on the list where it is gone. */
+function refocused(number, text) {
+  const card = at("verdicts").querySelector(`[data-number="${number}"]`);
+  const again = [...(card?.querySelectorAll("button, summary") ?? [])].find((it) => it.textContent === text);
+  (again ?? at("results")).focus();
+}
+
 function list() {
+  const had = document.activeElement;
+  const ofCard = had?.closest("#verdicts [data-number]")?.dataset.number;
   const cards = logs.map((log) =>
     cardOf(log, {
       isShown: log === shown,
@@ -69,6 +78,7 @@ function list() {
     }),
   );
   fill(at("verdicts"), ...cards);
+  if (ofCard !== undefined) refocused(ofCard, had.textContent);
 }
 
 /** Judges a log, and shows its verdict once the answer on the whole file is there. */

@@ -11,6 +11,7 @@ const PERMISSIONS = {
   package: ["release", "yank"],
   operator: ["commit", "defineNamespace", "importNamespace"],
 };
+const MOST_PERMISSIONS = 16;
 const [NUMBER, EIGHT, BYTES, FOUR] = [0, 1, 2, 5];
 
 const textOf = (bytes) => DECODER.decode(bytes);
@@ -71,7 +72,8 @@ function permissionsOf(kind, bytes) {
     }
   }
   const names = numbers.map((it) => PERMISSIONS[kind][Number(it) - 1] ?? String(it));
-  return [...new Set(names)];
+  // There are three at most, but of those that are none there may be very many.
+  return [...new Set(names)].slice(0, MOST_PERMISSIONS);
 }
 
 /** What the payload of an entry's member says. */

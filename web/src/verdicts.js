@@ -107,7 +107,7 @@ export function cardOf(log, { isShown, show, forget, again }) {
   const other = found && (found.kind === "package" ? "operator" : "package");
   return el(
     "li",
-    { class: `card ${look}`, "data-look": look },
+    { class: `card ${look}`, "data-look": look, "data-number": log.number },
     el("div", { class: "row head" }, title, el("strong", { class: "verdict" }, WORDS[look])),
     bodyOf(log),
     el(

@@ -1,6 +1,7 @@
 """Drives real browsers without a window: Chromium by its DevTools protocol over a pipe, Firefox by Marionette. Nothing
 but Python's own library is taken.
 """
+import atexit
 import base64
 import contextlib
 import json
@@ -379,6 +380,8 @@ def begun(name: str) -> Browser:
     program = shutil.which(name)
     if program is None:
         raise BrowserError(f"{name} is not installed")
+    if not running:
+        atexit.register(end_all)
     if name not in running:
         profile = tempfile.TemporaryDirectory(prefix="weoldrin-", ignore_cleanup_errors=True)
         running[name] = (BROWSERS[name](program, profile.name), profile)

@@ -48,7 +48,8 @@ def envelope(name: str, content: bytes, kind: str = "PACKAGE") -> str:
     """An envelope's line, signed by the toy scheme."""
     message = f"WARG-{kind}-RECORD-SIGNATURE-V0:".encode() + content
     signature = base64.b64encode(hashlib.sha256(name.encode() + message).digest()).decode()
-    return (field(1, content) + field(2, hash_text(key_text(name).encode())) + field(3, f"toy:{signature}")).hex() + "\n"
+    signer = field(2, hash_text(key_text(name).encode()))
+    return f"{(field(1, content) + signer + field(3, f'toy:{signature}')).hex()}\n"
 
 
 def record_id(content: bytes, kind: str = "PACKAGE") -> str:
@@ -57,7 +58,14 @@ def record_id(content: bytes, kind: str = "PACKAGE") -> str:
 
 # What strangers may write: markup, a mark that turns the direction, a line's end, and a very long text.
 MARKUP = '<img src=x onerror="document.title=1"><script>document.title=2</script>'
-HOSTILE = [MARKUP, "\u202e\u0007gnp.exe", "a\nb\u2028c", "&lt;b&gt; &#x41;", "{{1+1}} ${1+1} javascript:alert(1)", "x" * 20_000]
+HOSTILE = [
+    MARKUP,
+    "\u202e\u0007gnp.exe",
+    "a\nb\u2028c",
+    "&lt;b&gt; &#x41;",
+    "{{1+1}} ${1+1} javascript:alert(1)",
+    "x" * 20_000,
+]
 
 
 def made(*words: str) -> bytes:

@@ -12,10 +12,9 @@ function nameOf(node) {
   return (label || (node.matches("button, a, [role=tab], summary, legend, caption") ? node.textContent : "")).trim();
 }
 
-for (const node of all("button, a, input, select, textarea, summary, [role=tab], [role=tabpanel], [role=group], section, progress")) {
-  if (!nameOf(node)) tell(node, "no name");
-}
-for (const node of all("img, svg")) if (!node.hasAttribute("aria-label") && !node.hasAttribute("aria-hidden")) tell(node, "no text");
+const NAMED = "button, a, input, select, textarea, summary, section, progress, [role^=tab], [role=group]";
+for (const node of all(NAMED)) if (!nameOf(node)) tell(node, "no name");
+for (const node of all("img:not([aria-label]), svg:not([aria-label])")) tell(node, "no text");
 for (const node of all("[aria-controls], [aria-labelledby], [aria-describedby], label[for]")) {
   for (const name of ["aria-controls", "aria-labelledby", "aria-describedby", "for"]) {
     for (const id of (node.getAttribute(name) ?? "").split(" ")) {

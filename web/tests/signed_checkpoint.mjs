@@ -13,4 +13,5 @@ const signature = await key.sign(checkpoints.message(checkpoints.contents(checkp
 const words = `"keyId":${JSON.stringify(records.keyId(key.publicKey))},"signature":${JSON.stringify(signature)}`;
 const published = (it) => `{"contents":${checkpoints.toJson(it)},${words}}`;
 const other = { ...checkpoint, logLength: 18_446_744_073_709_551_614n };
-stdout.write(JSON.stringify({ log: `${hexOf(envelope)}\n`, published: published(checkpoint), other: published(other) }));
+const log = `${hexOf(envelope)}\n`;
+stdout.write(JSON.stringify({ log, published: published(checkpoint), other: published(other) }, null, 2));

@@ -9,9 +9,10 @@ import tempfile
 import logs
 from browsers import Chromium, begun, end_all
 from logs import EXAMPLES
+from page import JUDGED
 from served import ROOT, Served
 from small_png import smaller
-from test_page import CHECKPOINT, INCLUSION, JUDGED, MATH, RECORD
+from test_proofs import CHECKPOINT, INCLUSION, MATH, RECORD
 
 FOLDER = ROOT / "docs/pictures"
 # A picture is no larger.

@@ -19,6 +19,7 @@ MAIN, JUDGING, WORKER, ANSWERS = (f"web/src/{it}.js" for it in ("main", "judging
 DOM, READING, PANELS, PAGING = (f"web/src/{it}.js" for it in ("dom", "reading", "panels", "paging"))
 COMPARING, FILES, PAGE, STYLE = "web/src/comparing.js", "web/src/files.js", "web/index.html", "web/style.css"
 FOUND = "found: { kind: 'package', taken: done, count: total, toys: 0, refusal: null, permissions: [] }"
+NOTHING = "{ taken: 0, toys: 0, kind: 'package', refusal: null, log: await logOf('package', { library }) }"
 
 # The edit, and the test that sees it.
 WRONG: dict[str, tuple[Edit, str]] = {
@@ -57,7 +58,7 @@ WRONG: dict[str, tuple[Edit, str]] = {
     ),
     "a file may be larger": ((WORKER, "if (size > MOST) throw", "if (false) throw"), "test_faults_of_files"),
     "a file without records is lawful": (
-        (JUDGING, "if (!envelopes.length) throw new Empty();", "if (!envelopes.length) envelopes.push(new Uint8Array());"),
+        (JUDGING, "if (!envelopes.length) throw new Empty();", f"if (!envelopes.length) return {NOTHING};"),
         "test_faults_of_files",
     ),
     "a folder is a file": ((FILES, "if (entry?.isDirectory)", "if (false)"), "test_folder"),
@@ -110,7 +111,10 @@ WRONG: dict[str, tuple[Edit, str]] = {
         (PANELS, 'yanked && el("strong", { class: "flag" }, " yanked")', "null"),
         "test_what_is_in_a_log",
     ),
-    "each page begins at 0": ((PAGING, "draw(found.rows, from, found)", "draw(found.rows, 0, found)"), "test_log_of_16_mib"),
+    "each page begins at 0": (
+        (PAGING, "draw(found.rows, from, found)", "draw(found.rows, 0, found)"),
+        "test_log_of_16_mib",
+    ),
     "all rows are in the page": (
         (PANELS, "[RECORDS, ROWS, HOLDERS] = [100, 100, 100]", "[RECORDS, ROWS, HOLDERS] = [50_000, 100, 100]"),
         "test_log_of_16_mib",
@@ -153,6 +157,10 @@ WRONG: dict[str, tuple[Edit, str]] = {
         (PAGING, 'for (const it of on) it.setAttribute("aria-disabled", String(isLast));',
          "for (const it of on) it.disabled = isLast;"),
         "test_focus_stays_on_a_page_button",
+    ),
+    "the focus is lost with a button": (
+        (MAIN, "  if (ofCard !== undefined) refocused(ofCard, had.textContent);\n", ""),
+        "test_toy_signatures_are_asked_for",
     ),
     "arrows lead to no tab": ((PANELS, "next.tab.focus();", ""), "test_keyboard"),
     "a field has no name": ((PAGE, ' aria-label="Files of logs"', ""), "test_rules"),
