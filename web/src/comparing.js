@@ -2,7 +2,7 @@
  * Two logs side by side: where they part.
  * @module
  */
-import { at, el, fill, many, quoted, said } from "./dom.js";
+import { at, el, fill, many, quoted, said as saidText } from "./dom.js";
 import { recordItem } from "./panels.js";
 import { faultText, relationText } from "./sentences.js";
 
@@ -25,7 +25,7 @@ function side(title, log, records, length, place) {
   return el(
     "section",
     { "aria-label": `${title} log` },
-    el("h3", {}, `${title}: `, said(log.name)),
+    el("h3", {}, `${title}: `, saidText(log.name)),
     records.length
       ? el("ol", { class: "line plain", start: place }, records.map(recordItem))
       : el("p", {}, "It has no further record."),
@@ -34,12 +34,10 @@ function side(title, log, records, length, place) {
 }
 
 function shownComparison(found, left, right) {
-  const [look, sentence] = relationText(found);
   const { relation, common, sides, lengths } = found;
   const place = relation === "same" ? lengths[0] : found.left;
   const other = relation === "collision" ? found.right : place;
   return [
-    el("p", { class: `box ${look}`, "data-relation": relation }, sentence),
     common.length > 0 && el("h3", {}, `The ${place > common.length ? "last " : ""}records that both have`),
     common.length > 0 && el("ol", { class: "line plain common", start: place - common.length }, common.map(recordItem)),
     relation !== "same" &&
@@ -54,24 +52,28 @@ function shownComparison(found, left, right) {
 
 /** The part of the page that compares; `logs` gives those that can be chosen. */
 export function comparing(thread, logs) {
-  const [left, right, box] = [at("left"), at("right"), at("compared")];
+  const [left, right, said, box] = ["left", "right", "compare-said", "compared"].map(at);
   let turn = 0;
+
+  // The sentence is read out, and what stands below it is not.
+  function tell(look, sentence, ...shown) {
+    fill(said, el("span", { class: `box ${look}` }, sentence));
+    fill(box, ...shown);
+  }
 
   async function compare() {
     const mine = ++turn;
     const chosen = [left, right].map((it) => logs().find(({ number }) => String(number) === it.value));
     if (chosen.includes(undefined)) return;
     const why = hindrance(...chosen);
-    if (why) return fill(box, el("p", { class: "box warn" }, why));
+    if (why) return tell("warn", why);
     const [{ number: one }, { number: other }] = chosen;
-    let shown;
     try {
       const found = await thread.ask("compare", { left: one, right: other, before: BEFORE, count: BEHIND });
-      shown = shownComparison(found, ...chosen);
+      if (mine === turn) tell(...relationText(found), ...shownComparison(found, ...chosen));
     } catch (error) {
-      shown = [el("p", { class: "box warn" }, faultText(error.told ?? { name: "Broken", sentence: error.message }))];
+      if (mine === turn) tell("warn", faultText(error.told ?? { name: "Broken", sentence: error.message }));
     }
-    if (mine === turn) fill(box, ...shown);
   }
 
   left.addEventListener("change", compare);
@@ -86,6 +88,6 @@ export function comparing(thread, logs) {
     fill(left, ...those.map((it) => option(it, one)));
     fill(right, ...those.map((it) => option(it, second)));
     if (those.length >= 2) void compare();
-    else fill(box);
+    else for (const it of [said, box]) fill(it);
   };
 }

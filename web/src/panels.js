@@ -100,12 +100,13 @@ function branchRow({ level, record, entry, by, to, time, isInit, holds }) {
 }
 
 function treeOf({ number: log, found, ask }) {
-  const tree = el("div", { "aria-live": "polite" });
+  const [count, tree] = [el("p", { role: "status" }), el("div")];
   const select = el("select", {}, found.permissions.map((it) => el("option", { value: it }, it)));
   let most = HOLDERS;
   async function show() {
     const permission = select.value;
-    fill(tree, el("p", {}, "Looking up who gave it to whom."));
+    fill(count, "Looking up who gave it to whom.");
+    fill(tree);
     const { rows, holders, shown } = await ask("tree", { number: log, permission, most });
     if (select.value !== permission) return;
     const list = paged({
@@ -117,15 +118,15 @@ function treeOf({ number: log, found, ask }) {
     await list.go(0);
     const more = holders > shown && button(`Look up ${number(HOLDERS)} more`, () => ((most += HOLDERS), show()));
     const rest = holders > shown ? `; ${number(shown)} are shown` : "";
-    const text = `${many(holders, "key")} ${holders === 1 ? "holds" : "hold"} it${rest}.`;
-    fill(tree, el("p", {}, text), list.node, more);
+    fill(count, `${many(holders, "key")} ${holders === 1 ? "holds" : "hold"} it${rest}.`);
+    fill(tree, list.node, more);
   }
   select.addEventListener("change", () => {
     most = HOLDERS;
     void show();
   });
   void show();
-  return [el("h3", {}, "Who gave it to whom"), el("p", {}, el("label", {}, "Permission ", select)), tree];
+  return [el("h3", {}, "Who gave it to whom"), el("p", {}, el("label", {}, "Permission ", select)), count, tree];
 }
 
 function keysPanel(log) {

@@ -139,8 +139,8 @@ class TwoLogs(PageTests):
     def relation(self, left: pathlib.Path, right: pathlib.Path) -> str:
         self.with_toys()
         self.dropped(left, right)
-        self.browser.wait("document.querySelector('#compared > *')")
-        return self.text("#compared")
+        self.browser.wait("document.querySelector('#compare-said > *')")
+        return self.text("#compare-said")
 
     def test_fork(self) -> None:
         fork = logs.write(self.folder, "fork.hex", logs.forked())
@@ -173,7 +173,7 @@ class TwoLogs(PageTests):
         self.browser.drop([EXAMPLES / "package_forged.hex"])
         self.browser.wait(JUDGED.format(3))
         self.browser.run("at('right').value = '2'; at('right').dispatchEvent(new Event('change'))")
-        self.browser.wait("document.querySelector('#compared').textContent.includes('is refused')")
+        self.browser.wait("at('compare-said').textContent.includes('is refused')")
 
 
 load_tests = in_each(LongLogs, Strangers, TwoLogs)

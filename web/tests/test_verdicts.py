@@ -160,6 +160,17 @@ class Verdicts(PageTests):
         self.assertIn("This is a folder. Drop the files that are in it.", said)
         self.assertEqual(self.looks(), ["fault"])
 
+    def test_drop_of_a_text(self) -> None:
+        self.browser.run(
+            """
+            const dataTransfer = new DataTransfer();
+            dataTransfer.setData("text/plain", "0a00");
+            document.body.dispatchEvent(new DragEvent("drop", { bubbles: true, cancelable: true, dataTransfer }));
+            """
+        )
+        self.browser.wait(JUDGED.format(1))
+        self.assertIn("Nothing that was dropped is a file.", self.text("#verdicts"))
+
     def test_address(self) -> None:
         for path, look, sentence in [
             ("../examples/p256/package.hex", "good", "each signature belongs"),

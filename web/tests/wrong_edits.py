@@ -7,6 +7,7 @@ The status is 1 where a test did not see one.
 """
 import os
 import pathlib
+import re
 import subprocess
 import sys
 import tempfile
@@ -179,14 +180,17 @@ WRONG: dict[str, tuple[Edit, str]] = {
 }
 
 
-def is_seen(edit: Edit, test: str) -> bool:
-    """Whether the test fails by the edit, and not for another reason than that."""
+def seen_by(edit: Edit, test: str) -> str:
+    """What the test says of the edit, in a line, or nothing where it passes."""
     with tempfile.TemporaryDirectory(prefix="weoldrin-") as folder:
         copied(pathlib.Path(folder), [edit], ROOT)
         kept = {"WEOLDRIN_WEB_ROOT": folder, "WEOLDRIN_BROWSERS": "chromium", "WEOLDRIN_PATIENCE": "25"}
         words = [sys.executable, "-m", "unittest", "discover", "-s", str(TESTS), "-k", f"*.{test}"]
         done = subprocess.run(words, env=os.environ | kept, capture_output=True, text=True, check=False)
-    return done.returncode != 0 and "Ran 1 test" in done.stderr
+    if done.returncode == 0 or "Ran 1 test" not in done.stderr:
+        return ""
+    lines = [it for it in done.stderr.splitlines() if re.match(r"[\w.]*(?:Error|Exception)\b", it)]
+    return lines[-1][:200] if lines else "it fails"
 
 
 def main() -> int:
@@ -198,9 +202,9 @@ def main() -> int:
     for name, (edit, test) in WRONG.items():
         if sys.argv[1:] and not any(it in name for it in sys.argv[1:]):
             continue
-        seen = is_seen(edit, test)
-        missed += not seen
-        print(f"{'seen' if seen else 'NOT SEEN'}: {name} ({test})", flush=True)
+        said = seen_by(edit, test)
+        missed += not said
+        print(f"{f'seen: {name} ({test}): {said}' if said else f'NOT SEEN: {name} ({test})'}", flush=True)
     return 1 if missed else 0
 
 
