@@ -69,10 +69,14 @@ export const number = (value) => String(value).replace(/\B(?=(\d{3})+(?!\d))/g, 
 /** So many of a thing. */
 export const many = (count, one, more = `${one}s`) => `${number(count)} ${count === 1 ? one : more}`;
 
-const short = (id) => (/^sha256:[0-9a-f]{64}$/.test(id) ? id.slice(0, 19) : quoted(id, 40));
+// So much of an id is shown, as the command does, where the whole of it was not asked for.
+const SHORT = 19;
 
-/** The id of a record, of a log or of a content, short, with the whole of it to be read. */
-export const idText = (id) => el("code", { class: "id", title: quoted(id) }, short(id));
+/** The id of a record, of a log, of a key or of a content. Its rest is shown where whole ids are asked for. */
+export function idText(id) {
+  if (!/^sha256:[0-9a-f]{64}$/.test(id)) return el("code", { class: "id" }, quoted(id, 80));
+  return el("code", { class: "id" }, id.slice(0, SHORT), el("span", { class: "rest" }, id.slice(SHORT)));
+}
 
 /** Gives an element the color of a key, which says no more than its id does. */
 export function colored(node, id) {
@@ -115,7 +119,7 @@ export const row = (of, cells, attributes = {}) =>
 export const table = (caption, heads, rows) =>
   el(
     "table",
-    { role: "table" },
+    { role: "table", "aria-label": caption },
     el("caption", {}, caption),
     el(
       "thead",

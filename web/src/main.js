@@ -140,6 +140,7 @@ function listen() {
     void take(chosen(target.files));
     target.value = "";
   });
+  at("whole").addEventListener("change", ({ target }) => document.body.classList.toggle("whole", target.checked));
   at("by-address").addEventListener("submit", async (event) => {
     event.preventDefault();
     told("Fetching the log.");

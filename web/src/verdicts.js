@@ -3,7 +3,7 @@
  * and not before.
  * @module
  */
-import { at, button, el, fill, idText, keyText, many, number, quoted, said, timeText } from "./dom.js";
+import { at, button, el, fill, keyText, many, number, quoted, said, timeText } from "./dom.js";
 import { entriesOf } from "./entries.js";
 import { faultText, kindText, meaningOf } from "./sentences.js";
 
@@ -71,7 +71,7 @@ function lawfulOf(found) {
       `Each of its ${many(found.taken, "record")} follows the rules, and each signature belongs` +
         (found.toys ? ", but anyone can forge signatures of the toy scheme: this says nothing of who signed." : "."),
     ),
-    found.head && el("p", {}, "Its last record is ", idText(found.head), "."),
+    found.head && el("p", {}, "Its last record is ", el("code", {}, quoted(found.head)), "."),
   ];
 }
 

@@ -30,6 +30,7 @@ class Reached(PageTests):
             self.keep(name)
         bad = logs.write(self.folder, "hostile.hex", logs.hostile_log())
         self.dropped(bad, count=4)
+        self.clicked("#whole")
         self.clicked(".card:last-child button", "Show")
         self.tab("namespaces", "tbody tr")
         self.keep("namespaces")

@@ -5,7 +5,7 @@ import logs
 from logs import EXAMPLES
 from page import JUDGED, MOST, PageTests, in_each
 
-HEAD = "sha256:8e61d029a028"
+HEAD = "sha256:8e61d029a02873b9b456d2514699183aaffa8885b04995d59c519f281c8bd848"
 
 
 class Verdicts(PageTests):
@@ -24,6 +24,10 @@ class Verdicts(PageTests):
         self.assertIn("begins the log with sha256:995fb66e73fd", said)
         self.assertIn("grants release to sha256:e604b30a9aab", said)
         self.assertIn("2023-11-14 22:16:20 UTC", said)
+        self.assertNotIn(HEAD, said)
+        self.clicked("#whole")
+        self.assertIn(HEAD, self.text("#panel-records"))
+        self.clicked("#whole")
         self.assertIn("4 records, signed by 2 of the 2 keys that it names.", self.text("#panel-records"))
         releases = self.tab("releases", "tbody tr:nth-child(2)")
         self.assertRegex(releases, r"1\.0\.0\s+yanked")
