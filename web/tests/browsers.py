@@ -21,7 +21,7 @@ UNSAFE = "weoldrin.test"
 # What each script of a test has.
 AT = "const at = (id) => document.getElementById(id);"
 # So many seconds an answer is waited for.
-PATIENCE = float(os.environ.get("WEOLDRIN_PATIENCE", "240"))
+PATIENCE = 240.0
 
 # Has the page take a drop of files that were put into a field: no driver of Firefox drags files.
 DROP = """
@@ -51,6 +51,8 @@ class Browser(ABC):
     """A browser with one page."""
 
     name = ""
+    # So many seconds something is waited for.
+    patience = PATIENCE
     # Whether a folder can be dropped on the page by this driver.
     drops_folders = False
 
@@ -93,13 +95,12 @@ class Browser(ABC):
         self.choose("#of-the-test", paths)
         self.run(DROPPED)
 
-    def wait(self, condition: str, seconds: float = PATIENCE) -> Any:
+    def wait(self, condition: str) -> None:
         """Waits until an expression is true."""
-        end = time.monotonic() + seconds
+        end = time.monotonic() + self.patience
         while True:
-            found = self.run(f"return Boolean({condition})")
-            if found:
-                return found
+            if self.run(f"return Boolean({condition})"):
+                return
             if time.monotonic() > end:
                 shown = self.run("return document.body.innerText")
                 raise BrowserError(f"{self.name}: it did not come to {condition}; the page says: {shown[:2000]}")

@@ -6,8 +6,6 @@ import subprocess
 import tempfile
 
 ROOT = pathlib.Path(__file__).resolve().parents[2]
-# Whose page is tested: that of this repository, or a copy of it.
-PAGE_ROOT = pathlib.Path(os.environ.get("WEOLDRIN_WEB_ROOT", ROOT))
 # Another file of the library than that of dist/.
 LIBRARY = os.environ.get("WEOLDRIN_LIBRARY")
 # What the page and its server are made of.
@@ -17,11 +15,17 @@ TOOLS = ("web", "web_page.py", "common.py")
 Edit = tuple[str, str, str]
 
 
+class Tested:
+    """Whose page is tested: that of this repository, or a copy of it with a wrong edit."""
+
+    root = ROOT
+
+
 class Served:
     """A server of the page, until it is closed."""
 
-    def __init__(self, root: pathlib.Path = PAGE_ROOT) -> None:
-        words = [str(root / "tools/web"), "--no-browser"]
+    def __init__(self, root: pathlib.Path | None = None) -> None:
+        words = [str((root or Tested.root) / "tools/web"), "--no-browser"]
         if LIBRARY:
             words += ["--library", LIBRARY]
         self.process = subprocess.Popen(words, stdout=subprocess.PIPE, text=True)
@@ -36,8 +40,9 @@ class Served:
         self.process.stdout.close()
 
 
-def copied(to: pathlib.Path, edits: list[Edit], root: pathlib.Path = PAGE_ROOT) -> None:
+def copied(to: pathlib.Path, edits: list[Edit]) -> None:
     """Lays a copy of the page into a folder, with these edits."""
+    root = Tested.root
     for part in PARTS:
         (to / part).parent.mkdir(parents=True, exist_ok=True)
         if (root / part).is_dir():

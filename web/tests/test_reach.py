@@ -7,7 +7,7 @@ import logs
 from browsers import UNSAFE
 from logs import EXAMPLES
 from page import JUDGED, PageTests, in_each
-from served import PAGE_ROOT, Edit, Edited
+from served import Edit, Edited, Tested
 
 RULES = (pathlib.Path(__file__).parent / "rules.js").read_text(encoding="utf-8")
 
@@ -87,7 +87,7 @@ class Places(PageTests):
 
     def test_one_file(self) -> None:
         path = self.folder / "weoldrin.html"
-        subprocess.run([PAGE_ROOT / "tools/web", "--file", path], check=True)
+        subprocess.run([Tested.root / "tools/web", "--file", path], check=True)
         self.opened(path.as_uri())
         self.assertEqual(self.text("#trouble"), "")
         self.dropped(EXAMPLES / "p256/package.hex")
@@ -97,11 +97,11 @@ class Places(PageTests):
         self.browser.wait(JUDGED.format(1))
         self.assertEqual(self.looks(), ["good"])
         again = self.folder / "again.html"
-        subprocess.run([PAGE_ROOT / "tools/web", "--file", again], check=True)
+        subprocess.run([Tested.root / "tools/web", "--file", again], check=True)
         self.assertEqual(again.read_bytes(), path.read_bytes())
 
     def test_sources_opened_as_a_file(self) -> None:
-        self.browser.open((PAGE_ROOT / "web/index.html").as_uri())
+        self.browser.open((Tested.root / "web/index.html").as_uri())
         self.browser.wait("!at('trouble').hidden")
         self.assertIn("Run tools/web, which serves it; or tools/web --file", self.text("#trouble"))
 

@@ -5,15 +5,15 @@
 
 The status is 1 where a test did not see one.
 """
-import os
 import pathlib
 import re
-import subprocess
 import sys
 import tempfile
+import unittest
 
-from browsers import is_there
-from served import ROOT, Edit, copied
+import browsers
+import page
+from served import ROOT, Edit, Tested, copied
 
 TESTS = pathlib.Path(__file__).parent
 MAIN, JUDGING, WORKER, ANSWERS = (f"web/src/{it}.js" for it in ("main", "judging", "worker", "answers"))
@@ -184,21 +184,30 @@ WRONG: dict[str, tuple[Edit, str]] = {
 def seen_by(edit: Edit, test: str) -> str:
     """What the test says of the edit, in a line, or nothing where it passes."""
     with tempfile.TemporaryDirectory(prefix="weoldrin-") as folder:
-        copied(pathlib.Path(folder), [edit], ROOT)
-        kept = {"WEOLDRIN_WEB_ROOT": folder, "WEOLDRIN_BROWSERS": "chromium", "WEOLDRIN_PATIENCE": "25"}
-        words = [sys.executable, "-m", "unittest", "discover", "-s", str(TESTS), "-k", f"*.{test}"]
-        done = subprocess.run(words, env=os.environ | kept, capture_output=True, text=True, check=False)
-    if done.returncode == 0 or "Ran 1 test" not in done.stderr:
-        return ""
-    lines = [it for it in done.stderr.splitlines() if re.match(r"[\w.]*(?:Error|Exception)\b", it)]
-    return lines[-1][:200] if lines else "it fails"
+        copied(pathlib.Path(folder), [edit])
+        Tested.root = pathlib.Path(folder)
+        try:
+            loader = unittest.TestLoader()
+            loader.testNamePatterns = [f"*.{test}"]
+            found = unittest.TestResult()
+            loader.discover(str(TESTS)).run(found)
+        finally:
+            Tested.root = ROOT
+    if found.testsRun != 1:
+        raise SystemExit(f"not one test of this name: {test}")
+    said = [text for _, text in [*found.failures, *found.errors]]
+    lines = [it for it in "\n".join(said).splitlines() if re.match(r"[\w.]*(?:Error|Exception)\b", it)]
+    return lines[-1][:200] if lines else "".join(said)[:200]
 
 
 def main() -> int:
     """Tries all, or some."""
-    if not is_there("chromium"):
+    if not browsers.is_there("chromium"):
         print("left out: chromium is not installed")
         return 0
+    page.NAMES[:] = ["chromium"]
+    # What does not come soon, does not come.
+    browsers.Browser.patience = 25.0
     missed = 0
     for name, (edit, test) in WRONG.items():
         if sys.argv[1:] and not any(it in name for it in sys.argv[1:]):
