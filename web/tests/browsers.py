@@ -253,11 +253,9 @@ DRIVER_KEYS = {
     "ArrowRight": "\ue014",
 }
 
-# As a window of Firefox is no narrower than 450 pixels, one of the page is one and a half of the window.
 PREFERENCES = f"""
 user_pref("network.dns.localDomains", "{UNSAFE}");
 user_pref("marionette.port", 0);
-user_pref("layout.css.devPixelsPerPx", "1.5");
 user_pref("datareporting.policy.dataSubmissionEnabled", false);
 user_pref("browser.shell.checkDefaultBrowser", false);
 user_pref("app.normandy.enabled", false);
@@ -274,7 +272,7 @@ class Firefox(Browser):
     def __init__(self, program: str, profile: str) -> None:
         folder = pathlib.Path(profile)
         (folder / "user.js").write_text(PREFERENCES, encoding="utf-8")
-        # The browser's own script, too, may be run: it darkens the page.
+        # Scripts of the browser itself may be run too: they darken the page, and narrow it.
         words = [program, "--headless", "--marionette", "--remote-allow-system-access", "--no-remote"]
         words += ["--profile", profile, "about:blank"]
         super().__init__(words, env=os.environ | {"MOZ_HEADLESS": "1"})
@@ -337,22 +335,24 @@ class Firefox(Browser):
         both = [{"type": "keyDown", "value": value}, {"type": "keyUp", "value": value}]
         self.ask("WebDriver:PerformActions", actions=[{"type": "key", "id": "keys", "actions": both}])
 
-    def resize(self, width: int, height: int) -> None:
-        self.ask("WebDriver:SetWindowRect", width=width * 3 // 2, height=height * 3 // 2)
-        inner = self.run("return [innerWidth, innerHeight]")
-        beside = (width - inner[0], height - inner[1])
-        if any(beside):
-            words = {"width": (width + beside[0]) * 3 // 2, "height": (height + beside[1]) * 3 // 2}
-            self.ask("WebDriver:SetWindowRect", **words)
-
-    def darken(self, is_dark: bool) -> None:
-        name = "layout.css.prefers-color-scheme.content-override"
+    def run_as_browser(self, script: str) -> None:
+        """Runs a script of the browser's own window."""
         self.ask("Marionette:SetContext", value="chrome")
         try:
-            script = f'Services.prefs.setIntPref("{name}", {0 if is_dark else 1})'
             self.ask("WebDriver:ExecuteScript", script=script, args=[], sandbox=None)
         finally:
             self.ask("Marionette:SetContext", value="content")
+
+    def resize(self, width: int, height: int) -> None:
+        # No window is as narrow as a page can be: what is made narrow is the page's place in it.
+        self.ask("WebDriver:SetWindowRect", width=1200, height=1100)
+        size = f"min-width: 0; max-width: {width}px; min-height: 0; max-height: {height}px"
+        self.run_as_browser(f'gBrowser.selectedBrowser.style.cssText = "{size}"')
+        self.wait(f"innerWidth === {width}")
+
+    def darken(self, is_dark: bool) -> None:
+        name = "layout.css.prefers-color-scheme.content-override"
+        self.run_as_browser(f'Services.prefs.setIntPref("{name}", {0 if is_dark else 1})')
 
     def picture(self) -> bytes:
         return base64.b64decode(self.ask("WebDriver:TakeScreenshot", full=False)["value"])

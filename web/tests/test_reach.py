@@ -71,13 +71,18 @@ class Reached(PageTests):
         self.browser.press("Tab")
         self.assertEqual(self.browser.run("return document.activeElement.id"), "panel-releases")
 
-    def test_focus_stays_on_a_page_button(self) -> None:
+    def test_pages(self) -> None:
         self.with_toys()
         self.dropped(logs.write(self.folder, "some.hex", logs.made("250")))
         self.tab("records", ".record")
+        shown = "return [document.querySelectorAll('.record').length, document.querySelector('ol.line').start]"
+        self.assertEqual(self.browser.run(shown), [100, 0])
+        self.assertIn("0 to 99 of 250", self.text("#panel-records .pager"))
         self.browser.run("document.querySelector('#panel-records [aria-label^=Last]').focus()")
         self.browser.press("Enter")
         self.browser.wait("document.querySelector('.record .number').textContent === '200'")
+        self.assertEqual(self.browser.run(shown), [50, 200])
+        # A button that is of no use any more keeps the focus.
         self.assertEqual(self.browser.run("return document.activeElement.textContent"), "Last")
         self.assertEqual(self.browser.run("return document.activeElement.getAttribute('aria-disabled')"), "true")
 

@@ -114,11 +114,11 @@ WRONG: dict[str, tuple[Edit, str]] = {
     ),
     "each page begins at 0": (
         (PAGING, "draw(found.rows, from, found)", "draw(found.rows, 0, found)"),
-        "test_log_of_16_mib",
+        "test_pages",
     ),
     "all rows are in the page": (
         (PANELS, "[RECORDS, ROWS, HOLDERS] = [100, 100, 100]", "[RECORDS, ROWS, HOLDERS] = [50_000, 100, 100]"),
-        "test_log_of_16_mib",
+        "test_pages",
     ),
     "all entries are in the page": (
         (ANSWERS, "entries: entries.slice(0, ENTRIES)", "entries"),
@@ -157,7 +157,7 @@ WRONG: dict[str, tuple[Edit, str]] = {
     "a button of a page is disabled": (
         (PAGING, 'for (const it of on) it.setAttribute("aria-disabled", String(isLast));',
          "for (const it of on) it.disabled = isLast;"),
-        "test_focus_stays_on_a_page_button",
+        "test_pages",
     ),
     "the focus is lost with a button": (
         (MAIN, "  if (ofCard !== undefined) refocused(ofCard, had.textContent);\n", ""),
