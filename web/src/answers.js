@@ -6,7 +6,7 @@
 import { pause } from "./judging.js";
 import { recordOf } from "./reading.js";
 
-// So many entries of one record are told, and of one column of the picture.
+// So many entries of one record are told, and the picture of the records over time has so many columns.
 const [ENTRIES, COLUMNS] = [24, 72];
 const PERMISSIONS = {
   package: ["release", "yank"],
@@ -42,9 +42,9 @@ const idsOf = ({ signer, entries }) => [signer, ...entries.flatMap(({ id }) => (
 /** How many records there are in each column of time, from the first to the last. */
 function columnsOf(times) {
   const [first, last] = [times[0], times.at(-1)];
-  const columns = new Array(Math.min(COLUMNS, Math.max(1, times.length))).fill(0);
+  const columns = new Array(COLUMNS).fill(0);
   const span = last - first + 1n;
-  for (const time of times) columns[Number(((time - first) * BigInt(columns.length)) / span)]++;
+  for (const time of times) columns[Number(((time - first) * BigInt(COLUMNS)) / span)]++;
   return columns;
 }
 

@@ -70,7 +70,8 @@ function recordsPanel({ thread, number: log, found, ask }) {
     const { keys, signers } = summary;
     const signed = `signed by ${number(signers)} of the ${many(keys, "key")} that it names`;
     const text = el("p", {}, `${many(found.taken, "record")}, ${signed}.`);
-    fill(facts, text, summary.columns.length > 1 && picture(summary));
+    const [first, last] = summary.span;
+    fill(facts, text, first < last && picture(summary));
   });
   void list.go(0);
   return [facts, list.node];
