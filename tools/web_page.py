@@ -98,16 +98,15 @@ def block(name: str, data: bytes) -> str:
 def one_file(library: pathlib.Path) -> str:
     """The page with all that it loads."""
     page = (WEB / "index.html").read_text(encoding="utf-8")
-    style, fallback = ((WEB / it).read_text(encoding="utf-8") for it in ("style.css", "fallback.js"))
+    style = (WEB / "style.css").read_text(encoding="utf-8")
     code = script()
     example = (ROOT / "examples/p256/package.hex").read_bytes()
     blocks = block("module", library.read_bytes()) + block("example", example)
     changes = {
-        "script-src 'self'": f"script-src {hash_of(fallback)} {hash_of(code)}",
+        "script-src 'self'": f"script-src {hash_of(code)}",
         "style-src 'self'": f"style-src {hash_of(style)}",
         "worker-src 'self'": "worker-src blob:",
         '<link rel="stylesheet" href="style.css">': f"<style>{style}</style>",
-        '<script src="fallback.js"></script>': f"<script>{fallback}</script>",
         '<script type="module" src="src/main.js"></script>\n': "",
         "</body>": f'{blocks}<script id="weoldrin-script">{code}</script>\n</body>',
     }

@@ -10,7 +10,8 @@ import { proofs } from "./proofs.js";
 import { Fault, Thread, part } from "./thread.js";
 import { cardOf, sentenceOf, tellProgress } from "./verdicts.js";
 
-globalThis.weoldrinBegan = true;
+// It says that the scripts did not run.
+at("unopened").remove();
 
 const thread = new Thread();
 const logs = [];

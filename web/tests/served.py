@@ -9,7 +9,7 @@ ROOT = pathlib.Path(__file__).resolve().parents[2]
 # Another file of the library than that of dist/.
 LIBRARY = os.environ.get("WEOLDRIN_LIBRARY")
 # What the page and its server are made of.
-PARTS = ("web/index.html", "web/style.css", "web/fallback.js", "web/src", "bindings/js/src", "dist/wasm", "examples")
+PARTS = ("web/index.html", "web/style.css", "web/src", "bindings/js/src", "dist/wasm", "examples")
 TOOLS = ("web", "web_page.py", "common.py")
 # A file, a text that stands once in it, and what stands there in its place.
 Edit = tuple[str, str, str]

@@ -107,8 +107,8 @@ class Places(PageTests):
 
     def test_sources_opened_as_a_file(self) -> None:
         self.browser.open((Tested.root / "web/index.html").as_uri())
-        self.browser.wait("!at('trouble').hidden")
-        self.assertIn("Run tools/web, which serves it; or tools/web --file", self.text("#trouble"))
+        self.browser.wait("at('unopened').checkVisibility({ visibilityProperty: true })")
+        self.assertIn("run tools/web, which serves it, or tools/web --file", self.text("#unopened"))
 
     def of_edited(self, *edits: Edit) -> str:
         """What a page with these edits says of an example."""

@@ -171,7 +171,7 @@ WRONG: dict[str, tuple[Edit, str]] = {
     "a narrow page is wide": ((STYLE, "  overflow-wrap: anywhere;\n", ""), "test_rules_at_360_pixels"),
     "want of the library is told nowhere": ((MAIN, "    trouble(quoted(error.message, 600));\n", ""), "test_no_module"),
     "a page from a file says nothing": (
-        ("web/fallback.js", 'if (location.protocol === "file:") {', "if (false) {"),
+        (PAGE, '<p id="unopened"', '<p id="unopened" hidden'),
         "test_sources_opened_as_a_file",
     ),
     "the one file's policy knows another script": (
