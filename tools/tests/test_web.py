@@ -85,7 +85,7 @@ class OneFile(unittest.TestCase):
         for name, element in [("script-src", "script"), ("style-src", "style")]:
             texts = re.findall(rf"<{element}(?: id=\"weoldrin-script\")?>(.*?)</{element}>", page, re.S)
             hashes = {f"'sha256-{base64.b64encode(hashlib.sha256(it.encode()).digest()).decode()}'" for it in texts}
-            policy = next(it.split() for it in found[1].split("; ") if it.startswith(name))
+            policy = next(it.split() for it in found[1].split(";") if it.strip().startswith(name))
             self.assertEqual(set(policy[1:]) - {"'wasm-unsafe-eval'"}, hashes)
         self.assertNotIn("unsafe-inline", page)
         self.assertNotIn('src="', page.replace(web_page.script(), ""))
