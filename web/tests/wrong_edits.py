@@ -163,7 +163,10 @@ WRONG: dict[str, tuple[Edit, str]] = {
         (MAIN, "  if (ofCard !== undefined) refocused(ofCard, had.textContent);\n", ""),
         "test_toy_signatures_are_asked_for",
     ),
-    "whole ids are not shown": ((STYLE, ".whole .rest {\n  display: inline;", ".whole .rest {"), "test_what_is_in_a_log"),
+    "whole ids are not shown": (
+        (STYLE, ".whole .rest {\n  display: inline;", ".whole .rest {"),
+        "test_what_is_in_a_log",
+    ),
     "arrows lead to no tab": ((PANELS, "next.tab.focus();", ""), "test_keyboard"),
     "a field has no name": ((PAGE, ' aria-label="Files of logs"', ""), "test_rules"),
     "texts are faint": ((STYLE, "--soft: #55554f;", "--soft: #a5a59f;"), "test_rules"),
