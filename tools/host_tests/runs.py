@@ -57,6 +57,11 @@ def counted_of_go(said: str) -> Count:
     return Count(*(len(re.findall(rf"^--- {word}: ", said, re.M)) for word in ("PASS", "FAIL", "SKIP")))
 
 
+def counted_of_edits(said: str) -> Count:
+    """By the lines of those wrong edits that a test saw, and of those that none did."""
+    return Count(*(len(re.findall(f"^{word}: ", said, re.M)) for word in ("seen", "NOT SEEN")))
+
+
 class Hosts:
     """The tests of a run, in a folder of its own."""
 

@@ -1,0 +1,225 @@
+"""Wrong edits of the page, each of which a test has to see.
+
+    python3 web/tests/wrong_edits.py           tries all, in Chromium, and prints a line for each
+    python3 web/tests/wrong_edits.py WORD..    those whose names have one of the words in them
+
+The status is 1 where a test did not see one.
+"""
+import pathlib
+import re
+import sys
+import tempfile
+import unittest
+
+import browsers
+import page
+from served import ROOT, Edit, Tested, copied
+
+TESTS = pathlib.Path(__file__).parent
+MAIN, JUDGING, WORKER, ANSWERS = (f"web/src/{it}.js" for it in ("main", "judging", "worker", "answers"))
+DOM, READING, PANELS, PAGING = (f"web/src/{it}.js" for it in ("dom", "reading", "panels", "paging"))
+COMPARING, FILES, PAGE, STYLE = "web/src/comparing.js", "web/src/files.js", "web/index.html", "web/style.css"
+FOUND = "found: { kind: 'package', taken: done, count: total, toys: 0, refusal: null, permissions: [] }"
+NOTHING = "{ taken: 0, toys: 0, kind: 'package', refusal: null, log: await logOf('package', { library }) }"
+
+# The edit, and the test that sees it.
+WRONG: dict[str, tuple[Edit, str]] = {
+    "a yes is shown before the last record": (
+        (MAIN, "Object.assign(log, { done, total });", f"Object.assign(log, {{ done, total, {FOUND} }}), list();"),
+        "test_no_yes_before_the_last_record",
+    ),
+    "toy signatures are taken unasked": (
+        (JUDGING, 'if (toy && scheme === "toy")', 'if (scheme === "toy")'),
+        "test_toy_signatures_are_asked_for",
+    ),
+    "toy signatures are a yes like others": (
+        (JUDGING, 'if (schemeOf(question) === "toy") toys++;', ""),
+        "test_toy_signatures_are_asked_for",
+    ),
+    "any signature of P-256 belongs": (
+        (JUDGING, "return verifyP256(question);", "return true;"),
+        "test_changed_record_of_p256",
+    ),
+    "any toy signature belongs": ((JUDGING, "return isToy(question);", "return true;"), "test_forged_record"),
+    "without WebCrypto nothing is verified": (
+        (JUDGING, "hasWebCrypto() ? p256.verifyByWebCrypto : byLibrary", "p256.verifyByWebCrypto"),
+        "test_without_web_crypto",
+    ),
+    "the other kind is refused without a word": (
+        (JUDGING, "if (found !== null && found !== log.kind)", "if (false)"),
+        "test_other_kind",
+    ),
+    "each log is a package's": (
+        (JUDGING, "(await kindOf(library, envelopes[0])) ?? KINDS[0]", "KINDS[0]"),
+        "test_operator_log",
+    ),
+    "comments count for no lines": (
+        (JUDGING, "if (at++ === place) return number;", "if (at++ === place) return at;"),
+        "test_changed_record_of_p256",
+    ),
+    "a file may be larger": ((WORKER, "if (size > MOST) throw", "if (false) throw"), "test_faults_of_files"),
+    "a file without records is lawful": (
+        (JUDGING, "if (!envelopes.length) throw new Empty();", f"if (!envelopes.length) return {NOTHING};"),
+        "test_faults_of_files",
+    ),
+    "a folder is a file": ((FILES, "if (entry?.isDirectory)", "if (false)"), "test_folder"),
+    "a server's no is a log": (
+        (FILES, "if (!response.ok) throw", "if (false) throw"),
+        "test_address",
+    ),
+    "a removed log stays": ((MAIN, "logs.splice(logs.indexOf(log), 1);", ""), "test_removal"),
+    "a name is markup": (
+        (DOM, 'el("bdi", { class: "said", ...attributes }, quoted(text))',
+         'Object.assign(el("bdi", { class: "said", ...attributes }), { innerHTML: quoted(text) })'),
+        "test_hostile_texts",
+    ),
+    "hidden characters are shown": (
+        (DOM, 'printable(signs.slice(0, longest).join(""))', 'signs.slice(0, longest).join("")'),
+        "test_hostile_texts",
+    ),
+    "long texts are whole": ((DOM, "const LONGEST = 240;", "const LONGEST = 240_000;"), "test_hostile_texts"),
+    "scripts may stand in the page": (
+        (PAGE, "script-src 'self'", "script-src 'self' 'unsafe-inline'"),
+        "test_policy",
+    ),
+    "markup may be assigned": ((PAGE, "require-trusted-types-for 'script'; ", ""), "test_policy"),
+    "the first member of an entry counts": (
+        (READING, "members.at(-1)[0]", "members[0][0]"),
+        "test_records_that_are_written_otherwise",
+    ),
+    "a member is its last piece": (
+        (READING, "joined(members.slice(from).map(([, value]) => value))", "members.at(-1)[1]"),
+        "test_records_that_are_written_otherwise",
+    ),
+    "packed permissions are passed over": (
+        (READING, "type === BYTES && at < value.length; numbers", "false; numbers"),
+        "test_what_is_in_a_log",
+    ),
+    "the last piece of a time is the time": (
+        (READING, "if (times.length) found.time = timeOf(joined(times));",
+         "if (times.length) found.time = timeOf(times.at(-1));"),
+        "test_records_that_are_written_otherwise",
+    ),
+    "a tree has no branches": (
+        (ANSWERS, "branch = branch.get(name).below;", "branch = roots;"),
+        "test_what_is_in_a_log",
+    ),
+    "a key that lost a permission holds it": (
+        (ANSWERS, "permissions: log.permissions(id) ?? [],", 'permissions: ["release", "yank"],'),
+        "test_lost_permissions",
+    ),
+    "a yanked release looks like others": (
+        (PANELS, 'yanked && el("strong", { class: "flag" }, " yanked")', "null"),
+        "test_what_is_in_a_log",
+    ),
+    "each page begins at 0": (
+        (PAGING, "draw(found.rows, from, found)", "draw(found.rows, 0, found)"),
+        "test_pages",
+    ),
+    "all rows are in the page": (
+        (PANELS, "[RECORDS, ROWS, HOLDERS] = [100, 100, 100]", "[RECORDS, ROWS, HOLDERS] = [50_000, 100, 100]"),
+        "test_pages",
+    ),
+    "all entries are in the page": (
+        (ANSWERS, "entries: entries.slice(0, ENTRIES)", "entries"),
+        "test_one_record_of_very_many_entries",
+    ),
+    "both sides are the left log": (
+        (WORKER, "recordsOf(other, isCollision ? found.right : place, count)", "recordsOf(one, place, count)"),
+        "test_fork",
+    ),
+    "a log that goes on is a fork": (
+        (WORKER, "    ...found,\n    lengths:", '    ...found,\n    relation: "fork",\n    lengths:'),
+        "test_one_goes_on",
+    ),
+    "a refused log is compared": ((COMPARING, "if (refused) return", "if (false) return"), "test_what_is_not_compared"),
+    "logs of two kinds are compared": (
+        (COMPARING, "if (left.found.kind !== right.found.kind) return", "if (false) return"),
+        "test_what_is_not_compared",
+    ),
+    "any proof holds": (
+        (WORKER, 'what === "none" ? null : PROOFS[what]', 'what === "none" ? null : (() => true)'),
+        "test_proofs_that_do_not_hold",
+    ),
+    "old and new checkpoints are one": (
+        (WORKER, "library.verifyConsistency(it.old.logLength, it.old.logRoot,",
+         "library.verifyConsistency(it.logLength, it.logRoot,"),
+        "test_proofs_hold",
+    ),
+    "anyone signs checkpoints": (
+        (WORKER, 'return isSigned ? "signed" : "not-signed";', 'return "signed";'),
+        "test_signed_checkpoint",
+    ),
+    "a checkpoint's number is one of JavaScript": (
+        (WORKER, "/\"contents\"\\s*:\\s*(\\{[^{}]*\\})/.exec(text)?.[1] ?? \"\"", "JSON.stringify(whole.contents)"),
+        "test_signed_checkpoint",
+    ),
+    "a button of a page is disabled": (
+        (PAGING, 'for (const it of on) it.setAttribute("aria-disabled", String(isLast));',
+         "for (const it of on) it.disabled = isLast;"),
+        "test_pages",
+    ),
+    "the focus is lost with a button": (
+        (MAIN, "  if (ofCard !== undefined) refocused(ofCard, had.textContent);\n", ""),
+        "test_toy_signatures_are_asked_for",
+    ),
+    "whole ids are not shown": (
+        (STYLE, ".whole .rest {\n  display: inline;", ".whole .rest {"),
+        "test_what_is_in_a_log",
+    ),
+    "arrows lead to no tab": ((PANELS, "next.tab.focus();", ""), "test_keyboard"),
+    "a field has no name": ((PAGE, ' aria-label="Files of logs"', ""), "test_rules"),
+    "texts are faint": ((STYLE, "--soft: #55554f;", "--soft: #a5a59f;"), "test_rules"),
+    "texts are faint in the dark": ((STYLE, "--soft: #b5b5ae;", "--soft: #5a5a55;"), "test_rules_in_the_dark"),
+    "a narrow page is wide": ((STYLE, "  overflow-wrap: anywhere;\n", ""), "test_rules_at_360_pixels"),
+    "want of the library is told nowhere": ((MAIN, "    trouble(quoted(error.message, 600));\n", ""), "test_no_module"),
+    "a page from a file says nothing": (
+        (PAGE, '<p id="unopened"', '<p id="unopened" hidden'),
+        "test_sources_opened_as_a_file",
+    ),
+    "the one file's policy knows another script": (
+        ("tools/web_page.py", "{hash_of(code)}", "{hash_of(code + ' ')}"),
+        "test_one_file",
+    ),
+}
+
+
+def seen_by(edit: Edit, test: str) -> str:
+    """What the test says of the edit, in a line, or nothing where it passes."""
+    with tempfile.TemporaryDirectory(prefix="weoldrin-") as folder:
+        copied(pathlib.Path(folder), [edit])
+        Tested.root = pathlib.Path(folder)
+        try:
+            loader = unittest.TestLoader()
+            loader.testNamePatterns = [f"*.{test}"]
+            found = unittest.TestResult()
+            loader.discover(str(TESTS)).run(found)
+        finally:
+            Tested.root = ROOT
+    if found.testsRun != 1:
+        raise SystemExit(f"not one test of this name: {test}")
+    said = [text for _, text in [*found.failures, *found.errors]]
+    lines = [it for it in "\n".join(said).splitlines() if re.match(r"[\w.]*(?:Error|Exception)\b", it)]
+    return lines[-1][:200] if lines else "".join(said)[:200]
+
+
+def main() -> int:
+    """Tries all, or some."""
+    if not browsers.is_there("chromium"):
+        print("left out: chromium is not installed")
+        return 0
+    page.NAMES[:] = ["chromium"]
+    # What does not come soon, does not come.
+    browsers.Browser.patience = 25.0
+    missed = 0
+    for name, (edit, test) in WRONG.items():
+        if sys.argv[1:] and not any(it in name for it in sys.argv[1:]):
+            continue
+        said = seen_by(edit, test)
+        missed += not said
+        print(f"{f'seen: {name} ({test}): {said}' if said else f'NOT SEEN: {name} ({test})'}", flush=True)
+    return 1 if missed else 0
+
+
+if __name__ == "__main__":
+    sys.exit(main())
