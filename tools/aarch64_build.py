@@ -12,6 +12,9 @@ from common import ROOT
 
 TARGET = "aarch64-unknown-linux-gnu"
 SOURCE = ROOT / "aarch64/heap.c"
+# Where the machine that builds has a compiler of GCC for this target, clang finds that, and calls parts of it for what
+# is atomic. Without them the bytes are the same everywhere.
+COMPILED = ["-mno-outline-atomics"]
 # The calls of the C library that may be needed, and their version: the first one that the machine had.
 CALLS = ("free", "malloc", "memcmp", "memcpy", "memmove", "memset", "realloc")
 VERSION = "GLIBC_2.17"

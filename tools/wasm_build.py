@@ -34,7 +34,7 @@ CLANG = """#!/bin/sh
 for word in "$@"; do
     case $word in *.bc) cp -- "$word" {module} ;; esac
 done
-exec {clang} "$@"
+exec {clang} "$@"{more}
 """
 
 
@@ -47,8 +47,9 @@ class NoModule(Exception):
     """The text is none that can be written for WebAssembly, and why."""
 
 
-def keeping(toolchain: pathlib.Path, folder: pathlib.Path, module: pathlib.Path) -> pathlib.Path:
-    """A toolchain's folder as that one, made in a folder, whose clang copies the module that it compiles to a file."""
+def keeping(toolchain: pathlib.Path, folder: pathlib.Path, module: pathlib.Path, *more: str) -> pathlib.Path:
+    """A toolchain's folder as that one, made in a folder, whose clang copies the module that it compiles to a file, and
+    is passed more words."""
     made = folder / "toolchain"
     (made / "bin").mkdir(parents=True)
     (made / "lib").symlink_to(toolchain / "lib")
@@ -56,7 +57,8 @@ def keeping(toolchain: pathlib.Path, folder: pathlib.Path, module: pathlib.Path)
         if it.name != "clang":
             (made / "bin" / it.name).symlink_to(it)
     clang = made / "bin/clang"
-    clang.write_text(CLANG.format(module=f"'{module}'", clang=f"'{toolchain}/bin/clang'"), encoding="utf-8")
+    words = {"module": f"'{module}'", "clang": f"'{toolchain}/bin/clang'", "more": "".join(f" {it}" for it in more)}
+    clang.write_text(CLANG.format(**words), encoding="utf-8")
     clang.chmod(0o755)
     return made
 

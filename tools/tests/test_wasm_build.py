@@ -1,6 +1,7 @@
 """Tests of how the module of the proved code is kept, and written for WebAssembly."""
 
 import pathlib
+import shutil
 import subprocess
 import sys
 import tempfile
@@ -78,6 +79,10 @@ class Keeping(unittest.TestCase):
             self.assertEqual(done.stdout, f"compiled -O3 {folder}/the module.bc -o x\n")
             self.assertEqual(kept.read_text(encoding="utf-8"), "a module")
             kept.unlink()
+            shutil.rmtree(folder / "made")
+            made = keeping(folder / "toolchain", folder / "made", kept, "-one", "-two")
+            done = subprocess.run([str(made / "bin/clang"), "-O3"], capture_output=True, text=True, check=False)
+            self.assertEqual(done.stdout, "compiled -O3 -one -two\n")
             subprocess.run([str(made / "bin/clang"), "--version"], capture_output=True, check=False)
             self.assertFalse(kept.exists())
 
