@@ -1,6 +1,7 @@
 """Times the page: how long after its load the first verdict stands there, logs of 10,000 records, and what it loads.
 
-    python3 web/benches/time_page.py [COUNT]    in each browser that is there, COUNT times (5)
+    python3 web/benches/time_page.py [COUNT]    in each browser that is there, COUNT times (5); WEOLDRIN_BROWSERS names
+                                                those to take
 
 The verdict is that on the example, which is asked for as soon as the page's scripts run. Times are in milliseconds, the
 median and the least; the sizes are those of gzip -9.
@@ -15,7 +16,8 @@ import tempfile
 TESTS = pathlib.Path(__file__).resolve().parents[1] / "tests"
 sys.path.insert(0, str(TESTS))
 
-from browsers import BROWSERS, Browser, Chromium, begun, end_all, is_there  # noqa: E402
+from browsers import Browser, Chromium, begun, end_all, is_there  # noqa: E402
+from page import NAMES  # noqa: E402
 from served import ROOT, Served  # noqa: E402
 
 CLICK = 'document.getElementById("example").click();'
@@ -96,7 +98,7 @@ def main() -> int:
                 subprocess.run(["node", str(script), str(RECORDS)], stdout=file, check=True)
             with open(toys, "wb") as file:
                 subprocess.run([ROOT / "tools/make_log", str(RECORDS)], stdout=file, check=True)
-            for name in [it for it in BROWSERS if is_there(it)]:
+            for name in [it for it in NAMES if is_there(it)]:
                 browser = begun(name)
                 for place, address in [("served", served.address), ("one file", one_file.as_uri())]:
                     print(f"{name}, {place}")

@@ -287,6 +287,8 @@ class Firefox(Browser):
         self.number = 0
         self.message()
         self.ask("WebDriver:NewSession", capabilities={"alwaysMatch": {"acceptInsecureCerts": False}})
+        # Marionette has a page that is opened as a file load other files, which no user's browser does.
+        self.run_as_browser('Services.prefs.setBoolPref("security.fileuri.strict_origin_policy", true)')
         self.resize(1000, 900)
 
     def message(self) -> Any:
