@@ -41,6 +41,12 @@ checkpoint_message c = signed_message (codes "WARG-CHECKPOINT-SIGNATURE-V0") (ti
 abbrev pub IsMessage : List ℕ → TimestampedCheckpoint → Type 0
 IsMessage bytes c = bytes ≡ checkpoint_message c
 
+-- the bytes are the message of the checkpoint that a call says
+pub record IsMessageOf (log_length : ℕ) (log_root map_root : List ℕ) (timestamp : ℕ) (bytes : List ℕ) : Type 0 where
+  pub checkpoint : TimestampedCheckpoint
+  pub says : SaysCheckpoint log_length log_root map_root timestamp checkpoint
+  pub is_message : IsMessage bytes checkpoint
+
 -- whether the signature of this text belongs to the checkpoint under the key
 abbrev pub IsJudgedUnder : NamedBytes → List ℕ → Bool → TimestampedCheckpoint → Type 0
 IsJudgedUnder key signature answer c = IsP256Key key × SaysSignature signature (λ s. p256_belongs key (checkpoint_message c) s ≡ answer)

@@ -2,8 +2,8 @@
 //! roots of its log and of its map, and the time in whole seconds since 1970.
 ghost use Rattle.std.specs.Prelude.{◌≡◌, ◌≢◌, ◌≤◌, ◌⊎◌, ◌↔◌, [], ◌∷◌, None, IfOk, IfErr, OnOk, IsSomeAnd, true, length, take, drop};
 ghost use Rattle.warg_operator_log.specs.State.{view_of};
-ghost use Rattle.warg_c.specs.CheckpointAnswers.{CheckpointErrors, IsJudgedBy, IsJudgedUnder, IsMessage, JudgesCheckpoint};
-ghost use Rattle.warg_c.specs.CheckpointAnswers.{KeyErrors, OfCheckpoint, SaysCheckpoint, SaysNoCheckpoint, StateErrors};
+ghost use Rattle.warg_c.specs.CheckpointAnswers.{CheckpointErrors, IsJudgedBy, IsJudgedUnder, IsMessage, IsMessageOf};
+ghost use Rattle.warg_c.specs.CheckpointAnswers.{JudgesCheckpoint, KeyErrors, OfCheckpoint, SaysCheckpoint, SaysNoCheckpoint, StateErrors};
 ghost use Rattle.warg_c.specs.declared.call_error.CallError.TheVariants.{BadArgument, Refused, UnknownAlgorithm};
 ghost use Rattle.warg_c.specs.ProofAnswers.{AreTwoHashes};
 ghost use Rattle.warg_c.specs.Statuses.{WARG_OK, WARG_NOT_OPEN, WARG_OUT_OF_MEMORY, WARG_TOO_SMALL, WARG_REFUSED};
@@ -65,8 +65,8 @@ fn message_in(
     map_root: &[u8],
     timestamp: u64,
 ) -> Result<Vec<u8>, CallError>
-    ensures ok { IfOk result (λ v. OfCheckpoint log_length log_root.now map_root.now timestamp
-        (IsMessage v.items)) }
+    ensures ok { IfOk result (λ v. IsMessageOf log_length log_root.now map_root.now timestamp
+        v.items) }
     ensures err { IfErr result (ErrorsAs (AreTwoHashes log_root.now map_root.now) ⊥
         (SaysNoCheckpoint log_root.now map_root.now)) }
 {
@@ -91,12 +91,11 @@ pub extern "C" fn warg_checkpoint_message(
 ) -> u32
     ensures statuses { IsOneOf (WARG_OK ∷ WARG_OUT_OF_MEMORY ∷ WARG_TOO_SMALL ∷
         WARG_BAD_ARGUMENT ∷ []) result }
-    ensures ok { result ≡ WARG_OK → OfCheckpoint log_length log_root.now map_root.now timestamp
-        (IsMessage (take used.new bytes.new)) }
+    ensures ok { result ≡ WARG_OK → IsMessageOf log_length log_root.now map_root.now timestamp
+        (take used.new bytes.new) }
     ensures out_of_memory { result ≡ WARG_OUT_OF_MEMORY → AreTwoHashes log_root.now map_root.now }
-    ensures too_small { result ≡ WARG_TOO_SMALL → NeedsRoom (λ v.
-        OfCheckpoint log_length log_root.now map_root.now timestamp (IsMessage v))
-        used.new bytes.old }
+    ensures too_small { result ≡ WARG_TOO_SMALL → NeedsRoom
+        (IsMessageOf log_length log_root.now map_root.now timestamp) used.new bytes.old }
     ensures bad_argument { result ≡ WARG_BAD_ARGUMENT →
         SaysNoCheckpoint log_root.now map_root.now }
     ensures buffer { result ≢ WARG_OK → bytes.new ≡ bytes.old }
