@@ -1,6 +1,6 @@
 -- Why a checkpoint is not taken, and the bytes of a leaf.
-use Rattle.std.proofs.Common.{◌≡◌, inl, inr, ℕ, List}
-use Rattle.std.specs.Prelude.{Result, OnOk, IfErr}
+use Rattle.std.proofs.Common.{inr, ℕ, List}
+use Rattle.std.specs.Prelude.{Result, IfErr}
 use Rattle.std.proofs.lemmas.Result.{IfErr-weaker}
 use Rattle.warg_crypto.specs.NamedBytes.{NamedBytes}
 use Rattle.warg_operator_log.specs.State.{View}

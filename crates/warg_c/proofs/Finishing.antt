@@ -1,10 +1,10 @@
 -- Where a text that was found has no room.
-use Rattle.std.proofs.Common.{◌≡◌, ◌≢◌, ◌⊎◌, inl, inr, ℕ, List, Result, Ok, Err, refl, sym, ◌∙◌, arith}
+use Rattle.std.proofs.Common.{◌≡◌, ◌≢◌, inl, inr, ℕ, List, Result, Ok, Err, sym, ◌∙◌, arith}
 use Rattle.std.specs.Prelude.{IfOk, IfErr}
 use Rattle.warg_c.specs.Statuses.{WARG_TOO_SMALL}
 use Rattle.warg_c.specs.Texts.{ErrorsAs, IsFinish, NeedsRoom}
 use Rattle.warg_c.specs.declared.call_error.CallError.{CallError}
-use Rattle.warg_c.specs.declared.call_error.CallError.TheVariants.{OutOfMemory, TooSmall, Absent, BadArgument}
+use Rattle.warg_c.specs.declared.call_error.CallError.TheVariants.{TooSmall}
 use Rattle.warg_c.proofs.Codes.{same-code}
 
 -- nothing was found, and not for want of room

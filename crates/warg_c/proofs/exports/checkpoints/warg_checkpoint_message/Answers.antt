@@ -1,4 +1,3 @@
-use Rattle.std.specs.Prelude.{List, ℕ}
 use Rattle.std.proofs.lemmas.Result.{IfErr-weaker}
 use Rattle.warg_c.specs.CheckpointAnswers.{IsMessageOf}
 use Rattle.warg_c.proofs.Finishing.{errors-other, finish-needs}
