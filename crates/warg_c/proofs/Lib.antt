@@ -4,6 +4,8 @@ pub mod Words
 pub mod ErrorTexts
 pub mod Others
 pub mod Verifications
+pub mod CheckpointLemmas
+pub mod Finishing
 pub mod Sentences
 pub mod Codes
 pub mod Answers

@@ -3,7 +3,7 @@ use Rattle.std.specs.Prelude.{ℕ, List, codes}
 use Rattle.warg_c.specs.declared.any_log.AnyLog.{AnyLog}
 use Rattle.warg_c.specs.declared.any_log.AnyLog.TheVariants.{Package, Operator}
 use Rattle.warg_c.specs.declared.argument_error.ArgumentError.{ArgumentError}
-use Rattle.warg_c.specs.declared.argument_error.ArgumentError.TheVariants.{NoKind, NoTree, WrongKind, Resumed, NotUtf8, BadRequirement, BadVersion, BadQuestion}
+use Rattle.warg_c.specs.declared.argument_error.ArgumentError.TheVariants.{NoKind, NoTree, WrongKind, Resumed, NotUtf8, BadName, BadRequirement, BadVersion, BadQuestion}
 
 -- a name, a colon, a space and a sentence
 abbrev pub argument_error_text : ArgumentError → List ℕ
@@ -12,6 +12,7 @@ argument_error_text NoTree = codes "NoTree: the number names no tree"
 argument_error_text WrongKind = codes "WrongKind: the call is for logs of the other kind"
 argument_error_text Resumed = codes "Resumed: the log was resumed, and its records are elsewhere"
 argument_error_text NotUtf8 = codes "NotUtf8: the text is not UTF-8"
+argument_error_text BadName = codes "BadName: no log of the kind has this name"
 argument_error_text BadRequirement = codes "BadRequirement: the text is no requirement of versions"
 argument_error_text BadVersion = codes "BadVersion: the text is no version"
 argument_error_text BadQuestion = codes "BadQuestion: the bytes and lengths are no question"

@@ -20,3 +20,5 @@ pub mod Saved
 pub mod Ids
 pub mod ProofAnswers
 pub mod ProofFaults
+pub mod LogNames
+pub mod CheckpointAnswers

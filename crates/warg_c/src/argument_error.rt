@@ -15,6 +15,8 @@ pub enum ArgumentError {
     Resumed,
     /// The text is not UTF-8.
     NotUtf8,
+    /// No log of the kind has the name.
+    BadName,
     /// The text is no requirement.
     BadRequirement,
     /// The text is no version.
@@ -34,6 +36,7 @@ impl ArgumentError {
             ArgumentError::WrongKind => "WrongKind: the call is for logs of the other kind",
             ArgumentError::Resumed => "Resumed: the log was resumed, and its records are elsewhere",
             ArgumentError::NotUtf8 => "NotUtf8: the text is not UTF-8",
+            ArgumentError::BadName => "BadName: no log of the kind has this name",
             ArgumentError::BadRequirement =>
                 "BadRequirement: the text is no requirement of versions",
             ArgumentError::BadVersion => "BadVersion: the text is no version",

@@ -41,9 +41,11 @@
 
 mod appending;
 mod chains;
+mod checkpoints;
 mod comparing;
 mod identifying;
 mod keys;
+mod log_names;
 mod namespaces;
 mod opening;
 mod proof_faults;
