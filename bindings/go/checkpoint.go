@@ -44,9 +44,9 @@ func (c Checkpoint) Message() ([]byte, error) {
 }
 
 // VerifyCheckpoint is whether a checkpoint is signed by a key that the log lets sign: one that MayCommit. The error is
-// ErrBadArgument where a root is not the text of one, where the key's id is not UTF-8, and where the key may sign and the
-// signature's text can't be read. It is ErrUnknownAlgorithm where the key may sign and its algorithm is not ecdsa-p256:
-// verify the signature of the checkpoint's Message by other means then.
+// ErrBadArgument where a root is not the text of one, where the key's id is not UTF-8, and where the key may sign and
+// the signature's text can't be read. It is ErrUnknownAlgorithm where the key may sign and its algorithm is not
+// ecdsa-p256: verify the signature of the checkpoint's Message by other means then.
 func (l *OperatorLog) VerifyCheckpoint(checkpoint Checkpoint, keyID, signature string) (bool, error) {
 	l.lock.Lock()
 	defer l.lock.Unlock()
@@ -57,8 +57,8 @@ func (l *OperatorLog) VerifyCheckpoint(checkpoint Checkpoint, keyID, signature s
 	return holds(status, badSignature)
 }
 
-// UnmarshalJSON reads the members that docs/FORMATS.md names, each of which has to be there. The error is ErrBadArgument,
-// by the name Missing or WrongType. What the texts are worth, the calls say that take them.
+// UnmarshalJSON reads the members that docs/FORMATS.md names, each of which has to be there. The error is
+// ErrBadArgument, by the name Missing or WrongType. What the texts are worth, the calls say that take them.
 func (c *Checkpoint) UnmarshalJSON(text []byte) error {
 	var read Checkpoint
 	err := readMembers(text, []member{

@@ -15,8 +15,8 @@ import (
 	"weoldrin.example/weoldrin/records"
 )
 
-// The ids of logs by their names, the leaves of a registry's log, and what is signed of its checkpoints: the bytes and the
-// JSON of docs/FORMATS.md. And whether keys that an operator log lets sign have signed one.
+// The ids of logs by their names, the leaves of a registry's log, and what is signed of its checkpoints: the bytes and
+// the JSON of docs/FORMATS.md. And whether keys that an operator log lets sign have signed one.
 
 // noHashes are texts that are none of a hash.
 var noHashes = []string{
@@ -34,13 +34,14 @@ func prefixed(text string) []byte {
 }
 
 func TestLogIDs(t *testing.T) {
+	const prefix = "WARG-PACKAGE-LOG-ID-V0:WARG-PACKAGE-ID-V0"
 	long := strings.Repeat("a", 200) + ":b"
 	// The first stands in docs/TRUST.md.
 	for name, id := range map[string]string{
 		"example:math":          "sha256:af6410747c0a7692c8dc4cf6f83cbb8da9041875f1ad9a5a2fca0eef51379ec1",
-		"a:b":                   records.SHA256Text([]byte("WARG-PACKAGE-LOG-ID-V0:WARG-PACKAGE-ID-V0\x03a:b")),
+		"a:b":                   records.SHA256Text([]byte(prefix + "\x03a:b")),
 		"example-two:math-lib2": "sha256:954cc322ef9e30646338e53401891cdc1a0ade7d345971c4ffefc3656cb26a00",
-		long:                    records.SHA256Text(append([]byte("WARG-PACKAGE-LOG-ID-V0:WARG-PACKAGE-ID-V0"), prefixed(long)...)),
+		long:                    records.SHA256Text([]byte(prefix + "\xca\x01" + long)),
 	} {
 		equal(t, must(weoldrin.LogID(weoldrin.Package, name)), id)
 	}
@@ -52,8 +53,8 @@ func TestLogIDs(t *testing.T) {
 func TestNamesOfNoLog(t *testing.T) {
 	long := strings.Repeat("a", 1<<20)
 	for _, name := range []string{
-		"", ":", "a:", ":b", "math", "Example:math", "example:Math", "a:b:c", "a::b", "a-:b", "-a:b", "a--b:c", "1a:b", "a:1b",
-		"a_b:c", "a:b ", " a:b", "a:b\x00", "\x00", "a:é", "a:\xff", "\xff:b", long,
+		"", ":", "a:", ":b", "math", "Example:math", "example:Math", "a:b:c", "a::b", "a-:b", "-a:b", "a--b:c", "1a:b",
+		"a:1b", "a_b:c", "a:b ", " a:b", "a:b\x00", "\x00", "a:é", "a:\xff", "\xff:b", long,
 	} {
 		_, err := weoldrin.LogID(weoldrin.Package, name)
 		isRefused(t, err, weoldrin.ErrBadArgument, "BadName")
@@ -120,8 +121,9 @@ func TestMessages(t *testing.T) {
 		for _, timestamp := range numbers {
 			c := weoldrin.Checkpoint{LogRoot: root8, LogLength: length, MapRoot: mapRoot, Timestamp: timestamp}
 			equal(t, string(must(c.Message())), string(messageOf(c)))
-			other := weoldrin.Checkpoint{LogRoot: upper(root8), LogLength: length, MapRoot: upper(mapRoot), Timestamp: timestamp}
-			equal(t, string(must(other.Message())), string(messageOf(c)))
+			wanted := string(messageOf(c))
+			c.LogRoot, c.MapRoot = upper(root8), upper(mapRoot)
+			equal(t, string(must(c.Message())), wanted)
 		}
 	}
 	for _, text := range noHashes {
@@ -183,7 +185,8 @@ func TestFaultsOfJSON(t *testing.T) {
 		}
 	}
 	var c weoldrin.Checkpoint
-	for _, text := range []string{"", "{", checkpointJSON[1:], checkpointJSON + ",", strings.Replace(checkpointJSON, ":8", ":NaN", 1)} {
+	strange := strings.Replace(checkpointJSON, ":8", ":NaN", 1)
+	for _, text := range []string{"", "{", checkpointJSON[1:], checkpointJSON + ",", strange} {
 		if json.Unmarshal([]byte(text), &c) == nil {
 			t.Errorf("%q is read", text)
 		}
