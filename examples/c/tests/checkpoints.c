@@ -169,8 +169,8 @@ static void test_small_buffers(void) {
     CHECK(message(&it, 209) == WARG_OK && used == 209 && room[209] == 7);
 }
 
-/* The keys of an operator log: those that may sign, which are the first, one that was given `commit` beside another permission and one that was given it
- * alone; and those that may not, which were given another permission, were given `commit` and had it taken, or stand in no record. */
+/* The keys of an operator log: those that may sign, which are the first, one that was given `commit` beside another permission and one that was
+ * given it alone; and those that may not, which were given another permission, were given `commit` and had it taken, or stand in no record. */
 enum { FIRST, SECOND, THIRD, DEFINES, REVOKED, UNKNOWN, SIGNERS };
 static struct signer signers[SIGNERS], word;
 
