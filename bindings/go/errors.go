@@ -60,7 +60,7 @@ var statuses = map[uint32]struct {
 }
 
 const unknown = "UnknownAlgorithm: the library verifies keys of ecdsa-p256 alone; verify the signature by other " +
-	"means, and append by Ask and AppendAnswered, or by Append"
+	"means, and append a record by Ask and AppendAnswered, or by Append"
 
 // errorOf is the error of a status that is neither 0 nor "too small" nor "none", with the library's text, or this one
 // of a bad argument where the library has none.

@@ -8,9 +8,18 @@ import "C"
 
 const badText = "BadText: a root or an id is not the text of one"
 
+// Leaf is the leaf of a log's record in the registry's log: the bytes that are hashed, with a zero before them.
+func Leaf(logID, recordID string) ([]byte, error) {
+	log, record := []byte(logID), []byte(recordID)
+	leaf, _, err := filled(0, badText, func(to []byte, used *rawSize) rawStatus {
+		return C.warg_leaf(at(log), size(log), at(record), size(record), at(to), size(to), used)
+	})
+	return leaf, err
+}
+
 // VerifyInclusion is whether the leaf of a log's record stands at a place of the registry's log, which has so many
 // leaves and this root. The error is ErrBadArgument where a text is not of its form; if that is the proof's, its name
-// is the fault: TooLong, BadBase64, BadLength or EmptySibling. So it is for all four calls.
+// is the fault: TooLong, BadBase64, BadLength or EmptySibling. So it is for all four calls of proofs.
 //
 // What an accepted proof shows is so of every log of that length and root, and of every map of that root, or two
 // strings that differ have one hash. No call knows whose root it is, or how long its log is: take a log's length and

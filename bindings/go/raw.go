@@ -100,6 +100,17 @@ func LibraryVersion() (string, error) {
 	return string(text), err
 }
 
+// LogID is the text of the id of a log, which is made of its kind and its name: a package's log has the package's, as
+// example:math, and the log of operators has none, which is the empty text. The error is ErrBadArgument, by the name
+// BadName, for any other name.
+func LogID(kind Kind, name string) (string, error) {
+	given := []byte(name)
+	text, _, err := filled(0, "", func(to []byte, used *rawSize) rawStatus {
+		return C.warg_log_id(C.uint32_t(kind), at(given), size(given), at(to), size(to), used)
+	})
+	return string(text), err
+}
+
 // RecordID is the text of the id of an envelope's record. The record need not be lawful.
 func RecordID(kind Kind, envelope []byte) (string, error) {
 	text, _, err := filled(len(envelope)+sentence, "", func(to []byte, used *rawSize) rawStatus {

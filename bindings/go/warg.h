@@ -319,6 +319,18 @@ uint32_t warg_save(struct warg_log *log, uint8_t *text, size_t text_len, size_t 
 uint32_t warg_resume(struct warg_log *log, uint32_t kind, const uint8_t *saved, size_t saved_len, uint8_t *text, size_t text_len,
                      size_t *used);
 
+/* The ids of logs by the names of their packages, and the leaves of a registry's log. */
+
+/* The text of the id of a log, of one of `enum warg_kind`: of the package's of this name, or of the operators', which has no name (`name` is
+ * empty then). No log is needed.
+ *   WARG_BAD_ARGUMENT: no such kind (NoKind); or no log of the kind has such a name (BadName). */
+uint32_t warg_log_id(uint32_t kind, const uint8_t *name, size_t name_len, uint8_t *text, size_t text_len, size_t *used);
+
+/* The leaf that a record of a log has in a registry's log, by the texts of the ids of both: the bytes that are hashed.
+ *   WARG_BAD_ARGUMENT: a text is none of an id; nothing is told of it. */
+uint32_t warg_leaf(const uint8_t *log_id, size_t log_id_len, const uint8_t *record_id, size_t record_id_len, uint8_t *bytes,
+                   size_t bytes_len, size_t *used);
+
 /* What a registry proves of its log and its map. These are functions of their arguments alone. Roots are texts of hashes (`sha256:` and 64
  * digits of hex), ids are texts of ids, proofs are texts of base64.
  *   WARG_OK: the proof holds. What that is worth is said of each call: there, two strings collide if they differ and have one hash, and are
@@ -356,6 +368,24 @@ uint32_t warg_verify_absence(const uint8_t *log_id, size_t log_id_len, const uin
  *   WARG_NONE: nothing is wrong: it is the text of a proof, whatever that shows.
  *   WARG_BAD_ARGUMENT (NoTree): no such tree. */
 uint32_t warg_proof_fault(uint32_t tree, const uint8_t *proof, size_t proof_len, uint8_t *text, size_t text_len, size_t *used);
+
+/* Signed checkpoints of a registry. What a checkpoint says is given by itself: the length of the registry's log in leaves, the texts of the
+ * roots of its log and of its map, and the time in whole seconds since 1970. */
+
+/* The message that the key of a registry signs of a checkpoint, as `warg_verify` takes it.
+ *   WARG_BAD_ARGUMENT: the text of a root is none of a hash; nothing is told of it. */
+uint32_t warg_checkpoint_message(uint64_t log_length, const uint8_t *log_root, size_t log_root_len, const uint8_t *map_root,
+                                 size_t map_root_len, uint64_t timestamp, uint8_t *bytes, size_t bytes_len, size_t *used);
+
+/* Whether a checkpoint is signed by a key that the log of a registry's operators lets sign: one that holds `commit`. `key_id` and `signature` are
+ * the texts that stand beside the checkpoint. WARG_OK if it is.
+ *   WARG_REFUSED: the log does not let the key sign, or the signature does not belong.
+ *   WARG_BAD_ARGUMENT: the text of a root is none of a hash, the key id is no UTF-8, the signature's text can't be read, or the log is one of a
+ *     package; nothing is told of it.
+ *   WARG_UNKNOWN_ALGORITHM: the key that may sign is none of `ecdsa-p256`. Verify the message of `warg_checkpoint_message` yourself then. */
+uint32_t warg_verify_checkpoint(struct warg_log *log, uint64_t log_length, const uint8_t *log_root, size_t log_root_len,
+                                const uint8_t *map_root, size_t map_root_len, uint64_t timestamp, const uint8_t *key_id,
+                                size_t key_id_len, const uint8_t *signature, size_t signature_len);
 
 /* The names of statuses. */
 

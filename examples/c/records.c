@@ -56,6 +56,10 @@ void add_grant(struct bytes *entries, const struct bytes *public_key, const char
     add_entry(entries, 2, public_key->at, public_key->len, permissions);
 }
 
+void add_revoke(struct bytes *entries, const struct bytes *key_id, const char *permissions) {
+    add_entry(entries, 3, key_id->at, key_id->len, permissions);
+}
+
 void add_release(struct bytes *entries, const char *version, const char *content) {
     struct bytes digest = {0};
     add_sha256_text(&digest, content, strlen(content));

@@ -16,9 +16,13 @@ struct signer {
 /* The text of a SHA-256 digest, as it stands in records. */
 void add_sha256_text(struct bytes *text, const void *at, size_t len);
 
-/* Entries of a package's record. Permissions are numbers: 1 to release, 2 to yank. */
+/* Entries of either kind. Permissions are numbers: of a package 1 to release, 2 to yank; of operators 1 to commit, 2 to define
+ * namespaces, 3 to import them. */
 void add_init(struct bytes *entries, const struct bytes *public_key);
 void add_grant(struct bytes *entries, const struct bytes *public_key, const char *permissions);
+void add_revoke(struct bytes *entries, const struct bytes *key_id, const char *permissions);
+
+/* Entries of a package's record. */
 void add_release(struct bytes *entries, const char *version, const char *content);
 void add_yank(struct bytes *entries, const char *version);
 

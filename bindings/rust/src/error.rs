@@ -32,8 +32,8 @@ pub enum Error {
     NoEnvelope(Reason),
     /// The record is unlawful, or its signature does not belong.
     Refused(Reason),
-    /// The key is of another algorithm than the library verifies. Verify the signature by other means, and append by
-    /// [`Log::ask`](crate::Log::ask) and [`Log::append_answered`](crate::Log::append_answered), or by
+    /// The key is of another algorithm than the library verifies. Verify the signature by other means, and append a
+    /// record by [`Log::ask`](crate::Log::ask) and [`Log::append_answered`](crate::Log::append_answered), or by
     /// [`Log::append`](crate::Log::append).
     UnknownAlgorithm,
     /// An argument is not of its form, or the log was resumed and has no records. What the library says of it is there, such as the
@@ -64,6 +64,23 @@ impl Error {
             _ => Error::BadArgument(Some(reason).filter(|it| !it.name.is_empty())),
         }
     }
+
+    // The error, with this text where it is of a bad argument and the library says nothing of it.
+    pub(crate) fn or(self, text: &[u8]) -> Self {
+        match self {
+            Error::BadArgument(None) => Error::of(raw::BAD_ARGUMENT, text),
+            told => told,
+        }
+    }
+}
+
+// The answer of a call that refuses what does not hold, with the text of a bad argument, of which the library says nothing.
+pub(crate) fn holds(status: u32, misuse: &[u8]) -> Result<bool, Error> {
+    match status {
+        raw::OK => Ok(true),
+        raw::REFUSED => Ok(false),
+        status => Err(Error::of(status, misuse)),
+    }
 }
 
 impl fmt::Display for Error {
@@ -72,7 +89,7 @@ impl fmt::Display for Error {
             Error::OutOfMemory => f.write_str("out of memory"),
             Error::NoEnvelope(reason) | Error::Refused(reason) | Error::BadArgument(Some(reason)) => reason.fmt(f),
             Error::UnknownAlgorithm => f.write_str(
-                "the library verifies keys of ecdsa-p256 alone; verify the signature by other means, and append by \
+                "the library verifies keys of ecdsa-p256 alone; verify the signature by other means, and append a record by \
                  ask(envelope) and append_answered, or by append(envelope, verify)",
             ),
             Error::BadArgument(None) => f.write_str("an argument is not of its form, or the log has no such call"),

@@ -39,6 +39,7 @@
 #![cfg_attr(docsrs, feature(doc_cfg))]
 
 mod buffer;
+mod checkpoint;
 mod error;
 mod kind;
 mod log;
@@ -51,6 +52,7 @@ mod question;
 mod raw;
 pub mod records;
 
+pub use checkpoint::Checkpoint;
 pub use error::{Error, Reason};
 pub use kind::{LogKind, Operator, OperatorPermission, Package, PackagePermission, Permission, UnknownPermission};
 pub use log::{Comparison, Link, Log, Record};
@@ -74,6 +76,16 @@ pub fn record_id<K: LogKind>(envelope: &[u8]) -> Result<String, Error> {
     found.map(buffer::text_of).ok_or(Error::BadArgument(None))
 }
 
+/// The text of the id of a log, which is made of its kind and its name: a package's log has the package's, as `example:math`, and the
+/// log of operators has none, which is the empty text. The error is [`Error::BadArgument`] for any other name.
+pub fn log_id<K: LogKind>(name: &str) -> Result<String, Error> {
+    // SAFETY: each pointer goes with the length of its slice (`raw`).
+    let found = buffer::filled(0, |text, used| unsafe {
+        raw::warg_log_id(K::NUMBER, name.as_ptr(), name.len(), text.as_mut_ptr(), text.len(), used)
+    })?;
+    found.map(buffer::text_of).ok_or(Error::BadArgument(None))
+}
+
 /// Whether the signature belongs to the message under the key, by their texts, as they stand in questions. The error is
 /// [`Error::BadArgument`] where the key's text can't be read, [`Error::UnknownAlgorithm`] where its algorithm is not `ecdsa-p256`, and
 /// otherwise [`Error::BadArgument`] where the signature's text can't be read.
@@ -83,11 +95,7 @@ pub fn verify(key: &str, message: &[u8], signature: &str) -> Result<bool, Error>
         let (key_at, message_at, signature_at) = (key.as_ptr(), message.as_ptr(), signature.as_ptr());
         raw::warg_verify(key_at, key.len(), message_at, message.len(), signature_at, signature.len())
     };
-    match status {
-        raw::OK => Ok(true),
-        raw::REFUSED => Ok(false),
-        status => Err(Error::of(status, b"BadText: the text of the key or of the signature can't be read")),
-    }
+    error::holds(status, b"BadText: the text of the key or of the signature can't be read")
 }
 
 /// The library's version.

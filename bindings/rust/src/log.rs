@@ -284,9 +284,14 @@ impl<K: LogKind> Log<K> {
         Ok(self.said(0, call)?.map(text_of))
     }
 
+    // The status of a call that writes no text.
+    pub(crate) fn status(&self, call: impl FnOnce(*mut raw::Log) -> u32) -> u32 {
+        call(self.raw.get())
+    }
+
     // Whether a call that writes no text was done, and not answered by "none".
     fn done(&self, call: impl FnOnce(*mut raw::Log) -> u32) -> Result<bool, Error> {
-        match call(self.raw.get()) {
+        match self.status(call) {
             raw::OK => Ok(true),
             raw::NONE => Ok(false),
             status => Err(Error::of(status, RESUMED)),

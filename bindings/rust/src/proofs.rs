@@ -10,6 +10,19 @@ use crate::buffer;
 use crate::error::{Error, Reason};
 use crate::raw;
 
+const BAD_TEXT: &[u8] = b"BadText: a root or an id is not the text of one";
+
+/// The leaf of a log's record in the registry's log: the bytes that are hashed with a zero before them.
+pub fn leaf(log_id: &str, record_id: &str) -> Result<Vec<u8>, Error> {
+    // SAFETY: each pointer goes with the length of its slice (`raw`).
+    let found = buffer::filled(0, |bytes, used| unsafe {
+        let (log_at, record_at) = (log_id.as_ptr(), record_id.as_ptr());
+        let (room, to) = (bytes.len(), bytes.as_mut_ptr());
+        raw::warg_leaf(log_at, log_id.len(), record_at, record_id.len(), to, room, used)
+    });
+    found.map_err(|it| it.or(BAD_TEXT))?.ok_or(Error::BadArgument(None))
+}
+
 /// Whether the leaf of a log's record stands at a place of the registry's log, which has `length` leaves and this root.
 pub fn verify_inclusion(
     log_id: &str,
@@ -94,7 +107,7 @@ fn said(status: u32, tree: u32, proof: &str) -> Result<bool, Error> {
         raw::REFUSED => Ok(false),
         raw::BAD_ARGUMENT => Err(match fault_of(tree, proof)? {
             Some(fault) => Error::BadArgument(Some(fault)),
-            None => Error::of(status, b"BadText: a root or an id is not the text of one"),
+            None => Error::of(status, BAD_TEXT),
         }),
         status => Err(Error::of(status, &[])),
     }

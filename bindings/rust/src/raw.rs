@@ -213,6 +213,23 @@ extern "C" {
         text_len: usize,
         used: *mut usize,
     ) -> u32;
+    pub(crate) fn warg_log_id(
+        kind: u32,
+        name: *const u8,
+        name_len: usize,
+        text: *mut u8,
+        text_len: usize,
+        used: *mut usize,
+    ) -> u32;
+    pub(crate) fn warg_leaf(
+        log_id: *const u8,
+        log_id_len: usize,
+        record_id: *const u8,
+        record_id_len: usize,
+        bytes: *mut u8,
+        bytes_len: usize,
+        used: *mut usize,
+    ) -> u32;
     pub(crate) fn warg_verify_inclusion(
         log_id: *const u8,
         log_id_len: usize,
@@ -260,6 +277,30 @@ extern "C" {
         text: *mut u8,
         text_len: usize,
         used: *mut usize,
+    ) -> u32;
+    pub(crate) fn warg_checkpoint_message(
+        log_length: u64,
+        log_root: *const u8,
+        log_root_len: usize,
+        map_root: *const u8,
+        map_root_len: usize,
+        timestamp: u64,
+        bytes: *mut u8,
+        bytes_len: usize,
+        used: *mut usize,
+    ) -> u32;
+    pub(crate) fn warg_verify_checkpoint(
+        log: *mut Log,
+        log_length: u64,
+        log_root: *const u8,
+        log_root_len: usize,
+        map_root: *const u8,
+        map_root_len: usize,
+        timestamp: u64,
+        key_id: *const u8,
+        key_id_len: usize,
+        signature: *const u8,
+        signature_len: usize,
     ) -> u32;
     pub(crate) fn warg_version(text: *mut u8, text_len: usize, used: *mut usize) -> u32;
 }

@@ -40,6 +40,9 @@ void __wrap_free(void *at) {
     __real_free(at);
 }
 
+/* The text of a hash, and its length. */
+#define HASH (const uint8_t *)"sha256:e3b0c44298fc1c149afbf4c8996fb92427ae41e4649b934ca495991b7852b855", 71
+
 static uint8_t text[1 << 16];
 static size_t used;
 
@@ -66,6 +69,7 @@ static void look(struct warg_log *log, const struct bytes *envelope, const struc
         CHECK(warg_latest(log, (const uint8_t *)">=x", 3, text, sizeof text, &used, &release) == WARG_BAD_ARGUMENT);
         CHECK(warg_key(log, alice->key_id.at, alice->key_id.len, text, sizeof text, &used) == WARG_OK);
         CHECK(warg_compare(log, &none, &comparison) == WARG_NOT_OPEN);
+        CHECK(warg_verify_checkpoint(log, 1, HASH, HASH, 1, HASH, HASH) == WARG_BAD_ARGUMENT);
         warg_record(log, 0, text, sizeof text, &used, &kept);
         CHECK(warg_resume(log, WARG_PACKAGE, (const uint8_t *)"[]", 2, text, sizeof text, &used) == WARG_BAD_ARGUMENT);
         CHECK(warg_open(log, 9) == WARG_BAD_ARGUMENT);
@@ -104,8 +108,21 @@ int main(void) {
     long before = blocks;
     for (int i = 0; i < 4; i++)
         live(i % 2, &alice, &bob);
+    CHECK(warg_log_id(WARG_PACKAGE, (const uint8_t *)"a:b", 3, text, sizeof text, &used) == WARG_OK);
+    CHECK(warg_log_id(WARG_PACKAGE, (const uint8_t *)"a", 1, text, sizeof text, &used) == WARG_BAD_ARGUMENT);
+    CHECK(warg_leaf(HASH, HASH, text, sizeof text, &used) == WARG_OK);
+    CHECK(warg_checkpoint_message(1, HASH, HASH, 1, text, sizeof text, &used) == WARG_OK);
+    CHECK(warg_checkpoint_message(1, HASH, HASH, 1, text, 0, &used) == WARG_TOO_SMALL);
+    CHECK(blocks == before);
     struct warg_log operators = operator_log(&alice);
-    CHECK(blocks > before);
+    long opened = blocks;
+    CHECK(opened > before);
+    for (int i = 0; i < 2; i++) {
+        const uint8_t *signature = (const uint8_t *)(i ? "ecdsa-p256:AAAA" : "");
+        uint32_t status = warg_verify_checkpoint(&operators, 1, HASH, HASH, 1, alice.key_id.at, alice.key_id.len, signature, i ? 15 : 0);
+        CHECK(status == (i ? WARG_REFUSED : WARG_BAD_ARGUMENT));
+    }
+    CHECK(blocks == opened);
     warg_close(&operators);
     CHECK(blocks == before);
     p256_signer_free(&alice);

@@ -8,6 +8,7 @@
 static struct warg_log package, operators, other, fresh;
 static struct bytes next, forged, wrong, third, begin, other_begin, yes, begin_yes;
 static struct warg_asked asked, begin_asked;
+static struct bytes checkpoint_signature;
 static struct signer alice, bob, other_alice;
 static uint8_t text[1 << 16], saved[2][1 << 14];
 static size_t saved_len[2], used;
@@ -116,11 +117,41 @@ static uint32_t resume_operators(void) {
 static uint32_t resume_nonsense(void) {
     return warg_resume(&fresh, WARG_PACKAGE, bytes_of("{\"head\":1}"), 10, text, sizeof text, &used);
 }
+/* Of a checkpoint that alice signed. */
+#define ROOT bytes_of("sha256:e3b0c44298fc1c149afbf4c8996fb92427ae41e4649b934ca495991b7852b855"), 71
+static uint32_t log_id(void) { return warg_log_id(WARG_PACKAGE, bytes_of("example:math"), 12, text, sizeof text, &used); }
+static uint32_t operator_log_id(void) { return warg_log_id(WARG_OPERATOR, bytes_of(""), 0, text, sizeof text, &used); }
+static uint32_t no_name(void) { return warg_log_id(WARG_PACKAGE, bytes_of("math"), 4, text, sizeof text, &used); }
+static uint32_t leaf(void) { return warg_leaf(ROOT, ROOT, text, sizeof text, &used); }
+static uint32_t message(void) { return warg_checkpoint_message(8, ROOT, ROOT, 9, text, sizeof text, &used); }
+static uint32_t checkpoint(struct warg_log *log, uint64_t length, const struct bytes *key_id, const uint8_t *signature, size_t len) {
+    return warg_verify_checkpoint(log, length, ROOT, ROOT, 9, key_id->at, key_id->len, signature, len);
+}
+static uint32_t verify_checkpoint(void) {
+    return checkpoint(&operators, 8, &alice.key_id, checkpoint_signature.at, checkpoint_signature.len);
+}
+static uint32_t verify_other_checkpoint(void) {
+    return checkpoint(&operators, 9, &alice.key_id, checkpoint_signature.at, checkpoint_signature.len);
+}
+static uint32_t verify_nonsense_of_checkpoint(void) { return checkpoint(&operators, 8, &alice.key_id, bytes_of("ecdsa-p256:A"), 12); }
+static uint32_t verify_checkpoint_by_bob(void) {
+    return checkpoint(&operators, 8, &bob.key_id, checkpoint_signature.at, checkpoint_signature.len);
+}
 static uint32_t version(void) { return warg_version(text, sizeof text, &used); }
 static uint32_t name_of_status(void) { return warg_status_name(WARG_NONE, text, sizeof text, &used); }
 static uint32_t open_no_kind(void) { return warg_open(&fresh, 2); }
 static uint32_t no_release_there(void) { return warg_releases(&package, 99, text, sizeof text, &used, &release); }
 static uint32_t no_permission(void) { return warg_holds(&package, alice.key_id.at, alice.key_id.len, bytes_of("commit"), 6); }
+static uint32_t no_kind_of_log(void) { return warg_log_id(2, bytes_of("example:math"), 12, text, sizeof text, &used); }
+static uint32_t name_of_operators(void) { return warg_log_id(WARG_OPERATOR, bytes_of("a:b"), 3, text, sizeof text, &used); }
+static uint32_t no_leaf(void) { return warg_leaf(ROOT, bytes_of("sha256:00"), 9, text, sizeof text, &used); }
+static uint32_t no_message(void) { return warg_checkpoint_message(8, bytes_of("sha256:00"), 9, ROOT, 9, text, sizeof text, &used); }
+static uint32_t no_checkpoint(void) {
+    return warg_verify_checkpoint(&operators, 8, ROOT, bytes_of("sha256:00"), 9, 9, bytes_of(""), 0, bytes_of(""), 0);
+}
+static uint32_t verify_checkpoint_by_package(void) {
+    return checkpoint(&package, 8, &alice.key_id, checkpoint_signature.at, checkpoint_signature.len);
+}
 static uint32_t no_hash(void) {
     const uint8_t *hash = bytes_of("sha256:00"), *proof = bytes_of("AAAA");
     return warg_verify_inclusion(hash, 9, hash, 9, 0, 1, hash, 9, proof, 4);
@@ -166,6 +197,15 @@ static const struct call looking[] = {
     {"save", save, {WARG_OK, WARG_OK}},
     {"save, of operators", save_operators, {WARG_OK, WARG_OK}},
     {"resume, of no state", resume_nonsense, {WARG_BAD_ARGUMENT, WARG_BAD_ARGUMENT}},
+    {"log id", log_id, {WARG_OK, WARG_OK}},
+    {"log id, of operators", operator_log_id, {WARG_OK, WARG_OK}},
+    {"log id, of no name", no_name, {WARG_BAD_ARGUMENT, WARG_BAD_ARGUMENT}},
+    {"leaf", leaf, {WARG_OK, WARG_OK}},
+    {"checkpoint message", message, {WARG_OK, WARG_OK}},
+    {"verify checkpoint", verify_checkpoint, {WARG_OK, WARG_OK}},
+    {"verify checkpoint, of another", verify_other_checkpoint, {WARG_REFUSED, WARG_REFUSED}},
+    {"verify checkpoint, by no text", verify_nonsense_of_checkpoint, {WARG_BAD_ARGUMENT, WARG_BAD_ARGUMENT}},
+    {"verify checkpoint, by a key that may not sign", verify_checkpoint_by_bob, {WARG_REFUSED, WARG_REFUSED}},
 };
 
 /* Those that only look, and ask for no memory. */
@@ -178,6 +218,12 @@ static const struct call taking_none[] = {
     {"releases, where there is none", no_release_there, {WARG_NONE, WARG_NONE}},
     {"holds, of no permission", no_permission, {WARG_BAD_ARGUMENT, WARG_BAD_ARGUMENT}},
     {"verify inclusion, of no hash", no_hash, {WARG_BAD_ARGUMENT, WARG_BAD_ARGUMENT}},
+    {"log id, of no kind", no_kind_of_log, {WARG_BAD_ARGUMENT, WARG_BAD_ARGUMENT}},
+    {"log id, of operators with a name", name_of_operators, {WARG_BAD_ARGUMENT, WARG_BAD_ARGUMENT}},
+    {"leaf, of no hash", no_leaf, {WARG_BAD_ARGUMENT, WARG_BAD_ARGUMENT}},
+    {"checkpoint message, of no hash", no_message, {WARG_BAD_ARGUMENT, WARG_BAD_ARGUMENT}},
+    {"verify checkpoint, of no hash", no_checkpoint, {WARG_BAD_ARGUMENT, WARG_BAD_ARGUMENT}},
+    {"verify checkpoint, by the log of a package", verify_checkpoint_by_package, {WARG_BAD_ARGUMENT, WARG_BAD_ARGUMENT}},
 };
 
 /* Those that change a log. */
@@ -292,13 +338,18 @@ static void prepare(bool are_resumed) {
     publish(&other_begin, 0, &none, &other_alice, &bob);
     CHECK(ask(&package, &next, &yes, &asked) == WARG_OK);
     CHECK(ask(&fresh, &begin, &begin_yes, &begin_asked) == WARG_OK);
+    struct bytes content = {0};
+    CHECK(message() == WARG_OK);
+    bytes_add(&content, text, used);
+    p256_add_signature(&checkpoint_signature, alice.key, &content);
+    bytes_free(&content);
     CHECK(warg_save(&package, saved[0], sizeof saved[0], &saved_len[0]) == WARG_OK);
     CHECK(warg_save(&operators, saved[1], sizeof saved[1], &saved_len[1]) == WARG_OK);
 }
 
 static void finish(void) {
     struct warg_log *logs[] = {&package, &operators, &other, &fresh};
-    struct bytes *all[] = {&next, &forged, &wrong, &third, &begin, &other_begin, &yes, &begin_yes};
+    struct bytes *all[] = {&next, &forged, &wrong, &third, &begin, &other_begin, &yes, &begin_yes, &checkpoint_signature};
     for (size_t i = 0; i < sizeof logs / sizeof *logs; i++) {
         /* Closing asks for no memory. */
         refuse_request(0);

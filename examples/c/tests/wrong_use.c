@@ -37,6 +37,7 @@ static void expect_all(struct warg_log *log, const struct bytes *envelope, uint3
     CHECK(warg_chain(log, bytes_of("x"), 1, bytes_of("yank"), 4, links, 4, &used) == status && used == 0);
     CHECK(warg_compare(log, &other, &comparison) == status);
     CHECK(warg_save(log, text, sizeof text, &used) == status && used == 0);
+    CHECK(warg_verify_checkpoint(log, 0, nothing, 0, nothing, 0, 0, nothing, 0, nothing, 0) == status);
 }
 
 /* A log that was never opened, or was closed. */

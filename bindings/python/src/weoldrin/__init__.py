@@ -2,6 +2,7 @@
 
 from ._version import __version__
 from .auditing import Refusal, RunError, Verdict, append_all, audit, audit_many, envelopes_of, processes
+from .checkpoints import Checkpoint, SignedCheckpoint
 from .errors import (
     BadArgument,
     Busy,
@@ -16,9 +17,9 @@ from .errors import (
 )
 from .faults import BadLine, Empty, Fault, Missing, Rewritten, RolledBack, SpoiledState, Unfinished, Unreadable, Unsaved
 from .incremental import NewRecords, audit_new
-from .logs import Log, OperatorLog, PackageLog, library_version, log_of, record_id
+from .logs import Log, OperatorLog, PackageLog, library_version, log_id, log_of, record_id
 from .printing import print_lines, printable
-from .proofs import verify_absence, verify_consistency, verify_inclusion, verify_presence
+from .proofs import leaf, verify_absence, verify_consistency, verify_inclusion, verify_presence
 from .signatures import verify
 from .values import (
     Comparison,
@@ -39,6 +40,7 @@ __all__ = [
     "BadArgument",
     "BadLine",
     "Busy",
+    "Checkpoint",
     "Comparison",
     "Empty",
     "Error",
@@ -67,6 +69,7 @@ __all__ = [
     "RolledBack",
     "RunError",
     "SignatureCheck",
+    "SignedCheckpoint",
     "SpoiledState",
     "Unfinished",
     "UnknownAlgorithm",
@@ -81,7 +84,9 @@ __all__ = [
     "audit_new",
     "envelopes_of",
     "kind_of",
+    "leaf",
     "library_version",
+    "log_id",
     "log_of",
     "print_lines",
     "printable",

@@ -2,6 +2,7 @@
 
 import ctypes
 import functools
+import operator
 import os
 from collections.abc import Callable
 from typing import Any
@@ -22,13 +23,16 @@ _RESUMED = "Resumed: the log was resumed, and its records are elsewhere"
 _MISUSES = {
     "append": "BadQuestion: the parts are those of no question",
     "chain": _RESUMED,
+    "checkpoint_message": "BadText: a root is not the text of one",
     "compare": _RESUMED,
     "holds": "UnknownPermission: logs of this kind have no such permission",
     "latest": "BadRequirement: the text is no requirement of versions, such as >=1.2, <2",
+    "leaf": "BadText: an id is not the text of one",
     "length": _RESUMED,
     "record": _RESUMED,
     "release": "BadVersion: the text is no version, such as 1.2.0",
     "verify": "BadText: the text of the key or of the signature can't be read",
+    "verify_checkpoint": "BadText: a root is not the text of one, or the key's id or the signature can't be read",
 }
 
 _RAISED: dict[int, type[Error]] = {
@@ -116,11 +120,15 @@ _CALLS: dict[str, list[Any]] = {
     "compare": [_LOG, _LOG, ctypes.POINTER(Comparison)],
     "save": [_LOG, *_OUT],
     "resume": [_LOG, _U32, *_IN, *_OUT],
+    "log_id": [_U32, *_IN, *_OUT],
+    "leaf": [*_IN, *_IN, *_OUT],
     "verify_inclusion": [*_IN, *_IN, _U64, _U64, *_IN, *_IN],
     "verify_consistency": [_U64, *_IN, _U64, *_IN, *_IN],
     "verify_presence": [*_IN, *_IN, *_IN, *_IN],
     "verify_absence": [*_IN, *_IN, *_IN],
     "proof_fault": [_U32, *_IN, *_OUT],
+    "checkpoint_message": [_U64, *_IN, *_IN, _U64, *_OUT],
+    "verify_checkpoint": [_LOG, _U64, *_IN, *_IN, _U64, *_IN, *_IN],
     "version": [*_OUT],
 }
 
@@ -215,3 +223,22 @@ def text_bytes(text: str, errors: str = "strict") -> bytes:
     if not isinstance(text, str):
         raise TypeError(f"a text is wanted, not {type(text).__name__}")
     return str.encode(text, errors=errors)
+
+
+def texts(*given: str) -> list[bytes | int]:
+    """What a call gets for texts: the bytes of each, and their number.
+
+    What is no text, as half a surrogate pair, is none for the library either.
+    """
+    passed: list[bytes | int] = []
+    for it in given:
+        text = text_bytes(it, "surrogatepass")
+        passed += [text, len(text)]
+    return passed
+
+
+def number(given: int) -> int:
+    """What a call gets for a number. Raises `BadArgument` where it is not from 0 to `GREATEST`."""
+    if 0 <= operator.index(given) <= GREATEST:
+        return given
+    raise BadArgument(f"OutOfRange: {given} is not from 0 to {GREATEST}")

@@ -44,7 +44,7 @@ class UnknownAlgorithm(Error):
         super().__init__(
             text
             or "UnknownAlgorithm: the library verifies keys of ecdsa-p256 alone; verify the signature by other means, "
-            "and append by ask(envelope) and append_answered, or by append(envelope, verify)"
+            "and append a record by ask(envelope) and append_answered, or by append(envelope, verify)"
         )
 
 

@@ -8,7 +8,8 @@ from collections.abc import Callable, Iterator
 from typing import Any, ClassVar, NoReturn, TypeVar
 
 from . import _library
-from ._library import CALLS, Buffer, Bytes, bytes_of, checked, text_bytes
+from ._library import CALLS, Buffer, Bytes, bytes_of, checked, text_bytes, texts
+from .checkpoints import Checkpoint, words_of
 from .errors import BadArgument, Busy, Forked
 from .values import Comparison, Link, LogKind, Namespace, Record, Relation, Release, SignatureCheck, Verify, kind_of
 
@@ -295,6 +296,17 @@ class OperatorLog(Log):
             return None
         return Namespace(said.decode() if is_imported.value else None)
 
+    def verify_checkpoint(self, checkpoint: Checkpoint, key_id: str, signature: str) -> bool:
+        """Whether a checkpoint is signed by a key that the log lets sign: one that holds "commit".
+
+        Raises `BadArgument` where a root is not the text of one, where a number is not from 0 to 2**64 - 1, and where
+        the key may sign and the signature's text can't be read. Raises `UnknownAlgorithm` where the key may sign and
+        its algorithm is not `ecdsa-p256`: verify the signature of `checkpoint.message()` by other means then.
+        """
+        words = [*words_of(checkpoint), *texts(key_id, signature)]
+        status = self._alone(CALLS["verify_checkpoint"], self._log, *words)
+        return False if status == _library.REFUSED else checked("verify_checkpoint", status)
+
 
 def class_of(kind: LogKind | str) -> type[PackageLog] | type[OperatorLog]:
     """The class of the logs of a kind."""
@@ -304,6 +316,14 @@ def class_of(kind: LogKind | str) -> type[PackageLog] | type[OperatorLog]:
 def log_of(kind: LogKind | str) -> PackageLog | OperatorLog:
     """A log of no records, of a kind."""
     return class_of(kind)()
+
+
+def log_id(kind: LogKind | str, name: str = "") -> str:
+    """The id of a log, which is made of its kind and its name: a package's log has the package's, as "example:math",
+    and the log of operators has none. Raises `BadArgument`, by the name `BadName`, for any other name."""
+    text = Buffer().filled("log_id", (kind_of(kind).value, *texts(name)))
+    assert text is not None
+    return text.decode()
 
 
 def record_id(kind: LogKind | str, envelope: Bytes) -> str:
