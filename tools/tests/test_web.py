@@ -6,7 +6,6 @@ import hashlib
 import http.client
 import pathlib
 import re
-import runpy
 import subprocess
 import sys
 import tempfile
@@ -17,6 +16,7 @@ TOOLS = pathlib.Path(__file__).resolve().parents[1]
 sys.path.insert(0, str(TOOLS))
 
 import web_page
+from host_tests.runs import counted_of_edits
 
 ROOT = TOOLS.parent
 LIBRARY = ROOT / "dist/wasm/libwarg.wasm"
@@ -108,7 +108,7 @@ class Words(unittest.TestCase):
         self.assertEqual((done.returncode, done.stderr), (2, "web: there is no nothing.wasm\n"))
 
     def test_count_of_wrong_edits(self) -> None:
-        count = runpy.run_path(str(TOOLS / "test_hosts"))["counted_of_edits"]
+        count = counted_of_edits
         self.assertEqual(count("seen: a (test_a): x\nNOT SEEN: b (test_b)\nseen: c (test_c): y\n"), (2, 1, 0))
         self.assertEqual(count("left out: chromium is not installed\n"), (0, 0, 0))
 
