@@ -46,7 +46,8 @@ class Reached(PageTests):
     def test_rules_in_the_dark(self) -> None:
         self.browser.darken(True)
         try:
-            self.assertTrue(self.browser.run("return matchMedia('(prefers-color-scheme: dark)').matches"))
+            # Firefox darkens a page a little later than it is told to.
+            self.browser.wait("matchMedia('(prefers-color-scheme: dark)').matches")
             self.every_screen()
         finally:
             self.browser.darken(False)

@@ -158,13 +158,22 @@ class Wheels(Installing):
     def test_unknown(self) -> None:
         """A wheel for a machine that dist/ has nothing for is left out, and so is one of no known name."""
         package = self.package()
+        shutil.rmtree(self.folder / "clone/dist/aarch64-linux")
         for wheel, told in (("manylinux2014_aarch64", "there is no library"), ("win_amd64", "weoldrin has no wheel")):
-            if wheel.endswith("aarch64") and (ROOT / "dist/aarch64-linux/libwarg.so").is_file():
-                continue
             assert PYTHON
             words = ["--quiet", "--no-deps", "--no-build-isolation", str(package)]
             said = self.said(PYTHON, "-m", "pip", "wheel", *words, status=1, WEOLDRIN_WHEEL=wheel)
             self.assertIn(told, said)
+
+    def test_arm(self) -> None:
+        """The wheel for 64-bit ARM has the library for it, and no program."""
+        with zipfile.ZipFile(self.built(self.package(), "manylinux2014_aarch64")) as files:
+            native = {it for it in files.namelist() if "/_native/" in it}
+            self.assertEqual(native, {"weoldrin/_native/libwarg.so"})
+            library = files.read("weoldrin/_native/libwarg.so")
+        self.assertEqual(library, (ROOT / "dist/aarch64-linux/libwarg.so").read_bytes())
+        # e_machine of the ELF header: 183 is AArch64.
+        self.assertEqual(library[18:20], bytes([183, 0]))
 
     def test_late(self) -> None:
         """A library that needs a later glibc than the name of the wheel promises is refused."""
@@ -177,7 +186,12 @@ class Wheels(Installing):
     def test_machines(self) -> None:
         """The wheel that is built on a machine is the first one that runs there, and none of another C library."""
         assert PYTHON
+        assert MACHINE
         package, (first, second) = self.package(), GLIBC
+        for it in (self.folder / "clone/dist").glob("*-linux"):
+            # The wheels for another machine have names of their own.
+            if it.name != MACHINE.name:
+                shutil.rmtree(it)
         self.write("here.py", HERE)
         machines = {
             ("linux", ARCH, "glibc", "3.0"): NEW,
@@ -193,7 +207,6 @@ class Wheels(Installing):
             said = self.said(PYTHON, self.folder / "here.py", *machine, env={"PYTHONPATH": str(package)})
             self.assertEqual(said.splitlines(), [wheel, f"{NEW} {OLD} any"], machine)
         # A program that needs no more than the library makes no wheel of its own.
-        assert MACHINE
         native = self.folder / "clone/dist" / MACHINE.name
         shutil.copy(native / "libwarg.so", native / "weoldrin")
         said = self.said(PYTHON, "here.py", "linux", ARCH, "glibc", "2.36", env={"PYTHONPATH": str(package)})

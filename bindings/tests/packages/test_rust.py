@@ -158,6 +158,7 @@ class Crate(Installing):
         """WARG_LIBRARY_DIR names another library. A machine that the package has none for is told so."""
         assert MACHINE
         shutil.move(self.crate / f"lib/{MACHINE.name}", self.folder / "elsewhere")
+        shutil.rmtree(self.crate / "lib")
         (self.crate / "lib/mips-linux").mkdir(parents=True)
         app = self.app("--path", str(self.crate))
         said = self.said("cargo", "build", "--offline", at=app, status=101)
