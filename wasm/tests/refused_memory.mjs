@@ -42,6 +42,7 @@ const entries = [
   records.init(alice.publicKey),
   records.defineNamespace("own"),
   records.importNamespace("other", "r.example"),
+  records.grant("operator", "toy:YQ==", "commit"),
 ];
 operators.appendSigned(await record(operators, alice, entries));
 const other = new PackageLog(library);
@@ -59,6 +60,8 @@ const toy = records.envelope(
   records.keyId("toy:YQ=="),
   "toy:YQ==",
 );
+const checkpoint = { logRoot: root, logLength: 8n, mapRoot: root, timestamp: 9n };
+const signature = await alice.sign(library.checkpointMessage(checkpoint));
 const first = log.record(0).envelope;
 const ids = [alice, bob].map((it) => records.keyId(it.publicKey));
 const question = log.ask(next);
@@ -97,6 +100,23 @@ const calls = (it) => ({
   warg_compare: () => it.compare(other).relation,
   warg_save: () => it.toJson(),
   "warg_save of operators": () => operators.toJson(),
+  warg_log_id: () => library.logId("package", "example:math"),
+  "warg_log_id of operators": () => library.logId("operator"),
+  "warg_log_id of no name": () => library.logId("package", "math"),
+  "warg_log_id of operators of a name": () => library.logId("operator", "a:b"),
+  warg_leaf: () => library.leaf(root, root).join(),
+  "warg_leaf of nonsense": () => library.leaf(root, "sha256:00"),
+  warg_checkpoint_message: () => library.checkpointMessage(checkpoint).join(),
+  "warg_checkpoint_message of nonsense": () => library.checkpointMessage({ ...checkpoint, logRoot: "sha256:00" }),
+  warg_verify_checkpoint: () => operators.verifyCheckpoint(checkpoint, ids[0], signature),
+  "warg_verify_checkpoint of another": () =>
+    operators.verifyCheckpoint({ ...checkpoint, logLength: 9n }, ids[0], signature),
+  "warg_verify_checkpoint by one who may not": () => operators.verifyCheckpoint(checkpoint, ids[1], signature),
+  "warg_verify_checkpoint of nonsense": () => operators.verifyCheckpoint(checkpoint, ids[0], "ecdsa-p256:A"),
+  "warg_verify_checkpoint by another algorithm": () =>
+    operators.verifyCheckpoint(checkpoint, records.keyId("toy:YQ=="), "toy:YQ=="),
+  "warg_verify_checkpoint of no root": () =>
+    operators.verifyCheckpoint({ ...checkpoint, mapRoot: "sha256:00" }, ids[0], signature),
   warg_verify_inclusion: () => library.verifyInclusion(root, root, 5, 2 ** 40, root, proof),
   warg_verify_consistency: () => library.verifyConsistency(3, root, 2 ** 40, root, proof),
   warg_verify_presence: () => library.verifyPresence(root, root, root, Buffer.alloc(32, 255).toString("base64")),
@@ -200,5 +220,8 @@ for (const [Class, json] of [[PackageLog, saved[0]], [OperatorLog, saved[1]], [P
   }
 }
 console.log(`${tried} requests refused; ${told.size} calls say so: ${[...told].sort().join(", ")}`);
-if (told.size < 16) console.error("fewer than 16 calls say that there is no memory");
-exit(told.size < 16 ? 1 : 0);
+const fresh = ["warg_log_id", "warg_leaf", "warg_checkpoint_message", "warg_verify_checkpoint"];
+const silent = fresh.filter((it) => !told.has(it));
+if (silent.length) console.error(`these never say that there is no memory: ${silent.join(", ")}`);
+if (told.size < 20) console.error("fewer than 20 calls say that there is no memory");
+exit(told.size < 20 || silent.length ? 1 : 0);

@@ -23,6 +23,13 @@ export interface Published {
 export function parse(text: string): Checkpoint;
 /** The checkpoint with its time that a text of JSON says. Throws `BadArgument`. */
 export function parseTimestamped(text: string): TimestampedCheckpoint;
+/**
+ * The signed checkpoint that a text of JSON says. Whether its parts belong together, `verifyCheckpoint` of an
+ * `OperatorLog` says. Throws `BadArgument`.
+ */
+export function parseSigned(text: string): Published;
+/** The text of JSON of a signed checkpoint. */
+export function signedToJson(published: Published): string;
 /** The text of JSON of a checkpoint, with its time or without one. */
 export function toJson(checkpoint: Checkpoint | TimestampedCheckpoint): string;
 /** The bytes of a checkpoint, with its time or without one. */

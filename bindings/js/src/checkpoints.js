@@ -59,9 +59,19 @@ function numberAt(object, digits, name) {
   return BigInt(said);
 }
 
-function ofJson(text, isTimestamped) {
-  const [object, digits] = read(text);
-  if (typeof object !== "object" || object === null || Array.isArray(object)) throw fault("WrongType", "the whole");
+function textAt(object, name) {
+  if (!Object.hasOwn(object, name)) throw fault("Missing", name);
+  if (typeof object[name] !== "string") throw fault("WrongType", name);
+  return object[name];
+}
+
+/** Says where a value is no object. */
+function isObject(value, name) {
+  if (typeof value !== "object" || value === null || Array.isArray(value)) throw fault("WrongType", name);
+}
+
+function ofJson([object, digits], isTimestamped, name = "the whole") {
+  isObject(object, name);
   const found = {
     logRoot: hashAt(object, "logRoot"),
     logLength: numberAt(object, digits, "logLength"),
@@ -74,16 +84,33 @@ function ofJson(text, isTimestamped) {
  * The checkpoint that a text of JSON says. Throws `BadArgument` by the name of the first fault: `NotJson`, `WrongType`,
  * `Missing` or `BadText`.
  */
-export const parse = (text) => ofJson(text, false);
+export const parse = (text) => ofJson(read(text), false);
 
 /** The checkpoint with its time, in seconds since 1970, that a text of JSON says. Throws `BadArgument` as `parse`. */
-export const parseTimestamped = (text) => ofJson(text, true);
+export const parseTimestamped = (text) => ofJson(read(text), true);
+
+/**
+ * The signed checkpoint that a text of JSON says: `contents`, `keyId` and `signature`. Whether they belong together,
+ * `verifyCheckpoint` of an `OperatorLog` says. Throws `BadArgument` as `parse`.
+ */
+export function parseSigned(text) {
+  const [whole, digits] = read(text);
+  isObject(whole, "the whole");
+  if (!Object.hasOwn(whole, "contents")) throw fault("Missing", "contents");
+  const checkpoint = ofJson([whole.contents, digits.contents], true, "contents");
+  return Object.freeze({ checkpoint, keyId: textAt(whole, "keyId"), signature: textAt(whole, "signature") });
+}
 
 /** The text of JSON of a checkpoint, with its time or without one. */
 export function toJson({ logRoot, logLength, mapRoot, timestamp }) {
   const time = timestamp === undefined ? "" : `,"timestamp":${number(timestamp)}`;
   const roots = [logRoot, mapRoot].map((it) => JSON.stringify(it));
   return `{"logLength":${number(logLength)},"logRoot":${roots[0]},"mapRoot":${roots[1]}${time}}`;
+}
+
+/** The text of JSON of a signed checkpoint. */
+export function signedToJson({ checkpoint, keyId, signature }) {
+  return `{"contents":${toJson(checkpoint)},"keyId":${JSON.stringify(keyId)},"signature":${JSON.stringify(signature)}}`;
 }
 
 const textPart = (text) => joined([varint(writtenOf(text).length), writtenOf(text)]);
@@ -98,29 +125,31 @@ export function contents({ logRoot, logLength, mapRoot, timestamp }) {
 /** What is signed of the bytes of a checkpoint with its time. */
 export const message = (bytes) => joined([utf8Of(PREFIX), bytesOf(bytes)]);
 
+/** What a call gives, or false where a text can't be read, or a key is of another algorithm than the library's. */
+function readable(call) {
+  try {
+    return call();
+  } catch (error) {
+    if ((error instanceof BadArgument && error.name === "BadText") || error instanceof UnknownAlgorithm) return false;
+    throw error;
+  }
+}
+
 /**
- * Whether a key that may sign checkpoints by an operator log has signed this one, which has its time. The library
- * verifies the signature, or `verify`, which gets the question. A key of another algorithm than the library verifies
- * has signed nothing without a `verify`.
+ * Whether a key that may sign checkpoints by an operator log has signed this one, which has its time. The library says
+ * so, or `verify`, which gets the question of a key that may. A key of another algorithm than the library verifies has
+ * signed nothing without a `verify`, and what can't be read is signed by no one.
  */
 export async function isSigned(operators, { checkpoint, keyId, signature }, verify) {
   if (!(operators instanceof OperatorLog)) throw new TypeError("the keys of checkpoints stand in an OperatorLog");
+  if (!verify) return readable(() => operators.verifyCheckpoint(checkpoint, keyId, signature));
   const key = operators.publicKey(keyId);
   if (key === null || !operators.holds(keyId, "commit")) return false;
-  if (checkpoint.timestamp === undefined) throw new TypeError("what is signed is a checkpoint with its time");
-  const question = { key, message: message(contents(checkpoint)), signature };
-  if (verify) {
-    const belongs = await verify(question);
-    if (typeof belongs !== "boolean") {
-      throw new TypeError(`whether a signature belongs is true or false, and not a ${typeof belongs}`);
-    }
-    return belongs;
+  const signed = readable(() => operators.library.checkpointMessage(checkpoint));
+  if (signed === false) return false;
+  const belongs = await verify({ key, message: signed, signature });
+  if (typeof belongs !== "boolean") {
+    throw new TypeError(`whether a signature belongs is true or false, and not a ${typeof belongs}`);
   }
-  try {
-    return operators.library.verify(key, question.message, signature);
-  } catch (error) {
-    // A signature that can't be read, or of a key whose algorithm is another one, belongs to nothing.
-    if (error instanceof BadArgument || error instanceof UnknownAlgorithm) return false;
-    throw error;
-  }
+  return belongs;
 }

@@ -49,7 +49,7 @@ export class UnknownAlgorithm extends WeoldrinError {
     super(
       text ||
         "UnknownAlgorithm: the library verifies keys of ecdsa-p256 alone; verify the signature by other means, and " +
-          "append by ask(envelope) and appendAnswered, or by append(envelope, verify)",
+          "append a record by ask(envelope) and appendAnswered, or by append(envelope, verify)",
     );
   }
 }

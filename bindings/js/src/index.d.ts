@@ -1,4 +1,5 @@
 /** Checks the logs of a Warg package registry by a proved library, which verifies signatures of ECDSA P-256. */
+import type { TimestampedCheckpoint } from "./checkpoints.js";
 
 /** Bytes: a `Uint8Array`, another view, or a buffer. */
 export type Bytes = ArrayBuffer | SharedArrayBuffer | ArrayBufferView;
@@ -100,6 +101,12 @@ export class Library {
   limit(bytes: number): void;
   version(): string;
   recordId(kind: Kind, envelope: Bytes): string;
+  /** The id of the log of a kind and a name; the log of operators has no name. */
+  logId(kind: Kind, name?: string): string;
+  /** The leaf of a log's record in the registry's log: the bytes that are hashed, with a zero before them. */
+  leaf(logId: string, recordId: string): Uint8Array;
+  /** The message that a key of the registry signs of a checkpoint. */
+  checkpointMessage(checkpoint: TimestampedCheckpoint): Uint8Array;
   verify(key: string, message: Bytes, signature: string): boolean;
   verifyInclusion(
     logId: string,
@@ -176,6 +183,11 @@ export class OperatorLog extends Log {
   /** A log that goes on from a saved state. It has no records. */
   static fromJson(saved: string, options?: OfLibrary): Promise<OperatorLog>;
   namespaceState(name: string): Namespace | null;
+  /**
+   * Whether a checkpoint is signed by a key that the log lets sign: one that holds "commit". Throws `UnknownAlgorithm`
+   * where the key may sign and is not of `ecdsa-p256`.
+   */
+  verifyCheckpoint(checkpoint: TimestampedCheckpoint, keyId: string, signature: string): boolean;
 }
 
 /** A log of no records, of a kind. */
@@ -188,6 +200,9 @@ export function has64BitMemory(): boolean;
 
 export function libraryVersion(options?: OfLibrary): Promise<string>;
 export function recordId(kind: Kind, envelope: Bytes, options?: OfLibrary): Promise<string>;
+export function logId(kind: Kind, name?: string, options?: OfLibrary): Promise<string>;
+export function leaf(logId: string, recordId: string, options?: OfLibrary): Promise<Uint8Array>;
+export function checkpointMessage(checkpoint: TimestampedCheckpoint, options?: OfLibrary): Promise<Uint8Array>;
 export function verify(key: string, message: Bytes, signature: string, options?: OfLibrary): Promise<boolean>;
 export function verifyInclusion(
   logId: string,

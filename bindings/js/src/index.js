@@ -26,7 +26,10 @@ export { Log, OperatorLog, PackageLog, logOf } from "./logs.js";
 export { auditMany } from "./many.js";
 export { printable } from "./printing.js";
 export {
+  checkpointMessage,
+  leaf,
   libraryVersion,
+  logId,
   recordId,
   verify,
   verifyAbsence,

@@ -35,13 +35,16 @@ const RESUMED = "Resumed: the log was resumed, and its records are elsewhere";
 const MISUSES = {
   append: "BadQuestion: the parts are those of no question",
   chain: RESUMED,
+  checkpoint_message: "BadText: a root is not the text of one",
   compare: RESUMED,
   holds: "UnknownPermission: logs of this kind have no such permission",
   latest: "BadRequirement: the text is no requirement of versions, such as >=1.2, <2",
+  leaf: "BadText: an id is not the text of one",
   length: RESUMED,
   record: RESUMED,
   release: "BadVersion: the text is no version, such as 1.2.0",
   verify: "BadText: the text of the key or of the signature can't be read",
+  verify_checkpoint: "BadText: a root is not the text of one, or the key's id or the signature can't be read",
 };
 const THROWN = [, NotOpen, OutOfMemory, , NoEnvelope, Refused, , BadArgument, UnknownAlgorithm];
 
@@ -158,13 +161,33 @@ export class Library {
   }
 
   /**
+   * The id of a log, which is made of its kind and its name: a package's log has the package's, as "example:math", and
+   * the log of operators has none. Throws `BadArgument`, by the name `BadName`, for any other name.
+   */
+  logId(kind, name = "") {
+    return textOf(this.filled("log_id", [KINDS.indexOf(kindOf(kind)), utf8Of(name)]));
+  }
+
+  /** The leaf of a log's record in the registry's log: the bytes that are hashed, with a zero before them. */
+  leaf(logId, recordId) {
+    return this.filled("leaf", [utf8Of(logId), utf8Of(recordId)]);
+  }
+
+  /**
+   * The message that a key of the registry signs of a checkpoint with its time. Throws `BadArgument` where a root is
+   * not the text of one, or a number is not from 0 to 2^64 - 1.
+   */
+  checkpointMessage(checkpoint) {
+    return this.filled("checkpoint_message", wordsOf(checkpoint));
+  }
+
+  /**
    * Whether the signature belongs to the message under the key, by their texts. Throws `BadArgument` where the key's
    * text can't be read, `UnknownAlgorithm` where its algorithm is not `ecdsa-p256`, and otherwise `BadArgument` where
    * the signature's text can't be read.
    */
   verify(key, message, signature) {
-    const status = this.status("verify", [utf8Of(key), bytesOf(message), utf8Of(signature)]);
-    return status === REFUSED ? false : this.isDone("verify", status);
+    return this.isShown("verify", [utf8Of(key), bytesOf(message), utf8Of(signature)]);
   }
 
   /** Whether the leaf of a log's record stands at a place of the registry's log, of this length and root. */
@@ -239,6 +262,12 @@ export class Library {
   isDone(name, status) {
     if (status === OK || status === NONE) return status === OK;
     throw thrown(name, status);
+  }
+
+  /** Whether a call that writes no text was done, and not refused. */
+  isShown(name, passed) {
+    const status = this.status(name, passed);
+    return status === REFUSED ? false : this.isDone(name, status);
   }
 
   /**
@@ -340,6 +369,14 @@ export function number(value) {
   if (whole < 0n || whole > GREATEST) throw new BadArgument(`OutOfRange: ${value} is not from 0 to ${GREATEST}`);
   return whole;
 }
+
+/** What calls are passed of a checkpoint with its time. Throws `BadArgument` where a number is none that they take. */
+export const wordsOf = ({ logRoot, logLength, mapRoot, timestamp }) => [
+  number(logLength),
+  utf8Of(logRoot),
+  utf8Of(mapRoot),
+  number(timestamp),
+];
 
 let shared;
 

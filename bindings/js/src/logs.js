@@ -4,7 +4,7 @@
  */
 import { bytesOf, joined, textOf, utf8Of } from "./bytes.js";
 import { BadArgument, NotOpen } from "./errors.js";
-import { BAD_ARGUMENT, GREATEST, Library, TOO_SMALL, sharedLibrary } from "./library.js";
+import { BAD_ARGUMENT, GREATEST, Library, TOO_SMALL, sharedLibrary, wordsOf } from "./library.js";
 import { KINDS, Kind, RELATIONS, Relation, kindOf } from "./values.js";
 
 const NANOS = 1_000_000_000n;
@@ -302,6 +302,11 @@ export class Log {
     const text = log.#said(name, passed, { beside: true });
     return text === null ? null : [text, log.#library.words(words)];
   }
+
+  // For the same: whether a call holds.
+  static isShown(log, name, passed) {
+    return log.#library.isShown(name, [log.#open(), ...passed]);
+  }
 }
 
 if (Symbol.dispose) {
@@ -347,6 +352,17 @@ export class OperatorLog extends Log {
     if (said === null) return null;
     const isImported = (said[1][0] & 0xffffffffn) !== 0n;
     return Object.freeze({ importedFrom: isImported ? textOf(said[0]) : null });
+  }
+
+  /**
+   * Whether a checkpoint with its time is signed by a key that the log lets sign: one that holds "commit".
+   *
+   * Throws `BadArgument` where a root is not the text of one, where a number is not from 0 to 2^64 - 1, and where the
+   * key may sign and the signature's text can't be read. Throws `UnknownAlgorithm` where the key may sign and its
+   * algorithm is not `ecdsa-p256`: verify the signature of `checkpointMessage` by other means then.
+   */
+  verifyCheckpoint(checkpoint, keyId, signature) {
+    return Log.isShown(this, "verify_checkpoint", [...wordsOf(checkpoint), utf8Of(keyId), utf8Of(signature)]);
   }
 }
 

@@ -18,6 +18,15 @@ export const libraryVersion = byLibrary("version", 0);
 /** The id of an envelope's record. */
 export const recordId = byLibrary("recordId", 2);
 
+/** The id of the log of a kind and a name. */
+export const logId = byLibrary("logId", 2);
+
+/** The leaf of a log's record in the registry's log: the bytes that are hashed, with a zero before them. */
+export const leaf = byLibrary("leaf", 2);
+
+/** The message that a key of the registry signs of a checkpoint with its time. */
+export const checkpointMessage = byLibrary("checkpointMessage", 1);
+
 /** Whether the signature belongs to the message under the key, by their texts. */
 export const verify = byLibrary("verify", 3);
 

@@ -238,6 +238,8 @@ test("where growth is refused, each call says so or does without, and the log is
   const id = records.keyId(bob.publicKey);
   const root = records.sha256Text(new Uint8Array());
   const proof = Buffer.alloc(64 * 32).toString("base64");
+  const checkpoint = { logRoot: root, logLength: 8n, mapRoot: root, timestamp: 9n };
+  const signature = await alice.sign(library.checkpointMessage(checkpoint));
   const saved = log.toJson();
   const calls = {
     ask: () => log.ask(made[3]),
@@ -260,6 +262,10 @@ test("where growth is refused, each call says so or does without, and the log is
     chain: () => log.chain(id, "release"),
     compare: () => log.compare(other),
     save: () => log.toJson(),
+    log_id: () => library.logId("package", "example:math"),
+    leaf: () => library.leaf(root, root),
+    checkpoint_message: () => library.checkpointMessage(checkpoint),
+    verify_checkpoint: () => operators.verifyCheckpoint(checkpoint, records.keyId(alice.publicKey), signature),
     verify_inclusion: () => library.verifyInclusion(root, root, 0, 2 ** 40, root, proof),
     verify_consistency: () => library.verifyConsistency(3, root, 2 ** 40, root, proof),
     verify_presence: () => library.verifyPresence(root, root, root, Buffer.alloc(32, 255).toString("base64")),
@@ -287,7 +293,8 @@ test("where growth is refused, each call says so or does without, and the log is
     if (name.startsWith("append") && log.length === 4) assert.fail(`${name} did without memory`);
     assert.deepEqual(state(), before, name);
   }
-  assert.ok(refused.length >= 10, `refused: ${refused}`);
+  assert.ok(refused.length >= 14, `refused: ${refused}`);
+  for (const it of ["log_id", "leaf", "checkpoint_message", "verify_checkpoint"]) assert.ok(refused.includes(it), it);
   await assert.rejects(async () => {
     library.limit(library.memory().size);
     const giveBack = fill(library);

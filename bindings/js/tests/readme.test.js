@@ -59,6 +59,7 @@ test("each name of the package has its type, and each type its name", async () =
       "givenBack",
       "status",
       "isDone",
+      "isShown",
       "filled",
       "beside",
       "words",

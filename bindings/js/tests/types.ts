@@ -14,8 +14,11 @@ import {
   auditBytes,
   auditFile,
   auditMany,
+  checkpointMessage,
   checkpoints,
   kindOf,
+  leaf,
+  logId,
   logOf,
   p256,
   printable,
@@ -58,6 +61,13 @@ export async function program(envelope: Uint8Array, buffer: ArrayBuffer, file: F
   await records.signed("package", contents, key.publicKey, (message) => key.sign(message));
   const checkpoint = checkpoints.parseTimestamped("{}");
   await checkpoints.isSigned(operators, { checkpoint, keyId: "x", signature: "y" }, later);
+  const text: string = checkpoints.signedToJson({ checkpoint, keyId: "x", signature: "y" });
+  const published: checkpoints.Published = checkpoints.parseSigned(text);
+  const isSigned: boolean = operators.verifyCheckpoint(published.checkpoint, published.keyId, published.signature);
+  const message: Uint8Array = await checkpointMessage(checkpoint, { library });
+  const ids: string[] = [await logId("package", "example:math"), await logId(Kind.OPERATOR), library.logId("operator")];
+  const bytes: Uint8Array = isSigned ? await leaf("x", "y", { library }) : library.leaf("x", "y");
+  printable([...ids, message.length, bytes.length, library.checkpointMessage(checkpoint).length].join(" "));
   library.verifyInclusion("x", "y", 1, 2n ** 60n, checkpoint.logRoot, "z");
   const verdicts: Verdict[] = await auditMany([file, "x.hex"], "operator", { workers: 2, verifier: "web-crypto" });
   const verdict = await auditFile(file, "package", null, { allowEmpty: true });
@@ -88,6 +98,14 @@ export async function wrong(log: PackageLog, envelope: Uint8Array): Promise<void
   log.latest("*").version;
   // @ts-expect-error: a log of a package has no namespaces
   log.namespaceState("own");
+  // @ts-expect-error: a log of a package lets no one sign checkpoints
+  log.verifyCheckpoint(checkpoints.parseTimestamped("{}"), "x", "y");
+  // @ts-expect-error: what is signed has a time
+  await checkpointMessage(checkpoints.parse("{}"));
+  // @ts-expect-error: a leaf is of two ids
+  await leaf("x");
+  // @ts-expect-error: no such kind of logs
+  await logId("packages", "example:math");
   // @ts-expect-error: no such kind
   await auditFile("x", "packages");
   // @ts-expect-error: no such verifier

@@ -6,7 +6,7 @@ import { createHash } from "node:crypto";
 import { readdirSync } from "node:fs";
 import { test } from "node:test";
 import { BadArgument, Kind, Library, NoEnvelope, UnknownAlgorithm, checkpoints, logOf, records } from "weoldrin";
-import { blocks, bytesOf, quoted, rowOf, wordsOf } from "./rows.js";
+import { blocks, bytesOf, jsonWritten, quoted, rowOf, wordsOf } from "./rows.js";
 import * as toy from "./toy.js";
 import * as trees from "./trees.js";
 
@@ -17,6 +17,9 @@ const NO_SIBLINGS = Buffer.alloc(32, 255).toString("base64");
 const KINDS = { package: [Kind.PACKAGE], operator: [Kind.OPERATOR], both: Object.values(Kind) };
 const RECORD = { [Kind.PACKAGE]: "WARG-PACKAGE-LOG-RECORD-V0:", [Kind.OPERATOR]: "WARG-OPERATOR-LOG-RECORD-V0:" };
 const KEY = "ecdsa-p256:AwAAAAAAAAAAAAAAAAAAAAAAAAAAAAAAAAAAAAAAAAAA";
+const PREFIX = "WARG-CHECKPOINT-SIGNATURE-V0:";
+// Of these the last word is a text of JSON, with all that stands in it.
+const WITH_JSON = { "from-json": 1, "sign-apart": 2 };
 
 /** The name of what a call throws of an argument, or what it gives. */
 function faultOf(call) {
@@ -72,9 +75,26 @@ class Answers {
         const log = logs.get(kind.split("-")[0]);
         return this.#read(text, wanted, () => log.holds("a key", text));
       }
+      case "package-name":
+        return this.#named(text, () => this.library.logId(Kind.PACKAGE, text) && quoted(text));
       default:
         return undefined;
     }
+  }
+
+  // A package's log has each name that is one.
+  #named(text, call) {
+    const { name, given } = faultOf(call);
+    if (name === undefined) return `= ${given}`;
+    return name === "BadName" ? `! InvalidPackageName ${quoted(text)}` : `! ${name}`;
+  }
+
+  "package-log-id"([name]) {
+    return this.#named(name, () => this.library.logId(Kind.PACKAGE, name));
+  }
+
+  "operator-log-id"() {
+    return `= ${this.library.logId(Kind.OPERATOR)}`;
   }
 
   "verify-inclusion"([log, record, place, length, root, proof], wanted) {
@@ -180,9 +200,16 @@ class Answers {
     return timestamp === undefined ? found : { ...found, timestamp: BigInt(timestamp) };
   }
 
+  // Those of a checkpoint with its time are told by the library too, and are the same.
   bytes([kind, ...words]) {
+    if (kind === "log-leaf") return `= ${Buffer.from(this.library.leaf(...words)).toString("hex")}`;
     if (!kind.endsWith("checkpoint")) return undefined;
-    return `= ${Buffer.from(checkpoints.contents(this.#checkpoint(words))).toString("hex")}`;
+    const checkpoint = this.#checkpoint(words);
+    const contents = Buffer.from(checkpoints.contents(checkpoint));
+    if (checkpoint.timestamp === undefined) return `= ${contents.toString("hex")}`;
+    const message = Buffer.from(this.library.checkpointMessage(checkpoint));
+    assert.deepEqual(message, Buffer.from(checkpoints.message(contents)));
+    return `= ${message.subarray(PREFIX.length).toString("hex")}`;
   }
 
   "encode-checkpoint"(words) {
@@ -190,7 +217,17 @@ class Answers {
   }
 
   "sign-checkpoint"([name, ...words]) {
-    return `= ${toy.sign(name, checkpoints.message(checkpoints.contents(this.#checkpoint(words))))}`;
+    return `= ${toy.sign(name, this.library.checkpointMessage(this.#checkpoint(words)))}`;
+  }
+
+  "sign-apart"([kind, name], wanted, json) {
+    if (kind !== "checkpoint") return undefined;
+    const { name: fault, given: checkpoint } = faultOf(() => checkpoints.parseTimestamped(json));
+    if (fault !== undefined) return `! ${fault}`;
+    const signature = toy.sign(name, this.library.checkpointMessage(checkpoint));
+    const text = checkpoints.signedToJson({ checkpoint, keyId: records.keyId(toy.keyOf(name)), signature });
+    assert.equal(checkpoints.signedToJson(checkpoints.parseSigned(text)), text);
+    return `= ${jsonWritten(JSON.parse(text))}`;
   }
 
   "verify-checkpoint"([key, bytes, signature]) {
@@ -202,9 +239,8 @@ class Answers {
     return kind.endsWith("checkpoint") ? `= ${checkpoints.toJson(this.#checkpoint(words))}` : undefined;
   }
 
-  "from-json"([kind], wanted, question) {
+  "from-json"([kind], wanted, json) {
     if (!kind.endsWith("checkpoint")) return undefined;
-    const json = question.slice(`from-json ${kind} `.length);
     const read = kind === "checkpoint" ? checkpoints.parse : checkpoints.parseTimestamped;
     const { name, given } = faultOf(() => read(json));
     if (name !== undefined) return `! ${name}`;
@@ -229,9 +265,11 @@ test("the rows of values, messages and proofs", { skip: LEFT_OUT }, async (conte
       for (const { head } of blocks(at(`conformance/${folder}/${name}`))) {
         const { question, wanted } = rowOf(head.text);
         const [topic] = question.split(" ");
-        const words = topic === "from-json" ? question.split(" ").slice(1, 2) : wordsOf(question).slice(1);
+        const before = WITH_JSON[topic];
+        const words = before ? question.split(" ").slice(1, 1 + before) : wordsOf(question).slice(1);
+        const json = before ? question.slice([topic, ...words, ""].join(" ").length) : "";
         const isAsked = Object.hasOwn(Answers.prototype, topic);
-        const seen = isAsked ? await answers[topic](words, wanted, question) : undefined;
+        const seen = isAsked ? await answers[topic](words, wanted, json) : undefined;
         const counted = seen === undefined ? leftOut : played;
         counted.set(topic, (counted.get(topic) ?? 0) + 1);
         if (seen !== undefined && seen !== wanted) wrong.push(`${name} ${head.number}: ${head.text}: ${seen}`);
@@ -242,5 +280,8 @@ test("the rows of values, messages and proofs", { skip: LEFT_OUT }, async (conte
   context.diagnostic(`played: ${shown(played)}`);
   context.diagnostic(`no call tells: ${shown(leftOut)}`);
   assert.deepEqual(wrong, []);
+  for (const it of ["package-log-id", "operator-log-id", "sign-checkpoint", "sign-apart"]) {
+    assert.ok(played.get(it), it);
+  }
   assert.ok([...played.values()].reduce((sum, it) => sum + it) > 600);
 });
