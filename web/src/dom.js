@@ -67,7 +67,7 @@ export const said = (text, attributes = {}) => el("bdi", { class: "said", ...att
 export const number = (value) => String(value).replace(/\B(?=(\d{3})+(?!\d))/g, ",");
 
 /** So many of a thing. */
-export const many = (count, one, more = `${one}s`) => `${number(count)} ${count === 1 ? one : more}`;
+export const many = (count, one, more = `${one}s`) => `${number(count)} ${String(count) === "1" ? one : more}`;
 
 // So much of an id is shown, as the command does, where the whole of it was not asked for.
 const SHORT = 19;

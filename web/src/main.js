@@ -6,7 +6,7 @@ import { comparing } from "./comparing.js";
 import { at, fill, quoted } from "./dom.js";
 import { chosen, dropped, fetched } from "./files.js";
 import { showPanels } from "./panels.js";
-import { proofs } from "./proofs.js";
+import { proofs, proveOn } from "./proofs.js";
 import { Fault, Thread, part } from "./thread.js";
 import { cardOf, sentenceOf, tellProgress } from "./verdicts.js";
 
@@ -17,6 +17,7 @@ const thread = new Thread();
 const logs = [];
 let shown;
 let numbers = 0;
+let signersTurn = 0;
 
 function told(sentence) {
   at("said").textContent = sentence;
@@ -28,7 +29,9 @@ function trouble(sentence) {
 }
 
 const isJudged = ({ found }) => found?.taken > 0 || found?.refusal === null;
-const tellCompared = comparing(thread, () => logs.filter(({ found }) => found));
+const isCheckpoint = ({ found }) => found?.kind === "checkpoint";
+const isLog = (log) => log.found && !isCheckpoint(log);
+const tellCompared = comparing(thread, () => logs.filter(isLog));
 proofs(thread, () => shown);
 
 /** What the page's own parts ask: a fault is told, and nothing is shown in its place. */
@@ -37,6 +40,30 @@ const asking = (ask, words) =>
     told(`That could not be looked up: ${quoted(error.message)}`);
     throw error;
   });
+
+/** What an operator log says of who signed a checkpoint: nothing, where it is refused, or anyone can forge it. */
+async function signerBy(by, { number }) {
+  if (by.found.refusal) return { by, state: "refused" };
+  if (by.found.toys) return { by, state: "toys" };
+  const found = await thread.ask("signer", { number, operators: by.number }).catch((error) => ({
+    state: "broken",
+    fault: error.told ?? { name: "Broken", sentence: error.message },
+  }));
+  return { by, ...found };
+}
+
+/** Asks who signed each checkpoint, by each operator log that there is. */
+async function tellSigners() {
+  const mine = ++signersTurn;
+  const operators = logs.filter(({ found }) => found?.kind === "operator");
+  for (const log of logs.filter(isCheckpoint)) {
+    const signers = [];
+    for (const by of operators) signers.push(await signerBy(by, log));
+    if (mine !== signersTurn) return;
+    log.signers = signers;
+  }
+  list();
+}
 
 function show(log) {
   shown = log;
@@ -53,6 +80,7 @@ function forget(log) {
   if (shown === log) show(logs.find(isJudged));
   list();
   tellCompared();
+  void tellSigners();
   at("results").focus();
 }
 
@@ -75,6 +103,7 @@ function list() {
         document.querySelector("[role=tab][aria-selected=true]").focus();
       },
       forget: () => forget(log),
+      prove: () => proveOn(log.found.text),
       again: (changed) => void check(log, { ...log.asked, ...changed }),
     }),
   );
@@ -106,7 +135,10 @@ async function check(log, asked) {
       "library verifies the signatures, which takes longer.";
     at("note").hidden = false;
   }
-  told(sentenceOf(log));
+  const isAsked = isCheckpoint(log) || log.found?.kind === "operator";
+  if (isAsked) await tellSigners();
+  const others = isAsked && isLog(log) ? logs.filter(isCheckpoint) : [];
+  told([log, ...others].map(sentenceOf).join(" "));
   performance.mark("weoldrin-verdict");
   if (log.found && isJudged(log) && (!shown || shown === log)) show(log);
   else list();
@@ -125,7 +157,7 @@ async function take(sources) {
   const words = asked();
   told(fresh.length === 1 ? `Checking ${quoted(fresh[0].name)}.` : `Checking ${fresh.length} files.`);
   for (const log of fresh) await check(log, words);
-  const judged = fresh.filter(({ found }) => found).map(({ number }) => number);
+  const judged = fresh.filter(isLog).map(({ number }) => number);
   if (judged.length === 2) tellCompared(judged);
 }
 

@@ -2,8 +2,9 @@
  * A checkpoint, and what a registry proves of its log and its map. What decides is the library.
  * @module
  */
-import { at, button, el, fill, idText, number, quoted, timeText } from "./dom.js";
+import { at, button, el, fill, idText, quoted } from "./dom.js";
 import { faultText } from "./sentences.js";
+import { checkpointFacts, signerKey, signerText } from "./signers.js";
 
 const WHAT = {
   inclusion: "that a record stands at a place of the registry's log",
@@ -25,16 +26,11 @@ const HOLDS = {
   head: "The proof holds: the record is the last one that the registry's map has of the log.",
   absence: "The proof holds: the registry's map has nothing of the log.",
 };
-const SIGNERS = {
-  signed: ["good", "It is signed by a key that may sign checkpoints by the operator log that is shown."],
-  "not-signed": ["bad", "No key that may sign checkpoints by the operator log that is shown has signed it."],
-  "no-log": ["warn", "It is signed. Check the registry's operator log too and show it, to see whether by one who may."],
-  unsigned: ["", "No signature stands with it."],
-};
 const FAULTS = {
   NotJson: "The checkpoint is no JSON.",
   Missing: "The checkpoint lacks a member: it has logRoot, logLength and mapRoot.",
   WrongType: "A member of the checkpoint is of another type than it should be.",
+  BadName: "No log has that name. A package's is two words with a colon between them, such as example:math.",
   BadText: "A root or an id is no hash: those are sha256: and 64 digits.",
   BadBase64: "The proof is no base64.",
   TooLong: "The proof is longer than any can be.",
@@ -105,16 +101,21 @@ function missing({ what, text, oldText, name, logId, recordId, place, proof }) {
 }
 
 function shownProof({ what }, { holds, checkpoint, signer, logId }) {
-  const { logLength, logRoot, mapRoot, timestamp } = checkpoint;
   const verdict = holds === null ? null : holds ? ["good", HOLDS[what]] : ["bad", "The proof does not hold."];
+  const [look, text] = signerText(signer, "the operator log that is shown");
+  const ofLog = logId && [el("dt", {}, "Id of the log"), el("dd", {}, idText(logId))];
   return [
-    verdict && el("span", { class: `box ${verdict[0]}`, "data-holds": String(holds) }, verdict[1]),
-    el("span", { class: SIGNERS[signer][0] ? `box ${SIGNERS[signer][0]}` : "line" }, SIGNERS[signer][1]),
-    el("span", { class: "line" }, `The checkpoint is of ${number(logLength)} leaves, with the root `, idText(logRoot)),
-    el("span", { class: "line" }, "and the map's root ", idText(mapRoot)),
-    timestamp === undefined ? null : el("span", { class: "line" }, "at ", timeText(timestamp * 1_000_000_000n)),
-    WANTED[what].includes("name") && el("span", { class: "line" }, "The log's id is ", idText(logId)),
+    verdict && el("p", { class: `box ${verdict[0]}`, "data-holds": String(holds) }, verdict[1]),
+    el("p", { class: `box ${look}`, "data-signer": signer.state }, text),
+    el("dl", {}, signerKey(signer), ofLog, checkpointFacts(checkpoint)),
   ];
+}
+
+/** Takes the text of a checkpoint into the form, and leads there. */
+export function proveOn(text) {
+  at("checkpoint").value = text.trim();
+  at("proofs").scrollIntoView();
+  at("what").focus();
 }
 
 /** The part of the page that checks proofs; `shown` gives the log that is shown, or nothing. */

@@ -128,13 +128,3 @@ export function recordOf(kind, envelope) {
   if (times.length) found.time = timeOf(joined(times));
   return found;
 }
-
-const idBytes = (text) => new TextEncoder().encode(text);
-
-/** The id of a registry's log: that of its operators, where no package is named, or that of a package. */
-export function logIdOf(name) {
-  if (name === null) return records.sha256Text(idBytes("WARG-OPERATOR-LOG-ID-V0"));
-  const bytes = idBytes(name);
-  const prefix = idBytes("WARG-PACKAGE-LOG-ID-V0:WARG-PACKAGE-ID-V0");
-  return records.sha256Text(joined([prefix, records.varint(bytes.length), bytes]));
-}

@@ -116,6 +116,14 @@ const FAULTS = {
   TooLarge: ({ size, most }) =>
     `The file has ${size ? many(size, "byte") : `more than ${many(most, "byte")}`}. This page reads files of at most ` +
     `${number(most)}, as the command does.`,
+  LongCheckpoint: ({ size, most }) =>
+    `The file begins as JSON does, and has ${many(size, "byte")}. A checkpoint has ${number(most)} at most.`,
+  NotJson: () => "The file begins as JSON does, and is none: it is no log, and no checkpoint.",
+  Missing: () =>
+    "The file is JSON, and no checkpoint: that has logRoot, logLength and mapRoot, and where it is signed these and " +
+    "timestamp stand in contents, beside keyId and signature.",
+  WrongType: () => "The file is JSON, and no checkpoint: one of its members is of another type than it should be.",
+  BadText: () => "The file is a checkpoint whose roots are no hashes: those are sha256: and 64 digits.",
   Folder: () => "This is a folder. Drop the files that are in it.",
   Unreadable: ({ isFolder, why }) =>
     isFolder

@@ -6,6 +6,7 @@
 import { at, button, el, fill, keyText, many, number, quoted, said, timeText } from "./dom.js";
 import { entriesOf } from "./entries.js";
 import { faultText, kindText, meaningOf } from "./sentences.js";
+import { checkpointBody, checkpointSentence, lookOfCheckpoint } from "./signers.js";
 
 const WORDS = {
   good: "Lawful",
@@ -14,11 +15,17 @@ const WORDS = {
   fault: "Not checked",
   busy: "Checking",
 };
+const WORDS_OF_CHECKPOINTS = { ...WORDS, good: "Signed", bad: "Not signed", warn: "Signer not known" };
+
+/** Whether what was dropped is a checkpoint, and no log. */
+const isCheckpoint = ({ found }) => found?.kind === "checkpoint";
 
 /** The look of a log's verdict. */
-export function lookOf({ found, fault }) {
+export function lookOf(log) {
+  const { found, fault } = log;
   if (fault) return "fault";
   if (!found) return "busy";
+  if (isCheckpoint(log)) return lookOfCheckpoint(log);
   if (found.refusal) return "bad";
   return found.toys ? "warn" : "good";
 }
@@ -27,6 +34,7 @@ export function lookOf({ found, fault }) {
 export function sentenceOf(log) {
   const { name, found, fault } = log;
   if (fault) return `${quoted(name)}: not checked. ${faultText(fault)}`;
+  if (isCheckpoint(log)) return checkpointSentence(log);
   if (found.refusal) {
     const [meaning] = meaningOf(found.refusal, found.kind);
     return `${quoted(name)}: refused at record ${number(found.refusal.place)}. ${meaning}`;
@@ -87,6 +95,7 @@ function bodyOf(log) {
   const look = lookOf(log);
   if (look === "busy") return progressOf(log);
   if (look === "fault") return el("p", { class: "why" }, faultText(log.fault));
+  if (isCheckpoint(log)) return checkpointBody(log);
   const { found } = log;
   const before = found.refusal?.place ?? 0;
   return [
@@ -97,9 +106,10 @@ function bodyOf(log) {
 }
 
 /** A log and its verdict, with what can be done about it. */
-export function cardOf(log, { isShown, show, forget, again }) {
+export function cardOf(log, { isShown, show, forget, again, prove }) {
   const look = lookOf(log);
   const { found } = log;
+  const words = isCheckpoint(log) ? WORDS_OF_CHECKPOINTS : WORDS;
   const title = el("h3", { id: `log-${log.number}` }, said(log.name, { class: "said name" }));
   const named = (text) => ({ "aria-label": `${text} ${quoted(log.name, 60)}` });
   const isToy = found?.refusal?.name === "UnknownAlgorithm" && found.refusal.scheme === "toy";
@@ -108,12 +118,13 @@ export function cardOf(log, { isShown, show, forget, again }) {
   return el(
     "li",
     { class: `card ${look}`, "data-look": look, "data-number": log.number },
-    el("div", { class: "row head" }, title, el("strong", { class: "verdict" }, WORDS[look])),
+    el("div", { class: "row head" }, title, el("strong", { class: "verdict" }, words[look])),
     bodyOf(log),
     el(
       "p",
       { class: "row" },
       found?.taken ? button("Show", show, { ...named("Show"), "aria-pressed": String(isShown) }) : null,
+      isCheckpoint(log) ? button("Check a proof on it", prove, named("Check a proof on")) : null,
       isToy ? button("Check again with toy signatures", () => again({ toy: true })) : null,
       isOther ? button(`Check again as the log of ${kindText(other)}`, () => again({ kind: other })) : null,
       look === "busy" ? null : button("Remove", forget, named("Remove")),

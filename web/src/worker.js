@@ -3,21 +3,14 @@
  * waits for a log, and nothing of a log's text is read as more than text there.
  * @module
  */
-import {
-  Library,
-  NoLibrary,
-  OutOfMemory,
-  UnknownAlgorithm,
-  WeoldrinError,
-  checkpoints,
-  p256,
-} from "../../bindings/js/src/index.js";
+import { Library, NoLibrary, OutOfMemory, UnknownAlgorithm, WeoldrinError } from "../../bindings/js/src/index.js";
+import { textOf } from "../../bindings/js/src/bytes.js";
 import { faultOfRead } from "../../bindings/js/src/auditing.js";
 import { Fault } from "../../bindings/js/src/faults.js";
 import { keysOf, namespacesOf, permissionsOf, recordsOf, summaryOf, told, treeOf } from "./answers.js";
+import { LONGEST, isJson, publishedOf, signerOf } from "./checkpoints.js";
 import { MOST } from "./files.js";
 import { hasWebCrypto, judge } from "./judging.js";
-import { logIdOf } from "./reading.js";
 
 /** What is wrong with a file, and no fault of the package's. */
 class Wrong extends Error {
@@ -28,6 +21,7 @@ class Wrong extends Error {
 }
 
 const logs = new Map();
+const published = new Map();
 let haveModule;
 // What is asked before the page has the library's module waits for it.
 const module = new Promise((resolve) => (haveModule = resolve));
@@ -67,10 +61,29 @@ function shownRefusal({ envelope, ...others }, kind) {
   return { ...others, record: told(kind, envelope, null, others.place) };
 }
 
-/** A log's file is judged. What the answer says is said of the whole file, behind its last record. */
+/** A checkpoint's file is read. Who signed it is asked by itself, as often as there is another log. */
+function readCheckpoint(number, bytes) {
+  if (bytes.length > LONGEST) throw new Wrong("LongCheckpoint", { size: bytes.length, most: LONGEST });
+  let text;
+  try {
+    text = textOf(bytes);
+  } catch {
+    throw new Wrong("NotJson");
+  }
+  const found = publishedOf(text);
+  published.set(number, found);
+  return { kind: "checkpoint", text, ...found };
+}
+
+/**
+ * A file is judged: a log's, or a checkpoint's. What the answer says of a log is said of the whole file, behind its
+ * last record.
+ */
 async function judged({ number, kind, toy, ...source }, heard) {
   const words = { kind, toy, library: await theLibrary() };
-  const { log, refusal, ...found } = await judge(await bytesOf(source), words, heard);
+  const bytes = await bytesOf(source);
+  if (isJson(bytes)) return readCheckpoint(number, bytes);
+  const { log, refusal, ...found } = await judge(bytes, words, heard);
   logs.get(number)?.log.close();
   logs.set(number, { log });
   const beside = { permissions: permissionsOf(log.kind), byLibrary: !hasWebCrypto() };
@@ -104,37 +117,15 @@ const PROOFS = {
   absence: (it) => library.verifyAbsence(it.logId, it.mapRoot, it.proof),
 };
 
-/** A checkpoint as it was pasted: alone, or as what is in a signed one. */
-function checkpointOf(text) {
-  let whole;
-  try {
-    whole = JSON.parse(text);
-  } catch {
-    whole = null;
-  }
-  const isSigned = typeof whole?.contents === "object" && whole.contents !== null;
-  // The library's own reader reads the text again, with each number to its last digit.
-  const inner = isSigned ? /"contents"\s*:\s*(\{[^{}]*\})/.exec(text)?.[1] ?? "" : text;
-  const { signature, keyId } = isSigned ? whole : {};
-  return { checkpoint: checkpoints.parse(inner), inner, signed: isSigned ? { signature, keyId } : null };
-}
-
-async function signerOf({ inner, signed }, operators) {
-  if (signed === null) return "unsigned";
-  if (operators === null) return "no-log";
-  const { log } = logAt(operators);
-  const published = { checkpoint: checkpoints.parseTimestamped(inner), ...signed };
-  const isSigned = await checkpoints.isSigned(log, published, hasWebCrypto() ? p256.verifyByWebCrypto : undefined);
-  return isSigned ? "signed" : "not-signed";
-}
-
 async function proved({ what, text, oldText, operators, logId, name, ...words }) {
   await theLibrary();
-  const found = checkpointOf(text);
-  const old = what === "consistency" ? checkpointOf(oldText).checkpoint : null;
-  const id = logId || logIdOf(name);
+  const found = publishedOf(text);
+  const old = what === "consistency" ? publishedOf(oldText).checkpoint : null;
+  const isOfLog = what !== "none" && what !== "consistency";
+  const id = isOfLog ? logId || library.logId(name === null ? "operator" : "package", name ?? "") : null;
   const holds = what === "none" ? null : PROOFS[what]({ ...found.checkpoint, ...words, logId: id, old });
-  return { holds, logId: id, checkpoint: found.checkpoint, signer: await signerOf(found, operators) };
+  const signer = signerOf(found, operators === null ? null : logAt(operators).log);
+  return { holds, logId: id, checkpoint: found.checkpoint, signer };
 }
 
 const ANSWERS = {
@@ -162,7 +153,9 @@ const ANSWERS = {
   },
   compare: compared,
   prove: proved,
+  signer: ({ number, operators }) => signerOf(published.get(number), operators === null ? null : logAt(operators).log),
   forget: ({ number }) => {
+    published.delete(number);
     logs.get(number)?.log.close();
     logs.delete(number);
   },

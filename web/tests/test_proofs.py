@@ -52,7 +52,8 @@ class Proofs(PageTests):
             "inclusion", checkpoint=checkpoint, log_name=MATH, record_id=RECORD, leaf="2", proof=INCLUSION
         )
         self.assertIn("The proof holds: the record stands at that place", said)
-        self.assertIn("The checkpoint is of 6 leaves", said)
+        self.assertRegex(said, r"Leaves of the registry's log\s+6\s")
+        self.assertRegex(said, r"Id of the log\s+sha256:")
         said = self.proved("consistency", checkpoint=checkpoint, old_checkpoint=json.dumps(OLD), proof=CONSISTENCY)
         self.assertIn("The proof holds: the registry's log goes on", said)
         said = self.proved("head", checkpoint=checkpoint, log_name=MATH, record_id=LAST, proof=PRESENCE)
@@ -76,6 +77,8 @@ class Proofs(PageTests):
             ("checkpoint", "", "Paste a checkpoint first."),
             ("checkpoint", "{", "The checkpoint is no JSON."),
             ("checkpoint", "{}", "The checkpoint lacks a member"),
+            ("log_name", "math", "No log has that name."),
+            ("log_name", "Example:math", "No log has that name."),
             ("leaf", "two", "Say at which place it stands, in digits."),
             ("proof", "?", "The proof is no base64."),
             ("proof", "AAAA", "The proof has not as many bytes as it should"),
@@ -100,7 +103,10 @@ class Proofs(PageTests):
         self.browser.run("at('proof-said').textContent = ''")
         self.assertIn("It is signed by a key that may sign", self.proved("none", checkpoint=found["published"]))
         self.browser.run("at('proof-said').textContent = ''")
-        self.assertIn("No key that may sign checkpoints", self.proved("none", checkpoint=found["other"]))
+        said = self.proved("none", checkpoint=found["other"])
+        self.assertIn("The signature does not belong to this checkpoint under the key", said)
+        self.browser.run("at('proof-said').textContent = ''")
+        self.assertIn("has no key of the id", self.proved("none", checkpoint=found["unknown"]))
 
 
 load_tests = in_each(Proofs)

@@ -8,6 +8,7 @@ from browsers import UNSAFE
 from logs import EXAMPLES
 from page import JUDGED, PageTests, in_each
 from served import Edit, Edited, Tested
+from test_checkpoints import MADE
 
 RULES = (pathlib.Path(__file__).parent / "rules.js").read_text(encoding="utf-8")
 
@@ -34,6 +35,12 @@ class Reached(PageTests):
         self.clicked(".card:last-child button", "Show")
         self.tab("namespaces", "tbody tr")
         self.keep("namespaces")
+        self.dropped(logs.write(self.folder, "it.json", MADE["published"].encode()), count=5)
+        self.clicked(".card:last-child button", "Check a proof on it")
+        self.browser.run("at('what').value = 'none'; at('what').dispatchEvent(new Event('change'));")
+        self.browser.run("at('proof-form').requestSubmit()")
+        self.browser.wait("at('proof-said').textContent !== ''")
+        self.keep("a checkpoint")
 
     def test_rules(self) -> None:
         self.every_screen()

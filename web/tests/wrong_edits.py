@@ -18,6 +18,7 @@ from served import ROOT, Edit, Tested, copied
 TESTS = pathlib.Path(__file__).parent
 MAIN, JUDGING, WORKER, ANSWERS = (f"web/src/{it}.js" for it in ("main", "judging", "worker", "answers"))
 DOM, READING, PANELS, PAGING = (f"web/src/{it}.js" for it in ("dom", "reading", "panels", "paging"))
+CHECKPOINTS, PROOFS, SIGNERS = (f"web/src/{it}.js" for it in ("checkpoints", "proofs", "signers"))
 COMPARING, FILES, PAGE, STYLE = "web/src/comparing.js", "web/src/files.js", "web/index.html", "web/style.css"
 FOUND = "found: { kind: 'package', taken: done, count: total, toys: 0, refusal: null, permissions: [] }"
 NOTHING = "{ taken: 0, toys: 0, kind: 'package', refusal: null, log: await logOf('package', { library }) }"
@@ -146,13 +147,77 @@ WRONG: dict[str, tuple[Edit, str]] = {
          "library.verifyConsistency(it.logLength, it.logRoot,"),
         "test_proofs_hold",
     ),
-    "anyone signs checkpoints": (
-        (WORKER, 'return isSigned ? "signed" : "not-signed";', 'return "signed";'),
+    "a proof is of the operators' log, whatever is named": (
+        (WORKER, 'library.logId(name === null ? "operator" : "package", name ?? "")', 'library.logId("operator", "")'),
+        "test_proofs_hold",
+    ),
+    "a checkpoint is not taken into the form": (
+        (PROOFS, 'at("checkpoint").value = text.trim();', ""),
+        "test_proof_on_it",
+    ),
+    "anyone signs checkpoints": ((CHECKPOINTS, "return isBy ? {", "return true ? {"), "test_not_signed"),
+    "anyone signs the checkpoint of the form": (
+        (CHECKPOINTS, "return isBy ? {", "return true ? {"),
         "test_signed_checkpoint",
     ),
+    "a key that no one knows may not sign": (
+        (CHECKPOINTS, 'if (key === null) return { state: "no-key" };', ""),
+        "test_not_signed",
+    ),
+    "a key that may not sign is told as a forger": (
+        (CHECKPOINTS, 'if (!log.holds(keyId, "commit")) return', "if (false) return"),
+        "test_not_signed",
+    ),
+    "what can't be read is told as not signed": (
+        (CHECKPOINTS, '{ state: "unreadable", keyId }', '{ state: "unsigned" }'),
+        "test_not_signed",
+    ),
+    "another algorithm is a forgery": (
+        (CHECKPOINTS, '{ state: "algorithm", keyId,', '{ state: "not-belonging", keyId,'),
+        "test_what_is_not_known",
+    ),
+    "a checkpoint is a log": ((WORKER, "if (isJson(bytes)) return", "if (false) return"), "test_signed"),
+    "a checkpoint may be of any length": (
+        (WORKER, "if (bytes.length > LONGEST) throw", "if (false) throw"),
+        "test_what_is_no_checkpoint",
+    ),
+    "a checkpoint need be no UTF-8": (
+        (WORKER, "text = textOf(bytes);", "text = new TextDecoder().decode(bytes);"),
+        "test_what_is_no_checkpoint",
+    ),
     "a checkpoint's number is one of JavaScript": (
-        (WORKER, "/\"contents\"\\s*:\\s*(\\{[^{}]*\\})/.exec(text)?.[1] ?? \"\"", "JSON.stringify(whole.contents)"),
-        "test_signed_checkpoint",
+        ("bindings/js/src/checkpoints.js", "return BigInt(said);", "return BigInt(Number(said));"),
+        "test_signed",
+    ),
+    "toy signatures say who signs": (
+        (MAIN, "if (by.found.toys) return", "if (false) return"),
+        "test_what_is_not_known",
+    ),
+    "a refused log says who signs": (
+        (MAIN, "if (by.found.refusal) return", "if (false) return"),
+        "test_what_is_not_known",
+    ),
+    "one log's yes is enough": (
+        (SIGNERS, 'looks.includes("warn") ? "warn" : "good"', '"good"'),
+        "test_operator_logs_that_disagree",
+    ),
+    "a removed log's word stays": ((MAIN, "  void tellSigners();\n", ""), "test_log_behind_its_checkpoint"),
+    "a log that comes later is not asked": (
+        (MAIN, "if (isAsked) await tellSigners();", "if (isCheckpoint(log)) await tellSigners();"),
+        "test_log_behind_its_checkpoint",
+    ),
+    "who signed is not read out": (
+        (MAIN, "if (isAsked) await tellSigners();", "if (isAsked) void tellSigners();"),
+        "test_signed",
+    ),
+    "a checkpoint is compared": (
+        (MAIN, "log.found && !isCheckpoint(log)", "log.found"),
+        "test_log_behind_its_checkpoint",
+    ),
+    "a key's id is markup": (
+        (DOM, 'return el("code", { class: "id" }, quoted(id, 80));',
+         'return Object.assign(el("code", { class: "id" }), { innerHTML: id });'),
+        "test_hostile_checkpoint",
     ),
     "a button of a page is disabled": (
         (PAGING, 'for (const it of on) it.setAttribute("aria-disabled", String(isLast));',
