@@ -18,25 +18,10 @@ from log_parts import (
     yank,
 )
 from search.genes import LOGS, STATES, Genes, Part
-
-LETTERS = "abcdefghijklmnopqrstuvwxyz"
-
-# Texts of 32 letters that begin so have one hash of the maps' first hasher, whatever their last eight letters.
-ONE_HASH = "aaaaaaaacygosaaavksamkgc"
+from search.one_hash import PREFIX, thirty_two_bytes, word
 
 # What a key may do, by the kind of log.
 PERMISSIONS = {"package": ["release", "yank"], "operator": ["commit", "defineNamespace", "importNamespace"]}
-
-
-def word(number: int, length: int) -> str:
-    """A word of letters for a number, another one for each that the length has room for."""
-    signs = []
-    for _ in range(length):
-        number, sign = divmod(number, 26)
-        signs.append(LETTERS[sign])
-        if not number:
-            break
-    return "".join(signs).ljust(length, "a")
 
 
 def name(part: Part, place: int) -> str:
@@ -44,7 +29,7 @@ def name(part: Part, place: int) -> str:
     if part.name == "same":
         return word(0, part.length)
     if part.name == "one hash":
-        return ONE_HASH + word(place, 8)
+        return PREFIX + word(place, 8)
     return word(place if part.name == "fresh" else 26**4 - place % 26**4, max(part.length, 4))
 
 
@@ -52,8 +37,22 @@ def version(part: Part, place: int) -> str:
     """The version at a place: by its numbers, with a pre-release as long as the names are."""
     number = 0 if part.name == "same" else place if part.name == "fresh" else 10**9 - place
     if part.name == "one hash":
-        return f"1.0.0-{ONE_HASH}{word(place, 8)}"
+        return f"1.0.0-{PREFIX}{word(place, 8)}"
     return f"{number}.0.0" + (f"-{word(place, part.length)}" if part.length > 8 else "")
+
+
+def key_id(part: Part, place: int) -> str:
+    """The id of the key at a place: a fingerprint, or any text where its names are to have one hash."""
+    key = key_text(name(part, place))
+    return name(part, place) if part.name == "one hash" else hash_text(key.encode())
+
+
+def digest(part: Part, place: int) -> str:
+    """The digest of a release's content at a place."""
+    if part.name == "one hash":
+        return "sha256:" + thirty_two_bytes(place).hex()
+    content = version(part, place) if part.value == "right" else "the content"
+    return hash_text(content.encode())
 
 
 def entry(kind: str, part: Part, place: int) -> bytes:
@@ -64,10 +63,9 @@ def entry(kind: str, part: Part, place: int) -> bytes:
     if part.what == "grant":
         return bytes_field(2, text_field(1, key) + bytes_field(2, permissions))
     if part.what == "revoke":
-        return bytes_field(3, text_field(1, hash_text(key.encode())) + bytes_field(2, permissions))
+        return bytes_field(3, text_field(1, key_id(part, place)) + bytes_field(2, permissions))
     if part.what == "release":
-        content = version(part, place) if part.value == "right" else "the content"
-        return bytes_field(4, text_field(1, version(part, place)) + text_field(2, hash_text(content.encode())))
+        return bytes_field(4, text_field(1, version(part, place)) + text_field(2, digest(part, place)))
     if part.what == "yank":
         return yank(version(part, place))
     if part.what == "define":
@@ -121,12 +119,6 @@ def json_value(part: Part, size: int, right: str) -> str:
         return '"' + "\\u0000" * max(1, size // 6) + '"'
     short = {"lists": "[]", "objects": "{}", "numbers": "1", "texts": '""', "null": "null", "wrong": "{}"}[part.value]
     return short if size < 100 else repeated(short, size)
-
-
-def key_id(part: Part, place: int) -> str:
-    """The id of the key at a place: a fingerprint, or any text where its names are to have one hash."""
-    key = key_text(name(part, place))
-    return name(part, place) if part.name == "one hash" else hash_text(key.encode())
 
 
 def member(kind: str, part: Part, place: int) -> str:
