@@ -24,8 +24,8 @@ WHAT: dict[str, tuple[str, ...]] = {
 }
 
 # How the names of what there are many of differ: another one each time, the same, of one hash of the maps' first
-# hasher, and in falling order.
-NAMES = ("fresh", "same", "one hash", "falling")
+# hasher, of a part of the second buckets too, and in falling order.
+NAMES = ("fresh", "same", "one hash", "crowding", "falling")
 
 # What stands as a value where JSON is read, beside what is right there.
 VALUES = ("right", "lists", "objects", "nested", "numbers", "long number", "texts", "escapes", "null", "wrong")

@@ -18,10 +18,18 @@ from log_parts import (
     yank,
 )
 from search.genes import LOGS, STATES, Genes, Part
-from search.one_hash import PREFIX, thirty_two_bytes, word
+from search.one_hash import PREFIX, crowding_names, thirty_two_bytes, word
+
+# Names that are chosen for their hashes.
+HOSTILE = ("one hash", "crowding")
 
 # What a key may do, by the kind of log.
 PERMISSIONS = {"package": ["release", "yank"], "operator": ["commit", "defineNamespace", "importNamespace"]}
+
+
+def crowding(place: int) -> str:
+    """The crowding name at a place: twice as many are found where those so far do not reach."""
+    return crowding_names(2 ** max(12, (place + 1).bit_length()))[place]
 
 
 def name(part: Part, place: int) -> str:
@@ -30,26 +38,28 @@ def name(part: Part, place: int) -> str:
         return word(0, part.length)
     if part.name == "one hash":
         return PREFIX + word(place, 8)
+    if part.name == "crowding":
+        return crowding(place)
     return word(place if part.name == "fresh" else 26**4 - place % 26**4, max(part.length, 4))
 
 
 def version(part: Part, place: int) -> str:
     """The version at a place: by its numbers, with a pre-release as long as the names are."""
     number = 0 if part.name == "same" else place if part.name == "fresh" else 10**9 - place
-    if part.name == "one hash":
-        return f"1.0.0-{PREFIX}{word(place, 8)}"
+    if part.name in HOSTILE:
+        return f"1.0.0-{name(part, place)}"
     return f"{number}.0.0" + (f"-{word(place, part.length)}" if part.length > 8 else "")
 
 
 def key_id(part: Part, place: int) -> str:
     """The id of the key at a place: a fingerprint, or any text where its names are to have one hash."""
     key = key_text(name(part, place))
-    return name(part, place) if part.name == "one hash" else hash_text(key.encode())
+    return name(part, place) if part.name in HOSTILE else hash_text(key.encode())
 
 
 def digest(part: Part, place: int) -> str:
     """The digest of a release's content at a place."""
-    if part.name == "one hash":
+    if part.name in HOSTILE:
         return "sha256:" + thirty_two_bytes(place).hex()
     content = version(part, place) if part.value == "right" else "the content"
     return hash_text(content.encode())

@@ -4,8 +4,14 @@ A map hashes what it is asked for by a quick hash without a secret, so anybody f
 (`names`, `thirty_two_bytes`). Behind it stands SipHash-1-3 with no key, of which some bits can be made the same by
 trying (`crowding_names`).
 """
-from collections.abc import Iterator
+import functools
+import itertools
+import pathlib
+import subprocess
+import sys
+from collections.abc import Callable
 
+TOOLS = pathlib.Path(__file__).resolve().parents[1]
 LETTERS = "abcdefghijklmnopqrstuvwxyz"
 MASK = 2**64 - 1
 
@@ -81,18 +87,29 @@ def sip_hash(given: bytes) -> int:
     return a ^ b ^ c ^ d
 
 
-def all_crowding() -> Iterator[str]:
-    """Names of one quick hash whose SipHash ends with six bits 0: 64 are tried for each."""
-    place = 0
-    while True:
-        name = PREFIX + word(place, 8)
-        # A text is hashed with a byte of ones behind it.
-        if sip_hash(name.encode() + b"\xff") % 64 == 0:
-            yield name
-        place += 1
+def ends_in_zeros(name: str) -> bool:
+    """Whether the SipHash of a text, which is hashed with a byte of ones behind it, ends with six bits 0."""
+    return sip_hash(name.encode() + b"\xff") % 64 == 0
 
 
-def crowding_names(count: int) -> list[str]:
-    """So many names of one quick hash that lie in a 64th of the buckets by SipHash too."""
-    found = all_crowding()
-    return [next(found) for _ in range(count)]
+def crowding_here(count: int, is_found: Callable[[str], bool]) -> list[str]:
+    """So many of the names of one quick hash of which that holds."""
+    every = (PREFIX + word(place, 8) for place in itertools.count())
+    return list(itertools.islice(filter(is_found, every), count))
+
+
+def quick_crowding(count: int) -> list[str]:
+    """The same by this interpreter's own hash of bytes."""
+    return crowding_here(count, lambda name: hash(name.encode() + b"\xff") % 64 == 0)
+
+
+@functools.cache
+def crowding_names(count: int) -> tuple[str, ...]:
+    """So many names of one quick hash that lie in a 64th of the buckets by SipHash too: 64 are tried for each. An
+    interpreter that was started without a seed hashes bytes just so, and finds them much sooner."""
+    if sys.hash_info.algorithm != "siphash13":
+        return tuple(crowding_here(count, ends_in_zeros))
+    called = "from search.one_hash import quick_crowding; print('\\n'.join(quick_crowding(int(sys.argv[2]))))"
+    command = [sys.executable, "-c", "import sys; sys.path.insert(0, sys.argv[1]); " + called, str(TOOLS), str(count)]
+    said = subprocess.run(command, env={"PYTHONHASHSEED": "0"}, capture_output=True, text=True, check=True)
+    return tuple(said.stdout.split())

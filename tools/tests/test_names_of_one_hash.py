@@ -26,13 +26,13 @@ from log_parts import (
     text_field,
     yank,
 )
-from search.one_hash import crowding_names, names, quick_hash, sip_hash, thirty_two_bytes
+from search.one_hash import crowding_here, crowding_names, ends_in_zeros, names, quick_hash, sip_hash, thirty_two_bytes
 
 WEOLDRIN = TOOLS.parent / "dist/x86_64-linux/weoldrin"
 COUNT = 2000
 
 # Names of one quick hash, and names that are in one part of the second buckets too.
-HOSTILE = {"one hash": names(COUNT), "crowding": crowding_names(COUNT)}
+HOSTILE = {"one hash": names(COUNT), "crowding": list(crowding_names(COUNT))}
 
 
 def versions(found: list[str]) -> list[str]:
@@ -80,6 +80,7 @@ class Hashes(unittest.TestCase):
         self.assertNotEqual(quick_hash(b"a" * 32), quick_hash(b"b" * 32))
 
     def test_some_are_in_one_part_by_the_other_hash(self) -> None:
+        self.assertEqual(crowding_here(20, ends_in_zeros), HOSTILE["crowding"][:20])
         parts = {sip_hash(it.encode() + b"\xff") % 64 for it in HOSTILE["crowding"]}
         self.assertEqual(parts, {0})
 
