@@ -79,7 +79,7 @@ class Checkpoints:
 
     # Making them
 
-    def make(self, now: float | None = None) -> Newest | None:
+    def make(self) -> Newest | None:
         """Makes a checkpoint where there are new leaves, or where the newest is old, and gives the newest.
 
         It does nothing so soon after the last one, without a key, and where the operator log does not let the key
@@ -95,7 +95,7 @@ class Checkpoints:
             length, last = self._storage.length(), self._newest
             if length > (last.length if last else 0) or (last and is_old):
                 with self._kept_whole():
-                    self._make(length, time.time() if now is None else now)
+                    self._make(length)
             return self._current()
 
     def current(self) -> Newest | None:
@@ -113,12 +113,17 @@ class Checkpoints:
         """Whether the last one was seen so long ago that another may be made."""
         return time.monotonic() - self._seen_at >= self._settings.checkpoint_seconds
 
-    def _make(self, length: int, now: float) -> None:
+    def now(self) -> float:
+        """The time in seconds since 1970, which is never before that of the newest checkpoint."""
+        newest = self._newest
+        return max(time.time(), newest.signed.contents.timestamp if newest else 0)
+
+    def _make(self, length: int) -> None:
         """Signs a checkpoint of so many leaves, and keeps it."""
         trees, before = self._trees_of(length), self._newest
         for _ in range(_TRIALS):
             last = before.signed.contents.timestamp if before else 0
-            contents = Checkpoint(trees.log_root(), length, trees.map_root(), max(int(now), last))
+            contents = Checkpoint(trees.log_root(), length, trees.map_root(), max(int(time.time()), last))
             if before is not None:
                 _check_goes_on(before.signed.contents, contents, trees.consistency(before.length))
             made = self._signed(contents)

@@ -2,7 +2,6 @@
 
 from __future__ import annotations
 
-import time
 from http import HTTPStatus
 from typing import NamedTuple
 
@@ -82,9 +81,8 @@ class Publisher:
         self._storage, self._handles, self._settings = storage, handles, settings
         self._operator_key_id = operator_key_id
 
-    def publish(self, log: LogName, envelope: bytes, now: float | None = None) -> Published:
+    def publish(self, log: LogName, envelope: bytes, now: float) -> Published:
         """Appends the record of an envelope, which is on the disk then. Raises a `Problem` where it is refused."""
-        now = time.time() if now is None else now
         try:
             for _ in range(_TRIALS):
                 try:

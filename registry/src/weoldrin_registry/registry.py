@@ -65,7 +65,7 @@ class Registry:
 
     def publish(self, log: LogName, envelope: bytes) -> tuple[Published, Newest | None]:
         """Appends a record, and gives a checkpoint that has it, where one could be made by then."""
-        new = self.publisher.publish(log, envelope)
+        new = self.publisher.publish(log, envelope, self.checkpoints.now())
         self.metrics.records.labels(log.kind.name.lower()).inc()
         if not self.checkpoints.is_due():
             return new, None
