@@ -47,10 +47,11 @@ class Answer(NamedTuple):
 
 
 class Client:
-    """A connection to a registry, which is made anew where it was ended."""
+    """A connection to a registry, which is made anew where it was ended; for each request, where it is not kept."""
 
-    def __init__(self, port: int, seconds: float = 60) -> None:
+    def __init__(self, port: int, seconds: float = 60, is_kept: bool = True) -> None:
         self._connection = http.client.HTTPConnection("127.0.0.1", port, timeout=seconds)
+        self._is_kept = is_kept
 
     def close(self) -> None:
         """Ends it."""
@@ -60,6 +61,8 @@ class Client:
         self, method: str, target: str, body: bytes | None = None, headers: Mapping[str, str] | None = None
     ) -> Answer:
         """The answer to a request."""
+        if not self._is_kept:
+            self._connection.close()
         try:
             self._connection.request(method, target, body, dict(headers or {}))
             response = self._connection.getresponse()

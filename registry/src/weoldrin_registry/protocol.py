@@ -3,6 +3,7 @@
 from __future__ import annotations
 
 import asyncio
+import socket
 import sys
 from http import HTTPStatus
 from typing import Any
@@ -50,6 +51,8 @@ def protocol_of(settings: Settings) -> type[H11Protocol]:
         def connection_made(self, transport: Any) -> None:
             """Counts it, and waits for its first request."""
             super().connection_made(transport)
+            # asyncio does so for sockets that were made with the number of TCP, and for no others.
+            transport.get_extra_info("socket").setsockopt(socket.IPPROTO_TCP, socket.TCP_NODELAY, 1)
             self._reader = self.loop.call_later(settings.answer_seconds, self._check_reader)
             if len(self.connections) > 2 * settings.connections:
                 self._end(HTTPStatus.SERVICE_UNAVAILABLE, "there are too many connections")
