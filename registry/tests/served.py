@@ -18,6 +18,7 @@ from .contract import Contract
 
 Key = p256.SigningKey
 CONTRACT = Contract()
+REPOSITORY = pathlib.Path(__file__).resolve().parents[2]
 START = 1_700_000_000_000_000_000
 PROTOBUF = {"Content-Type": "application/protobuf"}
 JSON = {"Content-Type": "application/json"}
@@ -95,7 +96,7 @@ class Process:
         self.folder = folder
         (folder / "settings.toml").write_text(settings, encoding="utf-8")
         command = [sys.executable, "-m", "weoldrin_registry.command", "serve", str(folder / "logs.sqlite"), "--port", "0"]
-        command += ["--settings", str(folder / "settings.toml"), *words]
+        command += ["--settings", str(folder / "settings.toml"), *(words or ("--static", str(REPOSITORY)))]
         if (folder / "key.pem").exists():
             command += ["--key", str(folder / "key.pem")]
         if files:

@@ -6,9 +6,9 @@ import statistics
 import time
 import unittest
 
-from weoldrin import PackageLog, records
+from weoldrin import records
 
-from .served import PROTOBUF, Client, Key, Served, next_record, package_record, release
+from .served import PROTOBUF, Client, Key, Served, package_record, release
 
 ALICE = Key.generate()
 HEALTH = b"GET /v1/health HTTP/1.1\r\nHost: x\r\n\r\n"
@@ -62,7 +62,7 @@ class Connections(Served):
 
     SETTINGS = (
         "checkpoint_seconds = 0.1\nbody_seconds = 1.5\nhead_seconds = 1.5\nidle_seconds = 1\nanswer_seconds = 1.5\n"
-        "connections = 20\nbody_bytes = 60000\nanswer_bytes = 50_000_000\n"
+        "connections = 20\nbody_bytes = 300_000\nanswer_bytes = 50_000_000\n"
     )
 
     def setUp(self) -> None:
@@ -84,7 +84,7 @@ class Connections(Served):
         self.assertTrue(self.client.get("/v1/health").json)
 
     def test_lengths_that_are_none(self) -> None:
-        for length in ("x", "-1", "+1", "1,2", "0x1", "", "9" * 5000, "9" * 19, "60001", "50000000"):
+        for length in ("x", "-1", "+1", "1,2", "0x1", "", "9" * 5000, "9" * 19, "300001", "50000000"):
             for path in ("/v1/package/a:b/record", "/v1/operator/record", "/v1/fetch/logs"):
                 raw = self._raw()
                 raw.send(f"POST {path} HTTP/1.1\r\nHost: x\r\nContent-Length: {length}\r\n\r\n".encode())
@@ -129,7 +129,7 @@ class Connections(Served):
             status = 404 if path.endswith("nothing") else 413
             self.assertEqual(self.client.asked("POST", path, bytes(20_000_000), PROTOBUF).status, status)
         raw = self._raw()
-        raw.send(b"POST /v1/operator/record HTTP/1.1\r\nHost: x\r\nContent-Length: 60001\r\nExpect: 100-continue\r\n\r\n")
+        raw.send(b"POST /v1/operator/record HTTP/1.1\r\nHost: x\r\nContent-Length: 300001\r\nExpect: 100-continue\r\n\r\n")
         self.assertEqual([it for it, _ in raw.answers()], [413])
         self.assertTrue(raw.ends(3))
 
@@ -225,14 +225,11 @@ class Connections(Served):
         self.assertEqual(self.client.get("/v1/health").status, 200)
 
     def test_readers_that_read_nothing(self) -> None:
-        with PackageLog() as log:
-            for place in range(80):
-                entries = [records.init(ALICE.public_key)] if not place else [
-                    release(f"{place}.{it}.0") for it in range(450)
-                ]
-                envelope = next_record(log, ALICE, *entries)
-                log.append(envelope)
-                self.published(self.client.post("/v1/package/a:great/record", envelope))
+        head = None
+        for place in range(40):
+            entries = [release(f"{place}.{it}.0") for it in range(2000)] if head else [records.init(ALICE.public_key)]
+            answer = self.client.post("/v1/package/a:great/record", package_record(head, ALICE, *entries))
+            head = self.published(answer)["recordId"]
         raw = self._raw()
         raw.socket.setsockopt(socket.SOL_SOCKET, socket.SO_RCVBUF, 4096)
         raw.send(b"GET /v1/package/a:great/records HTTP/1.1\r\nHost: x\r\n\r\n")

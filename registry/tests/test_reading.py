@@ -230,5 +230,15 @@ class Reading(Served):
         self.assertEqual(self.client.get("/static/dist/wasm/libwarg.wasm").headers["content-type"], "application/wasm")
 
 
+class WithoutThePage(Served):
+    """A registry that has no page to serve."""
+
+    WORDS = ("--static", "/nowhere")
+
+    def test_the_page(self) -> None:
+        for target in ("/", "/static/web/index.html", "/static/"):
+            self.refused(self.client.get(target), 404, "NotFound")
+
+
 if __name__ == "__main__":
     unittest.main()

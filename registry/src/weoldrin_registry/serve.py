@@ -5,6 +5,7 @@ from __future__ import annotations
 import logging
 import resource
 import socket
+import sys
 from collections.abc import Callable
 from typing import Any
 
@@ -57,6 +58,8 @@ def serve(settings: Settings) -> bool:
     logger.handlers, logger.propagate = [handler], False
     logger.setLevel(logging.ERROR)
     _bound_files(settings)
+    # What computes in Python, as the trees do, lets others go on sooner.
+    sys.setswitchinterval(0.001)
     listening = _socket(settings)
     host, port = listening.getsockname()[:2]
     address = f"http://[{host}]:{port}" if ":" in host else f"http://{host}:{port}"
