@@ -15,7 +15,7 @@ NAMES = ["acme:math", "acme:text", "acme:text-x", "b:c"]
 class Reading(Served):
     """What can be read of some logs."""
 
-    SETTINGS = "checkpoint_seconds = 0.1\nanswer_records = 3\nanswer_bytes = 1500\nanswer_leaves = 4\nfetch_logs = 4\n"
+    SETTINGS = "checkpoint_seconds = 0.1\nanswer_records = 3\nanswer_bytes = 700\nanswer_leaves = 4\nfetch_logs = 4\n"
 
     @classmethod
     def setUpClass(cls) -> None:
@@ -60,11 +60,12 @@ class Reading(Served):
         self.assertEqual(len(self._all("/v1/operator/records")), 1)
 
     def test_the_bytes_of_an_answer(self) -> None:
-        answer = self.client.get(f"/v1/package/{NAMES[3]}/records?from=1")
-        sizes = [len(it) for it in self.logs[NAMES[3]][1:]]
-        self.assertGreater(sum(sizes[:3]), 0)
-        self.assertLessEqual(sum(map(len, answer.envelopes)), 1500)
-        self.assertEqual(answer.envelopes, self.logs[NAMES[3]][1 : 1 + len(answer.envelopes)])
+        for start in range(4):
+            envelopes = self.logs[NAMES[3]][start:]
+            most = next(it for it in range(4, 0, -1) if it == 1 or sum(map(len, envelopes[:it])) <= 700)
+            self.assertLess(most, 3)
+            answer = self.client.get(f"/v1/package/{NAMES[3]}/records?from={start}")
+            self.assertEqual(answer.envelopes, envelopes[:most])
 
     def test_tags(self) -> None:
         target = f"/v1/package/{NAMES[0]}/records"
@@ -109,6 +110,8 @@ class Reading(Served):
         for _ in range(30):
             answer = self.client.ask_json("/v1/fetch/logs", {"logs": known}).json
             self.assertEqual(answer["unknown"], [])
+            sizes = [len(base64.b64decode(one)) for log in answer["logs"].values() for one in log["envelopes"]]
+            self.assertTrue(len(sizes) == 1 or (len(sizes) <= 3 and sum(sizes) <= 700), sizes)
             for it, log in answer["logs"].items():
                 self.assertEqual((log["head"], log["count"]), (self.heads[ids[it]], len(self.logs[ids[it]])))
                 found[it] += [base64.b64decode(one) for one in log["envelopes"]]

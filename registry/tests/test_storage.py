@@ -9,7 +9,7 @@ import unittest
 from typing import Any
 from unittest import mock
 
-from weoldrin import Error, LogKind, PackageLog, record_id, records
+from weoldrin import Error, LogKind, PackageLog, record_id, records, verify
 from weoldrin_registry.handles import Damaged, Handles
 from weoldrin_registry.problems import Problem
 from weoldrin_registry.publishing import LogName, Publisher, log_name
@@ -150,7 +150,9 @@ class Writers(InFile):
         for it in range(10):
             self._published(publishers[it % 2], log, written, 1)
         self._stands(log, written)
-        stale = package_record(written.record(3).id, ALICE, release("x".replace("x", "77.0.0")))  # type: ignore[union-attr]
+        third = written.record(3)
+        assert third
+        stale = package_record(third.id, ALICE, release("77.0.0"))
         for it in publishers:
             with self.assertRaises(Problem) as raised:
                 it.publish(log, stale, LATER)
@@ -161,14 +163,14 @@ class Writers(InFile):
         first, second = self._publisher(), self._publisher(self._opened())
         self._published(first, log, written, 2)
         mine, other = (next_record(written, ALICE, release(f"{it}.0.0")) for it in (5, 6))
-        verify, asked = __import__("weoldrin").verify, []
+        asked: list[object] = []
 
         def overtaken(*question: Any) -> bool:
             if not asked:
                 asked.append(question)
                 written.append(other)
                 second.publish(log, other, LATER)
-            return bool(verify(*question))
+            return verify(*question)
 
         with mock.patch("weoldrin_registry.publishing.verify", overtaken):
             with self.assertRaises(Problem) as raised:
@@ -230,6 +232,32 @@ class Writers(InFile):
         publisher.publish(log, envelope, LATER)
         self._stands(log, written)
 
+    def test_one_that_waits_for_a_write_that_fails(self) -> None:
+        log, written, publisher = log_name(LogKind.PACKAGE, "a:b"), PackageLog(), self._publisher()
+        self._published(publisher, log, written, 2)
+        envelope, taken = next_record(written, ALICE, release("7.0.0")), list[object]()
+        append = self.storage.append
+        waiting = threading.Thread(target=lambda: taken.append(publisher.publish(log, envelope, LATER)))
+
+        def failing(new: NewRecord, judge: Any) -> int:
+            judge()
+            self.storage.append = append  # type: ignore[method-assign]
+            waiting.start()
+            time.sleep(0.3)
+            raise DiskFull("full")
+
+        self.storage.append = failing  # type: ignore[method-assign]
+        self.assertRaises(DiskFull, publisher.publish, log, envelope, LATER)
+        waiting.join()
+        self.assertEqual(len(taken), 1)
+        written.append(envelope)
+        self._stands(log, written)
+
+    def test_it_waits_for_the_disk(self) -> None:
+        with self.storage._reading() as file:
+            self.assertEqual(file.execute("PRAGMA synchronous").fetchone(), (2,))
+            self.assertEqual(file.execute("PRAGMA journal_mode").fetchone(), ("wal",))
+
     def test_append_is_exact(self) -> None:
         def judged() -> None:
             raise Error("no: it is not taken")
@@ -260,7 +288,7 @@ class Writers(InFile):
         new = NewRecord("sha256:1", "package", "a:b", None, 0, "sha256:2", 1, "k", b"e")
         with sqlite3.connect(self.path, isolation_level=None) as file:
             file.execute("BEGIN IMMEDIATE")
-            self.assertRaises(Locked, self.storage.append, new, lambda: None)
+            self.assertRaises(Locked, self.storage.append, new, lambda: self.fail("it is judged"))
             file.execute("ROLLBACK")
         self.assertEqual(self.storage.append(new, lambda: None), 0)
         held, passed = threading.Event(), threading.Event()
@@ -339,12 +367,11 @@ class Processes(unittest.TestCase):
         begin(client, self.key)
         checkpoint_of(client, 1)
         heads: list[str] = []
-        full, other = 0, bytes(20_000).hex()
+        full = 0
         while full < 3:
-            padding = records.define_namespace(other)[:0]
-            entries = [release(f"{len(heads)}.{it}.0") for it in range(100)] if heads else [
-                records.init(ALICE.public_key), *([padding] if padding else [])
-            ]
+            entries = [release(f"{len(heads)}.{it}.0") for it in range(100)]
+            if not heads:
+                entries = [records.init(ALICE.public_key)]
             answer = client.post("/v1/package/a:b/record", package_record(heads[-1] if heads else None, ALICE, *entries))
             if answer.status == 201:
                 self.assertEqual(answer.json["place"], len(heads))
@@ -368,7 +395,6 @@ class Processes(unittest.TestCase):
         self.assertEqual(new.json["registryIndex"], len(heads) + 1)
         checkpoint_of(client, len(heads) + 2)
         self.assertEqual(client.get(f"/v1/proof/consistency?from={length}").status, 200)
-        self.assertLess(time.monotonic(), float("inf"))
 
 
 if __name__ == "__main__":
