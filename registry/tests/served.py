@@ -95,7 +95,8 @@ class Process:
     def __init__(self, folder: pathlib.Path, *words: str, settings: str = "", files: int = 0) -> None:
         self.folder = folder
         (folder / "settings.toml").write_text(settings, encoding="utf-8")
-        command = [sys.executable, "-m", "weoldrin_registry.command", "serve", str(folder / "logs.sqlite"), "--port", "0"]
+        command = [sys.executable, "-m", "weoldrin_registry.command", "serve", str(folder / "logs.sqlite")]
+        command += ["--port", "0"]
         command += ["--settings", str(folder / "settings.toml"), *(words or ("--static", str(REPOSITORY)))]
         if (folder / "key.pem").exists():
             command += ["--key", str(folder / "key.pem")]
@@ -189,12 +190,16 @@ class Served(unittest.TestCase):
 
     SETTINGS = "checkpoint_seconds = 0.1\n"
     WORDS: tuple[str, ...] = ()
+    folder: pathlib.Path
+    key: Key
+    process: Process
+    client: Client
 
     @classmethod
     def setUpClass(cls) -> None:
-        cls._folder = tempfile.TemporaryDirectory()
-        cls.addClassCleanup(cls._folder.cleanup)
-        cls.folder = pathlib.Path(cls._folder.name)
+        folder = tempfile.TemporaryDirectory()
+        cls.addClassCleanup(folder.cleanup)
+        cls.folder = pathlib.Path(folder.name)
         cls.key = new_key(cls.folder)
         cls.process = Process(cls.folder, *cls.WORDS, settings=cls.SETTINGS)
         cls.addClassCleanup(cls.process.stop)
@@ -210,4 +215,3 @@ class Served(unittest.TestCase):
         """An answer is that of a record that stands."""
         self.assertEqual(answer.status, 201, answer)
         return answer.json
-

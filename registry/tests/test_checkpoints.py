@@ -118,10 +118,9 @@ class Proofs(Served):
         for place, line in enumerate(lines):
             answer = self.client.get(f"/v1/proof/inclusion?leaf={place}&length={newest.log_length}&from=5").json
             self.assertEqual(f"{answer['logId']} {answer['recordId']}", line)
-            ends = (place, newest.log_length, newest.log_root)
-            self.assertTrue(verify_inclusion(answer["logId"], answer["recordId"], *ends, answer["proof"]))
-            ends = (5, old["logRoot"], newest.log_length, newest.log_root)
-            self.assertTrue(verify_consistency(*ends, answer["consistency"]))
+            ends = (newest.log_length, newest.log_root)
+            self.assertTrue(verify_inclusion(answer["logId"], answer["recordId"], place, *ends, answer["proof"]))
+            self.assertTrue(verify_consistency(5, old["logRoot"], *ends, answer["consistency"]))
         self.refused(self.client.get(f"/v1/proof/inclusion?leaf={newest.log_length}"), 404, "NoLeaf")
 
     def _check_map(self, newest: Checkpoint, heads: dict[str, str]) -> None:

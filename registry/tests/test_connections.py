@@ -26,12 +26,12 @@ class Raw:
 
     def answers(self, count: int = 1) -> list[tuple[int, bytes]]:
         """So many answers, and fewer where the connection ends: their statuses and bodies."""
-        found, data = [], b""
+        found: list[tuple[int, bytes]] = []
+        data = b""
         while len(found) < count:
             head, end, rest = data.partition(b"\r\n\r\n")
-            length = next(
-                (int(it.partition(b":")[2]) for it in head.split(b"\r\n") if it.lower().startswith(b"content-length:")), 0
-            )
+            lines = [it.partition(b":") for it in head.split(b"\r\n")]
+            length = next((int(value) for name, _, value in lines if name.lower() == b"content-length"), 0)
             if end and len(rest) >= length:
                 found.append((int(head.split(b" ")[1]), rest[:length]))
                 data = rest[length:]
@@ -129,7 +129,8 @@ class Connections(Served):
             status = 404 if path.endswith("nothing") else 413
             self.assertEqual(self.client.asked("POST", path, bytes(20_000_000), PROTOBUF).status, status)
         raw = self._raw()
-        raw.send(b"POST /v1/operator/record HTTP/1.1\r\nHost: x\r\nContent-Length: 300001\r\nExpect: 100-continue\r\n\r\n")
+        head = b"POST /v1/operator/record HTTP/1.1\r\nHost: x\r\n"
+        raw.send(head + b"Content-Length: 300001\r\nExpect: 100-continue\r\n\r\n")
         self.assertEqual([it for it, _ in raw.answers()], [413])
         self.assertTrue(raw.ends(3))
 
@@ -268,8 +269,9 @@ class Connections(Served):
         self.assertNotIn(b"\x1b", text)
         for line in text.decode().splitlines():
             self.assertRegex(line, r"^\d{4}-\d\d-\d\dT\d\d:\d\d:\d\d\.\d{6}Z .")
-        self.assertRegex(text.decode(), r"(?m)127\.0\.0\.1:\d+ GET /v1/names\?prefix=%0A%1B\[31m 200 \d+ [0-9.]+ -$")
-        self.assertRegex(text.decode(), r"(?m)127\.0\.0\.1:\d+ GET /v1/package/%0Afake%1B/records 400 \d+ [0-9.]+ BadName$")
+        for end in (r"/v1/names\?prefix=%0A%1B\[31m 200 \d+ [0-9.]+ -",
+                    r"/v1/package/%0Afake%1B/records 400 \d+ [0-9.]+ BadName"):
+            self.assertRegex(text.decode(), rf"(?m)127\.0\.0\.1:\d+ GET {end}$")
         self.assertNotIn("Traceback", text.decode())
 
 

@@ -7,18 +7,7 @@ import unittest
 
 from weoldrin import LogKind, PackageLog, log_id, record_id, records
 
-from .served import (
-    JSON,
-    PROTOBUF,
-    START,
-    Key,
-    Served,
-    begin,
-    next_record,
-    operator_record,
-    package_record,
-    release,
-)
+from .served import JSON, PROTOBUF, START, Key, Served, begin, next_record, operator_record, package_record, release
 
 ALICE, BOB = Key.generate(), Key.generate()
 
@@ -54,8 +43,9 @@ class Publishing(Served):
         self.published(self.client.ask_json("/v1/package/a:json/record", value))
         told = self.client.ask_json("/v1/package/a:json/record", value)
         self.assertEqual(self.refused(told, 409, "NotNext")["published"]["place"], 0)
+        others: dict[str, object] = dict(value)
         wrong: list[object] = [
-            {**value, "keyId": 7}, {**value, "contentBytes": "a"}, {**value, "contentBytes": "é"}, [], None, 7,
+            {**others, "keyId": 7}, {**value, "contentBytes": "a"}, {**value, "contentBytes": "é"}, [], None, 7,
             {"contentBytes": value["contentBytes"]}, {**value, "signature": "\ud800"},
         ]
         for it in wrong:
@@ -221,7 +211,7 @@ class Limits(Served):
         self.published(self.client.post("/v1/package/a:three/record", other))
 
     def test_time(self) -> None:
-        contents = records.contents(None, time.time_ns() + 12 * 10**9, [records.init(BOB.public_key)])
+        contents = records.contents(None, time.time_ns() + 8 * 10**9, [records.init(BOB.public_key)])
         envelope = records.signed(LogKind.PACKAGE, contents, BOB.public_key, BOB.sign)
         self.refused(self.client.post("/v1/package/a:ahead/record", envelope), 422, "TimeAhead")
 

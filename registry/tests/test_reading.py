@@ -17,12 +17,14 @@ class Reading(Served):
 
     SETTINGS = "checkpoint_seconds = 0.1\nanswer_records = 3\nanswer_bytes = 700\nanswer_leaves = 4\nfetch_logs = 4\n"
 
+    logs: dict[str, list[bytes]]
+    heads: dict[str, str]
+
     @classmethod
     def setUpClass(cls) -> None:
         super().setUpClass()
         begin(cls.client, cls.key)
-        cls.logs: dict[str, list[bytes]] = {}
-        cls.heads: dict[str, str] = {}
+        cls.logs, cls.heads = {}, {}
         for number, name in enumerate(NAMES):
             with PackageLog() as log:
                 envelopes = cls.logs[name] = []
@@ -166,13 +168,13 @@ class Reading(Served):
             if "link" not in answer.headers:
                 break
             target = answer.headers["link"].partition(">")[0][1:]
-        count = 1 + sum(map(len, self.logs.values()))
+        count = 1 + sum(len(it) for it in self.logs.values())
         self.assertEqual((len(lines), len(set(lines))), (count, count))
         self.assertEqual(self.client.get(f"/v1/leaves?from={count}").body, b"")
         self.assertEqual(self.client.get(f"/v1/leaves?from={count - 1}").body.decode().splitlines(), lines[-1:])
 
     def test_health_and_metrics(self) -> None:
-        count = 1 + sum(map(len, self.logs.values()))
+        count = 1 + sum(len(it) for it in self.logs.values())
         checkpoint_of(self.client, count)
         found = self.client.get("/v1/health").json
         self.assertEqual((found["logLength"], found["checkpointLength"]), (count, count))

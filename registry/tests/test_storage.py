@@ -97,6 +97,31 @@ class States(InFile):
         self.storage.save_state(log.log_id, State(1, "older"))
         self.assertEqual(self.storage.state(log.log_id), State(2, "later"))
 
+    def test_a_state_that_comes_in_between(self) -> None:
+        log, written = log_name(LogKind.PACKAGE, "a:b"), PackageLog()
+        others = self._publisher(self._opened(), state_records=1)
+        its_handles = self.handles
+        self._published(others, log, written, 3)
+        publisher, storage = self._publisher(), self.storage
+        row_of = storage.log
+
+        def overtaken(log_id: str) -> Any:
+            row = row_of(log_id)
+            setattr(storage, "log", row_of)
+            envelope = next_record(written, ALICE, release("8.0.0"))
+            written.append(envelope)
+            others.publish(log, envelope, LATER)
+            its_handles.save(log.kind, log_id)
+            return row
+
+        setattr(storage, "log", overtaken)
+        envelope = package_record(written.head(), ALICE, release("9.0.0"))
+        with self.assertRaises(Problem) as raised:
+            publisher.publish(log, envelope, LATER)
+        self.assertEqual((raised.exception.name, raised.exception.members["head"]), ("NotNext", written.head()))
+        self._published(publisher, log, written, 1)
+        self._stands(log, written)
+
     def test_memory_is_bounded(self) -> None:
         publisher = self._publisher(handle_bytes=5 * 64 * 1024 + 60_000)
         logs = [log_name(LogKind.PACKAGE, f"a:log-x{it}") for it in range(12)]
@@ -147,8 +172,8 @@ class Writers(InFile):
     def test_two_of_one_file(self) -> None:
         log, written = log_name(LogKind.PACKAGE, "a:b"), PackageLog()
         publishers = [self._publisher(), self._publisher(self._opened())]
-        for it in range(10):
-            self._published(publishers[it % 2], log, written, 1)
+        for number in range(10):
+            self._published(publishers[number % 2], log, written, 1)
         self._stands(log, written)
         third = written.record(3)
         assert third
@@ -209,9 +234,9 @@ class Writers(InFile):
         found = [record_id("package", it) for it in self.storage.records(log.log_id, 1, 10**6, 10**9)]
         self.assertEqual(len(found), 36)
         self.assertEqual(sorted(found), sorted(taken))
-        with PackageLog() as log_read:
-            for it in self.storage.records(log.log_id, 0, 10**6, 10**9):
-                log_read.append(it)
+        with PackageLog() as audited:
+            for envelope in self.storage.records(log.log_id, 0, 10**6, 10**9):
+                audited.append(envelope)
 
     def test_a_write_that_fails(self) -> None:
         log, written, publisher = log_name(LogKind.PACKAGE, "a:b"), PackageLog(), self._publisher()
@@ -241,12 +266,12 @@ class Writers(InFile):
 
         def failing(new: NewRecord, judge: Any) -> int:
             judge()
-            self.storage.append = append  # type: ignore[method-assign]
+            setattr(self.storage, "append", append)
             waiting.start()
             time.sleep(0.3)
             raise DiskFull("full")
 
-        self.storage.append = failing  # type: ignore[method-assign]
+        setattr(self.storage, "append", failing)
         self.assertRaises(DiskFull, publisher.publish, log, envelope, LATER)
         waiting.join()
         self.assertEqual(len(taken), 1)
@@ -273,6 +298,10 @@ class Writers(InFile):
             second._replace(place=2), second._replace(log_id="sha256:9"),
         ):
             self.assertRaises(Overtaken, self.storage.append, wrong, lambda: self.fail("it is judged"))
+        # What fails after a part was written leaves nothing.
+        row = self.storage.log("sha256:1")
+        self.assertRaises(StorageError, self.storage.append, second._replace(record_id="sha256:2"), lambda: None)
+        self.assertEqual((self.storage.log("sha256:1"), self.storage.length()), (row, 1))
         self.assertEqual(self.storage.append(second, lambda: None), 1)
         self.assertEqual(self.storage.leaves(0, 9), [("sha256:1", "sha256:2"), ("sha256:1", "sha256:3")])
 
@@ -312,6 +341,9 @@ class Writers(InFile):
         other = self.path.with_name("other")
         other.write_bytes(b"x" * 5000)
         self.assertRaises(StorageError, SqliteStorage, other, 0.1)
+        with self.storage._reading() as file:
+            file.execute("PRAGMA user_version = 2")
+        self.assertRaisesRegex(StorageError, "a later version", SqliteStorage, self.path, 0.1)
 
 
 class Processes(unittest.TestCase):
@@ -372,7 +404,8 @@ class Processes(unittest.TestCase):
             entries = [release(f"{len(heads)}.{it}.0") for it in range(100)]
             if not heads:
                 entries = [records.init(ALICE.public_key)]
-            answer = client.post("/v1/package/a:b/record", package_record(heads[-1] if heads else None, ALICE, *entries))
+            envelope = package_record(heads[-1] if heads else None, ALICE, *entries)
+            answer = client.post("/v1/package/a:b/record", envelope)
             if answer.status == 201:
                 self.assertEqual(answer.json["place"], len(heads))
                 heads.append(answer.json["recordId"])
@@ -389,7 +422,8 @@ class Processes(unittest.TestCase):
         # With room again, all that was acknowledged stands, and it goes on.
         _, client = self._process(settings="checkpoint_seconds = 0.1\n")
         answer = client.get("/v1/package/a:b/records")
-        self.assertEqual((answer.headers["weoldrin-count"], answer.headers["etag"]), (str(len(heads)), f'"{heads[-1]}"'))
+        told = answer.headers["weoldrin-count"], answer.headers["etag"]
+        self.assertEqual(told, (str(len(heads)), f'"{heads[-1]}"'))
         new = client.post("/v1/package/a:b/record", package_record(heads[-1], ALICE, release("999.0.0")))
         self.assertEqual(new.json["place"], len(heads))
         self.assertEqual(new.json["registryIndex"], len(heads) + 1)

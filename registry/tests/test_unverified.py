@@ -130,14 +130,14 @@ class Unverified(unittest.TestCase):
             time.sleep(0.002)
 
             def overtaken(*words: Any) -> None:
-                self.storage.add_checkpoint = add  # type: ignore[method-assign]
+                setattr(self.storage, "add_checkpoint", add)
                 if number == 7:
                     self._publish(8)
                 others.make()
                 add(*words)
 
             number = it
-            self.storage.add_checkpoint = overtaken  # type: ignore[method-assign]
+            setattr(self.storage, "add_checkpoint", overtaken)
             self.made.make()
             with self.made.held() as newest:
                 assert newest

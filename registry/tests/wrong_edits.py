@@ -27,10 +27,7 @@ Wrong = tuple[str, str, str, str]
 WRONG: dict[str, Wrong] = {
     # Publishing
     "any signature belongs": (
-        "publishing.py", "belongs = _belongs(question)", "belongs = True", f"{PUBLISHING}.test_offences"),
-    "an unreadable signature is a failure": (
-        "publishing.py", "except BadArgument:\n        return False", "except ZeroDivisionError:\n        return False",
-        f"{PUBLISHING}.test_offences"),
+        "publishing.py", "belongs = verify(*question)", "belongs = True", f"{PUBLISHING}.test_offences"),
     "a record that is not next is an offence": (
         "publishing.py", "if error.name in _LINKS:", "if False:", f"{PUBLISHING}.test_not_next"),
     "a record that stands is not told": (
@@ -69,7 +66,7 @@ WRONG: dict[str, Wrong] = {
                                       f"{PUBLISHING}.test_policy"),
     # Logs in memory
     "a state is saved each time": (
-        "handles.py", "< max(self._state_records, handle.count // 16)", "< 1",
+        "handles.py", ">= max(self._state_records, handle.count // 16)", ">= 1",
         f"{STATES}.test_they_are_saved_and_gone_on_from"),
     "a state is never saved": (
         "handles.py", "        self._storage.save_state(log_id, state)", "        pass",
@@ -80,6 +77,12 @@ WRONG: dict[str, Wrong] = {
     "a state is not gone on from": (
         "handles.py", 'self._storage.state(log_id) or State(0, "{}")', 'State(0, "{}")',
         f"{STATES}.test_they_are_saved_and_gone_on_from"),
+    "a state is read behind the log's row": (
+        "handles.py", "        state = self._storage.state(log_id) or State(0, \"{}\")\n        row = "
+        "self._storage.log(log_id)\n", "        row = self._storage.log(log_id)\n        state = "
+        "self._storage.state(log_id) or State(0, \"{}\")\n", f"{STATES}.test_a_state_that_comes_in_between"),
+    "a later version's file is taken": (
+        "storage/sqlite.py", "if version > _VERSION:", "if False:", f"{STORAGE}.test_what_is_no_file_of_this"),
     "another head is taken": ("handles.py", "if handle.head != (", "if False and (", f"{STATES}.test_what_is_damaged"),
     "logs in memory are not bounded": (
         "handles.py", "while size > self._most_bytes", "while False", f"{STATES}.test_memory_is_bounded"),
@@ -99,13 +102,15 @@ WRONG: dict[str, Wrong] = {
         'file.execute("COMMIT")\n                    raise', f"{STORAGE}.test_append_is_exact"),
     "a leaf is written outside": (
         "storage/sqlite.py", 'file.execute("INSERT INTO leaves VALUES (?, ?, ?)", (leaf, log, new.record_id))',
-        'file.execute("INSERT INTO leaves VALUES (?, ?, ?)", (leaf, log, new.record_id)); file.execute("COMMIT"); '
-        '__import__("time").sleep(0.01); file.execute("BEGIN")', "test_kills.Killed.test_all"),
+        'file.execute("INSERT INTO leaves VALUES (?, ?, ?)", (leaf, log, new.record_id))\n'
+        '            file.execute("COMMIT"); __import__("time").sleep(0.01); file.execute("BEGIN")',
+        "test_kills.Killed.test_all"),
     "an acknowledged record may be lost": (
         "registry.py", "new = self.publisher.publish(log, envelope, self.checkpoints.now())",
         "new = self.publisher.publish(log, envelope, self.checkpoints.now())\n"
-        "        if new.leaf % 9 == 8:\n            import sqlite3\n            with sqlite3.connect(self.settings.database) "
-        "as file:\n                file.execute('DELETE FROM leaves WHERE leaf = ?', (new.leaf,))",
+        "        if new.leaf % 9 == 8:\n            import sqlite3\n"
+        "            with sqlite3.connect(self.settings.database) as file:\n"
+        "                file.execute('DELETE FROM leaves WHERE leaf = ?', (new.leaf,))",
         "test_kills.Killed.test_all"),
     "answers have any bytes": (
         "storage/sqlite.py", "if found and size > most_bytes:", "if False:", f"{READING}.test_the_bytes_of_an_answer"),
@@ -279,7 +284,8 @@ def seen_by(wrong: Wrong) -> str:
             return "it does not end"
     if done.returncode == 0:
         return ""
-    lines = [it for it in done.stderr.decode(errors="replace").splitlines() if re.match(r"[\w.]*(?:Error|NotAsSaid)", it)]
+    said = done.stderr.decode(errors="replace").splitlines()
+    lines = [it for it in said if re.match(r"[\w.]*(?:Error|NotAsSaid)", it)]
     return lines[-1][:200] if lines else "it fails"
 
 

@@ -89,7 +89,7 @@ class Checkpoints:
             newest = self._current()
             since = time.monotonic() - self._seen_at
             is_paused = time.monotonic() < self._paused_until
-            if self._signer is None or since < self._settings.checkpoint_seconds or is_paused or not self._may_sign():
+            if since < self._settings.checkpoint_seconds or is_paused or not self.may_sign():
                 return newest
             is_old = newest is None or since >= self._settings.renew_seconds
             length, last = self._storage.length(), self._newest
@@ -112,6 +112,13 @@ class Checkpoints:
     def is_due(self) -> bool:
         """Whether the last one was seen so long ago that another may be made."""
         return time.monotonic() - self._seen_at >= self._settings.checkpoint_seconds
+
+    def may_sign(self) -> bool:
+        """Whether there is a key, and the operator log lets it sign, as it stands now."""
+        if self._signer is None:
+            return False
+        with self._operators() as log:
+            return log.holds(self._signer.key_id, "commit")
 
     def now(self) -> float:
         """The time in seconds since 1970, which is never before that of the newest checkpoint."""
@@ -150,12 +157,6 @@ class Checkpoints:
     def _is_signed(self, it: SignedCheckpoint) -> bool:
         with self._operators() as log:
             return log.verify_checkpoint(it.contents, it.key_id, it.signature)
-
-    def _may_sign(self) -> bool:
-        """Whether the operator log lets the key sign, as it stands now."""
-        assert self._signer
-        with self._operators() as log:
-            return log.holds(self._signer.key_id, "commit")
 
     @contextmanager
     def _operators(self) -> Iterator[OperatorLog]:

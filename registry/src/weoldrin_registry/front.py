@@ -76,9 +76,10 @@ class Front:
             await self._app(scope, receive, send)
             return
         began, status, size = time.perf_counter(), _NO_STATUS, 0
+        ended: float | None = None
 
         async def sent(message: Message) -> None:
-            nonlocal status, size
+            nonlocal status, size, ended
             if message["type"] == "http.response.start":
                 status = message["status"]
                 if status >= 400 and any(name == b"expect" for name, _ in scope["headers"]):
@@ -86,6 +87,8 @@ class Front:
                     message["headers"] = [*message["headers"], (b"connection", b"close")]
             size += len(message.get("body", b""))
             await send(message)
+            # What is done behind the answer is no part of its time.
+            ended = time.perf_counter()
 
         try:
             _check(scope)
@@ -99,7 +102,7 @@ class Front:
             # It was answered where it was raised.
             tell_error(error)
         finally:
-            self._note(scope, status, size, time.perf_counter() - began)
+            self._note(scope, status, size, (ended or time.perf_counter()) - began)
 
     def _note(self, scope: Scope, status: int, size: int, seconds: float) -> None:
         """Counts a request, and prints its line."""

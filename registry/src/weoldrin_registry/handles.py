@@ -82,16 +82,25 @@ class Handles:
         A greater log is saved more seldom, so that a record costs as much of a state in any log.
         """
         with self.used(kind, log_id) as handle:
-            if handle.count - handle.saved < max(self._state_records, handle.count // 16):
+            if not self._is_due(handle):
                 return
             state = State(handle.count, handle.log.to_json())
             handle.saved, handle.bytes = state.length, _MEMORY_A_LOG + _MEMORY_A_BYTE * len(state.text)
         self._storage.save_state(log_id, state)
 
+    def is_due(self, log_id: str) -> bool:
+        """Whether a log's state is to be saved anew."""
+        with self._guard:
+            handle = self._kept.get(log_id)
+        return handle is not None and self._is_due(handle)
+
     def size(self) -> tuple[int, int]:
         """How many handles there are, and how many bytes they may take."""
         with self._guard:
             return len(self._kept), sum(it.bytes for it in self._kept.values())
+
+    def _is_due(self, handle: Handle) -> bool:
+        return handle.count - handle.saved >= max(self._state_records, handle.count // 16)
 
     def _found(self, kind: LogKind, log_id: str) -> Handle:
         with self._guard:
@@ -106,7 +115,9 @@ class Handles:
 
     def _resumed(self, kind: LogKind, log_id: str) -> Handle:
         """A handle that goes on from the saved state, with the records behind it."""
-        row, state = self._storage.log(log_id), self._storage.state(log_id) or State(0, "{}")
+        # In this order: a state that is read later may be of records that the row does not have yet.
+        state = self._storage.state(log_id) or State(0, "{}")
+        row = self._storage.log(log_id)
         try:
             handle = Handle(class_of(kind).from_json(state.text), log_id, state)
         except Error as error:

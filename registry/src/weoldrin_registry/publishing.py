@@ -103,7 +103,7 @@ class Publisher:
         facts = envelopes.facts(envelope)
         self._check_policy(log, facts, row is None, now)
         # No lock is held: a signature takes its time.
-        belongs = _belongs(question)
+        belongs = verify(*question)
         with self._handles.used(log.kind, log.log_id) as handle:
             # By an answer that says no, the library says what is wrong.
             if not belongs:
@@ -174,14 +174,6 @@ class Publisher:
         if standing is not None:
             members["published"] = Published(sent, log.log_id, *standing).members()
         return Problem(HTTPStatus.CONFLICT, "NotNext", "the record does not go on from the log's head", **members)
-
-
-def _belongs(question: SignatureCheck) -> bool:
-    """Whether the signature belongs. A text that can't be read belongs to nothing."""
-    try:
-        return verify(*question)
-    except BadArgument:
-        return False
 
 
 def no_log() -> Problem:

@@ -44,6 +44,8 @@ class Registry:
         """Makes the trees, and has checkpoints made from then on. Raises a `StorageError` where what is stored is not
         what was written."""
         self.checkpoints.current()
+        if not self.checkpoints.may_sign():
+            tell("no checkpoints are made: there is no key, or the operator log does not let it sign")
         self._keeper.start()
 
     def stop(self) -> None:

@@ -35,7 +35,8 @@ async def _published(request: Request, log: LogName) -> Response:
     if newest is not None:
         members["checkpoint"] = checkpoint_json(newest.text)
     response = json_answer(members, 201, {"Location": f"{request.scope['path']}s?from={new.place}"})
-    response.background = BackgroundTask(registry.saved, log)
+    if registry.handles.is_due(log.log_id):
+        response.background = BackgroundTask(registry.saved, log)
     return response
 
 

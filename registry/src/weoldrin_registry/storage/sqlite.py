@@ -10,7 +10,9 @@ from contextlib import contextmanager
 
 from . import PACKAGE, DiskFull, Locked, LogRow, NewRecord, Overtaken, Place, State, StorageError
 
-_TABLES = """
+# The version of these tables.
+_VERSION = 1
+_TABLES = f"""
 CREATE TABLE IF NOT EXISTS logs (
     id INTEGER PRIMARY KEY, log_id TEXT NOT NULL UNIQUE, kind TEXT NOT NULL, name TEXT NOT NULL, head TEXT NOT NULL,
     head_time INTEGER NOT NULL, count INTEGER NOT NULL, founder TEXT NOT NULL, UNIQUE (kind, name)
@@ -27,6 +29,7 @@ CREATE TABLE IF NOT EXISTS states (
     log INTEGER PRIMARY KEY REFERENCES logs, count INTEGER NOT NULL, text TEXT NOT NULL
 );
 CREATE TABLE IF NOT EXISTS checkpoints (length INTEGER PRIMARY KEY, text TEXT NOT NULL, renewed TEXT NOT NULL);
+PRAGMA user_version = {_VERSION};
 """
 _LOG = "SELECT log_id, kind, name, head, head_time, count FROM logs"
 
@@ -48,6 +51,9 @@ class SqliteStorage:
         # Writers of this process wait here, where nobody has to look again and again whether the lock is free.
         self._writer = threading.Lock()
         with self._reading() as file:
+            (version,) = file.execute("PRAGMA user_version").fetchone()
+            if version > _VERSION:
+                raise StorageError(f"{path} was written by a later version of this program")
             file.executescript(_TABLES)
 
     def close(self) -> None:
