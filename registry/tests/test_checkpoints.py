@@ -96,8 +96,8 @@ class Proofs(Served):
             kept = self.client.get(f"/v1/checkpoint/{old.log_length}")
             self.assertIn("immutable", kept.headers["cache-control"])
             self.assertEqual(signed(kept.json).contents, old)
-            told = self.client.get(f"/v1/checkpoint/{old.log_length}", If_None_Match=kept.headers["etag"])
-            self.assertEqual(told.status, 304)
+            same = self.client.get(f"/v1/checkpoint/{old.log_length}", If_None_Match=kept.headers["etag"])
+            self.assertEqual(same.status, 304)
             if old != newest:
                 for target in (f"consistency?from=0&to={old.log_length}", f"inclusion?leaf=0&length={old.log_length}",
                                f"map?log={OPERATOR}&length={old.log_length}"):

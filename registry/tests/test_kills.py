@@ -21,6 +21,7 @@ from .test_checkpoints import operator_log, signed
 
 KILLS = int(os.environ.get("WEOLDRIN_KILLS", "6"))
 PUBLISHERS = 4
+SETTINGS = "checkpoint_seconds = 0.05\nstate_records = 8\n"
 # A log that two of them share, so that each is overtaken by the other.
 SHARED = "shared:log"
 
@@ -41,13 +42,15 @@ class Publisher(threading.Thread):
         try:
             count = 0
             while not self._killed.has_ended.is_set():
+                client = Client(self._killed.port, 10)
                 try:
-                    client = Client(self._killed.port, 10)
                     while not self._killed.has_ended.is_set():
                         count += 1
                         self._publish(client, self._random.choice(self._names), f"{count}.{self._number}.0")
                 except (OSError, http.client.HTTPException):
                     time.sleep(0.02)
+                finally:
+                    client.close()
         except BaseException as error:
             self.error = error
 
@@ -82,7 +85,9 @@ class Publisher(threading.Thread):
 class Killed(unittest.TestCase):
     """What stands in the end."""
 
+    KILLS = KILLS
     port = 0
+    database = ""
 
     def setUp(self) -> None:
         self._folder = tempfile.TemporaryDirectory()
@@ -92,17 +97,19 @@ class Killed(unittest.TestCase):
         self.has_ended, self.seen = threading.Event(), list[Checkpoint]()
 
     def _begin(self) -> Process:
-        process = Process(self.folder, settings="checkpoint_seconds = 0.05\nstate_records = 8\n")
+        process = Process(self.folder, settings=SETTINGS, database=self.database)
         self.port = process.port
         return process
 
     def test_all(self) -> None:
         chosen, process = random.Random(1), self._begin()
-        begin(process.client(), self.key)
+        client = process.client()
+        begin(client, self.key)
+        client.close()
         publishers = [Publisher(it, self) for it in range(PUBLISHERS)]
         for it in publishers:
             it.start()
-        for _ in range(KILLS):
+        for _ in range(self.KILLS):
             time.sleep(chosen.uniform(0.1, 1.5))
             self._look()
             process.kill()
@@ -132,7 +139,7 @@ class Killed(unittest.TestCase):
         newest = signed(checkpoint_of(client, len(leaves)))
         its_log = operator_log(client)
         self.assertTrue(its_log.verify_checkpoint(newest.contents, newest.key_id, newest.signature))
-        self.assertGreater(len(acknowledged), KILLS)
+        self.assertGreater(len(acknowledged), self.KILLS)
         ids = {name: self._ids(client, name) for name in {name for name, *_ in acknowledged}}
         for name, its_id, place, index in acknowledged:
             self.assertEqual(ids[name][place], its_id)
@@ -146,7 +153,7 @@ class Killed(unittest.TestCase):
             proof = client.get(f"/v1/proof/consistency?from={old.log_length}").json["proof"]
             ends = (old.log_length, old.log_root, newest.contents.log_length, newest.contents.log_root)
             self.assertTrue(verify_consistency(*ends, proof))
-        print(f"{KILLS} kills, {len(acknowledged)} acknowledged records, {len(self.seen)} checkpoints seen")
+        print(f"{self.KILLS} kills, {len(acknowledged)} acknowledged records, {len(self.seen)} checkpoints seen")
 
     def _leaves(self, client: Client) -> list[str]:
         found: list[str] = []

@@ -45,8 +45,8 @@ class Publishing(Served):
         self.assertEqual(self.refused(told, 409, "NotNext")["published"]["place"], 0)
         others: dict[str, object] = dict(value)
         wrong: list[object] = [
-            {**others, "keyId": 7}, {**value, "contentBytes": "a"}, {**value, "contentBytes": "é"}, [], None, 7,
-            {"contentBytes": value["contentBytes"]}, {**value, "signature": "\ud800"},
+            others | {"keyId": 7}, others | {"contentBytes": "a"}, others | {"contentBytes": "é"}, [], None, 7,
+            {"contentBytes": others["contentBytes"]}, others | {"signature": "\ud800"},
         ]
         for it in wrong:
             answer = self.client.asked("POST", "/v1/package/a:json2/record", json.dumps(it).encode(), JSON)
@@ -55,7 +55,7 @@ class Publishing(Served):
             self.refused(self.client.asked("POST", "/v1/package/a:json2/record", data, JSON), 400, "BadBody")
 
     def test_other_types(self) -> None:
-        for headers in ({}, {"Content-Type": "text/plain"}, {"Content-Type": ""}):
+        for headers in (None, {"Content-Type": "text/plain"}, {"Content-Type": ""}):
             answer = self.client.asked("POST", "/v1/package/a:type/record", b"\0", headers)
             self.refused(answer, 415, "UnknownType")
         envelope = package_record(None, ALICE, records.init(ALICE.public_key))

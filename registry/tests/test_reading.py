@@ -131,7 +131,7 @@ class Reading(Served):
     def test_fetching_wrongly(self) -> None:
         other = log_id("package", "a:none")
         for wrong in (
-            [], {}, {"logs": []}, {"logs": {other: -1}}, {"logs": {other: 1.0}}, {"logs": {other: True}},
+            [], {}, {"logs": []}, {"logs": {other: -1}}, {"logs": {other: 1.0}}, {"logs": {other: True}}, {"logs": {other: "1"}},
             {"logs": {other: 2**63}}, {"logs": {"x": 0}}, {"logs": {other.upper(): 0}}, {"logs": {}, "x": 1},
         ):
             answer = self.client.asked("POST", "/v1/fetch/logs", json.dumps(wrong).encode(), JSON)
@@ -197,7 +197,7 @@ class Reading(Served):
         self.refused(self.client.get(f"/v1/names?prefix={'a' * 129}"), 400, "BadQuery")
         self.refused(self.client.get("/v1/names?prefix=%00"), 400, "BadQuery")
         self.refused(self.client.get("/v1/names?" + "&".join("a=b" for _ in range(100))), 400, "BadQuery")
-        for number in ("", "-1", "+1", "1.0", "x", "%C2%B2", str(2**63), "9" * 5000, "1_0", "%201"):
+        for number in ("", "-1", "+1", "1.0", "x", "%C2%B2", "%D9%A3", str(2**63), "9" * 5000, "1_0", "%201"):
             for target in ("/v1/leaves", f"/v1/package/{NAMES[0]}/records"):
                 self.refused(self.client.get(f"{target}?from={number}"), 400, "BadQuery")
         for target in ("/v1/health", "/v1/metrics", "/v1/checkpoint"):

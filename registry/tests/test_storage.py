@@ -14,7 +14,7 @@ from weoldrin_registry.handles import Damaged, Handles
 from weoldrin_registry.problems import Problem
 from weoldrin_registry.publishing import LogName, Publisher, log_name
 from weoldrin_registry.settings import Settings
-from weoldrin_registry.storage import DiskFull, Locked, NewRecord, Overtaken, State, StorageError
+from weoldrin_registry.storage import DiskFull, Locked, NewRecord, Overtaken, State, Storage, StorageError
 from weoldrin_registry.storage.sqlite import SqliteStorage
 
 from .served import START, Client, Key, Process, begin, checkpoint_of, new_key, next_record, package_record, release
@@ -33,12 +33,12 @@ class InFile(unittest.TestCase):
         self.path = pathlib.Path(self._folder.name) / "logs.sqlite"
         self.storage = self._opened()
 
-    def _opened(self) -> SqliteStorage:
+    def _opened(self) -> Storage:
         storage = SqliteStorage(self.path, 0.3)
         self.addCleanup(storage.close)
         return storage
 
-    def _publisher(self, storage: SqliteStorage | None = None, **settings: Any) -> Publisher:
+    def _publisher(self, storage: Storage | None = None, **settings: Any) -> Publisher:
         its_settings = Settings(**settings)
         its_storage = storage or self.storage
         self.handles = Handles(its_storage, its_settings.handle_bytes, its_settings.state_records)
@@ -279,7 +279,7 @@ class Writers(InFile):
         self._stands(log, written)
 
     def test_it_waits_for_the_disk(self) -> None:
-        with self.storage._reading() as file:
+        with SqliteStorage(self.path, 0.3)._reading() as file:
             self.assertEqual(file.execute("PRAGMA synchronous").fetchone(), (2,))
             self.assertEqual(file.execute("PRAGMA journal_mode").fetchone(), ("wal",))
 
@@ -341,13 +341,15 @@ class Writers(InFile):
         other = self.path.with_name("other")
         other.write_bytes(b"x" * 5000)
         self.assertRaises(StorageError, SqliteStorage, other, 0.1)
-        with self.storage._reading() as file:
+        with sqlite3.connect(self.path) as file:
             file.execute("PRAGMA user_version = 2")
         self.assertRaisesRegex(StorageError, "a later version", SqliteStorage, self.path, 0.1)
 
 
 class Processes(unittest.TestCase):
     """Registries of one file, and of a disk that is full."""
+
+    database = ""
 
     def setUp(self) -> None:
         self._folder = tempfile.TemporaryDirectory()
@@ -356,7 +358,7 @@ class Processes(unittest.TestCase):
         self.key = new_key(self.folder)
 
     def _process(self, **kept: Any) -> tuple[Process, Client]:
-        process = Process(self.folder, **kept)
+        process = Process(self.folder, database=self.database, **kept)
         self.addCleanup(process.stop)
         client = process.client()
         self.addCleanup(client.close)

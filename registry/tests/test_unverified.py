@@ -109,6 +109,20 @@ class Unverified(unittest.TestCase):
         self.made._paused_until = time.monotonic()
         self.assertEqual(self._make().length, 6)
 
+    def test_how_often(self) -> None:
+        slower = Checkpoints(self.storage, self.handles, Settings(checkpoint_seconds=0.4), Signer(self.key))
+        slower.current()
+        began, before = time.monotonic(), 5
+        for it in range(5, 12):
+            self._publish(it)
+            made = slower.make()
+            assert made
+            if made.length != before:
+                self.assertGreaterEqual(time.monotonic() - began, 0.4)
+                began, before = time.monotonic(), made.length
+            time.sleep(0.1)
+        self.assertGreater(before, 5)
+
     def test_another_process(self) -> None:
         others = Checkpoints(self.storage, self.handles, self.settings, Signer(self.key))
         for it in range(5, 11):
@@ -144,6 +158,28 @@ class Unverified(unittest.TestCase):
                 self.assertEqual(newest.length, {5: 6, 7: 8}[it])
                 self.made.inclusion(newest, newest.length - 1)
             self.assertEqual(self.made.current(), others.current())
+
+    def test_another_process_with_fewer_leaves(self) -> None:
+        others = Checkpoints(self.storage, self.handles, self.settings, Signer(self.key))
+        others.current()
+        self._publish(5)
+        self._publish(6)
+        time.sleep(0.002)
+        add = self.storage.add_checkpoint
+
+        def overtaken(*words: Any) -> None:
+            setattr(self.storage, "add_checkpoint", add)
+            others._make(6)
+            add(*words)
+
+        setattr(self.storage, "add_checkpoint", overtaken)
+        made = self.made.make()
+        assert made
+        self.assertEqual((made.length, self.made.current()), (7, others.current()))
+        self.assertIsNotNone(self.storage.checkpoint(6))
+        with self.made.held() as newest:
+            assert newest
+            self.assertIsNotNone(self.made.consistency(newest, 6))
 
 
 if __name__ == "__main__":

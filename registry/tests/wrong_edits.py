@@ -138,7 +138,7 @@ WRONG: dict[str, Wrong] = {
     # Checkpoints
     "checkpoints are made as often as records": (
         "checkpoints.py", "since < self._settings.checkpoint_seconds or is_paused", "is_paused",
-        f"{UNVERIFIED}.test_another_process"),
+        "test_unverified.Unverified.test_how_often"),
     "times go back": (
         "checkpoints.py", "max(int(time.time()), last)", "int(time.time())", f"{KEYS}.test_times_never_go_back"),
     "the clock goes back": (
@@ -174,7 +174,8 @@ WRONG: dict[str, Wrong] = {
         "text = self._newest.text if self._newest else self._storage.newest()\n        if text is None:",
         f"{UNVERIFIED}.test_another_process"),
     "a checkpoint that was overtaken breaks off": (
-        "checkpoints.py", "if before.length >= length:", "if True:", f"{UNVERIFIED}.test_another_process_in_between"),
+        "checkpoints.py", "if before.length >= length:", "if True:",
+        f"{UNVERIFIED}.test_another_process_with_fewer_leaves"),
     "the log goes on from any length": (
         "checkpoints.py", "if first > newest.length or (first > 0 and text is None):", "if first > newest.length:",
         PROOFS),
@@ -199,7 +200,7 @@ WRONG: dict[str, Wrong] = {
     "any number of logs is asked for": (
         "routes/records.py", "if len(asked) > settings.fetch_logs:", "if False:",
         f"{READING}.test_fetching_wrongly"),
-    "a yes is a number": ("routes/records.py", "type(count) is not int or", "", f"{READING}.test_fetching_wrongly"),
+    "a text is a number": ("routes/records.py", "type(count) is not int or", "", f"{READING}.test_fetching_wrongly"),
     "words may stand twice": (
         "routes/words.py", "len(found) != len(pairs) or not", "not", f"{READING}.test_wrong_queries"),
     "other words are passed over": (
