@@ -2,6 +2,7 @@
 
 import functools
 import os
+import pathlib
 import re
 import shutil
 import subprocess
@@ -78,6 +79,13 @@ def has_registry() -> bool:
     return registry_interpreter() is not None
 
 
+def has_postgres() -> bool:
+    """Whether there is a server of PostgreSQL, and that Python reaches it."""
+    python = registry_interpreter()
+    is_served = any(pathlib.Path("/usr/lib/postgresql").glob("*/bin/initdb"))
+    return is_served and python is not None and succeeds(python, "-c", "import psycopg")
+
+
 def has_python() -> bool:
     """Whether there is an interpreter for each test of Python."""
     return None not in interpreters()
@@ -117,6 +125,8 @@ NEEDED: dict[str, Callable[[], object]] = {
     "python3-prometheus-client": has_registry,
     "python3-jsonschema": has_registry,
     "python3-yaml": has_registry,
+    "python3-psycopg": has_postgres,
+    "postgresql": has_postgres,
     "golang-go": has_go,
     "cmake": lambda: shutil.which("cmake"),
     "binutils": lambda: shutil.which("readelf"),
