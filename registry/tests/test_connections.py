@@ -2,7 +2,6 @@
 
 import json
 import socket
-import statistics
 import time
 import unittest
 
@@ -19,6 +18,7 @@ class Raw:
 
     def __init__(self, port: int) -> None:
         self.socket = socket.create_connection(("127.0.0.1", port), timeout=30)
+        self.head = b""
 
     def send(self, data: bytes) -> None:
         """Sends bytes."""
@@ -33,6 +33,7 @@ class Raw:
             lines = [it.partition(b":") for it in head.split(b"\r\n")]
             length = next((int(value) for name, _, value in lines if name.lower() == b"content-length"), 0)
             if end and len(rest) >= length:
+                self.head = head.lower()
                 found.append((int(head.split(b" ")[1]), rest[:length]))
                 data = rest[length:]
                 continue
@@ -62,7 +63,7 @@ class Connections(Served):
 
     SETTINGS = (
         "checkpoint_seconds = 0.1\nbody_seconds = 1.5\nhead_seconds = 1.5\nidle_seconds = 1\nanswer_seconds = 1.5\n"
-        "connections = 20\nbody_bytes = 300_000\nanswer_bytes = 50_000_000\n"
+        "body_bytes = 300_000\nanswer_bytes = 50_000_000\n"
     )
 
     def setUp(self) -> None:
@@ -127,11 +128,12 @@ class Connections(Served):
     def test_a_long_body_is_told_so(self) -> None:
         for path in ("/v1/package/a:b/record", "/v1/nothing", "/v1/fetch/logs"):
             status = 404 if path.endswith("nothing") else 413
-            self.assertEqual(self.client.asked("POST", path, bytes(20_000_000), PROTOBUF).status, status)
+            self.assertEqual(self.client.asked("POST", path, bytes(4_000_000), PROTOBUF).status, status)
         raw = self._raw()
         head = b"POST /v1/operator/record HTTP/1.1\r\nHost: x\r\n"
         raw.send(head + b"Content-Length: 300001\r\nExpect: 100-continue\r\n\r\n")
         self.assertEqual([it for it, _ in raw.answers()], [413])
+        self.assertIn(b"\r\nconnection: close", raw.head)
         self.assertTrue(raw.ends(3))
 
     def test_slow_bodies(self) -> None:
@@ -144,6 +146,7 @@ class Connections(Served):
         [(status, body)] = raw.answers()
         self.assertEqual((status, json.loads(body)["name"]), (408, "TooSlow"))
         self.assertLess(time.monotonic() - began, 6)
+        self.assertIn(b"\r\nconnection: close", raw.head)
         self.assertTrue(raw.ends(3))
         # A body that no route reads.
         raw = self._raw()
@@ -155,6 +158,29 @@ class Connections(Served):
                 raw.send(b"x" * 1000)
                 time.sleep(0.05)
         self.assertLess(time.monotonic() - began, 6)
+
+    def test_behind_a_body_that_nobody_reads(self) -> None:
+        for ending in (b"", HEALTH):
+            raw = self._raw()
+            raw.send(b"POST /v1/nothing HTTP/1.1\r\nHost: x\r\nContent-Length: 100000\r\n\r\n" + bytes(50_000))
+            self.assertEqual([it for it, _ in raw.answers()], [404])
+            time.sleep(0.3)
+            raw.send(bytes(50_000) + ending)
+            self.assertEqual([it for it, _ in raw.answers(1 if ending else 0)], [200] if ending else [])
+            # Nothing is said that would be taken for an answer to the next request.
+            self.assertTrue(raw.ends(5))
+
+    def test_requests_behind_a_long_body(self) -> None:
+        raw = self._raw()
+        raw.send(b"POST /v1/nothing HTTP/1.1\r\nHost: x\r\nContent-Length: 10\r\n\r\n")
+        self.assertEqual([it for it, _ in raw.answers()], [404])
+        raw.send(bytes(10))
+        time.sleep(0.8)
+        raw.send(b"GET /v1/health HTTP/1.1\r\nHo")
+        # Longer than the body had left.
+        time.sleep(1)
+        raw.send(b"st: x\r\n\r\n")
+        self.assertEqual([it for it, _ in raw.answers()], [200])
 
     def test_slow_heads_and_idle_connections(self) -> None:
         raw = self._raw()
@@ -190,6 +216,66 @@ class Connections(Served):
             raw.send(HEALTH)
             self.assertEqual([it for it, _ in raw.answers()], [200])
 
+    def test_readers_that_read_nothing(self) -> None:
+        head = None
+        for place in range(40):
+            entries = [release(f"{place}.{it}.0") for it in range(2000)] if head else [records.init(ALICE.public_key)]
+            answer = self.client.post("/v1/package/a:great/record", package_record(head, ALICE, *entries))
+            head = self.published(answer)["recordId"]
+        raw = self._raw()
+        raw.socket.setsockopt(socket.SOL_SOCKET, socket.SO_RCVBUF, 4096)
+        raw.send(b"GET /v1/package/a:great/records HTTP/1.1\r\nHost: x\r\n\r\n")
+        time.sleep(6)
+        size = 0
+        with self.assertRaises(OSError):
+            while (part := raw.socket.recv(65536)) or size < 5_000_000:
+                size += len(part)
+                if not part:
+                    raise OSError("it has ended")
+        self.assertLess(size, 5_000_000)
+
+    def test_an_answer_is_not_held_back(self) -> None:
+        times, client = [], self.process.client()
+        self.addCleanup(client.close)
+        for _ in range(41):
+            began = time.perf_counter()
+            client.get("/v1/health")
+            times.append(time.perf_counter() - began)
+        # What waits for the other end to say that it got something takes 40 ms, but for the first few.
+        self.assertLess(min(times[20:]), 0.03)
+
+    def test_lines(self) -> None:
+        raw = self._raw()
+        raw.send(b"GET /v1/names?prefix=%0A%1B[31m HTTP/1.1\r\nHost: x\r\n\r\n")
+        raw.answers()
+        hostile = records.contents(None, 1, [records.init("\x1b[31m\nfake line")])
+        self.client.post("/v1/package/a:lines/record", records.envelope(hostile, "\x1b[2J\n", "x:AAAA"))
+        self.client.post("/v1/package/a:lines/record", package_record(None, ALICE, records.init("a\nb")))
+        self.client.get("/v1/package/%0Afake%1B/records")
+        raw = self._raw()
+        raw.send(b"\x1b]0;x\x07\n\nfake\r\n\r\n")
+        raw.answers()
+        time.sleep(0.3)
+        text = self.process.lines.read_bytes()
+        self.assertNotIn(b"\x1b", text)
+        for line in text.decode().splitlines():
+            self.assertRegex(line, r"^\d{4}-\d\d-\d\dT\d\d:\d\d:\d\d\.\d{6}Z .")
+        for end in (r"/v1/names\?prefix=%0A%1B\[31m 200 \d+ [0-9.]+ -",
+                    r"/v1/package/%0Afake%1B/records 400 \d+ [0-9.]+ BadName"):
+            self.assertRegex(text.decode(), rf"(?m)127\.0\.0\.1:\d+ GET {end}$")
+        self.assertNotIn("Traceback", text.decode())
+
+
+class Crowds(Served):
+    """A registry that serves few connections at once."""
+
+    SETTINGS = "connections = 20\n"
+
+    def _raw(self) -> Raw:
+        raw = Raw(self.process.port)
+        self.addCleanup(raw.close)
+        return raw
+
     def test_many_connections(self) -> None:
         raws = [self._raw() for _ in range(30)]
         statuses = []
@@ -216,56 +302,9 @@ class Connections(Served):
         for it in raws:
             it.close()
         time.sleep(0.5)
-        self.assertEqual(self.client.get("/v1/health").status, 200)
-
-    def test_readers_that_read_nothing(self) -> None:
-        head = None
-        for place in range(40):
-            entries = [release(f"{place}.{it}.0") for it in range(2000)] if head else [records.init(ALICE.public_key)]
-            answer = self.client.post("/v1/package/a:great/record", package_record(head, ALICE, *entries))
-            head = self.published(answer)["recordId"]
         raw = self._raw()
-        raw.socket.setsockopt(socket.SOL_SOCKET, socket.SO_RCVBUF, 4096)
-        raw.send(b"GET /v1/package/a:great/records HTTP/1.1\r\nHost: x\r\n\r\n")
-        time.sleep(6)
-        size = 0
-        with self.assertRaises(OSError):
-            while (part := raw.socket.recv(65536)) or size < 5_000_000:
-                size += len(part)
-                if not part:
-                    raise OSError("it has ended")
-        self.assertLess(size, 5_000_000)
-
-    def test_an_answer_is_not_held_back(self) -> None:
-        times, client = [], self.process.client()
-        self.addCleanup(client.close)
-        for _ in range(41):
-            began = time.perf_counter()
-            client.get("/v1/health")
-            times.append(time.perf_counter() - began)
-        # What waits for the other end to say that it got something takes 40 ms.
-        self.assertLess(statistics.quantiles(times, n=4)[0], 0.03)
-
-    def test_lines(self) -> None:
-        raw = self._raw()
-        raw.send(b"GET /v1/names?prefix=%0A%1B[31m HTTP/1.1\r\nHost: x\r\n\r\n")
-        raw.answers()
-        hostile = records.contents(None, 1, [records.init("\x1b[31m\nfake line")])
-        self.client.post("/v1/package/a:lines/record", records.envelope(hostile, "\x1b[2J\n", "x:AAAA"))
-        self.client.post("/v1/package/a:lines/record", package_record(None, ALICE, records.init("a\nb")))
-        self.client.get("/v1/package/%0Afake%1B/records")
-        raw = self._raw()
-        raw.send(b"\x1b]0;x\x07\n\nfake\r\n\r\n")
-        raw.answers()
-        time.sleep(0.3)
-        text = self.process.lines.read_bytes()
-        self.assertNotIn(b"\x1b", text)
-        for line in text.decode().splitlines():
-            self.assertRegex(line, r"^\d{4}-\d\d-\d\dT\d\d:\d\d:\d\d\.\d{6}Z .")
-        for end in (r"/v1/names\?prefix=%0A%1B\[31m 200 \d+ [0-9.]+ -",
-                    r"/v1/package/%0Afake%1B/records 400 \d+ [0-9.]+ BadName"):
-            self.assertRegex(text.decode(), rf"(?m)127\.0\.0\.1:\d+ GET {end}$")
-        self.assertNotIn("Traceback", text.decode())
+        raw.send(HEALTH)
+        self.assertEqual([it for it, _ in raw.answers()], [200])
 
 
 if __name__ == "__main__":

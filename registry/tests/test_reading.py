@@ -131,7 +131,8 @@ class Reading(Served):
     def test_fetching_wrongly(self) -> None:
         other = log_id("package", "a:none")
         for wrong in (
-            [], {}, {"logs": []}, {"logs": {other: -1}}, {"logs": {other: 1.0}}, {"logs": {other: True}}, {"logs": {other: "1"}},
+            [], {}, {"logs": []}, {"logs": {other: -1}}, {"logs": {other: 1.0}}, {"logs": {other: True}},
+            {"logs": {other: "1"}},
             {"logs": {other: 2**63}}, {"logs": {"x": 0}}, {"logs": {other.upper(): 0}}, {"logs": {}, "x": 1},
         ):
             answer = self.client.asked("POST", "/v1/fetch/logs", json.dumps(wrong).encode(), JSON)

@@ -43,7 +43,8 @@ class AsDefined(unittest.TestCase):
             for place in range(index + 1):
                 proof = trees.inclusion(place)
                 self.assertEqual(proof, BY.text_of(BY.inclusion(place, hashes)))
-                self.assertTrue(verify_inclusion(leaves[place][0], leaves[place][1], place, index + 1, roots[-1], proof))
+                its_log, its_record = leaves[place]
+                self.assertTrue(verify_inclusion(its_log, its_record, place, index + 1, roots[-1], proof))
             for first in range(index + 2):
                 proof = trees.consistency(first)
                 self.assertEqual(proof, BY.text_of(BY.consistency(first, hashes)))

@@ -238,19 +238,27 @@ WRONG: dict[str, Wrong] = {
     # Connections
     "there may be any number of connections": (
         "protocol.py", "if len(self.connections) > settings.connections:", "if False:",
-        f"{CONNECTIONS}.test_many_connections"),
+        "test_connections.Crowds.test_many_connections"),
     "all connections are kept": (
         "protocol.py", "if len(self.connections) > 2 * settings.connections:", "if False:",
-        f"{CONNECTIONS}.test_far_too_many_connections"),
+        "test_connections.Crowds.test_far_too_many_connections"),
     "a head may take any time": (
-        "protocol.py", "self._watch(settings.head_seconds)", "pass",
+        "protocol.py", "_Part.HEAD: settings.head_seconds", "_Part.HEAD: 99",
+        f"{CONNECTIONS}.test_slow_heads_and_idle_connections"),
+    "a request may take any time": (
+        "protocol.py", "_Part.REQUEST: settings.idle_seconds", "_Part.REQUEST: 99",
         f"{CONNECTIONS}.test_slow_heads_and_idle_connections"),
     "each byte gives a head more time": (
-        "protocol.py", "elif self._deadline is None and not", "elif (self._deadline is None or not "
-        "self._deadline.cancel()) and not", f"{CONNECTIONS}.test_slow_heads_and_idle_connections"),
+        "protocol.py", "if part is self._awaited:", "if part is None:",
+        f"{CONNECTIONS}.test_slow_heads_and_idle_connections"),
     "a body that nobody reads may take any time": (
-        "protocol.py", "            if self._is_in_body():\n                self._watch(settings.body_seconds)\n", "",
-        f"{CONNECTIONS}.test_slow_bodies"),
+        "protocol.py", "_Part.BODY: settings.body_seconds", "_Part.BODY: 99", f"{CONNECTIONS}.test_slow_bodies"),
+    "what is idle is told that it is slow": (
+        "protocol.py", "if self._awaited is _Part.HEAD:", "if self._awaited:",
+        f"{CONNECTIONS}.test_behind_a_body_that_nobody_reads"),
+    "the deadline of a body stays behind it": (
+        "protocol.py", "self.conn.their_state is h11.SEND_BODY", "self._awaited is _Part.BODY or "
+        "self.conn.their_state is h11.SEND_BODY", f"{CONNECTIONS}.test_requests_behind_a_long_body"),
     "a length of many digits breaks the connection": (
         "protocol.py", "except ValueError:", "except ZeroDivisionError:",
         f"{CONNECTIONS}.test_lengths_that_are_none"),

@@ -3,6 +3,7 @@
 from __future__ import annotations
 
 import asyncio
+import enum
 import socket
 import sys
 from http import HTTPStatus
@@ -24,6 +25,17 @@ _NAMES = {
 }
 
 
+class _Part(enum.Enum):
+    """What a client may have to send."""
+
+    REQUEST = enum.auto()
+    """A request, of which nothing is there."""
+    HEAD = enum.auto()
+    """The rest of a request's line and headers."""
+    BODY = enum.auto()
+    """The rest of a body that nobody reads."""
+
+
 def _raw(status: HTTPStatus, detail: str) -> bytes:
     """An answer to what is no request."""
     body = document(status, _NAMES[status], detail, {})
@@ -39,14 +51,19 @@ async def _surplus(scope: Scope, receive: Receive, send: Send) -> None:
 
 def protocol_of(settings: Settings) -> type[H11Protocol]:
     """The class of the connections of a server with these settings."""
+    seconds = {
+        _Part.REQUEST: settings.idle_seconds,
+        _Part.HEAD: settings.head_seconds,
+        _Part.BODY: settings.body_seconds,
+    }
 
     class Connection(H11Protocol):  # type: ignore[misc]
         """A connection."""
 
         _deadline: asyncio.TimerHandle | None = None
+        _awaited: _Part | None = None
         _reader: asyncio.TimerHandle | None = None
         _unread = 0
-        _has_begun = False
 
         def connection_made(self, transport: Any) -> None:
             """Counts it, and waits for its first request."""
@@ -59,7 +76,7 @@ def protocol_of(settings: Settings) -> type[H11Protocol]:
                 return
             if len(self.connections) > settings.connections:
                 self.app = _surplus
-            self._watch(settings.head_seconds)
+            self._watch()
 
         def connection_lost(self, exc: Exception | None) -> None:
             """Ends what waits."""
@@ -70,20 +87,12 @@ def protocol_of(settings: Settings) -> type[H11Protocol]:
 
         def data_received(self, data: bytes) -> None:
             """Reads on. What is no HTTP at all is told so."""
-            self._has_begun = True
             try:
                 super().data_received(data)
             except ValueError:
                 # Of a length with thousands of digits.
                 self._end(HTTPStatus.BAD_REQUEST, "the request's headers can't be read")
-            self._watch(settings.body_seconds if self._is_in_body() else settings.head_seconds)
-
-        def on_response_complete(self) -> None:
-            """Waits for the rest of a body that nobody reads. uvicorn waits for the next request."""
-            self._has_begun = False
-            super().on_response_complete()
-            if self._is_in_body():
-                self._watch(settings.body_seconds)
+            self._watch()
 
         def send_400_response(self, msg: str) -> None:
             """Answers a request that can't be read. uvicorn calls this while it handles what h11 raised."""
@@ -99,20 +108,27 @@ def protocol_of(settings: Settings) -> type[H11Protocol]:
             """Whether a request is being answered."""
             return self.cycle is not None and not self.cycle.response_complete
 
-        def _is_in_body(self) -> bool:
-            return not self._is_at_work() and self.conn.their_state is h11.SEND_BODY
-
-        def _watch(self, seconds: float) -> None:
-            """Sets the deadline for what has to come, unless it runs. While a request is answered there is none."""
+        def _next_part(self) -> _Part | None:
+            """What has to come next; nothing while a request is answered."""
             if self._is_at_work():
-                if self._deadline is not None:
-                    self._deadline.cancel()
-                self._deadline = None
-            elif self._deadline is None and not self.transport.is_closing():
-                self._deadline = self.loop.call_later(seconds, self._end_slow)
+                return None
+            if self.conn.their_state is h11.SEND_BODY:
+                return _Part.BODY
+            return _Part.HEAD if self.conn.trailing_data[0] else _Part.REQUEST
+
+        def _watch(self) -> None:
+            """Sets the deadline for what has to come next, unless it runs."""
+            part = self._next_part()
+            if part is self._awaited:
+                return
+            self._awaited = part
+            if self._deadline is not None:
+                self._deadline.cancel()
+            if part is not None and not self.transport.is_closing():
+                self._deadline = self.loop.call_later(seconds[part], self._end_slow)
 
         def _end_slow(self) -> None:
-            if self._has_begun and not self._is_in_body():
+            if self._awaited is _Part.HEAD:
                 self._end(HTTPStatus.REQUEST_TIMEOUT, "the request did not come in time")
             else:
                 self.transport.abort()
