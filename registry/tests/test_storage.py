@@ -132,6 +132,9 @@ class States(InFile):
                 count, size = self.handles.size()
                 self.assertLessEqual(count, 5)
                 self.assertLessEqual(size, 5 * 64 * 1024 + 60_000)
+                kept = self.handles._kept.values()
+                self.assertEqual(size, sum(it.bytes for it in kept))
+                self.assertGreater(size, count * 64 * 1024)
         for log, its_written in zip(logs, written, strict=True):
             self._stands(log, its_written)
 

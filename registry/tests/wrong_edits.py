@@ -85,7 +85,9 @@ WRONG: dict[str, Wrong] = {
         "storage/sqlite.py", "if version > _VERSION:", "if False:", f"{STORAGE}.test_what_is_no_file_of_this"),
     "another head is taken": ("handles.py", "if handle.head != (", "if False and (", f"{STATES}.test_what_is_damaged"),
     "logs in memory are not bounded": (
-        "handles.py", "while size > self._most_bytes", "while False", f"{STATES}.test_memory_is_bounded"),
+        "handles.py", "while self._size > self._most_bytes", "while False", f"{STATES}.test_memory_is_bounded"),
+    "what a log has grown by is not counted": (
+        "handles.py", "handle.counted = handle.bytes", "handle.counted = 0", f"{STATES}.test_memory_is_bounded"),
     # The file
     "writes do not wait for the disk": (
         "storage/sqlite.py", "synchronous = FULL", "synchronous = NORMAL", f"{STORAGE}.test_it_waits_for_the_disk"),

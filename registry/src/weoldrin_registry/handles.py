@@ -30,6 +30,8 @@ class Handle:
         self.log, self.log_id, self.count, self.saved = log, log_id, state.length, state.length
         self.head = log.head()
         self.bytes = _MEMORY_A_LOG + _MEMORY_A_BYTE * len(state.text)
+        self.counted = 0
+        """The part of its bytes that is in the sum over all."""
         self.is_spoiled = False
         """Whether it may not stand for the log any more. It is then used for nothing."""
 
@@ -45,7 +47,7 @@ class Handles:
 
     def __init__(self, storage: Storage, most_bytes: int, state_records: int) -> None:
         self._storage, self._most_bytes, self._state_records = storage, most_bytes, state_records
-        self._guard, self._kept = threading.Lock(), OrderedDict[str, Handle]()
+        self._guard, self._kept, self._size = threading.Lock(), OrderedDict[str, Handle](), 0
 
     @contextmanager
     def used(self, kind: LogKind, log_id: str) -> Iterator[Handle]:
@@ -56,7 +58,7 @@ class Handles:
                 if handle.is_spoiled:
                     continue
                 yield handle
-            self._keep_bounds()
+            self._count(handle)
             return
 
     def spoil(self, handle: Handle) -> None:
@@ -65,6 +67,7 @@ class Handles:
         with self._guard:
             if self._kept.get(handle.log_id) is handle:
                 del self._kept[handle.log_id]
+                self._size -= handle.counted
 
     def go_on(self, handle: Handle, row: LogRow | None) -> None:
         """Replays the records that another process has appended, up to the row of the log. Its user calls this."""
@@ -97,7 +100,7 @@ class Handles:
     def size(self) -> tuple[int, int]:
         """How many handles there are, and how many bytes they may take."""
         with self._guard:
-            return len(self._kept), sum(it.bytes for it in self._kept.values())
+            return len(self._kept), self._size
 
     def _is_due(self, handle: Handle) -> bool:
         return handle.count - handle.saved >= max(self._state_records, handle.count // 16)
@@ -138,9 +141,13 @@ class Handles:
                     raise Damaged(f"record {handle.count} of {handle.log_id} is refused: {error}") from error
                 handle.appended(it)
 
-    def _keep_bounds(self) -> None:
-        """Lets go of those that were used the longest time ago, but for the last one."""
+    def _count(self, handle: Handle) -> None:
+        """Counts what a handle has grown by, and lets go of those that were used the longest time ago, but for the last
+        one, while all have too many bytes."""
         with self._guard:
-            size = sum(it.bytes for it in self._kept.values())
-            while size > self._most_bytes and len(self._kept) > 1:
-                size -= self._kept.popitem(last=False)[1].bytes
+            if self._kept.get(handle.log_id) is not handle:
+                return
+            self._size += handle.bytes - handle.counted
+            handle.counted = handle.bytes
+            while self._size > self._most_bytes and len(self._kept) > 1:
+                self._size -= self._kept.popitem(last=False)[1].counted
