@@ -4,6 +4,7 @@ import importlib.util
 import os
 import pathlib
 import shutil
+import signal
 import subprocess
 import tempfile
 import threading
@@ -74,7 +75,8 @@ def setUpModule() -> None:
 def tearDownModule() -> None:
     """Ends it."""
     if Server.is_there:
-        Server.process.terminate()
+        # It does not wait for those that are connected.
+        Server.process.send_signal(signal.SIGINT)
         Server.process.wait(60)
         Server.folder.cleanup()
 

@@ -13,7 +13,7 @@ from weoldrin import Error
 
 from .checkpoints import Checkpoints, Newest
 from .handles import Handles
-from .lines import tell
+from .lines import tell, tell_error
 from .metrics import Metrics
 from .publishing import LogName, Published, Publisher
 from .settings import Settings
@@ -89,9 +89,12 @@ class Registry:
         try:
             return self.checkpoints.make()
         except (StorageError, Error) as error:
-            self.metrics.failed_checkpoints.inc()
             tell(f"no checkpoint was made: {error}")
-            return None
+        except Exception as error:
+            # Whatever it is, records are taken, and the next one may be made.
+            tell_error(error)
+        self.metrics.failed_checkpoints.inc()
+        return None
 
     def _keep(self) -> None:
         """Makes checkpoints until the registry is stopped."""
