@@ -170,18 +170,6 @@ class Connections(Served):
             # Nothing is said that would be taken for an answer to the next request.
             self.assertTrue(raw.ends(5))
 
-    def test_requests_behind_a_long_body(self) -> None:
-        raw = self._raw()
-        raw.send(b"POST /v1/nothing HTTP/1.1\r\nHost: x\r\nContent-Length: 10\r\n\r\n")
-        self.assertEqual([it for it, _ in raw.answers()], [404])
-        raw.send(bytes(10))
-        time.sleep(0.8)
-        raw.send(b"GET /v1/health HTTP/1.1\r\nHo")
-        # Longer than the body had left.
-        time.sleep(1)
-        raw.send(b"st: x\r\n\r\n")
-        self.assertEqual([it for it, _ in raw.answers()], [200])
-
     def test_slow_heads_and_idle_connections(self) -> None:
         raw = self._raw()
         self.assertTrue(raw.ends(6))
@@ -264,6 +252,25 @@ class Connections(Served):
                     r"/v1/package/%0Afake%1B/records 400 \d+ [0-9.]+ BadName"):
             self.assertRegex(text.decode(), rf"(?m)127\.0\.0\.1:\d+ GET {end}$")
         self.assertNotIn("Traceback", text.decode())
+
+
+class Patient(Served):
+    """A registry that waits long for all but bodies."""
+
+    SETTINGS = "body_seconds = 1\n"
+
+    def test_a_request_behind_a_body(self) -> None:
+        raw = Raw(self.process.port)
+        self.addCleanup(raw.close)
+        raw.send(b"POST /v1/nothing HTTP/1.1\r\nHost: x\r\nContent-Length: 10\r\n\r\n")
+        self.assertEqual([it for it, _ in raw.answers()], [404])
+        for _ in range(2):
+            raw.send(bytes(5))
+            time.sleep(0.2)
+        # Longer than the body had left.
+        time.sleep(2)
+        raw.send(HEALTH)
+        self.assertEqual([it for it, _ in raw.answers()], [200])
 
 
 class Crowds(Served):

@@ -32,13 +32,14 @@ class Faults(unittest.TestCase):
         registry = Registry(settings)
         self.addCleanup(registry.stop)
         make, first = Checkpoints.make, operator_record(None, key, records.init(key.public_key))
-        with mock.patch.object(Checkpoints, "make", side_effect=RuntimeError("unforeseen")) as failing:
+        failing = mock.patch.object(Checkpoints, "make", side_effect=RuntimeError("unforeseen"))
+        with failing, mock.patch("weoldrin_registry.registry.tell_error") as told:
             # The record stands, and is acknowledged.
             new, newest = registry.publish(log_name(LogKind.OPERATOR), first)
             self.assertEqual((new.leaf, newest), (0, None))
             registry.start()
             time.sleep(0.2)
-            self.assertGreater(failing.call_count, 2)
+            self.assertGreater(told.call_count, 2)
         self.assertIs(Checkpoints.make, make)
         until = time.monotonic() + 20
         while registry.checkpoints.current() is None:

@@ -263,7 +263,7 @@ WRONG: dict[str, Wrong] = {
         f"{CONNECTIONS}.test_behind_a_body_that_nobody_reads"),
     "the deadline of a body stays behind it": (
         "protocol.py", "self.conn.their_state is h11.SEND_BODY", "self._awaited is _Part.BODY or "
-        "self.conn.their_state is h11.SEND_BODY", f"{CONNECTIONS}.test_requests_behind_a_long_body"),
+        "self.conn.their_state is h11.SEND_BODY", "test_connections.Patient"),
     "a length of many digits breaks the connection": (
         "protocol.py", "except ValueError:", "except ZeroDivisionError:",
         f"{CONNECTIONS}.test_lengths_that_are_none"),

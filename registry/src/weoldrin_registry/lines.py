@@ -8,6 +8,9 @@ import traceback
 
 from weoldrin import printing
 
+# So many calls of an error are printed, the last ones.
+_CALLS = -8
+
 
 def tell(sentence: str) -> None:
     """Prints a line with the time."""
@@ -16,8 +19,8 @@ def tell(sentence: str) -> None:
 
 
 def tell_error(error: BaseException) -> None:
-    """Prints an error that nobody foresaw, with where it came from, on one line."""
-    tell("".join(traceback.format_exception(type(error), error, error.__traceback__)).strip())
+    """Prints an error that nobody foresaw, with the calls that it came from, on one line."""
+    tell("".join(traceback.format_exception(type(error), error, error.__traceback__, _CALLS)).strip())
 
 
 class Lines(logging.Handler):
