@@ -14,7 +14,8 @@ import unittest
 from weoldrin_registry.storage import Locked, NewRecord, Storage, StorageError
 
 from .test_kills import Killed
-from .test_storage import Processes, States, Writers
+from .test_processes import Processes
+from .test_storage import States, Writers
 
 # Where Debian has the programs of each version.
 _BINARIES = sorted(pathlib.Path("/usr/lib/postgresql").glob("*/bin/initdb"))

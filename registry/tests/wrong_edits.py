@@ -124,10 +124,10 @@ WRONG: dict[str, Wrong] = {
         f"{READING}.test_the_bytes_of_an_answer"),
     "a full disk is a failure": (
         "storage/sqlite.py", 'if "full" in text or "disk I/O error" in text or "readonly" in text:', "if False:",
-        "test_storage.Processes.test_a_full_disk"),
+        "test_processes.Processes.test_a_full_disk"),
     "a lock is a failure": (
         "storage/sqlite.py", 'return Locked(text) if "locked" in text or "busy" in text else StorageError(text)',
-        "return StorageError(text)", "test_storage.Processes.test_a_lock_that_is_held"),
+        "return StorageError(text)", "test_processes.Processes.test_a_lock_that_is_held"),
     "an older state follows": (
         "storage/sqlite.py", " WHERE excluded.count > states.count", "",
         f"{STATES}.test_an_older_state_does_not_follow_a_later_one"),
@@ -242,22 +242,22 @@ WRONG: dict[str, Wrong] = {
         f"{CONNECTIONS}.test_lines"),
     # Connections
     "there may be any number of connections": (
-        "protocol.py", "if len(self.connections) > settings.connections:", "if False:",
+        "protocol.py", "if len(self.connections) > self.settings.connections:", "if False:",
         "test_connections.Crowds.test_many_connections"),
     "all connections are kept": (
-        "protocol.py", "if len(self.connections) > 2 * settings.connections:", "if False:",
+        "protocol.py", "if len(self.connections) > 2 * self.settings.connections:", "if False:",
         "test_connections.Crowds.test_far_too_many_connections"),
     "a head may take any time": (
-        "protocol.py", "_Part.HEAD: settings.head_seconds", "_Part.HEAD: 99",
+        "protocol.py", "return self.settings.head_seconds if", "return 99 if",
         f"{CONNECTIONS}.test_slow_heads_and_idle_connections"),
     "a request may take any time": (
-        "protocol.py", "_Part.REQUEST: settings.idle_seconds", "_Part.REQUEST: 99",
+        "protocol.py", "else self.settings.idle_seconds", "else 99",
         f"{CONNECTIONS}.test_slow_heads_and_idle_connections"),
     "each byte gives a head more time": (
         "protocol.py", "if part is self._awaited:", "if part is None:",
         f"{CONNECTIONS}.test_slow_heads_and_idle_connections"),
     "a body that nobody reads may take any time": (
-        "protocol.py", "_Part.BODY: settings.body_seconds", "_Part.BODY: 99", f"{CONNECTIONS}.test_slow_bodies"),
+        "protocol.py", "return self.settings.body_seconds", "return 99", f"{CONNECTIONS}.test_slow_bodies"),
     "what is idle is told that it is slow": (
         "protocol.py", "if self._awaited is _Part.HEAD:", "if self._awaited:",
         f"{CONNECTIONS}.test_behind_a_body_that_nobody_reads"),
