@@ -257,7 +257,7 @@ class Connections(Served):
 class Patient(Served):
     """A registry that waits long for all but bodies."""
 
-    SETTINGS = "body_seconds = 1\n"
+    SETTINGS = "body_seconds = 1\nidle_seconds = 120\n"
 
     def test_a_request_behind_a_body(self) -> None:
         raw = Raw(self.process.port)
@@ -276,7 +276,7 @@ class Patient(Served):
 class Crowds(Served):
     """A registry that serves few connections at once."""
 
-    SETTINGS = "connections = 20\n"
+    SETTINGS = "connections = 20\nidle_seconds = 120\n"
 
     def _raw(self) -> Raw:
         raw = Raw(self.process.port)

@@ -43,7 +43,11 @@ class Table(Served):
         text = PAGE.read_text(encoding="utf-8")
         rows = re.findall(r"`(GET|POST) (/[^`?]*)", text[: text.index("## Publishing")])
         names = {"NAME": "{name}", "LOG_ID": "{logId}", "LENGTH": "{length}", "..": "{path}"}
-        found = {(method, re.sub(r"NAME|LOG_ID|LENGTH|\.\.", lambda it: names[it[0]], path)) for method, path in rows}
+
+        def named(found: re.Match[str]) -> str:
+            return names[found[0]]
+
+        found = {(method, re.sub(r"NAME|LOG_ID|LENGTH|\.\.", named, path)) for method, path in rows}
         said = {(method.upper(), path) for path, item in CONTRACT.document["paths"].items() for method in item}
         self.assertEqual(found, said)
 
