@@ -6,7 +6,7 @@ from collections.abc import Callable
 
 from ..checkpoints import Checkpoint, SignedCheckpoint
 from ..errors import BadArgument, UnknownAlgorithm
-from ..logs import OperatorLog, log_id
+from ..logs import Log, OperatorLog, log_id
 from ..proofs import verify_absence, verify_consistency, verify_presence
 from ..records import key_id
 from .answers import Head, Problem, Registry
@@ -63,13 +63,13 @@ class Follower:
         head = self._head_of_operator(seen, name)
         if head.record_id is None:
             raise Told("unsigned checkpoint", "its map has no operator log, so no key may sign it", head.checkpoint)
+        self.check_head(head, name)
         operator, key, count = self._operator_at(head.record_id, name, head.checkpoint.contents.log_length)
         with operator:
             check_signed(operator, head.checkpoint)
             state = _state_of(operator)
         if seen is not None:
             _check_goes_on(seen, head)
-        self.check_head(head, name)
         self._check_time(head.checkpoint)
         known = self.trust.operator
         place = known.place if known and known.head == head.record_id else None
@@ -131,7 +131,8 @@ class Follower:
         except (Problem, BadAnswer):
             pass
         length = seen.contents.log_length
-        return Told("rolled back registry", f"it signed {length} leaves, and has fewer now", *evidence, subject=f"{length}")
+        why = f"it signed {length} leaves, and has fewer now"
+        return Told("rolled back registry", why, *evidence, subject=f"{length}")
 
     def _operator_at(self, record_id: str, name: str, length: int) -> tuple[OperatorLog, str, int]:
         """The operator log up to a record, the id of the key that begins it, and how many records it has."""
@@ -154,7 +155,8 @@ class Follower:
         if age > self._oldest:
             raise Told("stale checkpoint", f"it is {age:.0f} seconds old", it, subject=f"{it.contents.timestamp}")
         if age < -AHEAD:
-            raise Told("checkpoint ahead", f"its time is {-age:.0f} seconds ahead of the clock", it)
+            why = f"its time is {-age:.0f} seconds ahead of the clock"
+            raise Told("checkpoint ahead", why, it, subject=f"{it.contents.timestamp}")
 
 
 def check_signed(log: OperatorLog, it: SignedCheckpoint) -> None:
@@ -168,7 +170,7 @@ def check_signed(log: OperatorLog, it: SignedCheckpoint) -> None:
     raise Told("key without commit", f"it is signed by a key that {why}: {it.key_id}", it)
 
 
-def check_known(log: OperatorLog, name: str, known: Seen | None) -> None:
+def check_known(log: Log, name: str, known: Seen | None) -> None:
     """Raises `Told` where a log, which has all its records, does not go on from what is known of it."""
     if known is None:
         return

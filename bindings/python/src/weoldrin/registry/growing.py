@@ -54,6 +54,9 @@ def _explained(registry: Registry, kind: LogKind, log_id: str, known: Seen | Non
             except REFUSED as error:
                 return Told("unlawful record", f"record {len(ids)} of {log_id}: {error.name}: {error.sentence}")
             ids.append(log.head() or "")
+    own, other = _by_leaves(registry, log_id, ids, length)
+    if other:
+        return Told("wrong name", f"the log that is served for {log_id} is {other}")
     if known is not None:
         if len(ids) < known.count:
             return Told("rolled back log", f"{len(ids)} records of {log_id} are served, and {known.count} were seen")
@@ -68,19 +71,18 @@ def _explained(registry: Registry, kind: LogKind, log_id: str, known: Seen | Non
         return BadAnswer("two answers of one log differ")
     if not ids:
         return Told("missing record", f"no record of {log_id} is served, and the last one is {until}")
-    return _explained_by_leaves(registry, log_id, ids, until, length)
+    if own[: len(ids)] == ids:
+        return Told("rolled back log", f"{len(ids)} records of {log_id} are served, and the last one, {until}, is not")
+    return Told("replaced record", f"the log that is served for {log_id} does not have its last record, {until}")
 
 
-def _explained_by_leaves(registry: Registry, log_id: str, ids: list[str], until: str, length: int) -> Told:
-    """The same of a lawful log that does not have the record: by what the registry's log has of it."""
-    served, own, other = set(ids), [], ""
+def _by_leaves(registry: Registry, log_id: str, ids: list[str], length: int) -> tuple[list[str], str]:
+    """The records that the registry's log has of a log, among its last leaves, and the other log that has the last of
+    the records that are served, if one has it in its place."""
+    own, other = [], ""
     for _, leaf in walk(registry, max(0, length - LEAVES), length):
         if leaf.log_id == log_id:
             own.append(leaf.record_id)
-        elif leaf.record_id in served:
+        elif ids and leaf.record_id == ids[-1]:
             other = leaf.log_id
-    if own[: len(ids)] == ids:
-        return Told("rolled back log", f"{len(ids)} records of {log_id} are served, and the last one, {until}, is not")
-    if other:
-        return Told("wrong name", f"the log that is served for {log_id} is {other}")
-    return Told("replaced record", f"the log that is served for {log_id} does not have its last record, {until}")
+    return own, "" if ids and ids[-1] in own else other

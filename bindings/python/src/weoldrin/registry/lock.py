@@ -1,5 +1,5 @@
-"""`weoldrin lock URL REQUIREMENTS` and `weoldrin check URL FILE`: the versions that meet requirements, bound to a signed
-checkpoint, and whether they stand later."""
+"""`weoldrin lock URL REQUIREMENTS` and `weoldrin check URL FILE`: the versions that meet requirements, bound to a
+signed checkpoint, and whether they stand later."""
 
 import argparse
 import contextlib

@@ -20,19 +20,21 @@ class LogFile:
 
     def __init__(self, path: str) -> None:
         self.path = path
-        self._text, self._mode = b"", None
+        self._text = b""
+        self._mode: os.stat_result | None = None
         self._read()
 
     def _read(self) -> None:
         try:
             with open(self.path, "rb", opener=open_regular) as file:
-                self._text, self._mode = file.read(), os.fstat(file.fileno())
+                self._text, mode = file.read(), os.fstat(file.fileno())
         except FileNotFoundError:
             return
-        if self._mode.st_nlink > 1:
+        if mode.st_nlink > 1:
             raise Unusable(f"{self.path}: it has several hard links")
-        if not self._mode.st_mode & 0o222 or not os.access(self.path, os.W_OK):
+        if not mode.st_mode & 0o222 or not os.access(self.path, os.W_OK):
             raise Unusable(f"{self.path}: it may not be written")
+        self._mode = mode
 
     def envelopes(self) -> list[bytes]:
         """The envelopes that the file has."""

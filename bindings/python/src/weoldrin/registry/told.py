@@ -52,6 +52,8 @@ class BadAnswer(Told):
 
     def __init__(self, sentence: str) -> None:
         super().__init__("bad answer", sentence)
+        # By which it is made anew where it comes from another process.
+        self.args = (sentence,)
 
 
 class NoPackage(Exception):

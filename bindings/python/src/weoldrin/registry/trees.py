@@ -3,7 +3,6 @@ compares with what was signed."""
 
 import hashlib
 from bisect import bisect_left
-from collections.abc import Sequence
 from typing import NamedTuple
 
 from ..proofs import leaf
@@ -82,7 +81,7 @@ class Maps:
         self._kept = self._now
         return f"sha256:{root.hex()}"
 
-    def _root(self, keys: Sequence[bytes], heads: Sequence[tuple[bytes, str]], low: int, high: int, depth: int) -> bytes:
+    def _root(self, keys: list[bytes], heads: list[tuple[bytes, str]], low: int, high: int, depth: int) -> bytes:
         if low == high:
             return _EMPTY[256 - depth]
         if high - low == 1:
