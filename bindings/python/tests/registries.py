@@ -521,9 +521,14 @@ def false_proof(it: Registry) -> None:
 
 def held_back(it: Registry) -> None:
     """The newest record of ONE is not served."""
-    it.release(ONE, "2.0.0")
+    held_back_of(it, ONE)
+
+
+def held_back_of(it: Registry, name: str) -> None:
+    """The newest record of a log is not served."""
+    it.release(name, "2.0.0")
     it.sign()
-    del it.logs[ONE][-1]
+    del it.logs[name][-1]
 
 
 def cut_off(it: Registry) -> None:

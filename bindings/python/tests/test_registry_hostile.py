@@ -218,7 +218,7 @@ class Forms(MonitorTest):
 
     def test_fetched(self) -> None:
         # What is not needed is not looked at.
-        self._refused("/v1/fetch/logs", True, {r"'(head|count|unknown)'", r"'envelopes', \d\) Ell"})
+        self._refused("/v1/fetch/logs", True, {r"'(head|count|unknown)'", r"'envelopes', \d\) Ell", r"'more',\) True"})
 
     def test_lines(self) -> None:
         """Records and leaves in lines of another form."""
