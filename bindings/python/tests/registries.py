@@ -164,7 +164,8 @@ class Registry:
         return 200, headers, "".join(lines[:bound]).encode()
 
     def _fetched(self, counts: dict[str, int]) -> Reply:
-        found, room = {}, ENVELOPES
+        found: dict[str, dict[str, Any]] = {}
+        room = ENVELOPES
         for name, count in counts.items():
             new = self.logs.get(name, [])[count:][:room]
             if new:
@@ -173,7 +174,7 @@ class Registry:
                 found[name] = {"head": self.heads[name], "count": len(self.logs[name]), "envelopes": envelopes}
         unknown = [it for it in counts if it not in self.logs]
         more = any(
-            len(self.logs[it]) > count + len(found.get(it, {"envelopes": ()})["envelopes"])  # type: ignore[arg-type]
+            len(self.logs[it]) > count + len(found.get(it, {"envelopes": ()})["envelopes"])
             for it, count in counts.items()
             if it in self.logs
         )
@@ -184,9 +185,11 @@ class Registry:
         wanted = query.get("length", query.get("to"))
         if wanted is not None and int(wanted) != length:
             return problem(409, "NotNewest", checkpoint=newest)
-        if since > length or int(query.get("leaf", "0")) >= length:
+        if int(query.get("leaf", "0")) >= length:
             return problem(404, "NoLeaf")
-        members: dict[str, Any] = {"checkpoint": newest}
+        if since not in (0, *(it.contents.log_length for it in self.signed)) or since > length:
+            return problem(404, "NoCheckpoint")
+        members: dict[str, object] = {"checkpoint": newest}
         going_on = trees.text_of(trees.consistency(since, self._hashes(length)))
         if kind == "consistency":
             return json_reply({**members, "from": since, "proof": going_on})
@@ -196,8 +199,8 @@ class Registry:
             place = int(query["leaf"])
             proof = trees.text_of(trees.inclusion(place, self._hashes(length)))
             leaf = self.leaves[place]
-            named = {"leaf": place, "logId": leaf.log_id, "recordId": leaf.record_id}
-            return json_reply({**members, **named, "proof": proof})
+            members.update(leaf=place, logId=leaf.log_id, recordId=leaf.record_id, proof=proof)
+            return json_reply(members)
         return json_reply({**members, **self.map_members(query["log"], length)})
 
     def map_members(self, name: str, length: int) -> dict[str, Any]:
@@ -426,7 +429,7 @@ def stale(it: Registry) -> None:
 
 def older_time(it: Registry) -> None:
     """The time goes back."""
-    it.clock = -3_600
+    it.clock = -1_800
     it.sign()
 
 
@@ -558,3 +561,9 @@ def false_map(it: Registry) -> None:
     it.heads[log_id("package", "a:ghost")] = records.sha256_text(b"ghost")
     it.release(ONE, "2.0.0")
     it.sign()
+
+
+def denying(it: Registry) -> None:
+    """The checkpoint that was signed is denied, and the log is another."""
+    forked_longer(it)
+    del it.signed[:-1]

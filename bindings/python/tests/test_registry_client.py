@@ -6,6 +6,7 @@ import pathlib
 import tempfile
 import unittest
 from collections.abc import Callable
+from typing import Any
 
 from weoldrin import audit, records
 
@@ -25,6 +26,7 @@ LIES: list[tuple[Callable[[Registry], None], str, str]] = [
     (registries.forked_registry, "forked registry", ""),
     (registries.forked_longer, "forked registry", ""),
     (registries.forked_map, "forked registry", ""),
+    (registries.denying, "forked registry", ""),
     (registries.stale, "stale checkpoint", "stale checkpoint"),
     (registries.older_time, "stale checkpoint", ""),
     (registries.ahead, "checkpoint ahead", "checkpoint ahead"),
@@ -51,19 +53,17 @@ class ClientTest(unittest.TestCase):
         folder = tempfile.TemporaryDirectory(dir="/dev/shm" if os.access("/dev/shm", os.W_OK) else None)
         self.addCleanup(folder.cleanup)
         self.folder = pathlib.Path(folder.name)
-        self.served = self.enterContext(serving(honest())) if hasattr(self, "enterContext") else self._entered()
-        self.trust, self.out = str(self.folder / "trust.json"), str(self.folder / "one.hex")
-
-    def _entered(self) -> registries.Served:
         # Python 3.10 has no enterContext.
         context = serving(honest())
+        self.served = context.__enter__()
         self.addCleanup(context.__exit__, None, None, None)
-        return context.__enter__()
+        self.trust, self.out = str(self.folder / "trust.json"), str(self.folder / "one.hex")
 
     @property
     def registry(self) -> Registry:
         """What is served."""
-        return self.served.registry
+        it: Registry = self.served.registry
+        return it
 
     def fetch(self, *more: str, name: str = "a:one") -> tuple[int, str, str]:
         """Fetches a package by what is trusted."""
@@ -151,13 +151,11 @@ class Lies(ClientTest):
     """Each lie by its name. Nothing that is kept changes."""
 
     def test_after_honest(self) -> None:
+        self.assertEqual(self.fetch("--out", self.out)[0], 0)
+        before = self.files()
         for lie, name, _ in LIES:
             with self.subTest(lie.__name__):
                 self.served.registry = honest()
-                for path in self.folder.iterdir():
-                    path.unlink()
-                self.assertEqual(self.fetch("--out", self.out)[0], 0)
-                before = self.files()
                 lie(self.registry)
                 status, printed, said = self.fetch("--out", self.out)
                 self.assertEqual((status, printed.partition(":")[0]), (1, name), said)
@@ -219,7 +217,8 @@ class Trusted(ClientTest):
         self.assertEqual(self.fetch("--out", self.out)[0], 2)
 
     def test_urls(self) -> None:
-        wrong = ["ftp://x", "http://", "http://u:p@x", "http://x/?q", "http://x:99999", "x", "http://[", "http://x/\x1b"]
+        wrong = ["ftp://x", "http://", "http://u:p@x", "http://x/?q", "http://x:99999", "x", "http://["]
+        wrong.append("http://x/\x1b")
         for url in wrong:
             status, printed, said = run("fetch", url, "a:one")
             self.assertEqual((status, printed, "\x1b" in said), (2, "", False), url)
@@ -276,7 +275,8 @@ class Lock(ClientTest):
         path = pathlib.Path(self.locked)
         good = json.loads(path.read_text(encoding="utf-8"))
         other = json.loads(json.dumps(good).replace("a:one", "a:six"))
-        spoiled = [{}, [], None, {**good, "packages": {}}, {**good, "packages": {"a:one": {}}}, {**good, "logs": {}}]
+        spoiled: list[Any] = [{}, [], None, {**good, "packages": {}}, {**good, "packages": {"a:one": {}}}]
+        spoiled.append({**good, "logs": {}})
         for it in (*spoiled, {**good, "checkpoint": None}, {**good, "packages": 7}):
             path.write_text(json.dumps(it), encoding="utf-8")
             self.assertEqual(run("check", self.served.url, self.locked)[0], 2, it)
@@ -293,7 +293,8 @@ class Commands(ClientTest):
             status, printed, _ = run(it, "--help")
             self.assertEqual(status, 0)
             self.assertIn("Status: 0 ", printed)
-        for words in ([], ["fetch"], ["fetch", "x", "y", "--trust", "a", "--trust", "b"], ["monitor", "x"]):
+        wrong: list[list[str]] = [[], ["fetch"], ["fetch", "x", "y", "--trust", "a", "--trust", "b"], ["monitor", "x"]]
+        for words in wrong:
             self.assertEqual(run(*words)[0], 2)
 
 

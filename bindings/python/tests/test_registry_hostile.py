@@ -1,5 +1,5 @@
-"""Answers of a hostile server: each is refused within bounds, by the client and by the monitor, and nothing that is kept
-changes."""
+"""Answers of a hostile server: each is refused within bounds, by the client and by the monitor, and nothing that is
+kept changes."""
 
 import json
 import re
@@ -29,7 +29,10 @@ def _endless(start: bytes, part: bytes) -> Callable[[Any], None]:
 
 
 def _whole(data: bytes) -> Callable[[Any], None]:
-    return lambda file: file.write(data)
+    def write(file: Any) -> None:
+        file.write(data)
+
+    return write
 
 
 def _drip(file: Any) -> None:
@@ -133,7 +136,8 @@ class Bounds(MonitorTest):
 
 
 # Values that are put in the place of each member of an answer.
-WRONG = [None, True, 7, -1, 1.5, 10**19, "", "x", "sha256:" + "0" * 63, "\ud800\x1b[2J", [], {}, [None], {"a": None}]
+WRONG: list[Any] = [None, True, 7, -1, 1.5, 10**19, "", "x", "sha256:" + "0" * 63, "\ud800\x1b[2J", []]
+WRONG += [{}, [None], {"a": None}]
 
 
 def _places(value: object, at: tuple[Any, ...] = ()) -> Iterator[tuple[Any, ...]]:
@@ -148,7 +152,7 @@ def _put(value: Any, at: tuple[Any, ...], other: object) -> Any:
     """A value with another one at a path; without the member where that is `...`."""
     if not at:
         return other
-    made = dict(value) if isinstance(value, dict) else list(value)
+    made: Any = dict(value) if isinstance(value, dict) else list(value)
     if len(at) == 1 and other is ...:
         del made[at[0]]
     else:
@@ -223,9 +227,10 @@ class Forms(MonitorTest):
     def test_lines(self) -> None:
         """Records and leaves in lines of another form."""
         lines = [b"zz\n", b"0\n", b"00", b"\n\n", b"\xff\n", b"00 11\n", b"sha256:0 sha256:1\n", b" " * 99 + b"\n"]
+        headed: list[dict[str, str]] = [{}, {"Link": '<?from=1>; rel="next"'}]
         for path in (f"/v1/logs/{ONE}/records", "/v1/leaves"):
             for data in lines:
-                for headers in ({}, {"Link": '<?from=1>; rel="next"'}):
+                for headers in headed:
                     self.registry.twist = lambda at, query, reply: (200, headers, data) if at == path else reply
                     self._forget()
                     self.assertEqual(self.fetch("--out", self.out)[0], 1, (path, data))

@@ -128,30 +128,42 @@ class Database:
         return Edge(self.kept("edge") or "")
 
     def add_leaves(self, edge: Edge, start: int, leaves: Iterable[Leaf]) -> None:
-        """Adds leaves, which begin at a place and lead to an edge."""
-        for place, it in enumerate(leaves, start):
-            self._file.execute("INSERT INTO leaves VALUES (?, ?, ?)", (place, *it))
-            self._file.execute(
-                "INSERT INTO logs VALUES (?1, ?2, 1, 0, '') "
-                "ON CONFLICT (id) DO UPDATE SET head = ?2, leaves = leaves + 1",
-                it,
-            )
+        """Adds leaves, which begin at a place and lead to an edge. They count when they were found to be the signed
+        ones."""
+        rows = [(place, *it) for place, it in enumerate(leaves, start)]
+        self._file.executemany("INSERT INTO leaves VALUES (?, ?, ?)", rows)
         self.keep("edge", edge.to_text())
 
-    def logs_of(self, record_id: str) -> list[str]:
-        """The ids of the logs that have leaves of a record."""
-        rows = self._file.execute("SELECT DISTINCT log FROM leaves WHERE record = ? ORDER BY place", (record_id,))
-        return [str(log) for (log,) in rows]
+    def drop_leaves(self) -> int:
+        """Drops the leaves that do not count, and gives the place of the first of them."""
+        counted = Edge(self.kept("counted") or "")
+        self._file.execute("DELETE FROM leaves WHERE place >= ?", (counted.length,))
+        self.keep("edge", counted.to_text())
+        return counted.length
 
-    def copies(self, start: int) -> list[tuple[str, str, str]]:
-        """The records of the leaves from a place on that are leaves of several logs: each with the log that has it
-        first, and with the one that has it here."""
+    def count_leaves(self) -> list[tuple[str, str, str]]:
+        """Has all leaves count, and gives the records of the new ones that are leaves of several logs: each with the
+        log that has it first, and with the other one."""
+        start = Edge(self.kept("counted") or "").length
+        # Beside max(place), SQLite takes the other columns of its row.
+        self._file.execute(
+            "INSERT INTO logs SELECT log, record, number, 0, '' FROM "
+            "(SELECT log, record, count(*) AS number, max(place) FROM leaves WHERE place >= ? GROUP BY log) WHERE true "
+            "ON CONFLICT (id) DO UPDATE SET head = excluded.head, leaves = leaves + excluded.leaves",
+            (start,),
+        )
+        self.keep("counted", self.kept("edge") or "")
         rows = self._file.execute(
             "SELECT a.record, b.log, a.log FROM leaves a JOIN leaves b ON a.record = b.record AND a.log <> b.log "
             "WHERE a.place >= ? AND b.place < a.place ORDER BY a.place",
             (start,),
         )
         return [(str(record), str(first), str(log)) for record, first, log in rows]
+
+    def logs_of(self, record_id: str) -> list[str]:
+        """The ids of the logs that have leaves of a record."""
+        rows = self._file.execute("SELECT DISTINCT log FROM leaves WHERE record = ? ORDER BY place", (record_id,))
+        return [str(log) for (log,) in rows]
 
     def records_of(self, log_id: str) -> list[str]:
         """The ids of the records of a log, by its leaves."""

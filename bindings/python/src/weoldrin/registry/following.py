@@ -15,7 +15,9 @@ from .told import BadAnswer, Told
 from .trust import Seen, Trust
 
 # A checkpoint may be so many seconds old, and ahead of this machine's clock.
-OLDEST, AHEAD = 86_400, 600
+OLDEST, AHEAD = 3_600, 600
+# The errors by which a registry says that it has no checkpoint of a length.
+NOT_THERE = ("NoLeaf", "NoCheckpoint")
 # How often the newest checkpoint may change while something under it is asked.
 _TRIES = 8
 
@@ -119,20 +121,9 @@ class Follower:
         try:
             return self.registry.head(name, None if seen is None else seen.contents.log_length)
         except Problem as problem:
-            if seen is not None and problem.name in ("NoLeaf", "NoCheckpoint"):
-                raise self._rolled_back(seen) from None
+            if seen is not None and problem.name in NOT_THERE:
+                raise denied(self.registry, seen) from None
             raise
-
-    def _rolled_back(self, seen: SignedCheckpoint) -> Told:
-        """That a registry has fewer leaves than a checkpoint of it says, with the newest that it shows."""
-        evidence = [seen]
-        try:
-            evidence.append(self.registry.checkpoint())
-        except (Problem, BadAnswer):
-            pass
-        length = seen.contents.log_length
-        why = f"it signed {length} leaves, and has fewer now"
-        return Told("rolled back registry", why, *evidence, subject=f"{length}")
 
     def _operator_at(self, record_id: str, name: str, length: int) -> tuple[OperatorLog, str, int]:
         """The operator log up to a record, the id of the key that begins it, and how many records it has."""
@@ -157,6 +148,20 @@ class Follower:
         if age < -AHEAD:
             why = f"its time is {-age:.0f} seconds ahead of the clock"
             raise Told("checkpoint ahead", why, it, subject=f"{it.contents.timestamp}")
+
+
+def denied(registry: Registry, seen: SignedCheckpoint) -> Told:
+    """That a registry has no checkpoint of the length of one that it signed, with the newest that it shows."""
+    length, newest = seen.contents.log_length, None
+    try:
+        newest = registry.checkpoint()
+    except (Problem, BadAnswer):
+        pass
+    if newest is None or newest.contents.log_length < length:
+        name, why = "rolled back registry", f"it signed {length} leaves, and has fewer now"
+    else:
+        name, why = "forked registry", f"it signed {length} leaves, and says that it did not"
+    return Told(name, why, *(it for it in (seen, newest) if it), subject=f"{length}")
 
 
 def check_signed(log: OperatorLog, it: SignedCheckpoint) -> None:

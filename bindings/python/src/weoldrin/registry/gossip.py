@@ -14,7 +14,7 @@ from . import trust as trusted
 from .answers import Problem, checkpoint_in
 from .database import sight_in
 from .fetch import opened
-from .following import Follower, goes_on, is_signed, same_roots
+from .following import NOT_THERE, Follower, denied, goes_on, is_signed, same_roots
 from .told import BadAnswer, Told, Unusable
 from .trust import Trust
 
@@ -111,8 +111,8 @@ def _check_shown(follower: Follower, sight: Sight) -> None:
     try:
         new, proof = follower.registry.consistency(length)
     except Problem as problem:
-        if problem.name in ("NoLeaf", "NoCheckpoint"):
-            raise Told("rolled back registry", f"it signed {length} leaves, and has fewer now", old) from None
+        if problem.name in NOT_THERE:
+            raise denied(follower.registry, old) from None
         raise
     assert follower.trust.state is not None
     with OperatorLog.from_json(follower.trust.state) as operator:

@@ -19,11 +19,10 @@ from .fetch import opened
 from .following import Follower, holds
 from .replaying import BATCH, Replayed, Replayer, kind_of_log
 from .told import BadAnswer, NoAnswer, Told
-from .trees import Edge, Maps
+from .trees import Maps
 
 # So many leaves are read in one step, and so many logs are asked for whose head in the map is wrong.
 _PAGE, _ASKED = 20_000, 200
-_TRIES = 8
 
 
 class Monitor:
@@ -53,61 +52,39 @@ class Monitor:
         self._found.append(it)
         self._database.tell(it, int(time.time()))
 
-    def _follow(self, follower: Follower) -> SignedCheckpoint:
+    def _step(self, follower: Follower) -> None:
         newest = follower.follow()
         with self._database.step():
             self._database.save(follower.trust)
-        return newest
-
-    def _step(self, follower: Follower) -> None:
-        newest = self._follow(follower)
-        edge = self._database.edge()
-        while edge.length < newest.contents.log_length:
-            newest, edge = self._read_leaves(follower, newest, edge)
+        self._read_leaves(follower, newest)
         self._replay(follower)
         self._check_map(follower, newest)
 
     # Leaves
 
-    def _read_leaves(
-        self, follower: Follower, newest: SignedCheckpoint, edge: Edge
-    ) -> tuple[SignedCheckpoint, Edge]:
-        """Reads leaves behind an edge, and keeps them where they are shown to be those that are signed."""
-        start = edge.length
-        leaves, _ = follower.registry.leaves(start)
-        leaves = leaves[: min(_PAGE, newest.contents.log_length - start)]
-        if not leaves:
-            why = f"{newest.contents.log_length} leaves are signed, and {start} are served"
-            raise Told("left out leaf", why, newest, subject=f"{start}")
-        edge = Edge(edge.to_text())
-        for it in leaves:
-            edge.append(it)
-        newest, proof = self._proof(follower, newest, edge.length)
-        signed = newest.contents
-        if not holds(verify_consistency, edge.length, edge.root(), signed.log_length, signed.log_root, proof):
+    def _read_leaves(self, follower: Follower, newest: SignedCheckpoint) -> None:
+        """Reads the leaves up to those that are signed, a page in a transaction, and counts them where they are
+        these."""
+        edge, signed = self._database.edge(), newest.contents
+        while edge.length < signed.log_length:
+            start = edge.length
+            leaves = follower.registry.leaves(start)[0][: min(_PAGE, signed.log_length - start)]
+            if not leaves:
+                why = f"{signed.log_length} leaves are signed, and {start} are served"
+                raise Told("left out leaf", why, newest, subject=f"{start}")
+            for it in leaves:
+                edge.append(it)
+            with self._database.step():
+                self._database.add_leaves(edge, start, leaves)
+        if not holds(verify_consistency, edge.length, edge.root(), signed.log_length, signed.log_root, ""):
+            with self._database.step():
+                start = self._database.drop_leaves()
             why = f"the leaves from place {start} on that are served are not those that are signed"
             raise Told("left out leaf", why, newest, subject=f"{start}")
         with self._database.step():
-            self._database.add_leaves(edge, start, leaves)
-            for record_id, first, log_id in self._database.copies(start):
-                why = f"the record {record_id} has leaves of two logs, {first} and {log_id}: one is served as the other"
-                self._tell(Told("wrong name", why, subject=f"{record_id} {log_id}"))
-        return newest, edge
-
-    def _proof(self, follower: Follower, newest: SignedCheckpoint, length: int) -> tuple[SignedCheckpoint, str]:
-        """That the newest log goes on from its first leaves. Of all its leaves the proof is empty."""
-        for _ in range(_TRIES):
-            if length == newest.contents.log_length:
-                return newest, ""
-            try:
-                checkpoint, proof = follower.registry.consistency(length, newest.contents.log_length)
-                follower.check_same(newest, checkpoint)
-                return newest, proof
-            except Problem as problem:
-                if problem.name != "NotNewest":
-                    raise
-                newest = self._follow(follower)
-        raise BadAnswer("no answer is under the checkpoint that was asked for")
+            for record, first, other in self._database.count_leaves():
+                why = f"the record {record} has leaves of two logs, {first} and {other}: one is served as the other"
+                self._tell(Told("wrong name", why, subject=f"{record} {other}"))
 
     # Logs
 
