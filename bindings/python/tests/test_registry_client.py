@@ -10,38 +10,38 @@ from typing import Any
 
 from weoldrin import audit, records
 
-from . import registries
+from . import lies, registries
 from .registries import ONE, OPERATOR, TWO, Registry, honest, run, serving
 
 # What is told of each lie to one who has asked before, and to one who has not.
 LIES: list[tuple[Callable[[Registry], None], str, str]] = [
-    (registries.wrong_name, "wrong name", "wrong name"),
-    (registries.wrong_proof, "wrong name", "wrong name"),
-    (registries.copied, "forked log", ""),
-    (registries.forked_log, "forked log", ""),
-    (registries.rolled_back_map, "rolled back map", ""),
-    (registries.unmapped, "rolled back map", "none"),
-    (registries.rolled_back, "rolled back registry", ""),
-    (registries.rolled_back_silently, "rolled back registry", ""),
-    (registries.forked_registry, "forked registry", ""),
-    (registries.forked_longer, "forked registry", ""),
-    (registries.forked_map, "forked registry", ""),
-    (registries.denying, "forked registry", ""),
-    (registries.stale, "stale checkpoint", "stale checkpoint"),
-    (registries.older_time, "stale checkpoint", ""),
-    (registries.ahead, "checkpoint ahead", "checkpoint ahead"),
-    (registries.unsigned, "unsigned checkpoint", "unsigned checkpoint"),
-    (registries.without_commit, "key without commit", "key without commit"),
-    (registries.lost_commit, "key without commit", "key without commit"),
-    (registries.left_out_leaf, "left out leaf", "left out leaf"),
-    (registries.short_leaves, "left out leaf", "left out leaf"),
-    (registries.replaced_record, "replaced record", "replaced record"),
-    (registries.old_proof, "old proof", "false proof"),
-    (registries.false_proof, "false proof", "false proof"),
-    (registries.held_back, "rolled back log", "rolled back log"),
-    (registries.cut_off, "rolled back log", "rolled back log"),
-    (registries.unlawful, "unlawful record", "unlawful record"),
-    (registries.gone, "rolled back log", "missing record"),
+    (lies.wrong_name, "wrong name", "wrong name"),
+    (lies.wrong_proof, "wrong name", "wrong name"),
+    (lies.copied, "forked log", ""),
+    (lies.forked_log, "forked log", ""),
+    (lies.rolled_back_map, "rolled back map", ""),
+    (lies.unmapped, "rolled back map", "none"),
+    (lies.rolled_back, "rolled back registry", ""),
+    (lies.rolled_back_silently, "rolled back registry", ""),
+    (lies.forked_registry, "forked registry", ""),
+    (lies.forked_longer, "forked registry", ""),
+    (lies.forked_map, "forked registry", ""),
+    (lies.denying, "forked registry", ""),
+    (lies.stale, "stale checkpoint", "stale checkpoint"),
+    (lies.older_time, "stale checkpoint", ""),
+    (lies.ahead, "checkpoint ahead", "checkpoint ahead"),
+    (lies.unsigned, "unsigned checkpoint", "unsigned checkpoint"),
+    (lies.without_commit, "key without commit", "key without commit"),
+    (lies.lost_commit, "key without commit", "key without commit"),
+    (lies.left_out_leaf, "left out leaf", "left out leaf"),
+    (lies.short_leaves, "left out leaf", "left out leaf"),
+    (lies.replaced_record, "replaced record", "replaced record"),
+    (lies.old_proof, "old proof", "false proof"),
+    (lies.false_proof, "false proof", "false proof"),
+    (lies.held_back, "rolled back log", "rolled back log"),
+    (lies.cut_off, "rolled back log", "rolled back log"),
+    (lies.unlawful, "unlawful record", "unlawful record"),
+    (lies.gone, "rolled back log", "missing record"),
 ]
 
 
@@ -163,7 +163,7 @@ class Lies(ClientTest):
 
     def test_without_file(self) -> None:
         """Those that are told by what is trusted alone, where the log is in no file."""
-        by_trust = (registries.forked_log, registries.rolled_back_map, registries.cut_off, registries.replaced_record)
+        by_trust = (lies.forked_log, lies.rolled_back_map, lies.cut_off, lies.replaced_record)
         for lie, name, _ in (it for it in LIES if it[0] in by_trust):
             with self.subTest(lie.__name__):
                 self.served.registry = honest()

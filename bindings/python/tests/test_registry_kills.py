@@ -25,7 +25,7 @@ from weoldrin.registry import command
 from weoldrin.registry.database import Database
 from weoldrin.registry.trust import Trust, read_trust
 
-from . import registries
+from . import lies
 from .registries import ONE, TWO
 from .test_registry_monitor import MonitorTest
 
@@ -154,8 +154,8 @@ class Monitors(MonitorTest):
     def setUp(self) -> None:
         super().setUp()
         self.begin()
-        registries.unlawful(self.registry)
-        registries.held_back_of(self.registry, TWO)
+        lies.unlawful(self.registry)
+        lies.held_back_of(self.registry, TWO)
         self.base = self.folder / "base.sqlite"
         shutil.copy(self.database, self.base)
         self.hook = "--webhook", f"{self.served.url}/hook"

@@ -12,42 +12,42 @@ from weoldrin import records
 from weoldrin.registry.told import WORDS
 from weoldrin.registry.trees import Edge, Maps
 
-from . import registries, trees
+from . import lies, registries, trees
 from .registries import ONE, OPERATOR, TWO, Registry, honest, run, serving
 from .test_registry_client import ClientTest
 from .trees import Leaf, SparseMap, hash_text
 
 # What is told of each lie; nothing of those that are told to one who asks for the log of one package alone.
 LIES: list[tuple[Callable[[Registry], None], str]] = [
-    (registries.wrong_name, "wrong name"),
-    (registries.wrong_proof, ""),
-    (registries.copied, "wrong name"),
-    (registries.forked_log, "forked log"),
-    (registries.rolled_back_map, "rolled back map"),
-    (registries.unmapped, "rolled back map"),
-    (registries.rolled_back, "rolled back registry"),
-    (registries.rolled_back_silently, "rolled back registry"),
-    (registries.forked_registry, "forked registry"),
-    (registries.forked_longer, "forked registry"),
-    (registries.forked_map, "forked registry"),
-    (registries.denying, "forked registry"),
-    (registries.stale, "stale checkpoint"),
-    (registries.older_time, "stale checkpoint"),
-    (registries.ahead, "checkpoint ahead"),
-    (registries.unsigned, "unsigned checkpoint"),
-    (registries.without_commit, "key without commit"),
-    (registries.lost_commit, "key without commit"),
-    (registries.left_out_leaf, "left out leaf"),
-    (registries.short_leaves, "left out leaf"),
-    (registries.other_leaves, "left out leaf"),
-    (registries.replaced_record, "replaced record"),
-    (registries.old_proof, "old proof"),
-    (registries.false_proof, "false proof"),
-    (registries.held_back, "missing record"),
-    (registries.cut_off, "rolled back log"),
-    (registries.unlawful, "unlawful record"),
-    (registries.gone, "missing record"),
-    (registries.false_map, "false map"),
+    (lies.wrong_name, "wrong name"),
+    (lies.wrong_proof, ""),
+    (lies.copied, "wrong name"),
+    (lies.forked_log, "forked log"),
+    (lies.rolled_back_map, "rolled back map"),
+    (lies.unmapped, "rolled back map"),
+    (lies.rolled_back, "rolled back registry"),
+    (lies.rolled_back_silently, "rolled back registry"),
+    (lies.forked_registry, "forked registry"),
+    (lies.forked_longer, "forked registry"),
+    (lies.forked_map, "forked registry"),
+    (lies.denying, "forked registry"),
+    (lies.stale, "stale checkpoint"),
+    (lies.older_time, "stale checkpoint"),
+    (lies.ahead, "checkpoint ahead"),
+    (lies.unsigned, "unsigned checkpoint"),
+    (lies.without_commit, "key without commit"),
+    (lies.lost_commit, "key without commit"),
+    (lies.left_out_leaf, "left out leaf"),
+    (lies.short_leaves, "left out leaf"),
+    (lies.other_leaves, "left out leaf"),
+    (lies.replaced_record, "replaced record"),
+    (lies.old_proof, "old proof"),
+    (lies.false_proof, "false proof"),
+    (lies.held_back, "missing record"),
+    (lies.cut_off, "rolled back log"),
+    (lies.unlawful, "unlawful record"),
+    (lies.gone, "missing record"),
+    (lies.false_map, "false map"),
 ]
 
 
@@ -178,7 +178,7 @@ class Lies(MonitorTest):
         """A fork's evidence is both signed checkpoints."""
         self.begin()
         seen = self.registry.signed[-1]
-        registries.forked_registry(self.registry)
+        lies.forked_registry(self.registry)
         told = self.monitor()[1][0]
         self.assertEqual(told["evidence"], [json.loads(it.to_json()) for it in (seen, self.registry.signed[-1])])
         status, printed, _ = run("monitor", self.served.url, "--database", self.database, "--once")
@@ -197,7 +197,7 @@ class Lies(MonitorTest):
     def test_webhook(self) -> None:
         """What a webhook does not take is sent again."""
         self.begin()
-        registries.forked_registry(self.registry)
+        lies.forked_registry(self.registry)
         self.served.takes_hooks = False
         hook = "--webhook", f"{self.served.url}/hook"
         _, lines, said = self.monitor(*hook)
@@ -282,7 +282,7 @@ class Gossip(MonitorTest):
         """A monitor can't accuse a registry by what that did not sign."""
         forged = self.registry.copy()
         forged.signer = forged.alice.generate()
-        registries.forked_registry(forged)
+        lies.forked_registry(forged)
         path = self.folder / "forged"
         path.write_text(forged.signed[-1].to_json(), encoding="utf-8")
         status, told = self._compared(self.database, str(path))

@@ -83,7 +83,7 @@ class Monitor:
             raise Told("left out leaf", why, newest, subject=f"{start}")
         with self._database.step():
             for record, first, other in self._database.count_leaves():
-                why = f"the record {record} has leaves of two logs, {first} and {other}: one is served as the other"
+                why = f"the record {record} stands in two logs, {first} and {other}: one is a copy of the other"
                 self._tell(Told("wrong name", why, subject=f"{record} {other}"))
 
     # Logs
