@@ -203,6 +203,17 @@ def old_proof(it: Registry) -> None:
     it.twist = twist
 
 
+def old_proof_of_package(it: Registry) -> None:
+    """The same of ONE alone."""
+    old_proof(it)
+    of_all = it.twist
+
+    def twist(path: str, query: Query, reply: Reply) -> Reply:
+        return of_all(path, query, reply) if of_all and query.get("log") == ONE else reply
+
+    it.twist = twist
+
+
 def false_proof(it: Registry) -> None:
     """The map is said to have another record."""
 
@@ -257,3 +268,65 @@ def denying(it: Registry) -> None:
     """The checkpoint that was signed is denied, and the log is another."""
     forked_longer(it)
     del it.signed[:-1]
+
+
+def hidden(it: Registry) -> None:
+    """The map is said to have no ONE."""
+
+    def twist(path: str, query: Query, reply: Reply) -> Reply:
+        return changed(reply, recordId=None) if query.get("log") == ONE else reply
+
+    it.twist = twist
+
+
+def forked_operator(it: Registry) -> None:
+    """The operator log is another from its second record on, by the same first key."""
+    del it.logs[OPERATOR][1:]
+    it.publish(OPERATOR, records.define_namespace("b"))
+    it.publish(OPERATOR, records.define_namespace("a"))
+    it.sign()
+
+
+def split_map(it: Registry) -> None:
+    """What the map says of ONE is under another signed checkpoint of the same length."""
+    other = it.copy()
+    other.heads[ONE] = record_id("package", it.logs[ONE][1])
+    checkpoint = other.sign()
+
+    def twist(path: str, query: Query, reply: Reply) -> Reply:
+        if query.get("log") != ONE:
+            return reply
+        return changed(reply, checkpoint=json.loads(checkpoint.to_json()), **other.map_members(ONE, other.length))
+
+    it.twist = twist
+
+
+def split_unsigned(it: Registry) -> None:
+    """The same, and nobody signed that one."""
+    alice, it.alice = it.alice, p256.SigningKey.generate()
+    it.signer = it.alice
+    split_map(it)
+    it.alice = it.signer = alice
+
+
+def false_leaf(it: Registry) -> None:
+    """The newest record of ONE has no leaf that is signed, and one is served."""
+    it.release(ONE, "2.0.0", has_leaf=False)
+    it.release(TWO, "2.0.0")
+    it.sign()
+    lines = [f"{leaf.log_id} {leaf.record_id}\n" for leaf in (*it.leaves[:-1], Leaf(ONE, it.heads[ONE]))]
+
+    def twist(path: str, query: Query, reply: Reply) -> Reply:
+        if path != "/v1/leaves":
+            return reply
+        return 200, {}, "".join(lines[int(query["from"]) :]).encode()
+
+    it.twist = twist
+
+
+def junk(it: Registry) -> None:
+    """A record of a stranger stands among those of ONE that are served."""
+    it.release(ONE, "2.0.0")
+    it.sign()
+    mallory = p256.SigningKey.generate()
+    it.logs[ONE].insert(4, published.record(it.log(ONE), mallory, [records.yank("1.1.0")], time.time_ns()))

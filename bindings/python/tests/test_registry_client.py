@@ -37,11 +37,18 @@ LIES: list[tuple[Callable[[Registry], None], str, str]] = [
     (lies.short_leaves, "left out leaf", "left out leaf"),
     (lies.replaced_record, "replaced record", "replaced record"),
     (lies.old_proof, "old proof", "false proof"),
+    (lies.old_proof_of_package, "old proof", "false proof"),
     (lies.false_proof, "false proof", "false proof"),
     (lies.held_back, "rolled back log", "rolled back log"),
     (lies.cut_off, "rolled back log", "rolled back log"),
     (lies.unlawful, "unlawful record", "unlawful record"),
     (lies.gone, "rolled back log", "missing record"),
+    (lies.hidden, "false proof", "false proof"),
+    (lies.forked_operator, "forked log", ""),
+    (lies.split_map, "forked registry", "forked registry"),
+    (lies.split_unsigned, "key without commit", "key without commit"),
+    (lies.false_leaf, "false proof", "false proof"),
+    (lies.junk, "unlawful record", "unlawful record"),
 ]
 
 

@@ -88,6 +88,7 @@ class Bounds(MonitorTest):
                 start = time.monotonic()
                 status, printed, said = self.fetch("--out", self.out, "--seconds", "20")
                 self.assertEqual((status, printed[:11]), (1, "bad answer:"), said)
+                self.assertEqual("leads elsewhere" in printed, name == "redirect")
                 self.assertNotIn("\x1b", printed + said)
                 self.assertLess(time.monotonic() - start, 15)
                 self.assertEqual(self.monitor("--seconds", "20")[0], 1)

@@ -4,6 +4,8 @@ import contextlib
 import json
 import pathlib
 import sqlite3
+import subprocess
+import sys
 import unittest
 from collections.abc import Callable
 from typing import Any
@@ -42,12 +44,18 @@ LIES: list[tuple[Callable[[Registry], None], str]] = [
     (lies.other_leaves, "left out leaf"),
     (lies.replaced_record, "replaced record"),
     (lies.old_proof, "old proof"),
+    (lies.old_proof_of_package, ""),
     (lies.false_proof, "false proof"),
     (lies.held_back, "missing record"),
     (lies.cut_off, "rolled back log"),
     (lies.unlawful, "unlawful record"),
     (lies.gone, "missing record"),
     (lies.false_map, "false map"),
+    (lies.hidden, ""),
+    (lies.forked_operator, "forked log"),
+    (lies.split_map, ""),
+    (lies.false_leaf, "left out leaf"),
+    (lies.junk, "replaced record"),
 ]
 
 
@@ -142,6 +150,26 @@ class Honest(MonitorTest):
             self.assertEqual(maps.root(heads), hash_text(SparseMap([Leaf(*head) for head in heads.items()]).root()))
         self.assertEqual(Edge().root(), hash_text(trees.log_root([])))
         self.assertEqual(Maps().root({}), hash_text(SparseMap([]).root()))
+
+
+    def test_bound(self) -> None:
+        """No more leaves are read than are wanted."""
+        status, lines, _ = self.monitor("--most", "11")
+        self.assertEqual((status, lines[0]["name"], lines[1]["logs"]), (1, "bad answer", 0))
+        self.assertNotIn("/v1/leaves?from=0", self.served.asked)
+
+    def test_reader(self) -> None:
+        """What is told to a reader that has gone is told again."""
+        self.begin()
+        lies.forked_registry(self.registry)
+        words = ["monitor", self.served.url, "--database", self.database, "--once"]
+        code = "import sys; from weoldrin.registry.command import main; sys.exit(main(sys.argv[1:]))"
+        command = [sys.executable, "-c", code]
+        with subprocess.Popen([*command, *words], stdout=subprocess.PIPE, stderr=subprocess.PIPE) as process:
+            assert process.stdout is not None
+            process.stdout.close()
+            self.assertEqual(process.wait(60), 3)
+        self.assertEqual(run(*words)[1].split(":")[0], "fork")
 
 
 class Lies(MonitorTest):

@@ -18,7 +18,7 @@ _PART = 65_536
 # No number of more digits is below 2^64.
 _DIGITS = 20
 _HOST = re.compile(r"[A-Za-z0-9.:_-]+")
-_PATH = re.compile(r"[A-Za-z0-9._~%/:-]*")
+_PATH = re.compile(r"[A-Za-z0-9._~%/:@!$&'()*+,;=?-]*")
 
 
 class Address(NamedTuple):
@@ -37,19 +37,20 @@ class Address(NamedTuple):
         return f"{'https' if self.is_secret else 'http'}://{host}{port}{self.path}"
 
 
-def address_of(url: str) -> Address:
-    """The address that a URL says. Raises `Unusable`."""
+def address_of(url: str, *, has_query: bool = False) -> Address:
+    """The address that a URL says: that of a registry, or of one thing, which may have a query. Raises `Unusable`."""
     try:
         parts = urllib.parse.urlsplit(url)
         host, port = parts.hostname or "", parts.port
     except ValueError:
         raise Unusable(f"{url}: it is no URL") from None
-    is_plain = not (parts.query or parts.fragment or parts.username or parts.password)
+    is_plain = not (parts.fragment or parts.username or parts.password) and (has_query or not parts.query)
     if parts.scheme not in ("http", "https") or not is_plain or not _HOST.fullmatch(host):
-        raise Unusable(f"{url}: it is no URL of http or https without a query")
-    if not _PATH.fullmatch(parts.path):
+        raise Unusable(f"{url}: it is no URL of http or https that can be used here")
+    path = f"{parts.path}?{parts.query}" if parts.query else parts.path if has_query else parts.path.rstrip("/")
+    if not _PATH.fullmatch(path):
         raise Unusable(f"{url}: its path has characters that have to be escaped")
-    return Address(parts.scheme == "https", host, port, parts.path.rstrip("/"))
+    return Address(parts.scheme == "https", host, port, path)
 
 
 class Answer(NamedTuple):

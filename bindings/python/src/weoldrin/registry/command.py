@@ -89,6 +89,8 @@ def _add_monitor(command: argparse.ArgumentParser) -> None:
     command.add_argument("--json", action="store_true", help="each line is an object of JSON")
     command.add_argument("--webhook", action=Once, metavar="URL", help="where what is told is sent, as JSON")
     command.add_argument("--saw", action=Once, metavar="FILE", help="where the checkpoints are written, for gossip")
+    most = "how many leaves are read at most"
+    command.add_argument("--most", type=_number, default=20_000_000, metavar="LEAVES", help=most)
     command.add_argument("--workers", type=_seconds, default=os.cpu_count() or 1, help="how many processes replay logs")
     _add_common(command, has_trust=False)
 
@@ -107,7 +109,8 @@ def _run(asked: argparse.Namespace) -> int:
     try:
         return _RUN[asked.command](asked)
     except Told as it:
-        print_lines([_object_of(it) if getattr(asked, "json", False) else str(it)])
+        evidence = [checkpoint.to_json() for checkpoint in it.evidence]
+        print_lines([_object_of(it)] if getattr(asked, "json", False) else [str(it), *evidence])
     except NoPackage as it:
         print_lines(["none"])
         tell(f"weoldrin: {it.args[0]}")

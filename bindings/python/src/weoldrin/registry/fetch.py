@@ -29,12 +29,12 @@ def opened(asked: argparse.Namespace, trust: Trust) -> Follower:
     return Follower(Registry(asked.url, asked.seconds), trust, oldest=asked.oldest)
 
 
-def tell_first_use(follower: Follower, was_pinned: bool) -> None:
+def tell_first_use(key: str | None, was_pinned: bool) -> None:
     """Says by whose key the operator log begins, where nobody had said so."""
-    if not was_pinned and follower.trust.key:
+    if key is not None and not was_pinned:
         tell(
-            f"weoldrin: trusted on first use: the operator log begins with the key {follower.trust.key}. Have this id "
-            "from the operators by another way"
+            f"weoldrin: trusted on first use: the operator log begins with the key {key}. Have this id from the "
+            "operators by another way"
         )
 
 
@@ -70,7 +70,7 @@ def run(asked: argparse.Namespace) -> int:
             add(file, found.envelopes[len(have) :])
         if beside is not None:
             trusted.write(asked.trust, beside, trust.to_json())
-        tell_first_use(follower, was_pinned)
+        tell_first_use(trust.key, was_pinned)
     length, seen = found.checkpoint.contents.log_length, found.seen
     leaf = "not looked for" if seen.place is None else seen.place
     line = f"ok {seen.count} {seen.head} under {length} {time_text(found.checkpoint)} leaf {leaf}"

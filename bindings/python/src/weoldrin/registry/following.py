@@ -56,12 +56,14 @@ class Follower:
 
     def __init__(self, registry: Registry, trust: Trust, *, oldest: float = OLDEST) -> None:
         self.registry, self.trust, self._oldest = registry, trust, oldest
+        self._before: SignedCheckpoint | None = None
         self.newest: SignedCheckpoint | None = None
         """The checkpoint that was followed to since this was made."""
 
     def follow(self) -> SignedCheckpoint:
         """Goes on to the newest checkpoint, and gives it. Raises `Told`."""
-        seen, name = self.trust.checkpoint, log_id("operator")
+        self._before = seen = self.trust.checkpoint
+        name = log_id("operator")
         head = self._head_of_operator(seen, name)
         if head.record_id is None:
             raise Told("unsigned checkpoint", "its map has no operator log, so no key may sign it", head.checkpoint)
@@ -112,8 +114,7 @@ class Follower:
         """Raises `Told` where a checkpoint's map is not proved to say so of a log."""
         if stands(head, name, head.checkpoint.contents.map_root):
             return
-        seen = self.trust.checkpoint
-        if seen is not None and stands(head, name, seen.contents.map_root):
+        if self._before is not None and stands(head, name, self._before.contents.map_root):
             raise Told("old proof", f"what is said of {name} was so under an older checkpoint", head.checkpoint)
         raise Told("false proof", f"what is said of {name} is not proved", head.checkpoint)
 

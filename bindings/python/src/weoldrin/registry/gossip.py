@@ -41,7 +41,7 @@ class Sight(NamedTuple):
 def sight_of(name: str, seconds: float) -> Sight:
     """What is seen in a monitor's file, or in the lines of checkpoints of a file or of a URL."""
     if name.startswith(("http://", "https://")):
-        answer = asking.ask(asking.address_of(name), "", longest=_LONGEST, seconds=seconds)
+        answer = asking.ask(asking.address_of(name, has_query=True), "", longest=_LONGEST, seconds=seconds)
         if answer.status != 200:
             raise Unusable(f"{name}: it answers with status {answer.status}")
         return _sight_of_lines(name, answer.body)

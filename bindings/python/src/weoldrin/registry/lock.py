@@ -131,7 +131,7 @@ def run_lock(asked: argparse.Namespace) -> int:
             trusted.write(asked.out, out, to_json(of_file, locked))
         if beside is not None:
             trusted.write(asked.trust, beside, trust.to_json())
-        tell_first_use(follower, was_pinned)
+        tell_first_use(trust.key, was_pinned)
     print_lines(map(printable, lines))
     return 0 if is_whole else 1
 

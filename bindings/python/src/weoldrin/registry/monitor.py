@@ -15,7 +15,7 @@ from . import asking
 from . import trust as trusted
 from .answers import Problem
 from .database import Behind, Database
-from .fetch import opened
+from .fetch import opened, tell_first_use
 from .following import Follower, holds
 from .replaying import BATCH, Replayed, Replayer, kind_of_log
 from .told import BadAnswer, NoAnswer, Told
@@ -28,8 +28,8 @@ _PAGE, _ASKED = 20_000, 200
 class Monitor:
     """Follows a registry."""
 
-    def __init__(self, database: Database, follower: Callable[[], Follower], replayer: Replayer) -> None:
-        self._database, self._follower, self._replayer = database, follower, replayer
+    def __init__(self, database: Database, follower: Callable[[], Follower], replayer: Replayer, most: int) -> None:
+        self._database, self._follower, self._replayer, self._most = database, follower, replayer, most
         self._maps = Maps()
         self._found: list[Told] = []
 
@@ -66,6 +66,8 @@ class Monitor:
         """Reads the leaves up to those that are signed, a page in a transaction, and counts them where they are
         these."""
         edge, signed = self._database.edge(), newest.contents
+        if signed.log_length > self._most:
+            raise BadAnswer(f"more leaves are signed than --most {self._most}")
         while edge.length < signed.log_length:
             start = edge.length
             leaves = follower.registry.leaves(start)[0][: min(_PAGE, signed.log_length - start)]
@@ -158,12 +160,12 @@ class Teller:
 
     def __init__(self, database: Database, is_json: bool, webhook: str | None) -> None:
         self._database, self._is_json = database, is_json
-        self._webhook = None if webhook is None else asking.address_of(webhook)
+        self._webhook = None if webhook is None else asking.address_of(webhook, has_query=True)
 
     def tell(self) -> None:
         """Prints and sends all that is new."""
         for number, text in self._database.untold("printed"):
-            print_lines([text if self._is_json else _line_of(text)])
+            print_lines([text if self._is_json else _line_of(text)], has_to_be_read=True)
             self._mark("printed", number)
         if self._webhook is not None:
             for number, text in self._database.untold("sent"):
@@ -204,41 +206,40 @@ def _followed(database: Database, is_json: bool) -> str:
     return f"followed {length} {root} logs {logs} records {records}"
 
 
-def _follower(asked: argparse.Namespace, database: Database) -> Follower:
-    """Who follows the registry from what is kept."""
-    trust = database.trust()
-    was_pinned = trust.key is not None
-    follower = opened(asked, trust)
-    if not was_pinned and asked.operator is None:
-        tell("weoldrin: the first key of the operator log is trusted on first use")
-    return follower
-
-
 def run(asked: argparse.Namespace) -> int:
     """Follows a registry, by one step or for ever."""
     replayer = Replayer(asked.url, asked.seconds, asked.workers)
     with contextlib.closing(Database(asked.database)) as database, contextlib.closing(replayer):
-        monitor = Monitor(database, lambda: _follower(asked, database), replayer)
+        monitor = Monitor(database, lambda: opened(asked, database.trust()), replayer, asked.most)
         teller = Teller(database, asked.json, asked.webhook)
         with database.step():
             database.keep("url", asked.url)
-        status = 0
+        followed = ""
         while True:
             try:
-                teller.tell()
-                found = monitor.step()
-                status = 1 if found else 0 if asked.once else status
-                teller.tell()
-                print_lines([_followed(database, asked.json)])
-                if asked.saw is not None:
-                    _write_saw(database, asked.saw)
+                is_good, line = _stepped(asked, database, monitor, teller)
+                if line != followed:
+                    print_lines([line])
+                followed = line
+                if asked.once:
+                    return 0 if is_good else 1
             except NoAnswer as error:
                 if asked.once:
                     raise
-                tell(f"weoldrin: {error}")
-            if asked.once:
-                return status
+                tell(f"weoldrin: {error.args[0]}")
             time.sleep(asked.every)
+
+
+def _stepped(asked: argparse.Namespace, database: Database, monitor: Monitor, teller: Teller) -> tuple[bool, str]:
+    """Whether nothing is to be told in a step, and its line."""
+    teller.tell()
+    was_pinned = asked.operator is not None or database.trust().key is not None
+    found = monitor.step()
+    teller.tell()
+    tell_first_use(database.trust().key, was_pinned)
+    if asked.saw is not None:
+        _write_saw(database, asked.saw)
+    return not found, _followed(database, asked.json)
 
 
 def _write_saw(database: Database, path: str) -> None:
