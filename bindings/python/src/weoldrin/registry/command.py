@@ -4,7 +4,6 @@ import argparse
 import json
 import os
 
-from .. import library_version
 from .._words import Once, Words
 from ..errors import NoLibrary
 from ..printing import print_lines, tell
@@ -48,7 +47,6 @@ def _add_leaves(command: argparse.ArgumentParser) -> None:
 
 def _parser() -> argparse.ArgumentParser:
     parser = Words(prog="weoldrin", description="Asks a registry, and believes it nothing.", epilog=_STATUS)
-    parser.add_argument("--version", action="version", version=f"weoldrin {library_version()}")
     commands = parser.add_subparsers(dest="command", required=True)
 
     def added(name: str, text: str) -> argparse.ArgumentParser:
