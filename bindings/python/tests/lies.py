@@ -330,3 +330,11 @@ def junk(it: Registry) -> None:
     it.sign()
     mallory = p256.SigningKey.generate()
     it.logs[ONE].insert(4, published.record(it.log(ONE), mallory, [records.yank("1.1.0")], time.time_ns()))
+
+
+def hostile(it: Registry) -> None:
+    """The newest record of ONE is said to be by a key whose id moves a terminal's cursor."""
+    entries = [records.release("2.0.0", records.sha256_text(b""))]
+    contents = records.contents(it.log(ONE).head(), time.time_ns(), entries)
+    it.add(ONE, records.envelope(contents, "sha256:\x1b[2J\n\u202e", "ecdsa-p256:AA=="))
+    it.sign()

@@ -49,6 +49,7 @@ LIES: list[tuple[Callable[[Registry], None], str, str]] = [
     (lies.split_unsigned, "key without commit", "key without commit"),
     (lies.false_leaf, "false proof", "false proof"),
     (lies.junk, "unlawful record", "unlawful record"),
+    (lies.hostile, "unlawful record", "unlawful record"),
 ]
 
 
@@ -189,6 +190,7 @@ class Lies(ClientTest):
                 status, printed, said = run("fetch", self.served.url, "a:one")
                 told = printed.strip().partition(":")[0] if status else ""
                 self.assertEqual((status, told), (1 if name else 0, name), said)
+                self.assertNotRegex(printed + said, "[\x1b\u202e]")
 
 
 class Trusted(ClientTest):
@@ -289,6 +291,11 @@ class Lock(ClientTest):
             self.assertEqual(run("check", self.served.url, self.locked)[0], 2, it)
         path.write_text(json.dumps(other), encoding="utf-8")
         self.assertNotEqual(run("check", self.served.url, self.locked)[0], 0)
+        # The logs of two packages exchanged.
+        one, two = (good["packages"][it] for it in ("a:one", "a:two"))
+        exchanged = {"a:one": {**one, "log": TWO}, "a:two": {**two, "log": ONE}}
+        path.write_text(json.dumps({**good, "packages": exchanged}), encoding="utf-8")
+        self.assertEqual(run("check", self.served.url, self.locked)[0], 2)
         self.assertEqual(run("check", self.served.url, f"{self.locked}.none")[0], 2)
 
 

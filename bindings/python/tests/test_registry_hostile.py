@@ -121,6 +121,8 @@ class Bounds(MonitorTest):
                     self.assertEqual(len(asking.ask(address, "/", longest=bound, seconds=9).body), count)
                 else:
                     self.assertRaises(BadAnswer, asking.ask, address, "/", longest=bound, seconds=9)
+        self.served.raw = _whole(OK + b"Content-Length: 9\r\n\r\nwhole\n")
+        self.assertRaises(BadAnswer, asking.ask, address, "/", longest=99, seconds=9)
 
     def test_later(self) -> None:
         """A registry that can't answer now is no liar."""
@@ -234,9 +236,11 @@ class Forms(MonitorTest):
                 for headers in headed:
                     self.registry.twist = lambda at, query, reply: (200, headers, data) if at == path else reply
                     self._forget()
-                    self.assertEqual(self.fetch("--out", self.out)[0], 1, (path, data))
+                    status, printed, _ = self.fetch("--out", self.out)
+                    self.assertEqual(status, 1, (path, data))
                     if path == "/v1/leaves":
-                        self.assertEqual(self.monitor()[0], 1, data)
+                        self.assertEqual(printed[:11], "bad answer:", data)
+                        self.assertEqual(self.monitor()[1][0]["name"], "bad answer", data)
 
     def test_endless_pages(self) -> None:
         """An answer of nothing that says that more follows."""

@@ -12,7 +12,7 @@ from typing import Any
 
 from weoldrin import records
 from weoldrin.registry.told import WORDS
-from weoldrin.registry.trees import Edge, Maps
+from weoldrin.registry.trees import Edge, Head, Maps, deep_root
 
 from . import lies, registries, trees
 from .registries import ONE, OPERATOR, TWO, Registry, honest, run, serving
@@ -56,6 +56,7 @@ LIES: list[tuple[Callable[[Registry], None], str]] = [
     (lies.split_map, ""),
     (lies.false_leaf, "left out leaf"),
     (lies.junk, "replaced record"),
+    (lies.hostile, "unlawful record"),
 ]
 
 
@@ -147,9 +148,18 @@ class Honest(MonitorTest):
             edge.append(it)  # type: ignore[arg-type]
             heads[it.log_id] = it.record_id
             self.assertEqual(edge.root(), hash_text(trees.log_root([leaf.of_log() for leaf in leaves[:count]])))
-            self.assertEqual(maps.root(heads), hash_text(SparseMap([Leaf(*head) for head in heads.items()]).root()))
+            root = hash_text(SparseMap([Leaf(*head) for head in heads.items()]).root())
+            for is_deep in (True, False):
+                of_map = [Head(Leaf(*it).key(), it[1], deep_root(*it) if is_deep else None) for it in heads.items()]
+                self.assertEqual(maps.root(of_map), root)
+                self.assertEqual(Maps().root(of_map), root)
         self.assertEqual(Edge().root(), hash_text(trees.log_root([])))
-        self.assertEqual(Maps().root({}), hash_text(SparseMap([]).root()))
+        self.assertEqual(Maps().root([]), hash_text(SparseMap([]).root()))
+        # Logs that are alike far down.
+        alike = [Leaf(hash_text(bytes(31) + bytes([last])), leaves[last].record_id) for last in (0, 1, 2, 7)]
+        alike.append(Leaf(hash_text(b"\0" * 5 + b"\1" + bytes(26)), leaves[9].record_id))
+        of_map = [Head(it.key(), it.record_id, deep_root(*it)) for it in alike]
+        self.assertEqual(Maps().root(of_map), hash_text(SparseMap(alike).root()))
 
 
     def test_bound(self) -> None:
@@ -211,6 +221,14 @@ class Lies(MonitorTest):
         self.assertEqual(told["evidence"], [json.loads(it.to_json()) for it in (seen, self.registry.signed[-1])])
         status, printed, _ = run("monitor", self.served.url, "--database", self.database, "--once")
         self.assertEqual((status, printed[:9]), (1, "followed "))
+
+    def test_hostile_text(self) -> None:
+        """A line has no sign of a stranger's."""
+        self.begin()
+        lies.hostile(self.registry)
+        status, printed, _ = run("monitor", self.served.url, "--database", self.database, "--once")
+        self.assertEqual((status, printed.count("\n"), printed[:26]), (1, 2, "unlawful: unlawful record:"))
+        self.assertIn("\\u{1b}[2J\\u{a}\\u{202e}", printed)
 
     def test_healed(self) -> None:
         """What was missing and comes is followed."""

@@ -140,8 +140,6 @@ def ask(
 
 def _body_of(response: http.client.HTTPResponse, longest: int) -> bytes:
     """The whole body, in parts: a server may announce more than there is memory for."""
-    if response.length is not None and response.length > longest:
-        raise BadAnswer("the answer is too long")
     body = bytearray()
     while part := response.read(_PART):
         body += part

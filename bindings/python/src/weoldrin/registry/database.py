@@ -12,7 +12,7 @@ from typing import NamedTuple
 from ..errors import BadArgument
 from .answers import Leaf
 from .told import NoAnswer, Told, Unusable, Unwritten
-from .trees import Edge
+from .trees import Edge, Head
 from .trust import Trust
 
 _APPLICATION = 0x574D4F4E
@@ -25,7 +25,7 @@ CREATE TABLE leaves (place INTEGER PRIMARY KEY, log TEXT NOT NULL, record TEXT N
 CREATE INDEX leaves_by_log ON leaves (log, place);
 CREATE INDEX leaves_by_record ON leaves (record);
 CREATE TABLE logs (id TEXT PRIMARY KEY, head TEXT NOT NULL, leaves INTEGER NOT NULL, count INTEGER NOT NULL,
-                   state TEXT NOT NULL);
+                   state TEXT NOT NULL, deep BLOB);
 CREATE INDEX logs_behind ON logs (id) WHERE count < leaves;
 CREATE TABLE told (number INTEGER PRIMARY KEY, subject TEXT NOT NULL UNIQUE, text TEXT NOT NULL,
                    is_printed INTEGER NOT NULL, is_sent INTEGER NOT NULL);
@@ -147,9 +147,9 @@ class Database:
         start = Edge(self.kept("counted") or "").length
         # Beside max(place), SQLite takes the other columns of its row.
         self._file.execute(
-            "INSERT INTO logs SELECT log, record, number, 0, '' FROM "
+            "INSERT INTO logs SELECT log, record, number, 0, '', NULL FROM "
             "(SELECT log, record, count(*) AS number, max(place) FROM leaves WHERE place >= ? GROUP BY log) WHERE true "
-            "ON CONFLICT (id) DO UPDATE SET head = excluded.head, leaves = leaves + excluded.leaves",
+            "ON CONFLICT (id) DO UPDATE SET head = excluded.head, leaves = leaves + excluded.leaves, deep = NULL",
             (start,),
         )
         self.keep("counted", self.kept("edge") or "")
@@ -177,18 +177,20 @@ class Database:
             found.append(Behind(log_id, have, state, self.records_of(log_id)[have:]))
         return found
 
-    def replayed(self, log_id: str, count: int, state: str) -> None:
-        """Keeps how far a log was replayed."""
-        self._file.execute("UPDATE logs SET count = ?, state = ? WHERE id = ?", (count, state, log_id))
+    def replayed(self, log_id: str, count: int, state: str, deep: bytes) -> None:
+        """Keeps how far a log was replayed, and the deep root of its head."""
+        row = count, state, deep, log_id
+        self._file.execute("UPDATE logs SET count = ?, state = ?, deep = ? WHERE id = ?", row)
 
     def newest_logs(self, count: int) -> list[str]:
         """The ids of some logs, those of the newest leaves first."""
         rows = self._file.execute("SELECT log FROM leaves GROUP BY log ORDER BY max(place) DESC LIMIT ?", (count,))
         return [str(log) for (log,) in rows]
 
-    def heads(self) -> dict[str, str]:
+    def heads(self) -> list[Head]:
         """The last record of each log, by the leaves."""
-        return {str(log): str(head) for log, head in self._file.execute("SELECT id, head FROM logs")}
+        rows = self._file.execute("SELECT id, head, deep FROM logs")
+        return [Head(bytes.fromhex(log[7:]), str(head), deep) for log, head, deep in rows]
 
     def counts(self) -> tuple[int, int]:
         """How many logs there are, and how many records were replayed."""

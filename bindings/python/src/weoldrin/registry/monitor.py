@@ -99,7 +99,7 @@ class Monitor:
                 faults = [self._named(follower, it, it.fault) for it in batch if it.fault]
                 with self._database.step():
                     for it in batch:
-                        self._database.replayed(it.log_id, it.records, it.state)
+                        self._database.replayed(it.log_id, it.records, it.state, it.deep)
                     for fault in faults:
                         self._tell(fault)
 
@@ -136,19 +136,20 @@ class Monitor:
             return
         heads = self._database.heads()
         if self._maps.root(heads) != newest.contents.map_root:
-            raise self._explained(follower, newest, heads)
+            raise self._explained(follower, newest)
         with self._database.step():
             self._database.keep("map", checked)
 
-    def _explained(self, follower: Follower, newest: SignedCheckpoint, heads: dict[str, str]) -> Told:
+    def _explained(self, follower: Follower, newest: SignedCheckpoint) -> Told:
         """What a map is that is not that of the leaves: the logs of the newest leaves are asked for."""
         length = newest.contents.log_length
         for name in self._database.newest_logs(_ASKED):
             under, head = follower.head(name)
-            if under.contents.log_length != length or head.record_id == heads[name]:
+            records = self._database.records_of(name)
+            if under.contents.log_length != length or head.record_id == records[-1]:
                 continue
-            if head.record_id is None or head.record_id in self._database.records_of(name):
-                why = f"the map has {head.record_id} as the last record of {name}, whose leaves go on to {heads[name]}"
+            if head.record_id is None or head.record_id in records:
+                why = f"the map has {head.record_id} as the last record of {name}, whose leaves go on to {records[-1]}"
                 return Told("rolled back map", why, newest, subject=f"{length} {name}")
             why = f"the map has {head.record_id} as the last record of {name}, and no leaf is of it"
             return Told("left out leaf", why, newest, subject=f"{length} {name}")

@@ -58,6 +58,44 @@ def _empty_roots() -> list[bytes]:
 _EMPTY = _empty_roots()
 
 
+# No two ids of a map are alike to this depth, but by chance among millions. What is below it, of a log alone, is hashed
+# once for each head, and kept.
+_DEEP = 40
+
+
+def deep_root(log_id: str, record_id: str) -> bytes:
+    """The root of the part of a map at that depth that has one log, with this last record."""
+    return _deep_root(bytes.fromhex(log_id[7:]), record_id)
+
+
+def _deep_root(key: bytes, record_id: str) -> bytes:
+    return _climbed(key, _value_root(record_id), 256, _DEEP)
+
+
+def _value_root(record_id: str) -> bytes:
+    text = record_id.encode()
+    return _digest(b"\0WARG-MAP-LEAF-V0" + bytes([len(text)]) + text)
+
+
+def _climbed(key: bytes, root: bytes, start: int, end: int) -> bytes:
+    """The root at a depth of what is alone there, by that at a greater depth."""
+    path, sha256, empty = int.from_bytes(key, "big"), hashlib.sha256, _EMPTY
+    for height in range(256 - start, 256 - end):
+        siblings = empty[height] + root if path >> height & 1 else root + empty[height]
+        root = sha256(b"\1" + siblings).digest()
+    return root
+
+
+class Head(NamedTuple):
+    """The last record of a log."""
+
+    key: bytes
+    """The bytes of the log's id."""
+    record_id: str
+    deep: bytes | None
+    """Its `deep_root`, where it is known."""
+
+
 class Branch(NamedTuple):
     """A log alone below a depth of the map: the root of that part."""
 
@@ -73,15 +111,15 @@ class Maps:
         self._kept: dict[tuple[bytes, str], Branch] = {}
         self._now: dict[tuple[bytes, str], Branch] = {}
 
-    def root(self, heads: dict[str, str]) -> str:
-        """The text of the root of the map that has these heads, by the ids of their logs."""
-        sorted_heads = sorted((bytes.fromhex(log_id[7:]), record_id) for log_id, record_id in heads.items())
+    def root(self, heads: list[Head]) -> str:
+        """The text of the root of the map that has these heads."""
+        heads = sorted(heads)
         self._now = {}
-        root = self._root([key for key, _ in sorted_heads], sorted_heads, 0, len(sorted_heads), 0)
+        root = self._root([it.key for it in heads], heads, 0, len(heads), 0)
         self._kept = self._now
         return f"sha256:{root.hex()}"
 
-    def _root(self, keys: list[bytes], heads: list[tuple[bytes, str]], low: int, high: int, depth: int) -> bytes:
+    def _root(self, keys: list[bytes], heads: list[Head], low: int, high: int, depth: int) -> bytes:
         if low == high:
             return _EMPTY[256 - depth]
         if high - low == 1:
@@ -93,20 +131,16 @@ class Maps:
         left = self._root(keys, heads, low, at, depth + 1)
         return _node(left, self._root(keys, heads, at, high, depth + 1))
 
-    def _alone(self, head: tuple[bytes, str], depth: int) -> bytes:
+    def _alone(self, head: Head, depth: int) -> bytes:
         """The root of a part that has one log."""
-        kept = self._kept.get(head)
+        kept = self._kept.get(head[:2])
         if kept is None or kept.depth != depth:
-            kept = Branch(depth, _climbed(*head, depth))
-        self._now[head] = kept
+            kept = Branch(depth, _alone_root(head, depth))
+        self._now[head[:2]] = kept
         return kept.root
 
 
-def _climbed(key: bytes, record_id: str, depth: int) -> bytes:
-    text = record_id.encode()
-    root = _digest(b"\0WARG-MAP-LEAF-V0" + bytes([len(text)]) + text)
-    path, sha256, empty = int.from_bytes(key, "big"), hashlib.sha256, _EMPTY
-    for height in range(256 - depth):
-        siblings = empty[height] + root if path >> height & 1 else root + empty[height]
-        root = sha256(b"\1" + siblings).digest()
-    return root
+def _alone_root(head: Head, depth: int) -> bytes:
+    if depth <= _DEEP:
+        return _climbed(head.key, head.deep or _deep_root(head.key, head.record_id), _DEEP, depth)
+    return _climbed(head.key, _value_root(head.record_id), 256, depth)
