@@ -12,7 +12,7 @@ import threading
 import time
 import urllib.parse
 from collections.abc import Callable, Iterator
-from typing import Any
+from typing import IO, Any
 
 from weoldrin import Checkpoint, Log, OperatorLog, PackageLog, SignedCheckpoint, log_id, p256, record_id, records
 from weoldrin.registry import command
@@ -253,7 +253,7 @@ class Served(http.server.ThreadingHTTPServer):
     def __init__(self, registry: Registry) -> None:
         super().__init__(("127.0.0.1", 0), _Handler)
         self.registry, self.lock = registry, threading.Lock()
-        self.raw: Callable[[Any], None] | None = None
+        self.raw: Callable[[IO[bytes]], None] | None = None
         self.asked: list[str] = []
         self.hooked: list[dict[str, Any]] = []
         self.takes_hooks = True

@@ -169,6 +169,15 @@ class Lies(ClientTest):
                 self.assertEqual((status, printed.partition(":")[0]), (1, name), said)
                 self.assertEqual(self.files(), before)
 
+    def test_evidence(self) -> None:
+        """Behind what is told stand the signed checkpoints."""
+        self.assertEqual(self.fetch()[0], 0)
+        seen = self.registry.signed[-1]
+        lies.forked_longer(self.registry)
+        told, *evidence = self.fetch()[1].splitlines()
+        self.assertTrue(told.startswith("forked registry: "))
+        self.assertEqual(evidence, [it.to_json() for it in (seen, self.registry.signed[-1])])
+
     def test_without_file(self) -> None:
         """Those that are told by what is trusted alone, where the log is in no file."""
         by_trust = (lies.forked_log, lies.rolled_back_map, lies.cut_off, lies.replaced_record)
@@ -220,6 +229,15 @@ class Trusted(ClientTest):
         self.assertEqual(run("fetch", self.served.url, "a:one", "--trust", f"{self.folder}/no/trust")[0], 2)
         self.assertEqual(run("fetch", self.served.url, "a:one", "--out", f"{self.folder}/no/log")[0], 2)
         self.assertEqual(run("fetch", self.served.url, "a:one", "--trust", str(self.folder))[0], 3)
+        self.assertFalse(pathlib.Path(self.out).exists())
+        first = self.registry.logs[ONE][0].hex()
+        texts = {"# it\n": 0, f"{first}\n\n": 0, first: 0, f"{first}\r\n": 0, f"{first}\n\n# it\n": 2}
+        for text, status in texts.items():
+            pathlib.Path(self.out).write_text(text, encoding="ascii")
+            self.assertEqual((self.fetch("--out", self.out)[0], audit(self.out, "package").fault), (status, None))
+        pathlib.Path(self.out).chmod(0o444)
+        self.assertEqual(self.fetch("--out", self.out)[0], 2)
+        pathlib.Path(self.out).chmod(0o644)
         pathlib.Path(self.out).write_text("zz\n", encoding="ascii")
         self.assertEqual(self.fetch("--out", self.out)[0], 2)
         pathlib.Path(self.out).write_text(f"{self.registry.logs[TWO][1].hex()}\n", encoding="ascii")

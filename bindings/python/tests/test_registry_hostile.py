@@ -5,7 +5,7 @@ import json
 import re
 import time
 from collections.abc import Callable, Iterator
-from typing import Any
+from typing import IO, Any, cast
 
 from weoldrin.registry import asking
 from weoldrin.registry.told import BadAnswer, NoAnswer
@@ -19,8 +19,8 @@ DEEP = b"[" * 200_000
 LONG = b"9" * 10_000
 
 
-def _endless(start: bytes, part: bytes) -> Callable[[Any], None]:
-    def write(file: Any) -> None:
+def _endless(start: bytes, part: bytes) -> Callable[[IO[bytes]], None]:
+    def write(file: IO[bytes]) -> None:
         file.write(start)
         while True:
             file.write(part)
@@ -28,14 +28,14 @@ def _endless(start: bytes, part: bytes) -> Callable[[Any], None]:
     return write
 
 
-def _whole(data: bytes) -> Callable[[Any], None]:
-    def write(file: Any) -> None:
+def _whole(data: bytes) -> Callable[[IO[bytes]], None]:
+    def write(file: IO[bytes]) -> None:
         file.write(data)
 
     return write
 
 
-def _drip(file: Any) -> None:
+def _drip(file: IO[bytes]) -> None:
     file.write(OK + b"Content-Length: 1000\r\n\r\n")
     while True:
         file.write(b" ")
@@ -43,7 +43,7 @@ def _drip(file: Any) -> None:
         time.sleep(0.05)
 
 
-def _drip_head(file: Any) -> None:
+def _drip_head(file: IO[bytes]) -> None:
     file.write(OK)
     while True:
         file.write(b"A: b\r\n")
@@ -52,7 +52,7 @@ def _drip_head(file: Any) -> None:
 
 
 # What is no HTTP that can be taken.
-RAW: dict[str, Callable[[Any], None]] = {
+RAW: dict[str, Callable[[IO[bytes]], None]] = {
     "endless body": _endless(OK + b"\r\n", b" " * 65_536),
     "endless chunks": _endless(OK + b"Transfer-Encoding: chunked\r\n\r\n", b"10000\r\n" + b" " * 65_536 + b"\r\n"),
     "chunk of -1": _endless(OK + b"Transfer-Encoding: chunked\r\n\r\n-1\r\n", b" " * 65_536),
@@ -151,11 +151,11 @@ def _places(value: object, at: tuple[Any, ...] = ()) -> Iterator[tuple[Any, ...]
         yield from _places(part, (*at, name))
 
 
-def _put(value: Any, at: tuple[Any, ...], other: object) -> Any:
+def _put(value: object, at: tuple[Any, ...], other: object) -> object:
     """A value with another one at a path; without the member where that is `...`."""
     if not at:
         return other
-    made: Any = dict(value) if isinstance(value, dict) else list(value)
+    made: Any = dict(value) if isinstance(value, dict) else list(cast(list[object], value))
     if len(at) == 1 and other is ...:
         del made[at[0]]
     else:

@@ -67,7 +67,7 @@ class Killer:
     def before(self, call: Callable[..., Any]) -> Callable[..., Any]:
         """The call, before which this is counted."""
 
-        def counted(*words: Any, **more: Any) -> Any:
+        def counted(*words: Any, **more: Any) -> object:
             self()
             return call(*words, **more)
 

@@ -5,9 +5,10 @@ is shown by a signed checkpoint and by proofs under it. What decides is the libr
 registry is told of.
 """
 
+from .answers import Registry
 from .following import Follower
 from .packages import Package, package
 from .told import NoAnswer, Told, Unusable
 from .trust import Trust
 
-__all__ = ["Follower", "NoAnswer", "Package", "Told", "Trust", "Unusable", "package"]
+__all__ = ["Follower", "NoAnswer", "Package", "Registry", "Told", "Trust", "Unusable", "package"]

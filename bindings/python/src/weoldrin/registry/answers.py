@@ -6,7 +6,7 @@ import binascii
 import json
 import re
 from collections.abc import Iterator
-from typing import Any, NamedTuple
+from typing import NamedTuple, TypeVar, cast
 
 from ..checkpoints import SignedCheckpoint
 from ..errors import BadArgument
@@ -15,6 +15,7 @@ from .asking import Answer
 from .told import BadAnswer, NoAnswer, Told
 from .trust import is_hash
 
+T = TypeVar("T")
 # Bounds on answers, in bytes: of one with a checkpoint and proofs, and of one with envelopes or leaves.
 _SMALL, _LARGE = 262_144, 64 * 2**20
 # So many bytes of envelopes are taken of one log.
@@ -55,11 +56,11 @@ class Fetched(NamedTuple):
     more: bool
 
 
-def member(value: object, name: str, kind: type[Any]) -> Any:
+def member(value: object, name: str, kind: type[T]) -> T:
     """A member of an object, of that type."""
     if not isinstance(value, dict) or type(value.get(name)) is not kind:
         raise BadAnswer(f"the answer has no {name} as it has to be")
-    return value[name]
+    return cast(T, value[name])
 
 
 def _hash(value: object, name: str) -> str:

@@ -8,9 +8,12 @@ import re
 import socket
 import time
 import urllib.parse
-from typing import Any, NamedTuple, NoReturn, cast
+from typing import TYPE_CHECKING, Any, NamedTuple, NoReturn, cast
 
 from .told import BadAnswer, NoAnswer, Unusable
+
+if TYPE_CHECKING:
+    from _typeshed import WriteableBuffer
 
 # So many bytes an answer may have beside its body.
 _HEAD = 65_536
@@ -71,7 +74,7 @@ class _Reader(io.RawIOBase):
     def readable(self) -> bool:
         return True
 
-    def readinto(self, buffer: Any) -> int:
+    def readinto(self, buffer: "WriteableBuffer") -> int:
         """Waits no longer than the time that is left of all."""
         self._inner.settimeout(_left_until(self._end))
         count = self._inner.recv_into(buffer)

@@ -23,18 +23,18 @@ def _number(word: str) -> int:
     return int(word)
 
 
-def _seconds(word: str) -> int:
+def _positive(word: str) -> int:
     found = _number(word)
     if found == 0:
-        raise argparse.ArgumentTypeError("0 seconds are none")
+        raise argparse.ArgumentTypeError("0 is too few")
     return found
 
 
 def _add_common(command: argparse.ArgumentParser, has_trust: bool = True) -> None:
     command.add_argument("--operator", action=Once, metavar="KEY_ID", help="the key that begins the operator log")
     old, whole = "how old a checkpoint may be", "within which an answer has to be there whole"
-    command.add_argument("--oldest", type=_seconds, default=OLDEST, metavar="SECONDS", help=old)
-    command.add_argument("--seconds", type=_seconds, default=60, help=whole)
+    command.add_argument("--oldest", type=_positive, default=OLDEST, metavar="SECONDS", help=old)
+    command.add_argument("--seconds", type=_positive, default=60, help=whole)
     if has_trust:
         command.add_argument("--trust", action=Once, metavar="FILE", help="what was seen before, and is kept")
 
@@ -83,13 +83,14 @@ def _add_monitor(command: argparse.ArgumentParser) -> None:
     command.add_argument("url", metavar="URL")
     command.add_argument("--database", action=Once, required=True, metavar="FILE", help="what is seen, in SQLite")
     command.add_argument("--once", action="store_true", help="by one step, and no further")
-    command.add_argument("--every", type=_seconds, default=60, metavar="SECONDS", help="how often it is asked")
+    command.add_argument("--every", type=_positive, default=60, metavar="SECONDS", help="how often it is asked")
     command.add_argument("--json", action="store_true", help="each line is an object of JSON")
     command.add_argument("--webhook", action=Once, metavar="URL", help="where what is told is sent, as JSON")
     command.add_argument("--saw", action=Once, metavar="FILE", help="where the checkpoints are written, for gossip")
     most = "how many leaves are read at most"
     command.add_argument("--most", type=_number, default=20_000_000, metavar="LEAVES", help=most)
-    command.add_argument("--workers", type=_seconds, default=os.cpu_count() or 1, help="how many processes replay logs")
+    workers = "how many processes replay logs"
+    command.add_argument("--workers", type=_positive, default=os.cpu_count() or 1, help=workers)
     _add_common(command, has_trust=False)
 
 

@@ -47,8 +47,10 @@ class LogFile:
         """Puts the file with these envelopes behind its own in its place."""
         if not envelopes:
             return
-        old = self._text.removesuffix(b"\n")
+        old = self._text.rstrip(b"\r\n")
         text = (old + b"\n" if old else b"") + b"".join(it.hex().encode() + b"\n" for it in envelopes)
+        if list(envelopes_of(lines_of(text))) != [*self.envelopes(), *envelopes]:
+            raise Unusable(f"{self.path}: a blank line stands before its end")
         folder, name = os.path.split(self.path)
         beside = os.path.join(folder, f".{name}.{secrets.token_hex(8)}.new")
         file = os.open(beside, os.O_WRONLY | os.O_CREAT | os.O_EXCL | os.O_CLOEXEC, 0o666)
