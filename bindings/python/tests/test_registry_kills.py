@@ -20,13 +20,13 @@ from collections.abc import Callable
 from typing import Any
 from unittest import mock
 
-from weoldrin import audit
+from weoldrin import audit, records
 from weoldrin.registry import command
 from weoldrin.registry.database import Database
 from weoldrin.registry.trust import Trust, read_trust
 
 from . import lies
-from .registries import ONE, TWO
+from .registries import ONE, TWO, honest
 from .test_registry_monitor import MonitorTest
 
 # The command, as the console script of the wheel runs it.
@@ -51,6 +51,17 @@ def in_child(work: Callable[[], int]) -> int:
         except BaseException:
             os._exit(99)
     return os.waitstatus_to_exitcode(os.waitpid(child, 0)[1])
+
+
+def running(group: int) -> list[str]:
+    """The processes of a group that run."""
+    found = []
+    for path in pathlib.Path("/proc").glob("[0-9]*/stat"):
+        with contextlib.suppress(OSError):
+            state, _, its_group = path.read_text(encoding="utf-8", errors="replace").rpartition(")")[2].split()[:3]
+            if int(its_group) == group and state not in "ZX":
+                found.append(path.parent.name)
+    return found
 
 
 class Killer:
@@ -219,7 +230,7 @@ class Monitors(MonitorTest):
         self.assertGreater(number, 40)
 
     def test_random(self) -> None:
-        """Killed from outside, at random times, with processes that replay."""
+        """Killed from outside, at random times."""
         chance = random.Random(7)
         words = [*COMMAND, "monitor", self.served.url, "--database", self.database, "--once", "--json", *self.hook]
         start = time.monotonic()
@@ -232,6 +243,31 @@ class Monitors(MonitorTest):
             process.kill()
             printed = process.communicate()[0]
             self._check(printed.splitlines())
+
+    def test_processes(self) -> None:
+        """Those that replay end with the one that was killed."""
+        chance = random.Random(7)
+        self.served.registry = honest()
+        for place in range(130):
+            self.registry.begin(records.sha256_text(str(place).encode()))
+        self.registry.sign()
+        words = [*COMMAND, "monitor", self.served.url, "--database", self.database, "--once", "--workers", "2"]
+        for _ in range(2):
+            pathlib.Path(self.database).unlink()
+            self.served.asked.clear()
+            nowhere = subprocess.DEVNULL
+            process = subprocess.Popen(words, stdout=nowhere, stderr=nowhere, start_new_session=True)
+            while "/v1/fetch/logs" not in self.served.asked and process.poll() is None:
+                time.sleep(0.001)
+            time.sleep(chance.uniform(0, 0.05))
+            process.kill()
+            process.wait()
+            end = time.monotonic() + 30
+            while running(process.pid):
+                self.assertLess(time.monotonic(), end)
+                time.sleep(0.05)
+            status, lines, said = self.monitor()
+            self.assertEqual((status, lines[0]["logs"], lines[0]["records"]), (0, 133, 142), said)
 
     def test_full(self) -> None:
         """A disk that is full at any length of the file."""

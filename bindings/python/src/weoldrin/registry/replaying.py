@@ -117,9 +117,8 @@ def replay(registry: Registry, batch: list[Behind]) -> list[Replayed]:
     return [it.result() for it in replays.values()]
 
 
-def _end_with_parent() -> None:
-    """Ends this process when the one that started it has gone: killed, that one could not say so."""
-    parent = os.getppid()
+def _end_with(parent: int) -> None:
+    """Ends this process when the one of that number, which started it, has gone: killed, that one could not say so."""
 
     def watch() -> None:
         while os.getppid() == parent:
@@ -158,7 +157,7 @@ class Replayer:
         if self._pool is None:
             # What is spawned has none of this process's files, its lock among them.
             spawn = multiprocessing.get_context("spawn")
-            self._pool = ProcessPoolExecutor(self.workers, spawn, _end_with_parent)
+            self._pool = ProcessPoolExecutor(self.workers, spawn, _end_with, (os.getpid(),))
         count = len(batches)
         for found in self._pool.map(_replay_at, [self._url] * count, [self._seconds] * count, batches):
             if isinstance(found, Exception):
