@@ -150,7 +150,7 @@ class Fetches(MonitorTest):
         start = time.monotonic()
         self.assertEqual(subprocess.run(words, stdout=subprocess.DEVNULL, check=False).returncode, 0)
         whole = time.monotonic() - start
-        for _ in range(8):
+        for _ in range(5):
             self._again()
             process = subprocess.Popen(words, stdout=subprocess.DEVNULL)
             time.sleep(chance.uniform(whole / 2, whole))
@@ -201,7 +201,7 @@ class Monitors(MonitorTest):
         self.assertLessEqual(len(all_hooked), 3, hooked)
 
     def test_each_point(self) -> None:
-        """Killed before each second call of SQLite."""
+        """Killed before each third call of SQLite."""
         printed = self.folder / "printed"
 
         def killed(number: int) -> int:
@@ -226,7 +226,7 @@ class Monitors(MonitorTest):
             if in_child(lambda: killed(number)) != -signal.SIGKILL:
                 break
             self._check(printed.read_text(encoding="utf-8").splitlines())
-            number += 2
+            number += 3
         self.assertGreater(number, 40)
 
     def test_random(self) -> None:
@@ -236,7 +236,7 @@ class Monitors(MonitorTest):
         start = time.monotonic()
         subprocess.run(words, stdout=subprocess.DEVNULL, check=False)
         whole = time.monotonic() - start
-        for _ in range(8):
+        for _ in range(5):
             self._again()
             process = subprocess.Popen(words, stdout=subprocess.PIPE, text=True)
             time.sleep(chance.uniform(whole / 2, whole))
