@@ -2,6 +2,7 @@
 
 import functools
 import os
+import pathlib
 import re
 import shutil
 import subprocess
@@ -66,6 +67,25 @@ def backend() -> str | None:
     return interpreter_with("pip", "hatchling.build")
 
 
+@functools.cache
+def registry_interpreter() -> str | None:
+    """A Python that has what the registry server needs, and what its tests do."""
+    needed = ("starlette", "uvicorn", "h11", "prometheus_client", "jsonschema", "yaml", "cryptography")
+    return interpreter_with(*needed)
+
+
+def has_registry() -> bool:
+    """Whether there is one."""
+    return registry_interpreter() is not None
+
+
+def has_postgres() -> bool:
+    """Whether there is a server of PostgreSQL, and that Python reaches it."""
+    python = registry_interpreter()
+    is_served = any(pathlib.Path("/usr/lib/postgresql").glob("*/bin/initdb"))
+    return is_served and python is not None and succeeds(python, "-c", "import psycopg")
+
+
 def has_python() -> bool:
     """Whether there is an interpreter for each test of Python."""
     return None not in interpreters()
@@ -99,6 +119,14 @@ NEEDED: dict[str, Callable[[], object]] = {
     "python3-pip": has_pip,
     "openssl": lambda: shutil.which("openssl"),
     "python3-hatchling": lambda: backend() is not None,
+    "python3-starlette": has_registry,
+    "python3-uvicorn": has_registry,
+    "python3-h11": has_registry,
+    "python3-prometheus-client": has_registry,
+    "python3-jsonschema": has_registry,
+    "python3-yaml": has_registry,
+    "python3-psycopg": has_postgres,
+    "postgresql": has_postgres,
     "golang-go": has_go,
     "cmake": lambda: shutil.which("cmake"),
     "binutils": lambda: shutil.which("readelf"),

@@ -130,6 +130,23 @@ class Program(unittest.TestCase):
         )
         self.assertTrue(run(code).stdout.startswith("weoldrin -c tr "), run(code))
 
+    def test_registries(self) -> None:
+        """What asks a registry is this package's, also where there is no program, and only as the first word."""
+        for word in ("fetch", "lock", "check", "monitor", "gossip"):
+            for found in ("None", "'/bin/echo'"):
+                code = (
+                    "import sys\n"
+                    "from weoldrin import _native, _program\n"
+                    f"_native.found = lambda name: {found}\n"
+                    f"sys.argv = ['anything', '{word}', '--help']\n"
+                    "sys.exit(_program.main())\n"
+                )
+                done = run(code)
+                self.assertEqual((done.returncode, done.stderr), (0, ""))
+                self.assertTrue(done.stdout.startswith(f"usage: weoldrin {word} "), done.stdout)
+            other = code.replace(f"'{word}', '--help'", f"'audit', '{word}'")
+            self.assertEqual(run(other).stdout, f"audit {word}\n")
+
     def _told(self, program: pathlib.Path | None) -> str:
         """What the command says on standard error where the program can't be run; its status is 3."""
         said = io.StringIO()

@@ -89,7 +89,8 @@ class Wheels(Installing):
             metadata = files.read(f"weoldrin-{VERSION}.dist-info/METADATA").decode()
             about = files.read(f"weoldrin-{VERSION}.dist-info/WHEEL").decode().splitlines()
             licences = [it for it in files.namelist() if it.endswith(("LICENSE", "NOTICE"))]
-            sources = {str(it.relative_to(package / "src")) for it in (package / "src/weoldrin").iterdir()}
+            files_of = (it for it in (package / "src/weoldrin").rglob("*") if it.is_file())
+            sources = {str(it.relative_to(package / "src")) for it in files_of}
             within = {it for it in files.namelist() if it.startswith("weoldrin/")}
         self.assertEqual(within, sources | {LIBRARY, PROGRAM})
         self.assertEqual(wheel.name, f"weoldrin-{VERSION}-py3-none-{NEW}.whl")
@@ -107,6 +108,8 @@ class Wheels(Installing):
         self.assertTrue(self.said(to / "bin/weoldrin", "--version").startswith(f"weoldrin {VERSION}\n"))
         said = self.said(to / "bin/weoldrin", "audit", "package", LOG)
         self.assertTrue(said.startswith(f"ok 4 {HEAD}\n"), said)
+        # What asks a registry is the package's.
+        self.assertTrue(self.said(to / "bin/weoldrin", "fetch", "--help").startswith("usage: weoldrin fetch "))
         # Its status is the program's own.
         self.assertEqual(self.said(to / "bin/weoldrin", "audit", "package", "/dev/null", status=1), "empty\n")
 

@@ -1,4 +1,5 @@
-"""The command `weoldrin`: the program that the wheel carries, in the place of this process."""
+"""The command `weoldrin`: the program that the wheel carries, in the place of this process, or for the words that ask a
+registry this package."""
 
 import os
 import signal
@@ -9,10 +10,17 @@ from .printing import tell
 
 # What Python has ignored since it began, and the program is to find as the shell left it.
 _IGNORED = ("SIGPIPE", "SIGXFSZ")
+# What asks a registry, for which the program has no network.
+_OF_REGISTRIES = ("fetch", "lock", "check", "monitor", "gossip")
 
 
 def main() -> int:
-    """Runs the program with the words of the command line. It returns where that can't be done, with the status 3."""
+    """Runs the program with the words of the command line. It returns where that can't be done, with the status 3, and
+    where the words ask a registry."""
+    if len(sys.argv) > 1 and sys.argv[1] in _OF_REGISTRIES:
+        from .registry import command
+
+        return command.main(sys.argv[1:])
     program = _native.found("weoldrin")
     if program is None:
         tell(

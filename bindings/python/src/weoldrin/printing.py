@@ -21,8 +21,9 @@ def printable(text: str) -> str:
     return _ESCAPED.sub(lambda it: "\\\\" if it[0] == "\\" else f"\\u{{{ord(it[0]):x}}}", text)
 
 
-def print_lines(lines: Iterable[str]) -> None:
-    """Prints lines to standard output. Where its reader has closed it, the rest is left out in silence.
+def print_lines(lines: Iterable[str], *, has_to_be_read: bool = False) -> None:
+    """Prints lines to standard output. Where its reader has closed it, the rest is left out in silence, unless it has
+    to be read.
 
     A letter that its encoding does not have is written by its number. Raises `OSError` where a line can't be written
     for another reason, also where the caller closed standard output.
@@ -37,6 +38,8 @@ def print_lines(lines: Iterable[str]) -> None:
         sys.stdout.flush()
     except BrokenPipeError:
         _drop(sys.stdout)
+        if has_to_be_read:
+            raise
     except OSError:
         _drop(sys.stdout)
         raise

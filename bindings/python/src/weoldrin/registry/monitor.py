@@ -1,0 +1,250 @@
+"""`weoldrin monitor URL --database FILE`: follows a registry's checkpoints, and goes through all leaves and logs under
+them. What it saw is in SQLite, and so is what it tells."""
+
+import argparse
+import contextlib
+import json
+import time
+from collections.abc import Callable
+
+from ..checkpoints import SignedCheckpoint
+from ..logs import record_id
+from ..printing import print_lines, printable, tell
+from ..proofs import verify_consistency
+from . import asking
+from . import trust as trusted
+from .answers import Problem
+from .database import Behind, Database
+from .fetch import opened, tell_first_use
+from .following import Follower, holds
+from .replaying import BATCH, Replayed, Replayer, kind_of_log
+from .told import BadAnswer, NoAnswer, Told
+from .trees import Maps
+
+# So many leaves are read in one step, and so many logs are asked for whose head in the map is wrong.
+_PAGE, _ASKED = 20_000, 200
+
+
+class Monitor:
+    """Follows a registry."""
+
+    def __init__(self, database: Database, follower: Callable[[], Follower], replayer: Replayer, most: int) -> None:
+        self._database, self._follower, self._replayer, self._most = database, follower, replayer, most
+        self._maps = Maps()
+        self._found: list[Told] = []
+
+    def step(self) -> list[Told]:
+        """Goes on to the newest checkpoint, and gives all that is to be told of it. What is new of that is kept to be
+        printed and sent."""
+        self._found = []
+        try:
+            self._step(self._follower())
+        except Told as it:
+            with self._database.step():
+                self._tell(it)
+        except Problem as problem:
+            if problem.name != "NoCheckpoint":
+                with self._database.step():
+                    self._tell(BadAnswer(f"it refuses what it has to answer: {problem}"))
+        return self._found
+
+    def _tell(self, it: Told) -> None:
+        self._found.append(it)
+        self._database.tell(it, int(time.time()))
+
+    def _step(self, follower: Follower) -> None:
+        newest = follower.follow()
+        with self._database.step():
+            self._database.save(follower.trust)
+        self._read_leaves(follower, newest)
+        self._replay(follower)
+        self._check_map(follower, newest)
+
+    # Leaves
+
+    def _read_leaves(self, follower: Follower, newest: SignedCheckpoint) -> None:
+        """Reads the leaves up to those that are signed, a page in a transaction, and counts them where they are
+        these."""
+        edge, signed = self._database.edge(), newest.contents
+        if signed.log_length > self._most:
+            raise BadAnswer(f"more leaves are signed than --most {self._most}")
+        while edge.length < signed.log_length:
+            start = edge.length
+            leaves = follower.registry.leaves(start)[0][: min(_PAGE, signed.log_length - start)]
+            if not leaves:
+                why = f"{signed.log_length} leaves are signed, and {start} are served"
+                raise Told("left out leaf", why, newest, subject=f"{start}")
+            for it in leaves:
+                edge.append(it)
+            with self._database.step():
+                self._database.add_leaves(edge, start, leaves)
+        if not holds(verify_consistency, edge.length, edge.root(), signed.log_length, signed.log_root, ""):
+            with self._database.step():
+                start = self._database.drop_leaves()
+            why = f"the leaves from place {start} on that are served are not those that are signed"
+            raise Told("left out leaf", why, newest, subject=f"{start}")
+        with self._database.step():
+            for record, first, other in self._database.count_leaves():
+                why = f"the record {record} stands in two logs, {first} and {other}: one is a copy of the other"
+                self._tell(Told("wrong name", why, subject=f"{record} {other}"))
+
+    # Logs
+
+    def _replay(self, follower: Follower) -> None:
+        """Replays the logs that are behind, each batch in a transaction."""
+        after = ""
+        while batches := self._behind(after):
+            after = batches[-1][-1].log_id
+            for batch in self._replayer.replay(batches):
+                faults = [self._named(follower, it, it.fault) for it in batch if it.fault]
+                with self._database.step():
+                    for it in batch:
+                        self._database.replayed(it.log_id, it.records, it.state, it.deep)
+                    for fault in faults:
+                        self._tell(fault)
+
+    def _behind(self, after: str) -> list[list[Behind]]:
+        logs = self._database.behind(after, BATCH * 2 * self._replayer.workers)
+        return [logs[at : at + BATCH] for at in range(0, len(logs), BATCH)]
+
+    def _named(self, follower: Follower, it: Replayed, fault: Told) -> Told:
+        """What a log is told of that does not go on as its leaves say: the log of another, or a fork of what was
+        replayed, if it is one."""
+        name, others = it.log_id, self._database.logs_of(it.other) if it.other else []
+        if others and name not in others:
+            return Told("wrong name", f"the log that is served for {name} is {others[0]}", subject=fault.subject)
+        known, place = self._database.records_of(name)[: it.records], 0
+        for envelope in follower.registry.records(name, 0):
+            if place == len(known):
+                return fault
+            served = record_id(kind_of_log(name), envelope)
+            if served != known[place]:
+                why = f"record {place} of {name} is served as {served}, and was replayed as {known[place]}"
+                return Told("forked log", why, subject=fault.subject)
+            place += 1
+        if 0 < place < len(known):
+            why = f"{place} records of {name} are served, and {len(known)} were replayed"
+            return Told("rolled back log", why, subject=fault.subject)
+        return fault
+
+    # The map
+
+    def _check_map(self, follower: Follower, newest: SignedCheckpoint) -> None:
+        """Tells where the signed map is not that of the leaves."""
+        checked = f"{newest.contents.log_length} {newest.contents.map_root}"
+        if self._database.kept("map") == checked:
+            return
+        heads = self._database.heads()
+        if self._maps.root(heads) != newest.contents.map_root:
+            raise self._explained(follower, newest)
+        with self._database.step():
+            self._database.keep("map", checked)
+
+    def _explained(self, follower: Follower, newest: SignedCheckpoint) -> Told:
+        """What a map is that is not that of the leaves: the logs of the newest leaves are asked for."""
+        length = newest.contents.log_length
+        for name in self._database.newest_logs(_ASKED):
+            under, head = follower.head(name)
+            records = self._database.records_of(name)
+            if under.contents.log_length != length or head.record_id == records[-1]:
+                continue
+            if head.record_id is None or head.record_id in records:
+                why = f"the map has {head.record_id} as the last record of {name}, whose leaves go on to {records[-1]}"
+                return Told("rolled back map", why, newest, subject=f"{length} {name}")
+            why = f"the map has {head.record_id} as the last record of {name}, and no leaf is of it"
+            return Told("left out leaf", why, newest, subject=f"{length} {name}")
+        return Told("false map", "the map that is signed is not that of the leaves", newest, subject=f"{length}")
+
+
+class Teller:
+    """Prints and sends what a monitor tells. What a kill leaves unmarked comes once more, by the same number."""
+
+    def __init__(self, database: Database, is_json: bool, webhook: str | None) -> None:
+        self._database, self._is_json = database, is_json
+        self._webhook = None if webhook is None else asking.address_of(webhook, has_query=True)
+
+    def tell(self) -> None:
+        """Prints and sends all that is new."""
+        for number, text in self._database.untold("printed"):
+            print_lines([text if self._is_json else _line_of(text)], has_to_be_read=True)
+            self._mark("printed", number)
+        if self._webhook is not None:
+            for number, text in self._database.untold("sent"):
+                if not self._is_sent(text):
+                    break
+                self._mark("sent", number)
+
+    def _mark(self, way: str, number: int) -> None:
+        with self._database.step():
+            self._database.is_told(way, number)
+
+    def _is_sent(self, text: str) -> bool:
+        assert self._webhook is not None
+        try:
+            headers = {"Content-Type": "application/json"}
+            answer = asking.ask(self._webhook, "", text.encode(), headers, longest=65_536, seconds=30)
+        except (NoAnswer, BadAnswer) as error:
+            tell(f"weoldrin: the webhook: {error}")
+            return False
+        if not 200 <= answer.status < 300:
+            tell(f"weoldrin: the webhook answers with status {answer.status}")
+            return False
+        return True
+
+
+def _line_of(text: str) -> str:
+    members = json.loads(text)
+    return printable(f"{members['told']}: {members['name']}: {members['sentence']}")
+
+
+def _followed(database: Database, is_json: bool) -> str:
+    """The line of a step."""
+    checkpoint = database.trust().checkpoint
+    length, root = (0, "none") if checkpoint is None else (checkpoint.contents.log_length, checkpoint.contents.log_root)
+    logs, records = database.counts()
+    if is_json:
+        return json.dumps({"followed": length, "logRoot": root, "logs": logs, "records": records})
+    return f"followed {length} {root} logs {logs} records {records}"
+
+
+def run(asked: argparse.Namespace) -> int:
+    """Follows a registry, by one step or for ever."""
+    replayer = Replayer(asked.url, asked.seconds, asked.workers)
+    with contextlib.closing(Database(asked.database)) as database, contextlib.closing(replayer):
+        monitor = Monitor(database, lambda: opened(asked, database.trust()), replayer, asked.most)
+        teller = Teller(database, asked.json, asked.webhook)
+        with database.step():
+            database.keep("url", asked.url)
+        followed = ""
+        while True:
+            try:
+                is_good, line = _stepped(asked, database, monitor, teller)
+                if line != followed:
+                    print_lines([line])
+                followed = line
+                if asked.once:
+                    return 0 if is_good else 1
+            except NoAnswer as error:
+                if asked.once:
+                    raise
+                tell(f"weoldrin: {error.args[0]}")
+            time.sleep(asked.every)
+
+
+def _stepped(asked: argparse.Namespace, database: Database, monitor: Monitor, teller: Teller) -> tuple[bool, str]:
+    """Whether nothing is to be told in a step, and its line."""
+    teller.tell()
+    was_pinned = asked.operator is not None or database.trust().key is not None
+    found = monitor.step()
+    teller.tell()
+    tell_first_use(database.trust().key, was_pinned)
+    if asked.saw is not None:
+        _write_saw(database, asked.saw)
+    return not found, _followed(database, asked.json)
+
+
+def _write_saw(database: Database, path: str) -> None:
+    """Writes the checkpoints that were seen, a line each."""
+    with contextlib.ExitStack() as held:
+        beside = trusted.hold(path, held)
+        trusted.write(path, beside, "".join(f"{it}\n" for it in database.checkpoints()))

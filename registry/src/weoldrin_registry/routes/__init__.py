@@ -1,0 +1,1 @@
+"""What the requests are answered with; docs/HTTP.md says it in words."""

@@ -1,0 +1,182 @@
+"""The tests of storage, and of kills, over PostgreSQL, where it is installed."""
+
+import importlib.util
+import os
+import pathlib
+import shutil
+import signal
+import subprocess
+import tempfile
+import threading
+import time
+import unittest
+
+from weoldrin_registry.storage import Locked, NewRecord, Storage, StorageError
+
+from .test_kills import Killed
+from .test_processes import Processes
+from .test_storage import States, Writers
+
+# Where Debian has the programs of each version.
+_BINARIES = sorted(pathlib.Path("/usr/lib/postgresql").glob("*/bin/initdb"))
+
+
+class Server:
+    """A server of PostgreSQL for all tests of this file, in a folder of its own."""
+
+    folder: tempfile.TemporaryDirectory[str]
+    process: subprocess.Popen[bytes]
+    count = 0
+    is_there = False
+
+    @classmethod
+    def start(cls) -> None:
+        """Starts it. It does not run as root, so that another user has to."""
+        cls.folder = tempfile.TemporaryDirectory()
+        as_user = [] if os.getuid() else ["setpriv", "--reuid=postgres", "--regid=postgres", "--clear-groups"]
+        if as_user:
+            shutil.chown(cls.folder.name, "postgres", "postgres")
+        words = [*as_user, str(_BINARIES[-1]), "-D", f"{cls.folder.name}/data", "-A", "trust", "-U", "weoldrin", "-N"]
+        subprocess.run(words, check=True, capture_output=True, cwd="/")
+        options = ["-k", cls.folder.name, "-c", "listen_addresses=", "-c", "max_connections=200"]
+        words = [*as_user, str(_BINARIES[-1].with_name("postgres")), "-D", f"{cls.folder.name}/data", *options]
+        cls.process = subprocess.Popen(words, stderr=subprocess.DEVNULL, cwd="/")
+        cls.is_there = True
+        for _ in range(300):
+            if pathlib.Path(cls.folder.name, ".s.PGSQL.5432").exists():
+                return
+            time.sleep(0.1)
+        raise RuntimeError("PostgreSQL did not start")
+
+    @classmethod
+    def database(cls) -> str:
+        """The address of a new database."""
+        import psycopg
+
+        cls.count += 1
+        name = f"test{cls.count}"
+        at = f"?host={cls.folder.name}"
+        for _ in range(100):
+            try:
+                with psycopg.connect(f"postgresql://weoldrin@/postgres{at}", autocommit=True) as connection:
+                    connection.execute(f"CREATE DATABASE {name}")
+                break
+            except psycopg.OperationalError:
+                time.sleep(0.1)
+        return f"postgresql://weoldrin@/{name}{at}"
+
+
+def setUpModule() -> None:
+    """Starts the server."""
+    if not _BINARIES or importlib.util.find_spec("psycopg") is None:
+        raise unittest.SkipTest("PostgreSQL, or the package psycopg, is not installed")
+    Server.start()
+
+
+def tearDownModule() -> None:
+    """Ends it."""
+    if Server.is_there:
+        # It does not wait for those that are connected.
+        Server.process.send_signal(signal.SIGINT)
+        Server.process.wait(60)
+        Server.folder.cleanup()
+
+
+class OnPostgres(unittest.TestCase):
+    """Has the tests of storage be of a database."""
+
+    def setUp(self) -> None:
+        self.database = Server.database()
+        super().setUp()
+
+    def _opened(self) -> Storage:
+        from weoldrin_registry.storage.postgres import PostgresStorage
+
+        storage = PostgresStorage(self.database, 0.3)
+        self.addCleanup(storage.close)
+        return storage
+
+
+class StatesOnPostgres(OnPostgres, States):
+    """Saved states."""
+
+    test_what_is_damaged = None  # type: ignore[assignment]
+
+
+class WritersOnPostgres(OnPostgres, Writers):
+    """Several writers."""
+
+    test_it_waits_for_the_disk = test_what_is_no_file_of_this = None  # type: ignore[assignment]
+
+    def test_a_lock_that_is_held(self) -> None:
+        first = NewRecord("sha256:1", "package", "a:b", None, 0, "sha256:2", 1, "k", b"e")
+        other = NewRecord("sha256:9", "package", "a:c", None, 0, "sha256:8", 1, "k", b"e")
+        held, passed = threading.Event(), threading.Event()
+
+        def hold() -> None:
+            held.set()
+            passed.wait()
+
+        thread = threading.Thread(target=self.storage.append, args=(first, hold))
+        thread.start()
+        held.wait()
+        # The same log waits, and another one does not.
+        self.assertRaises(Locked, self.storage.append, first, lambda: self.fail("it is judged"))
+        self.assertEqual(self.storage.append(other, lambda: None), 0)
+        self.assertIsNone(self.storage.log("sha256:1"))
+        passed.set()
+        thread.join()
+        self.assertEqual(self.storage.leaves(0, 9), [("sha256:9", "sha256:8"), ("sha256:1", "sha256:2")])
+
+    def test_what_is_read(self) -> None:
+        for number, name in enumerate(("acme:math", "acme:text", "acme:text-x", "b:c")):
+            prev = None
+            for place in range(number + 1):
+                its_id = f"sha256:{number}{place}"
+                new = NewRecord(f"sha256:l{number}", "package", name, prev, place, its_id, 5, "k", bytes(10 + place))
+                self.storage.append(new, lambda: None)
+                prev = its_id
+        names = [it.name for it in self.storage.names("acme:text", "", 9)]
+        self.assertEqual(names, ["acme:text", "acme:text-x"])
+        self.assertEqual([it.name for it in self.storage.names("", "acme:text", 1)], ["acme:text-x"])
+        self.assertEqual(self.storage.founded("k"), 4)
+        sizes = [[len(it) for it in self.storage.records("sha256:l3", start, most, size)]
+                 for start, most, size in ((0, 9, 99), (1, 2, 99), (0, 9, 21), (0, 9, 20), (1, 9, 1), (4, 9, 9))]
+        self.assertEqual(sizes, [[10, 11, 12, 13], [11, 12], [10, 11], [10], [11], []])
+        found = self.storage.logs(["sha256:l2", "sha256:none", "sha256:l0"])
+        self.assertEqual(list(found), ["sha256:l2", "sha256:l0"])
+        self.assertEqual(self.storage.place("sha256:l3", "sha256:32"), (2, 8))
+        self.assertIsNone(self.storage.place("sha256:l2", "sha256:32"))
+
+    def test_a_connection_that_breaks(self) -> None:
+        import psycopg
+
+        new = NewRecord("sha256:1", "package", "a:b", None, 0, "sha256:2", 1, "k", b"e")
+
+        def broken() -> None:
+            with psycopg.connect(self.database, autocommit=True) as other:
+                query = "SELECT pg_terminate_backend(pid) FROM pg_stat_activity WHERE pid <> pg_backend_pid()"
+                other.execute(f"{query} AND datname = current_database()")
+
+        self.assertRaises(StorageError, self.storage.append, new, broken)
+        self.assertIsNone(self.storage.log("sha256:1"))
+        self.assertEqual(self.storage.append(new, lambda: None), 0)
+
+
+class ProcessesOnPostgres(OnPostgres, Processes):
+    """Registries of one database."""
+
+    test_a_full_disk = test_a_lock_that_is_held = None  # type: ignore[assignment]
+
+
+class KilledOnPostgres(OnPostgres, Killed):
+    """Registries that are killed."""
+
+    KILLS = min(Killed.KILLS, 3)
+
+
+# They are tested where they stand.
+del States, Writers, Processes, Killed
+
+if __name__ == "__main__":
+    unittest.main()
