@@ -40,8 +40,8 @@ def names(count: int) -> list[str]:
 
 
 def thirty_two_bytes(place: int) -> bytes:
-    """32 bytes for a number. Whatever was hashed before them, all that are made so have one quick hash: a factor of each
-    product is 0."""
+    """32 bytes for a number. Whatever was hashed before them, all that are made so have one quick hash: a factor of
+    each product is 0."""
     return place.to_bytes(8, "little") + FACTOR.to_bytes(8, "little") + bytes(8) + FACTOR.to_bytes(8, "little")
 
 

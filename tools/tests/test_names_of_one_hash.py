@@ -127,7 +127,8 @@ class Maps(AskedWithFiles):
     def test_ids_of_keys(self) -> None:
         ids = list(dict.fromkeys(names(COUNT // 2) + HOSTILE["crowding"]))
         revokes = [bytes_field(3, text_field(1, it)) for it in ids]
-        self.assertTrue(self.asked("audit --toy package {0}", log("package", [init("alice"), *revokes])).startswith("ok 1"))
+        given = log("package", [init("alice"), *revokes])
+        self.assertTrue(self.asked("audit --toy package {0}", given).startswith("ok 1"))
 
     def test_ids_in_a_saved_state(self) -> None:
         # An id that is not its key's is refused, after both maps were read.
