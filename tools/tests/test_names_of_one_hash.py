@@ -57,7 +57,7 @@ class AskedWithFiles(unittest.TestCase):
             files = [pathlib.Path(room) / f"file{place}" for place in range(len(texts))]
             for file, text in zip(files, texts, strict=True):
                 file.write_text(text)
-            command = [WEOLDRIN, *words.format(*files).split()]
+            command = [str(WEOLDRIN), *words.format(*files).split()]
             return subprocess.run(command, capture_output=True, text=True, check=False)
 
     def asked(self, words: str, *texts: str) -> str:

@@ -1,6 +1,6 @@
 """How many records a second a registry takes, and how long each takes.
 
-    python3 benches/publish.py [--seconds 8] [--releases 20000] [--folder FOLDER]
+    python3 benches/publishing.py [--seconds 8] [--releases 20000] [--folder FOLDER]
 
 with the packages installed. A registry is served by a process of its own, from a new file in FOLDER, whose disk counts.
 Publishers are processes with keys and packages of their own, which send what they have signed before. The last lines
