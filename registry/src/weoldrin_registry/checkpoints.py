@@ -1,7 +1,7 @@
 """Makes checkpoints, and proves what stands under the newest one.
 
-The trees stand as the newest checkpoint says. Nothing is served that the library has not verified: neither a signed
-checkpoint nor a proof.
+The trees stand as the newest checkpoint says. The library has verified the signature of each checkpoint that is served,
+and each proof but the empty one, that a log goes on from no leaves.
 """
 
 from __future__ import annotations

@@ -1,6 +1,7 @@
 """The registry's log and its map, as docs/FORMATS.md says: their roots, and proofs on them.
 
-Nothing rests on this module: what is signed and served is verified by the library first.
+The roots that are signed rest on this module, and on no proof; whoever has the leaves can make them anew, as a monitor
+does. The proofs are verified by the library before they are served.
 """
 
 from __future__ import annotations
