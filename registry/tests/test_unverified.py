@@ -1,4 +1,4 @@
-"""Nothing is served that the library has not verified: neither a checkpoint nor a proof, whatever the trees say."""
+"""No checkpoint and no proof is served that the library refuses, whatever the trees say."""
 
 import pathlib
 import tempfile
