@@ -1,0 +1,4 @@
+pub mod EntryLemmas
+pub mod IndexLemmas
+pub mod MapLemmas
+pub mod WriteLemmas
