@@ -124,8 +124,8 @@ pub trait Signer {
         ensures refused { result ≡ Err Refused → refuses self.now message.now };
 }
 
-// The prefix, a colon, the content.
-fn message_of(alloc: Global, prefix: &str, content: &[u8]) -> Result<Vec<u8>, AllocError>
+/// What is signed of a value: the prefix of its kind, a colon, the value's bytes.
+pub fn signed_message(alloc: Global, prefix: &str, content: &[u8]) -> Result<Vec<u8>, AllocError>
     ensures { IfOk result (λ v. v.items ≡ signed_message prefix.now content.now) }
 {
     let length = prefix.len().saturating_add(1).saturating_add(content.len());
@@ -157,7 +157,7 @@ pub trait Signable: Encode {
             (signed_message signed_prefix (Self.encoding self.now)) }
     {
         let content = self.encode(alloc)?;
-        let message = message_of(alloc, Self::signing_prefix(), content.as_slice())?;
+        let message = signed_message(alloc, Self::signing_prefix(), content.as_slice())?;
         signer.sign(alloc, message.as_slice())
     }
 
@@ -175,7 +175,7 @@ pub trait Signable: Encode {
         ensures refused { result ≡ Err Refused → V.belongs verifier.now key.now
             (signed_message signed_prefix content.now) signature.now ≡ false }
     {
-        let message = message_of(alloc, Self::signing_prefix(), content)?;
+        let message = signed_message(alloc, Self::signing_prefix(), content)?;
         verifier.verify(alloc, key, message.as_slice(), signature)
     }
 }

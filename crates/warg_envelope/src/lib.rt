@@ -15,7 +15,6 @@ pub mod laws;
 mod proto_envelope;
 mod serde_envelope;
 
-use indexmap::IndexSet;
 pub use proto_envelope::{
     ParseEnvelopeError, ProtoEnvelope, ProtoEnvelopeBody, PublishedProtoEnvelope,
     PublishedProtoEnvelopeBody,
@@ -24,6 +23,7 @@ pub use serde_envelope::SerdeEnvelope;
 use std::alloc::{AllocError, Global};
 use warg_crypto::hash::AnyHash;
 use warg_crypto::{Decode, DecodeError};
+use warg_maps::NameSet;
 
 /// A place in a registry's log of all records, from 0.
 pub type RegistryIndex = usize;
@@ -51,7 +51,7 @@ pub trait Record: Decode + Drop {
     ghost mentions: { Meaning → List AnyHash };
 
     /// The hashes that the record mentions as its content, each once, by first mention.
-    fn contents(&self, alloc: Global) -> Result<IndexSet<AnyHash>, AllocError>
+    fn contents(&self, alloc: Global) -> Result<NameSet<AnyHash>, AllocError>
         ensures { IfOk result (λ s. s.keys ≡
             distinct ⟦<AnyHash as PartialEq>⟧.eq (mentions (meaning self.now))) };
 

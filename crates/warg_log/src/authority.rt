@@ -92,8 +92,8 @@ impl<P: LogPermission> Authority<P> {
     fn known_id<'a>(&'a self, key_id: &'a KeyID) -> &'a KeyID
         ensures { result.now ≡ key_id.now }
     {
-        match self.maps.keys.get_key_value(key_id) {
-            Some((known, _)) => known,
+        match self.maps.keys.get_index_of(key_id) {
+            Some(place) => &self.maps.keys.keys().as_slice()[place],
             None => key_id,
         }
     }

@@ -18,10 +18,10 @@ ghost use Rattle.warg_log.specs.declared.head.Head.{Head as OfHead};
 use crate::head::{put_head, put_head_text};
 use crate::log::Log;
 use crate::own_state::OwnState;
-use indexmap::IndexMap;
 use serde_json::{Map, Value};
 use std::alloc::Global;
 use warg_crypto::json::JsonError;
+use warg_maps::NameMap;
 use warg_saved_states::{MemberTexts, SavedName, SavedValue, put_algorithm, put_map};
 
 /// The members of a state's JSON.
@@ -29,9 +29,9 @@ pub fn members_value<M: OwnState, K: SavedName, V: SavedValue, L: SavedName, W: 
     alloc: Global,
     log: &Log<M>,
     first: &str,
-    firsts: &IndexMap<K, V>,
+    firsts: &NameMap<K, V>,
     second: &str,
-    seconds: &IndexMap<L, W>,
+    seconds: &NameMap<L, W>,
 ) -> Result<Map<String, Value>, JsonError>
     ensures written { let json = saved_json (permissions_json M.Permission.text_of)
         first.now K.name_of V.writes second.now L.name_of W.writes
@@ -70,9 +70,9 @@ pub fn members_text<M: OwnState, K: SavedName, V: SavedValue, L: SavedName, W: S
     alloc: Global,
     log: &Log<M>,
     first: &str,
-    firsts: &IndexMap<K, V>,
+    firsts: &NameMap<K, V>,
     second: &str,
-    seconds: &IndexMap<L, W>,
+    seconds: &NameMap<L, W>,
 ) -> Result<String, JsonError>
     ensures written { let json = saved_json (permissions_json M.Permission.text_of)
         first.now K.name_of V.writes second.now L.name_of W.writes

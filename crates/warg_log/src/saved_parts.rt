@@ -11,12 +11,12 @@ ghost use Rattle.warg_log.specs.SavedMembers.{IsApart, head_version, saved_in, s
 ghost use Rattle.warg_log.specs.SavedParts.{parts_view};
 
 use crate::head::{Head, head_member, head_version};
-use indexmap::IndexMap;
 use serde_json::Value;
 use std::alloc::Global;
 use warg_crypto::hash::HashAlgorithm;
 use warg_crypto::json::{Incoherence, JsonError};
 use warg_crypto::signing::{KeyID, PublicKey};
+use warg_maps::NameMap;
 use warg_permissions::{LogPermission, PermissionSet};
 use warg_saved_states::{
     JsonTextError, SavedName, SavedValue, algorithm_member, check_begun, check_empty, check_keys,
@@ -31,11 +31,11 @@ pub struct SavedParts<P: LogPermission, K: SavedName, V: SavedValue, L: SavedNam
     /// The last record.
     pub head: Option<Head>,
     /// The permissions of each id that has an entry.
-    pub rights: IndexMap<KeyID, PermissionSet<P>>,
+    pub rights: NameMap<KeyID, PermissionSet<P>>,
     /// The first of the two maps.
-    pub firsts: IndexMap<K, V>,
+    pub firsts: NameMap<K, V>,
     /// The second of them.
-    pub seconds: IndexMap<L, W>,
+    pub seconds: NameMap<L, W>,
 }
 
 /// The parts of a state, or the first fault of its members. The two maps are members of these names.
@@ -136,9 +136,9 @@ fn check_case(incoherence: Option<Incoherence>) -> Result<(), JsonError>
 fn check_maps<P: LogPermission>(
     alloc: Global,
     before: Option<Incoherence>,
-    keys: &IndexMap<KeyID, PublicKey>,
+    keys: &NameMap<KeyID, PublicKey>,
     after: Option<Incoherence>,
-    rights: &IndexMap<KeyID, PermissionSet<P>>,
+    rights: &NameMap<KeyID, PermissionSet<P>>,
     head: &Option<Head>,
 ) -> Result<(), JsonError>
     ensures { RefusesCaseOrNoMemory (first_case (before ∷ keys_case keys.now.entries ∷ after ∷
@@ -175,7 +175,7 @@ where
         &self,
         alloc: Global,
         before: Option<Incoherence>,
-        keys: &IndexMap<KeyID, PublicKey>,
+        keys: &NameMap<KeyID, PublicKey>,
         after: Option<Incoherence>,
     ) -> Result<(), JsonError>
         ensures { RefusesCaseOrNoMemory (saved_incoherence before

@@ -5,13 +5,13 @@ ghost use Rattle.std.specs.List.{filter_map};
 ghost use Rattle.indexmap.specs.IndexSet.{insert_all};
 ghost use Rattle.warg_envelope.specs.Mentions.{distinct};
 
-use indexmap::IndexSet;
 use std::alloc::{AllocError, Global};
 use std::hash::Hash;
+use warg_maps::NameSet;
 
 /// An entry that may mention something.
 pub(crate) trait Mention {
-    type Item: Copy + Eq + Hash;
+    type Item: Copy + Ord + Hash;
 
     // What the entry mentions.
     ghost mention_of: { Self → Option Self.Item };
@@ -21,7 +21,7 @@ pub(crate) trait Mention {
 }
 
 // Inserts what the entry mentions.
-fn insert_mention<E: Mention>(items: &mut IndexSet<E::Item>, entry: &E) -> Result<(), AllocError>
+fn insert_mention<E: Mention>(items: &mut NameSet<E::Item>, entry: &E) -> Result<(), AllocError>
     ensures { OnOk result (items.new.keys ≡ insert_all E.Item.eq items.old.keys
         (filter_map E.mention_of (entry.now ∷ []))) }
 {
@@ -35,10 +35,10 @@ fn insert_mention<E: Mention>(items: &mut IndexSet<E::Item>, entry: &E) -> Resul
 pub(crate) fn mentions<E: Mention>(
     alloc: Global,
     entries: &[E],
-) -> Result<IndexSet<E::Item>, AllocError>
+) -> Result<NameSet<E::Item>, AllocError>
     ensures { IfOk result (λ s. s.keys ≡ distinct E.Item.eq (filter_map E.mention_of entries.now)) }
 {
-    let mut items = IndexSet::new(alloc);
+    let mut items = NameSet::new(alloc);
     for entry in entries {
         insert_mention(&mut items, entry)?;
     }

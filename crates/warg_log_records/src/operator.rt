@@ -21,12 +21,12 @@ use crate::RECORD_VERSION;
 use crate::laws::{operator_records_are_whole, record_reading_computes};
 use crate::log_entry::LogEntry;
 use crate::log_record::LogRecord;
-use indexmap::IndexSet;
 pub use model::{OperatorEntry, OperatorRecord};
 use std::alloc::{AllocError, Global};
 use warg_crypto::hash::AnyHash;
 use warg_crypto::{Decode, DecodeError, Encode, Signable};
 use warg_envelope::Record;
+use warg_maps::NameSet;
 pub use warg_permissions::operator::Permission;
 use warg_protobuf as message;
 use warg_protobuf::laws::fields_give_values;
@@ -170,8 +170,8 @@ impl Record for OperatorRecord {
 
     ghost mentions = { λ _. [] };
 
-    fn contents(&self, alloc: Global) -> Result<IndexSet<AnyHash>, AllocError> {
-        Ok(IndexSet::new(alloc))
+    fn contents(&self, alloc: Global) -> Result<NameSet<AnyHash>, AllocError> {
+        Ok(NameSet::new(alloc))
     }
 
     fn try_clone(&self) -> Result<OperatorRecord, AllocError> {

@@ -23,12 +23,12 @@ use crate::laws::{package_records_are_whole, record_reading_computes};
 use crate::log_entry::LogEntry;
 use crate::log_record::LogRecord;
 use crate::mention::{self, Mention};
-use indexmap::IndexSet;
 pub use model::{PackageEntry, PackageRecord};
 use std::alloc::{AllocError, Global};
 use warg_crypto::hash::AnyHash;
 use warg_crypto::{Decode, DecodeError, Encode, Signable};
 use warg_envelope::Record;
+use warg_maps::NameSet;
 pub use warg_permissions::package::Permission;
 use warg_protobuf as message;
 use warg_protobuf::laws::fields_give_values;
@@ -173,7 +173,7 @@ impl Record for PackageRecord {
 
     ghost mentions = { mentions };
 
-    fn contents(&self, alloc: Global) -> Result<IndexSet<AnyHash>, AllocError> {
+    fn contents(&self, alloc: Global) -> Result<NameSet<AnyHash>, AllocError> {
         mention::mentions(alloc, self.entries.as_slice())
     }
 

@@ -22,7 +22,6 @@ mod saved;
 use crate::error::ValidationError;
 use crate::namespace::NamespaceState;
 use crate::namespaces::Namespaces;
-use indexmap::IndexMap;
 use std::alloc::{AllocError, Global};
 use std::marker::Model;
 use warg_crypto::hash::Sha256;
@@ -31,13 +30,14 @@ use warg_envelope::ProtoEnvelope;
 use warg_log::{EntryRef, LogError, Origin, OwnState, RecordRef};
 use warg_log_records::RecordId;
 use warg_log_records::operator::{OperatorEntry, OperatorRecord, Permission};
+use warg_maps::NameMap;
 use warg_permissions::key_maps::put_all;
 use warg_registry::PackageName;
 
 /// The namespaces of a log, by name.
 #[derive(Debug, Drop)]
 pub struct NamespaceMap {
-    map: IndexMap<String, NamespaceState>,
+    map: NameMap<String, NamespaceState>,
 }
 
 impl Model for NamespaceMap {
@@ -68,7 +68,7 @@ fn most_added(entries: &[OperatorEntry]) -> usize
 }
 
 /// The namespace of the name. An empty map is not searched: no hash is made of the name.
-fn find<'a>(map: &'a IndexMap<String, NamespaceState>, name: &str) -> Option<&'a NamespaceState>
+fn find<'a>(map: &'a NameMap<String, NamespaceState>, name: &str) -> Option<&'a NamespaceState>
     ensures { option_copied result ≡ get_by_text map.now name.now }
 {
     if map.is_empty() {
@@ -263,7 +263,7 @@ impl OwnState for NamespaceMap {
         alloc: Global,
         entries: &[OperatorEntry],
     ) -> Result<NamespaceMap, AllocError> {
-        let map = IndexMap::with_capacity(alloc, most_added(entries))?;
+        let map = NameMap::with_capacity(alloc, most_added(entries))?;
         Ok(NamespaceMap { map })
     }
 
@@ -298,7 +298,7 @@ fn empty(alloc: Global) -> NamespaceMap
     ensures { result ≡ [] }
 {
     NamespaceMap {
-        map: IndexMap::new(alloc),
+        map: NameMap::new(alloc),
     }
 }
 

@@ -6,11 +6,11 @@ ghost use Rattle.std.specs.Map.Iter.{TakesFirst, TakesLast};
 ghost use Rattle.warg_operator_log.specs.NamespaceMap.{namespace_view};
 
 use crate::namespace::NamespaceState;
-use indexmap::map::Iter;
 use std::alloc::AllocError;
 use std::fmt;
 use std::iter::FusedIterator;
 use std::marker::Model;
+use warg_maps::Iter;
 
 /// The namespaces of a log, each its name and what it is, in the order in which they came to the log.
 #[derive(Drop)]

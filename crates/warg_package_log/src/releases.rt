@@ -2,17 +2,17 @@
 ghost use Rattle.std.specs.Prelude.{◌≡◌};
 
 use crate::release::Release;
-use indexmap::map::Values;
 use semver::Version;
 use std::alloc::AllocError;
 use std::fmt;
 use std::iter::FusedIterator;
 use std::marker::Model;
+use warg_maps::Values;
 
 /// The releases of a log, in the order of their release.
 #[derive(Drop)]
 pub struct Releases<'a> {
-    pub(crate) inner: Values<'a, Version, Release>,
+    pub(crate) inner: Values<'a, Release>,
 }
 
 impl<'a> Model for Releases<'a> {

@@ -29,6 +29,7 @@ pub use warg_envelope::{
     PublishedProtoEnvelopeBody, Record, SerdeEnvelope,
 };
 pub use warg_log_records::{LogRecord, Version, VersionReq};
+pub use warg_maps::NameSet;
 pub use warg_permissions::{InvalidPermission, PermissionParseError};
 pub use warg_protobuf::{Envelope, EnvelopeView, Message, WireError};
 pub use warg_replay::audited_log::{

@@ -10,6 +10,9 @@ pub mod TextLaws
 pub mod TextSteps
 pub mod Taken
 pub mod TextReading
+pub mod Passing
+pub mod AskedMembers
+pub mod AskedLaws
 pub mod NextMembers
 pub mod OtherMembers
 pub mod MemberTokens

@@ -9,6 +9,8 @@ pub mod CanonicalLaws
 pub mod Texts
 pub mod Writes
 pub mod WriteLaws
+pub mod Passed
+pub mod Asked
 pub mod Apart
 pub mod JsonText
 pub mod JsonTextLaws

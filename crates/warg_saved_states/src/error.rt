@@ -2,6 +2,8 @@
 ghost use Rattle.std.specs.Prelude.{◌≡◌};
 ghost use Rattle.warg_saved_states.specs.JsonText.{text_fault};
 
+use json::Invalid;
+use std::alloc::{AllocError, AllocFailed};
 use thiserror::Error;
 use warg_crypto::json::JsonError;
 
@@ -27,6 +29,56 @@ impl From<JsonError> for JsonTextError {
         match error {
             JsonError::OutOfMemory => JsonTextError::OutOfMemory,
             fault => JsonTextError::Value(fault),
+        }
+    }
+}
+
+/// Why no value is read of a text.
+#[derive(Clone, Copy, Debug, Drop, PartialEq, Eq)]
+pub(crate) enum ReadFault {
+    NotJson,
+    OutOfMemory,
+}
+
+impl From<Invalid> for ReadFault {
+    ghost use Rattle.warg_saved_states.specs.declared.error.ReadFault.TheVariants.{NotJson};
+
+    ghost from_gives = { λ _ e. e ≡ NotJson };
+
+    fn from(_invalid: Invalid) -> ReadFault {
+        ReadFault::NotJson
+    }
+}
+
+impl From<AllocError> for ReadFault {
+    ghost use Rattle.warg_saved_states.specs.declared.error.ReadFault.TheVariants.{OutOfMemory};
+
+    ghost from_gives = { λ _ e. e ≡ OutOfMemory };
+
+    fn from(_refused: AllocError) -> ReadFault {
+        ReadFault::OutOfMemory
+    }
+}
+
+impl<T: Drop> From<AllocFailed<T>> for ReadFault {
+    ghost use Rattle.warg_saved_states.specs.declared.error.ReadFault.TheVariants.{OutOfMemory};
+
+    ghost from_gives = { λ _ e. e ≡ OutOfMemory };
+
+    fn from(_refused: AllocFailed<T>) -> ReadFault {
+        ReadFault::OutOfMemory
+    }
+}
+
+impl From<ReadFault> for JsonTextError {
+    ghost use Rattle.warg_saved_states.specs.Asked.{fault_of};
+
+    ghost from_gives = { λ e f. f ≡ fault_of e };
+
+    fn from(fault: ReadFault) -> JsonTextError {
+        match fault {
+            ReadFault::NotJson => JsonTextError::NotJson,
+            ReadFault::OutOfMemory => JsonTextError::OutOfMemory,
         }
     }
 }

@@ -7,11 +7,11 @@ ghost use Rattle.warg_crypto.specs.Json.Pairs.{plain_pairs};
 ghost use Rattle.warg_saved_states.specs.Fit.{RefusesCase, RefusesCaseOrNoMemory, begun_case, empty_case, is_misplaced, is_unknown, keys_case, rights_case, version_case};
 
 use crate::value::SavedValue;
-use indexmap::IndexMap;
 use std::alloc::Global;
 use warg_crypto::hash::HashAlgorithm;
 use warg_crypto::json::{Incoherence, JsonError};
 use warg_crypto::signing::{KeyID, PublicKey};
+use warg_maps::NameMap;
 
 /// Refuses an algorithm without a head, and a head without an algorithm. Of the head its version is given.
 pub fn check_begun(algorithm: &Option<HashAlgorithm>, version: Option<u32>) -> Result<(), JsonError>
@@ -35,7 +35,7 @@ pub fn check_empty(algorithm: &Option<HashAlgorithm>, are_empty: bool) -> Result
 }
 
 /// Whether some key stands under another id than its fingerprint.
-fn has_misplaced(alloc: Global, keys: &IndexMap<KeyID, PublicKey>) -> Result<bool, JsonError>
+fn has_misplaced(alloc: Global, keys: &NameMap<KeyID, PublicKey>) -> Result<bool, JsonError>
     ensures ok { IfOk result (λ b. b ≡ list_any is_misplaced keys.now.entries) }
     ensures err { IfErr result (λ e. e ≡ fault.OutOfMemory) }
 {
@@ -48,7 +48,7 @@ fn has_misplaced(alloc: Global, keys: &IndexMap<KeyID, PublicKey>) -> Result<boo
 }
 
 /// Refuses a key that stands under another id than its fingerprint.
-pub fn check_keys(alloc: Global, keys: &IndexMap<KeyID, PublicKey>) -> Result<(), JsonError>
+pub fn check_keys(alloc: Global, keys: &NameMap<KeyID, PublicKey>) -> Result<(), JsonError>
     ensures { RefusesCaseOrNoMemory (keys_case keys.now.entries) result }
 {
     if has_misplaced(alloc, keys)? {
@@ -58,10 +58,7 @@ pub fn check_keys(alloc: Global, keys: &IndexMap<KeyID, PublicKey>) -> Result<()
 }
 
 /// Whether some id with an entry of permissions has no key.
-fn has_unknown<V: SavedValue>(
-    rights: &IndexMap<KeyID, V>,
-    keys: &IndexMap<KeyID, PublicKey>,
-) -> bool
+fn has_unknown<V: SavedValue>(rights: &NameMap<KeyID, V>, keys: &NameMap<KeyID, PublicKey>) -> bool
     ensures { result ≡ list_any (is_unknown keys.now.entries)
         (keys_of (plain_pairs (λ id. id) V.plain rights.now.entries)) }
 {
@@ -75,8 +72,8 @@ fn has_unknown<V: SavedValue>(
 
 /// Refuses permissions of an id that has no key.
 pub fn check_rights<V: SavedValue>(
-    rights: &IndexMap<KeyID, V>,
-    keys: &IndexMap<KeyID, PublicKey>,
+    rights: &NameMap<KeyID, V>,
+    keys: &NameMap<KeyID, PublicKey>,
 ) -> Result<(), JsonError>
     ensures { RefusesCase (rights_case (plain_pairs (λ id. id) V.plain rights.now.entries)
         keys.now.entries) result }

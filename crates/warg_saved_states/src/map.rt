@@ -11,11 +11,11 @@ ghost use Rattle.warg_saved_states.specs.Maps.{put_pairs};
 
 use crate::name::SavedName;
 use crate::value::SavedValue;
-use indexmap::IndexMap;
 use serde_json::{Map, Value};
 use std::alloc::Global;
 use warg_crypto::json::JsonError;
 use warg_crypto::json::members::{members_in, put_member};
+use warg_maps::NameMap;
 
 /// Puts a member under a name of its own, of which no copy is made. The error is `OutOfMemory`.
 fn put_named(members: &mut Map<String, Value>, name: String, value: Value) -> Result<(), JsonError>
@@ -30,7 +30,7 @@ fn put_named(members: &mut Map<String, Value>, name: String, value: Value) -> Re
 /// The map as an object: where names repeat, the last entry counts.
 pub fn map_value<K: SavedName, V: SavedValue>(
     alloc: Global,
-    map: &IndexMap<K, V>,
+    map: &NameMap<K, V>,
 ) -> Result<Value, JsonError>
     ensures written { ReturnsOrNoMemory view result (pairs_json K.name_of V.writes
         (plain_pairs K.plain V.plain map.now.entries)) }
@@ -49,7 +49,7 @@ pub fn map_value<K: SavedName, V: SavedValue>(
 }
 
 /// Whether the map has no entry.
-pub fn is_empty<K: SavedName, V: SavedValue>(map: &IndexMap<K, V>) -> bool
+pub fn is_empty<K: SavedName, V: SavedValue>(map: &NameMap<K, V>) -> bool
     ensures { result ≡ is_nil (plain_pairs K.plain V.plain map.now.entries) }
 {
     map.is_empty()
@@ -60,7 +60,7 @@ pub fn put_map<K: SavedName, V: SavedValue>(
     members: &mut Map<String, Value>,
     alloc: Global,
     name: &str,
-    map: &IndexMap<K, V>,
+    map: &NameMap<K, V>,
 ) -> Result<(), JsonError>
     ensures written { ReturnsOrNoMemory (λ _. members_view members.new.entries) result
         (put_pairs K.name_of V.writes name.now (plain_pairs K.plain V.plain map.now.entries)
@@ -84,12 +84,12 @@ pub fn put_map<K: SavedName, V: SavedValue>(
 fn map_of<K: SavedName, V: SavedValue>(
     alloc: Global,
     object: &Map<String, Value>,
-) -> Result<IndexMap<K, V>, JsonError>
+) -> Result<NameMap<K, V>, JsonError>
     requires { AreAscending (names_of (members_view object.now.entries)) }
     ensures { ReturnsOrNoMemory (λ m. plain_pairs K.plain V.plain m.entries) result
         (pairs_of K.key_named V.reads (members_view object.now.entries)) }
 {
-    let mut map = IndexMap::with_capacity(alloc, object.len())?;
+    let mut map = NameMap::with_capacity(alloc, object.len())?;
     'members: for (name, value) in object.iter() {
         let key = K::from_name(alloc, name.as_str())?;
         let value = V::load(alloc, value)?;
@@ -102,7 +102,7 @@ fn map_of<K: SavedName, V: SavedValue>(
 fn map_in<K: SavedName, V: SavedValue>(
     alloc: Global,
     object: &Map<String, Value>,
-) -> Result<IndexMap<K, V>, JsonError>
+) -> Result<NameMap<K, V>, JsonError>
     ensures { ReturnsOrNoMemory (λ m. plain_pairs K.plain V.plain m.entries) result
         (pairs_of K.key_named V.reads (members_view object.now.entries)) }
 {
@@ -116,13 +116,13 @@ pub fn map_member<K: SavedName, V: SavedValue>(
     alloc: Global,
     value: &Value,
     name: &str,
-) -> Result<IndexMap<K, V>, JsonError>
+) -> Result<NameMap<K, V>, JsonError>
     ensures { ReturnsOrNoMemory (λ m. plain_pairs K.plain V.plain m.entries) result
         (pairs_member K.key_named V.reads name.now (view value.now)) }
 {
     let _members = members_in(value)?;
     let Some(value) = value.get(name) else {
-        return Ok(IndexMap::new(alloc));
+        return Ok(NameMap::new(alloc));
     };
     map_in::<K, V>(alloc, members_in(value)?)
 }

@@ -11,13 +11,13 @@ ghost use Rattle.warg_saved_states.specs.Maps.{put_pairs};
 ghost use Rattle.warg_saved_states.specs.MapNames.{text_name, text_named};
 
 use crate::map::{map_member, put_map};
-use indexmap::IndexMap;
 use serde_json::{Map, Value};
 use std::alloc::Global;
 use warg_crypto::hash::HashAlgorithm;
 use warg_crypto::json::JsonError;
 use warg_crypto::json::members::{optional_member, put_value};
 use warg_crypto::signing::{KeyID, PublicKey};
+use warg_maps::NameMap;
 
 /// Puts the algorithm, if there is one. Where that fails, the object is as it was.
 pub fn put_algorithm(
@@ -49,7 +49,7 @@ pub fn algorithm_member(alloc: Global, value: &Value) -> Result<Option<HashAlgor
 pub fn put_keys(
     members: &mut Map<String, Value>,
     alloc: Global,
-    keys: &IndexMap<KeyID, PublicKey>,
+    keys: &NameMap<KeyID, PublicKey>,
 ) -> Result<(), JsonError>
     ensures written { ReturnsOrNoMemory (λ _. members_view members.new.entries) result
         (put_pairs text_name key_json (codes "keys") keys.now.entries
@@ -62,7 +62,7 @@ pub fn put_keys(
 }
 
 /// The keys of a state, none where they are missing.
-pub fn keys_member(alloc: Global, value: &Value) -> Result<IndexMap<KeyID, PublicKey>, JsonError>
+pub fn keys_member(alloc: Global, value: &Value) -> Result<NameMap<KeyID, PublicKey>, JsonError>
     ensures { ReturnsOrNoMemory (λ m. m.entries) result
         (pairs_member text_named key_in (codes "keys") (view value.now)) }
 {
@@ -70,7 +70,7 @@ pub fn keys_member(alloc: Global, value: &Value) -> Result<IndexMap<KeyID, Publi
 }
 
 /// Whether there are no keys.
-pub fn are_no_keys(keys: &IndexMap<KeyID, PublicKey>) -> bool
+pub fn are_no_keys(keys: &NameMap<KeyID, PublicKey>) -> bool
     ensures { result ≡ is_nil keys.now.entries }
 {
     keys.is_empty()

@@ -15,7 +15,7 @@ use warg_crypto::json::JsonError;
 use warg_crypto::signing::KeyID;
 
 /// A key of a map, which names a member of an object.
-pub trait SavedName: Eq + Hash + Drop {
+pub trait SavedName: Ord + Hash + Clone + Drop {
     // The key as plain data.
     ghost Plain: { Type 0 };
 

@@ -15,10 +15,10 @@ ghost use Rattle.warg_saved_states.specs.Apart.{IsReadApart, ascends};
 use crate::name::SavedName;
 use crate::owned::owned_value;
 use crate::value::SavedValue;
-use indexmap::IndexMap;
 use json::{Reader, Scratch, Token, Value as TextValue};
 use serde_json::{Map, Value};
 use std::alloc::Global;
+use warg_maps::NameMap;
 
 /// How deep the values of a state's members nest at most.
 const MAX_DEPTH: usize = 126;
@@ -71,7 +71,7 @@ fn put_next<K: SavedName, V: SavedValue>(
     reader: &mut Reader<'_>,
     depth: usize,
     name: &str,
-    map: &mut IndexMap<K, V>,
+    map: &mut NameMap<K, V>,
 ) -> Option<()>
     ensures read { OnSome result ((d : Data) × (key : K) × (v : V)
         × (converted of_json (value depth reader.old) ≡ Some (d, reader.new))
@@ -89,7 +89,7 @@ fn next_members<K: SavedName, V: SavedValue>(
     alloc: Global,
     reader: &mut Reader<'_>,
     depth: usize,
-) -> Option<IndexMap<K, V>>
+) -> Option<NameMap<K, V>>
     ensures read { IfSome result (λ map. (ms : Members)
         × (converted (λ js. of_members js no_members)
         (members (value depth) (length reader.old) reader.old)
@@ -97,7 +97,7 @@ fn next_members<K: SavedName, V: SavedValue>(
         × (pairs_of K.key_named V.reads ms ≡ Ok (plain_pairs K.plain V.plain map.entries))) }
     ensures shorter { OnSome result (length reader.new < length reader.old) }
 {
-    let mut map = IndexMap::new(alloc);
+    let mut map = NameMap::new(alloc);
     let mut last = None;
     'members: while let Some(name) = reader.next_key().ok()? {
         if !ascends(last, name) {
@@ -114,7 +114,7 @@ fn next_map<K: SavedName, V: SavedValue>(
     alloc: Global,
     reader: &mut Reader<'_>,
     depth: usize,
-) -> Option<IndexMap<K, V>>
+) -> Option<NameMap<K, V>>
     ensures read { IfSome result (λ map. (ms : Members)
         × (converted of_json (value depth reader.old) ≡ Some (object ms, reader.new))
         × (pairs_of K.key_named V.reads ms ≡ Ok (plain_pairs K.plain V.plain map.entries))) }
@@ -153,7 +153,7 @@ fn next_parts<K: SavedName, V: SavedValue>(
     alloc: Global,
     reader: &mut Reader<'_>,
     apart: &str,
-) -> Option<(Map<String, Value>, IndexMap<K, V>)>
+) -> Option<(Map<String, Value>, NameMap<K, V>)>
     ensures { IfSome result (λ p. (ms : Members)
         × (converted (λ js. of_members js no_members)
         (members (value 126) (length reader.old) reader.old)
@@ -164,7 +164,7 @@ fn next_parts<K: SavedName, V: SavedValue>(
         Ok (plain_pairs K.plain V.plain p.1.entries))) }
 {
     let mut others = Map::new(alloc);
-    let mut map = IndexMap::new(alloc);
+    let mut map = NameMap::new(alloc);
     'members: while let Some(name) = reader.next_key().ok()? {
         if name == apart {
             map = next_map::<K, V>(alloc, reader, MAX_DEPTH)?;
@@ -181,7 +181,7 @@ pub fn read_apart<K: SavedName, V: SavedValue>(
     alloc: Global,
     text: &str,
     apart: &str,
-) -> Option<(Value, IndexMap<K, V>)>
+) -> Option<(Value, NameMap<K, V>)>
     ensures { IfSome result (λ p. IsReadApart K.key_named V.reads apart.now text.now (view p.0)
         (plain_pairs K.plain V.plain p.1.entries)) }
 {

@@ -18,7 +18,6 @@ ghost use Rattle.warg_saved_states.specs.Texts.{PutsText, object_rest, room_of, 
 use crate::name::SavedName;
 use crate::value::SavedValue;
 use crate::write_map::map_text;
-use indexmap::IndexMap;
 use serde_json::Value;
 use std::alloc::Global;
 use std::collections::BTreeMap;
@@ -26,6 +25,7 @@ use std::marker::Model;
 use warg_crypto::json::members::text_value;
 use warg_crypto::json::{JsonError, JsonValue};
 use warg_crypto::signing::{KeyID, PublicKey};
+use warg_maps::NameMap;
 
 /// The members of an object, each as its text: the object's text is joined of them, and no value of the whole object is
 /// ever held.
@@ -136,7 +136,7 @@ impl MemberTexts {
     pub fn put_map<K: SavedName, V: SavedValue>(
         &mut self,
         name: &str,
-        map: &IndexMap<K, V>,
+        map: &NameMap<K, V>,
     ) -> Result<(), JsonError>
         ensures written { PutsText (put_pairs K.name_of V.writes name.now
             (plain_pairs K.plain V.plain map.now.entries)) result self.old self.new }
@@ -154,7 +154,7 @@ impl MemberTexts {
     }
 
     /// Puts the keys, unless there are none. Where that fails, the texts are as they were.
-    pub fn put_keys(&mut self, keys: &IndexMap<KeyID, PublicKey>) -> Result<(), JsonError>
+    pub fn put_keys(&mut self, keys: &NameMap<KeyID, PublicKey>) -> Result<(), JsonError>
         ensures written { PutsText (put_pairs text_name key_json (codes "keys") keys.now.entries)
             result self.old self.new }
         ensures back { OnOk result (AreBack text_name text_named key_json key_in keys.now.entries) }

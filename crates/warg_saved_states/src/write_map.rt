@@ -11,17 +11,17 @@ ghost use Rattle.warg_saved_states.specs.Texts.{AreMembers, text_of};
 
 use crate::name::SavedName;
 use crate::value::SavedValue;
-use indexmap::IndexMap;
 use json::Writer;
 use std::alloc::Global;
 use std::collections::BTreeMap;
 use warg_crypto::json::JsonError;
+use warg_maps::NameMap;
 
 /// The values by their names: where names repeat, the last entry counts. The fault is that of the first value
 /// that cannot be written.
 fn by_name<'m, K: SavedName, V: SavedValue>(
     alloc: Global,
-    map: &'m IndexMap<K, V>,
+    map: &'m NameMap<K, V>,
 ) -> Result<BTreeMap<String, &'m V>, JsonError>
     ensures ok { IfOk result (λ named. (ms : Members) × AreMembers V.plain V.writes named.entries ms
         × (pairs_onto K.name_of V.writes no_members (plain_pairs K.plain V.plain map.now.entries) ≡
@@ -72,7 +72,7 @@ fn joined<V: SavedValue>(alloc: Global, named: &BTreeMap<String, &V>) -> Result<
 /// The text of the map as an object. One value after another is written, and no JSON value of any is made.
 pub(crate) fn map_text<K: SavedName, V: SavedValue>(
     alloc: Global,
-    map: &IndexMap<K, V>,
+    map: &NameMap<K, V>,
 ) -> Result<String, JsonError>
     ensures written { ReturnsOrNoMemory string_bytes result (text_of (pairs_json K.name_of V.writes
         (plain_pairs K.plain V.plain map.now.entries))) }

@@ -9,6 +9,8 @@ mod log;
 #[cfg(test)]
 mod long;
 #[cfg(test)]
+mod many_keys;
+#[cfg(test)]
 mod map;
 #[cfg(test)]
 mod short_map;

@@ -8,3 +8,5 @@ mod known;
 mod logs;
 #[cfg(test)]
 mod maps;
+#[cfg(test)]
+mod trees;

@@ -13,6 +13,7 @@ use crate::verified::named::write_named;
 use crate::verified::parts::Parts;
 use crate::verified::shown::write_hex;
 use std::alloc::{AllocError, Global};
+use std::cmp::Ordering;
 use std::fmt;
 use std::hash::{Hash, Hasher};
 use std::marker::Model;
@@ -202,6 +203,36 @@ impl Eq for Claim {
     ghost use Rattle.warg_claims.specs.Verified.SameClaims.{same_claim_equiv};
 
     ghost laws = { same_claim_equiv };
+}
+
+impl PartialOrd for Claim {
+    ghost use Rattle.warg_claims.specs.Verified.ClaimOrder.{claim_cmp, claim_po};
+
+    ghost partial_cmp = { λ a b. Some (claim_cmp a b) };
+
+    ghost laws = { claim_po };
+
+    fn partial_cmp(&self, other: &Claim) -> Option<Ordering> {
+        Some(self.cmp(other))
+    }
+}
+
+// By the key, then the message, then the signature.
+impl Ord for Claim {
+    ghost use Rattle.std.proofs.Common.{refl};
+    ghost use Rattle.warg_claims.specs.Verified.ClaimOrder.{claim_cmp, claim_total, claim_ties};
+
+    ghost cmp = { claim_cmp };
+
+    ghost total = { claim_total };
+
+    ghost matches_partial_cmp = { λ a b. refl };
+
+    ghost matches_eq = { claim_ties };
+
+    fn cmp(&self, other: &Claim) -> Ordering {
+        self.parts().order(&other.parts())
+    }
 }
 
 impl Hash for Claim {

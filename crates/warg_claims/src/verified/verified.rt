@@ -12,16 +12,16 @@ ghost use Rattle.warg_claims.specs.declared.verified.error.ClaimParseError.TheVa
 use crate::verified::claim::Claim;
 use crate::verified::error::{ClaimParseError, VerifiedParseError};
 use crate::verified::parts::Parts;
-use indexmap::IndexSet;
 use std::alloc::{AllocError, Global};
 use std::marker::Model;
 use warg_crypto::signing::{PublicKey, Signature, SignatureError, Verifier};
+use warg_maps::NameSet;
 
 /// The claims that a host has verified, each once, in the order in which they came. As a verifier it takes these
 /// and no others, so it is right exactly if the host was.
 #[derive(Drop)]
 pub struct Verified {
-    claims: IndexSet<Claim>,
+    claims: NameSet<Claim>,
 }
 
 impl Model for Verified {
@@ -39,7 +39,7 @@ impl Verified {
         ensures { result ≡ [] }
     {
         Verified {
-            claims: IndexSet::new(alloc),
+            claims: NameSet::new(alloc),
         }
     }
 
@@ -66,7 +66,7 @@ impl Verified {
     pub fn claims(&self) -> &[Claim]
         ensures { result.now ≡ self.now }
     {
-        self.claims.as_slice()
+        self.claims.iter().as_slice()
     }
 
     /// How many claims there are.

@@ -3,10 +3,10 @@ ghost use Rattle.std.specs.Prelude.{◌≡◌};
 ghost use Rattle.warg_permissions.specs.KeyMaps.AuthorityData.{authority_data};
 
 use crate::authority::Authority;
-use indexmap::IndexMap;
 use std::alloc::Global;
 use warg_crypto::hash::HashAlgorithm;
 use warg_crypto::signing::{KeyID, PublicKey};
+use warg_maps::NameMap;
 use warg_permissions::key_maps::KeyTable;
 use warg_permissions::{LogPermission, PermissionSet};
 
@@ -15,8 +15,8 @@ impl<P: LogPermission> Authority<P> {
     pub(crate) fn restore(
         alloc: Global,
         algorithm: Option<HashAlgorithm>,
-        permissions: IndexMap<KeyID, PermissionSet<P>>,
-        keys: IndexMap<KeyID, PublicKey>,
+        permissions: NameMap<KeyID, PermissionSet<P>>,
+        keys: NameMap<KeyID, PublicKey>,
     ) -> Authority<P>
         ensures { result ≡ authority_data algorithm permissions keys }
     {
@@ -39,14 +39,14 @@ impl<P: LogPermission> Authority<P> {
     }
 
     /// The permissions of each id that has an entry.
-    pub(crate) fn permissions(&self) -> &IndexMap<KeyID, PermissionSet<P>>
+    pub(crate) fn permissions(&self) -> &NameMap<KeyID, PermissionSet<P>>
         ensures { result.now.entries ≡ self.now.rights }
     {
         &self.maps.permissions
     }
 
     /// The keys by their ids.
-    pub(crate) fn keys(&self) -> &IndexMap<KeyID, PublicKey>
+    pub(crate) fn keys(&self) -> &NameMap<KeyID, PublicKey>
         ensures { result.now.entries ≡ self.now.keys }
     {
         &self.maps.keys

@@ -6,11 +6,11 @@ ghost use Rattle.warg_operator_log.specs.SavedState.{namespaces_case};
 
 use crate::namespace::NamespaceState;
 use crate::namespace_map::NamespaceMap;
-use indexmap::IndexMap;
+use warg_maps::NameMap;
 
 impl NamespaceMap {
     /// The namespaces by their names, which are kebab names.
-    pub(crate) fn as_map(&self) -> &IndexMap<String, NamespaceState>
+    pub(crate) fn as_map(&self) -> &NameMap<String, NamespaceState>
         ensures kebabs { HasKebabNames self.now }
         ensures named { plain_pairs string_bytes namespace_view result.now.entries ≡ self.now }
     {
@@ -18,7 +18,7 @@ impl NamespaceMap {
     }
 
     /// The namespaces of the map, whose names have to be kebab names.
-    pub(crate) fn restore(namespaces: IndexMap<String, NamespaceState>) -> NamespaceMap
+    pub(crate) fn restore(namespaces: NameMap<String, NamespaceState>) -> NamespaceMap
         requires { namespaces_case (plain_pairs string_bytes namespace_view namespaces.entries) ≡
             None }
         ensures { result ≡ plain_pairs string_bytes namespace_view namespaces.entries }

@@ -20,7 +20,6 @@ ghost use Rattle.warg_operator_log.specs.SavedState.{incoherence, is_misnamed, n
 use crate::namespace::NamespaceState;
 use crate::namespace_map::NamespaceMap;
 use crate::state::LogState;
-use indexmap::IndexMap;
 use serde_json::{Map, Value};
 use std::alloc::Global;
 use warg_crypto::json::members::object_value;
@@ -30,6 +29,7 @@ use warg_log::{
     Log, SavedParts, members_text, members_value, read_parts, second_apart, text_parts,
 };
 use warg_log_records::operator::Permission;
+use warg_maps::NameMap;
 use warg_registry::PackageName;
 use warg_saved_states::JsonTextError;
 
@@ -37,7 +37,7 @@ use warg_saved_states::JsonTextError;
 type Parts = SavedParts<Permission, KeyID, PublicKey, String, NamespaceState>;
 
 /// Whether some name is no kebab name.
-fn has_misnamed(namespaces: &IndexMap<String, NamespaceState>) -> bool
+fn has_misnamed(namespaces: &NameMap<String, NamespaceState>) -> bool
     ensures { result ≡ list_any is_misnamed (plain_pairs string_bytes namespace_view
         namespaces.now.entries) }
 {
@@ -50,7 +50,7 @@ fn has_misnamed(namespaces: &IndexMap<String, NamespaceState>) -> bool
 }
 
 /// What does not fit together among namespaces: a name is no kebab name.
-fn misnamed(namespaces: &IndexMap<String, NamespaceState>) -> Option<Incoherence>
+fn misnamed(namespaces: &NameMap<String, NamespaceState>) -> Option<Incoherence>
     ensures { result ≡ namespaces_case
         (plain_pairs string_bytes namespace_view namespaces.now.entries) }
 {

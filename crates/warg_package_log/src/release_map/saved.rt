@@ -7,19 +7,19 @@ ghost use Rattle.warg_package_log.specs.SavedState.{named_releases, releases_cas
 
 use crate::release::Release;
 use crate::release_map::ReleaseMap;
-use indexmap::IndexMap;
 use semver::Version;
+use warg_maps::NameMap;
 
 impl ReleaseMap {
     /// The releases by their versions.
-    pub(crate) fn as_map(&self) -> &IndexMap<Version, Release>
+    pub(crate) fn as_map(&self) -> &NameMap<Version, Release>
         ensures { plain_pairs parts_of release_view result.now.entries ≡ named_releases self.now }
     {
         &self.map
     }
 
     /// The releases of the map, each of which has to stand under its version.
-    pub(crate) fn restore(releases: IndexMap<Version, Release>) -> ReleaseMap
+    pub(crate) fn restore(releases: NameMap<Version, Release>) -> ReleaseMap
         requires { releases_case (plain_pairs parts_of release_view releases.entries) ≡ None }
         ensures { result ≡ map (λ e. e.1) (plain_pairs parts_of release_view releases.entries) }
     {

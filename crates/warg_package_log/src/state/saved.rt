@@ -22,7 +22,6 @@ ghost use Rattle.warg_package_log.specs.SavedState.{incoherence, is_misfiled, re
 use crate::release::Release;
 use crate::release_map::ReleaseMap;
 use crate::state::LogState;
-use indexmap::IndexMap;
 use semver::Version;
 use serde_json::{Map, Value};
 use std::alloc::Global;
@@ -31,13 +30,14 @@ use warg_crypto::json::{Incoherence, JsonError, JsonValue};
 use warg_crypto::signing::{KeyID, PublicKey};
 use warg_log::{Log, SavedParts, first_apart, members_text, members_value, read_parts, text_parts};
 use warg_log_records::package::Permission;
+use warg_maps::NameMap;
 use warg_saved_states::JsonTextError;
 
 /// What is read of a state's members.
 type Parts = SavedParts<Permission, Version, Release, KeyID, PublicKey>;
 
 /// Whether some release stands under another version than its own.
-fn has_misfiled(releases: &IndexMap<Version, Release>) -> bool
+fn has_misfiled(releases: &NameMap<Version, Release>) -> bool
     ensures { result ≡ list_any is_misfiled (plain_pairs parts_of release_view
         releases.now.entries) }
 {
@@ -50,7 +50,7 @@ fn has_misfiled(releases: &IndexMap<Version, Release>) -> bool
 }
 
 /// What does not fit together among releases: one stands under another version than its own.
-fn misfiled(releases: &IndexMap<Version, Release>) -> Option<Incoherence>
+fn misfiled(releases: &NameMap<Version, Release>) -> Option<Incoherence>
     ensures { result ≡ releases_case (plain_pairs parts_of release_view releases.now.entries) }
 {
     if has_misfiled(releases) {

@@ -16,17 +16,17 @@ use crate::key_maps::keys::Keys;
 use crate::key_maps::map_changes::{lay_over, make_room};
 use crate::key_maps::rights::{self, Standing};
 use crate::{LogPermission, PermissionSet};
-use indexmap::IndexMap;
 use std::alloc::{AllocError, Global};
 use warg_crypto::signing::{KeyID, PublicKey};
+use warg_maps::NameMap;
 
 /// The maps of an authority, or of changes of one: by key id, the permissions and the keys.
 #[derive(Drop)]
 pub struct KeyTable<P: LogPermission> {
     /// The permissions of each id that has an entry.
-    pub permissions: IndexMap<KeyID, PermissionSet<P>>,
+    pub permissions: NameMap<KeyID, PermissionSet<P>>,
     /// The keys by their ids.
-    pub keys: IndexMap<KeyID, PublicKey>,
+    pub keys: NameMap<KeyID, PublicKey>,
     /// The sets that are shared; among changes, those that are not among the log's yet.
     pub sets: Vec<PermissionSet<P>>,
 }
@@ -38,8 +38,8 @@ impl<P: LogPermission> KeyTable<P> {
         ensures keys { result.keys.entries ≡ [] }
     {
         KeyTable {
-            permissions: IndexMap::new(alloc),
-            keys: IndexMap::new(alloc),
+            permissions: NameMap::new(alloc),
+            keys: NameMap::new(alloc),
             sets: Vec::new(alloc),
         }
     }
@@ -252,8 +252,8 @@ impl<P: LogPermission> KeyTable<P> {
 
 /// Whether the two have the same entries, with the same permissions.
 fn same_rights<P: LogPermission>(
-    a: &IndexMap<KeyID, PermissionSet<P>>,
-    b: &IndexMap<KeyID, PermissionSet<P>>,
+    a: &NameMap<KeyID, PermissionSet<P>>,
+    b: &NameMap<KeyID, PermissionSet<P>>,
 ) -> bool
     ensures { result ≡ same_maps (same_sets P.eq) a.now.entries b.now.entries }
 {
@@ -261,7 +261,7 @@ fn same_rights<P: LogPermission>(
 }
 
 /// Whether the two have the same keys.
-fn same_registered(a: &IndexMap<KeyID, PublicKey>, b: &IndexMap<KeyID, PublicKey>) -> bool
+fn same_registered(a: &NameMap<KeyID, PublicKey>, b: &NameMap<KeyID, PublicKey>) -> bool
     ensures { result ≡ same_maps same_named_bytes a.now.entries b.now.entries }
 {
     *a == *b

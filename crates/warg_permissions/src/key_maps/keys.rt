@@ -9,13 +9,13 @@ ghost use Rattle.std.specs.Str.{bytes_eq};
 ghost use Rattle.warg_permissions.specs.KeyMaps.KeyEntries.{key_data};
 
 use crate::{LogPermission, PermissionSet};
-use indexmap::map::Iter;
-use indexmap::{IndexMap, IndexSet};
+use indexmap::IndexSet;
 use std::alloc::AllocError;
 use std::fmt;
 use std::iter::FusedIterator;
 use std::marker::Model;
 use warg_crypto::signing::{KeyID, PublicKey};
+use warg_maps::{Iter, NameMap};
 
 /// A key of a log.
 #[derive(Clone, Copy, Debug)]
@@ -34,7 +34,7 @@ pub struct KeyEntry<'a, P: LogPermission> {
 #[derive(Drop)]
 pub struct Keys<'a, P: LogPermission> {
     pub(crate) keys: Iter<'a, KeyID, PublicKey>,
-    pub(crate) rights: &'a IndexMap<KeyID, PermissionSet<P>>,
+    pub(crate) rights: &'a NameMap<KeyID, PermissionSet<P>>,
 }
 
 impl<'a, P: LogPermission> Model for Keys<'a, P> {
@@ -48,7 +48,7 @@ impl<'a, P: LogPermission> Model for Keys<'a, P> {
 
 /// What the key holds, if it has an entry.
 fn set_of<'a, P: LogPermission>(
-    rights: &'a IndexMap<KeyID, PermissionSet<P>>,
+    rights: &'a NameMap<KeyID, PermissionSet<P>>,
     id: &KeyID,
 ) -> Option<&'a IndexSet<P>>
     ensures { option_map (λ set. set.now.keys) result ≡

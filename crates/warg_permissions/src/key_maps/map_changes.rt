@@ -5,16 +5,16 @@ ghost use Rattle.indexmap.specs.IndexMap.{get, index_map_len, insert_all, IsUniq
 ghost use Rattle.warg_permissions.specs.KeyMaps.Changes.{HasRoomFor};
 ghost use Rattle.warg_permissions.specs.KeyMaps.Rights.{value_over};
 
-use indexmap::IndexMap;
 use std::alloc::AllocError;
 use std::hash::Hash;
 use warg_crypto::signing::KeyID;
+use warg_maps::NameMap;
 
 /// Puts the entries of the changes into the map, in their order, or none. An empty map becomes the changes, of which
 /// none is moved.
-pub fn put_all<K: Eq + Hash + Drop, V: Drop>(
-    map: &mut IndexMap<K, V>,
-    mut changes: IndexMap<K, V>,
+pub fn put_all<K: Ord + Hash + Clone + Drop, V: Drop>(
+    map: &mut NameMap<K, V>,
+    mut changes: NameMap<K, V>,
 ) -> Result<(), AllocError>
     ensures entries { OnOk result (map.new.entries ≡
         insert_all K.eq map.old.entries changes.entries) }
@@ -32,8 +32,8 @@ pub fn put_all<K: Eq + Hash + Drop, V: Drop>(
 
 /// Makes the room that `lay_over` asks for. No entry changes.
 pub(crate) fn make_room<V>(
-    map: &mut IndexMap<KeyID, V>,
-    changes: &mut IndexMap<KeyID, V>,
+    map: &mut NameMap<KeyID, V>,
+    changes: &mut NameMap<KeyID, V>,
 ) -> Result<(), AllocError>
     ensures entries { map.new.entries ≡ map.old.entries }
     ensures changes { changes.new.entries ≡ changes.old.entries }
@@ -47,7 +47,7 @@ pub(crate) fn make_room<V>(
 }
 
 /// Keeps the entries of the map whose keys have none among the changes.
-fn keep_others<V: Drop>(map: &mut IndexMap<KeyID, V>, changes: &IndexMap<KeyID, V>)
+fn keep_others<V: Drop>(map: &mut NameMap<KeyID, V>, changes: &NameMap<KeyID, V>)
     ensures values { (k : List ℕ) → get bytes_eq map.new k
         ≡ (if is_some (get bytes_eq changes.now k) then None else get bytes_eq map.old k) }
     ensures bound { index_map_len map.new ≤ index_map_len map.old }
@@ -63,7 +63,7 @@ fn keep_others<V: Drop>(map: &mut IndexMap<KeyID, V>, changes: &IndexMap<KeyID, 
 
 /// Lays the changes over the map: each key has what they say of it, else what it had. The fewer entries are moved to the
 /// others, so the map's order is lost.
-pub(crate) fn lay_over<V: Drop>(map: &mut IndexMap<KeyID, V>, mut changes: IndexMap<KeyID, V>)
+pub(crate) fn lay_over<V: Drop>(map: &mut NameMap<KeyID, V>, mut changes: NameMap<KeyID, V>)
     requires { HasRoomFor map.old changes }
     ensures { (k : List ℕ) → get bytes_eq map.new k ≡ value_over map.old.entries changes.entries k }
 {

@@ -10,16 +10,17 @@ ghost use Rattle.warg_permissions.specs.KeyMaps.Rights.{is_listed, holds_in, val
 
 use crate::key_maps::sharing::{find_shared, share};
 use crate::{LogPermission, PermissionSet};
-use indexmap::{IndexMap, IndexSet};
+use indexmap::IndexSet;
 use std::alloc::{AllocError, Global};
 use warg_crypto::signing::KeyID;
+use warg_maps::NameMap;
 
 /// The permissions that stand before a record, by key id, and the sets that keys share.
 #[derive(Clone, Copy)]
 pub(crate) struct Standing<'a, P: LogPermission> {
     pub(crate) alloc: Global,
     pub(crate) sets: &'a [PermissionSet<P>],
-    pub(crate) rights: &'a IndexMap<KeyID, PermissionSet<P>>,
+    pub(crate) rights: &'a NameMap<KeyID, PermissionSet<P>>,
 }
 
 /// Whether the permission is among those held.
@@ -34,7 +35,7 @@ pub fn is_among<P: LogPermission>(held: Option<&PermissionSet<P>>, permission: P
 
 /// Whether the key holds the permission.
 pub fn holds<P: LogPermission>(
-    rights: &IndexMap<KeyID, PermissionSet<P>>,
+    rights: &NameMap<KeyID, PermissionSet<P>>,
     key_id: &KeyID,
     permission: P,
 ) -> bool
@@ -46,7 +47,7 @@ pub fn holds<P: LogPermission>(
 /// The value of the key id: that of the changes if they have one, else the one from before them.
 pub fn look<'a, X>(
     stood: Option<&'a X>,
-    changes: &'a IndexMap<KeyID, X>,
+    changes: &'a NameMap<KeyID, X>,
     key_id: &KeyID,
 ) -> Option<&'a X>
     ensures { option_copied result ≡ option_or (lookup (bytes_eq key_id.now) changes.now.entries)
@@ -63,7 +64,7 @@ pub fn look<'a, X>(
 
 /// Puts a value at the key id, among the changes.
 pub(crate) fn put<X: Drop>(
-    changes: &mut IndexMap<KeyID, X>,
+    changes: &mut NameMap<KeyID, X>,
     key_id: KeyID,
     value: X,
 ) -> Result<(), AllocError>
@@ -132,7 +133,7 @@ fn with_permissions<P: LogPermission>(
 pub(crate) fn give<P: LogPermission>(
     stood: &Standing<'_, P>,
     added: &mut Vec<PermissionSet<P>>,
-    changes: &mut IndexMap<KeyID, PermissionSet<P>>,
+    changes: &mut NameMap<KeyID, PermissionSet<P>>,
     key_id: KeyID,
     permissions: &[P],
 ) -> Result<(), AllocError>
@@ -191,7 +192,7 @@ fn take_from<P: LogPermission>(
 pub(crate) fn take_all<P: LogPermission>(
     stood: &Standing<'_, P>,
     added: &mut Vec<PermissionSet<P>>,
-    changes: &mut IndexMap<KeyID, PermissionSet<P>>,
+    changes: &mut NameMap<KeyID, PermissionSet<P>>,
     key_id: &KeyID,
     permissions: &[P],
 ) -> Result<Option<P>, AllocError>

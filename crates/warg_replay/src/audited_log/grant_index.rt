@@ -5,9 +5,9 @@ ghost use Rattle.indexmap.specs.IndexMap.{IsUnique, index_map_len, spare};
 ghost use Rattle.warg_replay.specs.AuditedLog.GrantIndexes.{number_in, number_at, number_over};
 
 use crate::audited_log::link::Link;
-use indexmap::IndexMap;
 use std::alloc::{AllocError, Global};
 use warg_crypto::signing::KeyID;
+use warg_maps::NameMap;
 
 /// An entry that gave a permission to a key id.
 #[derive(Clone, Copy)]
@@ -26,7 +26,7 @@ pub(crate) struct Holding<P> {
 }
 
 /// What each key id has had.
-pub(crate) type Holdings<P> = IndexMap<KeyID, Vec<Holding<P>>>;
+pub(crate) type Holdings<P> = NameMap<KeyID, Vec<Holding<P>>>;
 
 /// The gifts of a log in order, by which they are numbered, and who holds what by which.
 #[derive(Drop)]
@@ -135,7 +135,7 @@ impl<P: Copy + Eq> GrantIndex<P> {
     {
         GrantIndex {
             gifts: Vec::new(alloc),
-            holdings: IndexMap::new(alloc),
+            holdings: NameMap::new(alloc),
         }
     }
 

@@ -1,0 +1,56 @@
+//! The numbers of a text of JSON.
+ghost use Rattle.std.specs.Prelude.{◌≡◌, ◌<◌, ◌==◌, IsTrue, false, length, option_map, slice_index, true};
+ghost use Rattle.serde_json.specs.Read.{float_of, number_from, number_of};
+ghost use Rattle.serde_json.specs.View.{number_view};
+
+use fast_float::Numeral;
+use serde_json::Number;
+
+/// The float nearest to the numeral. `None`: it is past the greatest float.
+fn nearest(negative: bool, numeral: &Numeral<'_>) -> Option<Number>
+    ensures { option_map number_view result ≡ float_of negative numeral.now }
+{
+    Number::from_f64(numeral.to_float::<f64>(negative))
+}
+
+/// The number of a numeral with no sign before it.
+fn unsigned(numeral: &Numeral<'_>) -> Option<Number>
+    ensures { option_map number_view result ≡ number_from false numeral.now }
+{
+    match numeral.to_u64() {
+        Some(number) => Some(Number::from(number)),
+        None => nearest(false, numeral),
+    }
+}
+
+/// The number of a numeral behind a minus. `-0` is a float.
+fn negative(numeral: &Numeral<'_>) -> Option<Number>
+    ensures { option_map number_view result ≡ number_from true numeral.now }
+{
+    if let Some(number) = numeral.to_i64(true) {
+        if number < 0 {
+            return Some(Number::from(number));
+        }
+    }
+    nearest(true, numeral)
+}
+
+/// Whether a minus comes first.
+fn has_minus(text: &[u8]) -> bool
+    ensures value { result ≡ (slice_index text.now 0 == 45) }
+    ensures len { IsTrue result → 0 < length text.now }
+{
+    !text.is_empty() && text[0] == b'-'
+}
+
+/// The number that a text of JSON writes. `None`: it is past the greatest float.
+pub(crate) fn number_of(text: &str) -> Option<Number>
+    ensures { option_map number_view result ≡ number_of text.now }
+{
+    let text = text.as_bytes();
+    if has_minus(text) {
+        negative(&Numeral::scan(&text[1..]))
+    } else {
+        unsigned(&Numeral::scan(text))
+    }
+}
