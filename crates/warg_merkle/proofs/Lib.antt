@@ -12,6 +12,7 @@ pub mod Lengths
 pub mod ExtensionPaths
 pub mod Subproofs
 pub mod Consistent
+pub mod Contradicting
 pub mod SparseMapLemmas
 pub mod MerkleLogLemmas
 pub mod MapProofLemmas

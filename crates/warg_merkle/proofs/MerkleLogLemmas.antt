@@ -2,3 +2,4 @@ pub mod Roots
 pub mod Leaves
 pub mod Joins
 pub mod Completing
+pub mod Shortening

@@ -47,6 +47,10 @@ module _ (hash : List ℕ → List ℕ) (long : (m : List ℕ) → length (hash 
     ]
   ]
 
+  pub path_long : (i : ℕ) (ds : List (List ℕ)) → All (λ p. length p ≡ 32) (inclusion_path hash i ds)
+  unfolding inclusion_path
+  path_long i ds = path_within_long (length ds) i ds
+
   -- a verified leaf is the tree's own, or what was hashed collides
   pub own_or_collision : (leaf : List ℕ) (index size : ℕ) (path : List (List ℕ)) (root : List ℕ) → All (λ p. length p ≡ 32) path → size ≤ 2 ^ 64 → Includes hash leaf index size path root → (ds : List (List ℕ)) → length ds ≡ size → tree_hash hash ds ≡ root → IsOwn hash ds leaf index path
   unfolding inclusion_path

@@ -1,4 +1,5 @@
 pub mod Ways
 pub mod EmptyRoots
-pub mod Values
+pub mod Behind
 pub mod Open
+pub mod Whole

@@ -1,3 +1,4 @@
 pub mod Nodes
+pub mod Compressed
 pub mod Stored
 pub mod SparseTree

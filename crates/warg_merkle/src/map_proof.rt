@@ -9,4 +9,5 @@ mod verify;
 pub use error::MapProofError;
 pub use laws::short_forms;
 pub use map_proof::MapProof;
+pub(crate) use verify::hash_above;
 pub use verify::{verify_absence, verify_presence};

@@ -3,4 +3,4 @@ mod entries;
 mod laws;
 
 pub use entries::{is_right, verify_absence, verify_entry};
-pub use laws::maps;
+pub use laws::{maps, one_value};

@@ -65,7 +65,7 @@ module _ (hash : List ℕ → List ℕ) (long : (m : List ℕ) → length (hash 
   path_long m (Right ∷ way) = all_push _ _ (path_long (λ w. m (Right ∷ w)) way) (root_long (length way) (λ w. m (Left ∷ w)))
 
   -- two values on ways up to one root
-  one_value : (ss : List Side) (ps qs : List (List ℕ)) (v w : Option (List ℕ)) (r : List ℕ) → All (λ p. length p ≡ 32) ps → All (λ p. length p ≡ 32) qs → climb hash ss ps (hash (value_input v)) ≡ Some r → climb hash ss qs (hash (value_input w)) ≡ Some r → ((v ≡ w) × (ps ≡ qs)) ⊎ HaveCollision hash (value_input v ∷ climb_inputs hash ss ps (hash (value_input v))) (value_input w ∷ climb_inputs hash ss qs (hash (value_input w)))
+  pub one_value : (ss : List Side) (ps qs : List (List ℕ)) (v w : Option (List ℕ)) (r : List ℕ) → All (λ p. length p ≡ 32) ps → All (λ p. length p ≡ 32) qs → climb hash ss ps (hash (value_input v)) ≡ Some r → climb hash ss qs (hash (value_input w)) ≡ Some r → ((v ≡ w) × (ps ≡ qs)) ⊎ HaveCollision hash (value_input v ∷ climb_inputs hash ss ps (hash (value_input v))) (value_input w ∷ climb_inputs hash ss qs (hash (value_input w)))
   one_value ss ps qs v w r hp hq ev ew =
       elim (one_way hash long ss ps qs (hash (value_input v)) (hash (value_input w)) r hp hq (long _) (long _) ev ew) [
         | inr found ↦ inr (later hash long (value_input v) (value_input w) _ _ found)

@@ -1,7 +1,7 @@
 -- The roots of empty subtrees in a row.
-use Rattle.std.proofs.Common.{◌≡◌, ℕ, zero, suc, ◌<◌, ◌≤◌, List, [], ◌∷◌, ◌++◌, length, get_or, take, inl, inr, refl, sym, ◌∙◌, ap, arith}
+use Rattle.std.proofs.Common.{◌≡◌, ℕ, zero, suc, ◌<◌, ◌≤◌, List, [], ◌∷◌, ◌++◌, length, get_or, take, drop, inl, inr, refl, sym, ◌∙◌, ap, arith}
 use Rattle.std.proofs.lemmas.Bool.{cases_lt}
-use Rattle.std.proofs.lemmas.List.{length-append, take-append-le, get_or_append_left, get_or_push}
+use Rattle.std.proofs.lemmas.List.{length-append, length-drop, take-append-le, drop-append-le, nil_from_length, get_or_append_left, get_or_push}
 use Rattle.std.proofs.Math.Seq.{take-length}
 use Rattle.warg_merkle.specs.SparseMap.Maps.{empty_root}
 use Rattle.warg_merkle.specs.SparseTree.Nodes.{empty_roots}
@@ -42,3 +42,10 @@ module _ (hash : List ℕ → List ℕ) where
   -- a read of the table
   pub empty_at : (empties : List (List ℕ)) (i j : ℕ) → empties ≡ empty_roots hash 257 → i ≡ j → j < 257 → get_or empties i [] ≡ empty_root hash j
   empty_at empties i j is same below = ap (λ k. get_or empties k []) same ∙ ap (λ os. get_or os j []) is ∙ get_or-empty_roots 257 j below
+
+  -- a piece of the table
+  pub row_none : (n k : ℕ) → k ≡ n → drop n (empty_roots hash k) ≡ []
+  row_none n k is = nil_from_length (drop n (empty_roots hash k)) (omega (arith, length-drop n (empty_roots hash k), length-empty_roots k))
+
+  pub row_more : (n m k : ℕ) → n ≤ m → k ≡ suc m → drop n (empty_roots hash k) ≡ drop n (empty_roots hash m) ++ empty_root hash m ∷ []
+  row_more n m k low is = ap (drop n) (roots_more m k is) ∙ drop-append-le n (empty_roots hash m) (empty_root hash m ∷ []) (omega (arith, length-empty_roots m))

@@ -6,4 +6,4 @@ use Rattle.warg_merkle.specs.SparseTree.Stored.{value_at}
 
 -- what stands at the end of a way
 unfoldable pub map_of : SparseTree → List Side → Option (List ℕ)
-map_of tree = value_at tree.node
+map_of tree = value_at 0 tree.node

@@ -13,7 +13,12 @@ use crate::{leaf_hash, node_hash};
 use sha2::{Digest, Sha256};
 
 // The hash above a hash on the key's way up and its sibling; the depth is the node's from the root.
-fn hash_above(key: &[u8; 32], depth: usize, hash: &[u8; 32], sibling: &[u8; 32]) -> [u8; 32]
+pub(crate) fn hash_above(
+    key: &[u8; 32],
+    depth: usize,
+    hash: &[u8; 32],
+    sibling: &[u8; 32],
+) -> [u8; 32]
     requires { depth < 256 }
     ensures { result ≡
         sha256 (step_input (if is_right key.now depth then Right else Left) hash.now sibling.now) }

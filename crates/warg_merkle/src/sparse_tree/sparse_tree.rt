@@ -13,11 +13,11 @@ use crate::sparse_tree::empties::empty_roots;
 use crate::sparse_tree::node::Node;
 use std::alloc::{AllocError, Global};
 
-/// A map from keys of 256 bits to bytes, as a sparse Merkle tree whose nodes are stored.
+/// A map from keys of 256 bits to bytes, as a sparse Merkle tree that stores a node only where the ways of two keys part.
 ///
-/// An insertion costs the leaf's hash and 256 hashes of nodes. A key takes memory for its own nodes alone: a leaf of 56
-/// bytes beside its value, and at most 256 nodes of 64 bytes, fewer by those near the root that it shares with other keys.
-/// The roots of empty subtrees take 8 KiB once.
+/// An insertion costs the leaf's hash, 255 or 256 hashes of nodes, and those for the root of what its way leaves at a new
+/// node: fewer than 48 where no two keys share their first 48 bits. A key takes memory for a leaf of 88 bytes beside its
+/// value, and for one node of 136. The roots of empty subtrees take 8 KiB once.
 #[derive(Drop)]
 pub struct SparseTree {
     alloc: Global,
@@ -25,7 +25,7 @@ pub struct SparseTree {
     node: Node,
     len: usize,
     ghost table: { empties.items ≡ empty_roots sha256 257 },
-    ghost hashed: { IsHashed sha256 256 node } by { IsHashed-prop sha256 256 node },
+    ghost hashed: { IsHashed sha256 0 node } by { IsHashed-prop sha256 0 node },
     ghost counted: { len ≡ leaf_count node },
 }
 
@@ -62,7 +62,7 @@ impl SparseTree {
     pub fn root(&self) -> [u8; 32]
         ensures { result ≡ map_root sha256 256 (map_of self.now) }
     {
-        self.node.root(&self.empties[256])
+        self.node.root(0, self.empties.as_slice())
     }
 
     /// The value at the key.

@@ -6,4 +6,4 @@ use Rattle.warg_merkle.proofs.sparse_tree.sparse_tree.SparseTree.get.Goals as go
 
 pub returns : goal.returns
 unfolding map_of
-returns c = c.get.ensures ∙ ap (value_at c.args.self.now.node) (whole_way c.args.key.now)
+returns c = c.get.ensures ∙ ap (value_at 0 c.args.self.now.node) (whole_way c.args.key.now)

@@ -7,7 +7,7 @@ use Rattle.warg_merkle.specs.SparseTree.Nodes.{way_from}
 use Rattle.warg_merkle.specs.SparseTree.Stored.{value_at}
 use Rattle.warg_merkle.specs.SparseTree.SparseTree.{map_of}
 use Rattle.warg_merkle.proofs.SparseTreeLemmas.Ways.{whole_way, length-way_from}
-use Rattle.warg_merkle.proofs.SparseTreeLemmas.Values.{length-map_path}
+use Rattle.warg_merkle.proofs.SparseTreeLemmas.Behind.{length-map_path}
 use Rattle.warg_merkle.proofs.sparse_tree.sparse_tree.SparseTree.proof.Goals as goal
 
 leads_own : {E : Type 0} (tree : SparseTree) (key : List ℕ) (result : Result (List (List ℕ)) E) → IfOk result (λ proof. proof ≡ map_path sha256 (map_of tree) (way_down key)) → IfOk result (λ proof. Leads sha256 (map_of tree (way_down key)) key proof (map_root sha256 256 (map_of tree)))
@@ -15,7 +15,7 @@ leads_own tree key (Ok proof) is = rw is (own_leads sha256 (map_of tree) key)
 leads_own tree key (Err e) is = is
 
 pub from_path-requires : goal.from_path-requires
-from_path-requires c = ap length (c.as_slice-2.ensures.value ∙ c.in_ok-path.ensures) ∙ length-map_path sha256 (value_at c.args.self.now.node) (way_from 256 0 c.args.key.now) ∙ length-way_from 256 0 c.args.key.now
+from_path-requires c = ap length (c.as_slice-2.ensures.value ∙ c.in_ok-path.ensures) ∙ length-map_path sha256 (value_at 0 c.args.self.now.node) (way_from 256 0 c.args.key.now) ∙ length-way_from 256 0 c.args.key.now
 
 pub returns-clause-path : goal.returns-clause-path
 unfolding map_of

@@ -1,0 +1,2 @@
+mod ListedMapLemmas
+mod PartingLemmas
