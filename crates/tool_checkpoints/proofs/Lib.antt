@@ -1,3 +1,4 @@
+mod HeadLemmas
 pub mod RegistryLemmas
 pub mod WordLemmas
 pub mod ProofTextLemmas

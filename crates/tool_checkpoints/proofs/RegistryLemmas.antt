@@ -1,13 +1,16 @@
 -- The leaves that lines say, and the log and the map that they make.
 use Rattle.std.proofs.Common.{◌≡◌, ◌≢◌, ◌⊎◌, inl, inr, ℕ, false, true, List, [], ◌∷◌, ◌++◌, length, map, refl, sym, ap, subst, ◌∙◌, arith, append_assoc, append-nil, Option, Some, None}
 use Rattle.std.specs.Prelude.{◌<◌, ◌==◌}
-use Rattle.std.specs.List.{AllByRecursion, after_first, before_first, position_or_len}
+use Rattle.std.specs.List.{AllByRecursion, Contains, after_first, before_first, position_or_len}
 use Rattle.std.specs.Str.{IsUtf8, is_utf8}
 use Rattle.std.proofs.lemmas.Bool.{cond-false, cond-true, eqb-true, false_from_ne_true}
 use Rattle.std.proofs.lemmas.List.{map-append}
 use Rattle.std.proofs.lemmas.Str.{IsUtf8-from_is_utf8, is_utf8-from_IsUtf8}
 use Rattle.sha2.specs.Sha256.{sha256}
 use Rattle.warg_audit.specs.Files.Lines.{lines_of, without_return}
+use Rattle.warg_listed_map.specs.ListedMaps.{IsMapOf}
+use Rattle.warg_listed_map.specs.declared.entry.Entry.{Entry}
+use Rattle.warg_merkle.specs.SparseMap.Maps.{way_down}
 use Rattle.warg_merkle.specs.SparseTree.Nodes.{Sets}
 use Rattle.warg_registry.specs.PrefixEncodings.{map_leaf_encoding_of}
 use Rattle.warg_transparency.specs.MapTree.{way_of}
@@ -17,8 +20,9 @@ use Rattle.warg_transparency.specs.Heads.{head_leaf}
 use Rattle.warg_registry.specs.declared.leaf.LogLeaf.{LogLeaf}
 use Rattle.warg_claims.specs.Verified.Lines.{has_no_space, is_space}
 use Rattle.warg_audit.specs.Files.Answers.{IfOutput, IsUnusable}
-use Rattle.tool_checkpoints.specs.RegistryLeaves.{HasHeads, HasNoLeaf, IsLast, IsRegistryOf, SayLeaves, SayRegistry, entries_of, leaf_of_ids, leaf_of_line, leaf_of_text}
+use Rattle.tool_checkpoints.specs.RegistryLeaves.{AreTreesOf, HasHeads, HasNoLeaf, IsLast, SayLeaves, SayRegistry, entries_of, entry_of, leaf_of_ids, leaf_of_line, leaf_of_text}
 use Rattle.warg_audit.specs.declared.files.command_error.CommandError.{CommandError}
+use Rattle.tool_checkpoints.proofs.HeadLemmas.{empty_map, map_more, no_entry, placed_more, put_at, sets_put}
 use Rattle.warg_audit.proofs.FilesLemmas.AnswerLemmas.{IfOutput-to}
 
 -- ---- which leaf a line says
@@ -108,23 +112,46 @@ hashes_more leaves leaf old new so_far more =
     ∙ map-append hash_of (entries_of leaves) (log_leaf_encoding_of leaf ∷ []))
 
 -- of no leaves
-pub empty_registry : (hashes : List (List ℕ)) (m : List Side → Option (List ℕ)) → hashes ≡ [] → ((way : List Side) → m way ≡ None)
-    → IsRegistryOf [] hashes m
-empty_registry hashes m e none = record {
-  log = e;
-  heads = record { last = λ leaf is. absurd (no_leaves is.before leaf is.after is.parts); none = λ way all. none way };
+pub no_trees : (hashes : List (List ℕ)) (entries : List Entry) → hashes ≡ [] → entries ≡ [] → AreTreesOf [] hashes entries
+no_trees hashes entries e f = record {
+  m = λ way. None;
+  registry = record {
+    log = e;
+    heads = record { last = λ leaf is. absurd (no_leaves is.before leaf is.after is.parts); none = λ way all. refl };
+  };
+  map = subst (λ es. IsMapOf way_down es (λ way. None)) (sym f) empty_map;
+  placed = λ x among. absurd (no_entry x (subst (λ es. Contains es x) f among));
 }
+
+-- with one leaf more
+pub trees_more : (leaves : List LogLeaf) (leaf : LogLeaf) (old new : List (List ℕ)) (before after : List Entry)
+    → new ≡ old ++ hash_of (log_leaf_encoding_of leaf) ∷ [] → after ≡ before ++ entry_of (length before) leaf ∷ []
+    → AreTreesOf leaves old before → AreTreesOf (leaves ++ leaf ∷ []) new after
+trees_more leaves leaf old new before after pushed added it =
+    let e = entry_of (length before) leaf in
+    let value = map_leaf_encoding_of (head_leaf leaf.record_id) in
+    let n = put_at it.m (way_down e.key) value in
+    let sets : Sets it.m n (way_of leaf.log_id) value = sets_put it.m (way_down e.key) value in
+    record {
+      m = n;
+      registry = record {
+        log = hashes_more leaves leaf old new it.registry.log pushed;
+        heads = heads_more leaves leaf it.m n it.registry.heads sets;
+      };
+      map = subst (λ es. IsMapOf way_down es n) (sym added) (map_more before e it.m n value it.map it.placed refl sets refl);
+      placed = subst (λ es. (x : Entry) → Contains es x → x.place < length es) (sym added) (placed_more before e it.m n value it.map it.placed refl sets refl);
+    }
 
 -- ---- the lines so far, and the lines that are left
 
-pub record IsReadTo (lines rest hashes : List (List ℕ)) (m : List Side → Option (List ℕ)) : Type 0 where
+pub record IsReadTo (lines rest hashes : List (List ℕ)) (entries : List Entry) : Type 0 where
   pub done : List (List ℕ)
   pub parts : lines ≡ done ++ rest
-  pub so_far : SayRegistry done hashes m
+  pub so_far : SayRegistry done hashes entries
 
-pub none_read : (lines hashes : List (List ℕ)) (m : List Side → Option (List ℕ)) → IsRegistryOf [] hashes m → IsReadTo lines lines hashes m
-none_read lines hashes m empty =
-    record { done = []; parts = refl; so_far = record { leaves = []; said = refl; registry = empty } }
+pub none_read : (lines hashes : List (List ℕ)) (entries : List Entry) → AreTreesOf [] hashes entries → IsReadTo lines lines hashes entries
+none_read lines hashes entries empty =
+    record { done = []; parts = refl; so_far = record { leaves = []; said = refl; trees = empty } }
 
 said_more : (lines : List (List ℕ)) (leaves : List LogLeaf) (line : List ℕ) (leaf : LogLeaf) → SayLeaves lines leaves
     → Some leaf ≡ leaf_of_line line → SayLeaves (lines ++ line ∷ []) (leaves ++ leaf ∷ [])
@@ -134,23 +161,20 @@ said_more lines leaves line leaf said is =
     ∙ ap (λ (last : Option LogLeaf). map Some leaves ++ last ∷ []) (sym is)
     ∙ sym (map-append Some leaves (leaf ∷ []))
 
-pub one_read : (lines rest more : List (List ℕ)) (line : List ℕ) (leaf : LogLeaf) (old new : List (List ℕ)) (m n : List Side → Option (List ℕ))
+pub one_read : (lines rest more : List (List ℕ)) (line : List ℕ) (leaf : LogLeaf) (old new : List (List ℕ)) (before after : List Entry)
     → rest ≡ line ∷ more → Some leaf ≡ leaf_of_line line
     → new ≡ old ++ sha256 (leaf_input (log_leaf_encoding_of leaf)) ∷ []
-    → Sets m n (way_of leaf.log_id) (map_leaf_encoding_of (head_leaf leaf.record_id))
-    → IsReadTo lines rest old m → IsReadTo lines more new n
-one_read lines rest more line leaf old new m n cut is pushed sets it =
-    let before = it.so_far.leaves in
+    → after ≡ before ++ entry_of (length before) leaf ∷ []
+    → IsReadTo lines rest old before → IsReadTo lines more new after
+one_read lines rest more line leaf old new before after cut is pushed added it =
+    let leaves = it.so_far.leaves in
     record {
       done = it.done ++ line ∷ [];
       parts = it.parts ∙ ap (λ (ls : List (List ℕ)). it.done ++ ls) cut ∙ sym (append_assoc it.done (line ∷ []) more);
       so_far = record {
-        leaves = before ++ leaf ∷ [];
-        said = said_more it.done before line leaf it.so_far.said is;
-        registry = record {
-          log = hashes_more before leaf old new it.so_far.registry.log pushed;
-          heads = heads_more before leaf m n it.so_far.registry.heads sets;
-        };
+        leaves = leaves ++ leaf ∷ [];
+        said = said_more it.done leaves line leaf it.so_far.said is;
+        trees = trees_more leaves leaf old new before after pushed added it.so_far.trees;
       };
     }
 
@@ -158,17 +182,17 @@ no_lines : (text : List ℕ) → (length text == 0) ≡ true → lines_of text �
 no_lines [] e = refl
 no_lines (b ∷ rest) e = let none : length (b ∷ rest) ≡ 0 = eqb-true (length (b ∷ rest)) 0 e in absurd (omega arith)
 
-pub all_read : (lines hashes : List (List ℕ)) (rest : List ℕ) (m : List Side → Option (List ℕ)) → (length rest == 0) ≡ true
-    → IsReadTo lines (lines_of rest) hashes m → SayRegistry lines hashes m
-all_read lines hashes rest m end it =
+pub all_read : (lines hashes : List (List ℕ)) (rest : List ℕ) (entries : List Entry) → (length rest == 0) ≡ true
+    → IsReadTo lines (lines_of rest) hashes entries → SayRegistry lines hashes entries
+all_read lines hashes rest entries end it =
     let all : lines ≡ it.done = it.parts ∙ ap (λ (ls : List (List ℕ)). it.done ++ ls) (no_lines rest end) ∙ append-nil it.done in
-    subst (λ (ls : List (List ℕ)). SayRegistry ls hashes m) (sym all) it.so_far
+    subst (λ (ls : List (List ℕ)). SayRegistry ls hashes entries) (sym all) it.so_far
 
 -- a line that says no leaf
-pub unread_at : (lines rest more hashes : List (List ℕ)) (line : List ℕ) (m : List Side → Option (List ℕ)) (end : CommandError)
-    → rest ≡ line ∷ more → None ≡ leaf_of_line line → IsReadTo lines rest hashes m → IfOutput IsUnusable end
+pub unread_at : (lines rest more hashes : List (List ℕ)) (line : List ℕ) (entries : List Entry) (end : CommandError)
+    → rest ≡ line ∷ more → None ≡ leaf_of_line line → IsReadTo lines rest hashes entries → IfOutput IsUnusable end
     → IfOutput (λ printed. HasNoLeaf lines × IsUnusable printed) end
-unread_at lines rest more hashes line m end cut bad it h =
+unread_at lines rest more hashes line entries end cut bad it h =
     let none : HasNoLeaf lines = record {
       front = it.done;
       line = line;

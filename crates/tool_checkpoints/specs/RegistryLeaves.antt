@@ -1,6 +1,6 @@
 -- The leaves of a registry, as the lines of a file list them, and the log and the map that they make.
-use Rattle.std.specs.Prelude.{◌≡◌, ◌≢◌, ℕ, List, ◌∷◌, ◌++◌, map, Option, Some, None, Result, Ok, Err, if◌then◌else◌}
-use Rattle.std.specs.List.{AllByRecursion, after_first, before_first}
+use Rattle.std.specs.Prelude.{◌≡◌, ◌≢◌, ◌<◌, ℕ, length, List, ◌∷◌, ◌++◌, map, Option, Some, None, Result, Ok, Err, if◌then◌else◌}
+use Rattle.std.specs.List.{AllByRecursion, Contains, after_first, before_first}
 use Rattle.std.specs.Str.{is_utf8}
 use Rattle.sha2.specs.Sha256.{sha256}
 use Rattle.warg_crypto.specs.declared.hash.AnyHashError.{AnyHashError}
@@ -8,7 +8,9 @@ use Rattle.warg_log_records.specs.RecordIds.{id_of_text as record_id_of_text}
 use Rattle.warg_log_records.specs.declared.record_id.RecordId.{RecordId}
 use Rattle.warg_registry.specs.LogIds.{id_of_text as log_id_of_text}
 use Rattle.warg_registry.specs.PrefixEncodings.{map_leaf_encoding_of}
-use Rattle.warg_merkle.specs.SparseMap.Maps.{map_root}
+use Rattle.warg_listed_map.specs.ListedMaps.{IsMapOf}
+use Rattle.warg_listed_map.specs.declared.entry.Entry.{Entry}
+use Rattle.warg_merkle.specs.SparseMap.Maps.{map_root, way_down}
 use Rattle.warg_transparency.specs.MapTree.{way_of}
 use Rattle.warg_merkle.specs.Trees.{Side, leaf_input}
 use Rattle.warg_registry.specs.PrefixEncodings.{log_leaf_encoding_of}
@@ -75,15 +77,26 @@ pub record IsRegistryOf (leaves : List LogLeaf) (hashes : List (List ℕ)) (m : 
   pub log : hashes ≡ map (λ entry. sha256 (leaf_input entry)) (entries_of leaves)
   pub heads : HasHeads leaves m
 
+-- the entry of the map that a leaf makes, by the leaf's place
+abbrev pub entry_of : ℕ → LogLeaf → Entry
+entry_of place leaf = record { key = leaf.log_id.hash.bytes; leaf = sha256 (leaf_input (map_leaf_encoding_of (head_leaf leaf.record_id))); place = place }
+
+-- the log of these hashes, and the map of these entries, each of a place of its own, are those of the leaves
+pub record AreTreesOf (leaves : List LogLeaf) (hashes : List (List ℕ)) (entries : List Entry) : Type 0 where
+  pub m : List Side → Option (List ℕ)
+  pub registry : IsRegistryOf leaves hashes m
+  pub map : IsMapOf way_down entries m
+  pub placed : (e : Entry) → Contains entries e → e.place < length entries
+
 -- the fact, for the leaves that the log and the map are of
-abbrev pub ForRegistry : List (List ℕ) → (List Side → Option (List ℕ)) → (List LogLeaf → Type 0) → Type 0
-ForRegistry hashes m P = (leaves : List LogLeaf) → IsRegistryOf leaves hashes m → P leaves
+abbrev pub ForRegistry : List (List ℕ) → List Entry → (List LogLeaf → Type 0) → Type 0
+ForRegistry hashes entries P = (leaves : List LogLeaf) → AreTreesOf leaves hashes entries → P leaves
 
 -- the lines say leaves, and the log and the map are those of the leaves
-pub record SayRegistry (lines hashes : List (List ℕ)) (m : List Side → Option (List ℕ)) : Type 0 where
+pub record SayRegistry (lines hashes : List (List ℕ)) (entries : List Entry) : Type 0 where
   pub leaves : List LogLeaf
   pub said : SayLeaves lines leaves
-  pub registry : IsRegistryOf leaves hashes m
+  pub trees : AreTreesOf leaves hashes entries
 
 -- the checkpoint has the length and the root of the log of the leaves, and the root of their map
 pub record IsCheckpointOf (leaves : List LogLeaf) (checkpoint : Checkpoint) : Type 0 where

@@ -1,17 +1,13 @@
 //! The leaves of a registry that a file lists, and the log and the map that they make.
 
-ghost use Rattle.std.specs.Prelude.{◌≡◌, ◌++◌, [], ◌∷◌, IfOk, IfErr, OnOk};
+ghost use Rattle.std.specs.Prelude.{◌≡◌, ◌++◌, [], ◌∷◌, IfOk, IfErr, OnOk, length};
 ghost use Rattle.sha2.specs.Sha256.{sha256};
 ghost use Rattle.warg_audit.specs.Files.Lines.{lines_of};
-ghost use Rattle.warg_merkle.specs.SparseTree.Nodes.{Sets};
-ghost use Rattle.warg_registry.specs.PrefixEncodings.{map_leaf_encoding_of};
-ghost use Rattle.warg_transparency.specs.MapTree.{leaves_of, way_of};
 ghost use Rattle.warg_merkle.specs.Trees.{leaf_input};
 ghost use Rattle.warg_registry.specs.PrefixEncodings.{log_leaf_encoding_of};
-ghost use Rattle.warg_transparency.specs.Heads.{head_leaf};
 ghost use Rattle.warg_audit.specs.Files.Answers.{IfOutput, IsUnusable};
 ghost use Rattle.warg_audit.specs.Files.RecordLines.{record_lines};
-ghost use Rattle.tool_checkpoints.specs.RegistryLeaves.{HasNoLeaf, IsRegistryOf, leaf_of_ids, leaf_of_line};
+ghost use Rattle.tool_checkpoints.specs.RegistryLeaves.{AreTreesOf, entry_of, HasNoLeaf, leaf_of_ids, leaf_of_line};
 ghost use Rattle.tool_checkpoints.specs.RegistryLeaves.{leaf_of_text, SayRegistry};
 
 use std::alloc::{AllocError, Global};
@@ -19,39 +15,59 @@ use warg_audit::files::command_error::{CommandError, unusable};
 use warg_audit::files::input::{Input, line_sentence};
 use warg_audit::files::lines::{cut_line, without_return};
 use warg_audit::files::record_lines::{Comments, record_text};
+use warg_crypto::VisitBytes;
+use warg_listed_map::Entry;
 use warg_log_records::RecordId;
+use warg_merkle::leaf_hash;
 use warg_registry::{LogId, LogLeaf, MapLeaf};
-use warg_transparency::{LogTree, MapTree};
+use warg_transparency::LogTree;
 
-/// A registry's log and map.
+/// A registry's log, and the entries of its map.
 #[derive(Drop)]
 pub(crate) struct Trees {
     /// The log.
     pub(crate) log: LogTree,
-    /// The map.
-    pub(crate) map: MapTree,
+    /// The entries of the map, one for each leaf.
+    pub(crate) heads: Vec<Entry>,
+}
+
+// The entry of the map that a leaf at a place makes.
+fn entry_of(alloc: Global, place: usize, leaf: &LogLeaf) -> Result<Entry, AllocError>
+    ensures { IfOk result (λ entry. entry ≡ entry_of place leaf.now) }
+{
+    let record_id = leaf.record_id;
+    let mut bytes = Vec::new(alloc);
+    MapLeaf { record_id }.visit(&mut bytes)?;
+    let mut key = [0u8; 32];
+    key.copy_from_slice(leaf.log_id.as_bytes());
+    Ok(Entry {
+        key,
+        leaf: leaf_hash(bytes.as_slice()),
+        place,
+    })
 }
 
 impl Trees {
     // Of no leaves.
-    fn new(alloc: Global) -> Result<Trees, AllocError>
-        ensures { IfOk result (λ trees. IsRegistryOf [] trees.log (leaves_of trees.map)) }
+    fn new(alloc: Global) -> Trees
+        ensures { AreTreesOf [] result.log result.heads.items }
     {
-        let log = LogTree::new(alloc);
-        let map = MapTree::new(alloc)?;
-        Ok(Trees { log, map })
+        Trees {
+            log: LogTree::new(alloc),
+            heads: Vec::new(alloc),
+        }
     }
 
     // Takes the leaf in: its record is the last of its log then.
-    fn push(&mut self, leaf: &LogLeaf) -> Result<(), AllocError>
+    fn push(&mut self, alloc: Global, leaf: &LogLeaf) -> Result<(), AllocError>
         ensures log { OnOk result (self.new.log ≡ self.old.log ++
             sha256 (leaf_input (log_leaf_encoding_of leaf.now)) ∷ []) }
-        ensures heads { OnOk result (Sets (leaves_of self.old.map) (leaves_of self.new.map)
-            (way_of leaf.now.log_id) (map_leaf_encoding_of (head_leaf leaf.now.record_id))) }
+        ensures heads { OnOk result (self.new.heads.items ≡ self.old.heads.items ++
+            entry_of (length self.old.heads.items) leaf.now ∷ []) }
     {
-        let record_id = leaf.record_id;
+        let entry = entry_of(alloc, self.heads.len(), leaf)?;
         self.log.push(leaf)?;
-        let _ = self.map.insert(&leaf.log_id, &MapLeaf { record_id })?;
+        self.heads.push(entry)?;
         Ok(())
     }
 }
@@ -105,11 +121,11 @@ fn trees_of_text(
     comments: &Comments,
 ) -> Result<Trees, CommandError>
     ensures ok { IfOk result (λ trees.
-        SayRegistry (lines_of text.now) trees.log (leaves_of trees.map)) }
+        SayRegistry (lines_of text.now) trees.log trees.heads.items) }
     ensures err { IfErr result (IfOutput (λ printed.
         HasNoLeaf (lines_of text.now) × IsUnusable printed)) }
 {
-    let mut trees = Trees::new(alloc)?;
+    let mut trees = Trees::new(alloc);
     let mut rest = text;
     let mut index = 0usize;
     while !rest.is_empty() {
@@ -117,7 +133,7 @@ fn trees_of_text(
         let Some(leaf) = leaf_of_line(line) else {
             return Err(no_leaf(alloc, path, comments, index));
         };
-        trees.push(&leaf)?;
+        trees.push(alloc, &leaf)?;
         rest = more;
         index = index.saturating_add(1);
     }
@@ -127,7 +143,7 @@ fn trees_of_text(
 /// The registry of the leaves that the file lists.
 pub(crate) fn trees_of(alloc: Global, input: Input<'_>) -> Result<Trees, CommandError>
     ensures ok { IfOk result (λ trees.
-        SayRegistry (record_lines input.entry.bytes.items) trees.log (leaves_of trees.map)) }
+        SayRegistry (record_lines input.entry.bytes.items) trees.log trees.heads.items) }
     ensures err { IfErr result (IfOutput (λ printed.
         HasNoLeaf (record_lines input.entry.bytes.items) × IsUnusable printed)) }
 {

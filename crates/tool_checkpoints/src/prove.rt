@@ -3,7 +3,6 @@
 ghost use Rattle.std.specs.Prelude.{◌≡◌, Ok, IfOk, IfErr, IfSome, OnOk, string_bytes};
 ghost use Rattle.warg_crypto.specs.Json.Json.{ReturnsOrNoMemory};
 ghost use Rattle.warg_saved_states.specs.Texts.{text_of};
-ghost use Rattle.warg_transparency.specs.MapTree.{leaves_of};
 ghost use Rattle.warg_transparency.specs.Texts.{map_proof_of, map_proof_text};
 ghost use Rattle.warg_registry.specs.RegistryJson.{checkpoint_json};
 ghost use Rattle.warg_audit.specs.Files.Answers.{output_data, Answers, IfOutput};
@@ -19,14 +18,18 @@ ghost use Rattle.warg_audit.specs.Files.Unusable.{IsOfLines};
 
 use crate::leaves::{Trees, trees_of};
 use crate::read_words::{log_id_of, number_of};
+use base64::engine::general_purpose::STANDARD;
 use std::alloc::{AllocError, Global};
 use tool_words::Wanted;
 use warg_audit::files::command_error::CommandError;
 use warg_audit::files::command_output::CommandOutput;
 use warg_audit::files::input::{Input, Store, read_input};
+use warg_crypto::hash::{AnyHash, HashAlgorithm};
 use warg_crypto::json::{JsonError, JsonValue};
+use warg_listed_map::{proof_of, root_of};
+use warg_merkle::map_proof::MapProof;
 use warg_registry::{Checkpoint, LogId};
-use warg_transparency::{LogProof, MapProof, OfTrees};
+use warg_transparency::LogProof;
 
 /// What is asked of a registry, as words say it.
 #[derive(Drop)]
@@ -131,22 +134,31 @@ fn map_proof_answer(alloc: Global, proof: &MapProof) -> Result<CommandOutput, Al
     ensures is { IfOk result (λ answer. output_data answer ≡ map_proof_line proof.now) }
     ensures reads_back { OnOk result (map_proof_of (map_proof_text proof.now) ≡ Ok proof.now) }
 {
-    let text = proof.to_text(alloc)?;
+    let text = STANDARD.encode(alloc, proof.as_bytes())?;
     Ok(CommandOutput::new(alloc, format!(in alloc; "{text}\n")?, 0))
 }
 
 // The checkpoint of a registry.
-fn checkpoint_answer(alloc: Global, trees: &Trees) -> Result<CommandOutput, AllocError>
-    ensures { ForRegistry trees.now.log (leaves_of trees.now.map) (λ leaves.
+fn checkpoint_answer(alloc: Global, trees: &mut Trees) -> Result<CommandOutput, AllocError>
+    ensures { ForRegistry trees.old.log trees.old.heads.items (λ leaves.
         IfOk result (λ answer. IsCheckpointText leaves (output_data answer))) }
 {
-    let checkpoint = Checkpoint::of(&trees.log, &trees.map);
+    let root = root_of(alloc, trees.heads.as_mut_slice())?;
+    let checkpoint = Checkpoint {
+        log_root: trees.log.root(),
+        log_length: trees.log.len(),
+        map_root: AnyHash::new(HashAlgorithm::Sha256, root),
+    };
     checkpoint_line(alloc, &checkpoint)
 }
 
 // The proof that a leaf stands at a place.
-fn inclusion_answer(alloc: Global, trees: &Trees, index: u64) -> Result<CommandOutput, AllocError>
-    ensures { ForRegistry trees.now.log (leaves_of trees.now.map) (λ leaves.
+fn inclusion_answer(
+    alloc: Global,
+    trees: &mut Trees,
+    index: u64,
+) -> Result<CommandOutput, AllocError>
+    ensures { ForRegistry trees.old.log trees.old.heads.items (λ leaves.
         IfOk result (λ answer. IsInclusionText index leaves (output_data answer))) }
 {
     let proof = trees.log.inclusion(index)?;
@@ -154,8 +166,12 @@ fn inclusion_answer(alloc: Global, trees: &Trees, index: u64) -> Result<CommandO
 }
 
 // The proof that the log begins with its first leaves.
-fn consistency_answer(alloc: Global, trees: &Trees, first: u64) -> Result<CommandOutput, AllocError>
-    ensures { ForRegistry trees.now.log (leaves_of trees.now.map) (λ leaves.
+fn consistency_answer(
+    alloc: Global,
+    trees: &mut Trees,
+    first: u64,
+) -> Result<CommandOutput, AllocError>
+    ensures { ForRegistry trees.old.log trees.old.heads.items (λ leaves.
         IfOk result (λ answer. IsConsistencyText first leaves (output_data answer))) }
 {
     let proof = trees.log.consistency(first)?;
@@ -163,17 +179,27 @@ fn consistency_answer(alloc: Global, trees: &Trees, first: u64) -> Result<Comman
 }
 
 // What the map says of a log.
-fn head_answer(alloc: Global, trees: &Trees, log_id: &LogId) -> Result<CommandOutput, AllocError>
-    ensures { ForRegistry trees.now.log (leaves_of trees.now.map) (λ leaves.
+fn head_answer(
+    alloc: Global,
+    trees: &mut Trees,
+    log_id: &LogId,
+) -> Result<CommandOutput, AllocError>
+    ensures { ForRegistry trees.old.log trees.old.heads.items (λ leaves.
         IfOk result (λ answer. IsHeadText log_id.now leaves (output_data answer))) }
 {
-    let proof = trees.map.proof(log_id)?;
+    let mut key = [0u8; 32];
+    key.copy_from_slice(log_id.as_bytes());
+    let proof = proof_of(alloc, trees.heads.as_mut_slice(), &key)?;
     map_proof_answer(alloc, &proof)
 }
 
 // What a registry answers.
-fn trees_answer(alloc: Global, asked: &Asked, trees: &Trees) -> Result<CommandOutput, AllocError>
-    ensures { ForRegistry trees.now.log (leaves_of trees.now.map) (λ leaves.
+fn trees_answer(
+    alloc: Global,
+    asked: &Asked,
+    trees: &mut Trees,
+) -> Result<CommandOutput, AllocError>
+    ensures { ForRegistry trees.old.log trees.old.heads.items (λ leaves.
         IfOk result (λ answer. IsProved asked.now leaves (output_data answer))) }
 {
     match asked {
@@ -194,7 +220,7 @@ fn leaves_answer(
         (record_lines input.entry.bytes.items)) result }
 {
     match trees_of(alloc, input) {
-        Ok(trees) => Ok(trees_answer(alloc, asked, &trees)?),
+        Ok(mut trees) => Ok(trees_answer(alloc, asked, &mut trees)?),
         Err(error) => Err(error),
     }
 }

@@ -12,7 +12,7 @@ more_same s a b (inl is) = inl (ap (λ (w : List Side). s ∷ w) is)
 more_same s a b (inr is_not) = inr (λ e. is_not (cc e))
 
 -- ways are equal or not
-is_same_way : (a b : List Side) → (a ≡ b) ⊎ (a ≢ b)
+pub is_same_way : (a b : List Side) → (a ≡ b) ⊎ (a ≢ b)
 is_same_way [] [] = inl refl
 is_same_way [] (s ∷ b) = inr (λ e. cc e)
 is_same_way (s ∷ a) [] = inr (λ e. cc e)

@@ -1,7 +1,9 @@
+pub mod Contradictions
 pub mod Heads
 pub mod MapLeaves
 pub mod MapTree
 pub mod ProofJson
+pub mod RegistryTrees
 pub mod Standings
 pub mod Texts
 pub mod Views

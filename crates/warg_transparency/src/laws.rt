@@ -20,6 +20,8 @@ ghost use Rattle.warg_merkle.specs.SparseMap.Maps as maps;
 ghost use Rattle.warg_transparency.specs.Heads.{head_leaf, ShowsHead, ShowsLeaf, path_inputs_for};
 ghost use Rattle.warg_transparency.specs.Views.{GoesOn, IsLogOf};
 
+pub mod contradictions;
+
 use warg_merkle::consistency_paths;
 use warg_registry::laws::no_encoding_begins_another;
 use warg_replay::Validator;

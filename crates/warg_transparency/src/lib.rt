@@ -14,6 +14,7 @@ mod log_tree;
 mod map;
 mod map_proof;
 mod map_tree;
+mod registry_trees;
 mod text;
 
 pub use checkpoint::OfTrees;
@@ -24,3 +25,4 @@ pub use log_tree::LogTree;
 pub use map::{verify_absence, verify_head, verify_no_head, verify_presence};
 pub use map_proof::MapProof;
 pub use map_tree::MapTree;
+pub use registry_trees::RegistryTrees;

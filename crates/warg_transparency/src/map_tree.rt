@@ -18,7 +18,7 @@ use warg_crypto::hash::{AnyHash, HashAlgorithm};
 use warg_registry::{LogId, MapLeaf};
 
 /// The map of a registry: the leaf of each log, its root after each change, and proofs. An insertion costs 257 hashes and
-/// memory for the log's own path alone.
+/// fewer than 48 more, where no two ids share their first 48 bits. A log takes memory for its leaf and for one node.
 #[derive(Drop)]
 pub struct MapTree {
     alloc: Global,
