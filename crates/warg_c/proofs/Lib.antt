@@ -1,4 +1,5 @@
 pub mod AsBox
+pub mod RegistryAsBox
 pub mod Steps
 pub mod Words
 pub mod ErrorTexts
@@ -16,3 +17,4 @@ pub mod RunLemmas
 pub mod ProofOutcomes
 pub mod ByStatus
 pub mod HeldByStatus
+pub mod RegistryTexts

@@ -51,9 +51,9 @@ pub record IsMessageOf (log_length : ℕ) (log_root map_root : List ℕ) (timest
 abbrev pub IsJudgedUnder : NamedBytes → List ℕ → Bool → TimestampedCheckpoint → Type 0
 IsJudgedUnder key signature answer c = IsP256Key key × SaysSignature signature (λ s. p256_belongs key (checkpoint_message c) s ≡ answer)
 
--- why it is not taken: first the key's algorithm, then the signature's text
+-- why it is not taken: first the key's algorithm, then the signature's text; memory is taken for a key of P-256 alone
 abbrev pub KeyErrors : NamedBytes → List ℕ → TimestampedCheckpoint → CallError → Type 0
-KeyErrors key signature c OutOfMemory = Unit {0}
+KeyErrors key signature c OutOfMemory = IsP256Key key
 KeyErrors key signature c Refused = IsJudgedUnder key signature false c
 KeyErrors key signature c BadArgument = IsNoText signature_of signature
 KeyErrors key signature c UnknownAlgorithm = ¬ IsP256Key key
@@ -72,10 +72,10 @@ SignsNot log key_id = (log.state.authority.holds key_id Commit ≡ false) ⊎ (l
 abbrev pub IsJudgedBy : View → List ℕ → List ℕ → Bool → TimestampedCheckpoint → Type 0
 IsJudgedBy log key_id signature answer c = (key : NamedBytes) × Signs log key_id key × IsJudgedUnder key signature answer c
 
--- why a checkpoint is not taken: the key may not sign, or the signature does not belong; a text is not of its form; or
--- the key that may sign is one of another algorithm
+-- why a checkpoint is not taken: there was no memory, which is taken for the text of a key id first; the key may not sign, or
+-- the signature does not belong; a text is not of its form; or the key that may sign is one of another algorithm
 abbrev pub StateErrors : View → List ℕ → List ℕ → TimestampedCheckpoint → CallError → Type 0
-StateErrors log key_id signature c OutOfMemory = Unit {0}
+StateErrors log key_id signature c OutOfMemory = IsUtf8 key_id
 StateErrors log key_id signature c Refused = SignsNot log key_id ⊎ IsJudgedBy log key_id signature false c
 StateErrors log key_id signature c BadArgument = (IsUtf8 key_id → ⊥) ⊎ IsNoText signature_of signature
 StateErrors log key_id signature c UnknownAlgorithm = (key : NamedBytes) × Signs log key_id key × ¬ IsP256Key key

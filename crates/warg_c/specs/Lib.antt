@@ -1,4 +1,5 @@
 pub mod Kept
+pub mod KeptRegistry
 pub mod Statuses
 pub mod Texts
 pub mod ArgumentErrors
@@ -22,3 +23,4 @@ pub mod ProofAnswers
 pub mod ProofFaults
 pub mod LogNames
 pub mod CheckpointAnswers
+pub mod Registries

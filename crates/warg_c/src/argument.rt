@@ -1,5 +1,5 @@
 //! Texts among the arguments of calls.
-ghost use Rattle.std.specs.Prelude.{◌≡◌, ◌⊎◌, None, Some, IfOk, IfErr};
+ghost use Rattle.std.specs.Prelude.{◌≡◌, ◌⊎◌, None, Some, IfOk, IfErr, OnOk};
 ghost use Rattle.std.specs.Str.{IsUtf8};
 ghost use Rattle.warg_c.specs.Texts.{ErrorsAs};
 
@@ -11,6 +11,7 @@ use warg_permissions::LogPermission;
 /// The key id of a text.
 pub(crate) fn key_id_of(alloc: Global, text: &[u8]) -> Result<KeyID, CallError>
     ensures ok { IfOk result (λ id. id ≡ text.now) }
+    ensures utf8 { OnOk result (IsUtf8 text.now) }
     ensures err { IfErr result (ErrorsAs (IsUtf8 text.now) ⊥ (IsUtf8 text.now → ⊥)) }
 {
     let Ok(text) = str::from_utf8(text) else {

@@ -23,10 +23,12 @@
 //!   - A `struct warg_log` is all 0 bytes, or as the last call left it. It is not copied to be used twice.
 //!   - A log serves one call at a time. It may go to another thread, ordered by a lock, a thread's start or join, or a
 //!     sequentially consistent atomic. Different logs may be used by different threads at once: there is no global state.
+//!   - The same holds of a `struct warg_registry`, but that it stays on one thread.
 //!
-//! What every call keeps. It returns a status. At any status but WARG_OK all logs stay as they were. Calls that only look also
+//! What every call keeps. It returns a status. At any status but WARG_OK all logs and registries stay as they were. Calls that only look also
 //! leave them so at WARG_OK. All texts are UTF-8, with no zero byte behind them. WARG_OUT_OF_MEMORY is an answer of calls that take memory
-//! alone, and only where they came to take some: `warg_length`, `warg_compare`, `warg_version` and `warg_status_name` never do.
+//! alone, and only where they came to take some: `warg_length`, `warg_compare`, `warg_registry_length`, `warg_version` and `warg_status_name` never
+//! do.
 //!
 //! Calls that give bytes write them to the start of the caller's buffer, and to `used` how many they are. What stands behind them stays as it
 //! was:
@@ -36,8 +38,8 @@
 //!     a colon, a space, and a sentence; or 0 where the buffer had no room for it. Where there was no memory for the sentence of a
 //!     WARG_NO_ENVELOPE or a WARG_REFUSED, the text is the name alone;
 //!   - at any other status 0, and the buffer stays as it was. `warg_status_name` gives the name of each status.
-//! What else a call gives (`asked`, `kept`, `release`, `is_imported`) is written at WARG_OK and at WARG_TOO_SMALL, and `length` and
-//! `comparison` at WARG_OK. At any other status it stays as it was.
+//! What else a call gives (`asked`, `kept`, `release`, `is_imported`, `roots`, `head`) is written at WARG_OK and at WARG_TOO_SMALL, and `length`,
+//! `place` and `comparison` at WARG_OK. At any other status it stays as it was.
 
 mod appending;
 mod chains;
@@ -51,6 +53,7 @@ mod opening;
 mod proof_faults;
 mod proofs;
 mod records;
+mod registries;
 mod releases;
 mod saving;
 mod statuses;

@@ -109,6 +109,31 @@ pub(crate) fn finish_with<T: Copy>(
     }
 }
 
+/// The same where nothing is told of a bad argument.
+pub(crate) fn finish_shown<T: Copy>(
+    outcome: Result<(Vec<u8>, T), CallError>,
+    out: &mut [u8],
+    used: &mut usize,
+    shown: &mut T,
+) -> u32
+    ensures text { IsFinish (λ p. p.0.items) outcome out.old result used.new out.new }
+    ensures status { result ≤ 8 }
+    ensures buffer { result ≢ 0 → out.new ≡ out.old }
+    ensures used { result ≢ 0 → result ≢ 3 → used.new ≡ 0 }
+    ensures behind { drop used.new out.new ≡ drop used.new out.old }
+    ensures within { result ≢ 3 → used.new ≤ length out.new }
+    ensures shown { IfOk outcome (λ p. shown.new ≡ p.1) }
+    ensures unshown { result ≢ 0 → result ≢ 3 → shown.new ≡ shown.old }
+{
+    match outcome {
+        Ok((bytes, told)) => {
+            *shown = told;
+            status(give(bytes.as_slice(), out, used))
+        }
+        Err(call_error) => finish(Err(call_error), out, used),
+    }
+}
+
 /// Gives a value that was found, and returns the status.
 pub(crate) fn finish_value<T: Copy>(outcome: Result<T, CallError>, value: &mut T) -> u32
     ensures code { result ≡ status_of outcome }

@@ -18,4 +18,7 @@ mod pending_check;
 mod proof_text;
 mod question;
 mod raw_box;
+mod registry;
+mod registry_handle;
+mod registry_pointer;
 mod release_text;

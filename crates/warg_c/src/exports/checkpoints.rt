@@ -1,10 +1,12 @@
 //! Signed checkpoints of a registry. What a checkpoint says is given by itself: the length of the registry's log in leaves, the texts of the
 //! roots of its log and of its map, and the time in whole seconds since 1970.
-ghost use Rattle.std.specs.Prelude.{◌≡◌, ◌≢◌, ◌≤◌, ◌⊎◌, ◌↔◌, [], ◌∷◌, None, IfOk, IfErr, OnOk, IsSomeAnd, true, length, take, drop};
+ghost use Rattle.std.specs.Prelude.{◌≡◌, ◌≢◌, ◌≤◌, ◌⊎◌, ◌↔◌, [], ◌∷◌, None, IfOk, IfErr, OnOk};
+ghost use Rattle.std.specs.Prelude.{IsSomeAnd, true, length, take, drop};
 ghost use Rattle.warg_operator_log.specs.State.{view_of};
 ghost use Rattle.warg_c.specs.CheckpointAnswers.{CheckpointErrors, IsJudgedBy, IsJudgedUnder, IsMessage, IsMessageOf};
-ghost use Rattle.warg_c.specs.CheckpointAnswers.{JudgesCheckpoint, KeyErrors, OfCheckpoint, SaysCheckpoint, SaysNoCheckpoint, StateErrors};
-ghost use Rattle.warg_c.specs.declared.call_error.CallError.TheVariants.{BadArgument, Refused, UnknownAlgorithm};
+ghost use Rattle.warg_c.specs.CheckpointAnswers.{JudgesCheckpoint, KeyErrors, OfCheckpoint, SaysCheckpoint};
+ghost use Rattle.warg_c.specs.CheckpointAnswers.{SaysNoCheckpoint, StateErrors};
+ghost use Rattle.warg_c.specs.declared.call_error.CallError.TheVariants.{BadArgument, OutOfMemory, Refused, UnknownAlgorithm};
 ghost use Rattle.warg_c.specs.ProofAnswers.{AreTwoHashes};
 ghost use Rattle.warg_c.specs.Statuses.{WARG_OK, WARG_NOT_OPEN, WARG_OUT_OF_MEMORY, WARG_TOO_SMALL, WARG_REFUSED};
 ghost use Rattle.warg_c.specs.Statuses.{WARG_BAD_ARGUMENT, WARG_UNKNOWN_ALGORITHM, IsOneOf, Unless};
@@ -18,7 +20,7 @@ use crate::handle::WargLog;
 use crate::proof_text::hash_in;
 use crate::question::{is_p256_key, parse_signature};
 use std::alloc::{AllocError, Global};
-use warg_crypto::signing::{KeyID, PublicKey, SignatureError, Verifier};
+use warg_crypto::signing::{KeyID, PublicKey, SignatureError, Verifier, signed_message};
 use warg_crypto::{Encode, Signable};
 use warg_operator_log::LogState;
 use warg_p256::P256Verifier;
@@ -52,10 +54,11 @@ fn message_of(alloc: Global, checkpoint: &TimestampedCheckpoint) -> Result<Vec<u
     ensures { IfOk result (λ v. IsMessage v.items checkpoint.now) }
 {
     let content = checkpoint.encode(alloc)?;
-    let mut message = Vec::from_slice(alloc, TimestampedCheckpoint::signing_prefix().as_bytes())?;
-    message.push(b':')?;
-    message.extend_from_slice(content.as_slice())?;
-    Ok(message)
+    signed_message(
+        alloc,
+        TimestampedCheckpoint::signing_prefix(),
+        content.as_slice(),
+    )
 }
 
 fn message_in(
@@ -175,6 +178,7 @@ fn verify_in(
 ///   WARG_REFUSED: the log does not let the key sign, or the signature does not belong.
 ///   WARG_BAD_ARGUMENT: the text of a root is none of a hash, the key id is no UTF-8, the signature's text can't be read, or the log is one of a
 ///     package; nothing is told of it.
+///   WARG_OUT_OF_MEMORY: nothing is said; the roots are hashes, the log is one of operators, and the key id is UTF-8.
 ///   WARG_UNKNOWN_ALGORITHM: the key that may sign is none of `ecdsa-p256`. Verify the message of `warg_checkpoint_message` yourself then.
 #[unsafe(no_mangle)]
 pub extern "C" fn warg_verify_checkpoint(
@@ -193,6 +197,9 @@ pub extern "C" fn warg_verify_checkpoint(
     ensures ok { result ≡ WARG_OK → IsSomeAnd log.old.owned.kept (λ held.
         OfCheckpoint log_length log_root.now map_root.now timestamp
         (JudgesCheckpoint held key_id.now signature.now true)) }
+    ensures out_of_memory { result ≡ WARG_OUT_OF_MEMORY → IsSomeAnd log.old.owned.kept (λ held.
+        OfCheckpoint log_length log_root.now map_root.now timestamp
+        (λ c. CheckpointErrors held key_id.now signature.now c OutOfMemory)) }
     ensures refused { result ≡ WARG_REFUSED → IsSomeAnd log.old.owned.kept (λ held.
         OfCheckpoint log_length log_root.now map_root.now timestamp
         (λ c. CheckpointErrors held key_id.now signature.now c Refused)) }
