@@ -22,7 +22,7 @@ impl fmt::Display for Reason {
     }
 }
 
-/// Why a call did nothing. The log is as it was.
+/// Why a call did nothing. The log, or the trees of a registry, are as they were.
 #[derive(Clone, Debug, PartialEq, Eq)]
 #[non_exhaustive]
 pub enum Error {

@@ -51,6 +51,7 @@ pub mod proofs;
 mod question;
 mod raw;
 pub mod records;
+mod registry_trees;
 
 pub use checkpoint::Checkpoint;
 pub use error::{Error, Reason};
@@ -60,6 +61,7 @@ pub use operator::{NamespaceState, OperatorLog};
 pub use package::{PackageLog, Release, ReleaseState, Releases};
 pub use printable::{printable, Printable};
 pub use question::SignatureCheck;
+pub use registry_trees::{Head, RegistryTrees};
 
 // The names of 0.1.0.
 pub use kind::LogKind as Kind;

@@ -6,6 +6,7 @@
 //!   of its own, and two of one call are two.
 //! - A log is all zeros, or as the last call left it, and serves one call at a time. A [`Log`](crate::Log) owns its handle and is not
 //!   `Sync`, and no call is made within another.
+//! - The same holds of a registry, and it stays on one thread: [`RegistryTrees`](crate::RegistryTrees) is not `Send` either.
 use std::ffi::c_void;
 
 pub(crate) const OK: u32 = 0;
@@ -74,6 +75,29 @@ pub(crate) struct Comparison {
     pub case: u32,
     pub left: usize,
     pub right: usize,
+}
+
+/// A `struct warg_registry`. All 0 is none.
+#[repr(C)]
+pub(crate) struct Registry {
+    pub at: *mut c_void,
+    pub is_open: bool,
+}
+
+/// A `struct warg_roots`.
+#[repr(C)]
+#[derive(Default)]
+pub(crate) struct Roots {
+    pub log_root_len: usize,
+    pub map_root_len: usize,
+}
+
+/// A `struct warg_log_head`.
+#[repr(C)]
+#[derive(Default)]
+pub(crate) struct LogHead {
+    pub record_id_len: usize,
+    pub proof_len: usize,
 }
 
 extern "C" {
@@ -277,6 +301,47 @@ extern "C" {
         text: *mut u8,
         text_len: usize,
         used: *mut usize,
+    ) -> u32;
+    pub(crate) fn warg_registry_open(registry: *mut Registry) -> u32;
+    pub(crate) fn warg_registry_close(registry: *mut Registry);
+    pub(crate) fn warg_registry_push(
+        registry: *mut Registry,
+        log_id: *const u8,
+        log_id_len: usize,
+        record_id: *const u8,
+        record_id_len: usize,
+        place: *mut u64,
+    ) -> u32;
+    pub(crate) fn warg_registry_length(registry: *mut Registry, length: *mut u64) -> u32;
+    pub(crate) fn warg_registry_roots(
+        registry: *mut Registry,
+        text: *mut u8,
+        text_len: usize,
+        used: *mut usize,
+        roots: *mut Roots,
+    ) -> u32;
+    pub(crate) fn warg_registry_inclusion(
+        registry: *mut Registry,
+        place: u64,
+        text: *mut u8,
+        text_len: usize,
+        used: *mut usize,
+    ) -> u32;
+    pub(crate) fn warg_registry_consistency(
+        registry: *mut Registry,
+        first_length: u64,
+        text: *mut u8,
+        text_len: usize,
+        used: *mut usize,
+    ) -> u32;
+    pub(crate) fn warg_registry_head(
+        registry: *mut Registry,
+        log_id: *const u8,
+        log_id_len: usize,
+        text: *mut u8,
+        text_len: usize,
+        used: *mut usize,
+        head: *mut LogHead,
     ) -> u32;
     pub(crate) fn warg_checkpoint_message(
         log_length: u64,
