@@ -107,23 +107,24 @@ class Signals(unittest.TestCase):
         self.assertEqual(answers, [3])
 
 
+def in_child(work: Callable[[], None]) -> int:
+    """The status of a child that does some work, which a hang makes 124."""
+    with warnings.catch_warnings():
+        warnings.simplefilter("ignore", DeprecationWarning)
+        child = os.fork()
+    if child == 0:
+        signal.signal(signal.SIGALRM, lambda *_: os._exit(124))
+        signal.alarm(30)
+        try:
+            work()
+            os._exit(0)
+        except BaseException:
+            os._exit(1)
+    return os.waitstatus_to_exitcode(os.waitpid(child, 0)[1])
+
+
 class Forks(unittest.TestCase):
     """A process that was made while another thread was in a call."""
-
-    def _in_child(self, work: Callable[[], None]) -> int:
-        """The status of a child that does some work, which a hang makes 124."""
-        with warnings.catch_warnings():
-            warnings.simplefilter("ignore", DeprecationWarning)
-            child = os.fork()
-        if child == 0:
-            signal.signal(signal.SIGALRM, lambda *_: os._exit(124))
-            signal.alarm(30)
-            try:
-                work()
-                os._exit(0)
-            except BaseException:
-                os._exit(1)
-        return os.waitstatus_to_exitcode(os.waitpid(child, 0)[1])
 
     def test_forked(self) -> None:
         envelopes = published.envelopes(2, p256.SigningKey.generate(), p256.SigningKey.generate())
@@ -152,7 +153,7 @@ class Forks(unittest.TestCase):
             thread = threading.Thread(target=log.head)
             thread.start()
             inside.wait(60)
-            status = self._in_child(work)
+            status = in_child(work)
             done.set()
             thread.join()
         self.assertEqual(status, 0)

@@ -45,7 +45,7 @@ class Library(unittest.TestCase):
             "_native.found = lambda name: None\n"
             "print(records.sha256_text(b'')[:15], weoldrin.printable('\\x1b'))\n"
             "calls = [weoldrin.PackageLog, weoldrin.library_version, lambda: weoldrin.record_id('package', b''),\n"
-            "         lambda: weoldrin.verify('', b'', '')]\n"
+            "         lambda: weoldrin.verify('', b'', ''), weoldrin.RegistryTrees]\n"
             "for call in calls:\n"
             "    try: call()\n"
             "    except weoldrin.NoLibrary as error: print(error)\n"
@@ -53,7 +53,7 @@ class Library(unittest.TestCase):
         done = run(code, WEOLDRIN_LIBRARY="")
         first, *lines = done.stdout.splitlines()
         self.assertEqual((first, done.stderr), ("sha256:e3b0c442 \\u{1b}", ""))
-        self.assertEqual(len(lines), 4)
+        self.assertEqual(len(lines), 5)
         for it in lines:
             self.assertTrue(it.startswith("NoLibrary: this package has no library for "), it)
 

@@ -21,6 +21,7 @@ from .logs import Log, OperatorLog, PackageLog, library_version, log_id, log_of,
 from .printing import print_lines, printable
 from .proofs import leaf, verify_absence, verify_consistency, verify_inclusion, verify_presence
 from .signatures import verify
+from .trees import LogHead, RegistryTrees
 from .values import (
     Comparison,
     Kind,
@@ -49,6 +50,7 @@ __all__ = [
     "Kind",
     "Link",
     "Log",
+    "LogHead",
     "LogKind",
     "Missing",
     "Namespace",
@@ -63,6 +65,7 @@ __all__ = [
     "Record",
     "Refusal",
     "Refused",
+    "RegistryTrees",
     "Relation",
     "Release",
     "Rewritten",

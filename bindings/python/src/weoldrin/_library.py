@@ -18,6 +18,7 @@ Bytes = bytes | bytearray | memoryview
 # The greatest number that a call takes. `ctypes` passes a greater one on without its upper digits.
 GREATEST = 2**64 - 1
 
+_NO_ID = "BadText: an id is not the text of one"
 _RESUMED = "Resumed: the log was resumed, and its records are elsewhere"
 # What is said of a bad argument where the library says nothing of it.
 _MISUSES = {
@@ -27,9 +28,11 @@ _MISUSES = {
     "compare": _RESUMED,
     "holds": "UnknownPermission: logs of this kind have no such permission",
     "latest": "BadRequirement: the text is no requirement of versions, such as >=1.2, <2",
-    "leaf": "BadText: an id is not the text of one",
+    "leaf": _NO_ID,
     "length": _RESUMED,
     "record": _RESUMED,
+    "registry_head": _NO_ID,
+    "registry_push": _NO_ID,
     "release": "BadVersion: the text is no version, such as 1.2.0",
     "verify": "BadText: the text of the key or of the signature can't be read",
     "verify_checkpoint": "BadText: a root is not the text of one, or the key's id or the signature can't be read",
@@ -92,8 +95,26 @@ class Comparison(ctypes.Structure):
     _fields_ = [("case", ctypes.c_uint32), ("left", ctypes.c_size_t), ("right", ctypes.c_size_t)]
 
 
+class Registry(ctypes.Structure):
+    """A `struct warg_registry`. All 0 is none."""
+
+    _fields_ = [("at", ctypes.c_void_p), ("is_open", ctypes.c_bool)]
+
+
+class Roots(ctypes.Structure):
+    """A `struct warg_roots`."""
+
+    _fields_ = [("log_root_len", ctypes.c_size_t), ("map_root_len", ctypes.c_size_t)]
+
+
+class LogHead(ctypes.Structure):
+    """A `struct warg_log_head`."""
+
+    _fields_ = [("record_id_len", ctypes.c_size_t), ("proof_len", ctypes.c_size_t)]
+
+
 _LOG, _SIZE, _USED = ctypes.POINTER(Log), ctypes.c_size_t, ctypes.POINTER(ctypes.c_size_t)
-_U32, _U64 = ctypes.c_uint32, ctypes.c_uint64
+_REGISTRY, _U32, _U64 = ctypes.POINTER(Registry), ctypes.c_uint32, ctypes.c_uint64
 # Bytes that are read, bytes that are written, and how many were written.
 _IN: list[Any] = [ctypes.c_char_p, _SIZE]
 _OUT: list[Any] = [ctypes.c_void_p, _SIZE, _USED]
@@ -129,6 +150,14 @@ _CALLS: dict[str, list[Any]] = {
     "proof_fault": [_U32, *_IN, *_OUT],
     "checkpoint_message": [_U64, *_IN, *_IN, _U64, *_OUT],
     "verify_checkpoint": [_LOG, _U64, *_IN, *_IN, _U64, *_IN, *_IN],
+    "registry_open": [_REGISTRY],
+    "registry_close": [_REGISTRY],
+    "registry_push": [_REGISTRY, *_IN, *_IN, ctypes.POINTER(_U64)],
+    "registry_length": [_REGISTRY, ctypes.POINTER(_U64)],
+    "registry_roots": [_REGISTRY, *_OUT, ctypes.POINTER(Roots)],
+    "registry_inclusion": [_REGISTRY, _U64, *_OUT],
+    "registry_consistency": [_REGISTRY, _U64, *_OUT],
+    "registry_head": [_REGISTRY, *_IN, *_OUT, ctypes.POINTER(LogHead)],
     "version": [*_OUT],
 }
 
@@ -152,7 +181,7 @@ class Calls(dict[str, Callable[..., int]]):
 
     def __missing__(self, name: str) -> Callable[..., int]:
         call = getattr(self._library, f"warg_{name}")
-        call.argtypes, call.restype = _CALLS[name], None if name == "close" else _U32
+        call.argtypes, call.restype = _CALLS[name], None if name in ("close", "registry_close") else _U32
         self[name] = call
         return self[name]
 

@@ -19,7 +19,7 @@ class Error(Exception):
 
 
 class NotOpen(Error):
-    """The log was closed."""
+    """The log was closed, or the trees of the registry."""
 
     def __init__(self, text: str = "") -> None:
         super().__init__(text or "NotOpen: the log was closed")

@@ -1,0 +1,180 @@
+"""Wrong edits of the trees of a registry, each of which a test has to see.
+
+    python3 tests/wrong_edits.py           tries all, and prints a line for each
+    python3 tests/wrong_edits.py WORD..    those whose names have one of the words in them
+
+in the folder of the package, with the library in the environment's WEOLDRIN_LIBRARY. The status is 1 where a test did
+not see one.
+"""
+
+import os
+import pathlib
+import re
+import shutil
+import subprocess
+import sys
+import tempfile
+
+FOLDER = pathlib.Path(__file__).resolve().parent.parent
+# The longest that a test takes.
+PATIENCE = 120
+
+DEFINED, REFUSED = "test_registry_trees.AsDefined", "test_registry_trees.Refused"
+THREADS, FORGOTTEN = "test_registry_threads.Threads", "test_registry_threads.Forgotten"
+SIGNALS, FORKS, ENDS = (f"test_registry_interrupted.{it}" for it in ("Signals", "Forks", "Ends"))
+
+# The file, what stands there, what is put there, and the test that sees it.
+Wrong = tuple[str, str, str, str]
+WRONG: dict[str, Wrong] = {
+    # Calls
+    "the place is one too great": (
+        "trees.py", "return place.value", "return place.value + 1", f"{DEFINED}.test_each_length"),
+    "the first of many leaves alone is pushed": (
+        "trees.py", "for it in leaves:\n", "for it in leaves[:1]:\n", f"{DEFINED}.test_hundreds"),
+    "many leaves are pushed from the last": (
+        "trees.py", "for it in leaves:\n", "for it in leaves[::-1]:\n", f"{DEFINED}.test_hundreds"),
+    "the length of none is 1": (
+        "trees.py", "        self.push(leaves)\n        return self.length()\n",
+        "        return self.push(leaves) + 1\n", f"{REFUSED}.test_one_of_many"),
+    "a refused push is none": (
+        "trees.py", 'checked("registry_push", call(self._registry, *it, place))', "call(self._registry, *it, place)",
+        f"{REFUSED}.test_ids"),
+    "what is behind a refused leaf is pushed": (
+        "trees.py", 'checked("registry_push", call(self._registry, *it, place))',
+        "refused = call(self._registry, *it, place)\n        checked('registry_push', refused)",
+        f"{REFUSED}.test_one_of_many"),
+    "leaves before one of another type are pushed": (
+        "trees.py", "passed = [texts(log_id, record_id) for log_id, record_id in leaves]",
+        "passed = (texts(log_id, record_id) for log_id, record_id in leaves)", f"{REFUSED}.test_types"),
+    "the roots are swapped": (
+        "trees.py", "self._own.made(self._handle.roots)[0]", "self._own.made(self._handle.roots)[1]",
+        f"{DEFINED}.test_each_length"),
+    "a checkpoint's roots are swapped": (
+        "trees.py", "log_root, map_root = self.roots()", "map_root, log_root = self.roots()",
+        f"{DEFINED}.test_checkpoint"),
+    "a checkpoint is one leaf behind": (
+        "trees.py", "Checkpoint(log_root, self.length(), map_root", "Checkpoint(log_root, self.length() + 1, map_root",
+        f"{DEFINED}.test_checkpoint"),
+    "no record is an empty text": (
+        "trees.py", "text[: lengths.record_id_len] or None", "text[: lengths.record_id_len]",
+        f"{DEFINED}.test_each_length"),
+    "places are taken without their upper digits": (
+        "trees.py", "if not 0 <= number <= GREATEST:", "if number < 0:", f"{REFUSED}.test_places"),
+    "places are counted from the last": (
+        "trees.py", "if not 0 <= number <= GREATEST:", "if number > GREATEST:", f"{REFUSED}.test_places"),
+    "inclusion and consistency are swapped": (
+        "trees.py", 'self._proof("registry_inclusion", place)', 'self._proof("registry_consistency", place)',
+        f"{DEFINED}.test_each_length"),
+    "trees of no leaves are false": (
+        "trees.py", "        return True\n", "        return len(self) > 0\n", f"{REFUSED}.test_copies"),
+    "trees are copied": ("trees.py", "def __reduce__", "def _reduce", f"{REFUSED}.test_copies"),
+    "a bad id is told of the log": (
+        "_library.py", '    "registry_push": _NO_ID,\n', "", f"{REFUSED}.test_ids"),
+    # The thread
+    "a call is made by whoever asks": (
+        "_own_thread.py", "        self._ask(call)\n        return call.outcome()",
+        "        call.make()\n        return call.outcome()", f"{THREADS}.test_all_calls_are_of_one_thread"),
+    "heads are asked for by any thread": (
+        "trees.py", "return self._own.made(functools.partial(self._handle.head, *texts(log_id)))",
+        "return self._handle.head(*texts(log_id))", f"{THREADS}.test_all_calls_are_of_one_thread"),
+    "a registry is begun by any thread": (
+        "trees.py", "self._own.made(self._handle.open)", "self._handle.open()",
+        f"{THREADS}.test_all_calls_are_of_one_thread"),
+    "a registry is closed by any thread": (
+        "trees.py", "        self._finalizer()\n", "        self._handle.close()\n        self._finalizer()\n",
+        f"{THREADS}.test_all_calls_are_of_one_thread"),
+    "the collector closes a registry": (
+        "trees.py", "weakref.finalize(self, self._own.end, self._handle.close)",
+        "weakref.finalize(self, lambda own, handle: [handle.close(), own.end(int)], self._own, self._handle)",
+        f"{FORGOTTEN}.test_collected"),
+    "what is forgotten is not closed": (
+        "trees.py", "weakref.finalize(self, self._own.end, self._handle.close)",
+        "weakref.finalize(self, self._own.end, int)", f"{FORGOTTEN}.test_forgotten"),
+    "the thread of what is forgotten stays": (
+        "trees.py", "weakref.finalize(self, self._own.end, self._handle.close)", "weakref.finalize(self, int)",
+        f"{FORGOTTEN}.test_one_that_was_not_begun"),
+    "what was asked for is kept": (
+        "_own_thread.py", "                del call\n", "", f"{FORGOTTEN}.test_what_is_asked_and_given"),
+    "what was raised is kept": (
+        "_own_thread.py", "            self._raised = None\n", "            pass\n",
+        f"{FORGOTTEN}.test_what_is_asked_and_given"),
+    "an exit ends the thread": (
+        "_own_thread.py", "except BaseException as error:", "except Exception as error:",
+        f"{FORGOTTEN}.test_what_is_asked_and_given"),
+    "what is raised is lost": (
+        "_own_thread.py", "            self._raised = error\n", "            pass\n", f"{REFUSED}.test_ids"),
+    "closing waits for nothing": (
+        "_own_thread.py", "            self._thread.join()\n", "            pass\n", f"{FORGOTTEN}.test_closed"),
+    "a call behind the last waits for ever": (
+        "_own_thread.py", "if self._is_ended:", "if False:", f"{THREADS}.test_a_call_behind_the_last"),
+    "calls that wait for the last wait for ever": (
+        "_own_thread.py", "            self._is_ended = True\n            self._refuse_all()\n",
+        "            self._is_ended = True\n", f"{THREADS}.test_a_call_behind_the_last"),
+    "the thread waits for itself": (
+        "_own_thread.py", "if self._is_own():", "if False:", f"{THREADS}.test_the_own_thread"),
+    "the thread waits for its own end": (
+        "_own_thread.py", "and not self._is_own() and", "and", f"{THREADS}.test_the_own_thread"),
+    "threads are told by their numbers": (
+        "_own_thread.py", "threading.current_thread() is self._thread", "threading.get_ident() == self._thread.ident",
+        f"{THREADS}.test_a_thread_of_the_same_number"),
+    "a lock is held while a call waits": (
+        "_own_thread.py", "        self._ask(call)\n        return call.outcome()",
+        "        self._lock = getattr(self, '_lock', None) or threading.Lock()\n        with self._lock:\n"
+        "            self._ask(call)\n            return call.outcome()", f"{SIGNALS}.test_a_handler_has_its_answer"),
+    "an interrupted call is taken back": (
+        "_own_thread.py", "        self._is_made.acquire()\n        if self._raised is None:",
+        "        try:\n            self._is_made.acquire()\n        except BaseException:\n"
+        "            self._work = lambda: self._given\n            raise\n        if self._raised is None:",
+        f"{SIGNALS}.test_interrupts_of_what_waits"),
+    "a copy that fork made waits for ever": (
+        "_own_thread.py", "        if os.getpid() != self._process:\n            raise Forked(",
+        "        if False:\n            raise Forked(", f"{FORKS}.test_forked"),
+    "an interpreter does not end": (
+        "_own_thread.py", "daemon=True", "daemon=False", f"{ENDS}.test_open_ones"),
+    "trees are closed before the last calls": (
+        "trees.py", "        self._finalizer.atexit = False\n", "", f"{ENDS}.test_the_last_calls"),
+    "what is asked for too late waits for ever": (
+        "_own_thread.py", "if sys.is_finalizing():", "if False:", f"{ENDS}.test_after_the_last"),
+    "what is closed too late waits for ever": (
+        "_own_thread.py", " and not sys.is_finalizing():", ":", f"{ENDS}.test_after_the_last"),
+}
+
+
+def seen_by(wrong: Wrong) -> str:
+    """What the test says of the edit, in a line, or nothing where it passes."""
+    file, old, new, test = wrong
+    with tempfile.TemporaryDirectory(prefix="weoldrin-") as name:
+        folder = pathlib.Path(name) / "weoldrin"
+        shutil.copytree(FOLDER / "src/weoldrin", folder, ignore=shutil.ignore_patterns("__pycache__"))
+        text = (folder / file).read_text(encoding="utf-8")
+        if text.count(old) < 1:
+            raise SystemExit(f"{file} has no {old!r}")
+        (folder / file).write_text(text.replace(old, new, 1), encoding="utf-8")
+        paths = [name, *filter(None, [os.environ.get("PYTHONPATH")])]
+        found = os.environ | {"PYTHONPATH": ":".join(paths), "PYTHONDONTWRITEBYTECODE": "1"}
+        words = [sys.executable, "-m", "unittest", f"tests.{test}"]
+        try:
+            done = subprocess.run(words, cwd=FOLDER, env=found, capture_output=True, timeout=PATIENCE, check=False)
+        except subprocess.TimeoutExpired:
+            return "it does not end"
+    if done.returncode == 0:
+        return ""
+    said = done.stderr.decode(errors="replace").splitlines()
+    lines = [it for it in said if re.match(r"[\w.]*(?:Error|TimeoutExpired)", it)]
+    return lines[-1][:200] if lines else "it fails"
+
+
+def main() -> int:
+    """Tries all, or some."""
+    missed = 0
+    for name, wrong in WRONG.items():
+        if sys.argv[1:] and not any(it in name for it in sys.argv[1:]):
+            continue
+        said = seen_by(wrong)
+        missed += not said
+        print(f"{f'seen: {name} ({wrong[3]}): {said}' if said else f'NOT SEEN: {name} ({wrong[3]})'}", flush=True)
+    return 1 if missed else 0
+
+
+if __name__ == "__main__":
+    sys.exit(main())
