@@ -7,7 +7,7 @@ import (
 
 // Why a call did nothing: what errors.Is tells of an *Error.
 var (
-	// ErrNotOpen is of a log that was closed, or that none of the functions of this package made.
+	// ErrNotOpen is of a log, or of trees of a registry, that were closed, or that no function of this package made.
 	ErrNotOpen = errors.New("the log is not open")
 	// ErrOutOfMemory is of a library that found no memory. The same call may be made again.
 	ErrOutOfMemory = errors.New("there was no memory")
@@ -22,8 +22,9 @@ var (
 	ErrUnknownAlgorithm = errors.New("the key is of another algorithm")
 )
 
-// Error says why a call did nothing. The log is as it was. Name and Sentence are the library's own: they quote what
-// strangers wrote, such as key ids, to the letter. The text of the error is both, as they can be printed, on one line.
+// Error says why a call did nothing. The log, or the trees of a registry, are as they were. Name and Sentence are the
+// library's own: they quote what strangers wrote, such as key ids, to the letter. The text of the error is both, as
+// they can be printed, on one line.
 type Error struct {
 	// Name is the error's name, as SignatureError or ProtobufEnvelope.Truncated.
 	Name string

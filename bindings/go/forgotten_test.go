@@ -2,6 +2,7 @@ package weoldrin
 
 import (
 	"runtime"
+	"strings"
 	"sync/atomic"
 	"testing"
 	"time"
@@ -33,4 +34,45 @@ func TestForgottenLogs(t *testing.T) {
 			}
 		})
 	}
+}
+
+// serving is how many goroutines make the calls of trees.
+func serving() int {
+	stacks := make([]byte, 1<<20)
+	return strings.Count(string(stacks[:runtime.Stack(stacks, true)]), "weoldrin.serve(")
+}
+
+// comeTo fails a test where there come to be no fewer such goroutines than so many.
+func comeTo(t *testing.T, count int) {
+	t.Helper()
+	for deadline := time.Now().Add(30 * time.Second); serving() > count; {
+		if time.Now().After(deadline) {
+			t.Fatalf("%d goroutines, wanted %d", serving(), count)
+		}
+		runtime.GC()
+		time.Sleep(time.Millisecond)
+	}
+}
+
+// Trees of a registry have a goroutine each, which ends when they are closed or forgotten.
+func TestForgottenTrees(t *testing.T) {
+	const count = 100
+	comeTo(t, 0)
+	kept := make([]*RegistryTrees, count)
+	for place := range kept {
+		trees, err := NewRegistryTrees()
+		if err != nil {
+			t.Fatal(err)
+		}
+		kept[place] = trees
+	}
+	for _, it := range kept[:count/2] {
+		_ = it.Close()
+	}
+	comeTo(t, count/2)
+	if serving() < count/2 {
+		t.Fatal("trees that are in use were closed")
+	}
+	runtime.KeepAlive(kept)
+	comeTo(t, 0)
 }

@@ -5,6 +5,7 @@ package weoldrin
 //   - Each pointer leads to as many initialised bytes, or links, as the length behind it says, and is not null.
 //   - What a call writes to overlaps nothing else that it has.
 //   - A log is all zeros, or as the last call left it, and serves one call at a time: Log holds its lock.
+//   - The same holds of a registry, and it stays on one thread: RegistryTrees make all its calls there.
 //
 // All of it is memory of Go that has no pointers to others, and that the library forgets when the call returns.
 
@@ -36,11 +37,12 @@ const (
 const sentence = 1024
 
 type (
-	rawLog    = C.struct_warg_log
-	rawAsked  = C.struct_warg_asked
-	rawByte   = C.uint8_t
-	rawSize   = C.size_t
-	rawStatus = C.uint32_t
+	rawLog      = C.struct_warg_log
+	rawRegistry = C.struct_warg_registry
+	rawAsked    = C.struct_warg_asked
+	rawByte     = C.uint8_t
+	rawSize     = C.size_t
+	rawStatus   = C.uint32_t
 )
 
 // nothing is where a pointer leads that leads to no bytes: none is null.

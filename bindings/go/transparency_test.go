@@ -13,7 +13,7 @@ import (
 const anyHash = "sha256:e3b0c44298fc1c149afbf4c8996fb92427ae41e4649b934ca495991b7852b855"
 
 // verified is what a call of the library says of the words of a row; it is not played where the row asks for what a
-// registry gives, roots and proofs.
+// registry gives, roots and proofs, as TestRegistryTreesRows does.
 func verified(topic string, words []string) (holds bool, err error, isPlayed bool) {
 	number := func(place int) uint64 {
 		it, err := strconv.ParseUint(words[place], 10, 64)

@@ -102,6 +102,14 @@ type Namespace struct {
 	Registry string
 }
 
+// Head is the last record of a log among the leaves of a registry, and the proof of it.
+type Head struct {
+	// RecordID is the text of the record's id. It is empty where the log has no leaf.
+	RecordID string
+	// Proof is one that VerifyPresence takes, or VerifyAbsence where there is no record.
+	Proof string
+}
+
 // Link is the place of an entry.
 type Link struct {
 	// Record is the place of the entry's record in the log, from 0.

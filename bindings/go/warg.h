@@ -23,10 +23,12 @@
  *   - A `struct warg_log` is all 0 bytes, or as the last call left it. It is not copied to be used twice.
  *   - A log serves one call at a time. It may go to another thread, ordered by a lock, a thread's start or join, or a
  *     sequentially consistent atomic. Different logs may be used by different threads at once: there is no global state.
+ *   - The same holds of a `struct warg_registry`, but that it stays on one thread.
  *
- * What every call keeps. It returns a status. At any status but WARG_OK all logs stay as they were. Calls that only look also
+ * What every call keeps. It returns a status. At any status but WARG_OK all logs and registries stay as they were. Calls that only look also
  * leave them so at WARG_OK. All texts are UTF-8, with no zero byte behind them. WARG_OUT_OF_MEMORY is an answer of calls that take memory
- * alone, and only where they came to take some: `warg_length`, `warg_compare`, `warg_version` and `warg_status_name` never do.
+ * alone, and only where they came to take some: `warg_length`, `warg_compare`, `warg_registry_length`, `warg_version` and `warg_status_name` never
+ * do.
  *
  * Calls that give bytes write them to the start of the caller's buffer, and to `used` how many they are. What stands behind them stays as it
  * was:
@@ -36,8 +38,8 @@
  *     a colon, a space, and a sentence; or 0 where the buffer had no room for it. Where there was no memory for the sentence of a
  *     WARG_NO_ENVELOPE or a WARG_REFUSED, the text is the name alone;
  *   - at any other status 0, and the buffer stays as it was. `warg_status_name` gives the name of each status.
- * What else a call gives (`asked`, `kept`, `release`, `is_imported`) is written at WARG_OK and at WARG_TOO_SMALL, and `length` and
- * `comparison` at WARG_OK. At any other status it stays as it was. */
+ * What else a call gives (`asked`, `kept`, `release`, `is_imported`, `roots`, `head`) is written at WARG_OK and at WARG_TOO_SMALL, and `length`,
+ * `place` and `comparison` at WARG_OK. At any other status it stays as it was. */
 #ifndef WARG_H
 #define WARG_H
 
@@ -158,6 +160,25 @@ struct warg_comparison {
     uint32_t is;
     size_t left;
     size_t right;
+};
+
+/* A registry's log of leaves and its map, or none: all bytes 0 is none. */
+struct warg_registry {
+    void *at;
+    bool is_open;
+};
+
+/* How many bytes are the text of the log's root, and the text of the map's behind it. */
+struct warg_roots {
+    size_t log_root_len;
+    size_t map_root_len;
+};
+
+/* How many bytes are the text of the id of a log's last record, 0 where it has none, and the text of the proof behind
+ * it. */
+struct warg_log_head {
+    size_t record_id_len;
+    size_t proof_len;
 };
 
 /* Opening and closing. */
@@ -369,6 +390,51 @@ uint32_t warg_verify_absence(const uint8_t *log_id, size_t log_id_len, const uin
  *   WARG_BAD_ARGUMENT (NoTree): no such tree. */
 uint32_t warg_proof_fault(uint32_t tree, const uint8_t *proof, size_t proof_len, uint8_t *text, size_t text_len, size_t *used);
 
+/* The trees of a registry, for who keeps one: the log of all leaves, and the map of the heads of logs. Ids are texts
+ * of ids, roots are texts of hashes (`sha256:` and 64 digits of hex), proofs are texts of base64. Each proof is one
+ * that `warg_verify_inclusion`, `warg_verify_consistency`, `warg_verify_presence` or `warg_verify_absence` takes under
+ * the roots and the length of the moment. */
+
+/* Begins a registry of no leaves. One that was open is closed first.
+ *   WARG_OUT_OF_MEMORY: the registry is as it was, open if it was open. */
+uint32_t warg_registry_open(struct warg_registry *registry);
+
+/* Closes a registry and gives its memory back: it is none then. One that is none stays so; closing twice is harmless. */
+void warg_registry_close(struct warg_registry *registry);
+
+/* Puts the leaf of a record of a log last onto the log of the registry, and makes the record the head of its log in
+ * the map. `place` is where the leaf stands, counted from 0. Whether the record may come next is for the log's own
+ * handle to say.
+ *   WARG_OUT_OF_MEMORY: both trees are as they were.
+ *   WARG_BAD_ARGUMENT: a text is none of an id; nothing is told of it. */
+uint32_t warg_registry_push(struct warg_registry *registry, const uint8_t *log_id, size_t log_id_len, const uint8_t *record_id,
+                            size_t record_id_len, uint64_t *place);
+
+/* How many leaves were pushed. */
+uint32_t warg_registry_length(struct warg_registry *registry, uint64_t *length);
+
+/* The texts of both roots, one behind the other: that of the log of all leaves, and that of the map of the heads. With
+ * the length they are what a checkpoint says (`warg_checkpoint_message`). */
+uint32_t warg_registry_roots(struct warg_registry *registry, uint8_t *text, size_t text_len, size_t *used,
+                             struct warg_roots *roots);
+
+/* The proof that the leaf at a place is in the log of all leaves of the moment, as `warg_verify_inclusion` takes it.
+ *   WARG_NONE: there is no leaf at this place. */
+uint32_t warg_registry_inclusion(struct warg_registry *registry, uint64_t place, uint8_t *text, size_t text_len, size_t *used);
+
+/* The proof that the log of all leaves of the moment begins with the one of its first `first_length` leaves, as
+ * `warg_verify_consistency` takes it.
+ *   WARG_NONE: there are not that many leaves. */
+uint32_t warg_registry_consistency(struct warg_registry *registry, uint64_t first_length, uint8_t *text, size_t text_len,
+                                   size_t *used);
+
+/* The last record of a log among the leaves of the moment, and the proof of it: the text of the record's id, and
+ * behind it the text of the proof, as `warg_verify_presence` takes it. Of a log that has no leaf there is no id, and
+ * the proof is one that `warg_verify_absence` takes.
+ *   WARG_BAD_ARGUMENT: the text is none of an id; nothing is told of it. */
+uint32_t warg_registry_head(struct warg_registry *registry, const uint8_t *log_id, size_t log_id_len, uint8_t *text,
+                            size_t text_len, size_t *used, struct warg_log_head *head);
+
 /* Signed checkpoints of a registry. What a checkpoint says is given by itself: the length of the registry's log in leaves, the texts of the
  * roots of its log and of its map, and the time in whole seconds since 1970. */
 
@@ -382,6 +448,7 @@ uint32_t warg_checkpoint_message(uint64_t log_length, const uint8_t *log_root, s
  *   WARG_REFUSED: the log does not let the key sign, or the signature does not belong.
  *   WARG_BAD_ARGUMENT: the text of a root is none of a hash, the key id is no UTF-8, the signature's text can't be read, or the log is one of a
  *     package; nothing is told of it.
+ *   WARG_OUT_OF_MEMORY: nothing is said; the roots are hashes, the log is one of operators, and the key id is UTF-8.
  *   WARG_UNKNOWN_ALGORITHM: the key that may sign is none of `ecdsa-p256`. Verify the message of `warg_checkpoint_message` yourself then. */
 uint32_t warg_verify_checkpoint(struct warg_log *log, uint64_t log_length, const uint8_t *log_root, size_t log_root_len,
                                 const uint8_t *map_root, size_t map_root_len, uint64_t timestamp, const uint8_t *key_id,
