@@ -81,7 +81,14 @@ PRODUCTS = {
             "MANIFEST.wasm",
             "crates/warg_c/src/exports/version.rt",
             "wasm",
-            ("tools/wasm_build.py", "wasm/heap.c", "wasm/pages.h", "wasm/shuffle.ll", "wasm/wide.c"),
+            (
+                "tools/wasm_addresses.py",
+                "tools/wasm_build.py",
+                "wasm/heap.c",
+                "wasm/pages.h",
+                "wasm/shuffle.ll",
+                "wasm/wide.c",
+            ),
         ),
     ]
 }

@@ -2,7 +2,8 @@
 
 The toolchain proves a crate, makes one module of it, and has its clang compile that. `keeping` is a folder with the
 same files whose clang keeps what it is given. The module is one for x86-64; `retargeted` writes its text for
-WebAssembly with a memory of 64-bit addresses, where each size and each offset is the same.
+WebAssembly with a memory of 64-bit addresses, where each size and each offset is the same. What is linked of it is
+written for a memory of 32-bit addresses then (wasm_addresses.py).
 """
 
 import pathlib
@@ -10,8 +11,10 @@ import re
 import shutil
 import subprocess
 import tempfile
+from collections.abc import Callable
 
 from common import ROOT
+from wasm_addresses import NoModule, with_short_addresses
 
 SOURCES = ROOT / "wasm"
 TARGET = "wasm64-unknown-unknown"
@@ -36,15 +39,6 @@ for word in "$@"; do
 done
 exec {clang} "$@"{more}
 """
-
-
-# A module that has a memory of 64-bit addresses, and nothing else.
-PROBE = "process.exit(WebAssembly.validate(Uint8Array.of(0, 97, 115, 109, 1, 0, 0, 0, 5, 3, 1, 4, 1)) ? 0 : 1)"
-FLAG = "--experimental-wasm-memory64"
-
-
-class NoModule(Exception):
-    """The text is none that can be written for WebAssembly, and why."""
 
 
 def keeping(toolchain: pathlib.Path, folder: pathlib.Path, module: pathlib.Path, *more: str) -> pathlib.Path:
@@ -90,23 +84,11 @@ def exported(header: pathlib.Path) -> list[str]:
     return sorted(set(re.findall(r"^(?:uint32_t|void) (warg_\w+)\(", header.read_text(encoding="utf-8"), re.M)))
 
 
-def node_words() -> list[str]:
-    """The words that begin a Node with 64-bit memory, which it may have behind a flag; none where there is no such."""
-    for words in (["node"], ["node", FLAG]):
-        try:
-            done = subprocess.run([*words, "-e", PROBE], capture_output=True, check=False)
-        except OSError:
-            break
-        if done.returncode == 0:
-            return words
-    return []
-
-
 class Compiler:
     """The toolchain's clang and linker, which is the same file by another name."""
 
-    def __init__(self, toolchain: pathlib.Path) -> None:
-        self.clang = toolchain / "bin/clang"
+    def __init__(self, toolchain: pathlib.Path, shortened: Callable[[bytes], bytes] = with_short_addresses) -> None:
+        self.clang, self.shortened = toolchain / "bin/clang", shortened
 
     def run(self, *words: str | pathlib.Path, name: str = "clang") -> None:
         """Runs it under a name."""
@@ -127,10 +109,12 @@ class Compiler:
         self.run(*COMPILED, *words, "-c", source, "-o", to)
 
     def link(self, to: pathlib.Path, parts: list[pathlib.Path], exports: list[str], *words: str) -> None:
-        """Links objects to a module with these exports. It has no imports: what is not there is an error."""
+        """Links objects to a module with these exports, whose memory has addresses of 32 bits. It has no imports: what
+        is not there is an error."""
         flags = ["-mwasm64", "--no-entry", "--gc-sections", "--stack-first", "-z", f"stack-size={STACK}"]
         flags += ["--strip-all", *(f"--export={it}" for it in exports)]
         self.run(*flags, *words, "-o", to, *parts, name="wasm-ld")
+        to.write_bytes(self.shortened(to.read_bytes()))
 
 
 def objects(compiler: Compiler, module: pathlib.Path, to: pathlib.Path) -> list[pathlib.Path]:

@@ -9,12 +9,10 @@ import subprocess
 import sys
 from collections.abc import Callable
 
-from wasm_build import node_words
-
 CC = os.environ.get("CC", "cc")
 # A compiler of C for 64-bit ARM, and what runs its programs.
 CROSS, QEMU = "aarch64-linux-gnu-gcc", "qemu-aarch64"
-# Node as it has WebAssembly with 64-bit memory, perhaps behind a flag.
+# The least Node that is tested with.
 LEAST_NODE = 20
 PROGRAM = "int main(void) { return 0; }"
 
@@ -101,7 +99,7 @@ def has_node() -> bool:
     node = shutil.which("node")
     done = subprocess.run([node, "--version"], capture_output=True, check=False) if node else None
     found = re.match(rb"v(\d+)\.", done.stdout) if done else None
-    return found is not None and int(found[1]) >= LEAST_NODE and bool(node_words())
+    return found is not None and int(found[1]) >= LEAST_NODE
 
 
 # Debian's packages, and whether what they bring is there.

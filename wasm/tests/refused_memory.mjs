@@ -1,16 +1,15 @@
 // refused_memory.mjs PACKAGE MODULE: refuses each request for memory of the proved code in turn, in each call, by the
-// module that is linked with refusing.c, on logs that have their records and on resumed ones. The call then says that
-// there was no memory, and all logs are as they were; or it does without, and at most gives an error without its text.
-// Made again it does what it does with memory. PACKAGE is the folder of the package of JavaScript.
+// module that is linked with refusing.c, on logs that have their records, on resumed ones, and on the trees of a
+// registry. The call then says that there was no memory, and all logs and trees are as they were; or it does without,
+// and at most gives an error without its text. Made again it does what it does with memory. What only looks at trees
+// gives all memory back. PACKAGE is the folder of the package of JavaScript.
 import { readFileSync } from "node:fs";
 import { argv, exit } from "node:process";
 import { pathToFileURL } from "node:url";
-import { setFlagsFromString } from "node:v8";
 
-setFlagsFromString("--experimental-wasm-memory64");
 const [folder, path] = argv.slice(2);
 const weoldrin = await import(pathToFileURL(`${folder}/src/index.js`));
-const { Library, OperatorLog, OutOfMemory, PackageLog, WeoldrinError, p256, records } = weoldrin;
+const { Library, OperatorLog, OutOfMemory, PackageLog, RegistryTrees, WeoldrinError, p256, records } = weoldrin;
 const module = new WebAssembly.Module(readFileSync(path));
 const START = 1_700_000_000_000_000_000n;
 const text = (it) => Buffer.from(it);
@@ -65,6 +64,19 @@ const signature = await alice.sign(library.checkpointMessage(checkpoint));
 const first = log.record(0).envelope;
 const ids = [alice, bob].map((it) => records.keyId(it.publicKey));
 const question = log.ask(next);
+// Heads that change, and logs whose ids part early, in the middle and at the last bit.
+const logIds = [0, 1, 2].map((it) => records.sha256Text(text(`log ${it}`)));
+logIds.push(`${logIds[0].slice(0, -1)}0`, `${logIds[0].slice(0, 40)}${"0".repeat(31)}`);
+const leaves = Array.from({ length: 20 }, (_, it) => [logIds[it % 4], records.sha256Text(text(`record ${it}`))]);
+
+/** Trees of the first leaves. */
+function treesOf(count) {
+  const trees = new RegistryTrees(library);
+  for (const leaf of leaves.slice(0, count)) trees.push(...leaf);
+  return trees;
+}
+
+const kept = treesOf(5);
 
 /** The calls by a log, and whether they append to it. */
 const calls = (it) => ({
@@ -124,6 +136,20 @@ const calls = (it) => ({
   warg_proof_fault: () => library.verifyAbsence(root, root, "x"),
   warg_version: () => library.version(),
 });
+/** The calls by the trees of a registry that change nothing. */
+const callsOfTrees = (it) => ({
+  warg_registry_open: () => new RegistryTrees(library).close(),
+  "warg_registry_push of nonsense": () => it.push(logIds[0], "sha256:00"),
+  warg_registry_length: () => it.length,
+  warg_registry_roots: () => Object.values(it.roots()).join(),
+  warg_registry_inclusion: () => it.inclusion(3),
+  "warg_registry_inclusion of none": () => it.inclusion(99),
+  warg_registry_consistency: () => it.consistency(3),
+  "warg_registry_consistency of none": () => it.consistency(99),
+  warg_registry_head: () => Object.values(it.head(logIds[0])).join(),
+  "warg_registry_head of an absent log": () => Object.values(it.head(root)).join(),
+  "warg_registry_head of nonsense": () => it.head("sha256:00"),
+});
 // Of these the log goes on, where memory is given: each begins with a copy.
 const changing = (make) => ({
   warg_append: async () => {
@@ -164,6 +190,15 @@ function isWell(wanted, found) {
 let tried = 0;
 const told = new Set();
 
+/** What a log or the trees of a registry are. */
+function stateOf(it) {
+  if (!(it instanceof RegistryTrees)) return [it.toJson(), it.head()];
+  return [it.length, it.roots(), it.inclusion(0), it.head(logIds[0])];
+}
+
+// All that there is while calls are tried, as a text.
+const states = (it) => JSON.stringify([it, operators, other, kept].map(stateOf));
+
 /** Refuses each request of a call until there is none more. */
 async function trial(name, make) {
   let [it, call] = await make();
@@ -172,17 +207,15 @@ async function trial(name, make) {
     let count = 0;
     for (const goesOn of [0, 1]) {
       [it, call] = await make();
-      const before = [it.toJson(), it.head(), operators.toJson(), other.toJson(), library.memory().used];
+      const [before, { used }] = [states(it), library.memory()];
       const found = seen(call, number, goesOn);
+      const isKept = it === kept && library.memory().used !== used;
+      if (isKept) throw new Error(`${name} at request ${number}: not all memory is given back`);
       count += found.count;
       if (!isWell(wanted, found)) throw new Error(`${name} at request ${number}: ${found.error ?? found.given}`);
       if (found.error instanceof OutOfMemory) told.add(name.split(" ")[0]);
       if (found.error) {
-        const behind = [it.toJson(), it.head(), operators.toJson(), other.toJson(), library.memory().used];
-        // What was asked may be kept: that is all that a refused call changes.
-        if (before.slice(0, 4).join() !== behind.slice(0, 4).join()) {
-          throw new Error(`${name} at request ${number}: a log is changed`);
-        }
+        if (states(it) !== before) throw new Error(`${name} at request ${number}: what it was is changed`);
         const again = seen(call, 0, 0);
         if (!isWell(wanted, again) || again.error instanceof OutOfMemory) {
           throw new Error(`${name} behind request ${number}: ${again.error}`);
@@ -206,6 +239,14 @@ const copy = async () => {
 for (const make of [copy, () => PackageLog.fromJson(saved[0], { library })]) {
   for (const [name, begin] of Object.entries(changing(make))) await trial(name, begin);
 }
+for (const [name, call] of Object.entries(callsOfTrees(kept))) await trial(name, () => [kept, call]);
+// Trees of each size go on by a leaf: some need no more memory for it.
+for (const [size, leaf] of [...leaves.entries(), [5, [logIds[4], root]]]) {
+  await trial("warg_registry_push", () => {
+    const it = treesOf(size);
+    return [it, () => it.push(...leaf)];
+  });
+}
 // One that goes on from a text is made by a promise: its requests are those of the call alone.
 for (const [Class, json] of [[PackageLog, saved[0]], [OperatorLog, saved[1]], [PackageLog, '{"head":1}']]) {
   for (let number = 1; ; number++) {
@@ -220,8 +261,9 @@ for (const [Class, json] of [[PackageLog, saved[0]], [OperatorLog, saved[1]], [P
   }
 }
 console.log(`${tried} requests refused; ${told.size} calls say so: ${[...told].sort().join(", ")}`);
-const fresh = ["warg_log_id", "warg_leaf", "warg_checkpoint_message", "warg_verify_checkpoint"];
+const trees = ["open", "push", "roots", "inclusion", "consistency", "head"].map((it) => `warg_registry_${it}`);
+const fresh = ["warg_log_id", "warg_leaf", "warg_checkpoint_message", "warg_verify_checkpoint", ...trees];
 const silent = fresh.filter((it) => !told.has(it));
 if (silent.length) console.error(`these never say that there is no memory: ${silent.join(", ")}`);
-if (told.size < 20) console.error("fewer than 20 calls say that there is no memory");
-exit(told.size < 20 || silent.length ? 1 : 0);
+if (told.size < 26) console.error("fewer than 26 calls say that there is no memory");
+exit(told.size < 26 || silent.length ? 1 : 0);
