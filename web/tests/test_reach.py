@@ -131,9 +131,9 @@ class Places(PageTests):
         finally:
             served.close()
 
-    def test_no_64_bit_memory(self) -> None:
-        said = self.of_edited(("bindings/js/src/engine.js", "5, 3, 1, 4, 1", "5, 3, 1, 64, 1"))
-        self.assertIn("this engine has no WebAssembly with 64-bit memory; Chromium 133, Firefox 134", said)
+    def test_no_vectors(self) -> None:
+        said = self.of_edited(("bindings/js/src/engine.js", "65, 0, 253, 15, 11", "65, 0, 253, 255, 11"))
+        self.assertIn("this engine has no WebAssembly with vectors of 128 bits (SIMD); Chromium 91, Firefox 89", said)
 
     def test_no_module(self) -> None:
         said = self.of_edited(("web/src/main.js", "../dist/wasm/libwarg.wasm", "../dist/wasm/nothing.wasm"))

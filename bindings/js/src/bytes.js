@@ -26,13 +26,23 @@ export function bytesOf(data) {
 }
 
 /**
+ * The text that this is. Throws `TypeError` where it is none.
+ * @param {string} text
+ * @returns {string}
+ */
+export function textIn(text) {
+  if (typeof text !== "string") throw new TypeError(`a text is wanted, not ${typeOf(text)}`);
+  return text;
+}
+
+/**
  * The bytes of a text in UTF-8. What is no text, as half a surrogate pair, is none for the library either: it gets the
  * three bytes of its number, and no other character in its place.
  * @param {string} text
  * @returns {Uint8Array}
  */
 export function utf8Of(text) {
-  if (typeof text !== "string") throw new TypeError(`a text is wanted, not ${typeOf(text)}`);
+  textIn(text);
   if (!HALF.test(text)) return ENCODER.encode(text);
   return joined(
     [...text].map((sign) => {
@@ -41,6 +51,26 @@ export function utf8Of(text) {
       return Uint8Array.of(0xe0 | (number >> 12), 0x80 | ((number >> 6) & 0x3f), 0x80 | (number & 0x3f));
     }),
   );
+}
+
+/**
+ * Writes the bytes of a text to a place of others, and gives how many they are.
+ * @param {string} text
+ * @param {Uint8Array} bytes
+ * @param {number} at
+ * @returns {number}
+ */
+export function putText(text, bytes, at) {
+  for (let place = 0; place < text.length; place++) {
+    const unit = text.charCodeAt(place);
+    if (unit > 0x7f) {
+      const all = utf8Of(text);
+      bytes.set(all, at);
+      return all.length;
+    }
+    bytes[at + place] = unit;
+  }
+  return text.length;
 }
 
 /**

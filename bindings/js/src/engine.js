@@ -4,15 +4,17 @@
  */
 import { NoLibrary } from "./errors.js";
 
-// A module that has a memory with addresses of 64 bits, and nothing else.
-const PROBE = Uint8Array.of(0, 97, 115, 109, 1, 0, 0, 0, 5, 3, 1, 4, 1);
+// A module with one function, of two instructions: it gives a vector of 128 bits.
+const PROBE = Uint8Array.of(
+  ...[0, 97, 115, 109, 1, 0, 0, 0, 1, 5, 1, 96, 0, 1, 123, 3, 2, 1, 0, 10, 8, 1, 6, 0, 65, 0, 253, 15, 11],
+);
 
-const NO_64_BITS =
-  "NoLibrary: this engine has no WebAssembly with 64-bit memory; Chromium 133, Firefox 134 and Node 24 have it, and " +
-  "later ones, and Node 20 with --experimental-wasm-memory64";
+const NO_VECTORS =
+  "NoLibrary: this engine has no WebAssembly with vectors of 128 bits (SIMD); Chromium 91, Firefox 89, Safari 16.4 and " +
+  "Node 16.4 have them, and later ones";
 
-/** Whether the engine has WebAssembly with 64-bit memory. */
-export function has64BitMemory() {
+/** Whether the engine runs the library: whether it has WebAssembly with vectors of 128 bits. */
+export function isSupported() {
   return typeof WebAssembly === "object" && WebAssembly.validate(PROBE);
 }
 
@@ -48,7 +50,7 @@ async function place() {
  * @returns {Promise<WebAssembly.Module>}
  */
 export async function moduleOf(source) {
-  if (!has64BitMemory()) throw new NoLibrary(NO_64_BITS);
+  if (!isSupported()) throw new NoLibrary(NO_VECTORS);
   if (source instanceof WebAssembly.Module) return source;
   let bytes, where;
   try {

@@ -23,7 +23,7 @@ export class WeoldrinError extends Error {
   }
 }
 
-/** The log was closed. */
+/** The log was closed, or the trees of the registry. */
 export class NotOpen extends WeoldrinError {
   constructor(text = "") {
     super(text || "NotOpen: the log was closed");
@@ -62,8 +62,8 @@ export class BadArgument extends WeoldrinError {
 }
 
 /**
- * The library trapped: the engine's stack ended, or its code did what no proof lets it do. The log is closed, and so is
- * every other log of that library. `cause` is what the engine says.
+ * The library trapped: the engine's stack ended, or its code did what no proof lets it do. Whatever was made over that
+ * library is closed, logs and trees. `cause` is what the engine says.
  */
 export class Trapped extends WeoldrinError {
   /** @param {unknown} cause */

@@ -86,7 +86,7 @@ export interface OfLibrary {
 
 /**
  * The proved library: an instance of its module, with its memory. Where a call traps, it throws `Trapped`, and the
- * library is given up: its logs are closed.
+ * library is given up: its logs and trees are closed.
  */
 export class Library {
   constructor(module: WebAssembly.Module);
@@ -195,8 +195,8 @@ export function logOf(kind: "package", options?: OfLibrary): Promise<PackageLog>
 export function logOf(kind: "operator", options?: OfLibrary): Promise<OperatorLog>;
 export function logOf(kind: Kind, options?: OfLibrary): Promise<PackageLog | OperatorLog>;
 
-/** Whether the engine has WebAssembly with 64-bit memory. */
-export function has64BitMemory(): boolean;
+/** Whether the engine runs the library: whether it has WebAssembly with vectors of 128 bits. */
+export function isSupported(): boolean;
 
 export function libraryVersion(options?: OfLibrary): Promise<string>;
 export function recordId(kind: Kind, envelope: Bytes, options?: OfLibrary): Promise<string>;
@@ -235,7 +235,7 @@ export class WeoldrinError extends Error {
   constructor(text: string);
   readonly sentence: string;
 }
-/** The log was closed. */
+/** The log was closed, or the trees of the registry. */
 export class NotOpen extends WeoldrinError {
   constructor(text?: string);
 }
@@ -255,7 +255,7 @@ export class UnknownAlgorithm extends WeoldrinError {
 export class BadArgument extends WeoldrinError {
   constructor(text?: string);
 }
-/** The library trapped, as where the engine's stack ends. Its logs are closed. */
+/** The library trapped, as where the engine's stack ends. Its logs and trees are closed. */
 export class Trapped extends WeoldrinError {
   constructor(cause: unknown);
   readonly cause: unknown;
@@ -369,6 +369,8 @@ export function auditMany(
 /** A text as it is printed, with nothing in it that a terminal or a reader of lines takes for more than a sign. */
 export function printable(text: string): string;
 
+export { RegistryTrees } from "./registry.js";
+export type { LogHead, Roots } from "./registry.js";
 export * as checkpoints from "./checkpoints.js";
 export * as p256 from "./p256.js";
 export * as records from "./records.js";

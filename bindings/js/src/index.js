@@ -6,7 +6,7 @@ export * as checkpoints from "./checkpoints.js";
 export * as p256 from "./p256.js";
 export * as records from "./records.js";
 export { Refusal, Verdict, appendAll, auditBytes, auditFile } from "./auditing.js";
-export { has64BitMemory } from "./engine.js";
+export { isSupported } from "./engine.js";
 export {
   BadArgument,
   NoEnvelope,
@@ -37,4 +37,5 @@ export {
   verifyInclusion,
   verifyPresence,
 } from "./proofs.js";
+export { RegistryTrees } from "./registry.js";
 export { Kind, Relation, kindOf } from "./values.js";

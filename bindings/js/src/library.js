@@ -2,7 +2,7 @@
  * The library's calls, as include/warg.h declares them, over an instance of its module.
  * @module
  */
-import { textOf, utf8Of, bytesOf } from "./bytes.js";
+import { bytesOf, textOf, utf8Of } from "./bytes.js";
 import { moduleOf } from "./engine.js";
 import {
   BadArgument,
@@ -15,6 +15,7 @@ import {
   UnknownAlgorithm,
   WeoldrinError,
 } from "./errors.js";
+import { Memory, roomOfAll } from "./memory.js";
 import { KINDS, kindOf } from "./values.js";
 
 export const [OK, TOO_SMALL, REFUSED, NONE, BAD_ARGUMENT] = [0, 3, 5, 6, 7];
@@ -25,8 +26,7 @@ export const GREATEST = 2n ** 64n - 1n;
 // The trees on which proofs are.
 const [LOG_TREE, MAP_TREE] = [0, 1];
 // Where a call writes how many bytes it gave, and behind it what else it gives: 64 bytes at most.
-const USED = 8;
-const BESIDE = 64;
+const [USED, BESIDE] = [8, 64];
 // So much room there is for what calls give, and at most so much is kept when a call that gave more has ended.
 const [ROOM, KEPT_ROOM] = [4096, 1 << 20];
 
@@ -42,6 +42,8 @@ const MISUSES = {
   leaf: "BadText: an id is not the text of one",
   length: RESUMED,
   record: RESUMED,
+  registry_head: "BadText: an id is not the text of one",
+  registry_push: "BadText: an id is not the text of one",
   release: "BadVersion: the text is no version, such as 1.2.0",
   verify: "BadText: the text of the key or of the signature can't be read",
   verify_checkpoint: "BadText: a root is not the text of one, or the key's id or the signature can't be read",
@@ -60,8 +62,8 @@ function thrown(name, status, text = "") {
   return new Thrown(text || (status === BAD_ARGUMENT ? MISUSES[name] : undefined));
 }
 
-/** How much room is taken for what is passed, so that what stands behind it begins at a multiple of 8. */
-const roomOf = (passed) => 8 * Math.ceil(passed.byteLength / 8);
+/** What is kept of bytes that a call gave: all of them. */
+const copyOf = (bytes) => bytes.slice();
 
 /** A piece of the module's memory, which is taken anew where more is needed. */
 class Room {
@@ -90,15 +92,15 @@ class Room {
 }
 
 /**
- * The proved library: an instance of its module, with its memory. Logs are made over one, and two logs that are
- * compared are of the same. Its calls that need no log stand here, and look at their arguments alone.
+ * The proved library: an instance of its module, with its memory. Logs and trees are made over one, and two logs that
+ * are compared are of the same. Its other calls stand here, and look at their arguments alone.
  *
  * Where the engine's stack ends in a call, or another trap does, that call throws `Trapped`, and the library is given
- * up: its logs are closed, and each further call throws `NotOpen`.
+ * up: its logs and trees are closed, and each further call throws `NotOpen`.
  */
 export class Library {
-  #instance;
-  #view;
+  #calls;
+  #memory;
   #given;
   #room;
   #beside;
@@ -109,16 +111,16 @@ export class Library {
   /** @param {WebAssembly.Module} module */
   constructor(module) {
     try {
-      this.#instance = new WebAssembly.Instance(module, {});
-      this.#view = new Uint8Array(this.#instance.exports.memory.buffer);
+      this.#calls = new WebAssembly.Instance(module, {}).exports;
+      this.#memory = new Memory(this.#calls.memory);
       for (const it of ["host_alloc", "warg_open"]) {
-        if (typeof this.#instance.exports[it] !== "function") throw new TypeError(`it has no call ${it}`);
+        if (typeof this.#calls[it] !== "function") throw new TypeError(`it has no call ${it}`);
       }
     } catch (error) {
       throw new NoLibrary(`NoLibrary: the library can't be begun: ${error}`);
     }
     this.module = module;
-    const ways = [(size) => this.#take(size), (at) => this.#run("host_free", at)];
+    const ways = [(size) => this.#take(size), (at) => this.#run("host_free", [at])];
     this.#given = new Room(...ways);
     this.#room = new Room(...ways);
     this.#beside = this.taken(USED + BESIDE);
@@ -141,13 +143,13 @@ export class Library {
 
   /** How much memory the module has, and how much of it is in use, in bytes. */
   memory() {
-    return { size: this.#bytes().length, used: this.#whole(() => Number(this.#run("host_used"))) };
+    return { size: this.#memory.bytes.length, used: this.#whole(() => Number(this.#run("host_used", []))) };
   }
 
   /** @param {number} bytes how much memory the module may have */
   limit(bytes) {
     if (!Number.isSafeInteger(bytes) || bytes <= 0) throw new RangeError("a limit is a whole number of bytes above 0");
-    this.#whole(() => this.#run("host_limit", BigInt(bytes)));
+    this.#whole(() => this.#run("host_limit", [BigInt(bytes)]));
   }
 
   /** The library's version. */
@@ -223,21 +225,21 @@ export class Library {
 
   // The rest is for the package's own files.
 
-  /** A handle that is no log: its address. */
+  /** A handle that leads to nothing: its address. */
   newHandle() {
     return this.#whole(() => {
       const at = this.#take(16);
-      this.#bytes().fill(0, Number(at), Number(at) + 16);
+      this.#memory.bytes.fill(0, Number(at), Number(at) + 16);
       return at;
     });
   }
 
-  /** Closes the log of a handle and gives both back. A library that is given up is left alone. */
-  closeHandle(at) {
+  /** Closes what a handle leads to, by a call, and gives both back. A library that is given up is left alone. */
+  closeHandle(at, name) {
     if (this.isGivenUp) return;
     this.#whole(() => {
-      this.#run("warg_close", at);
-      this.#run("host_free", at);
+      this.#run(`warg_${name}`, [at]);
+      this.#run("host_free", [at]);
     });
   }
 
@@ -247,7 +249,7 @@ export class Library {
   }
 
   givenBack(at) {
-    this.#whole(() => this.#run("host_free", at));
+    this.#whole(() => this.#run("host_free", [at]));
   }
 
   /**
@@ -255,7 +257,15 @@ export class Library {
    * length is passed behind its address.
    */
   status(name, passed, after = []) {
-    return this.#whole(() => this.#run(`warg_${name}`, ...this.#passed(passed), ...after));
+    return this.#whole(() => this.#run(`warg_${name}`, [...this.#passed(passed), ...after]));
+  }
+
+  /** So many words that a call gives which writes no text, had in one piece with it; null where it says "none". */
+  told(name, passed, count) {
+    return this.#whole(() => {
+      const status = this.#run(`warg_${name}`, [...this.#passed(passed), this.beside]);
+      return this.isDone(name, status) ? this.words(count) : null;
+    });
   }
 
   /** Whether a call that writes no text was done, and not answered by "none". */
@@ -272,26 +282,31 @@ export class Library {
 
   /**
    * What a call writes that gives bytes, or null where it says that there are none. An error's text finds `room`, and
-   * at least 4096 bytes. With `beside` the call is passed, at the end, where to write what else it gives.
+   * at least 4096 bytes. A call that gives so many words `beside` bytes is passed, at the end, where to write them.
+   * `read` makes what is kept of the bytes, which are the module's, and of these words as numbers: else it is a copy of
+   * the bytes.
    */
-  filled(name, passed, { beside = false, room = 0 } = {}) {
+  filled(name, passed, { beside = 0, room = 0, read = copyOf } = {}) {
     return this.#whole(() => {
       const words = this.#passed(passed);
-      const after = beside ? [this.#beside + BigInt(USED)] : [];
+      const place = words.length;
+      words.push(0n, 0n, this.#beside);
+      if (beside) words.push(this.beside);
       let status, used;
       let size = Math.max(room, ROOM);
       do {
-        const at = this.#room.atLeast(size);
-        status = this.#run(`warg_${name}`, ...words, at, BigInt(this.#room.size), this.#beside, ...after);
-        used = Number(this.words(1, 0)[0]);
+        words[place] = this.#room.atLeast(size);
+        words[place + 1] = BigInt(this.#room.size);
+        status = this.#run(`warg_${name}`, words);
+        [used] = this.numbers(1, this.#beside);
         size = used;
       } while (status === TOO_SMALL);
       const from = Number(this.#room.at);
-      const found = this.#bytes().slice(from, from + used);
+      const found = this.#memory.bytes.subarray(from, from + used);
+      const kept = status === OK ? read(found, this.numbers(beside)) : status === NONE ? null : textOf(found);
       for (const it of [this.#given, this.#room]) if (it.size > KEPT_ROOM) it.giveBack();
-      if (status === OK) return found;
-      if (status === NONE) return null;
-      throw thrown(name, status, textOf(found));
+      if (status === OK || status === NONE) return kept;
+      throw thrown(name, status, kept);
     });
   }
 
@@ -300,43 +315,30 @@ export class Library {
     return this.#beside + BigInt(USED);
   }
 
-  /** So many words of 64 bits that a call gave beside bytes, from this byte on, or at another address. */
-  words(count, from = USED, at = this.#beside) {
-    const bytes = this.#bytes();
-    const view = new DataView(bytes.buffer, Number(at) + from, 8 * count);
-    return Array.from({ length: count }, (_, place) => view.getBigUint64(8 * place, true));
+  /** So many words of 64 bits that a call gave beside bytes. */
+  words(count) {
+    return this.#memory.words(Number(this.beside), count);
   }
 
-  // What is passed to a call: numbers as they are, and where bytes and arrays of words were copied to.
+  /** The same as numbers, or those at another address. */
+  numbers(count, at = this.beside) {
+    return this.#memory.numbers(Number(at), count);
+  }
+
   #passed(passed) {
-    const size = passed.reduce((sum, it) => sum + (ArrayBuffer.isView(it) ? roomOf(it) : 0), 0);
-    let at = this.#given.atLeast(Math.max(size, ROOM));
-    const bytes = this.#bytes();
-    return passed.flatMap((it) => {
-      if (!ArrayBuffer.isView(it)) return [it];
-      const here = at;
-      bytes.set(bytesOf(it), Number(at));
-      at += BigInt(roomOf(it));
-      return it instanceof BigUint64Array ? [here] : [here, BigInt(it.byteLength)];
-    });
-  }
-
-  // The module's memory. Where it grew, the buffer from before has no bytes any more.
-  #bytes() {
-    const { buffer } = this.#instance.exports.memory;
-    if (this.#view.buffer !== buffer) this.#view = new Uint8Array(buffer);
-    return this.#view;
+    const at = this.#given.atLeast(Math.max(roomOfAll(passed), ROOM));
+    return this.#memory.put(passed, Number(at));
   }
 
   #take(size) {
-    const at = this.#run("host_alloc", BigInt(size));
+    const at = this.#run("host_alloc", [BigInt(size)]);
     if (at === 0n) throw new OutOfMemory();
     return at;
   }
 
-  #run(name, ...words) {
+  #run(name, words) {
     try {
-      return this.#instance.exports[name](...words);
+      return this.#calls[name](...words);
     } catch (error) {
       this.#trap = error;
       throw new Trapped(error);

@@ -2,17 +2,18 @@
  * Logs of packages and of operators. What decides is the library; see include/warg.h.
  * @module
  */
-import { bytesOf, joined, textOf, utf8Of } from "./bytes.js";
-import { BadArgument, NotOpen } from "./errors.js";
-import { BAD_ARGUMENT, GREATEST, Library, TOO_SMALL, sharedLibrary, wordsOf } from "./library.js";
+import { bytesOf, textIn, textOf, utf8Of } from "./bytes.js";
+import { BadArgument } from "./errors.js";
+import { Held } from "./held.js";
+import { BAD_ARGUMENT, GREATEST, TOO_SMALL, wordsOf } from "./library.js";
+import { Parts } from "./memory.js";
 import { KINDS, Kind, RELATIONS, Relation, kindOf } from "./values.js";
 
 const NANOS = 1_000_000_000n;
 // An error's text has so many bytes beside what it quotes of an envelope, and fewer.
 const SENTENCE = 1024;
 
-// Closes what is forgotten without being closed.
-const forgotten = new FinalizationRegistry(({ library, at }) => library.closeHandle(at));
+const CALLS = { open: "open", close: "close", made: "PackageLog", closed: "NotOpen: the log was closed" };
 
 function releaseOf(text, [version, record, key, state, seconds, yankedSeconds, nanos, isYanked]) {
   const parts = [];
@@ -35,6 +36,18 @@ function releaseOf(text, [version, record, key, state, seconds, yankedSeconds, n
   });
 }
 
+const questionOf = (bytes, [key, message]) =>
+  Object.freeze({
+    key: textOf(bytes.subarray(0, key)),
+    message: bytes.slice(key, key + message),
+    signature: textOf(bytes.subarray(key + message)),
+  });
+
+const recordOf = (bytes, [envelope]) =>
+  Object.freeze({ envelope: bytes.slice(0, envelope), id: textOf(bytes.subarray(envelope)) });
+
+const nothingOf = () => undefined;
+
 function* byPlace(at) {
   let found;
   for (let place = 0; (found = at(place)) !== null; place++) yield found;
@@ -46,33 +59,14 @@ function* byPlace(at) {
  * Each call throws a `WeoldrinError` where it was refused, and the log is then as it was. A log that is not closed is
  * closed when it is forgotten.
  */
-export class Log {
+export class Log extends Held {
   /** The kind of the class's logs. */
   static KIND = Kind.PACKAGE;
-
-  #library;
-  #handle;
 
   /** A log of no records, over a library that was loaded. `open` loads one. */
   constructor(library) {
     if (new.target === Log) throw new TypeError("a log is a PackageLog or an OperatorLog");
-    if (!(library instanceof Library)) {
-      throw new TypeError("a log is made over a library: by `await PackageLog.open()`, or of one that was loaded");
-    }
-    this.#library = library;
-    this.#handle = library.newHandle();
-    try {
-      library.isDone("open", library.status("open", [this.#handle, KINDS.indexOf(this.kind)]));
-    } catch (error) {
-      library.closeHandle(this.#handle);
-      throw error;
-    }
-    forgotten.register(this, { library, at: this.#handle }, this);
-  }
-
-  /** A log of no records, over a library, or the one that is shared. */
-  static async open({ library } = {}) {
-    return new this(library ?? (await sharedLibrary()));
+    super(library, CALLS, [KINDS.indexOf(new.target.KIND)]);
   }
 
   /**
@@ -91,23 +85,9 @@ export class Log {
     return log;
   }
 
-  /** The library that the log is made over. */
-  get library() {
-    return this.#library;
-  }
-
   /** The log's kind. */
   get kind() {
     return this.constructor.KIND;
-  }
-
-  /** Gives the log's memory back. Closing twice is harmless; any other call then throws `NotOpen`. */
-  close() {
-    if (this.#handle === undefined) return;
-    forgotten.unregister(this);
-    const handle = this.#handle;
-    this.#handle = undefined;
-    this.#library.closeHandle(handle);
   }
 
   // Appending
@@ -118,13 +98,7 @@ export class Log {
    */
   ask(envelope) {
     const bytes = bytesOf(envelope);
-    const text = this.#said("ask", [bytes], { beside: true, room: bytes.length + SENTENCE });
-    const [key, message] = this.#library.words(2).map(Number);
-    return Object.freeze({
-      key: textOf(text.subarray(0, key)),
-      message: text.slice(key, key + message),
-      signature: textOf(text.subarray(key + message)),
-    });
+    return this.#said("ask", [bytes], { beside: 2, room: bytes.length + SENTENCE, read: questionOf });
   }
 
   /**
@@ -137,11 +111,9 @@ export class Log {
     if (typeof belongs !== "boolean") {
       throw new TypeError(`whether a signature belongs is true or false, and not a ${typeof belongs}`);
     }
-    const parts = [utf8Of(question.key), bytesOf(question.message), utf8Of(question.signature)];
-    const asked = BigUint64Array.from(parts, (it) => BigInt(it.length));
+    const parts = new Parts([textIn(question.key), bytesOf(question.message), textIn(question.signature)]);
     const bytes = bytesOf(envelope);
-    const passed = [bytes, joined(parts), asked, Number(belongs)];
-    this.#said("append", passed, { room: bytes.length + SENTENCE });
+    this.#said("append", [bytes, parts, Number(belongs)], { room: bytes.length + SENTENCE, read: nothingOf });
   }
 
   /**
@@ -150,7 +122,7 @@ export class Log {
    */
   appendSigned(envelope) {
     const bytes = bytesOf(envelope);
-    this.#said("append_signed", [bytes], { room: bytes.length + SENTENCE });
+    this.#said("append_signed", [bytes], { room: bytes.length + SENTENCE, read: nothingOf });
   }
 
   /**
@@ -179,8 +151,7 @@ export class Log {
 
   /** How many records there are. A resumed log does not know, and throws `BadArgument`. */
   get length() {
-    this.#done("length", [], [this.#library.beside]);
-    return Number(this.#library.words(1)[0]);
+    return Number(this.library.told("length", [this.#open()], 1)[0]);
   }
 
   /** The record at a place, from 0; null if the log has none there. */
@@ -188,10 +159,7 @@ export class Log {
     const whole = typeof place === "bigint" ? place : Number.isInteger(place) ? BigInt(place) : -1n;
     if (whole < 0n) throw new RangeError("places are whole numbers from 0");
     if (whole > GREATEST) return null;
-    const text = this.#said("record", [whole], { beside: true });
-    if (text === null) return null;
-    const end = Number(this.#library.words(1)[0]);
-    return Object.freeze({ envelope: text.slice(0, end), id: textOf(text.subarray(end)) });
+    return this.#said("record", [whole], { beside: 1, read: recordOf });
   }
 
   /** The records in order. */
@@ -203,7 +171,8 @@ export class Log {
 
   /** Whether a key id holds a permission. Throws `BadArgument` where logs of this kind have none of that name. */
   holds(keyId, permission) {
-    return this.#done("holds", [utf8Of(keyId), utf8Of(permission)]);
+    const passed = [this.#open(), utf8Of(keyId), utf8Of(permission)];
+    return this.library.isDone("holds", this.library.status("holds", passed));
   }
 
   /** The permissions that a key id holds; null if no record spoke of the key id. */
@@ -226,21 +195,21 @@ export class Log {
     const handle = this.#open();
     let room = 16;
     for (;;) {
-      const at = this.#library.taken(16 * room);
+      const at = this.library.taken(16 * room);
       try {
-        const after = [at, BigInt(room), this.#library.beside];
-        const status = this.#library.status("chain", [handle, ...words], after);
-        const used = Number(this.#library.words(1)[0]);
+        const after = [at, BigInt(room), this.library.beside];
+        const status = this.library.status("chain", [handle, ...words], after);
+        const [used] = this.library.numbers(1);
         // Where logs of this kind have no such permission, this says so.
         if (status === BAD_ARGUMENT) this.holds(keyId, permission);
         if (status !== TOO_SMALL) {
-          if (!this.#library.isDone("chain", status)) return null;
-          const found = this.#library.words(2 * used, 0, at).map(Number);
+          if (!this.library.isDone("chain", status)) return null;
+          const found = this.library.numbers(2 * used, at);
           return Array.from({ length: used }, (_, it) => ({ record: found[2 * it], entry: found[2 * it + 1] }));
         }
         room = used;
       } finally {
-        if (!this.#library.isGivenUp) this.#library.givenBack(at);
+        if (!this.library.isGivenUp) this.library.givenBack(at);
       }
     }
   }
@@ -258,11 +227,10 @@ export class Log {
       return Object.freeze({ relation: Relation.SAME, left: 0, right: 0 });
     }
     if (other.kind !== this.kind) throw new BadArgument("WrongKind: one log is of a package, and one of operators");
-    if (other.#library !== this.#library) {
+    if (other.library !== this.library) {
       throw new BadArgument("OtherLibrary: the logs are of two libraries: make them over one");
     }
-    this.#done("compare", [other.#open()], [this.#library.beside]);
-    const [is, left, right] = this.#library.words(3);
+    const [is, left, right] = this.library.told("compare", [this.#open(), other.#open()], 3);
     const relation = RELATIONS[Number(is & 0xffffffffn)];
     return Object.freeze({ relation, left: Number(left), right: Number(right) });
   }
@@ -279,13 +247,13 @@ export class Log {
 
   // Calls of the library
 
+  // The handle of a log, and of nothing else that is held.
   #open() {
-    if (this.#handle === undefined) throw new NotOpen();
-    return this.#handle;
+    return this.handle;
   }
 
   #said(name, passed, kept) {
-    return this.#library.filled(name, [this.#open(), ...passed], kept);
+    return this.library.filled(name, [this.#open(), ...passed], kept);
   }
 
   #text(name, ...words) {
@@ -293,28 +261,16 @@ export class Log {
     return said === null ? null : textOf(said);
   }
 
-  #done(name, passed, after) {
-    return this.#library.isDone(name, this.#library.status(name, [this.#open(), ...passed], after));
-  }
-
   // For the classes of the kinds: what a call gives with words beside it.
   static said(log, name, passed, words) {
-    const text = log.#said(name, passed, { beside: true });
-    return text === null ? null : [text, log.#library.words(words)];
+    const text = log.#said(name, passed, { beside: words });
+    return text === null ? null : [text, log.library.words(words)];
   }
 
   // For the same: whether a call holds.
   static isShown(log, name, passed) {
-    return log.#library.isShown(name, [log.#open(), ...passed]);
+    return log.library.isShown(name, [log.#open(), ...passed]);
   }
-}
-
-if (Symbol.dispose) {
-  Object.defineProperty(
-    Log.prototype,
-    Symbol.dispose,
-    { value: Log.prototype.close, writable: true, configurable: true },
-  );
 }
 
 /** The log of a package. */

@@ -1,5 +1,5 @@
 // What in_browser.mjs has a browser run.
-import { Library, PackageLog, auditFile, auditMany, p256, records } from "/package/src/index.js";
+import { Library, PackageLog, RegistryTrees, auditFile, auditMany, p256, records } from "/package/src/index.js";
 
 function must(it, what) {
   if (!it) throw new Error(what);
@@ -36,6 +36,34 @@ async function rows() {
   return played;
 }
 
+// Of the rows of conformance/values: the map of the first leaf below, and the log of all of them.
+const MAP_ROOT = "sha256:1b609bcf1dc3a00f13e2fde2f68c9ab006e39d2fe2f7d8afc6ae550ea3a2c758";
+const LOG_ROOT = "sha256:0915e5e33416c991c2ac5d07c3499bbf68952d248c16afdc509217beede803e8";
+
+async function trees() {
+  const trees = await RegistryTrees.open();
+  const { library } = trees;
+  const idOf = (text) => records.sha256Text(new TextEncoder().encode(text));
+  const leaves = Array.from({ length: 8 }, (_, place) => [idOf(`log ${place % 3}`), idOf(`record ${place}`)]);
+  const before = [];
+  for (const [place, leaf] of leaves.entries()) {
+    must(trees.push(...leaf) === place, "the place of a leaf");
+    before.push(trees.roots());
+  }
+  const { logRoot, mapRoot } = trees.roots();
+  must(before[0].mapRoot === MAP_ROOT && logRoot === LOG_ROOT, "the roots");
+  leaves.forEach((leaf, place) => {
+    must(library.verifyInclusion(...leaf, place, 8, logRoot, trees.inclusion(place)), "a proof of inclusion");
+    const old = [place + 1, before[place].logRoot];
+    must(library.verifyConsistency(...old, 8, logRoot, trees.consistency(place + 1)), "a proof of consistency");
+    const { recordId, proof } = trees.head(leaf[0]);
+    must(library.verifyPresence(leaf[0], recordId, mapRoot, proof), "a proof of presence");
+  });
+  const { recordId, proof } = trees.head(idOf("log 9"));
+  must(recordId === null && library.verifyAbsence(idOf("log 9"), mapRoot, proof), "a proof of absence");
+  trees.close();
+}
+
 async function audits() {
   const bytes = await (await fetch("/log")).arrayBuffer();
   const file = new File([bytes], "package.hex");
@@ -54,6 +82,7 @@ let said;
 try {
   await log();
   const played = await rows();
+  await trees();
   await audits();
   said = `ok ${played} rows of P-256 by the library and by WebCrypto: ${navigator.userAgent}`;
 } catch (error) {

@@ -1,6 +1,5 @@
 // The ids of logs by their names, the leaves of a registry's log, what is signed of its checkpoints, by the bytes of
 // docs/FORMATS.md, and whether keys sign them that an operator log lets sign.
-import "./place.js";
 import assert from "node:assert/strict";
 import { createHash, generateKeyPairSync, sign as signed } from "node:crypto";
 import { test } from "node:test";

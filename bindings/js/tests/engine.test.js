@@ -8,7 +8,7 @@ import { tmpdir } from "node:os";
 import { execPath } from "node:process";
 import { test } from "node:test";
 import { pathToFileURL } from "node:url";
-import { Library, NoLibrary, PackageLog, has64BitMemory } from "weoldrin";
+import { Library, NoLibrary, PackageLog, isSupported } from "weoldrin";
 
 const said = (pattern) => (error) => {
   assert.ok(error instanceof NoLibrary, String(error));
@@ -18,26 +18,27 @@ const said = (pattern) => (error) => {
 
 const library = await Library.load();
 
-/** Runs a piece of a module in another process, without the flag of this one. */
+/** Runs a piece of a module in another process. */
 function elsewhere(code, flags = []) {
   const words = [...flags, "--input-type=module", "-e", code];
   return spawnSync(execPath, words, { cwd: new URL(".", import.meta.url), encoding: "utf8" });
 }
 
-test("an engine without 64-bit memory", () => {
-  // The engine says no, where it does not have it behind a flag.
-  const { stdout } = elsewhere(`
-    WebAssembly.validate = () => false;
-    const { PackageLog, has64BitMemory } = await import("weoldrin");
-    console.log(has64BitMemory());
+const NO_VECTORS =
+  "NoLibrary: this engine has no WebAssembly with vectors of 128 bits (SIMD); Chromium 91, Firefox 89, Safari 16.4 and " +
+  "Node 16.4 have them, and later ones\n";
+
+test("an engine without vectors", () => {
+  const code = `
+    const { PackageLog, isSupported } = await import("weoldrin");
+    console.log(isSupported());
     await PackageLog.open().catch((error) => console.log(String(error)));
-  `);
-  assert.equal(
-    stdout,
-    "false\nNoLibrary: this engine has no WebAssembly with 64-bit memory; Chromium 133, Firefox 134 and Node 24 have " +
-      "it, and later ones, and Node 20 with --experimental-wasm-memory64\n",
-  );
-  assert.equal(has64BitMemory(), true);
+  `;
+  // This engine has none where the processor has no instructions for them.
+  assert.equal(elsewhere(code, ["--no-enable-sse4-1"]).stdout, `false\n${NO_VECTORS}`);
+  assert.equal(elsewhere(`WebAssembly.validate = () => false;${code}`).stdout, `false\n${NO_VECTORS}`);
+  assert.equal(elsewhere(code).stdout, "true\n");
+  assert.equal(isSupported(), true);
 });
 
 test("an engine without WebAssembly", () => {
@@ -46,7 +47,7 @@ test("an engine without WebAssembly", () => {
     const { PackageLog } = await import("weoldrin");
     await PackageLog.open().catch((error) => console.log(String(error)));
   `);
-  assert.match(stdout, /^NoLibrary: this engine has no WebAssembly with 64-bit memory/);
+  assert.equal(stdout, NO_VECTORS);
 });
 
 test("a module that is not there, is none, or is another", async () => {
@@ -118,7 +119,7 @@ test("a load that failed is tried again", () => {
   try {
     const good = process.env.WEOLDRIN_LIBRARY ?? new URL("libwarg.wasm", import.meta.resolve("weoldrin/package.json"));
     writeFileSync(`${folder}/good`, readFileSync(good));
-    const code = `import "./place.js";
+    const code = `
       import { copyFileSync } from "node:fs";
       process.env.WEOLDRIN_LIBRARY = ${JSON.stringify(path)};
       const { PackageLog } = await import("weoldrin");

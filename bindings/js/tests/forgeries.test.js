@@ -1,5 +1,4 @@
 // A log of 50 records by keys of P-256, each of which is forged in every way and refused, and then taken.
-import "./place.js";
 import assert from "node:assert/strict";
 import { test } from "node:test";
 import { PackageLog, Refused, p256, records } from "weoldrin";

@@ -1,6 +1,6 @@
 // in_browser.mjs PACKAGE BROWSER: tries the package in a browser, which is begun without a window: a log that is signed
-// and appended, the rows of P-256 by WebCrypto and by the library, an audit of a file, and audits by workers. PACKAGE
-// is the folder of the installed package.
+// and appended, the rows of P-256 by WebCrypto and by the library, the trees of a registry, an audit of a file, and
+// audits by workers. PACKAGE is the folder of the installed package.
 import { spawn } from "node:child_process";
 import { mkdtempSync, readFileSync, rmSync } from "node:fs";
 import { createServer } from "node:http";

@@ -1,5 +1,4 @@
 // What each call of a log gives, and what it throws.
-import "./place.js";
 import assert from "node:assert/strict";
 import { test } from "node:test";
 import {

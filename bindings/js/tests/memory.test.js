@@ -14,6 +14,7 @@ import {
   p256,
   records,
 } from "weoldrin";
+import { atTheEnd, fill } from "./limits.js";
 import { START, envelopes, keys, operatorLog, record } from "./published.js";
 
 const [alice, bob] = await keys();
@@ -195,22 +196,6 @@ test("what is given stays as it is, however large it was", async () => {
   log.close();
 });
 
-/** Takes all memory that there is, and gives what gives it back. */
-function fill(library) {
-  const taken = [];
-  for (let size = 1 << 20; size >= 8; size /= 2) {
-    for (;;) {
-      try {
-        taken.push(library.taken(size));
-      } catch (error) {
-        if (!(error instanceof OutOfMemory)) throw error;
-        break;
-      }
-    }
-  }
-  return () => taken.splice(0).forEach((it) => library.givenBack(it));
-}
-
 test("a log that there is no room for leaves nothing behind", async () => {
   const library = await Library.load();
   library.limit(library.memory().size);
@@ -333,27 +318,6 @@ test("a limit bounds what a log may take", async () => {
   assert.ok(library.memory().size <= 4_000_000);
   for (const it of [0, -1, 1.5, NaN, "x", 1n]) assert.throws(() => library.limit(it), RangeError);
 });
-
-/** Calls at each depth of the stack from its end on, until a call goes through. */
-function atTheEnd(call) {
-  const found = [];
-  const deeper = () => {
-    try {
-      deeper();
-    } catch {
-      // The stack ended below: here there is a little more of it.
-    }
-    if (found.length && found.at(-1).isDone) return;
-    try {
-      call();
-      found.push({ isDone: true });
-    } catch (error) {
-      found.push({ error });
-    }
-  };
-  deeper();
-  return found;
-}
 
 test("where the engine's stack ends, the log is closed, and never half changed", async () => {
   const wanted = await (async () => {

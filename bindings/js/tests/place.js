@@ -1,12 +1,9 @@
-// Where the repository is, and an engine that has 64-bit memory: Node 20 has it behind a flag.
+// Where the repository is.
 import { existsSync } from "node:fs";
 import { env } from "node:process";
 import { pathToFileURL } from "node:url";
 import { setFlagsFromString } from "node:v8";
 import { runInNewContext } from "node:vm";
-
-const PROBE = Uint8Array.of(0, 97, 115, 109, 1, 0, 0, 0, 5, 3, 1, 4, 1);
-if (!WebAssembly.validate(PROBE)) setFlagsFromString("--experimental-wasm-memory64");
 
 export const ROOT = env.WEOLDRIN_ROOT ? pathToFileURL(`${env.WEOLDRIN_ROOT}/`) : new URL("../../../", import.meta.url);
 

@@ -15,7 +15,7 @@ test("each block of JavaScript", { skip: without(README) }, () => {
   blocks.forEach((block, place) => {
     const file = fileURLToPath(new URL(`readme-${process.pid}-${place}.mjs`, import.meta.url));
     const code = block.replace(/^import (.*) from "weoldrin";$/gm, 'const $1 = await import("weoldrin");');
-    writeFileSync(file, `import "./place.js";\n${code}`);
+    writeFileSync(file, code);
     try {
       const { stdout, stderr } = spawnSync(execPath, [file], { encoding: "utf8" });
       assert.equal(stderr, "");
@@ -28,19 +28,19 @@ test("each block of JavaScript", { skip: without(README) }, () => {
 });
 
 test("each name of the package has its type, and each type its name", async () => {
-  const { default: types } = {
-    default: readFileSync(new URL("src/index.d.ts", import.meta.resolve("weoldrin/package.json")), "utf8"),
-  };
+  const typesOf = (name) => readFileSync(new URL(`src/${name}`, import.meta.resolve("weoldrin/package.json")), "utf8");
+  const index = typesOf("index.d.ts");
+  const parts = [...index.matchAll(/^export \{ .* \} from "\.\/(\w+)\.js"/gm)].map((it) => typesOf(`${it[1]}.d.ts`));
+  const types = [index, ...parts].join("");
   const package_ = await import("weoldrin");
   const values = [...types.matchAll(/^export (?:abstract )?(?:const|class|function) (\w+)/gm)].map((it) => it[1]);
   const spaces = [...types.matchAll(/^export \* as (\w+)/gm)].map((it) => it[1]);
   assert.deepEqual([...new Set([...values, ...spaces])].sort(), Object.keys(package_).sort());
   for (const space of spaces) {
-    const text = readFileSync(new URL(`src/${space}.d.ts`, import.meta.resolve("weoldrin/package.json")), "utf8");
-    const names = [...text.matchAll(/^export (?:const|class|function) (\w+)/gm)].map((it) => it[1]);
+    const names = [...typesOf(`${space}.d.ts`).matchAll(/^export (?:const|class|function) (\w+)/gm)].map((it) => it[1]);
     assert.deepEqual(names.sort(), Object.keys(package_[space]).sort(), space);
   }
-  for (const name of ["Library", "Log", "PackageLog", "OperatorLog"]) {
+  for (const name of ["Library", "Log", "PackageLog", "OperatorLog", "RegistryTrees"]) {
     const body = new RegExp(`^export (?:abstract )?class ${name} .*?^}$`, "ms").exec(types)[0];
     const members = [...body.matchAll(/^ {2}(?:static )?(?:readonly )?(\w+)[(:]/gm)].map((it) => it[1]);
     const typed = members.filter((it) => it !== "constructor");
@@ -58,11 +58,13 @@ test("each name of the package has its type, and each type its name", async () =
       "taken",
       "givenBack",
       "status",
+      "told",
       "isDone",
       "isShown",
       "filled",
       "beside",
       "words",
+      "numbers",
       "said",
     ];
     for (const it of own.filter((it) => !hidden.includes(it))) {

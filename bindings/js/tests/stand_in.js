@@ -35,7 +35,7 @@ export function standIn({ open = status(0), append = TRAP, ask = TRAP } = {}) {
     ...[0, 0x61, 0x73, 0x6d, 1, 0, 0, 0],
     ...section(1, [3, ...[0x60, 0, 1, 0x7e], ...[0x60, 0, 1, 0x7f], ...[0x60, 0, 0]]),
     ...section(3, [types.length, ...types]),
-    ...section(5, [1, 4, 1]),
+    ...section(5, [1, 0, 1]),
     ...section(6, [1, 0x7f, 1, 0x41, 0, 0x0b]),
     ...section(7, [exports.length, ...exports.flat()]),
     ...section(10, [codes.length, ...codes.flatMap((it) => [it.length + 2, 0, ...it, 0x0b])]),

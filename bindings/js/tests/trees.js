@@ -1,4 +1,4 @@
-// A registry's log by its definitions: RFC 9162, section 2.1, and docs/FORMATS.md. The library is not asked.
+// A registry's log and map by their definitions: RFC 9162, section 2.1, and docs/FORMATS.md. The library is not asked.
 import { createHash } from "node:crypto";
 
 const digest = (...parts) => {
@@ -52,4 +52,61 @@ export function consistency(first, leaves, isKnown = true) {
   return first <= half
     ? [...consistency(first, left, isKnown), logRoot(right)]
     : [...consistency(first - half, right, false), logRoot(left)];
+}
+
+/** The hash of the leaf of a map. */
+const hashInMap = ({ recordId }) => digest("\0WARG-MAP-LEAF-V0", prefixed(recordId));
+
+// The root of the empty subtree of each height.
+const EMPTY = [digest("")];
+while (EMPTY.length <= 256) EMPTY.push(node(EMPTY.at(-1), EMPTY.at(-1)));
+
+const keyOf = (logId) => Buffer.from(logId.slice("sha256:".length), "hex");
+
+/** Whether a key goes right at a depth, counted from the root. */
+const isRight = (key, depth) => ((key[depth >> 3] >> (7 - (depth & 7))) & 1) === 1;
+
+/** The map of the last record of each log among leaves. */
+export class SparseMap {
+  #keys;
+  #values = new Map();
+  // Of the subtrees that have a leaf.
+  #roots = new Map();
+
+  constructor(leaves) {
+    for (const leaf of leaves) this.#values.set(keyOf(leaf.logId).toString("hex"), hashInMap(leaf));
+    this.#keys = [...this.#values.keys()].sort().map((it) => Buffer.from(it, "hex"));
+  }
+
+  root() {
+    return this.#root(0, this.#keys);
+  }
+
+  /** The text of the proof of what the map says of a log: the short form of its 256 siblings, from the leaf up. */
+  proof(logId) {
+    const [key, siblings] = [keyOf(logId), []];
+    let keys = this.#keys;
+    for (let depth = 0; depth < 256; depth++) {
+      const other = keys.filter((it) => isRight(it, depth) !== isRight(key, depth));
+      siblings.unshift(this.#root(depth + 1, other));
+      keys = keys.filter((it) => isRight(it, depth) === isRight(key, depth));
+    }
+    const [bits, others] = [Buffer.alloc(32), []];
+    siblings.forEach((it, height) => {
+      if (it.equals(EMPTY[height])) bits[height >> 3] |= 128 >> (height & 7);
+      else others.push(it);
+    });
+    return textOf([bits, ...others]);
+  }
+
+  #root(depth, keys) {
+    if (!keys.length) return EMPTY[256 - depth];
+    if (depth === 256) return this.#values.get(keys[0].toString("hex"));
+    const name = `${depth} ${keys[0].toString("hex")}`;
+    if (!this.#roots.has(name)) {
+      const [left, right] = [false, true].map((side) => keys.filter((it) => isRight(it, depth) === side));
+      this.#roots.set(name, node(this.#root(depth + 1, left), this.#root(depth + 1, right)));
+    }
+    return this.#roots.get(name);
+  }
 }

@@ -8,6 +8,7 @@ import {
   OperatorLog,
   PackageLog,
   Refused,
+  RegistryTrees,
   Relation,
   Verdict,
   WeoldrinError,
@@ -26,7 +27,7 @@ import {
   records,
   verify,
 } from "weoldrin";
-import type { Comparison, Question, Release, Verify } from "weoldrin";
+import type { Comparison, LogHead, Question, Release, Roots, Verify } from "weoldrin";
 
 const always: Verify = (question: Question) => question.signature !== "";
 const later: Verify = async ({ key, message, signature }) => verify(key, message, signature);
@@ -81,6 +82,39 @@ export async function program(envelope: Uint8Array, buffer: ArrayBuffer, file: F
   }
   exact.close();
   return [time, content, from, verdicts.length, verdict.accepted].join(" ");
+}
+
+export async function registry(operators: OperatorLog, library: Library): Promise<string> {
+  const trees: RegistryTrees = await RegistryTrees.open({ library });
+  const place: number = trees.push(library.logId("operator"), "y");
+  const { logRoot, mapRoot }: Roots = trees.roots();
+  const proofs: (string | null)[] = [trees.inclusion(place), trees.inclusion(2n ** 60n), trees.consistency(0)];
+  const head: LogHead = trees.head("x");
+  const shown: boolean = head.recordId === null
+    ? trees.library.verifyAbsence("x", mapRoot, head.proof)
+    : trees.library.verifyPresence("x", head.recordId, mapRoot, head.proof);
+  const checkpoint: checkpoints.TimestampedCheckpoint = trees.checkpoint(1_700_000_000);
+  operators.verifyCheckpoint(trees.checkpoint(2n ** 60n), "x", "y");
+  const length: number = trees.length;
+  trees.close();
+  return [logRoot, ...proofs, shown, checkpoint.logLength, length, new RegistryTrees(library).length].join(" ");
+}
+
+export function wrongTrees(trees: RegistryTrees): void {
+  // @ts-expect-error: trees are opened
+  new RegistryTrees();
+  // @ts-expect-error: a leaf is of two ids
+  trees.push("x");
+  // @ts-expect-error: a place is a number
+  trees.inclusion("0");
+  // @ts-expect-error: there may be no proof
+  trees.consistency(0).length;
+  // @ts-expect-error: there may be no head
+  trees.head("x").recordId.length;
+  // @ts-expect-error: leaves are pushed
+  trees.length = 3;
+  // @ts-expect-error: a checkpoint has its time
+  trees.checkpoint();
 }
 
 export async function wrong(log: PackageLog, envelope: Uint8Array): Promise<void> {

@@ -5,7 +5,17 @@ import assert from "node:assert/strict";
 import { createHash } from "node:crypto";
 import { readdirSync } from "node:fs";
 import { test } from "node:test";
-import { BadArgument, Kind, Library, NoEnvelope, UnknownAlgorithm, checkpoints, logOf, records } from "weoldrin";
+import {
+  BadArgument,
+  Kind,
+  Library,
+  NoEnvelope,
+  RegistryTrees,
+  UnknownAlgorithm,
+  checkpoints,
+  logOf,
+  records,
+} from "weoldrin";
 import { blocks, bytesOf, jsonWritten, quoted, rowOf, wordsOf } from "./rows.js";
 import * as toy from "./toy.js";
 import * as trees from "./trees.js";
@@ -123,19 +133,42 @@ class Answers {
     return name === undefined ? (given ? "= ok" : "! Refused") : `! ${name}`;
   }
 
+  // What the trees of these leaves give is what is given by definition.
+  #ofTrees(words, call, defined) {
+    const leaves = trees.leavesOf(words);
+    const held = new RegistryTrees(this.library);
+    for (const { logId, recordId } of leaves) held.push(logId, recordId);
+    const given = call(held);
+    held.close();
+    assert.equal(given, defined(leaves, leaves.map(trees.hashInLog)));
+    return given === null ? "= none" : `= ${quoted(given)}`;
+  }
+
   "inclusion-proof"([place, ...words]) {
-    const hashes = trees.leavesOf(words).map(trees.hashInLog);
-    return `= ${Number(place) < hashes.length ? quoted(trees.textOf(trees.inclusion(Number(place), hashes))) : "none"}`;
+    const defined = (leaves, hashes) =>
+      Number(place) < leaves.length ? trees.textOf(trees.inclusion(Number(place), hashes)) : null;
+    return this.#ofTrees(words, (it) => it.inclusion(BigInt(place)), defined);
   }
 
   "consistency-proof"([length, ...words]) {
-    const hashes = trees.leavesOf(words).map(trees.hashInLog);
-    const proof = () => quoted(trees.textOf(trees.consistency(Number(length), hashes)));
-    return `= ${Number(length) <= hashes.length ? proof() : "none"}`;
+    const defined = (leaves, hashes) =>
+      Number(length) <= leaves.length ? trees.textOf(trees.consistency(Number(length), hashes)) : null;
+    return this.#ofTrees(words, (it) => it.consistency(BigInt(length)), defined);
+  }
+
+  "map-proof"([logId, ...words]) {
+    const defined = (leaves) => new trees.SparseMap(leaves).proof(logId);
+    return this.#ofTrees(words, (it) => it.head(logId).proof, defined);
   }
 
   "log-root"(words) {
-    return `= ${trees.hashText(trees.logRoot(trees.leavesOf(words).map(trees.hashInLog)))}`;
+    const defined = (leaves, hashes) => trees.hashText(trees.logRoot(hashes));
+    return this.#ofTrees(words, (it) => it.roots().logRoot, defined);
+  }
+
+  "map-root"(words) {
+    const defined = (leaves) => trees.hashText(new trees.SparseMap(leaves).root());
+    return this.#ofTrees(words, (it) => it.roots().mapRoot, defined);
   }
 
   // Of messages
@@ -280,7 +313,7 @@ test("the rows of values, messages and proofs", { skip: LEFT_OUT }, async (conte
   context.diagnostic(`played: ${shown(played)}`);
   context.diagnostic(`no call tells: ${shown(leftOut)}`);
   assert.deepEqual(wrong, []);
-  for (const it of ["package-log-id", "operator-log-id", "sign-checkpoint", "sign-apart"]) {
+  for (const it of ["package-log-id", "operator-log-id", "sign-checkpoint", "sign-apart", "map-root", "map-proof"]) {
     assert.ok(played.get(it), it);
   }
   assert.ok([...played.values()].reduce((sum, it) => sum + it) > 600);
