@@ -1,13 +1,21 @@
-"""The registry's trees against their definitions, and every proof against the library."""
+"""The trees that checkpoints are made of are those of the stored leaves, in their order, by the definitions."""
 
 import importlib.util
 import pathlib
 import random
+import tempfile
+import threading
 import unittest
 from types import ModuleType
+from typing import Any
+from unittest import mock
 
-from weoldrin import verify_absence, verify_consistency, verify_inclusion, verify_presence
-from weoldrin_registry.trees import Trees
+from weoldrin import NotOpen, OutOfMemory, RegistryTrees, verify_inclusion, verify_presence
+from weoldrin_registry import checkpoints
+from weoldrin_registry.checkpoints import Checkpoints
+from weoldrin_registry.handles import Damaged, Handles
+from weoldrin_registry.registry import Registry
+from weoldrin_registry.settings import Settings
 
 _DEFINITIONS = pathlib.Path(__file__).resolve().parents[2] / "bindings/python/tests/trees.py"
 
@@ -22,65 +30,110 @@ def _definitions() -> ModuleType:
 
 
 BY = _definitions()
-LENGTH = 70
 
 
-class AsDefined(unittest.TestCase):
-    """Trees of each length."""
+class Stored:
+    """A storage of leaves alone, and what it was asked for."""
 
-    def test_all(self) -> None:
-        chosen, trees = random.Random(3), Trees()
-        leaves, roots = [], [trees.log_root()]
-        self.assertEqual(trees.map_root(), BY.hash_text(BY.EMPTY[256]))
-        for index in range(LENGTH):
-            leaf = BY.Leaf(BY.id_of(f"log {chosen.randrange(20)}"), BY.id_of(f"record {index}"))
-            self.assertEqual(trees.push(*leaf), index)
-            leaves.append(leaf)
-            self.assertEqual(trees.length(), index + 1)
-            hashes = [it.of_log() for it in leaves]
-            roots.append(trees.log_root())
-            self.assertEqual(roots[-1], BY.hash_text(BY.log_root(hashes)))
-            for place in range(index + 1):
-                proof = trees.inclusion(place)
-                self.assertEqual(proof, BY.text_of(BY.inclusion(place, hashes)))
-                its_log, its_record = leaves[place]
-                self.assertTrue(verify_inclusion(its_log, its_record, place, index + 1, roots[-1], proof))
-            for first in range(index + 2):
-                proof = trees.consistency(first)
-                self.assertEqual(proof, BY.text_of(BY.consistency(first, hashes)))
-                self.assertTrue(verify_consistency(first, roots[first], index + 1, roots[-1], proof))
-            if index % 7 == 0:
-                self._check_map(trees, leaves)
-        for call, wrong in ((trees.inclusion, LENGTH), (trees.inclusion, -1), (trees.consistency, LENGTH + 1)):
-            self.assertRaises(IndexError, call, wrong)
+    def __init__(self, count: int) -> None:
+        chosen = random.Random(3)
+        self.all = [(BY.id_of(f"log {chosen.randrange(20)}"), BY.id_of(f"record {it}")) for it in range(count)]
+        self.asked: list[tuple[int, int]] = []
 
-    def _check_map(self, trees: Trees, leaves: list) -> None:  # type: ignore[type-arg]
-        by = BY.SparseMap(leaves)
-        root = trees.map_root()
-        self.assertEqual(root, BY.hash_text(by.root()))
+    def leaves(self, start: int, most: int) -> list[tuple[str, str]]:
+        """The leaves from an index on."""
+        self.asked.append((start, most))
+        return self.all[start : start + most]
+
+
+class Trees(unittest.TestCase):
+    """Trees over a part of 50 leaves, which are read ten at once."""
+
+    def setUp(self) -> None:
+        self.others = threading.enumerate()
+        self.stored = Stored(50)
+        storage: Any = self.stored
+        self.made = Checkpoints(storage, Handles(storage, 10**9, 64), Settings(), None)
+        self.addCleanup(self.made.close)
+        many = mock.patch.object(checkpoints, "_MANY", 10)
+        many.start()
+        self.addCleanup(many.stop)
+
+    def _threads(self) -> list[str]:
+        """The names of the threads that this test has begun: there is one for trees that are open."""
+        return [it.name for it in threading.enumerate() if it not in self.others]
+
+    def _check(self, trees: RegistryTrees, length: int) -> None:
+        """Compares the trees with those of the first leaves."""
+        leaves = [BY.Leaf(*it) for it in self.stored.all[:length]]
+        by, contents = BY.SparseMap(leaves), trees.checkpoint(7)
+        log_root = BY.hash_text(BY.log_root([it.of_log() for it in leaves]))
+        self.assertEqual((contents.log_root, contents.log_length), (log_root, length))
+        self.assertEqual((contents.map_root, contents.timestamp), (BY.hash_text(by.root()), 7))
+        for place, (log_id, record_id) in enumerate(self.stored.all[:length]):
+            self.assertTrue(verify_inclusion(log_id, record_id, place, length, log_root, trees.inclusion(place)))
         for log_id, record_id in {it.log_id: it.record_id for it in leaves}.items():
             head, proof = trees.head(log_id)
             self.assertEqual(head, record_id)
-            self.assertEqual(proof, BY.short_text(by.path(BY.Leaf(log_id, "").key())))
-            self.assertTrue(verify_presence(log_id, record_id, root, proof))
-        for it in range(5):
-            head, proof = trees.head(BY.id_of(f"none {it}"))
-            self.assertIsNone(head)
-            self.assertTrue(verify_absence(BY.id_of(f"none {it}"), root, proof))
+            self.assertTrue(verify_presence(log_id, record_id, contents.map_root, proof))
 
-    def test_keys_that_are_close(self) -> None:
-        chosen = random.Random(7)
-        for _ in range(20):
-            keys, trees, leaves = [chosen.getrandbits(256)], Trees(), []
-            while len(keys) < 12:
-                keys.append(chosen.choice(keys) ^ 1 << chosen.choice([0, 1, 7, 8, 100, 247, 254, 255]))
-            for number, key in enumerate([*keys, *keys[:3]]):
-                leaf = BY.Leaf(f"sha256:{key:064x}", BY.id_of(str(number)))
-                trees.push(*leaf)
-                leaves.append(leaf)
-                if number % 3 == 0:
-                    self._check_map(trees, leaves)
-            self._check_map(trees, leaves)
+    def test_they_go_on(self) -> None:
+        for length in (0, 1, 2, 2, 9, 10, 11, 20, 43, 50):
+            self.stored.asked.clear()
+            before = self.made._trees
+            trees = self.made._trees_of(length)
+            self.assertIs(trees, before or trees)
+            self._check(trees, length)
+        # What is there is not read again, and no more than is wanted.
+        self.assertEqual(self.stored.asked, [(43, 7)])
+        self.assertEqual(self._threads(), ["weoldrin registry"])
+
+    def test_they_are_made_anew(self) -> None:
+        many = self.made._trees_of(43)
+        few = self.made._trees_of(12)
+        self._check(few, 12)
+        self.assertRaises(NotOpen, len, many)
+        self._check(self.made._trees_of(13), 13)
+        self.assertEqual(self._threads(), ["weoldrin registry"])
+
+    def test_other_leaves(self) -> None:
+        """They are told, and no trees are left that have some of them."""
+        log_id, record_id = self.stored.all[15]
+        for length, leaf, sentence in (
+            (60, (log_id, record_id), "there are fewer than 60 leaves"),
+            (20, ("", record_id), "a leaf behind the first 10 is none"),
+            (20, (log_id, "record"), "a leaf behind the first 10 is none"),
+        ):
+            self.stored.all[15] = leaf
+            with self.assertRaisesRegex(Damaged, sentence), self.made._kept_whole():
+                self.made._trees_of(length)
+            self.assertIsNone(self.made._trees)
+            self.assertEqual(self._threads(), [])
+        self._check(self.made._trees_of(15), 15)
+
+    def test_memory(self) -> None:
+        """Where memory is refused, the next ones are made anew."""
+        trees = self.made._trees_of(15)
+        with mock.patch.object(RegistryTrees, "push_all", side_effect=OutOfMemory):
+            with self.assertRaises(OutOfMemory), self.made._kept_whole():
+                self.made._trees_of(30)
+        self.assertRaises(NotOpen, len, trees)
+        self._check(self.made._trees_of(30), 30)
+
+    def test_they_are_closed(self) -> None:
+        trees = self.made._trees_of(15)
+        self.made.close()
+        self.assertRaises(NotOpen, len, trees)
+        self.assertEqual(self._threads(), [])
+        self._check(self.made._trees_of(4), 4)
+
+    def test_a_registry_that_stops(self) -> None:
+        with tempfile.TemporaryDirectory() as folder:
+            registry = Registry(Settings(database=f"{folder}/logs.sqlite"))
+            trees = registry.checkpoints._trees_of(0)
+            registry.stop()
+        self.assertRaises(NotOpen, len, trees)
+        self.assertEqual(self._threads(), [])
 
 
 if __name__ == "__main__":

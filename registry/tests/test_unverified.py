@@ -7,16 +7,15 @@ import unittest
 from typing import Any
 from unittest import mock
 
-from weoldrin import LogKind, log_id, records
+from weoldrin import Checkpoint, LogHead, LogKind, RegistryTrees, log_id, records
 from weoldrin_registry import checkpoints
 from weoldrin_registry.checkpoints import Checkpoints, Newest
 from weoldrin_registry.handles import Damaged, Handles
 from weoldrin_registry.publishing import Publisher, log_name
 from weoldrin_registry.settings import Settings
 from weoldrin_registry.signing import Signer
-from weoldrin_registry.storage import DiskFull
+from weoldrin_registry.storage import DiskFull, StorageError
 from weoldrin_registry.storage.sqlite import SqliteStorage
-from weoldrin_registry.trees import Trees
 
 from .served import Key, operator_record, package_record
 
@@ -53,12 +52,12 @@ class Unverified(unittest.TestCase):
         return newest
 
     def _patched(self, name: str, value: Any) -> Any:
-        return mock.patch.object(Trees, name, lambda *_: value)
+        return mock.patch.object(RegistryTrees, name, lambda *_: value)
 
     def test_proofs(self) -> None:
         newest = self.made.current()
         assert newest
-        proof = Trees.head
+        proof = RegistryTrees.head
         with self._patched("inclusion", ""):
             self.assertRaises(Damaged, self.made.inclusion, newest, 1)
         with self._patched("consistency", ""):
@@ -66,12 +65,18 @@ class Unverified(unittest.TestCase):
         its_id, none = log_id("package", "a:log-x0"), log_id("package", "a:none")
         head, its_proof = self.made.head(newest, its_id)
         for wrong in ((OTHER, its_proof), (None, its_proof), (head, self.made.head(newest, none).proof)):
-            with self._patched("head", wrong):
+            with self._patched("head", LogHead(*wrong)):
                 self.assertRaises(Damaged, self.made.head, newest, its_id)
-        with self._patched("head", (OTHER, self.made.head(newest, none).proof)):
+        with self._patched("head", LogHead(OTHER, self.made.head(newest, none).proof)):
             self.assertRaises(Damaged, self.made.head, newest, none)
-        self.assertIs(Trees.head, proof)
+        self.assertIs(RegistryTrees.head, proof)
         self.assertEqual(self.made.head(newest, its_id).record_id, head)
+        # Trees of another length are not asked.
+        trees = self.made._trees
+        assert trees
+        trees.push(its_id, OTHER)
+        with self.assertRaisesRegex(StorageError, "do not stand as the newest checkpoint says"):
+            self.made.inclusion(newest, 1)
 
     def test_checkpoints(self) -> None:
         before = self.made.current()
@@ -79,7 +84,7 @@ class Unverified(unittest.TestCase):
         time.sleep(0.002)
         # A tree whose log does not go on from the newest checkpoint.
         with mock.patch.object(checkpoints, "_PAUSE", 0):
-            with self._patched("log_root", OTHER):
+            with self._patched("checkpoint", Checkpoint(OTHER, 6, OTHER, int(time.time()))):
                 self.assertRaises(Damaged, self.made.make)
             with mock.patch.object(Signer, "sign", lambda *_: "", create=True):
                 self.made._signer = Signer(Key.generate())

@@ -21,6 +21,7 @@ PATIENCE = 300
 PUBLISHING, STORAGE, STATES = "test_publishing.Publishing", "test_storage.Writers", "test_storage.States"
 READING, CONNECTIONS = "test_reading.Reading", "test_connections.Connections"
 PROOFS, KEYS, UNVERIFIED = "test_checkpoints.Proofs.test_all", "test_checkpoints.Keys", "test_unverified.Unverified"
+TREES = "test_trees.Trees"
 
 # The file, what stands there, what is put there, and the test that sees it.
 Wrong = tuple[str, str, str, str]
@@ -159,8 +160,8 @@ WRONG: dict[str, Wrong] = {
         "checkpoints.py", "is_old = newest is None or since >= self._settings.renew_seconds", "is_old = False",
         "test_checkpoints.Renewed.test_the_newest"),
     "other leaves are taken": (
-        "checkpoints.py", "if (trees.log_root(), trees.map_root()) != (contents.log_root, contents.map_root):",
-        "if False:", f"{KEYS}.test_leaves_that_were_changed"),
+        "checkpoints.py", "if trees.checkpoint(contents.timestamp) != contents:", "if False:",
+        f"{KEYS}.test_leaves_that_were_changed"),
     "consistency is not verified": (
         "checkpoints.py", "if not verify_consistency(", "if False and not verify_consistency(",
         f"{UNVERIFIED}.test_proofs"),
@@ -169,8 +170,8 @@ WRONG: dict[str, Wrong] = {
         f"{UNVERIFIED}.test_proofs"),
     "a head is not verified": ("checkpoints.py", "if not holds:", "if False:", f"{UNVERIFIED}.test_proofs"),
     "trees stay ahead of what is kept": (
-        "checkpoints.py", "self._trees, self._paused_until = None, time", "self._paused_until = time",
-        f"{UNVERIFIED}.test_one_that_can_not_be_kept"),
+        "checkpoints.py", "            self._drop_trees()\n            self._paused_until",
+        "            self._paused_until", f"{UNVERIFIED}.test_one_that_can_not_be_kept"),
     "what failed is tried at once": (
         "checkpoints.py", "time.monotonic() + _PAUSE", "time.monotonic()",
         f"{UNVERIFIED}.test_one_that_can_not_be_kept"),
@@ -185,9 +186,25 @@ WRONG: dict[str, Wrong] = {
         "checkpoints.py", "if first > newest.length or (first > 0 and text is None):", "if first > newest.length:",
         PROOFS),
     # Trees
-    "the map has the first record": ("trees.py", "            node.value = value\n", "", "test_trees"),
-    "roots are not computed anew": ("trees.py", "            node.roots[side] = None\n", "", "test_trees"),
-    "bits are turned": ("trees.py", "bits |= 1 << _DEPTH - 1 - height", "bits |= 1 << height", "test_trees"),
+    "leaves are read from the first on": (
+        "checkpoints.py", "self._storage.leaves(start, min(", "self._storage.leaves(0, min(",
+        f"{TREES}.test_they_go_on"),
+    "more leaves are read than are wanted": (
+        "checkpoints.py", "min(_MANY, length - start)", "_MANY", f"{TREES}.test_they_go_on"),
+    "trees of more leaves are taken": (
+        "checkpoints.py", "len(self._trees) > length:", "False:", f"{TREES}.test_they_are_made_anew"),
+    "trees are made anew each time": (
+        "checkpoints.py", "self._trees or RegistryTrees()", "RegistryTrees()", f"{TREES}.test_they_go_on"),
+    "trees that are dropped stay open": (
+        "checkpoints.py", "            self._trees.close()\n", "            pass\n",
+        f"{TREES}.test_they_are_made_anew"),
+    "a leaf that is none is a bad argument": (
+        "checkpoints.py", "except BadArgument:", "except ZeroDivisionError:", f"{TREES}.test_other_leaves"),
+    "trees stay open behind a registry": (
+        "registry.py", "        self.checkpoints.close()\n", "", f"{TREES}.test_a_registry_that_stops"),
+    "trees of another length are asked": (
+        "checkpoints.py", "if trees is None or len(trees) != newest.length:", "if trees is None:",
+        f"{UNVERIFIED}.test_proofs"),
     # Requests
     "an older checkpoint is taken for the newest": (
         "routes/proofs.py", "if length is not None and length != newest.length:", "if False:", PROOFS),

@@ -1,7 +1,8 @@
 """Makes checkpoints, and proves what stands under the newest one.
 
-The trees stand as the newest checkpoint says. The library has verified the signature of each checkpoint that is served,
-and each proof but the empty one, that a log goes on from no leaves.
+The trees stand as the newest checkpoint says: roots and proofs are those that the library makes of the leaves, in the
+order in which the storage gives them. The library has verified the signature of each checkpoint that is served, and
+each proof but the empty one, that a log goes on from no leaves. When a checkpoint is made is decided here.
 """
 
 from __future__ import annotations
@@ -13,9 +14,12 @@ from contextlib import contextmanager
 from typing import NamedTuple
 
 from weoldrin import (
+    BadArgument,
     Checkpoint,
+    LogHead,
     LogKind,
     OperatorLog,
+    RegistryTrees,
     SignedCheckpoint,
     log_id,
     verify_absence,
@@ -28,7 +32,6 @@ from .handles import Damaged, Handles
 from .settings import Settings
 from .signing import Signer
 from .storage import Overtaken, Storage, StorageError
-from .trees import Trees
 
 _OPERATOR = log_id(LogKind.OPERATOR)
 # How many leaves are read at once.
@@ -59,20 +62,13 @@ class Leaf(NamedTuple):
     proof: str
 
 
-class Head(NamedTuple):
-    """A log's last record, none where it has none, and the proof of it."""
-
-    record_id: str | None
-    proof: str
-
-
 class Checkpoints:
     """The checkpoints of a registry. All calls may be made by many threads; they wait for each other."""
 
     def __init__(self, storage: Storage, handles: Handles, settings: Settings, signer: Signer | None) -> None:
         self._storage, self._handles, self._settings, self._signer = storage, handles, settings, signer
         self._lock = threading.Lock()
-        self._trees: Trees | None = None
+        self._trees: RegistryTrees | None = None
         self._newest: Newest | None = None
         self._is_verified = False
         self._seen_at = self._paused_until = float("-inf")
@@ -125,12 +121,17 @@ class Checkpoints:
         newest = self._newest
         return max(time.time(), newest.signed.contents.timestamp if newest else 0)
 
+    def close(self) -> None:
+        """Gives the memory of the trees back."""
+        with self._lock:
+            self._drop_trees()
+
     def _make(self, length: int) -> None:
         """Signs a checkpoint of so many leaves, and keeps it."""
         trees, before = self._trees_of(length), self._newest
         for _ in range(_TRIALS):
             last = before.signed.contents.timestamp if before else 0
-            contents = Checkpoint(trees.log_root(), length, trees.map_root(), max(int(time.time()), last))
+            contents = trees.checkpoint(max(int(time.time()), last))
             if before is not None:
                 _check_goes_on(before.signed.contents, contents, trees.consistency(before.length))
             made = self._signed(contents)
@@ -183,7 +184,7 @@ class Checkpoints:
     def _adopt(self, found: Newest) -> None:
         """Takes a checkpoint that was kept for the newest, if it is one of these leaves."""
         trees, contents = self._trees_of(found.length), found.signed.contents
-        if (trees.log_root(), trees.map_root()) != (contents.log_root, contents.map_root):
+        if trees.checkpoint(contents.timestamp) != contents:
             raise Damaged(f"the leaves are not those of the checkpoint of length {found.length}")
         self._accept(found, self._is_signed(found.signed))
 
@@ -192,18 +193,26 @@ class Checkpoints:
             self._seen_at = time.monotonic()
         self._newest, self._is_verified = newest, is_verified
 
-    def _trees_of(self, length: int) -> Trees:
-        """The trees over so many leaves. They are made anew where they have more."""
-        trees = self._trees
-        if trees is None or trees.length() > length:
-            trees = self._trees = Trees()
-        while (start := trees.length()) < length:
+    def _trees_of(self, length: int) -> RegistryTrees:
+        """The trees over the first leaves, of so many. They are made anew where they have more."""
+        if self._trees is not None and len(self._trees) > length:
+            self._drop_trees()
+        trees = self._trees = self._trees or RegistryTrees()
+        start = len(trees)
+        while start < length:
             leaves = self._storage.leaves(start, min(_MANY, length - start))
             if not leaves:
                 raise Damaged(f"there are fewer than {length} leaves")
-            for it in leaves:
-                trees.push(*it)
+            try:
+                start = trees.push_all(leaves)
+            except BadArgument:
+                raise Damaged(f"a leaf behind the first {start} is none") from None
         return trees
+
+    def _drop_trees(self) -> None:
+        if self._trees is not None:
+            self._trees.close()
+        self._trees = None
 
     @contextmanager
     def _kept_whole(self) -> Iterator[None]:
@@ -211,7 +220,8 @@ class Checkpoints:
         try:
             yield
         except BaseException:
-            self._trees, self._paused_until = None, time.monotonic() + _PAUSE
+            self._drop_trees()
+            self._paused_until = time.monotonic() + _PAUSE
             raise
 
     # Proofs under it, in `held`
@@ -235,10 +245,10 @@ class Checkpoints:
             _check_goes_on(_read(text).signed.contents, newest.signed.contents, proof)
         return proof
 
-    def head(self, newest: Newest, of: str) -> Head:
+    def head(self, newest: Newest, of: str) -> LogHead:
         """A log's last record under the newest checkpoint."""
         root = newest.signed.contents.map_root
-        found = Head(*self._standing(newest).head(of))
+        found = self._standing(newest).head(of)
         if found.record_id is None:
             holds = verify_absence(of, root, found.proof)
         else:
@@ -247,9 +257,9 @@ class Checkpoints:
             raise Damaged(f"the head of {of} is not under the checkpoint of length {newest.length}")
         return found
 
-    def _standing(self, newest: Newest) -> Trees:
+    def _standing(self, newest: Newest) -> RegistryTrees:
         trees = self._trees
-        if trees is None or trees.length() != newest.length:
+        if trees is None or len(trees) != newest.length:
             raise StorageError("the trees do not stand as the newest checkpoint says")
         return trees
 

@@ -55,6 +55,7 @@ class Registry:
             self._keeper.join()
         self._writers.shutdown()
         self._readers.shutdown()
+        self.checkpoints.close()
         self.storage.close()
 
     async def written(self, call: Callable[..., T], *arguments: object) -> T:

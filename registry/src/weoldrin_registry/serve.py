@@ -58,7 +58,7 @@ def serve(settings: Settings) -> bool:
     logger.handlers, logger.propagate = [handler], False
     logger.setLevel(logging.ERROR)
     _bound_files(settings)
-    # What computes in Python, as the trees do, lets others go on sooner.
+    # What computes in Python lets others go on sooner, as those that come back from the library.
     sys.setswitchinterval(0.001)
     listening = _socket(settings)
     host, port = listening.getsockname()[:2]
