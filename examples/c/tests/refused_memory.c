@@ -269,6 +269,11 @@ static void add_logs(struct bytes *all) {
         add_log(all, logs[i]);
 }
 
+/* Whether a call takes a record. */
+static bool is_append(const struct call *call) {
+    return call->make == append_begin || call->make == append_next || call->make == append_signed_third;
+}
+
 /* Refuses each request of a call in turn, and says how many there are. */
 static long refuse_each(const struct call *call, bool changes, bool are_resumed) {
     struct bytes before = {0}, after = {0};
@@ -283,8 +288,8 @@ static long refuse_each(const struct call *call, bool changes, bool are_resumed)
         add_logs(&after);
         bool are_same = before.len == after.len && !memcmp(before.at, after.at, after.len);
         CHECK(are_same || (changes && status == WARG_OK));
-        /* A record is appended once, also where there was no room to keep its key. */
-        bool is_done = call->make == append_signed_third && status == WARG_OK;
+        /* A record is appended once, also where there was no room to keep its key, or to look one up the short way. */
+        bool is_done = status == WARG_OK && is_append(call);
         if (is_last || is_done) {
             bytes_free(&before);
             bytes_free(&after);
