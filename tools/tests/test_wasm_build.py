@@ -10,7 +10,8 @@ import unittest
 sys.path.insert(0, str(pathlib.Path(__file__).resolve().parents[1]))
 
 from common import PRODUCTS, ROOT
-from wasm_build import LAYOUT, SHUFFLE, TARGET, NoModule, exported, keeping, retargeted
+from wasm_addresses import NoModule
+from wasm_build import LAYOUT, SHUFFLE, TARGET, exported, keeping, retargeted
 
 HEAD = 'target datalayout = "e-m:e-i64:64"\ntarget triple = "x86_64-unknown-linux-gnu"\n'
 CODE = f"""define <16 x i8> @f(<16 x i8> %a) #0 {{
