@@ -20,6 +20,8 @@ pub mod SavedHead
 pub mod SavedEqual
 pub mod CanonicalHead
 pub mod SavedMembers
+pub mod SavedTexts
+pub mod AskedHead
 pub mod SavedBack
 pub mod AskingLaws
 pub mod EnclosedLaws

@@ -20,5 +20,5 @@ pub use log::Log;
 pub use log_error::LogError;
 pub use own_state::{EntryRef, Origin, OwnState, RecordRef};
 pub use saved_members::{members_text, members_value};
-pub use saved_parts::{SavedParts, first_apart, read_parts, second_apart, text_parts};
+pub use saved_parts::{SavedParts, read_parts, text_parts};
 pub use warg_permissions::key_maps::{KeyEntry, Keys};

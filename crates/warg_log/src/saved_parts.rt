@@ -7,7 +7,7 @@ ghost use Rattle.warg_crypto.specs.Json.Pairs.{plain_pairs};
 ghost use Rattle.warg_saved_states.specs.Fit.{RefusesCase, RefusesCaseOrNoMemory, first_case, is_nil, keys_case, rights_case, version_case};
 ghost use Rattle.warg_saved_states.specs.JsonText.{ReturnsOfText, in_text};
 ghost use Rattle.warg_saved_states.specs.SavedPermissions.{permissions_in};
-ghost use Rattle.warg_log.specs.SavedMembers.{IsApart, head_version, saved_in, saved_incoherence};
+ghost use Rattle.warg_log.specs.SavedMembers.{begun_in, head_version, saved_in, saved_incoherence};
 ghost use Rattle.warg_log.specs.SavedParts.{parts_view};
 
 use crate::head::{Head, head_member, head_version};
@@ -20,7 +20,7 @@ use warg_maps::NameMap;
 use warg_permissions::{LogPermission, PermissionSet};
 use warg_saved_states::{
     JsonTextError, SavedName, SavedValue, algorithm_member, check_begun, check_empty, check_keys,
-    check_rights, check_version, is_empty, map_member, read_apart, read_value,
+    check_rights, check_version, is_empty, map_in_text, map_member, parts_in_text, read_asked,
 };
 
 /// What is read of a state's members.
@@ -63,63 +63,92 @@ pub fn read_parts<P: LogPermission, K: SavedName, V: SavedValue, L: SavedName, W
     })
 }
 
-/// The parts of a state's text, the values of the first map read one after another. `None`: some part has a fault, or what
-/// [`read_apart`] answers with `None`.
-pub fn first_apart<P: LogPermission, K: SavedName, V: SavedValue, L: SavedName, W: SavedValue>(
+/// The algorithm and the head of a state's text, or the first fault of either.
+fn text_head(
+    alloc: Global,
+    text: &str,
+) -> Result<(Option<HashAlgorithm>, Option<Head>), JsonTextError>
+    ensures { ReturnsOfText (λ p. p) result (in_text begun_in text.now) }
+{
+    let asked = ["algorithm", "head", "digest", "timestamp", "version"];
+    let value = read_asked(alloc, text, &asked, 2)?;
+    let algorithm = algorithm_member(alloc, &value)?;
+    let head = head_member(alloc, &value)?;
+    Ok((algorithm, head))
+}
+
+/// The parts of a state's text, read in one pass. `None`: a name of a map does not ascend, some part has a fault, or
+/// memory ran out.
+fn quick_parts<P: LogPermission, K: SavedName, V: SavedValue, L: SavedName, W: SavedValue>(
     alloc: Global,
     text: &str,
     first: &str,
     second: &str,
 ) -> Option<SavedParts<P, K, V, L, W>>
-    requires { IsApart first.now second.now }
     ensures { IfSome result (λ parts. in_text (saved_in (permissions_in P.eq P.permission_named)
         first.now K.key_named V.reads second.now L.key_named W.reads) text.now ≡
         Ok (parts_view K.plain V.plain L.plain W.plain parts)) }
 {
-    let (others, firsts) = read_apart::<K, V>(alloc, text, first)?;
-    let mut parts = read_parts::<P, K, V, L, W>(alloc, &others, first, second).ok()?;
-    parts.firsts = firsts;
-    Some(parts)
+    let (value, rights, firsts, seconds) = parts_in_text::<KeyID, PermissionSet<P>, K, V, L, W>(
+        alloc,
+        text,
+        &["algorithm", "head", "digest", "timestamp", "version"],
+        1,
+        "permissions",
+        first,
+        second,
+    )?;
+    let algorithm = algorithm_member(alloc, &value).ok()?;
+    let head = head_member(alloc, &value).ok()?;
+    Some(SavedParts {
+        algorithm,
+        head,
+        rights,
+        firsts,
+        seconds,
+    })
 }
 
-/// The same of the second map.
-pub fn second_apart<P: LogPermission, K: SavedName, V: SavedValue, L: SavedName, W: SavedValue>(
+/// The parts of a state's text, or its first fault: each part is read for itself.
+fn slow_parts<P: LogPermission, K: SavedName, V: SavedValue, L: SavedName, W: SavedValue>(
     alloc: Global,
     text: &str,
     first: &str,
     second: &str,
-) -> Option<SavedParts<P, K, V, L, W>>
-    requires { IsApart second.now first.now }
-    ensures { IfSome result (λ parts. in_text (saved_in (permissions_in P.eq P.permission_named)
-        first.now K.key_named V.reads second.now L.key_named W.reads) text.now ≡
-        Ok (parts_view K.plain V.plain L.plain W.plain parts)) }
+) -> Result<SavedParts<P, K, V, L, W>, JsonTextError>
+    ensures { ReturnsOfText (parts_view K.plain V.plain L.plain W.plain) result
+        (in_text (saved_in (permissions_in P.eq P.permission_named) first.now K.key_named V.reads
+        second.now L.key_named W.reads) text.now) }
 {
-    let (others, seconds) = read_apart::<L, W>(alloc, text, second)?;
-    let mut parts = read_parts::<P, K, V, L, W>(alloc, &others, first, second).ok()?;
-    parts.seconds = seconds;
-    Some(parts)
+    let (algorithm, head) = text_head(alloc, text)?;
+    let rights = map_in_text::<KeyID, PermissionSet<P>>(alloc, text, "permissions")?;
+    let firsts = map_in_text::<K, V>(alloc, text, first)?;
+    let seconds = map_in_text::<L, W>(alloc, text, second)?;
+    Ok(SavedParts {
+        algorithm,
+        head,
+        rights,
+        firsts,
+        seconds,
+    })
 }
 
-/// The parts of a state's text, or its first fault. Those in which a map was read apart are handed in, if there are any.
+/// The parts of a state's text, or its first fault. What is not asked for is passed over, and each value of a map is
+/// read for itself. The text is read in one pass where the names of the maps ascend and no part has a fault.
 pub fn text_parts<P: LogPermission, K: SavedName, V: SavedValue, L: SavedName, W: SavedValue>(
     alloc: Global,
     text: &str,
     first: &str,
     second: &str,
-    apart: Option<SavedParts<P, K, V, L, W>>,
 ) -> Result<SavedParts<P, K, V, L, W>, JsonTextError>
-    requires { IfSome apart (λ parts. in_text (saved_in (permissions_in P.eq P.permission_named)
-        first.now K.key_named V.reads second.now L.key_named W.reads) text.now ≡
-        Ok (parts_view K.plain V.plain L.plain W.plain parts)) }
     ensures { ReturnsOfText (parts_view K.plain V.plain L.plain W.plain) result
         (in_text (saved_in (permissions_in P.eq P.permission_named) first.now K.key_named V.reads
         second.now L.key_named W.reads) text.now) }
 {
-    if let Some(parts) = apart {
+    if let Some(parts) = quick_parts(alloc, text, first, second) {
         return Ok(parts);
     }
-    let value = read_value(alloc, text)?;
-    Ok(read_parts::<P, K, V, L, W>(alloc, &value, first, second)?)
+    slow_parts(alloc, text, first, second)
 }
 
 /// Refuses what does not fit together, if there is something.

@@ -8,3 +8,4 @@ pub mod NamespaceJsonLaws
 pub mod SavedNamespaces
 pub mod SavedStates
 pub mod SavedLaws
+pub mod AskedNamespace

@@ -14,3 +14,4 @@ pub mod SavedFound
 pub mod SavedLaws
 pub mod SavableReleases
 pub mod ReleaseTokens
+pub mod AskedRelease

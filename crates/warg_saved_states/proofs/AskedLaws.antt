@@ -8,7 +8,8 @@ use Rattle.warg_crypto.specs.declared.json.error.JsonError.TheVariants as fault
 use Rattle.warg_crypto.specs.Json.Json.{◌>>=◌, member_in, members_in, json_result, some_or, text_in}
 use Rattle.warg_crypto.specs.Json.Members.{SameOptions, optional, some_read, unless_null}
 use Rattle.warg_crypto.specs.Json.Numbers.{in_range, number_below}
-use Rattle.warg_saved_states.specs.Asked.{AreAskedOf, AsksFor, IsAskedOf, is_asked}
+use Rattle.warg_saved_states.specs.Asked.{AreAskedOf, IsAskedOf, is_asked}
+use Rattle.warg_saved_states.specs.Next.{AsksFor}
 
 -- what two steps do that are the same
 pub then_same : {A B : Type 0} (r s : Result A JsonError) (f g : A → Result B JsonError) → r ≡ s → ((x : A) → f x ≡ g x) → (r >>= f) ≡ (s >>= g)

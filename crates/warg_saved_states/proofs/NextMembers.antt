@@ -17,7 +17,7 @@ use Rattle.warg_crypto.specs.declared.json.error.JsonError.{JsonError}
 use Rattle.warg_crypto.specs.Json.Json.{json_result}
 use Rattle.warg_crypto.specs.Json.Pairs.{names_of, pairs_of, plain_pairs}
 use Rattle.warg_crypto.specs.Json.JsonLaws.{bind_ok, ok_same}
-use Rattle.warg_saved_states.specs.Apart.{ascends}
+use Rattle.warg_saved_states.specs.Ascending.{ascends}
 use Rattle.warg_saved_states.proofs.Reading.{keys_differ, map-last, new_last}
 use Rattle.warg_saved_states.proofs.TextReading.{member_read}
 

@@ -1,5 +1,5 @@
 -- What is asked of JSON: the members of some names, and of what is no object its text or number.
-use Rattle.std.specs.Prelude.{ℕ, zero, suc, ◌≡◌, ◌<◌, ◌≤◌, ◌==◌, ⊤, List, length, map, Bool, true, false, Option, Some, None, Result}
+use Rattle.std.specs.Prelude.{ℕ, zero, suc, ◌≡◌, ◌<◌, ◌≤◌, ◌==◌, ⊤, List, length, map, Bool, true, false, Option, Some, None}
 use Rattle.std.specs.Borrow.{Bor}
 use Rattle.std.specs.List.{list_any}
 use Rattle.std.specs.Str.{bytes_eq}
@@ -8,7 +8,6 @@ use Rattle.serde_json.specs.Find.{as_null, as_number, as_object, as_str, get_mem
 use Rattle.serde_json.specs.Read.{read}
 use Rattle.warg_crypto.specs.Json.Members.{SameOptions}
 use Rattle.warg_crypto.specs.Json.Pairs.{names_of}
-use Rattle.warg_crypto.specs.declared.json.error.JsonError.{JsonError}
 use Rattle.warg_saved_states.specs.declared.error.JsonTextError.{JsonTextError}
 use Rattle.warg_saved_states.specs.declared.error.JsonTextError.TheVariants.{NotJson, OutOfMemory}
 use Rattle.warg_saved_states.specs.declared.error.ReadFault.{ReadFault}
@@ -17,6 +16,7 @@ use Rattle.warg_saved_states.specs.declared.error.ReadFault.TheVariants as fault
 -- a fault of a text as callers see it
 abbrev pub fault_of : ReadFault → JsonTextError
 fault_of fault.NotJson = NotJson
+fault_of fault.GivenUp = OutOfMemory
 fault_of fault.OutOfMemory = OutOfMemory
 
 -- the texts behind references
@@ -67,7 +67,3 @@ pub record IsAskedOfText (names : List (List ℕ)) (n : ℕ) (text : List ℕ) (
   pub whole : Data
   pub is : read text ≡ Some whole
   pub asked : IsAskedOf names n whole v
-
--- what is read of JSON is read of what is asked of it too: the members of those names, as far as n objects inside one another
-abbrev pub AsksFor : {A : Type 0} → List (List ℕ) → ℕ → (Data → Result A JsonError) → Type 0
-AsksFor names n reads = (d v : Data) → IsAskedOf names n d v → reads v ≡ reads d

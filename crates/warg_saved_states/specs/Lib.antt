@@ -11,6 +11,9 @@ pub mod Writes
 pub mod WriteLaws
 pub mod Passed
 pub mod Asked
-pub mod Apart
+pub mod Parts
 pub mod JsonText
+pub mod Next
+pub mod Found
+pub mod Ascending
 pub mod JsonTextLaws

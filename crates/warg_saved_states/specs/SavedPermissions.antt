@@ -1,5 +1,5 @@
 -- Sets of permissions as lists of their names.
-use Rattle.std.specs.Prelude.{ℕ, List, [], map, Bool, Option, Result, Ok}
+use Rattle.std.specs.Prelude.{ℕ, List, [], map, Bool, Option, Some, None, Result, Ok, Err}
 use Rattle.indexmap.specs.IndexSet.{insert_key}
 use Rattle.serde_json.specs.Data.{Data, Items, no_items, item, array, string}
 use Rattle.serde_json.specs.View.{items_of}
@@ -21,6 +21,11 @@ module _ {P : Type 0} (same : P → P → Bool) (named : List ℕ → Option P) 
   abbrev pub permissions_from : List P → Items → Result (List P) JsonError
   permissions_from done no_items = Ok done
   permissions_from done (item d more) = permission_in d >>= λ p. permissions_from (insert_key same done p) more
+
+  -- so, unless there was a fault before
+  abbrev pub permissions_after : Option JsonError → List P → Items → Result (List P) JsonError
+  permissions_after None done ds = permissions_from done ds
+  permissions_after (Some e) done ds = Err e
 
   -- the permissions that a JSON array names, each once, or the first fault
   abbrev pub permissions_in : Data → Result (List P) JsonError

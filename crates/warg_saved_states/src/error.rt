@@ -35,8 +35,12 @@ impl From<JsonError> for JsonTextError {
 
 /// Why no value is read of a text.
 #[derive(Clone, Copy, Debug, Drop, PartialEq, Eq)]
-pub(crate) enum ReadFault {
+pub enum ReadFault {
+    /// The text is no JSON, or a number in it is past the greatest float.
     NotJson,
+    /// A quick way was given up: a map's names do not ascend, or it has a fault.
+    GivenUp,
+    /// There was no memory for the value.
     OutOfMemory,
 }
 
@@ -78,7 +82,7 @@ impl From<ReadFault> for JsonTextError {
     fn from(fault: ReadFault) -> JsonTextError {
         match fault {
             ReadFault::NotJson => JsonTextError::NotJson,
-            ReadFault::OutOfMemory => JsonTextError::OutOfMemory,
+            ReadFault::GivenUp | ReadFault::OutOfMemory => JsonTextError::OutOfMemory,
         }
     }
 }

@@ -8,6 +8,7 @@ use json::{Invalid, Reader, Token};
 
 /// Passes over the value that begins with the token, whose arrays and objects may nest that deep.
 #[cycle(pass)]
+#[inline(always)]
 pub(crate) fn pass_from(
     token: Token<'_>,
     reader: &mut Reader<'_>,
@@ -40,6 +41,7 @@ pub(crate) fn pass_from(
 
 /// Passes over the value that comes next.
 #[cycle(pass)]
+#[inline(always)]
 pub(crate) fn pass_value(reader: &mut Reader<'_>, depth: usize) -> Result<(), Invalid>
     ensures value { MatchResult result (λ _. passed depth reader.old ≡ Some reader.new)
         (λ _. passed depth reader.old ≡ None) }
@@ -51,6 +53,7 @@ pub(crate) fn pass_value(reader: &mut Reader<'_>, depth: usize) -> Result<(), In
 
 /// Passes over the items that come next, up to the end of their array.
 #[cycle(pass)]
+#[inline(never)]
 pub(crate) fn pass_items(reader: &mut Reader<'_>, depth: usize) -> Result<(), Invalid>
     ensures value { MatchResult result (λ _. passed_items depth reader.old ≡ Some reader.new)
         (λ _. passed_items depth reader.old ≡ None) }
@@ -64,6 +67,7 @@ pub(crate) fn pass_items(reader: &mut Reader<'_>, depth: usize) -> Result<(), In
 
 /// Passes over the members that come next, up to the end of their object.
 #[cycle(pass)]
+#[inline(never)]
 pub(crate) fn pass_members(reader: &mut Reader<'_>, depth: usize) -> Result<(), Invalid>
     ensures value { MatchResult result (λ _. passed_members depth reader.old ≡ Some reader.new)
         (λ _. passed_members depth reader.old ≡ None) }

@@ -3,9 +3,10 @@ ghost use Rattle.std.specs.Prelude.{List, []};
 ghost use Rattle.warg_saved_states.specs.CanonicalLaws.{texts_canonical};
 ghost use Rattle.warg_saved_states.specs.SavedPermissions.{permissions_in, permissions_json};
 
+use crate::error::ReadFault;
 use crate::value::SavedValue;
 use indexmap::IndexSet;
-use json::Writer;
+use json::{Reader, Writer};
 use serde_json::Value;
 use std::alloc::Global;
 use warg_crypto::json::JsonError;
@@ -39,5 +40,16 @@ impl<P: LogPermission> SavedValue for PermissionSet<P> {
     fn load(alloc: Global, value: &Value) -> Result<PermissionSet<P>, JsonError> {
         let set = IndexSet::<P>::load(alloc, value)?;
         Ok(PermissionSet::new(alloc, set)?)
+    }
+
+    fn read_next(
+        alloc: Global,
+        reader: &mut Reader<'_>,
+        depth: usize,
+    ) -> Result<Result<PermissionSet<P>, JsonError>, ReadFault> {
+        match IndexSet::<P>::read_next(alloc, reader, depth)? {
+            Ok(set) => Ok(Ok(PermissionSet::new(alloc, set)?)),
+            Err(fault) => Ok(Err(fault)),
+        }
     }
 }

@@ -1,14 +1,20 @@
 //! Sets of permissions as lists of their names.
-ghost use Rattle.std.specs.Prelude.{List, []};
+ghost use Rattle.std.specs.Prelude.{IfErr, IfOk, List, [], MatchResult, None, Some, ◌<◌, ◌≡◌, length};
+ghost use Rattle.json.specs.Json.{items, value};
+ghost use Rattle.serde_json.specs.Data.{Data, Items, item};
+ghost use Rattle.serde_json.specs.Read.{converted, of_items};
 ghost use Rattle.serde_json.specs.View.{items_view, view};
 ghost use Rattle.warg_crypto.specs.Json.Json.{Returns, ReturnsOrNoMemory};
 ghost use Rattle.warg_saved_states.specs.CanonicalLaws.{texts_canonical};
-ghost use Rattle.warg_saved_states.specs.SavedPermissions.{permission_in, permissions_from, permissions_in, permissions_json};
+ghost use Rattle.warg_saved_states.specs.Next.{ReadsNext};
+ghost use Rattle.warg_saved_states.specs.SavedPermissions.{permission_in, permissions_after, permissions_from, permissions_in, permissions_json};
 ghost use Rattle.warg_saved_states.specs.Writes.{WritesText};
 
+use crate::error::ReadFault;
+use crate::pass::pass_from;
 use crate::value::SavedValue;
 use indexmap::IndexSet;
-use json::Writer;
+use json::{Reader, Token, Writer};
 use serde_json::Value;
 use std::alloc::Global;
 use warg_crypto::json::JsonError;
@@ -63,6 +69,99 @@ fn write_permissions<P: LogPermission>(set: &IndexSet<P>, out: &mut Writer) -> R
     Ok(())
 }
 
+/// The permission of the value that comes next.
+fn next_permission<P: LogPermission>(
+    reader: &mut Reader<'_>,
+    depth: usize,
+) -> Result<Result<P, JsonError>, ReadFault>
+    ensures { ReadsNext (λ p. p) (permission_in P.eq P.permission_named) depth result
+        reader.old reader.new }
+{
+    let Some(token) = reader.next() else {
+        return Err(ReadFault::NotJson);
+    };
+    if let Token::String(text) = token {
+        return Ok(P::from_text(text).ok_or(JsonError::BadText));
+    }
+    match pass_from(token, reader, depth) {
+        Ok(()) => Ok(Err(JsonError::WrongType)),
+        Err(_) => Err(ReadFault::NotJson),
+    }
+}
+
+/// Puts a permission that was read into the set, unless there was a fault before. What is returned is the first fault.
+fn take_permission<P: LogPermission>(
+    set: &mut IndexSet<P>,
+    found: Result<P, JsonError>,
+    fault: Option<JsonError>,
+) -> Result<Option<JsonError>, ReadFault>
+    ensures ok { IfOk result (λ next. (d : Data) →
+        Returns (λ p. p) found (permission_in P.eq P.permission_named d) → (ds : Items) →
+        permissions_after P.eq P.permission_named fault set.old.keys (item d ds)
+        ≡ permissions_after P.eq P.permission_named next set.new.keys ds) }
+    ensures err { IfErr result (λ e. e ≡ ReadFault.OutOfMemory) }
+{
+    if fault.is_some() {
+        return Ok(fault);
+    }
+    match found {
+        Ok(permission) => {
+            drop(set.insert(permission)?);
+            Ok(None)
+        }
+        Err(fault) => Ok(Some(fault)),
+    }
+}
+
+/// The permissions of the items that come next, up to the end of their array, or the first fault among them.
+fn next_permissions<P: LogPermission>(
+    alloc: Global,
+    reader: &mut Reader<'_>,
+    depth: usize,
+) -> Result<Result<IndexSet<P>, JsonError>, ReadFault>
+    ensures { MatchResult result (λ r. (ds : Items) × (length reader.new < length reader.old)
+        × (converted of_items (items (value depth) (length reader.old) reader.old)
+        ≡ Some (ds, reader.new))
+        × Returns (λ s. s.keys) r (permissions_from P.eq P.permission_named [] ds))
+        (λ e. e ≡ ReadFault.NotJson →
+        converted of_items (items (value depth) (length reader.old) reader.old) ≡ None) }
+{
+    let mut set = IndexSet::new(alloc);
+    let mut fault = None;
+    'items: while !reader.take_end_array() {
+        let found = next_permission::<P>(reader, depth)?;
+        fault = take_permission(&mut set, found, fault)?;
+    }
+    match fault {
+        None => Ok(Ok(set)),
+        Some(fault) => Ok(Err(fault)),
+    }
+}
+
+/// The permissions of the list that comes next.
+fn next_set<P: LogPermission>(
+    alloc: Global,
+    reader: &mut Reader<'_>,
+    depth: usize,
+) -> Result<Result<IndexSet<P>, JsonError>, ReadFault>
+    ensures { ReadsNext (λ s. s.keys) (permissions_in P.eq P.permission_named) depth result
+        reader.old reader.new }
+{
+    let Some(token) = reader.next() else {
+        return Err(ReadFault::NotJson);
+    };
+    if let Token::BeginArray = token {
+        if depth == 0 {
+            return Err(ReadFault::NotJson);
+        }
+        return next_permissions(alloc, reader, depth - 1);
+    }
+    match pass_from(token, reader, depth) {
+        Ok(()) => Ok(Err(JsonError::WrongType)),
+        Err(_) => Err(ReadFault::NotJson),
+    }
+}
+
 impl<P: LogPermission> SavedValue for IndexSet<P> {
     ghost Plain = { List P };
 
@@ -92,5 +191,13 @@ impl<P: LogPermission> SavedValue for IndexSet<P> {
 
     fn load(alloc: Global, value: &Value) -> Result<IndexSet<P>, JsonError> {
         permissions_of::<P>(alloc, items_in(value)?)
+    }
+
+    fn read_next(
+        alloc: Global,
+        reader: &mut Reader<'_>,
+        depth: usize,
+    ) -> Result<Result<IndexSet<P>, JsonError>, ReadFault> {
+        next_set(alloc, reader, depth)
     }
 }

@@ -1,4 +1,5 @@
-//! What is asked of a text of JSON. What is not asked for is passed over: its grammar is checked, and nothing is made of it.
+//! What is asked of a text of JSON. What is not asked for is passed over: its grammar is checked, and nothing is made
+//! of it.
 ghost use Rattle.std.specs.Prelude.{Err, IfErr, IfOk, None, OnOk, Some, ◌<◌, ◌≡◌, ◌≤◌, ◌⊎◌, length};
 ghost use Rattle.json.specs.Json.{members, value};
 ghost use Rattle.serde_json.specs.Data.{Data, Members, no_members, null, put};
@@ -18,7 +19,7 @@ use std::alloc::Global;
 pub(crate) const MAX_DEPTH: usize = 127;
 
 /// Whether the name is asked for.
-fn is_asked(asked: &[&str], name: &str) -> bool
+pub(crate) fn is_asked(asked: &[&str], name: &str) -> bool
     ensures { result ≡ is_asked (texts asked.now) name.now }
 {
     asked.contains(&name)
@@ -41,7 +42,11 @@ fn put_copy(
 }
 
 /// Puts null under the name, where fewer than two members stand.
-fn count_name(alloc: Global, name: &str, found: &mut Map<String, Value>) -> Result<(), ReadFault>
+pub(crate) fn count_name(
+    alloc: Global,
+    name: &str,
+    found: &mut Map<String, Value>,
+) -> Result<(), ReadFault>
     ensures few { OnOk result (length (names_of (members_view found.old.entries)) < 2
         → members_view found.new.entries ≡ put name.now null (members_view found.old.entries)) }
     ensures many { OnOk result (2 ≤ length (names_of (members_view found.old.entries))
@@ -58,7 +63,7 @@ fn count_name(alloc: Global, name: &str, found: &mut Map<String, Value>) -> Resu
 /// What is asked of the value that comes next, whose arrays and objects may nest that deep: of an object the members of
 /// those names, as far as that many objects inside one another.
 #[cycle(read)]
-pub(crate) fn read_value(
+pub fn read_value(
     alloc: Global,
     reader: &mut Reader<'_>,
     depth: usize,
@@ -128,10 +133,10 @@ fn read_members(
     Ok(found)
 }
 
-/// Takes the value that comes next, if its name is asked for. Any other is passed over, and of the first two the names are
-/// kept, so that an object with one member can be told.
+/// Takes the value that comes next, if its name is asked for. Any other is passed over, and of the first two the names
+/// are kept, so that an object with one member can be told.
 #[cycle(read)]
-fn take_next(
+pub(crate) fn take_next(
     alloc: Global,
     reader: &mut Reader<'_>,
     depth: usize,
@@ -158,8 +163,8 @@ fn take_next(
     Ok(())
 }
 
-/// What is asked of the text's JSON: of an object the members of those names, as far as that many objects inside one another.
-/// The fault is as of the whole text, also where it lies in what is passed over.
+/// What is asked of the text's JSON: of an object the members of those names, as far as that many objects inside one
+/// another. The fault is as of the whole text, also where it lies in what is passed over.
 pub fn read_asked(
     alloc: Global,
     text: &str,

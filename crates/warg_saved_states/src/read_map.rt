@@ -1,27 +1,28 @@
 //! Maps read from the text of an object, one value after another: a value of the whole would take several times the
 //! memory of the text.
-ghost use Rattle.std.specs.Prelude.{IfSome, List, Ok, OnSome, Some, false, ℕ, ◌<◌, ◌≡◌, length};
+ghost use Rattle.std.specs.Prelude.{IfSome, List, MatchResult, None, Ok, OnSome, Some, ℕ, ◌<◌, ◌≡◌, length};
 ghost use Rattle.std.specs.Option.{option_map};
-ghost use Rattle.std.specs.Str.{bytes_eq};
 ghost use Rattle.indexmap.specs.IndexMap.{insert_entry};
 ghost use Rattle.json.specs.Json.{members, value};
-ghost use Rattle.serde_json.specs.Data.{Data, Members, no_members, object, put};
+ghost use Rattle.serde_json.specs.Data.{Data, Members, no_members};
 ghost use Rattle.serde_json.specs.Find.{get_member};
-ghost use Rattle.serde_json.specs.Read.{converted, of_json, of_members};
-ghost use Rattle.serde_json.specs.View.{members_view, view};
-ghost use Rattle.warg_crypto.specs.Json.Pairs.{pairs_of, pairs_or_none, plain_pairs};
-ghost use Rattle.warg_saved_states.specs.Apart.{IsReadApart, ascends};
+ghost use Rattle.serde_json.specs.Read.{converted, of_json, of_members, read};
+ghost use Rattle.warg_crypto.specs.Json.Json.{Returns};
+ghost use Rattle.warg_crypto.specs.Json.Pairs.{pairs_in, pairs_member, pairs_of, pairs_or_none, plain_pairs};
+ghost use Rattle.warg_saved_states.specs.Ascending.{ascends};
+ghost use Rattle.warg_saved_states.specs.JsonText.{ReturnsOfText, in_text};
+ghost use Rattle.warg_saved_states.specs.Next.{ReadsNext, value_or_fault};
 
+use crate::error::{JsonTextError, ReadFault};
+use crate::found::next_any_members;
 use crate::name::SavedName;
-use crate::owned::owned_value;
+use crate::pass::{pass_from, pass_value};
+use crate::read::MAX_DEPTH;
 use crate::value::SavedValue;
-use json::{Reader, Scratch, Token, Value as TextValue};
-use serde_json::{Map, Value};
+use json::{Reader, Scratch, Token};
 use std::alloc::Global;
+use warg_crypto::json::JsonError;
 use warg_maps::NameMap;
-
-/// How deep the values of a state's members nest at most.
-const MAX_DEPTH: usize = 126;
 
 /// Whether the name comes after the last one, in byte order.
 fn ascends(last: Option<&str>, name: &str) -> bool
@@ -31,16 +32,6 @@ fn ascends(last: Option<&str>, name: &str) -> bool
         Some(last) => last < name,
         None => true,
     }
-}
-
-/// The value that comes next.
-fn next_value(alloc: Global, reader: &mut Reader<'_>, depth: usize) -> Option<Value>
-    ensures read { IfSome result (λ v. converted of_json (value depth reader.old) ≡
-        Some (view v, reader.new)) }
-    ensures shorter { OnSome result (length reader.new < length reader.old) }
-{
-    let value = TextValue::read(alloc, reader, depth).ok()?;
-    owned_value(alloc, &value)
 }
 
 /// The entry of that name, whose value comes next.
@@ -55,8 +46,7 @@ fn next_entry<K: SavedName, V: SavedValue>(
         × (K.key_named name.now ≡ Ok (K.plain e.0)) × (V.reads d ≡ Ok (V.plain e.1))) }
     ensures shorter { OnSome result (length reader.new < length reader.old) }
 {
-    let json = next_value(alloc, reader, depth)?;
-    let Ok(value) = V::load(alloc, &json) else {
+    let Ok(Ok(value)) = V::read_next(alloc, reader, depth) else {
         return None;
     };
     let Ok(key) = K::from_name(alloc, name) else {
@@ -109,90 +99,171 @@ fn next_members<K: SavedName, V: SavedValue>(
     Some(map)
 }
 
-/// The map of the object that comes next.
-fn next_map<K: SavedName, V: SavedValue>(
+/// The map of the members that come next, up to the end of their object. It is given up where a name does not ascend,
+/// or where there is a fault.
+fn quick_members<K: SavedName, V: SavedValue>(
     alloc: Global,
     reader: &mut Reader<'_>,
     depth: usize,
-) -> Option<NameMap<K, V>>
-    ensures read { IfSome result (λ map. (ms : Members)
-        × (converted of_json (value depth reader.old) ≡ Some (object ms, reader.new))
-        × (pairs_of K.key_named V.reads ms ≡ Ok (plain_pairs K.plain V.plain map.entries))) }
-    ensures shorter { OnSome result (length reader.new < length reader.old) }
-{
-    let Some(Token::BeginObject) = reader.next() else {
-        return None;
-    };
-    if depth == 0 {
-        return None;
-    }
-    let map = next_members::<K, V>(alloc, reader, depth - 1)?;
-    Some(map)
-}
-
-/// Puts the value that comes next into the map, under that name.
-fn next_other(
-    alloc: Global,
-    reader: &mut Reader<'_>,
-    name: &str,
-    others: &mut Map<String, Value>,
-) -> Option<()>
-    ensures read { OnSome result ((d : Data) ×
-        (converted of_json (value 126 reader.old) ≡ Some (d, reader.new))
-        × (members_view others.new.entries ≡ put name.now d (members_view others.old.entries))) }
-    ensures shorter { OnSome result (length reader.new < length reader.old) }
-{
-    let value = next_value(alloc, reader, MAX_DEPTH)?;
-    let name = String::from_str(alloc, name).ok()?;
-    drop(others.insert(name, value).ok()?);
-    Some(())
-}
-
-/// The members that come next, up to the end of their object, but those of that name, which are read as a map.
-fn next_parts<K: SavedName, V: SavedValue>(
-    alloc: Global,
-    reader: &mut Reader<'_>,
-    apart: &str,
-) -> Option<(Map<String, Value>, NameMap<K, V>)>
-    ensures { IfSome result (λ p. (ms : Members)
+) -> Result<Result<NameMap<K, V>, JsonError>, ReadFault>
+    ensures { MatchResult result (λ r. (ms : Members) × (length reader.new < length reader.old)
         × (converted (λ js. of_members js no_members)
-        (members (value 126) (length reader.old) reader.old)
-        ≡ Some (ms, reader.new))
-        × ((name : List ℕ) → bytes_eq name apart.now ≡ false
-        → get_member name (members_view p.0.entries) ≡ get_member name ms)
-        × (pairs_or_none K.key_named V.reads (get_member apart.now ms) ≡
-        Ok (plain_pairs K.plain V.plain p.1.entries))) }
+        (members (value depth) (length reader.old) reader.old) ≡ Some (ms, reader.new))
+        × Returns (λ m. plain_pairs K.plain V.plain m.entries) r (pairs_of K.key_named V.reads ms))
+        (λ e. e ≡ ReadFault.NotJson → converted (λ js. of_members js no_members)
+        (members (value depth) (length reader.old) reader.old) ≡ None) }
 {
-    let mut others = Map::new(alloc);
-    let mut map = NameMap::new(alloc);
-    'members: while let Some(name) = reader.next_key().ok()? {
-        if name == apart {
-            map = next_map::<K, V>(alloc, reader, MAX_DEPTH)?;
+    match next_members::<K, V>(alloc, reader, depth) {
+        Some(map) => Ok(Ok(map)),
+        None => Err(ReadFault::GivenUp),
+    }
+}
+
+/// The map of the members that come next, up to the end of their object, or its first fault. The quick way may be given
+/// up.
+fn next_map_members<K: SavedName, V: SavedValue>(
+    alloc: Global,
+    reader: &mut Reader<'_>,
+    depth: usize,
+    is_quick: bool,
+) -> Result<Result<NameMap<K, V>, JsonError>, ReadFault>
+    ensures { MatchResult result (λ r. (ms : Members) × (length reader.new < length reader.old)
+        × (converted (λ js. of_members js no_members)
+        (members (value depth) (length reader.old) reader.old) ≡ Some (ms, reader.new))
+        × Returns (λ m. plain_pairs K.plain V.plain m.entries) r (pairs_of K.key_named V.reads ms))
+        (λ e. e ≡ ReadFault.NotJson → converted (λ js. of_members js no_members)
+        (members (value depth) (length reader.old) reader.old) ≡ None) }
+{
+    if is_quick {
+        return quick_members(alloc, reader, depth);
+    }
+    next_any_members(alloc, reader, depth)
+}
+
+/// The map of the object that comes next, or its first fault.
+pub(crate) fn next_map<K: SavedName, V: SavedValue>(
+    alloc: Global,
+    reader: &mut Reader<'_>,
+    depth: usize,
+    is_quick: bool,
+) -> Result<Result<NameMap<K, V>, JsonError>, ReadFault>
+    ensures { ReadsNext (λ m. plain_pairs K.plain V.plain m.entries) (pairs_in K.key_named V.reads)
+        depth result reader.old reader.new }
+{
+    let Some(token) = reader.next() else {
+        return Err(ReadFault::NotJson);
+    };
+    if let Token::BeginObject = token {
+        if depth == 0 {
+            return Err(ReadFault::NotJson);
+        }
+        return next_map_members(alloc, reader, depth - 1, is_quick);
+    }
+    match pass_from(token, reader, depth) {
+        Ok(()) => Ok(Err(JsonError::WrongType)),
+        Err(_) => Err(ReadFault::NotJson),
+    }
+}
+
+/// The map of the member of that name among those that come next, up to the end of their object.
+fn next_member<K: SavedName, V: SavedValue>(
+    alloc: Global,
+    reader: &mut Reader<'_>,
+    depth: usize,
+    name: &str,
+    is_quick: bool,
+) -> Result<Result<NameMap<K, V>, JsonError>, ReadFault>
+    ensures { MatchResult result (λ r. (ms : Members) × (length reader.new < length reader.old)
+        × (converted (λ js. of_members js no_members)
+        (members (value depth) (length reader.old) reader.old) ≡ Some (ms, reader.new))
+        × Returns (λ m. plain_pairs K.plain V.plain m.entries) r
+        (pairs_or_none K.key_named V.reads (get_member name.now ms)))
+        (λ e. e ≡ ReadFault.NotJson → converted (λ js. of_members js no_members)
+        (members (value depth) (length reader.old) reader.old) ≡ None) }
+{
+    let mut found = Ok(NameMap::new(alloc));
+    'members: while let Some(other) = reader.next_key()? {
+        if other == name {
+            found = next_map::<K, V>(alloc, reader, depth, is_quick)?;
         } else {
-            next_other(alloc, reader, name, &mut others)?;
+            pass_value(reader, depth)?;
         }
     }
-    Some((others, map))
+    Ok(found)
 }
 
-/// The members of the object whose text this is, but those of that name: they are read as a map. `None`: the text is no
-/// such object, a name of the map does not ascend, a number is no whole one below 2^64, or memory ran out.
-pub fn read_apart<K: SavedName, V: SavedValue>(
+/// The map of the member of that name of the object that comes next.
+fn next_object<K: SavedName, V: SavedValue>(
+    alloc: Global,
+    reader: &mut Reader<'_>,
+    depth: usize,
+    name: &str,
+    is_quick: bool,
+) -> Result<Result<NameMap<K, V>, JsonError>, ReadFault>
+    ensures { ReadsNext (λ m. plain_pairs K.plain V.plain m.entries)
+        (pairs_member K.key_named V.reads name.now) depth result reader.old reader.new }
+{
+    let Some(token) = reader.next() else {
+        return Err(ReadFault::NotJson);
+    };
+    if let Token::BeginObject = token {
+        if depth == 0 {
+            return Err(ReadFault::NotJson);
+        }
+        return next_member(alloc, reader, depth - 1, name, is_quick);
+    }
+    match pass_from(token, reader, depth) {
+        Ok(()) => Ok(Err(JsonError::WrongType)),
+        Err(_) => Err(ReadFault::NotJson),
+    }
+}
+
+/// The map of the member of that name of the text's object.
+fn read_member<K: SavedName, V: SavedValue>(
     alloc: Global,
     text: &str,
-    apart: &str,
-) -> Option<(Value, NameMap<K, V>)>
-    ensures { IfSome result (λ p. IsReadApart K.key_named V.reads apart.now text.now (view p.0)
-        (plain_pairs K.plain V.plain p.1.entries)) }
+    name: &str,
+    is_quick: bool,
+) -> Result<Result<NameMap<K, V>, JsonError>, ReadFault>
+    ensures { MatchResult result (λ r. (d : Data) × (read text.now ≡ Some d)
+        × Returns (λ m. plain_pairs K.plain V.plain m.entries) r
+        (pairs_member K.key_named V.reads name.now d))
+        (λ e. e ≡ ReadFault.NotJson → read text.now ≡ None) }
 {
     let mut scratch = Scratch::new(alloc);
-    let mut reader = Reader::new(text, &mut scratch).ok()?;
-    let Some(Token::BeginObject) = reader.next() else {
-        return None;
+    let Ok(mut reader) = Reader::new(text, &mut scratch) else {
+        return Err(ReadFault::OutOfMemory);
     };
-    let (others, map) = next_parts::<K, V>(alloc, &mut reader, apart)?;
+    let found = next_object(alloc, &mut reader, MAX_DEPTH, name, is_quick)?;
     if reader.next().is_some() {
-        return None;
+        return Err(ReadFault::NotJson);
     }
-    Some((Value::Object(others), map))
+    Ok(found)
+}
+
+/// The map, or the fault of the text.
+fn map_or_fault<T: Drop>(read: Result<Result<T, JsonError>, ReadFault>) -> Result<T, JsonTextError>
+    ensures { result ≡ value_or_fault read }
+{
+    match read {
+        Ok(Ok(map)) => Ok(map),
+        Ok(Err(fault)) => Err(JsonTextError::from(fault)),
+        Err(fault) => Err(JsonTextError::from(fault)),
+    }
+}
+
+/// The map of the member of that name of the text's object, empty where it is missing, or the first fault. The text is
+/// read once where the names of the map ascend and no value has a fault, and else once more.
+pub fn map_in_text<K: SavedName, V: SavedValue>(
+    alloc: Global,
+    text: &str,
+    name: &str,
+) -> Result<NameMap<K, V>, JsonTextError>
+    ensures { ReturnsOfText (λ m. plain_pairs K.plain V.plain m.entries) result
+        (in_text (pairs_member K.key_named V.reads name.now) text.now) }
+{
+    if let Ok(Ok(map)) = read_member(alloc, text, name, true) {
+        return Ok(map);
+    }
+    map_or_fault(read_member(alloc, text, name, false))
 }

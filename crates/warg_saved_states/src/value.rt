@@ -7,9 +7,12 @@ ghost use Rattle.warg_crypto.specs.Json.Json.{AreReadBack, ReturnsOrNoMemory, Is
 ghost use Rattle.warg_crypto.specs.Json.JsonTexts.{key_in, key_json};
 ghost use Rattle.warg_crypto.specs.NamedBytes.{NamedBytes};
 ghost use Rattle.warg_saved_states.specs.Canonical.{WritesCanonical, value_depth};
+ghost use Rattle.warg_saved_states.specs.Next.{ReadsNext, apart_memory};
 ghost use Rattle.warg_saved_states.specs.Writes.{WritesText};
 
-use json::Writer;
+use crate::error::ReadFault;
+use crate::read::read_value;
+use json::{Reader, Writer};
 use serde_json::Value;
 use std::alloc::Global;
 use warg_crypto::json::{JsonError, JsonValue};
@@ -54,6 +57,27 @@ pub trait SavedValue: Drop {
     /// The value of JSON, or its first fault.
     fn load(alloc: Global, value: &Value) -> Result<Self, JsonError>
         ensures { ReturnsOrNoMemory plain result (reads (view value.now)) };
+
+    /// The value of the JSON that comes next, or its first fault. Of what is not asked for nothing is made.
+    fn read_next(
+        alloc: Global,
+        reader: &mut Reader<'_>,
+        depth: usize,
+    ) -> Result<Result<Self, JsonError>, ReadFault>
+        ensures { ReadsNext plain reads depth result reader.old reader.new };
+}
+
+/// What was read, or its first fault, unless memory ran out.
+pub fn unless_no_memory<T: Drop>(
+    read: Result<T, JsonError>,
+) -> Result<Result<T, JsonError>, ReadFault>
+    ensures { result ≡ apart_memory read }
+{
+    match read {
+        Ok(value) => Ok(Ok(value)),
+        Err(JsonError::OutOfMemory) => Err(ReadFault::OutOfMemory),
+        Err(fault) => Ok(Err(fault)),
+    }
 }
 
 impl SavedValue for PublicKey {
@@ -87,5 +111,16 @@ impl SavedValue for PublicKey {
 
     fn load(alloc: Global, value: &Value) -> Result<PublicKey, JsonError> {
         PublicKey::from_value(alloc, value)
+    }
+
+    fn read_next(
+        alloc: Global,
+        reader: &mut Reader<'_>,
+        depth: usize,
+    ) -> Result<Result<PublicKey, JsonError>, ReadFault> {
+        match read_value(alloc, reader, depth, &[], 0) {
+            Ok(json) => unless_no_memory(PublicKey::from_value(alloc, &json)),
+            Err(fault) => Err(fault),
+        }
     }
 }

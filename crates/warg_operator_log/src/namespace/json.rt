@@ -8,6 +8,7 @@ ghost use Rattle.warg_operator_log.specs.NamespaceJson.{defined_in, imported_in,
 ghost use Rattle.warg_operator_log.specs.NamespaceMap.{namespace_view};
 ghost use Rattle.warg_operator_log.specs.Namespaces.{Namespace};
 ghost use Rattle.warg_operator_log.specs.SameNamespaceLaws.{namespace_decides};
+ghost use Rattle.warg_saved_states.specs.Next.{ReadsNext};
 ghost use Rattle.warg_saved_states.specs.Writes.{WritesText};
 
 use crate::namespace::NamespaceState;
@@ -17,7 +18,7 @@ use warg_crypto::json::members::{
     member_in, object_value, put_member, put_value, text_in, text_value,
 };
 use warg_crypto::json::{JsonError, JsonValue};
-use warg_saved_states::{SavedValue, Writer};
+use warg_saved_states::{ReadFault, Reader, SavedValue, Writer, read_value, unless_no_memory};
 
 /// The JSON of an imported namespace.
 fn imported_value(alloc: Global, registry: &str) -> Result<Value, JsonError>
@@ -173,6 +174,28 @@ fn write_saved(state: &NamespaceState, out: &mut Writer) -> Result<(), JsonError
     Ok(())
 }
 
+/// The namespace of a state's JSON.
+fn saved_state(alloc: Global, value: &Value) -> Result<NamespaceState, JsonError>
+    ensures { ReturnsOrNoMemory namespace_view result (saved_namespace_in (view value.now)) }
+{
+    NamespaceState::from_value(alloc, member_in(value, "state")?)
+}
+
+/// The namespace of the JSON that comes next, of which the members of these names are asked for.
+fn next_state(
+    alloc: Global,
+    reader: &mut Reader<'_>,
+    depth: usize,
+) -> Result<Result<NamespaceState, JsonError>, ReadFault>
+    ensures { ReadsNext namespace_view saved_namespace_in depth result reader.old reader.new }
+{
+    let asked = ["state", "imported", "registry"];
+    match read_value(alloc, reader, depth, &asked, 3) {
+        Ok(json) => unless_no_memory(saved_state(alloc, &json)),
+        Err(fault) => Err(fault),
+    }
+}
+
 impl SavedValue for NamespaceState {
     ghost Plain = { Namespace };
 
@@ -199,6 +222,14 @@ impl SavedValue for NamespaceState {
     }
 
     fn load(alloc: Global, value: &Value) -> Result<NamespaceState, JsonError> {
-        NamespaceState::from_value(alloc, member_in(value, "state")?)
+        saved_state(alloc, value)
+    }
+
+    fn read_next(
+        alloc: Global,
+        reader: &mut Reader<'_>,
+        depth: usize,
+    ) -> Result<Result<NamespaceState, JsonError>, ReadFault> {
+        next_state(alloc, reader, depth)
     }
 }

@@ -25,9 +25,7 @@ use std::alloc::Global;
 use warg_crypto::json::members::object_value;
 use warg_crypto::json::{Incoherence, JsonError, JsonValue};
 use warg_crypto::signing::{KeyID, PublicKey};
-use warg_log::{
-    Log, SavedParts, members_text, members_value, read_parts, second_apart, text_parts,
-};
+use warg_log::{Log, SavedParts, members_text, members_value, read_parts, text_parts};
 use warg_log_records::operator::Permission;
 use warg_maps::NameMap;
 use warg_registry::PackageName;
@@ -139,8 +137,7 @@ impl LogState {
     pub fn from_json(alloc: Global, text: &str) -> Result<LogState, JsonTextError>
         ensures { ReturnsOfText (λ s. s) result (in_text state_in text.now) }
     {
-        let apart: Option<Parts> = second_apart(alloc, text, "keys", "namespaces");
-        let parts = text_parts(alloc, text, "keys", "namespaces", apart)?;
+        let parts: Parts = text_parts(alloc, text, "keys", "namespaces")?;
         match state_of_parts(alloc, parts) {
             Ok(state) => Ok(state),
             Err(error) => Err(JsonTextError::from(error)),

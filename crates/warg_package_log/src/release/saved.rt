@@ -9,6 +9,7 @@ ghost use Rattle.warg_package_log.specs.ReleaseJson.{release_in, release_json, r
 ghost use Rattle.warg_package_log.specs.CanonicalReleases.{release_canonical};
 ghost use Rattle.warg_package_log.specs.Releases.{ReleaseView};
 ghost use Rattle.warg_package_log.specs.declared.release.ReleaseState.TheVariants.{Released, Yanked};
+ghost use Rattle.warg_saved_states.specs.Next.{ReadsNext};
 ghost use Rattle.warg_saved_states.specs.Writes.{WritesText};
 
 use crate::release::{Release, ReleaseState};
@@ -18,7 +19,7 @@ use warg_crypto::hash::AnyHash;
 use warg_crypto::json::{JsonError, JsonValue};
 use warg_crypto::signing::KeyID;
 use warg_crypto::time::Timestamp;
-use warg_saved_states::{SavedValue, Writer};
+use warg_saved_states::{ReadFault, Reader, SavedValue, Writer, read_value, unless_no_memory};
 
 /// Refuses a time before the epoch.
 fn check_time(time: &Timestamp) -> Result<(), JsonError>
@@ -108,6 +109,29 @@ fn write_release(alloc: Global, release: &Release, out: &mut Writer) -> Result<(
     Ok(())
 }
 
+/// The release of the JSON that comes next, of which the members of these names are asked for.
+fn next_release(
+    alloc: Global,
+    reader: &mut Reader<'_>,
+    depth: usize,
+) -> Result<Result<Release, JsonError>, ReadFault>
+    ensures { ReadsNext release_view release_in depth result reader.old reader.new }
+{
+    let asked = [
+        "recordId",
+        "version",
+        "by",
+        "timestamp",
+        "state",
+        "status",
+        "content",
+    ];
+    match read_value(alloc, reader, depth, &asked, 2) {
+        Ok(json) => unless_no_memory(Release::from_value(alloc, &json)),
+        Err(fault) => Err(fault),
+    }
+}
+
 impl SavedValue for Release {
     ghost Plain = { ReleaseView };
 
@@ -143,5 +167,13 @@ impl SavedValue for Release {
 
     fn load(alloc: Global, value: &Value) -> Result<Release, JsonError> {
         Release::from_value(alloc, value)
+    }
+
+    fn read_next(
+        alloc: Global,
+        reader: &mut Reader<'_>,
+        depth: usize,
+    ) -> Result<Result<Release, JsonError>, ReadFault> {
+        next_release(alloc, reader, depth)
     }
 }

@@ -28,7 +28,7 @@ use std::alloc::Global;
 use warg_crypto::json::members::object_value;
 use warg_crypto::json::{Incoherence, JsonError, JsonValue};
 use warg_crypto::signing::{KeyID, PublicKey};
-use warg_log::{Log, SavedParts, first_apart, members_text, members_value, read_parts, text_parts};
+use warg_log::{Log, SavedParts, members_text, members_value, read_parts, text_parts};
 use warg_log_records::package::Permission;
 use warg_maps::NameMap;
 use warg_saved_states::JsonTextError;
@@ -138,8 +138,7 @@ impl LogState {
     pub fn from_json(alloc: Global, text: &str) -> Result<LogState, JsonTextError>
         ensures { ReturnsOfText (λ s. s) result (in_text state_in text.now) }
     {
-        let apart: Option<Parts> = first_apart(alloc, text, "releases", "keys");
-        let parts = text_parts(alloc, text, "releases", "keys", apart)?;
+        let parts: Parts = text_parts(alloc, text, "releases", "keys")?;
         match state_of_parts(alloc, parts) {
             Ok(state) => Ok(state),
             Err(error) => Err(JsonTextError::from(error)),

@@ -4,7 +4,7 @@ use Rattle.json.specs.Json.{read_key, value}
 use Rattle.json.proofs.Grammar.{read_key-shorter}
 use Rattle.serde_json.specs.Data.{no_members}
 use Rattle.warg_crypto.specs.Json.Pairs.{plain_pairs}
-use Rattle.warg_saved_states.specs.Apart.{ascends}
+use Rattle.warg_saved_states.specs.Ascending.{ascends}
 use Rattle.warg_saved_states.proofs.NextMembers.{read_one_more}
 use Rattle.warg_saved_states.proofs.TextReading.{members_over}
 use Rattle.warg_saved_states.proofs.read_map.next_members.Goals as goal
