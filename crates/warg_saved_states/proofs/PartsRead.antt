@@ -28,7 +28,11 @@ flipped a b other = by (bytes_eq b a) refl
 
 -- members that were read of one text are the same
 same_members : (o : Option (Members × List Token)) (a b : Members) (r : List Token) → o ≡ Some (a, r) → o ≡ Some (b, r) → a ≡ b
-same_members o a b r p q = cc
+same_members o a b r p q = ap those (sym p ∙ q)
+  where
+    those : Option (Members × List Token) → Members
+    those None = no_members
+    those (Some read) = read.0
 
 module _ {X Y : Type 0} (view : X → Y) (reads : Option Data → Result Y JsonError) (name : List ℕ) (p : Parse Json) (start : List Token) where
   -- the map of the members that were read, whichever they are

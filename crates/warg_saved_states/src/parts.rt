@@ -1,7 +1,10 @@
 //! The parts of a text's object, read in one pass: what is asked for, and three maps whose names ascend and that have
 //! no fault.
-ghost use Rattle.std.specs.Prelude.{IfSome, IsTrue, Ok, Some, suc, ◌<◌, ◌≡◌, ◌≤◌, length};
-ghost use Rattle.json.specs.Json.{members, value};
+ghost use Rattle.std.specs.Option.{option_map};
+ghost use Rattle.std.specs.Prelude.{IfSome, IsTrue, Ok, Some, [], ◌∷◌, suc, ◌<◌, ◌≡◌, ◌≤◌, length};
+ghost use Rattle.json.specs.Json.{members, read_key, value};
+ghost use Rattle.json.specs.Lex.{tokens};
+ghost use Rattle.json.specs.Token as token;
 ghost use Rattle.serde_json.specs.Data.{Data, Members, no_members, null, put};
 ghost use Rattle.serde_json.specs.Find.{get_member};
 ghost use Rattle.serde_json.specs.Read.{converted, of_json, of_members, read};
@@ -31,6 +34,14 @@ fn are_apart(asked: &[&str], first: &str, second: &str, third: &str) -> bool
         && !is_asked(asked, third)
 }
 
+/// The name of the member that comes next, or none at the end of the object. `None`: there is neither.
+fn next_name<'a>(reader: &mut Reader<'a>) -> Option<Option<&'a str>>
+    ensures { IfSome result (λ name. read_key reader.old
+        ≡ Some (option_map (λ s. s.now) name, reader.new)) }
+{
+    reader.next_key().ok()
+}
+
 /// The map of the object that comes next, whose name is counted among those that were found.
 fn take_map<K: SavedName, V: SavedValue>(
     alloc: Global,
@@ -50,7 +61,9 @@ fn take_map<K: SavedName, V: SavedValue>(
     let Ok(Ok(map)) = next_map::<K, V>(alloc, reader, depth, true) else {
         return None;
     };
-    count_name(alloc, name, found).ok()?;
+    let Ok(()) = count_name(alloc, name, found) else {
+        return None;
+    };
     Some(map)
 }
 
@@ -97,7 +110,7 @@ where
     let mut firsts = NameMap::new(alloc);
     let mut seconds = NameMap::new(alloc);
     let mut thirds = NameMap::new(alloc);
-    'members: while let Some(name) = reader.next_key().ok()? {
+    'members: while let Some(name) = next_name(reader)? {
         if name == first {
             firsts = take_map::<J, U>(alloc, reader, depth, name, &mut found)?;
         } else if name == second {
@@ -105,10 +118,30 @@ where
         } else if name == third {
             thirds = take_map::<L, W>(alloc, reader, depth, name, &mut found)?;
         } else {
-            take_next(alloc, reader, depth, asked, levels, name, &mut found).ok()?;
+            let Ok(()) = take_next(alloc, reader, depth, asked, levels, name, &mut found) else {
+                return None;
+            };
         }
     }
     Some((found, firsts, seconds, thirds))
+}
+
+/// A reader of the text that is behind the brace with which its object begins.
+fn opened<'a>(text: &'a str, scratch: &'a mut Scratch<Global>) -> Option<Reader<'a>>
+    ensures { IfSome result (λ reader. tokens text.now ≡ token.Token.begin_object ∷ reader) }
+{
+    let mut reader = Reader::new(text, scratch).ok()?;
+    let Some(Token::BeginObject) = reader.next() else {
+        return None;
+    };
+    Some(reader)
+}
+
+/// Whether no token is left.
+fn is_over(reader: &mut Reader<'_>) -> bool
+    ensures { IsTrue result → reader.old ≡ [] }
+{
+    reader.next().is_none()
 }
 
 /// What is asked of the text's object: the members of those names, as far as that many objects inside one another below
@@ -140,10 +173,7 @@ where
         ≡ Ok (plain_pairs L.plain W.plain p.3.entries))) }
 {
     let mut scratch = Scratch::new(alloc);
-    let mut reader = Reader::new(text, &mut scratch).ok()?;
-    let Some(Token::BeginObject) = reader.next() else {
-        return None;
-    };
+    let mut reader = opened(text, &mut scratch)?;
     let (found, firsts, seconds, thirds) = next_parts::<J, U, K, V, L, W>(
         alloc,
         &mut reader,
@@ -154,7 +184,7 @@ where
         second,
         third,
     )?;
-    if reader.next().is_some() {
+    if !is_over(&mut reader) {
         return None;
     }
     Some((Value::Object(found), firsts, seconds, thirds))

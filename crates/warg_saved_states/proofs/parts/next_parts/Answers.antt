@@ -1,4 +1,5 @@
-use Rattle.std.proofs.Common.{◌≡◌, [], Some, None, Ok, true, false, ap, sym, arith, rules}
+use Rattle.std.proofs.Common.{◌≡◌, [], Some, None, Ok, true, false, ap, sym, ◌∙◌, arith, rules}
+use Rattle.std.specs.Option.{option_map}
 use Rattle.std.specs.Str.{bytes_eq}
 use Rattle.json.specs.Json.{read_key, value}
 use Rattle.json.proofs.Grammar.{read_key-shorter}
@@ -29,16 +30,16 @@ pub members-smaller-then-eq : goal.members-smaller-then-eq
 members-smaller-then-eq g c =
     let l = c.members in
     let k = c.in-Some.name.now in
-    let s = c.next_key.new.self in
-    let named : read_key l.reader ≡ Some (Some k, s) = grind arith in
+    let s = c.next_name.new.reader in
+    let named : read_key l.reader ≡ Some (Some k, s) = c.in_ok-name.ensures ∙ ap (λ n. Some (option_map (λ t. t.now) n, s)) c.in-Some.is in
     omega (arith, read_key-shorter l.reader (Some k) s named, c.in_ok-firsts.ensures.1)
 
 pub members-preserved-then-eq : goal.members-preserved-then-eq
 members-preserved-then-eq g c =
     let l = c.members in
     let k = c.in-Some.name.now in
-    let s = c.next_key.new.self in
-    let named : read_key l.reader ≡ Some (Some k, s) = grind arith in
+    let s = c.next_name.new.reader in
+    let named : read_key l.reader ≡ Some (Some k, s) = c.in_ok-name.ensures ∙ ap (λ n. Some (option_map (λ t. t.now) n, s)) c.in-Some.is in
     let less = read_key-shorter l.reader (Some k) s named in
     let apart = c.are_apart.ensures (grind arith) in
     let own : bytes_eq k c.args.first.now ≡ true = grind arith in
@@ -52,16 +53,16 @@ pub members-smaller-then-eq-2 : goal.members-smaller-then-eq-2
 members-smaller-then-eq-2 g c =
     let l = c.members in
     let k = c.in-Some.name.now in
-    let s = c.next_key.new.self in
-    let named : read_key l.reader ≡ Some (Some k, s) = grind arith in
+    let s = c.next_name.new.reader in
+    let named : read_key l.reader ≡ Some (Some k, s) = c.in_ok-name.ensures ∙ ap (λ n. Some (option_map (λ t. t.now) n, s)) c.in-Some.is in
     omega (arith, read_key-shorter l.reader (Some k) s named, c.in_ok-seconds.ensures.1)
 
 pub members-preserved-then-eq-2 : goal.members-preserved-then-eq-2
 members-preserved-then-eq-2 g c =
     let l = c.members in
     let k = c.in-Some.name.now in
-    let s = c.next_key.new.self in
-    let named : read_key l.reader ≡ Some (Some k, s) = grind arith in
+    let s = c.next_name.new.reader in
+    let named : read_key l.reader ≡ Some (Some k, s) = c.in_ok-name.ensures ∙ ap (λ n. Some (option_map (λ t. t.now) n, s)) c.in-Some.is in
     let less = read_key-shorter l.reader (Some k) s named in
     let apart = c.are_apart.ensures (grind arith) in
     let own : bytes_eq k c.args.second.now ≡ true = grind arith in
@@ -75,16 +76,16 @@ pub members-smaller-then-eq-3 : goal.members-smaller-then-eq-3
 members-smaller-then-eq-3 g c =
     let l = c.members in
     let k = c.in-Some.name.now in
-    let s = c.next_key.new.self in
-    let named : read_key l.reader ≡ Some (Some k, s) = grind arith in
+    let s = c.next_name.new.reader in
+    let named : read_key l.reader ≡ Some (Some k, s) = c.in_ok-name.ensures ∙ ap (λ n. Some (option_map (λ t. t.now) n, s)) c.in-Some.is in
     omega (arith, read_key-shorter l.reader (Some k) s named, c.in_ok-thirds.ensures.1)
 
 pub members-preserved-then-eq-3 : goal.members-preserved-then-eq-3
 members-preserved-then-eq-3 g c =
     let l = c.members in
     let k = c.in-Some.name.now in
-    let s = c.next_key.new.self in
-    let named : read_key l.reader ≡ Some (Some k, s) = grind arith in
+    let s = c.next_name.new.reader in
+    let named : read_key l.reader ≡ Some (Some k, s) = c.in_ok-name.ensures ∙ ap (λ n. Some (option_map (λ t. t.now) n, s)) c.in-Some.is in
     let less = read_key-shorter l.reader (Some k) s named in
     let apart = c.are_apart.ensures (grind arith) in
     let own : bytes_eq k c.args.third.now ≡ true = grind arith in
@@ -94,18 +95,26 @@ members-preserved-then-eq-3 g c =
     apart l.reader s c.take_map-then-eq-3.new.reader (members_view l.found.entries) (members_view c.take_map-then-eq-3.new.found.entries) k entry.0 named less entry.2 entry.1
     l.firsts l.seconds l.thirds c.in_ok-thirds.thirds own entry.4 entry.5 entry.3 l.invariant
 
+pub members-smaller : goal.members-smaller
+members-smaller g c =
+    let l = c.members in
+    let k = c.in-Some.name.now in
+    let s = c.next_name.new.reader in
+    let named : read_key l.reader ≡ Some (Some k, s) = c.in_ok-name.ensures ∙ ap (λ n. Some (option_map (λ t. t.now) n, s)) c.in-Some.is in
+    omega (arith, read_key-shorter l.reader (Some k) s named, c.in-Ok.ensures.shorter)
+
 pub members-preserved : goal.members-preserved
 members-preserved g c =
     let l = c.members in
     let k = c.in-Some.name.now in
-    let s = c.next_key.new.self in
-    let named : read_key l.reader ≡ Some (Some k, s) = grind arith in
+    let s = c.next_name.new.reader in
+    let named : read_key l.reader ≡ Some (Some k, s) = c.in_ok-name.ensures ∙ ap (λ n. Some (option_map (λ t. t.now) n, s)) c.in-Some.is in
     let less = read_key-shorter l.reader (Some k) s named in
     let apart = c.are_apart.ensures (grind arith) in
     let not_first : bytes_eq k c.args.first.now ≡ false = grind arith in
     let not_second : bytes_eq k c.args.second.now ≡ false = grind arith in
     let not_third : bytes_eq k c.args.third.now ≡ false = grind arith in
-    let done = c.in_ok-take_next.ensures in
+    let done = c.in-Ok.ensures in
     parts_other (λ m. plain_pairs g.J.SavedName.plain g.U.SavedValue.plain m.entries) (pairs_or_none g.J.SavedName.key_named g.U.SavedValue.reads) (λ m. plain_pairs g.K.SavedName.plain g.V.SavedValue.plain m.entries) (pairs_or_none g.K.SavedName.key_named g.V.SavedValue.reads) (λ m. plain_pairs g.L.SavedName.plain g.W.SavedValue.plain m.entries) (pairs_or_none g.L.SavedName.key_named g.W.SavedValue.reads)
     (texts c.args.asked.now) c.args.levels c.args.first.now c.args.second.now c.args.third.now (value c.args.depth) c.args.reader.now
     apart l.reader s c.take_next.new.reader (members_view l.found.entries) (members_view c.take_next.new.found.entries) k done.ok.0 named less done.ok.1 done.shorter
@@ -116,4 +125,4 @@ returns g c =
     let l = c.members in
     parts_end (λ m. plain_pairs g.J.SavedName.plain g.U.SavedValue.plain m.entries) (pairs_or_none g.J.SavedName.key_named g.U.SavedValue.reads) (λ m. plain_pairs g.K.SavedName.plain g.V.SavedValue.plain m.entries) (pairs_or_none g.K.SavedName.key_named g.V.SavedValue.reads) (λ m. plain_pairs g.L.SavedName.plain g.W.SavedValue.plain m.entries) (pairs_or_none g.L.SavedName.key_named g.W.SavedValue.reads)
     (texts c.args.asked.now) c.args.levels c.args.first.now c.args.second.now c.args.third.now (value c.args.depth) c.args.reader.now
-    l.reader c.next_key.new.self (members_view l.found.entries) l.firsts l.seconds l.thirds (grind arith) l.invariant
+    l.reader c.next_name.new.reader (members_view l.found.entries) l.firsts l.seconds l.thirds (grind arith) l.invariant

@@ -16,9 +16,9 @@ use Rattle.warg_saved_states.proofs.parts.parts_in_text.Goals as goal
 
 pub returns : goal.returns
 returns g c =
-    let start = c.next.new.self in
-    let text : tokens c.args.text.now ≡ Token.begin_object ∷ start = grind arith in
-    let end : c.next_parts.new.reader ≡ [] = grind arith in
+    let start = c.in_ok-reader.reader in
+    let text : tokens c.args.text.now ≡ Token.begin_object ∷ start = c.in_ok-reader.ensures in
+    let end : c.next_parts.new.reader ≡ [] = c.is_over.ensures (grind arith) in
     let opened = ap (converted of_json) (ap (value 127) text ∙ value-begin_object 127 start (omega arith)) ∙ converted-object (members (value 126) (length start) start) in
     let read = c.in_ok-found.ensures in (
       object read.0,
