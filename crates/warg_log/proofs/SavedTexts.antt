@@ -39,10 +39,10 @@ module _ {A B : Type 0} (first : Data → Result A JsonError) (next : A → Data
     where
       by_read : (d : Data) (r : Result A JsonError) → or_fault r ≡ Err e → or_fault (r >>= λ x. next x d) ≡ Err e
       by_read d (Ok x) h = absurd cc
-      by_read d (Err x) h = ap Err (same_fault {A} (text_fault x) e h)
+      by_read d (Err x) h = ap Err (same_fault {A = A} (text_fault x) e h)
 
       by : (o : Option Data) → of_json_in first o ≡ Err e → of_json_in both o ≡ Err e
-      by None h = ap Err (same_fault {A} NotJson e h)
+      by None h = ap Err (same_fault {A = A} NotJson e h)
       by (Some d) h = by_read d (first d) h
 
   -- where it was read, the next is what is left

@@ -98,8 +98,12 @@ fn quick_parts<P: LogPermission, K: SavedName, V: SavedValue, L: SavedName, W: S
         first,
         second,
     )?;
-    let algorithm = algorithm_member(alloc, &value).ok()?;
-    let head = head_member(alloc, &value).ok()?;
+    let Ok(algorithm) = algorithm_member(alloc, &value) else {
+        return None;
+    };
+    let Ok(head) = head_member(alloc, &value) else {
+        return None;
+    };
     Some(SavedParts {
         algorithm,
         head,
