@@ -155,6 +155,7 @@ other_forms =
       forms = refused ∷ bad_line ∷ (a_text (codes "unsigned") ∷ a_text (codes "message") ∷ []) ∷
           (a_text (codes "record") ∷ []) ∷ [];
     }
+    ∷ record { command = codes "log-id"; forms = (a_text (codes "id") ∷ []) ∷ [] }
     ∷ record { command = codes "prove"; forms = none ∷ (a_json (codes "checkpoint") ∷ []) ∷ proof ∷ [] }
     ∷ record {
       command = codes "verify";

@@ -165,7 +165,7 @@ const STATE: Form = Form {
     parts: &[Part::Json("state")],
 };
 
-static OTHER_FORMS: [CommandForms; 11] = [
+static OTHER_FORMS: [CommandForms; 12] = [
     CommandForms {
         command: "id",
         forms: &[
@@ -262,6 +262,12 @@ static OTHER_FORMS: [CommandForms; 11] = [
                 parts: &[Part::Text("record")],
             },
         ],
+    },
+    CommandForms {
+        command: "log-id",
+        forms: &[Form {
+            parts: &[Part::Text("id")],
+        }],
     },
     CommandForms {
         command: "prove",

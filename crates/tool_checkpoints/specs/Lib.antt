@@ -2,3 +2,4 @@ pub mod Words
 pub mod Proofs
 pub mod RegistryLeaves
 pub mod ProofTexts
+pub mod LogIdTexts

@@ -23,8 +23,8 @@ use warg_printable::printed_line;
 use warg_registry::{Checkpoint, LogId, LogLeaf};
 use warg_transparency::{LogProof, MapProof, ProofTextError};
 
-// The error of a command for a word that is none of its kind.
-fn word_error(alloc: Global, word: &str, kind: &str) -> CommandError
+/// The error of a command for a word that is none of its kind.
+pub(crate) fn word_error(alloc: Global, word: &str, kind: &str) -> CommandError
     ensures { IfOutput IsUnusable result }
 {
     let sentence = match format!(in alloc; "weoldrin: \"{word}\" is no {kind}") {

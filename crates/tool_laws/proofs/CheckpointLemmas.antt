@@ -7,7 +7,7 @@ use Rattle.json.specs.Print.{escape, escape_byte, quoted}
 use Rattle.serde_json.specs.Data.{member, no_members, number, object, string, unsigned}
 use Rattle.serde_json.specs.Written.{compact_text}
 use Rattle.sha2.specs.Sha256.{sha256}
-use Rattle.warg_crypto.specs.HashText.{hash_text}
+use Rattle.warg_crypto.specs.HashText.{hash_text, sha256_hash_of}
 use Rattle.warg_audit.specs.Files.Files.{Files}
 use Rattle.warg_audit.specs.Files.OutputData.{OutputData}
 use Rattle.warg_registry.specs.RegistryJson.{checkpoint_json}
@@ -17,9 +17,11 @@ use Rattle.warg_registry.specs.declared.log_id.LogId.{LogId}
 use Rattle.warg_saved_states.specs.Texts.{text_of}
 use Rattle.warg_transparency.specs.MapTree.{way_of}
 use Rattle.warg_transparency.specs.Texts.{log_proof_text, map_proof_text}
+use Rattle.tool_checkpoints.specs.LogIdTexts.{IsLogIdAnswer, id_line}
 use Rattle.tool_checkpoints.specs.ProofTexts.{IsByLeaves, IsCheckpointText, IsConsistencyText, IsHeadText, IsInclusionText, IsProofAnswer, IsProved, checkpoint_line, consistency_of, inclusion_of, no_leaf, of_leaves}
 use Rattle.tool_checkpoints.specs.Proofs.{IsAbsenceVerdict, IsConsistencyVerdict, IsHeadVerdict, IsInclusionVerdict, IsStatementVerdict, IsVerdict, log_proof_line, map_proof_line}
 use Rattle.tool_checkpoints.specs.RegistryLeaves.{entries_of}
+use Rattle.tool_words.specs.declared.statement.NamedLog.{NamedLog}
 use Rattle.tool_words.specs.declared.statement.Statement.{Statement}
 use Rattle.tool_words.specs.declared.statement.Statement.TheVariants as statement
 use Rattle.tool_words.specs.declared.statement.Wanted.{Wanted}
@@ -27,12 +29,22 @@ use Rattle.tool_words.specs.declared.statement.Wanted.TheVariants as wanted
 use Rattle.warg_merkle.specs.Extensions.{consistency_proof}
 use Rattle.warg_merkle.specs.Trees.{inclusion_path}
 use Rattle.tool_laws.specs.Plain.Plain.{AreBytes, is_plain, is_sign}
+use Rattle.tool_laws.proofs.PlainLemmas.ByteLemmas.{sha256_bytes}
 use Rattle.tool_laws.proofs.PlainLemmas.PlainLemmas.{and_first, and_then, plain_append, plain_cons}
 use Rattle.tool_laws.proofs.PlainLemmas.WordLemmas.{decimal_plain, hash_plain}
 use Rattle.warg_printable.specs.Lines.{IsPrintedText}
 use Rattle.tool_laws.proofs.FileLemmas.{by_file_clean, lines_clean, silent_clean, words_clean}
 use Rattle.tool_laws.proofs.LineLemmas.{IsClean, clean_line, clean_same, line_text, plain_line}
 use Rattle.tool_laws.proofs.ProofLemmas.{AllBytes, consistency_bytes, inclusion_bytes, log_proof_plain, map_proof_plain, root_bytes, tree_bytes, way_bytes}
+
+-- ---- ids of logs
+
+-- the id of a log by its name
+pub log_id_clean : (log : NamedLog) (printed : OutputData) → IsLogIdAnswer log printed → IsClean printed
+log_id_clean log printed h =
+    words_clean printed h (λ message hashes is.
+    clean_line printed (id_line message) is
+    (plain_line (hash_text (sha256_hash_of message)) (hash_plain (sha256_hash_of message) (sha256_bytes message))))
 
 -- ---- statements
 

@@ -48,6 +48,7 @@ module _ (look : Look) (names : ArePrintable look.names) (text : List ℕ) (h : 
   layout_clean (request.Audits kind paths allows_empty) = h
   layout_clean (request.Show kind path) = (log_lines look (lines text), shown-log_layout look names text (lines_shown text h))
   layout_clean (request.Latest requirement path) = h
+  layout_clean (request.LogId log) = h
   layout_clean (request.Prove wanted path) = h
   layout_clean (request.Verify statement) = h
   layout_clean (request.Ask kind it) = question_layout it
@@ -61,6 +62,7 @@ makes_same (request.Audit kind path demands shows_path) look plain printed e mad
 makes_same (request.Audits kind paths allows_empty) look plain printed e made = tt
 makes_same (request.Show kind path) look plain printed e made = tt
 makes_same (request.Latest requirement path) look plain printed e made = tt
+makes_same (request.LogId log) look plain printed e made = tt
 makes_same (request.Prove wanted path) look plain printed e made = tt
 makes_same (request.Verify statement) look plain printed e made = tt
 makes_same (request.Ask kind question) look plain printed e made = tt

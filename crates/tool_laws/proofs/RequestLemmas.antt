@@ -31,7 +31,7 @@ use Rattle.tool_words.specs.declared.request.Request.TheVariants as request
 use Rattle.tool_laws.specs.Plain.Plain.{is_plain}
 use Rattle.tool_laws.specs.Premises.{IfMakes}
 use Rattle.tool_laws.proofs.AuditLemmas.{many_clean, one_clean}
-use Rattle.tool_laws.proofs.CheckpointLemmas.{proof_clean, statement_clean}
+use Rattle.tool_laws.proofs.CheckpointLemmas.{log_id_clean, proof_clean, statement_clean}
 use Rattle.tool_laws.proofs.FileLemmas.{lines_clean, words_clean}
 use Rattle.tool_laws.proofs.KindLemmas.{operator_plain, package_plain}
 use Rattle.tool_laws.proofs.LatestLemmas.{id_clean, latest_of_clean}
@@ -107,6 +107,7 @@ request_clean json belongs old new (request.Audit kind path demands shows_path) 
 request_clean json belongs old new (request.Audits kind paths allows_empty) printed h made = many_clean json kind belongs old allows_empty (texts paths.items) printed h
 request_clean json belongs old new (request.Show kind path) printed h made = shown_clean kind belongs old path.now printed h
 request_clean json belongs old new (request.Latest requirement path) printed h made = latest_clean belongs old requirement.now path.now printed h
+request_clean json belongs old new (request.LogId log) printed h made = log_id_clean log printed h
 request_clean json belongs old new (request.Prove wanted path) printed h made = proof_clean old wanted path.now printed h
 request_clean json belongs old new (request.Verify statement) printed h made = statement_clean old statement printed h
 request_clean json belongs old new (request.Ask kind question) printed h made = asked_clean kind belongs old question printed h

@@ -24,6 +24,7 @@ IfMakes (request.Audit kind path demands shows_path) text = Unit {0}
 IfMakes (request.Audits kind paths allows_empty) text = Unit {0}
 IfMakes (request.Show kind path) text = Unit {0}
 IfMakes (request.Latest requirement path) text = Unit {0}
+IfMakes (request.LogId log) text = Unit {0}
 IfMakes (request.Prove wanted path) text = Unit {0}
 IfMakes (request.Verify statement) text = Unit {0}
 IfMakes (request.Ask kind question) text = Unit {0}

@@ -5,6 +5,7 @@ ghost use Rattle.tool_answers.specs.Verdicts.{IsNegative};
 ghost use Rattle.warg_audit.specs.Answers.{IsIdAnswer};
 ghost use Rattle.warg_audit.specs.LogKinds.{operator_log, package_log};
 ghost use Rattle.warg_audit.specs.Printouts.{OutputData};
+ghost use Rattle.tool_checkpoints.specs.LogIdTexts.{IsLogIdAnswer};
 ghost use Rattle.tool_checkpoints.specs.ProofTexts.{IsProofAnswer};
 ghost use Rattle.tool_checkpoints.specs.Proofs.{IsStatementVerdict};
 ghost use Rattle.warg_audit.specs.Files.Files.{Files};
@@ -18,6 +19,7 @@ ghost use Rattle.tool_changes.specs.Tasks.{IsDoneAnswer};
 ghost use Rattle.tool_words.specs.declared.request.Demands.{Demands};
 ghost use Rattle.tool_words.specs.declared.request.Invocation.{Invocation};
 ghost use Rattle.tool_words.specs.declared.request.LogQuery.{LogQuery};
+ghost use Rattle.tool_words.specs.declared.statement.NamedLog.{NamedLog};
 ghost use Rattle.tool_words.specs.declared.statement.Statement.{Statement};
 ghost use Rattle.tool_words.specs.declared.statement.Wanted.{Wanted};
 ghost use Rattle.tool_words.specs.declared.task.Task.{Task};
@@ -68,6 +70,12 @@ pub fn questions_are_printed()
     ensures { (kind : LogKind) (belongs : SignatureRelation) (files : Option Files)
         (question : LogQuery) (printed : OutputData) →
         IsAskedAnswer kind belongs files question printed → IsPrintedText printed.text }
+{}
+
+/// So is the id of a log.
+pub fn log_ids_are_printed()
+    ensures { (log : NamedLog) (printed : OutputData) → IsLogIdAnswer log printed →
+        IsPrintedText printed.text }
 {}
 
 /// So are checkpoints and proofs.

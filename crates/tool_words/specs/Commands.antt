@@ -7,6 +7,8 @@ use Rattle.tool_words.specs.declared.command.Command.{Command}
 use Rattle.tool_words.specs.declared.command.Command.TheVariants as command
 use Rattle.tool_words.specs.declared.command.Asking.TheVariants as asking
 use Rattle.tool_words.specs.declared.command.Doing.TheVariants as doing
+use Rattle.tool_words.specs.declared.command.Naming.{Naming}
+use Rattle.tool_words.specs.declared.command.Naming.TheVariants as naming
 use Rattle.tool_words.specs.declared.command.Proving.{Proving}
 use Rattle.tool_words.specs.declared.command.Proving.TheVariants as proving
 use Rattle.tool_words.specs.declared.command.Verifying.{Verifying}
@@ -33,6 +35,13 @@ commands =
     (codes "append", command.Do doing.Append) ∷
     []
 
+-- those of `log-id`
+abbrev pub names : List (List ℕ × Naming)
+names =
+    (codes "package", naming.Package) ∷
+    (codes "operator", naming.Operator) ∷
+    []
+
 -- those of `prove`
 abbrev pub proofs : List (List ℕ × Proving)
 proofs =
@@ -51,10 +60,11 @@ statements =
     (codes "absence", verifying.Absence) ∷
     []
 
--- the command that two words name; the second is a part of the name within `prove` and `verify` alone
+-- the command that two words name; the second is a part of the name within `log-id`, `prove` and `verify` alone
 abbrev pub command_of : List ℕ → List ℕ → Option Command
 command_of first second =
-    if bytes_eq first (codes "prove") then option_map command.Prove (named second proofs)
+    if bytes_eq first (codes "log-id") then option_map command.LogId (named second names)
+    else if bytes_eq first (codes "prove") then option_map command.Prove (named second proofs)
     else if bytes_eq first (codes "verify") then option_map command.Verify (named second statements)
     else named first commands
 
@@ -87,6 +97,8 @@ forms (command.Ask asking.Compare) = Kind ∷ File ∷ File ∷ []
 forms (command.Do doing.Claims) = Kind ∷ Input ∷ []
 forms (command.Do doing.Make) = Kind ∷ File ∷ Word ∷ Words ∷ []
 forms (command.Do doing.Append) = Kind ∷ File ∷ Input ∷ []
+forms (command.LogId naming.Package) = Word ∷ []
+forms (command.LogId naming.Operator) = []
 forms (command.Prove proving.Checkpoint) = Input ∷ []
 forms (command.Prove proving.Inclusion) = Word ∷ Input ∷ []
 forms (command.Prove proving.Consistency) = Word ∷ Input ∷ []
@@ -157,5 +169,6 @@ options (command.Ask asking.Compare) = of_logs
 options (command.Do doing.Claims) = of_logs
 options (command.Do doing.Make) = of_making
 options (command.Do doing.Append) = of_logs
+options (command.LogId it) = of_all
 options (command.Prove it) = of_all
 options (command.Verify it) = of_all

@@ -23,6 +23,7 @@ word i words = slice_index_or words i []
 
 -- how many words stand before those of a command: the program's name and the command's
 abbrev pub named_by : Command → ℕ
+named_by (command.LogId it) = 3
 named_by (command.Prove it) = 3
 named_by (command.Verify it) = 3
 named_by _ = 2
@@ -67,10 +68,13 @@ is_version text = bytes_eq text (codes "--version") || bytes_eq text (codes "-V"
 
 -- whether a word is the name of a command or of a group
 abbrev pub is_name : List ℕ → Bool
-is_name text = bytes_eq text (codes "prove") || (bytes_eq text (codes "verify") || is_some (named text commands))
+is_name text =
+    bytes_eq text (codes "log-id")
+    || (bytes_eq text (codes "prove") || (bytes_eq text (codes "verify") || is_some (named text commands)))
 
 -- whether words name a command of a group
 abbrev pub is_grouped : Option Command → Bool
+is_grouped (Some (command.LogId it)) = true
 is_grouped (Some (command.Prove it)) = true
 is_grouped (Some (command.Verify it)) = true
 is_grouped _ = false

@@ -8,6 +8,7 @@ use Rattle.tool_words.specs.declared.command.Command.{Command}
 use Rattle.tool_words.specs.declared.command.Command.TheVariants as command
 use Rattle.tool_words.specs.declared.command.Asking.TheVariants as asking
 use Rattle.tool_words.specs.declared.command.Doing.TheVariants as doing
+use Rattle.tool_words.specs.declared.command.Naming.TheVariants as naming
 use Rattle.tool_words.specs.declared.command.Proving.TheVariants as proving
 use Rattle.tool_words.specs.declared.command.Verifying.TheVariants as verifying
 use Rattle.tool_words.specs.declared.request.Demands.{Demands}
@@ -15,6 +16,8 @@ use Rattle.tool_words.specs.declared.request.LogQuery.{LogQuery}
 use Rattle.tool_words.specs.declared.request.LogQuery.TheVariants as question
 use Rattle.tool_words.specs.declared.request.Request.{Request}
 use Rattle.tool_words.specs.declared.request.Request.TheVariants as request
+use Rattle.tool_words.specs.declared.statement.NamedLog.{NamedLog}
+use Rattle.tool_words.specs.declared.statement.NamedLog.TheVariants as named
 use Rattle.tool_words.specs.declared.statement.Statement.{Statement}
 use Rattle.tool_words.specs.declared.statement.Statement.TheVariants as statement
 use Rattle.tool_words.specs.declared.statement.Wanted.{Wanted}
@@ -71,6 +74,11 @@ module _ (called : Command) (places : List (List ℕ)) (given : List (List ℕ �
   IsTask (task.Make log draft) = (called ≡ command.Do doing.Make) × (log.now ≡ place 1 places) × IsNewRecord places given draft
   IsTask (task.Append log lines) = (called ≡ command.Do doing.Append) × (log.now ≡ place 1 places) × (lines.now ≡ place 2 places)
 
+  -- the log whose id is wanted
+  abbrev pub IsNamedLog : NamedLog → Type 0
+  IsNamedLog (named.Package name) = (called ≡ command.LogId naming.Package) × (name.now ≡ place 0 places)
+  IsNamedLog named.Operator = called ≡ command.LogId naming.Operator
+
   -- what is proved
   abbrev pub IsWanted : Wanted → List ℕ → Type 0
   IsWanted wanted.Checkpoint leaves = (called ≡ command.Prove proving.Checkpoint) × (leaves ≡ place 0 places)
@@ -105,6 +113,7 @@ module _ (called : Command) (places : List (List ℕ)) (given : List (List ℕ �
       × (allows_empty ≡ has (codes "--allow-empty") given)
   IsRequest (request.Show kind log) = (called ≡ command.Show) × (kind ≡ kind_of (place 0 places)) × (log.now ≡ place 1 places)
   IsRequest (request.Latest requirement log) = (called ≡ command.Latest) × (requirement.now ≡ place 0 places) × (log.now ≡ place 1 places)
+  IsRequest (request.LogId log) = IsNamedLog log
   IsRequest (request.Prove wanted leaves) = IsWanted wanted leaves.now
   IsRequest (request.Verify statement) = IsStatement statement
   IsRequest (request.Ask kind question) = (kind ≡ kind_of (place 0 places)) × IsLogQuery question

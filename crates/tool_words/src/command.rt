@@ -1,7 +1,7 @@
 //! The commands, by the names that they have in the table.
 
 ghost use Rattle.std.specs.Prelude.{◌≡◌, count_by, length};
-ghost use Rattle.tool_words.specs.Commands.{command_of, commands, forms, has_kind, has_more, is_needed, named, proofs, statements};
+ghost use Rattle.tool_words.specs.Commands.{command_of, commands, forms, has_kind, has_more, is_needed, named, names, proofs, statements};
 
 /// What is asked of logs of one kind.
 #[derive(Clone, Copy, Debug, PartialEq, Eq)]
@@ -19,6 +19,13 @@ pub(crate) enum Doing {
     Claims,
     Make,
     Append,
+}
+
+/// Whose id is wanted.
+#[derive(Clone, Copy, Debug, PartialEq, Eq)]
+pub(crate) enum Naming {
+    Package,
+    Operator,
 }
 
 /// What is proved.
@@ -48,6 +55,7 @@ pub(crate) enum Command {
     Latest,
     Ask(Asking),
     Do(Doing),
+    LogId(Naming),
     Prove(Proving),
     Verify(Verifying),
 }
@@ -69,6 +77,16 @@ pub(crate) fn of_name(name: &str) -> Option<Command>
         "claims" => Some(Command::Do(Doing::Claims)),
         "make" => Some(Command::Do(Doing::Make)),
         "append" => Some(Command::Do(Doing::Append)),
+        _ => None,
+    }
+}
+
+fn naming_of(name: &str) -> Option<Naming>
+    ensures { result ≡ named name.now names }
+{
+    match name {
+        "package" => Some(Naming::Package),
+        "operator" => Some(Naming::Operator),
         _ => None,
     }
 }
@@ -99,7 +117,7 @@ fn verifying_of(name: &str) -> Option<Verifying>
 
 /// Whether a name is that of a group of commands.
 pub(crate) fn is_group(name: &str) -> bool {
-    name == "prove" || name == "verify"
+    name == "log-id" || (name == "prove" || name == "verify")
 }
 
 impl Command {
@@ -108,6 +126,7 @@ impl Command {
         ensures { result ≡ command_of first.now second.now }
     {
         match first {
+            "log-id" => naming_of(second).map(|it| Command::LogId(it)),
             "prove" => proving_of(second).map(|it| Command::Prove(it)),
             "verify" => verifying_of(second).map(|it| Command::Verify(it)),
             _ => of_name(first),
@@ -126,6 +145,8 @@ impl Command {
             Command::Do(Doing::Claims) => 1,
             Command::Do(Doing::Make) => 3,
             Command::Do(Doing::Append) => 2,
+            Command::LogId(Naming::Package) => 1,
+            Command::LogId(Naming::Operator) => 0,
             Command::Prove(Proving::Checkpoint) => 0,
             Command::Prove(Proving::Inclusion | Proving::Consistency | Proving::Head) => 1,
             Command::Verify(Verifying::Inclusion) => 5,
@@ -147,6 +168,8 @@ impl Command {
             Command::Do(Doing::Claims) => 2,
             Command::Do(Doing::Make) => 4,
             Command::Do(Doing::Append) => 3,
+            Command::LogId(Naming::Package) => 1,
+            Command::LogId(Naming::Operator) => 0,
             Command::Prove(Proving::Checkpoint) => 1,
             Command::Prove(Proving::Inclusion | Proving::Consistency | Proving::Head) => 2,
             Command::Verify(Verifying::Inclusion) => 5,
@@ -163,7 +186,7 @@ impl Command {
             Command::Audit | Command::Do(Doing::Make) => true,
             Command::Id | Command::Show | Command::Latest | Command::Ask(_) => false,
             Command::Do(Doing::Claims | Doing::Append) => false,
-            Command::Prove(_) | Command::Verify(_) => false,
+            Command::LogId(_) | Command::Prove(_) | Command::Verify(_) => false,
         }
     }
 
@@ -173,7 +196,8 @@ impl Command {
     {
         match self {
             Command::Id | Command::Audit | Command::Show | Command::Ask(_) | Command::Do(_) => true,
-            Command::Latest | Command::Prove(_) | Command::Verify(_) => false,
+            Command::Latest => false,
+            Command::LogId(_) | Command::Prove(_) | Command::Verify(_) => false,
         }
     }
 }

@@ -4,17 +4,17 @@ ghost use Rattle.std.specs.Prelude.{◌≡◌, drop, false, IfOk, MatchOption, S
 ghost use Rattle.tool_words.specs.Commands.{command_of};
 ghost use Rattle.tool_words.specs.Invocations.{call_by, call_if_taken, invocation_of, IsCalled, named_by, word};
 ghost use Rattle.tool_words.specs.PartsViews.{parts_view};
-ghost use Rattle.tool_words.specs.Requests.{AreDemands, IsNewRecord, IsLogQuery, IsRequest, IsStatement, IsTask, IsWanted, texts};
+ghost use Rattle.tool_words.specs.Requests.{AreDemands, IsNamedLog, IsNewRecord, IsLogQuery, IsRequest, IsStatement, IsTask, IsWanted, texts};
 ghost use Rattle.tool_words.specs.Parts.{place};
 ghost use Rattle.tool_words.specs.Rules.{is_taken, kind_of};
 ghost use Rattle.tool_words.specs.declared.command.Command.TheVariants as command;
 ghost use Rattle.tool_words.specs.declared.command.Doing.TheVariants as doing;
 
-use crate::command::{Asking, Command, Doing, Proving, Verifying};
+use crate::command::{Asking, Command, Doing, Naming, Proving, Verifying};
 use crate::parts::Parts;
 use crate::request::{Demands, Invocation, LogQuery, Request};
 use crate::rules::{kind_of, number_in};
-use crate::statement::{LeafIds, Statement, Wanted};
+use crate::statement::{LeafIds, NamedLog, Statement, Wanted};
 use crate::task::{NewRecord, Task};
 use std::alloc::{AllocError, Global};
 use warg_audit::LogKind;
@@ -45,7 +45,7 @@ pub(crate) fn named_by(command: Command) -> usize
     ensures { result ≡ named_by command }
 {
     match command {
-        Command::Prove(_) | Command::Verify(_) => 3,
+        Command::LogId(_) | Command::Prove(_) | Command::Verify(_) => 3,
         Command::Id | Command::Audit | Command::Show | Command::Latest => 2,
         Command::Ask(_) | Command::Do(_) => 2,
     }
@@ -125,6 +125,18 @@ impl<'a> Parts<'a> {
                 log: self.place(1),
                 lines: self.place(2),
             })),
+        }
+    }
+
+    fn named_log(&self, naming: Naming) -> NamedLog<'a>
+        ensures { IsNamedLog (command.LogId naming) (parts_view self.now).places
+            (parts_view self.now).given result }
+    {
+        match naming {
+            Naming::Package => NamedLog::Package {
+                name: self.place(0),
+            },
+            Naming::Operator => NamedLog::Operator,
         }
     }
 
@@ -247,6 +259,9 @@ impl<'a> Parts<'a> {
                 Some(task) => Ok(Some(Request::Do { kind, task })),
                 None => Ok(None),
             },
+            Command::LogId(naming) => Ok(Some(Request::LogId {
+                log: self.named_log(naming),
+            })),
             Command::Prove(proving) => Ok(Some(self.proof_request(proving))),
             Command::Verify(verifying) => Ok(Some(Request::Verify {
                 statement: self.statement(verifying),

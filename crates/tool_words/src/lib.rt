@@ -17,6 +17,6 @@ mod words;
 
 pub use pleas::{asks_for_json, named_command};
 pub use request::{Demands, Invocation, LogQuery, Request, Said};
-pub use statement::{LeafIds, Statement, Wanted};
+pub use statement::{LeafIds, NamedLog, Statement, Wanted};
 pub use task::{NewRecord, Signer, Task};
 pub use words::parse_words;

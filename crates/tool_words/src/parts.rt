@@ -86,7 +86,8 @@ fn option_of(command: Command, name: &str) -> Option<bool>
         Command::Latest | Command::Do(Doing::Claims | Doing::Append) => log_option(name),
         Command::Ask(Asking::State | Asking::Resume | Asking::Permissions | Asking::Compare) =>
             log_option(name),
-        Command::Id | Command::Prove(_) | Command::Verify(_) => common_option(name),
+        Command::Id | Command::LogId(_) => common_option(name),
+        Command::Prove(_) | Command::Verify(_) => common_option(name),
     }
 }
 

@@ -25,7 +25,7 @@ pub(crate) fn is_version(text: &str) -> bool
 fn is_name(text: &str) -> bool
     ensures { result ≡ is_name text.now }
 {
-    text == "prove" || (text == "verify" || of_name(text).is_some())
+    text == "log-id" || (text == "prove" || (text == "verify" || of_name(text).is_some()))
 }
 
 // Whether words name a command of a group.
@@ -33,7 +33,7 @@ fn is_grouped(called: Option<Command>) -> bool
     ensures { result ≡ is_grouped called }
 {
     match called {
-        Some(Command::Prove(_) | Command::Verify(_)) => true,
+        Some(Command::LogId(_) | Command::Prove(_) | Command::Verify(_)) => true,
         Some(
             Command::Id
             | Command::Audit

@@ -1,4 +1,4 @@
-//! The commands on a registry's log and map.
+//! The commands on a registry's logs, and on its log of leaves and its map.
 
 use crate::table::{Form, JSON, Row, Word};
 
@@ -37,6 +37,28 @@ const PLACE: Word = Word {
     form: Form::Required,
     help: "The leaf's place, counted from 0",
 };
+
+/// Whose id is wanted.
+pub(crate) const LOG_ID_OF: &[Row] = &[
+    Row {
+        name: "package",
+        about: "Prints the id of a package's log",
+        example: "Example: weoldrin log-id package example:math",
+        words: &[Word {
+            name: "NAME",
+            form: Form::Required,
+            help: "The package's name: a namespace, a colon and a name",
+        }],
+        choices: &[JSON],
+    },
+    Row {
+        name: "operator",
+        about: "Prints the id of the operators' log",
+        example: "Example: weoldrin log-id operator",
+        words: &[],
+        choices: &[JSON],
+    },
+];
 
 /// What is proved.
 pub(crate) const PROVE: &[Row] = &[

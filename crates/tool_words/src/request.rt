@@ -7,7 +7,7 @@ ghost use Rattle.tool_words.specs.declared.request.Request.TheVariants as asked;
 ghost use Rattle.tool_words.specs.declared.task.NewRecord.{NewRecord as OfNewRecord};
 ghost use Rattle.tool_words.specs.declared.task.Task.TheVariants as task;
 
-use crate::statement::{Statement, Wanted};
+use crate::statement::{NamedLog, Statement, Wanted};
 use crate::task::Task;
 use warg_audit::LogKind;
 use warg_crypto::time::Timestamp;
@@ -108,6 +108,11 @@ pub enum Request<'a> {
         requirement: &'a str,
         /// The log.
         log: &'a str,
+    },
+    /// The id of a log.
+    LogId {
+        /// Which it is.
+        log: NamedLog<'a>,
     },
     /// What a registry is to prove.
     Prove {

@@ -77,6 +77,7 @@ fn read_places(command: Command) -> &'static [usize]
         Command::Ask(Asking::Chain) => &[3],
         Command::Do(Doing::Claims | Doing::Make) => &[1],
         Command::Do(Doing::Append) => &[1, 2],
+        Command::LogId(_) => &[],
         Command::Prove(Proving::Checkpoint) => &[0],
         Command::Prove(Proving::Inclusion | Proving::Consistency | Proving::Head) => &[1],
         Command::Verify(Verifying::Inclusion) => &[0, 4],
@@ -94,7 +95,8 @@ fn is_make(command: Command) -> bool
         Command::Do(Doing::Make) => true,
         Command::Do(Doing::Claims | Doing::Append) => false,
         Command::Id | Command::Audit | Command::Show | Command::Latest => false,
-        Command::Ask(_) | Command::Prove(_) | Command::Verify(_) => false,
+        Command::Ask(_) | Command::LogId(_) => false,
+        Command::Prove(_) | Command::Verify(_) => false,
     }
 }
 
@@ -187,7 +189,7 @@ impl<'a> Parts<'a> {
     {
         match command {
             Command::Audit => words_from(self.places.as_slice(), 2),
-            Command::Id | Command::Show | Command::Latest => &[],
+            Command::Id | Command::Show | Command::Latest | Command::LogId(_) => &[],
             Command::Ask(_) | Command::Do(_) | Command::Prove(_) | Command::Verify(_) => &[],
         }
     }

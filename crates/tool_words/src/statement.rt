@@ -1,4 +1,16 @@
-//! What is asked of a registry's log and map.
+//! What is asked of a registry's logs, and of its log of leaves and its map.
+
+/// The log whose id is wanted.
+#[derive(Clone, Copy, Debug, PartialEq, Eq)]
+pub enum NamedLog<'a> {
+    /// The log of a package.
+    Package {
+        /// The package's name, as `example:math`.
+        name: &'a str,
+    },
+    /// The log of the registry's operators.
+    Operator,
+}
 
 /// What a registry is to prove, with the words and the path of the file of its leaves.
 #[derive(Clone, Copy, Debug, PartialEq, Eq)]

@@ -9,7 +9,7 @@ use crate::invocation::{invocation_of, named_by, word, words_from};
 use crate::log_commands::LOG_COMMANDS;
 use crate::parts::Parts;
 use crate::pleas::{asks_for_text, is_help, is_version};
-use crate::proof_commands::{PROVE, VERIFY};
+use crate::proof_commands::{LOG_ID_OF, PROVE, VERIFY};
 use crate::request::Said;
 use crate::table::with_commands;
 use crate::version::VERSION;
@@ -38,6 +38,9 @@ fn program<'a>(alloc: Global) -> Result<Command<'a>, AllocError> {
         .after_help(AFTER)
         .arg_required_else_help(true);
     let program = with_commands(alloc, program, LOG_COMMANDS)?;
+    let log_id = Command::new(alloc, "log-id").about(
+        "Prints the id that a log has in a registry, by its name",
+    );
     let prove = Command::new(alloc, "prove").about(
         "Prints a registry's checkpoint, or a proof under it",
     );
@@ -45,6 +48,7 @@ fn program<'a>(alloc: Global) -> Result<Command<'a>, AllocError> {
         "Says whether a proof under a checkpoint holds",
     );
     program
+        .subcommand(with_commands(alloc, log_id, LOG_ID_OF)?)?
         .subcommand(with_commands(alloc, prove, PROVE)?)?
         .subcommand(with_commands(alloc, verify, VERIFY)?)
 }

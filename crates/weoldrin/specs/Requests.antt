@@ -18,6 +18,7 @@ use Rattle.warg_claims.specs.Verified.Texts.{IsReadFrom}
 use Rattle.warg_audit.specs.Files.Files.{Files}
 use Rattle.tool_changes.specs.JsonLines.{IsInJson}
 use Rattle.tool_changes.specs.ManyAudits.{IsManyAnswer, IsOneAnswer}
+use Rattle.tool_checkpoints.specs.LogIdTexts.{IsLogIdAnswer}
 use Rattle.tool_checkpoints.specs.ProofTexts.{IsProofAnswer}
 use Rattle.tool_checkpoints.specs.Proofs.{IsStatementVerdict}
 use Rattle.tool_checkpoints.specs.Words.{IsByWords, IsIn, IsUnsaidIn}
@@ -89,6 +90,7 @@ IsRequestAnswer json belongs old new (request.Audit kind path demands shows_path
 IsRequestAnswer json belongs old new (request.Audits kind paths allows_empty) printed = IsManyAnswer json kind belongs old allows_empty (texts paths.items) printed
 IsRequestAnswer json belongs old new (request.Show kind path) printed = IsShownAnswer kind belongs old path.now printed
 IsRequestAnswer json belongs old new (request.Latest requirement path) printed = IsLatestAnswer belongs old requirement.now path.now printed
+IsRequestAnswer json belongs old new (request.LogId log) printed = IsLogIdAnswer log printed
 IsRequestAnswer json belongs old new (request.Prove wanted path) printed = IsProofAnswer old wanted path.now printed
 IsRequestAnswer json belongs old new (request.Verify statement) printed = IsStatementVerdict old statement printed
 IsRequestAnswer json belongs old new (request.Ask kind question) printed = IsAskedAnswer kind belongs old question printed
@@ -101,6 +103,7 @@ RequestLeaves belongs old new (request.Audit kind path demands shows_path) = new
 RequestLeaves belongs old new (request.Audits kind paths allows_empty) = new ≡ old
 RequestLeaves belongs old new (request.Show kind path) = new ≡ old
 RequestLeaves belongs old new (request.Latest requirement path) = new ≡ old
+RequestLeaves belongs old new (request.LogId log) = new ≡ old
 RequestLeaves belongs old new (request.Prove wanted path) = new ≡ old
 RequestLeaves belongs old new (request.Verify statement) = new ≡ old
 RequestLeaves belongs old new (request.Ask kind question) = new ≡ old
@@ -113,6 +116,7 @@ is_many (request.Audit kind path demands shows_path) = shows_path
 is_many (request.Audits kind paths allows_empty) = true
 is_many (request.Show kind path) = false
 is_many (request.Latest requirement path) = false
+is_many (request.LogId log) = false
 is_many (request.Prove wanted path) = false
 is_many (request.Verify statement) = false
 is_many (request.Ask kind question) = false

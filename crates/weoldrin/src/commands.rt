@@ -17,7 +17,7 @@ use std::alloc::{AllocError, Global};
 use tool_changes::{
     Audit, audits_answer, id_answer, json_answer, latest_answer, requirement_of, task_answer,
 };
-use tool_checkpoints::{prove_answer, verify_answer};
+use tool_checkpoints::{log_id_answer, prove_answer, verify_answer};
 use tool_layout::Look;
 use tool_questions::question_answer;
 use tool_questions::show::show_of_file;
@@ -189,6 +189,7 @@ fn request_answer<V: Verifier, S: Store>(
         Request::Latest { requirement, log } => {
             latest_of_file(alloc, verifier, requirement, log, store)
         }
+        Request::LogId { log } => log_id_answer(alloc, log),
         Request::Prove { wanted, leaves } => prove_answer(alloc, wanted, leaves, store),
         Request::Verify { statement } => verify_answer(alloc, statement, store),
         Request::Ask { kind, question } => asked_answer(alloc, verifier, *kind, question, store),
@@ -241,6 +242,7 @@ fn is_many(request: &Request<'_>) -> bool
         Request::Id { .. }
         | Request::Show { .. }
         | Request::Latest { .. }
+        | Request::LogId { .. }
         | Request::Prove { .. }
         | Request::Verify { .. }
         | Request::Ask { .. }

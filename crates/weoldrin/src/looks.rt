@@ -45,6 +45,7 @@ fn layout(
         | Request::Audit { .. }
         | Request::Audits { .. }
         | Request::Latest { .. }
+        | Request::LogId { .. }
         | Request::Prove { .. }
         | Request::Verify { .. }
         | Request::Do { .. } => Ok(text),

@@ -1,3 +1,4 @@
+use Rattle.std.proofs.Common.{refl}
 use Rattle.weoldrin.proofs.commands.request_answer.Goals as goal
 
 pub returns-in-Id-clause-answered : goal.returns-in-Id-clause-answered
@@ -29,6 +30,12 @@ returns-in-Latest-clause-answered g c = rw c.in-Latest.is c.latest_of_file.ensur
 
 pub returns-in-Latest-clause-files : goal.returns-in-Latest-clause-files
 returns-in-Latest-clause-files g c = rw c.in-Latest.is c.latest_of_file.ensures.kept
+
+pub returns-in-LogId-clause-answered : goal.returns-in-LogId-clause-answered
+returns-in-LogId-clause-answered g c = rw c.in-LogId.is c.log_id_answer.ensures
+
+pub returns-in-LogId-clause-files : goal.returns-in-LogId-clause-files
+returns-in-LogId-clause-files g c = rw c.in-LogId.is refl
 
 pub returns-in-Prove-clause-answered : goal.returns-in-Prove-clause-answered
 returns-in-Prove-clause-answered g c = rw c.in-Prove.is c.prove_answer.ensures.answered
