@@ -125,10 +125,7 @@ class Registry:
             if problem.name in ("NoLog", "NoRecord"):
                 return None
             raise
-        place = member(value, "registryIndex", int)
-        if not 0 <= place < 2**63:
-            raise BadAnswer("the answer's registryIndex is no index of a leaf")
-        return place
+        return member(value, "registryIndex", int)
 
     def leaves(self, since: int) -> tuple[list[Leaf], bool]:
         """Leaves from a place on, and whether more follow."""
