@@ -174,6 +174,46 @@ class Reading(Served):
         self.assertEqual(self.client.get(f"/v1/leaves?from={count}").body, b"")
         self.assertEqual(self.client.get(f"/v1/leaves?from={count - 1}").body.decode().splitlines(), lines[-1:])
 
+    def test_a_leaf(self) -> None:
+        lines = [it for start in range(0, 15, 4)
+                 for it in self.client.get(f"/v1/leaves?from={start}").body.decode().splitlines()]
+        # The logs begin with one record, whose leaf is another in each.
+        self.assertLess(len({it.partition(" ")[2] for it in lines}), len(lines))
+        places: dict[str, int] = {}
+        for index, line in enumerate(lines):
+            its_log, its_record = line.split(" ")
+            place = places[its_log] = places.get(its_log, -1) + 1
+            target = f"/v1/leaf?log={its_log}&record={its_record}"
+            answer = self.client.get(target)
+            expected = {"recordId": its_record, "logId": its_log, "place": place, "registryIndex": index}
+            self.assertEqual((answer.status, answer.json), (200, expected))
+            self.assertEqual(answer.headers["cache-control"], "public, max-age=31536000, immutable")
+            tag = answer.headers["etag"]
+            again = self.client.get(target, If_None_Match=tag)
+            self.assertEqual((again.status, again.body, again.headers["etag"]), (304, b"", tag))
+            self.assertEqual(again.headers["cache-control"], answer.headers["cache-control"])
+            self.assertEqual(self.client.get(target, If_None_Match='"x"').status, 200)
+        self.assertEqual(len(lines), 1 + sum(len(it) for it in self.logs.values()))
+
+    def test_no_leaf(self) -> None:
+        name, other = log_id("package", NAMES[1]), log_id("package", "a:none")
+        head, first = self.heads[NAMES[1]], self.heads[NAMES[0]]
+        self.refused(self.client.get(f"/v1/leaf?log={name}&record={records.sha256_text(b'')}"), 404, "NoRecord")
+        self.refused(self.client.get(f"/v1/leaf?log={log_id('package', NAMES[0])}&record={head}"), 404, "NoRecord")
+        self.refused(self.client.get(f"/v1/leaf?log={other}&record={first}"), 404, "NoLog")
+        self.refused(self.client.get(f"/v1/leaf?log={head}&record={name}"), 404, "NoLog")
+        for wrong in ("", f"log={name}", f"record={head}", f"log={name}&record=", f"log={name.upper()}&record={head}",
+                      f"log={name}&record={head}0", f"log={name}&record={head[7:]}", f"log={name}&record={head}&from=0",
+                      f"log={name}&record={head}&record={head}", f"log=&record={head}", f"log={NAMES[1]}&record={head}",
+                      f"log={name}&record=%00"):
+            self.refused(self.client.get(f"/v1/leaf?{wrong}"), 400, "BadQuery")
+        target = f"/v1/leaf?log={name}&record={head}"
+        answer = self.client.asked("HEAD", target)
+        self.assertEqual((answer.status, answer.body), (200, b""))
+        self.assertEqual(answer.headers["content-length"], str(len(self.client.get(target).body)))
+        self.refused(self.client.asked("POST", target, b"{}", JSON), 405, "BadMethod")
+        self.refused(self.client.asked("GET", target, b"{}", JSON), 400, "BodyBehindGet")
+
     def test_health_and_metrics(self) -> None:
         count = 1 + sum(len(it) for it in self.logs.values())
         checkpoint_of(self.client, count)

@@ -28,8 +28,9 @@ class Table(Served):
         its_id = log_id("package", "a:b")
         for target in (
             "/v1/health", "/v1/metrics", "/v1/package/a:b/records?from=1", "/v1/operator/records?from=0",
-            f"/v1/logs/{its_id}/records", "/v1/names?prefix=a&after=", "/v1/leaves?from=1", "/v1/checkpoint",
-            "/v1/checkpoint/3", "/v1/proof/inclusion?leaf=2&length=3&from=3", "/v1/proof/consistency?from=3&to=3",
+            f"/v1/logs/{its_id}/records", "/v1/names?prefix=a&after=", "/v1/leaves?from=1",
+            f"/v1/leaf?log={its_id}&record={head}", "/v1/checkpoint", "/v1/checkpoint/3",
+            "/v1/proof/inclusion?leaf=2&length=3&from=3", "/v1/proof/consistency?from=3&to=3",
             f"/v1/proof/map?log={its_id}&length=3&from=3", "/static/web/style.css",
         ):
             self.assertEqual(self.client.get(target).status, 200, target)

@@ -140,6 +140,21 @@ WRONG: dict[str, Wrong] = {
         f"{STORAGE}.test_checkpoints_are_added_in_order"),
     "a name stands on two pages": ("storage/sqlite.py", "AND name > ?", "AND name >= ?", f"{READING}.test_names"),
     "names begin otherwise": ("storage/sqlite.py", "AND name < ? ", "AND ? <> name ", f"{READING}.test_names"),
+    "a leaf is looked for in each log": (
+        "storage/sqlite.py", "WHERE log_id = ? AND record_id = ?", "WHERE ? <> '' AND record_id = ?",
+        f"{READING}.test_a_leaf"),
+    "a leaf has the record's place": (
+        "routes/lists.py", "Published(record_id, log_id, *standing)",
+        "Published(record_id, log_id, standing.place, standing.place)", f"{READING}.test_a_leaf"),
+    "a leaf may not be kept": (
+        "routes/lists.py", "members()), _FOR_EVER)", 'members()), "no-cache")', f"{READING}.test_a_leaf"),
+    "a leaf of no record is a failure": (
+        "routes/lists.py", "if standing is None:", "if False:", f"{READING}.test_no_leaf"),
+    "a log of none only lacks a record": (
+        "routes/lists.py", "if await registry.read(registry.storage.log, log_id) is None:", "if False:",
+        f"{READING}.test_no_leaf"),
+    "a leaf is looked for by any text": (
+        "routes/lists.py", "if not is_id(log_id) or not is_id(record_id):", "if False:", f"{READING}.test_no_leaf"),
     "a leaf is left out": ("storage/sqlite.py", "WHERE leaf >= ?", "WHERE leaf > ?", f"{READING}.test_leaves"),
     # Checkpoints
     "checkpoints are made as often as records": (

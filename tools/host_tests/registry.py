@@ -2,6 +2,7 @@
 import pathlib
 
 from common import ROOT
+from host_tests import web
 from host_tests.machine import registry_interpreter, succeeds
 from host_tests.runs import Hosts, counted_of_unittest
 
@@ -22,5 +23,6 @@ def test(hosts: Hosts, wheel: pathlib.Path | None) -> None:
         hosts.leave_out("registry: pip", "it is not installed, or no Python here has hatchling (python3-hatchling)")
         sources = (ROOT / "bindings/python/src", package / "src")
         kept |= {"PYTHONPATH": ":".join(map(str, sources)), "WEOLDRIN_LIBRARY": str(hosts.library / "libwarg.so")}
+    kept["WEOLDRIN_BROWSERS"] = " ".join(web.browsers_there(hosts, "registry"))
     words = [python, "-m", "unittest", "discover", "-v", "-s", str(package / "tests"), "-t", str(package)]
     hosts.run("registry: unittest", words, kept, counted_of_unittest)

@@ -8,17 +8,23 @@ from host_tests.runs import Hosts, counted_of_edits, counted_of_unittest
 BROWSERS = ("chromium", "firefox-esr")
 
 
+def browsers_there(hosts: Hosts, part: str) -> list[str]:
+    """The browsers that this machine has, for the tests of a part. Of the others it is said that they are missing."""
+    there = [it for it in BROWSERS if shutil.which(it)]
+    for browser in BROWSERS:
+        if browser not in there:
+            # No failure: a browser takes more of a machine than all else here.
+            hosts.pass_over(f"{part}: {browser}", "it is not installed")
+    return there
+
+
 def test(hosts: Hosts) -> None:
     """The page, in each browser that is there, and wrong edits of it in one."""
     library = hosts.library.parent / "wasm/libwarg.wasm"
     if not library.is_file():
         hosts.leave_out("web", f"there is no {library}")
         return
-    there = [it for it in BROWSERS if shutil.which(it)]
-    for browser in BROWSERS:
-        if browser not in there:
-            # No failure: a browser takes more of a machine than all else here.
-            hosts.pass_over(f"web: {browser}", "it is not installed")
+    there = browsers_there(hosts, "web")
     if not there:
         return
     words = [sys.executable, "-m", "unittest", "discover", "-v", "-s", str(ROOT / "web/tests")]

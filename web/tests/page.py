@@ -59,11 +59,28 @@ class PageTests(unittest.TestCase):
         self.browser.wait(JUDGED.format(count or len(paths)))
         return self.text("#verdicts")
 
+    def fetched(self, address: str, count: int = 1) -> str:
+        """Has a log be fetched from an address, waits for so many verdicts, and gives what the list says."""
+        self.browser.run(f"at('address').value = new URL({json.dumps(address)}, location.href).href")
+        self.browser.run("document.querySelector('#by-address').requestSubmit()")
+        self.browser.wait(JUDGED.format(count))
+        return self.text("#verdicts")
+
     def clicked(self, selector: str, text: str = "") -> None:
         """Clicks on the first element that is there with a text in it."""
         words = (json.dumps(selector), json.dumps(text))
         script = f"[...document.querySelectorAll({words[0]})].find((it) => it.textContent.includes({words[1]})).click()"
         self.browser.run(script)
+
+    def proved(self, what: str, **fields: str) -> str:
+        """Fills the form of proofs in, and gives what is said."""
+        script = f"at('what').value = {json.dumps(what)}; at('what').dispatchEvent(new Event('change'));"
+        for name, value in fields.items():
+            script += f"at({json.dumps(name.replace('_', '-'))}).value = {json.dumps(value)};"
+        script += "at('proof-form').requestSubmit();"
+        self.browser.run(script)
+        self.browser.wait("at('proof-said').textContent !== ''")
+        return self.text("#proof-said")
 
     def with_toys(self) -> None:
         """Has toy signatures be taken."""

@@ -36,16 +36,6 @@ ABSENCE = (
 class Proofs(PageTests):
     """A checkpoint, and proofs on it."""
 
-    def proved(self, what: str, **fields: str) -> str:
-        """Fills the form in, and gives what is said."""
-        script = f"at('what').value = {json.dumps(what)}; at('what').dispatchEvent(new Event('change'));"
-        for name, value in fields.items():
-            script += f"at({json.dumps(name.replace('_', '-'))}).value = {json.dumps(value)};"
-        script += "at('proof-form').requestSubmit();"
-        self.browser.run(script)
-        self.browser.wait("at('proof-said').textContent !== ''")
-        return self.text("#proof-said")
-
     def test_proofs_hold(self) -> None:
         checkpoint = json.dumps(CHECKPOINT)
         said = self.proved(

@@ -7,7 +7,7 @@ import time
 from weoldrin import LogKind, log_id, p256, record_id, records
 
 from . import published
-from .registries import ONE, OPERATOR, TWO, Query, Registry, Reply, changed, json_reply
+from .registries import ONE, OPERATOR, TWO, Query, Registry, Reply, changed, json_reply, problem
 from .trees import Leaf
 
 
@@ -315,13 +315,46 @@ def false_leaf(it: Registry) -> None:
     it.release(TWO, "2.0.0")
     it.sign()
     lines = [f"{leaf.log_id} {leaf.record_id}\n" for leaf in (*it.leaves[:-1], Leaf(ONE, it.heads[ONE]))]
+    at_last = json_reply({"recordId": it.heads[ONE], "logId": ONE, "place": 4, "registryIndex": it.length - 1})
 
     def twist(path: str, query: Query, reply: Reply) -> Reply:
+        if path == "/v1/leaf":
+            return at_last
         if path != "/v1/leaves":
             return reply
         return 200, {}, "".join(lines[int(query["from"]) :]).encode()
 
     it.twist = twist
+
+
+def _misplaced(it: Registry, index: int) -> None:
+    """The leaf of the newest record of ONE is said to stand at another place."""
+    it.release(ONE, "2.0.0")
+    it.release(TWO, "2.0.0")
+    it.sign()
+    it.twist = lambda path, query, reply: changed(reply, registryIndex=index) if path == "/v1/leaf" else reply
+
+
+def denied_leaf(it: Registry) -> None:
+    """The newest record of ONE has a leaf, and is said to have none."""
+    it.release(ONE, "2.0.0")
+    it.sign()
+    it.twist = lambda path, query, reply: problem(404, "NoRecord") if path == "/v1/leaf" else reply
+
+
+def leaf_of_another(it: Registry) -> None:
+    """It is said to be that of TWO's newest record."""
+    _misplaced(it, len(it.leaves) + 1)
+
+
+def leaf_behind_all(it: Registry) -> None:
+    """It is said to stand behind all that is signed."""
+    _misplaced(it, len(it.leaves) + 2)
+
+
+def leaf_seen_before(it: Registry) -> None:
+    """It is said to be that of ONE's record before it, which was seen."""
+    _misplaced(it, it.leaves.index(Leaf(ONE, it.heads[ONE])))
 
 
 def junk(it: Registry) -> None:

@@ -128,6 +128,8 @@ class Registry:
         if path == "/v1/leaves":
             lines = [f"{it.log_id} {it.record_id}\n" for it in self.leaves[since:]]
             return self._lines(lines, LEAVES)
+        if path == "/v1/leaf":
+            return self._leaf(Leaf(query["log"], query["record"]))
         if path == "/v1/fetch/logs":
             return self._fetched(json.loads(body)["logs"])
         if path.startswith("/v1/logs/"):
@@ -149,6 +151,13 @@ class Registry:
         if len(lines) > bound:
             headers["Link"] = '<?from=7>; rel="next"'
         return 200, headers, "".join(lines[:bound]).encode()
+
+    def _leaf(self, it: Leaf) -> Reply:
+        if it not in self.leaves:
+            return problem(404, "NoRecord" if it.log_id in self.logs else "NoLog")
+        index = self.leaves.index(it)
+        place = sum(other.log_id == it.log_id for other in self.leaves[:index])
+        return json_reply({"recordId": it.record_id, "logId": it.log_id, "place": place, "registryIndex": index})
 
     def _fetched(self, counts: dict[str, int]) -> Reply:
         found: dict[str, dict[str, Any]] = {}

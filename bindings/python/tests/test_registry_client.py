@@ -34,7 +34,10 @@ LIES: list[tuple[Callable[[Registry], None], str, str]] = [
     (lies.without_commit, "key without commit", "key without commit"),
     (lies.lost_commit, "key without commit", "key without commit"),
     (lies.left_out_leaf, "left out leaf", "left out leaf"),
-    (lies.short_leaves, "left out leaf", "left out leaf"),
+    (lies.denied_leaf, "left out leaf", "left out leaf"),
+    (lies.leaf_of_another, "false proof", "false proof"),
+    (lies.leaf_behind_all, "left out leaf", "left out leaf"),
+    (lies.leaf_seen_before, "left out leaf", "false proof"),
     (lies.replaced_record, "replaced record", "replaced record"),
     (lies.old_proof, "old proof", "false proof"),
     (lies.old_proof_of_package, "old proof", "false proof"),
@@ -135,11 +138,19 @@ class Fetch(ClientTest):
         self.served.server_close()
         self.assertEqual(self.fetch()[0], 3)
 
-    def test_leaves(self) -> None:
-        """Of a leaf that is too far back nothing is said."""
-        status, printed, _ = self.fetch("--leaves", "5")
-        self.assertEqual((status, printed.split()[-3:]), (0, ["not", "looked", "for"]))
+    def test_leaf(self) -> None:
+        """The leaf is asked for by log and record, once, and no others are read."""
+        for is_known in (False, True):
+            self.served.asked.clear()
+            self.assertRegex(self.fetch()[1], " leaf 5\n$")
+            asked = [it for it in self.served.asked if it.startswith("/v1/leaf")]
+            wanted = f"/v1/leaf?log={ONE}&record={self.registry.heads[ONE]}"
+            self.assertEqual(asked, [] if is_known else [wanted])
+        # A leaf that was not looked for when the log was seen.
+        path = pathlib.Path(self.trust)
+        path.write_text(path.read_text(encoding="utf-8").replace('"place": 5', '"place": null'), encoding="utf-8")
         self.assertRegex(self.fetch()[1], " leaf 5\n$")
+        self.assertEqual(json.loads(path.read_text(encoding="utf-8"))["logs"][ONE]["place"], 5)
 
     def test_moving(self) -> None:
         """New checkpoints that come between two answers are followed."""

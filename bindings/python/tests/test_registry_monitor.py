@@ -9,15 +9,20 @@ import sys
 import unittest
 from collections.abc import Callable
 from typing import Any
+from unittest import mock
 
-from weoldrin import records
-from weoldrin.registry.told import WORDS
-from weoldrin.registry.trees import Edge, Head, Maps, deep_root
+from weoldrin import RegistryTrees, records
+from weoldrin.registry import monitor as monitors
+from weoldrin.registry.answers import Leaf
+from weoldrin.registry.answers import Registry as Asked
+from weoldrin.registry.database import Database
+from weoldrin.registry.following import Follower
+from weoldrin.registry.replaying import Replayer
+from weoldrin.registry.told import WORDS, Unusable
 
-from . import lies, registries, trees
+from . import lies, registries
 from .registries import ONE, OPERATOR, TWO, Registry, honest, run, serving
 from .test_registry_client import ClientTest
-from .trees import Leaf, SparseMap, hash_text
 
 # What is told of each lie; nothing of those that are told to one who asks for the log of one package alone.
 LIES: list[tuple[Callable[[Registry], None], str]] = [
@@ -139,28 +144,19 @@ class Honest(MonitorTest):
         self.registry.twist = twist
         self.assertEqual(self.monitor()[1][-1]["records"], 12)
 
-    def test_roots(self) -> None:
-        """The roots that are made anew are those of the definitions."""
-        leaves = [Leaf(trees.id_of(f"log {place % 7}"), trees.id_of(f"record {place}")) for place in range(40)]
-        edge, maps, heads = Edge(), Maps(), {}
-        for count, it in enumerate(leaves, 1):
-            edge = Edge(edge.to_text())
-            edge.append(it)  # type: ignore[arg-type]
-            heads[it.log_id] = it.record_id
-            self.assertEqual(edge.root(), hash_text(trees.log_root([leaf.of_log() for leaf in leaves[:count]])))
-            root = hash_text(SparseMap([Leaf(*head) for head in heads.items()]).root())
-            for is_deep in (True, False):
-                of_map = [Head(Leaf(*it).key(), it[1], deep_root(*it) if is_deep else None) for it in heads.items()]
-                self.assertEqual(maps.root(of_map), root)
-                self.assertEqual(Maps().root(of_map), root)
-        self.assertEqual(Edge().root(), hash_text(trees.log_root([])))
-        self.assertEqual(Maps().root([]), hash_text(SparseMap([]).root()))
-        # Logs that are alike far down.
-        alike = [Leaf(hash_text(bytes(31) + bytes([last])), leaves[last].record_id) for last in (0, 1, 2, 7)]
-        alike.append(Leaf(hash_text(b"\0" * 5 + b"\1" + bytes(26)), leaves[9].record_id))
-        of_map = [Head(it.key(), it.record_id, deep_root(*it)) for it in alike]
-        self.assertEqual(Maps().root(of_map), hash_text(SparseMap(alike).root()))
-
+    def test_nothing_new(self) -> None:
+        """No trees are made for a checkpoint whose roots were made."""
+        self.assertEqual(self.monitor()[0], 0)
+        with mock.patch.object(monitors, "RegistryTrees", side_effect=AssertionError):
+            self.registry.sign()
+            self.assertEqual(self.monitor()[0], 0)
+            self.registry.release(ONE, "2.0.0")
+            self.registry.sign()
+            self.assertRaises(AssertionError, self.monitor)
+        # What was read by then is not asked for again.
+        self.served.asked.clear()
+        self.assertEqual(self.monitor()[0], 0)
+        self.assertFalse([it for it in self.served.asked if it.startswith("/v1/leaves")])
 
     def test_bound(self) -> None:
         """No more leaves are read than are wanted."""
@@ -269,6 +265,89 @@ class Lies(MonitorTest):
         with contextlib.closing(sqlite3.connect(self.database)) as file:
             file.execute("CREATE TABLE other (it TEXT)")
         self.assertEqual(self.monitor()[0], 2)
+
+
+class Long(MonitorTest):
+    """A monitor that makes one step after another, with trees that go on."""
+
+    def setUp(self) -> None:
+        super().setUp()
+        self.seen = Database(self.database)
+        self.addCleanup(self.seen.close)
+        self.made = 0
+        replayer = Replayer(self.served.url, 60, 1)
+
+        def trees() -> RegistryTrees:
+            self.made += 1
+            return RegistryTrees()
+
+        patch = mock.patch.object(monitors, "RegistryTrees", trees)
+        patch.start()
+        self.addCleanup(patch.stop)
+        asked = Asked(self.served.url)
+        self.long = monitors.Monitor(self.seen, lambda: Follower(asked, self.seen.trust()), replayer, 1000)
+        self.addCleanup(self.long.close)
+
+    def _step(self, *names: str) -> None:
+        """A step, and what is told in it."""
+        self.assertEqual([it.name for it in self.long.step()], [*names])
+
+    def _grow(self, version: str) -> None:
+        self.registry.release(ONE, version)
+        self.registry.sign()
+
+    def _check_read(self, count: int) -> None:
+        """So many leaves count, under the newest checkpoint."""
+        self.assertEqual((self.seen.read(), self.seen.counted()), (count, count))
+
+    def test_goes_on(self) -> None:
+        with mock.patch.object(monitors, "_PUSHED", 5):
+            self._step()
+            for number in range(3):
+                self._check_read(12 + number)
+                self._grow(f"2.{number}.0")
+                self._step()
+                self._step()
+        self.assertEqual(self.made, 1)
+        it = self.registry.signed[-1].contents
+        self.assertEqual(self.seen.kept("roots"), f"15 {it.log_root} {it.map_root}")
+        self.long.close()
+        self.long.close()
+        self._grow("3.0.0")
+        self._step()
+        self.assertEqual(self.made, 2)
+
+    def test_false_leaves(self) -> None:
+        """What was read and is not signed is dropped, from the trees too, and is read anew."""
+        self._step()
+        lies.other_leaves(self.registry)
+        self._step("left out leaf")
+        self._check_read(12)
+        self._step("left out leaf")
+        self.registry.twist = None
+        self._step()
+        self._check_read(13)
+        self.assertEqual(self.made, 3)
+
+    def test_false_map(self) -> None:
+        """A map that is false stays so, until a checkpoint has the right one."""
+        self._step()
+        lies.false_map(self.registry)
+        for _ in range(2):
+            self._step("false map")
+        self._check_read(13)
+        del self.registry.heads[next(it for it in self.registry.heads if it not in self.registry.logs)]
+        self._grow("3.0.0")
+        self._step()
+        self.assertEqual(self.made, 1)
+
+    def test_spoiled(self) -> None:
+        """A leaf in the file that is none."""
+        self._step()
+        with self.seen.step():
+            self.seen.add_leaves(12, [Leaf("sha256:0", "sha256:1")])
+        self._grow("2.0.0")
+        self.assertRaises(Unusable, self.long.step)
 
 
 class Gossip(MonitorTest):

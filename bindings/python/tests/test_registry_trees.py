@@ -19,8 +19,6 @@ from weoldrin import (
     verify_presence,
 )
 from weoldrin._library import CALLS
-from weoldrin.registry import trees as monitors
-from weoldrin.registry.answers import Leaf as AnsweredLeaf
 
 from . import trees
 from .trees import EMPTY, Leaf, SparseMap, hash_text, id_of, short_text, text_of
@@ -85,8 +83,8 @@ class AsDefined(Checked):
                     self.check_map(kept, leaves)
 
     def test_hundreds(self) -> None:
-        """The roots also by the monitor's trees, at lengths about powers of two and at others."""
-        chosen, edge, maps = random.Random(5), monitors.Edge(), monitors.Maps()
+        """At lengths about powers of two and at others."""
+        chosen = random.Random(5)
         leaves: list[Leaf] = []
         roots = {0: hash_text(trees.digest(b""))}
         with RegistryTrees() as kept:
@@ -95,11 +93,7 @@ class AsDefined(Checked):
                 new = [Leaf(id_of(f"log {chosen.randrange(200)}"), id_of(str(chosen.random()))) for _ in range(count)]
                 self.assertEqual(kept.push_all(new), length)
                 leaves += new
-                for it in new:
-                    edge.append(AnsweredLeaf(*it))
-                heads = {it.key(): it.record_id for it in leaves}
-                by_monitor = maps.root([monitors.Head(key, record_id, None) for key, record_id in heads.items()])
-                self.assertEqual((kept.log_root(), kept.map_root()), (edge.root(), by_monitor))
+                self.assertEqual(kept.log_root(), hash_text(trees.log_root([it.of_log() for it in leaves])))
                 for place in {0, 1, length // 2, length - 1, chosen.randrange(length)} & set(range(length)):
                     self.check_inclusion(kept, leaves, place)
                 for first, old_root in roots.items():

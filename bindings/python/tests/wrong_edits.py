@@ -1,4 +1,5 @@
-"""Wrong edits of the trees of a registry, each of which a test has to see.
+"""Wrong edits of the trees of a registry, and of the client and the monitor of registries, each of which a test has to
+see.
 
     python3 tests/wrong_edits.py           tries all, and prints a line for each
     python3 tests/wrong_edits.py WORD..    those whose names have one of the words in them
@@ -22,6 +23,7 @@ PATIENCE = 120
 DEFINED, REFUSED = "test_registry_trees.AsDefined", "test_registry_trees.Refused"
 THREADS, FORGOTTEN = "test_registry_threads.Threads", "test_registry_threads.Forgotten"
 SIGNALS, FORKS, ENDS = (f"test_registry_interrupted.{it}" for it in ("Signals", "Forks", "Ends"))
+CLIENT, MONITOR = "test_registry_client", "test_registry_monitor"
 
 # The file, what stands there, what is put there, and the test that sees it.
 Wrong = tuple[str, str, str, str]
@@ -137,6 +139,44 @@ WRONG: dict[str, Wrong] = {
         "_own_thread.py", "if sys.is_finalizing():", "if False:", f"{ENDS}.test_after_the_last"),
     "what is closed too late waits for ever": (
         "_own_thread.py", " and not sys.is_finalizing():", ":", f"{ENDS}.test_after_the_last"),
+    # The client
+    "a leaf may be denied": (
+        "registry/packages.py", "if place is None or not before", "if place is not None and not before",
+        f"{CLIENT}.Lies.test_at_first"),
+    "a leaf may stand behind all that is signed": (
+        "registry/packages.py", "before < place < newest.contents.log_length", "before < place",
+        f"{CLIENT}.Lies.test_at_first"),
+    "a leaf may stand before one that was seen": (
+        "registry/packages.py", "not before < place <", "not -1 < place <", f"{CLIENT}.Lies.test_after_honest"),
+    "a leaf's place is not proved": (
+        "registry/packages.py", "    _check_leaf(follower, place, its_id, record_id)\n", "",
+        f"{CLIENT}.Lies.test_at_first"),
+    "a leaf that is known is asked for": (
+        "registry/packages.py", "known.head == record_id and before >= 0", "False", f"{CLIENT}.Fetch.test_leaf"),
+    # The monitor
+    "false leaves count": (
+        "registry/monitor.py", "log_root() != signed.log_root", "log_root() is None", f"{MONITOR}.Lies.test_lies"),
+    "false leaves stay in the trees": (
+        "registry/monitor.py", "            # They have leaves that do not count.\n            self.close()\n", "",
+        f"{MONITOR}.Long.test_false_leaves"),
+    "a false map is the right one": (
+        "registry/monitor.py", "map_root() != newest.contents.map_root", "map_root() is None",
+        f"{MONITOR}.Lies.test_lies"),
+    "what is left out of the trees is a page": (
+        "registry/monitor.py", "while (start := len(trees)) < length:", "if (start := len(trees)) < length:",
+        f"{MONITOR}.Long.test_goes_on"),
+    "the trees are made anew in each step": (
+        "registry/monitor.py", "self._trees = self._trees or RegistryTrees()", "self._trees = RegistryTrees()",
+        f"{MONITOR}.Long.test_goes_on"),
+    "the trees are made for nothing": (
+        "registry/monitor.py", "        if self._is_checked(newest):\n            return\n        while",
+        "        while", f"{MONITOR}.Honest.test_nothing_new"),
+    "roots count that were not compared": (
+        "registry/monitor.py", 'self._database.kept("roots") == _roots_of(newest)', "True",
+        f"{MONITOR}.Lies.test_at_first"),
+    "a leaf counts twice": (
+        "registry/database.py", "        start = self.counted()\n        # Beside",
+        "        start = 0\n        # Beside", f"{MONITOR}.Long.test_goes_on"),
 }
 
 

@@ -32,6 +32,7 @@ def _routes() -> list[BaseRoute]:
         Route("/v1/fetch/logs", records.fetch_logs, methods=["POST"]),
         Route("/v1/names", lists.names),
         Route("/v1/leaves", lists.leaves),
+        Route("/v1/leaf", lists.leaf),
         Route("/v1/checkpoint", lists.newest_checkpoint),
         Route("/v1/checkpoint/{length}", lists.checkpoint),
         Route("/v1/proof/inclusion", proofs.inclusion),

@@ -10,10 +10,13 @@ from starlette.responses import Response
 
 from .. import __version__, metrics
 from ..problems import bad_request, not_found
+from ..publishing import Published, no_log
 from ..registry import Registry
-from .words import has_tag, json_answer, no_checkpoint, number, query, registry_of, whole
+from .words import has_tag, is_id, json_answer, json_text, no_checkpoint, number, query, registry_of, whole
 
 _LONGEST = 128
+# What never changes.
+_FOR_EVER = "public, max-age=31536000, immutable"
 
 
 async def health(request: Request) -> Response:
@@ -75,6 +78,20 @@ async def leaves(request: Request) -> Response:
     return Response("".join(lines), 200, headers, "text/plain")
 
 
+async def leaf(request: Request) -> Response:
+    """Where a record of a log stands: in its log, and its leaf in the registry's log."""
+    words, registry = query(request, "log", "record"), registry_of(request)
+    log_id, record_id = words.get("log", ""), words.get("record", "")
+    if not is_id(log_id) or not is_id(record_id):
+        raise bad_request("BadQuery", "log or record is missing, or no id")
+    standing = await registry.read(registry.storage.place, log_id, record_id)
+    if standing is None:
+        if await registry.read(registry.storage.log, log_id) is None:
+            raise no_log()
+        raise not_found("NoRecord", "the log has no such record")
+    return _kept(request, json_text(Published(record_id, log_id, *standing).members()), _FOR_EVER)
+
+
 async def newest_checkpoint(request: Request) -> Response:
     """The newest checkpoint."""
     query(request)
@@ -82,7 +99,7 @@ async def newest_checkpoint(request: Request) -> Response:
     newest = await registry.read(registry.checkpoints.current)
     if newest is None:
         raise no_checkpoint()
-    return _checkpoint(request, newest.text, "no-cache")
+    return _kept(request, newest.text, "no-cache")
 
 
 async def checkpoint(request: Request) -> Response:
@@ -94,10 +111,11 @@ async def checkpoint(request: Request) -> Response:
     text = await registry.read(registry.storage.checkpoint, length)
     if text is None:
         raise no_checkpoint(" of this length")
-    return _checkpoint(request, text, "public, max-age=31536000, immutable")
+    return _kept(request, text, _FOR_EVER)
 
 
-def _checkpoint(request: Request, text: str, kept: str) -> Response:
+def _kept(request: Request, text: str, kept: str) -> Response:
+    """An answer of JSON that may be kept so, with a tag."""
     headers = {"ETag": f'"{hashlib.sha256(text.encode()).hexdigest()}"', "Cache-Control": kept}
     if has_tag(request, headers["ETag"]):
         return Response(status_code=HTTPStatus.NOT_MODIFIED, headers=headers)

@@ -92,9 +92,14 @@ def unknown_type(*types: str) -> Problem:
     return Problem(HTTPStatus.UNSUPPORTED_MEDIA_TYPE, "UnknownType", f"a body is of {' or '.join(types)}")
 
 
+def json_text(value: object) -> str:
+    """The text of a value, as answers have it."""
+    return json.dumps(value, separators=(",", ":"))
+
+
 def json_answer(value: object, status: int = 200, headers: dict[str, str] | None = None) -> Response:
     """An answer of JSON."""
-    return Response(json.dumps(value, separators=(",", ":")), status, headers, "application/json")
+    return Response(json_text(value), status, headers, "application/json")
 
 
 def has_tag(request: Request, tag: str) -> bool:

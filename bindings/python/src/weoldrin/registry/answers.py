@@ -116,6 +116,17 @@ class Registry:
         value = self._json(_path("proof/inclusion", leaf=place, length=length), _SMALL)
         return checkpoint_in(member(value, "checkpoint", dict)), member(value, "proof", str)
 
+    def leaf(self, log_id: str, record_id: str) -> int | None:
+        """Where the leaf of a log's record is said to stand in the registry's log; none where it is said to have no
+        such record."""
+        try:
+            value = self._json(_path("leaf", log=log_id, record=record_id), _SMALL)
+        except Problem as problem:
+            if problem.name in ("NoLog", "NoRecord"):
+                return None
+            raise
+        return member(value, "registryIndex", int)
+
     def leaves(self, since: int) -> tuple[list[Leaf], bool]:
         """Leaves from a place on, and whether more follow."""
         answer = self._asked(_path("leaves", **{"from": since}), _LARGE)

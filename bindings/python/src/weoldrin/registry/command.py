@@ -10,7 +10,6 @@ from ..printing import print_lines, tell
 from . import fetch, gossip, lock, monitor
 from .answers import Problem
 from .following import OLDEST
-from .growing import LEAVES
 from .told import NoAnswer, NoPackage, Told, Unusable, Unwritten
 
 _STATUS = "Status: 0 verified, 1 refused or told, 2 wrong words or files that can't be used, 3 no answer, or a failed "
@@ -39,12 +38,6 @@ def _add_common(command: argparse.ArgumentParser, has_trust: bool = True) -> Non
         command.add_argument("--trust", action=Once, metavar="FILE", help="what was seen before, and is kept")
 
 
-def _add_leaves(command: argparse.ArgumentParser) -> None:
-    command.add_argument(
-        "--leaves", type=_number, default=LEAVES, help="how many of the registry's leaves are looked at for a record's"
-    )
-
-
 def _parser() -> argparse.ArgumentParser:
     parser = Words(prog="weoldrin", description="Asks a registry, and believes it nothing.", epilog=_STATUS)
     commands = parser.add_subparsers(dest="command", required=True)
@@ -57,18 +50,15 @@ def _parser() -> argparse.ArgumentParser:
     command.add_argument("name", metavar="NAME", help="the package's, as example:math")
     command.add_argument("--out", action=Once, metavar="LOG", help="the log's file, which is gone on from; - prints it")
     _add_common(command)
-    _add_leaves(command)
     command = added("lock", "locks the versions that meet requirements")
     command.add_argument("url", metavar="URL")
     command.add_argument("requirements", metavar="REQUIREMENTS", help="a file of lines: NAME and a requirement")
     command.add_argument("--out", action=Once, required=True, metavar="FILE", help="the file of locked versions")
     _add_common(command)
-    _add_leaves(command)
     command = added("check", "says whether locked versions stand")
     command.add_argument("url", metavar="URL")
     command.add_argument("file", metavar="FILE", help="the file that lock wrote")
     _add_common(command, has_trust=False)
-    _add_leaves(command)
     _add_monitor(added("monitor", "follows a registry's checkpoints, leaves and logs"))
     command = added("gossip", "compares what two monitors saw")
     for side in ("left", "right"):

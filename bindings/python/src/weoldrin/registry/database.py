@@ -12,7 +12,6 @@ from typing import NamedTuple
 from ..errors import BadArgument
 from .answers import Leaf
 from .told import NoAnswer, Told, Unusable, Unwritten
-from .trees import Edge, Head
 from .trust import Trust
 
 _APPLICATION = 0x574D4F4E
@@ -25,7 +24,7 @@ CREATE TABLE leaves (place INTEGER PRIMARY KEY, log TEXT NOT NULL, record TEXT N
 CREATE INDEX leaves_by_log ON leaves (log, place);
 CREATE INDEX leaves_by_record ON leaves (record);
 CREATE TABLE logs (id TEXT PRIMARY KEY, head TEXT NOT NULL, leaves INTEGER NOT NULL, count INTEGER NOT NULL,
-                   state TEXT NOT NULL, deep BLOB);
+                   state TEXT NOT NULL);
 CREATE INDEX logs_behind ON logs (id) WHERE count < leaves;
 CREATE TABLE told (number INTEGER PRIMARY KEY, subject TEXT NOT NULL UNIQUE, text TEXT NOT NULL,
                    is_printed INTEGER NOT NULL, is_sent INTEGER NOT NULL);
@@ -123,36 +122,42 @@ class Database:
 
     # Leaves and logs
 
-    def edge(self) -> Edge:
-        """The right edge of the registry's log, as far as its leaves were read."""
-        return Edge(self.kept("edge") or "")
+    def read(self) -> int:
+        """How many leaves were read."""
+        return self._number("SELECT count(*) FROM leaves")
 
-    def add_leaves(self, edge: Edge, start: int, leaves: Iterable[Leaf]) -> None:
-        """Adds leaves, which begin at a place and lead to an edge. They count when they were found to be the signed
-        ones."""
+    def counted(self) -> int:
+        """How many of them count: those that were found to be the signed ones, of which each log has its own."""
+        return self._number("SELECT coalesce(sum(leaves), 0) FROM logs")
+
+    def leaves(self, start: int, most: int) -> list[Leaf]:
+        """Leaves that were read, from a place on."""
+        question = "SELECT log, record FROM leaves WHERE place >= ? ORDER BY place LIMIT ?"
+        rows = self._file.execute(question, (start, most))
+        return [Leaf(str(log), str(record)) for log, record in rows]
+
+    def add_leaves(self, start: int, leaves: Iterable[Leaf]) -> None:
+        """Adds leaves, which begin at a place. They count when they were found to be the signed ones."""
         rows = [(place, *it) for place, it in enumerate(leaves, start)]
         self._file.executemany("INSERT INTO leaves VALUES (?, ?, ?)", rows)
-        self.keep("edge", edge.to_text())
 
     def drop_leaves(self) -> int:
         """Drops the leaves that do not count, and gives the place of the first of them."""
-        counted = Edge(self.kept("counted") or "")
-        self._file.execute("DELETE FROM leaves WHERE place >= ?", (counted.length,))
-        self.keep("edge", counted.to_text())
-        return counted.length
+        counted = self.counted()
+        self._file.execute("DELETE FROM leaves WHERE place >= ?", (counted,))
+        return counted
 
     def count_leaves(self) -> list[tuple[str, str, str]]:
         """Has all leaves count, and gives the records of the new ones that are leaves of several logs: each with the
         log that has it first, and with the other one."""
-        start = Edge(self.kept("counted") or "").length
+        start = self.counted()
         # Beside max(place), SQLite takes the other columns of its row.
         self._file.execute(
-            "INSERT INTO logs SELECT log, record, number, 0, '', NULL FROM "
+            "INSERT INTO logs (id, head, leaves, count, state) SELECT log, record, number, 0, '' FROM "
             "(SELECT log, record, count(*) AS number, max(place) FROM leaves WHERE place >= ? GROUP BY log) WHERE true "
-            "ON CONFLICT (id) DO UPDATE SET head = excluded.head, leaves = leaves + excluded.leaves, deep = NULL",
+            "ON CONFLICT (id) DO UPDATE SET head = excluded.head, leaves = leaves + excluded.leaves",
             (start,),
         )
-        self.keep("counted", self.kept("edge") or "")
         rows = self._file.execute(
             "SELECT a.record, b.log, a.log FROM leaves a JOIN leaves b ON a.record = b.record AND a.log <> b.log "
             "WHERE a.place >= ? AND b.place < a.place ORDER BY a.place",
@@ -177,20 +182,14 @@ class Database:
             found.append(Behind(log_id, have, state, self.records_of(log_id)[have:]))
         return found
 
-    def replayed(self, log_id: str, count: int, state: str, deep: bytes) -> None:
-        """Keeps how far a log was replayed, and the deep root of its head."""
-        row = count, state, deep, log_id
-        self._file.execute("UPDATE logs SET count = ?, state = ?, deep = ? WHERE id = ?", row)
+    def replayed(self, log_id: str, count: int, state: str) -> None:
+        """Keeps how far a log was replayed."""
+        self._file.execute("UPDATE logs SET count = ?, state = ? WHERE id = ?", (count, state, log_id))
 
     def newest_logs(self, count: int) -> list[str]:
         """The ids of some logs, those of the newest leaves first."""
         rows = self._file.execute("SELECT log FROM leaves GROUP BY log ORDER BY max(place) DESC LIMIT ?", (count,))
         return [str(log) for (log,) in rows]
-
-    def heads(self) -> list[Head]:
-        """The last record of each log, by the leaves."""
-        rows = self._file.execute("SELECT id, head, deep FROM logs")
-        return [Head(bytes.fromhex(log[7:]), str(head), deep) for log, head, deep in rows]
 
     def counts(self) -> tuple[int, int]:
         """How many logs there are, and how many records were replayed."""

@@ -65,15 +65,14 @@ def run(asked: argparse.Namespace) -> int:
         have = [] if file is None else file.envelopes()
         follower = opened(asked, trust)
         was_pinned = trust.key is not None
-        found = package(follower, asked.name, have, asked.leaves)
+        found = package(follower, asked.name, have)
         if file is not None:
             add(file, found.envelopes[len(have) :])
         if beside is not None:
             trusted.write(asked.trust, beside, trust.to_json())
         tell_first_use(trust.key, was_pinned)
     length, seen = found.checkpoint.contents.log_length, found.seen
-    leaf = "not looked for" if seen.place is None else seen.place
-    line = f"ok {seen.count} {seen.head} under {length} {time_text(found.checkpoint)} leaf {leaf}"
+    line = f"ok {seen.count} {seen.head} under {length} {time_text(found.checkpoint)} leaf {seen.place}"
     if asked.out == "-":
         print_lines(it.hex() for it in found.envelopes)
         tell(line)

@@ -11,19 +11,19 @@ from .trust import Seen
 
 # What a record is refused by.
 REFUSED = (NoEnvelope, Refused, UnknownAlgorithm)
-# So many leaves are gone through to find the one of a record.
-LEAVES = 50_000
+# So many leaves are gone through to say what a log is that is not reached.
+_LEAVES = 50_000
 
 
-def walk(registry: Registry, start: int, end: int) -> Iterator[tuple[int, Leaf]]:
-    """The leaves from a place on up to a length, each with its place."""
+def _walk(registry: Registry, start: int, end: int) -> Iterator[Leaf]:
+    """The leaves from a place on up to a length."""
     place, more = start, True
     while place < end:
         if not more:
             raise Told("left out leaf", f"{end} leaves are signed, and {place} are served")
         leaves, more = registry.leaves(place)
         for leaf in leaves[: end - place]:
-            yield place, leaf
+            yield leaf
             place += 1
 
 
@@ -80,7 +80,7 @@ def _by_leaves(registry: Registry, log_id: str, ids: list[str], length: int) -> 
     """The records that the registry's log has of a log, among its last leaves, and the other log that has the last of
     the records that are served, if one has it in its place."""
     own, other = [], ""
-    for _, leaf in walk(registry, max(0, length - LEAVES), length):
+    for leaf in _walk(registry, max(0, length - _LEAVES), length):
         if leaf.log_id == log_id:
             own.append(leaf.record_id)
         elif ids and leaf.record_id == ids[-1]:

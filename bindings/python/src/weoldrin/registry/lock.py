@@ -118,7 +118,7 @@ def run_lock(asked: argparse.Namespace) -> int:
         locked, lines = {}, []
         for it in wanted:
             try:
-                release = _chosen(package(follower, it.name, leaves=asked.leaves), it)
+                release = _chosen(package(follower, it.name), it)
             except NoPackage:
                 release = None
             lines.append(f"{it.name} {release.version} {release.content}" if release else f"{it.name} none")
@@ -142,7 +142,7 @@ def run_check(asked: argparse.Namespace) -> int:
     follower = opened(asked, trust)
     lines, status = [], 0
     for name, it in sorted(releases.items()):
-        found = package(follower, name, leaves=asked.leaves)
+        found = package(follower, name)
         if found.log_id != it.log:
             raise Unusable(f"{asked.file}: it is no {_WHAT}: {it.log} is not the log of {name}")
         verdict = _standing(found, it)

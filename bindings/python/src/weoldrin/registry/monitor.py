@@ -1,5 +1,5 @@
 """`weoldrin monitor URL --database FILE`: follows a registry's checkpoints, and goes through all leaves and logs under
-them. What it saw is in SQLite, and so is what it tells."""
+them. What it saw is in SQLite, and so is what it tells. What makes the roots of the leaves anew is the library."""
 
 import argparse
 import contextlib
@@ -8,21 +8,22 @@ import time
 from collections.abc import Callable
 
 from ..checkpoints import SignedCheckpoint
+from ..errors import BadArgument
 from ..logs import record_id
 from ..printing import print_lines, printable, tell
-from ..proofs import verify_consistency
+from ..trees import RegistryTrees
 from . import asking
 from . import trust as trusted
 from .answers import Problem
 from .database import Behind, Database
 from .fetch import opened, tell_first_use
-from .following import Follower, holds
+from .following import Follower
 from .replaying import BATCH, Replayed, Replayer, kind_of_log
-from .told import BadAnswer, NoAnswer, Told
-from .trees import Maps
+from .told import BadAnswer, NoAnswer, Told, Unusable
 
-# So many leaves are read in one step, and so many logs are asked for whose head in the map is wrong.
-_PAGE, _ASKED = 20_000, 200
+# So many leaves are read in one step, so many are put into the trees at once, and so many logs are asked for whose head
+# in the map is wrong.
+_PAGE, _PUSHED, _ASKED = 20_000, 2_000, 200
 
 
 class Monitor:
@@ -30,8 +31,14 @@ class Monitor:
 
     def __init__(self, database: Database, follower: Callable[[], Follower], replayer: Replayer, most: int) -> None:
         self._database, self._follower, self._replayer, self._most = database, follower, replayer, most
-        self._maps = Maps()
+        self._trees: RegistryTrees | None = None
         self._found: list[Told] = []
+
+    def close(self) -> None:
+        """Gives the memory of the trees back."""
+        if self._trees is not None:
+            self._trees.close()
+        self._trees = None
 
     def step(self) -> list[Told]:
         """Goes on to the newest checkpoint, and gives all that is to be told of it. What is new of that is kept to be
@@ -65,20 +72,22 @@ class Monitor:
     def _read_leaves(self, follower: Follower, newest: SignedCheckpoint) -> None:
         """Reads the leaves up to those that are signed, a page in a transaction, and counts them where they are
         these."""
-        edge, signed = self._database.edge(), newest.contents
+        start, signed = self._database.read(), newest.contents
         if signed.log_length > self._most:
             raise BadAnswer(f"more leaves are signed than --most {self._most}")
-        while edge.length < signed.log_length:
-            start = edge.length
+        if self._is_checked(newest):
+            return
+        while start < signed.log_length:
             leaves = follower.registry.leaves(start)[0][: min(_PAGE, signed.log_length - start)]
             if not leaves:
                 why = f"{signed.log_length} leaves are signed, and {start} are served"
                 raise Told("left out leaf", why, newest, subject=f"{start}")
-            for it in leaves:
-                edge.append(it)
             with self._database.step():
-                self._database.add_leaves(edge, start, leaves)
-        if not holds(verify_consistency, edge.length, edge.root(), signed.log_length, signed.log_root, ""):
+                self._database.add_leaves(start, leaves)
+            start += len(leaves)
+        if self._trees_of(start).log_root() != signed.log_root:
+            # They have leaves that do not count.
+            self.close()
             with self._database.step():
                 start = self._database.drop_leaves()
             why = f"the leaves from place {start} on that are served are not those that are signed"
@@ -87,6 +96,20 @@ class Monitor:
             for record, first, other in self._database.count_leaves():
                 why = f"the record {record} stands in two logs, {first} and {other}: one is a copy of the other"
                 self._tell(Told("wrong name", why, subject=f"{record} {other}"))
+
+    def _trees_of(self, length: int) -> RegistryTrees:
+        """The trees over all leaves that were read, of so many. They are made of them at first, and go on then."""
+        trees = self._trees = self._trees or RegistryTrees()
+        while (start := len(trees)) < length:
+            try:
+                trees.push_all(self._database.leaves(start, min(_PUSHED, length - start)))
+            except BadArgument:
+                raise Unusable(f"{self._database.path}: a leaf in it is spoiled") from None
+        return trees
+
+    def _is_checked(self, newest: SignedCheckpoint) -> bool:
+        """Whether the roots of a checkpoint were found to be those of the leaves."""
+        return self._database.kept("roots") == _roots_of(newest)
 
     # Logs
 
@@ -99,7 +122,7 @@ class Monitor:
                 faults = [self._named(follower, it, it.fault) for it in batch if it.fault]
                 with self._database.step():
                     for it in batch:
-                        self._database.replayed(it.log_id, it.records, it.state, it.deep)
+                        self._database.replayed(it.log_id, it.records, it.state)
                     for fault in faults:
                         self._tell(fault)
 
@@ -131,14 +154,12 @@ class Monitor:
 
     def _check_map(self, follower: Follower, newest: SignedCheckpoint) -> None:
         """Tells where the signed map is not that of the leaves."""
-        checked = f"{newest.contents.log_length} {newest.contents.map_root}"
-        if self._database.kept("map") == checked:
+        if self._is_checked(newest):
             return
-        heads = self._database.heads()
-        if self._maps.root(heads) != newest.contents.map_root:
+        if self._trees_of(newest.contents.log_length).map_root() != newest.contents.map_root:
             raise self._explained(follower, newest)
         with self._database.step():
-            self._database.keep("map", checked)
+            self._database.keep("roots", _roots_of(newest))
 
     def _explained(self, follower: Follower, newest: SignedCheckpoint) -> Told:
         """What a map is that is not that of the leaves: the logs of the newest leaves are asked for."""
@@ -154,6 +175,11 @@ class Monitor:
             why = f"the map has {head.record_id} as the last record of {name}, and no leaf is of it"
             return Told("left out leaf", why, newest, subject=f"{length} {name}")
         return Told("false map", "the map that is signed is not that of the leaves", newest, subject=f"{length}")
+
+
+def _roots_of(it: SignedCheckpoint) -> str:
+    """What a checkpoint says of the leaves."""
+    return f"{it.contents.log_length} {it.contents.log_root} {it.contents.map_root}"
 
 
 class Teller:
@@ -211,24 +237,29 @@ def run(asked: argparse.Namespace) -> int:
     """Follows a registry, by one step or for ever."""
     replayer = Replayer(asked.url, asked.seconds, asked.workers)
     with contextlib.closing(Database(asked.database)) as database, contextlib.closing(replayer):
-        monitor = Monitor(database, lambda: opened(asked, database.trust()), replayer, asked.most)
-        teller = Teller(database, asked.json, asked.webhook)
         with database.step():
             database.keep("url", asked.url)
-        followed = ""
-        while True:
-            try:
-                is_good, line = _stepped(asked, database, monitor, teller)
-                if line != followed:
-                    print_lines([line])
-                followed = line
-                if asked.once:
-                    return 0 if is_good else 1
-            except NoAnswer as error:
-                if asked.once:
-                    raise
-                tell(f"weoldrin: {error.args[0]}")
-            time.sleep(asked.every)
+        monitor = Monitor(database, lambda: opened(asked, database.trust()), replayer, asked.most)
+        with contextlib.closing(monitor):
+            return _run(asked, database, monitor)
+
+
+def _run(asked: argparse.Namespace, database: Database, monitor: Monitor) -> int:
+    teller = Teller(database, asked.json, asked.webhook)
+    followed = ""
+    while True:
+        try:
+            is_good, line = _stepped(asked, database, monitor, teller)
+            if line != followed:
+                print_lines([line])
+            followed = line
+            if asked.once:
+                return 0 if is_good else 1
+        except NoAnswer as error:
+            if asked.once:
+                raise
+            tell(f"weoldrin: {error.args[0]}")
+        time.sleep(asked.every)
 
 
 def _stepped(asked: argparse.Namespace, database: Database, monitor: Monitor, teller: Teller) -> tuple[bool, str]:

@@ -8,7 +8,7 @@ from ..logs import PackageLog, log_id
 from ..proofs import verify_inclusion
 from .answers import Problem
 from .following import Follower, check_known, holds
-from .growing import LEAVES, REFUSED, grow, walk
+from .growing import REFUSED, grow
 from .told import NoPackage, Told, Unusable
 from .trust import Seen
 
@@ -23,9 +23,8 @@ class Package(NamedTuple):
     checkpoint: SignedCheckpoint
 
 
-def package(follower: Follower, name: str, have: Sequence[bytes] = (), leaves: int = LEAVES) -> Package:
-    """The log of a package, which goes on from the envelopes that are there already, and from what is trusted. At most
-    so many leaves are gone through to find that of its last record; where it was not found, the place is none.
+def package(follower: Follower, name: str, have: Sequence[bytes] = ()) -> Package:
+    """The log of a package, which goes on from the envelopes that are there already, and from what is trusted.
 
     Raises `Told`, `NoPackage`, and `Unusable` where what is there is no lawful log."""
     its_id = log_id("package", name)
@@ -40,7 +39,7 @@ def package(follower: Follower, name: str, have: Sequence[bytes] = (), leaves: i
     there = Seen(last, len(have)) if last else None
     new = grow(follower.registry, log, its_id, there, head.record_id, checkpoint.contents.log_length)
     check_known(log, its_id, known)
-    place = _place_of(follower, its_id, head.record_id, known, leaves)
+    place = _place_of(follower, its_id, head.record_id, known)
     seen = Seen(head.record_id, len(log), place)
     follower.trust.logs[its_id] = seen
     return Package(its_id, log, [*have, *new], seen, checkpoint)
@@ -56,21 +55,20 @@ def _log_of(envelopes: Sequence[bytes]) -> PackageLog:
     return log
 
 
-def _place_of(follower: Follower, its_id: str, record_id: str, known: Seen | None, bound: int) -> int | None:
-    """Where the leaf of a log's last record stands in the registry's log, which is proved; none where it is not among
-    the leaves that are gone through. Raises `Told` where there is none."""
-    if known is not None and known.head == record_id and known.place is not None:
-        return known.place
+def _place_of(follower: Follower, its_id: str, record_id: str, known: Seen | None) -> int:
+    """Where the leaf of a log's last record stands in the registry's log, which is proved. Raises `Told` where there
+    is none, or where it does not stand behind the one that was the last before."""
+    before = -1 if known is None or known.place is None else known.place
+    if known is not None and known.head == record_id and before >= 0:
+        return before
     newest = follower.newest or follower.follow()
-    length = newest.contents.log_length
-    start = max(0 if known is None or known.place is None else known.place + 1, length - bound)
-    for place, leaf in walk(follower.registry, start, length):
-        if leaf == (its_id, record_id):
-            _check_leaf(follower, place, its_id, record_id)
-            return place
-    if start > 0 and (known is None or known.place is None or known.place + 1 < start):
-        return None
-    raise Told("left out leaf", f"the map has {record_id} as the last record of {its_id}, and no leaf is of it", newest)
+    place = follower.registry.leaf(its_id, record_id)
+    if place is None or not before < place < newest.contents.log_length:
+        why = "no leaf is" if place is None else f"the leaf at place {place} is said to be"
+        sentence = f"the map has {record_id} as the last record of {its_id}, and {why} of it"
+        raise Told("left out leaf", sentence, newest)
+    _check_leaf(follower, place, its_id, record_id)
+    return place
 
 
 def _check_leaf(follower: Follower, place: int, its_id: str, record_id: str) -> None:

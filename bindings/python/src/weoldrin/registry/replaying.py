@@ -15,7 +15,6 @@ from .answers import Problem, Registry
 from .database import Behind
 from .growing import REFUSED
 from .told import BadAnswer, Told
-from .trees import deep_root
 
 # So many logs are asked for at once.
 BATCH = 100
@@ -30,8 +29,6 @@ class Replayed(NamedTuple):
     fault: Told | None
     other: str | None
     """The id of the record that was served in place of the next one, if another was."""
-    deep: bytes
-    """The deep root of the log's head, by the leaves."""
 
 
 def kind_of_log(name: str) -> LogKind:
@@ -79,7 +76,6 @@ class _Replay:
     def result(self) -> Replayed:
         """What became of it."""
         it, name, fault = self._it, self._it.log_id, self._fault
-        deep = deep_root(name, it.wanted[-1])
         if not self.is_done:
             why = f"record {self.count} of {name} is not served, and its leaf names {it.wanted[self._taken]}"
             fault = Told("missing record", why, subject=f"{name} {self.count}")
@@ -88,8 +84,8 @@ class _Replay:
         except BadArgument:
             why = f"a time of {name} lies before 1970, which no registry takes"
             unsaid = Told("unlawful record", why, subject=f"{name} time")
-            return Replayed(name, it.records, it.state, unsaid, None, deep)
-        return Replayed(name, self.count, state, fault, self._other, deep)
+            return Replayed(name, it.records, it.state, unsaid, None)
+        return Replayed(name, self.count, state, fault, self._other)
 
 
 def replay(registry: Registry, batch: list[Behind]) -> list[Replayed]:
