@@ -140,7 +140,7 @@ impl<K: Ord + Hash + Clone + Drop> Index<K> {
         ensures capacity { vec_capacity self.new.late ≡ vec_capacity self.old.late }
     {
         for place in 0..keys.len() {
-            self.add(hashes[place], &keys[place], place);
+            self.add(hashes[place], None, &keys[place], place);
         }
     }
 

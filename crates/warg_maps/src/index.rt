@@ -47,6 +47,17 @@ fn far_hash<Q: Hash>(key: &Q) -> u64
     hasher.finish()
 }
 
+/// The other hash of a key, computed where it is not given.
+fn given_or_far_hash<Q: Hash>(far: Option<u64>, key: &Q) -> u64
+    requires { IfSome far (λ far. far ≡ far_hash (Q.hash_input key.now)) }
+    ensures { result ≡ far_hash (Q.hash_input key.now) }
+{
+    match far {
+        Some(far) => far,
+        None => far_hash(key),
+    }
+}
+
 /// The low half of a hash.
 #[inline(always)]
 pub(crate) fn low_half(hash: u64) -> u32
@@ -183,41 +194,53 @@ impl<K: Ord + Hash> Index<K> {
         }
     }
 
-    /// The place of the key, but for those of which a tree had no memory.
+    /// The place of the key, but for those of which a tree had no memory, and its other hash where that was computed.
     #[inline(always)]
-    fn find_placed<Q: Query<K>>(&self, keys: &[K], hash: u32, key: Q) -> Option<usize>
-        ensures found { IfSome result (IsAt (Q.equivalent key) keys.now) }
-        ensures missed { IfNone result ((i : ℕ) (k : K) → IsTrue (Q.equivalent key k) →
+    fn find_placed<Q: Query<K>>(
+        &self,
+        keys: &[K],
+        hash: u32,
+        key: Q,
+    ) -> (Option<usize>, Option<u64>)
+        ensures found { IfSome result.0 (IsAt (Q.equivalent key) keys.now) }
+        ensures missed { IfNone result.0 ((i : ℕ) (k : K) → IsTrue (Q.equivalent key k) →
             HasPlaced K.cmp self.now hash (far_hash (Q.hash_input key)) k i →
             IsAt (Q.equivalent key) keys.now i → ⊥) }
+        ensures far { IfSome result.1 (λ far. far ≡ far_hash (Q.hash_input key)) }
     {
         if let Some(place) = find_in_bucket(&self.near, keys, hash, key) {
-            return Some(place);
+            return (Some(place), None);
         }
         if !is_full(&self.near, hash) {
-            return None;
+            return (None, None);
         }
         let far = far_hash(&key);
         match self.find_second(keys, far, key) {
-            Some(place) => Some(place),
-            None => None,
+            Some(place) => (Some(place), Some(far)),
+            None => (None, Some(far)),
         }
     }
 
-    /// The place of the key that the query stands for.
+    /// The place of the key that the query stands for, and its other hash where that was computed.
     #[inline(always)]
-    pub fn find<Q: Query<K>>(&self, keys: &[K], hash: u32, key: Q) -> Option<usize>
-        ensures found { IfSome result (IsAt (Q.equivalent key) keys.now) }
-        ensures missed { IfNone result ((i : ℕ) (k : K) → IsTrue (Q.equivalent key k) →
+    pub fn search<Q: Query<K>>(&self, keys: &[K], hash: u32, key: Q) -> (Option<usize>, Option<u64>)
+        ensures found { IfSome result.0 (IsAt (Q.equivalent key) keys.now) }
+        ensures missed { IfNone result.0 ((i : ℕ) (k : K) → IsTrue (Q.equivalent key k) →
             HasEntry K.cmp self.now hash (far_hash (Q.hash_input key)) k i →
             IsAt (Q.equivalent key) keys.now i → ⊥) }
+        ensures far { IfSome result.1 (λ far. far ≡ far_hash (Q.hash_input key)) }
     {
-        if let Some(place) = self.find_placed(keys, hash, key) {
-            return Some(place);
+        // Without buckets, a key would be looked for by its other hash, and in both trees.
+        if keys.is_empty() {
+            return (None, None);
         }
-        match self.find_late(keys, key) {
-            Some(place) => Some(place),
-            None => None,
+        let (placed, far) = self.find_placed(keys, hash, key);
+        match placed {
+            Some(place) => (Some(place), far),
+            None => match self.find_late(keys, key) {
+                Some(place) => (Some(place), far),
+                None => (None, far),
+            },
         }
     }
 }
@@ -262,9 +285,10 @@ impl<K: Ord + Hash + Clone + Drop> Index<K> {
         false
     }
 
-    /// Adds the place of a key, or answers that there was no memory.
-    fn add_placed(&mut self, hash: u32, key: &K, place: usize) -> bool
+    /// Adds the place of a key, or answers that there was no memory. Its other hash is computed where it is not given.
+    fn add_placed(&mut self, hash: u32, far: Option<u64>, key: &K, place: usize) -> bool
         requires place { place < FREE }
+        requires far { IfSome far (λ far. far ≡ far_hash (K.hash_input key.now)) }
         ensures added { IsTrue result →
             HasPlaced K.cmp self.new hash (far_hash (K.hash_input key.now)) key.now place }
         ensures kept { (h f : ℕ) (k : K) (i : ℕ) → is_eq (K.cmp key.now k) ≡ false →
@@ -274,16 +298,17 @@ impl<K: Ord + Hash + Clone + Drop> Index<K> {
         if put(&mut self.near, hash, place as u32) {
             return true;
         }
-        let far = far_hash(key);
+        let far = given_or_far_hash(far, key);
         if self.add_second(far, key, place) {
             return true;
         }
         false
     }
 
-    /// Adds the place of a key. Others keep theirs.
-    pub fn add(&mut self, hash: u32, key: &K, place: usize)
+    /// Adds the place of a key. Others keep theirs. Its other hash is computed where it is not given.
+    pub fn add(&mut self, hash: u32, far: Option<u64>, key: &K, place: usize)
         requires place { place < FREE }
+        requires far { IfSome far (λ far. far ≡ far_hash (K.hash_input key.now)) }
         requires room { vec_len self.old.late < vec_capacity self.old.late }
         ensures added { HasEntry K.cmp self.new hash (far_hash (K.hash_input key.now)) key.now place }
         ensures kept { (h f : ℕ) (k : K) (i : ℕ) → is_eq (K.cmp key.now k) ≡ false →
@@ -291,7 +316,7 @@ impl<K: Ord + Hash + Clone + Drop> Index<K> {
         ensures late { vec_len self.new.late ≤ vec_len self.old.late + 1 }
         ensures capacity { vec_capacity self.new.late ≡ vec_capacity self.old.late }
     {
-        if self.add_placed(hash, key, place) {
+        if self.add_placed(hash, far, key, place) {
             return;
         }
         self.late.push_reserved(place);

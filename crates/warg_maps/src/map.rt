@@ -1,6 +1,7 @@
 //! The map.
-ghost use Rattle.std.specs.Prelude.{◌≡◌, ◌+◌, ◌-◌, ◌^◌, ◌<◌, ◌≤◌, ◌↔◌, [], ◌∷◌, ◌++◌, length, slice_get, Some, None, IsTrue};
+ghost use Rattle.std.specs.Prelude.{◌≡◌, ◌+◌, ◌-◌, ◌^◌, ◌<◌, ◌≤◌, ◌↔◌, [], ◌∷◌, ◌++◌, length, slice_get, Some, None, IfSome, IsTrue};
 ghost use Rattle.indexmap.specs.IndexMap.{index_map_len, spare, hasher_of, get, index_of_by, IsEmpty, IsUnique};
+ghost use Rattle.warg_maps.specs.FarHash.{far_hash};
 ghost use Rattle.indexmap.specs.Layout.{hash_map, table_hash};
 ghost use Rattle.warg_maps.specs.NameMap.{room_of};
 
@@ -120,16 +121,28 @@ impl<K: Ord + Hash, V, S: BuildHasher> NameMap<K, V, S> {
         near_hash(&self.hash_builder, key)
     }
 
+    /// The place of the key, and its other hash where that was computed.
+    #[inline(always)]
+    pub(crate) fn search<Q: Query<K>>(&self, hash: u32, key: Q) -> (Option<usize>, Option<u64>)
+        requires { hash ≡ table_hash S.BuildHasher S.Hasher.Hasher (hasher_of self.now) (Q.hash_input key) }
+        ensures index { result.0 ≡ index_of_by (Q.equivalent key) self.now }
+        ensures far { IfSome result.1 (λ far. far ≡ far_hash (Q.hash_input key)) }
+        ensures unique { IsUnique K.eq self.now }
+    {
+        let (place, far) = self.index.search(self.keys.as_slice(), hash, key);
+        match place {
+            Some(place) => (Some(place), far),
+            None => (None, far),
+        }
+    }
+
     #[inline(always)]
     pub(crate) fn find<Q: Query<K>>(&self, hash: u32, key: Q) -> Option<usize>
         requires { hash ≡ table_hash S.BuildHasher S.Hasher.Hasher (hasher_of self.now) (Q.hash_input key) }
         ensures index { result ≡ index_of_by (Q.equivalent key) self.now }
         ensures unique { IsUnique K.eq self.now }
     {
-        match self.index.find(self.keys.as_slice(), hash, key) {
-            Some(place) => Some(place),
-            None => None,
-        }
+        self.search(hash, key).0
     }
 
     pub(crate) fn entry_at(&self, i: usize) -> (&K, &V)
@@ -139,15 +152,16 @@ impl<K: Ord + Hash, V, S: BuildHasher> NameMap<K, V, S> {
         (&self.keys[i], &self.values[i])
     }
 
-    pub(crate) fn add_last(&mut self, hash: u32, key: K, value: V)
+    pub(crate) fn add_last(&mut self, hash: u32, far: Option<u64>, key: K, value: V)
     where
         K: Clone + Drop,
         requires hash { hash ≡ table_hash S.BuildHasher S.Hasher.Hasher (hasher_of self.old) (K.hash_input key) }
+        requires far { IfSome far (λ far. far ≡ far_hash (K.hash_input key)) }
         requires absent { get K.eq self.old key ≡ None }
         requires spare { 0 < spare self.old }
         ensures { self.new ≡ hash_map (self.old.entries ++ (key, value) ∷ []) (hasher_of self.old) (spare self.old - 1) }
     {
-        self.index.add(hash, &key, self.keys.len());
+        self.index.add(hash, far, &key, self.keys.len());
         self.hashes.push_reserved(hash);
         self.keys.push_reserved(key);
         self.values.push_reserved(value);

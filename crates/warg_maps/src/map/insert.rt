@@ -1,6 +1,7 @@
 //! How entries go into a map: each by its key, or all those of another map.
-ghost use Rattle.std.specs.Prelude.{◌≡◌, ◌+◌, ◌<◌, ◌≤◌, [], length, reverse, zip, is_some, if◌then◌else◌, None, Some, IsOk, IfOk, IfErr, OnOk, OnErr, vec_capacity};
+ghost use Rattle.std.specs.Prelude.{◌≡◌, ◌+◌, ◌<◌, ◌≤◌, [], length, reverse, zip, is_some, if◌then◌else◌, None, Some, IfSome, IsOk, IfOk, IfErr, OnOk, OnErr, vec_capacity};
 ghost use Rattle.indexmap.specs.Layout.{table_hash};
+ghost use Rattle.warg_maps.specs.FarHash.{far_hash};
 ghost use Rattle.warg_maps.specs.NameMap.{Puts};
 ghost use Rattle.indexmap.specs.IndexMap.{index_map_len, index_of_by, spare, hasher_of, get, insert_entry, insert_index, insert_all, IsEmpty, IsUnique, IsUnchanged, InsertsAll, KeepsRoom, Updates, UsesRoomOf};
 
@@ -21,8 +22,15 @@ impl<K: Ord + Hash + Clone + Drop, V, S: BuildHasher> NameMap<K, V, S> {
     }
 
     /// Puts a key last that the map lacks, where there is memory.
-    fn put_last(&mut self, hash: u32, key: K, value: V) -> Result<usize, AllocFailed<(K, V)>>
+    fn put_last(
+        &mut self,
+        hash: u32,
+        far: Option<u64>,
+        key: K,
+        value: V,
+    ) -> Result<usize, AllocFailed<(K, V)>>
         requires hash { hash ≡ table_hash S.BuildHasher S.Hasher.Hasher (hasher_of self.old) (K.hash_input key) }
+        requires far { IfSome far (λ far. far ≡ far_hash (K.hash_input key)) }
         requires absent { index_of_by (K.eq key) self.old ≡ None }
         ensures puts { IfOk result (λ i. Puts K.eq self.old.entries self.new.entries key value i None) }
         ensures returned { IfErr result (λ y. y.value ≡ (key, value)) }
@@ -37,7 +45,7 @@ impl<K: Ord + Hash + Clone + Drop, V, S: BuildHasher> NameMap<K, V, S> {
             });
         }
         let place = self.len();
-        self.add_last(hash, key, value);
+        self.add_last(hash, far, key, value);
         Ok(place)
     }
 
@@ -94,13 +102,14 @@ impl<K: Ord + Hash + Clone + Drop, V, S: BuildHasher> NameMap<K, V, S> {
         ensures unique { IsUnique K.eq self.new }
     {
         let hash = self.near_hash_of(&key);
-        match self.find(hash, &key) {
+        let (placed, far) = self.search(hash, &key);
+        match placed {
             Some(place) => {
                 let old = self.put_over(place, &key, value);
                 Ok((place, Some(old)))
             }
             None => {
-                let place = self.put_last(hash, key, value)?;
+                let place = self.put_last(hash, far, key, value)?;
                 Ok((place, None))
             }
         }

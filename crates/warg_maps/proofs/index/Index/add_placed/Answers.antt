@@ -14,7 +14,7 @@ returns-then-put-clause-kept g c h f k i apart e = record { entry = place-kept _
 pub returns-then-add_second-clause-added : goal.returns-then-add_second-clause-added
 returns-then-add_second-clause-added g c _ =
     let full = subst (λ v. IsFull v.items c.args.hash) (sym c.add_second.ensures.near) (c.put.ensures.refused c.if-put.false) in
-    let further = subst (λ f. HasSecond g.K.Ord.cmp c.add_second.new.self f c.args.key.now c.args.place) c.far_hash-far.ensures (c.add_second.ensures.added c.if-add_second.true) in
+    let further = subst (λ f. HasSecond g.K.Ord.cmp c.add_second.new.self f c.args.key.now c.args.place) c.given_or_far_hash-far.ensures (c.add_second.ensures.added c.if-add_second.true) in
     record { entry = inr (full, further) }
 
 pub returns-then-add_second-clause-kept : goal.returns-then-add_second-clause-kept

@@ -12,7 +12,7 @@ on-refusal (Ok x) P holds = tt
 on-refusal (Err e) P holds = holds
 
 pub returns-in_err-place-in-None-clause-absent : goal.returns-in_err-place-in-None-clause-absent
-returns-in_err-place-in-None-clause-absent g c = on-refusal c.from_residual.result _ (Missing-position (g.K.PartialEq.eq c.args.key) c.args.self.now.entries (sym c.in-None.ensures.index)).value
+returns-in_err-place-in-None-clause-absent g c = on-refusal c.from_residual.result _ (Missing-position (g.K.PartialEq.eq c.args.key) c.args.self.now.entries (sym c.search-placed.ensures.index ∙ c.in-None.is)).value
 
 pub returns-in-Some-clause-updates : goal.returns-in-Some-clause-updates
 returns-in-Some-clause-updates g c = updates-inserted g.met.K.Eq.laws c.args.key c.args.value c.args.self.now.entries _ c.put_over-old.ensures.puts.entries
@@ -24,7 +24,7 @@ returns-in-Some-clause-len g c =
 
 pub returns-in-Some-clause-unique : goal.returns-in-Some-clause-unique
 returns-in-Some-clause-unique g c =
-    subst (λ l. IsDistinct g.K.PartialEq.eq (keys_of l)) (sym c.put_over-old.ensures.puts.entries) (distinct-inserted g.met.K.Eq.laws c.args.key c.args.value c.args.self.now.entries c.find.ensures.unique)
+    subst (λ l. IsDistinct g.K.PartialEq.eq (keys_of l)) (sym c.put_over-old.ensures.puts.entries) (distinct-inserted g.met.K.Eq.laws c.args.key c.args.value c.args.self.now.entries c.search-placed.ensures.unique)
 
 pub returns-in_ok-place-in-None-clause-updates : goal.returns-in_ok-place-in-None-clause-updates
 returns-in_ok-place-in-None-clause-updates g c = updates-inserted g.met.K.Eq.laws c.args.key c.args.value c.args.self.now.entries _ c.in_ok-place-in-None.ensures.puts.entries
@@ -36,4 +36,4 @@ returns-in_ok-place-in-None-clause-len g c =
 
 pub returns-in_ok-place-in-None-clause-unique : goal.returns-in_ok-place-in-None-clause-unique
 returns-in_ok-place-in-None-clause-unique g c =
-    subst (λ l. IsDistinct g.K.PartialEq.eq (keys_of l)) (sym c.in_ok-place-in-None.ensures.puts.entries) (distinct-inserted g.met.K.Eq.laws c.args.key c.args.value c.args.self.now.entries c.find.ensures.unique)
+    subst (λ l. IsDistinct g.K.PartialEq.eq (keys_of l)) (sym c.in_ok-place-in-None.ensures.puts.entries) (distinct-inserted g.met.K.Eq.laws c.args.key c.args.value c.args.self.now.entries c.search-placed.ensures.unique)
