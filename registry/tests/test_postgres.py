@@ -1,92 +1,33 @@
 """The tests of storage, and of kills, over PostgreSQL, where it is installed."""
 
-import importlib.util
-import os
-import pathlib
-import shutil
-import signal
-import subprocess
-import tempfile
 import threading
 import time
 import unittest
 
-from weoldrin_registry.storage import Locked, NewRecord, Storage, StorageError
+from weoldrin_registry.storage import Locked, NewRecord, Storage, Unreachable
 
+from .database import Server, check_installed
 from .test_kills import Killed
 from .test_processes import Processes
 from .test_storage import States, Writers
 
-# Where Debian has the programs of each version.
-_BINARIES = sorted(pathlib.Path("/usr/lib/postgresql").glob("*/bin/initdb"))
-
-
-class Server:
-    """A server of PostgreSQL for all tests of this file, in a folder of its own."""
-
-    folder: tempfile.TemporaryDirectory[str]
-    process: subprocess.Popen[bytes]
-    count = 0
-    is_there = False
-
-    @classmethod
-    def start(cls) -> None:
-        """Starts it. It does not run as root, so that another user has to."""
-        cls.folder = tempfile.TemporaryDirectory()
-        as_user = [] if os.getuid() else ["setpriv", "--reuid=postgres", "--regid=postgres", "--clear-groups"]
-        if as_user:
-            shutil.chown(cls.folder.name, "postgres", "postgres")
-        words = [*as_user, str(_BINARIES[-1]), "-D", f"{cls.folder.name}/data", "-A", "trust", "-U", "weoldrin", "-N"]
-        subprocess.run(words, check=True, capture_output=True, cwd="/")
-        options = ["-k", cls.folder.name, "-c", "listen_addresses=", "-c", "max_connections=200"]
-        words = [*as_user, str(_BINARIES[-1].with_name("postgres")), "-D", f"{cls.folder.name}/data", *options]
-        cls.process = subprocess.Popen(words, stderr=subprocess.DEVNULL, cwd="/")
-        cls.is_there = True
-        for _ in range(300):
-            if pathlib.Path(cls.folder.name, ".s.PGSQL.5432").exists():
-                return
-            time.sleep(0.1)
-        raise RuntimeError("PostgreSQL did not start")
-
-    @classmethod
-    def database(cls) -> str:
-        """The address of a new database."""
-        import psycopg
-
-        cls.count += 1
-        name = f"test{cls.count}"
-        at = f"?host={cls.folder.name}"
-        for _ in range(100):
-            try:
-                with psycopg.connect(f"postgresql://weoldrin@/postgres{at}", autocommit=True) as connection:
-                    connection.execute(f"CREATE DATABASE {name}")
-                break
-            except psycopg.OperationalError:
-                time.sleep(0.1)
-        return f"postgresql://weoldrin@/{name}{at}"
+# The server of all tests of this file.
+_SERVERS: list[Server] = []
 
 
 def setUpModule() -> None:
     """Starts the server."""
-    if not _BINARIES or importlib.util.find_spec("psycopg") is None:
-        raise unittest.SkipTest("PostgreSQL, or the package psycopg, is not installed")
-    Server.start()
-
-
-def tearDownModule() -> None:
-    """Ends it."""
-    if Server.is_there:
-        # It does not wait for those that are connected.
-        Server.process.send_signal(signal.SIGINT)
-        Server.process.wait(60)
-        Server.folder.cleanup()
+    check_installed()
+    _SERVERS.append(Server())
+    unittest.addModuleCleanup(_SERVERS[0].stop)
+    _SERVERS[0].begin()
 
 
 class OnPostgres(unittest.TestCase):
     """Has the tests of storage be of a database."""
 
     def setUp(self) -> None:
-        self.database = Server.database()
+        self.database = _SERVERS[0].database()
         super().setUp()
 
     def _opened(self) -> Storage:
@@ -155,10 +96,14 @@ class WritersOnPostgres(OnPostgres, Writers):
 
         def broken() -> None:
             with psycopg.connect(self.database, autocommit=True) as other:
-                query = "SELECT pg_terminate_backend(pid) FROM pg_stat_activity WHERE pid <> pg_backend_pid()"
-                other.execute(f"{query} AND datname = current_database()")
+                those = "FROM pg_stat_activity WHERE pid <> pg_backend_pid() AND datname = current_database()"
+                while other.execute(f"SELECT pg_terminate_backend(pid) {those}").fetchall():
+                    time.sleep(0.01)
 
-        self.assertRaises(StorageError, self.storage.append, new, broken)
+        self.assertRaises(Unreachable, self.storage.append, new, broken)
+        self.assertIsNone(self.storage.log("sha256:1"))
+        # One that was ended while nothing was asked is made anew before.
+        broken()
         self.assertIsNone(self.storage.log("sha256:1"))
         self.assertEqual(self.storage.append(new, lambda: None), 0)
 

@@ -129,6 +129,18 @@ WRONG: dict[str, Wrong] = {
     "a lock is a failure": (
         "storage/sqlite.py", 'return Locked(text) if "locked" in text or "busy" in text else StorageError(text)',
         "return StorageError(text)", "test_processes.Processes.test_a_lock_that_is_held"),
+    "a full disk under a database is a failure": (
+        "storage/postgres.py", "isinstance(error, psycopg.errors.DiskFull)", "False",
+        "test_full_database.FullDatabase"),
+    "a database that went away is a failure": (
+        "storage/postgres.py", "        return Unreachable(text)\n", "        return StorageError(text)\n",
+        "test_full_database.FullDatabase"),
+    "a record that may stand is told as refused": (
+        "storage/postgres.py", "        return Unreachable(text)\n", "        return DiskFull(text)\n",
+        "test_full_database.FullDatabase"),
+    "a connection that was ended is used": (
+        "storage/postgres.py", "        if waiting.poll(0):\n", "        if False:\n",
+        "test_postgres.WritersOnPostgres.test_a_connection_that_breaks"),
     "an older state follows": (
         "storage/sqlite.py", " WHERE excluded.count > states.count", "",
         f"{STATES}.test_an_older_state_does_not_follow_a_later_one"),

@@ -15,7 +15,7 @@ from weoldrin import Error, OutOfMemory
 from .lines import tell, tell_error
 from .problems import Problem, bad_request, not_found, unavailable
 from .registry import Registry
-from .storage import DiskFull, Locked, StorageError
+from .storage import DiskFull, Locked, StorageError, Unreachable
 
 # What a line says in place of a status where the client went away.
 _NO_STATUS = 0
@@ -31,6 +31,8 @@ def problem_of(error: Exception) -> Problem:
         return Problem(HTTPStatus.INSUFFICIENT_STORAGE, "DiskFull", "there is no room on the registry's disk")
     if isinstance(error, Locked):
         return unavailable("Busy", "another writer has the lock of the storage")
+    if isinstance(error, Unreachable):
+        return unavailable("NoStorage", "the storage can't be reached now")
     if isinstance(error, OutOfMemory):
         return unavailable("OutOfMemory", "there is no memory for this now")
     if isinstance(error, HTTPException):

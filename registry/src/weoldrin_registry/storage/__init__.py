@@ -69,6 +69,10 @@ class Locked(StorageError):
     """Another writer has the lock, and kept it for too long."""
 
 
+class Unreachable(StorageError):
+    """The database does not answer, or went away meanwhile."""
+
+
 class Storage(Protocol):
     """The logs, the leaves of the registry's log, and the checkpoints, for many threads and processes at once.
 

@@ -2,6 +2,7 @@
 
 from __future__ import annotations
 
+import select
 import threading
 from collections.abc import Callable, Iterator
 from contextlib import contextmanager
@@ -9,7 +10,7 @@ from typing import Any
 
 import psycopg
 
-from . import PACKAGE, DiskFull, Locked, LogRow, NewRecord, Overtaken, Place, State, StorageError
+from . import PACKAGE, DiskFull, Locked, LogRow, NewRecord, Overtaken, Place, State, StorageError, Unreachable
 
 # Those who make the tables wait for each other by this number.
 _MAKING = 0x57656F6C
@@ -36,13 +37,26 @@ INSERT INTO registry VALUES (TRUE, 0) ON CONFLICT DO NOTHING;
 _LOG = "SELECT log_id, kind, name, head, head_time, count FROM logs"
 
 
-def _told(error: psycopg.Error) -> StorageError:
-    """What an error of PostgreSQL is for others."""
+def _told(error: psycopg.Error, is_lost: bool) -> StorageError:
+    """What an error of PostgreSQL is for others, and of a connection that is lost."""
     text = " ".join(str(error).split())
-    if isinstance(error, psycopg.errors.DiskFull):
-        return DiskFull(text)
     waited = (psycopg.errors.LockNotAvailable, psycopg.errors.DeadlockDetected, psycopg.errors.TooManyConnections)
-    return Locked(text) if isinstance(error, waited) else StorageError(text)
+    if isinstance(error, waited):
+        return Locked(text)
+    # A server that has no room for its own log ends, and may have kept the transaction.
+    if is_lost:
+        return Unreachable(text)
+    return DiskFull(text) if isinstance(error, psycopg.errors.DiskFull) else StorageError(text)
+
+
+def _is_open(connection: Any) -> bool:
+    """Whether a connection can be used. On one that nobody asks, a server speaks where it ends it."""
+    if not connection.closed:
+        waiting = select.poll()
+        waiting.register(connection.fileno(), select.POLLIN)
+        if waiting.poll(0):
+            connection.close()
+    return not connection.closed
 
 
 class PostgresStorage:
@@ -184,13 +198,14 @@ class PostgresStorage:
     @contextmanager
     def _connected(self) -> Iterator[Any]:
         """This thread's connection. One that is broken is made anew the next time."""
+        connection = getattr(self._threads, "connection", None)
         try:
-            connection = getattr(self._threads, "connection", None)
-            if connection is None or connection.closed:
+            if connection is None or not _is_open(connection):
+                connection = None
                 connection = self._threads.connection = self._connection()
             yield connection
         except psycopg.Error as error:
-            raise _told(error) from error
+            raise _told(error, connection is None or connection.closed) from error
 
     def _connection(self) -> Any:
         made = psycopg.connect(self._address, autocommit=True, connect_timeout=10)
