@@ -92,12 +92,14 @@ class Client:
 class Process:
     """A registry that runs."""
 
+    PROGRAM: tuple[str, ...] = ("-m", "weoldrin_registry.command")
+
     def __init__(
         self, folder: pathlib.Path, *words: str, settings: str = "", files: int = 0, database: str = ""
     ) -> None:
         self.folder = folder
         (folder / "settings.toml").write_text(settings, encoding="utf-8")
-        command = [sys.executable, "-m", "weoldrin_registry.command", "serve"]
+        command = [sys.executable, *self.PROGRAM, "serve"]
         command.append(database or str(folder / "logs.sqlite"))
         command += ["--port", "0"]
         command += ["--settings", str(folder / "settings.toml"), *(words or ("--static", str(REPOSITORY)))]

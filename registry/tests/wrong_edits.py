@@ -177,6 +177,14 @@ WRONG: dict[str, Wrong] = {
     "the clock goes back": (
         "checkpoints.py", "max(time.time(), newest.signed.contents.timestamp if newest else 0)", "time.time()",
         f"{KEYS}.test_times_never_go_back"),
+    "checkpoints wait by the clock": (
+        "checkpoints.py", "import threading\nimport time\n",
+        "import threading\nimport time as real\nfrom types import SimpleNamespace\n"
+        "time = SimpleNamespace(time=lambda: real.time(), monotonic=lambda: real.time())\n", "test_clocks"),
+    "times stand still": (
+        "checkpoints.py", "max(int(time.time()), last)", "last or int(time.time())", "test_clocks"),
+    "times go by the clock alone": (
+        "checkpoints.py", "max(int(time.time()), last)", "int(time.time())", "test_clocks"),
     "a checkpoint is not verified": (
         "checkpoints.py", "return log.verify_checkpoint(it.contents, it.key_id, it.signature)", "return True",
         f"{UNVERIFIED}.test_checkpoints"),

@@ -7,6 +7,7 @@ import tempfile
 import unittest
 from collections.abc import Callable
 from typing import Any
+from unittest import mock
 
 from weoldrin import audit, records
 
@@ -83,6 +84,25 @@ class ClientTest(unittest.TestCase):
     def files(self) -> dict[str, bytes]:
         """What the folder has."""
         return {it.name: it.read_bytes() for it in self.folder.iterdir()}
+
+
+class Clocks(ClientTest):
+    """A client whose clock moves."""
+
+    def test_limits(self) -> None:
+        """A checkpoint may be an hour old, and ten minutes ahead. What is refused for it leaves all as it was."""
+        signed = self.registry.signed[-1].contents.timestamp
+        self.assertEqual(self.fetch("--out", self.out)[0], 0)
+        told = {0: "", 3_600: "", 3_601: "stale checkpoint", -600: "", -601: "checkpoint ahead"}
+        told |= {-7_200: "checkpoint ahead", 90 * 86_400: "stale checkpoint", 1: ""}
+        for seconds, name in told.items():
+            with self.subTest(seconds), mock.patch("time.time", return_value=signed + seconds):
+                before = self.files()
+                status, printed, said = self.fetch("--out", self.out)
+                self.assertEqual((status, printed.partition(":")[0]), (1, name) if name else (0, "ok 4 sha256"), said)
+                self.assertEqual(self.files(), before)
+        with mock.patch("time.time", return_value=signed + 7_200):
+            self.assertEqual(self.fetch("--oldest", "7200")[0], 0)
 
 
 class Fetch(ClientTest):

@@ -178,6 +178,29 @@ class Honest(MonitorTest):
         self.assertEqual(run(*words)[1].split(":")[0], "fork")
 
 
+class Clocks(MonitorTest):
+    """A monitor whose clock moves."""
+
+    def test_jumps(self) -> None:
+        """What is told by a wrong clock is told once, as stale, and by the right one all is followed."""
+        self.begin()
+        signed = self.registry.signed[-1].contents.timestamp
+        told = {3_600: "", 3_601: "stale checkpoint", -600: "", -601: "checkpoint ahead"}
+        for seconds, name in told.items():
+            with self.subTest(seconds), mock.patch("time.time", return_value=signed + seconds):
+                status, lines, said = self.monitor()
+                names = [name, None] if name else [None]
+                self.assertEqual((status, [it.get("name") for it in lines]), (int(bool(name)), names), said)
+                self.assertEqual((self.monitor()[0], len(self.monitor()[1])), (status, 1))
+            self.registry.release(ONE, f"2.{abs(seconds)}.0")
+            self.registry.sign()
+            status, lines, said = self.monitor()
+            self.assertEqual((status, [it.get("name") for it in lines]), (0, [None]), said)
+            signed = self.registry.signed[-1].contents.timestamp
+        words = [json.loads(text)["told"] for (text,) in self.rows("SELECT text FROM told")]
+        self.assertEqual(words, ["stale", "stale"])
+
+
 class Lies(MonitorTest):
     """Each lie by its name."""
 

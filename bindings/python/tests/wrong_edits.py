@@ -153,7 +153,18 @@ WRONG: dict[str, Wrong] = {
         f"{CLIENT}.Lies.test_at_first"),
     "a leaf that is known is asked for": (
         "registry/packages.py", "known.head == record_id and before >= 0", "False", f"{CLIENT}.Fetch.test_leaf"),
+    "a checkpoint may be twice as old": (
+        "registry/following.py", "if age > self._oldest:", "if age > 2 * self._oldest:",
+        f"{CLIENT}.Clocks.test_limits"),
+    "a checkpoint may be twice as far ahead": (
+        "registry/following.py", "if age < -AHEAD:", "if age < -2 * AHEAD:", f"{CLIENT}.Clocks.test_limits"),
     # The monitor
+    "what is ahead is rolled back": (
+        "registry/following.py", 'raise Told("checkpoint ahead", why, it', 'raise Told("rolled back registry", why, it',
+        f"{MONITOR}.Clocks.test_jumps"),
+    "what is stale is told again and again": (
+        "registry/following.py", 'it, subject=f"{it.contents.timestamp}")\n        if age <',
+        'it, subject=f"{time.perf_counter()}")\n        if age <', f"{MONITOR}.Clocks.test_jumps"),
     "false leaves count": (
         "registry/monitor.py", "log_root() != signed.log_root", "log_root() is None", f"{MONITOR}.Lies.test_lies"),
     "false leaves stay in the trees": (
