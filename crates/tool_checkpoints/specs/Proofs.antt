@@ -1,5 +1,5 @@
 -- What is said of statements about a registry's log and map, and the proofs that are printed.
-use Rattle.std.specs.Prelude.{◌≡◌, ◌⊎◌, Bool, List, ℕ, codes, Option, Some, None, Ok, IsUtf8, if◌then◌else◌}
+use Rattle.std.specs.Prelude.{◌≡◌, ◌⊎◌, Bool, List, [], ◌∷◌, ℕ, codes, Option, Some, None, Ok, IsUtf8, if◌then◌else◌}
 use Rattle.std.specs.Str.{trim_end}
 use Rattle.sha2.specs.Sha256.{sha256}
 use Rattle.serde_json.specs.Data.{Data}
@@ -43,6 +43,10 @@ map_proof_line path = yes (line (map_proof_text path))
 pub record IsLeafOf (log_id record_id : List ℕ) (leaf : LogLeaf) : Type 0 where
   pub log_is : IsLogWord log_id leaf.log_id
   pub record_is : IsRecordWord record_id leaf.record_id
+
+-- the members of a checkpoint's JSON
+abbrev pub checkpoint_members : List (List ℕ)
+checkpoint_members = codes "logRoot" ∷ codes "logLength" ∷ codes "mapRoot" ∷ []
 
 -- the checkpoint whose JSON bytes are, which are a text
 pub record IsCheckpoint (bytes : List ℕ) (checkpoint : Checkpoint) : Type 0 where

@@ -9,10 +9,11 @@ ghost use Rattle.warg_audit.specs.declared.files.command_error.CommandError.TheV
 ghost use Rattle.serde_json.specs.Read.{read};
 ghost use Rattle.serde_json.specs.View.{view};
 ghost use Rattle.warg_registry.specs.RegistryJson.{checkpoint_in};
-ghost use Rattle.tool_checkpoints.specs.Proofs.{IsCheckpoint, IsLeafOf, IsLogProof, IsMapProof};
+ghost use Rattle.warg_saved_states.specs.Asked.{IsAskedOfText};
+ghost use Rattle.tool_checkpoints.specs.Proofs.{checkpoint_members, IsCheckpoint, IsLeafOf, IsLogProof, IsMapProof};
 ghost use Rattle.tool_checkpoints.specs.Words.{IsIn, IsLogWord, IsNumber, IsRecordWord, IsUnsaid, IsUnsaidIn};
 
-use serde_json::{Category, Value};
+use serde_json::Value;
 use std::alloc::Global;
 use std::str::FromStr;
 use warg_audit::files::command_error::{CommandError, unusable};
@@ -21,6 +22,7 @@ use warg_crypto::json::JsonValue;
 use warg_log_records::RecordId;
 use warg_printable::printed_line;
 use warg_registry::{Checkpoint, LogId, LogLeaf};
+use warg_saved_states::{JsonTextError, read_asked};
 use warg_transparency::{LogProof, MapProof, ProofTextError};
 
 /// The error of a command for a word that is none of its kind.
@@ -83,20 +85,23 @@ pub(crate) fn leaf_of(alloc: Global, log_id: &str, record_id: &str) -> Result<Lo
     Ok(LogLeaf { log_id, record_id })
 }
 
-// The JSON that the file holds.
+// What a checkpoint is read of, of the JSON that the file holds. What else the file has is passed over.
 fn json_of(alloc: Global, input: &Input<'_>) -> Result<Value, CommandError>
     ensures ok { IfOk result (λ value. IsUtf8 input.now.bytes.items
-        × (read input.now.bytes.items ≡ Some (view value))) }
+        × IsAskedOfText checkpoint_members 1 input.now.bytes.items (view value)) }
     ensures err { IfErr result (IfOutput (λ printed.
         (IsUtf8 input.now.bytes.items → read input.now.bytes.items ≡ None)
         × IsUnusable printed)) }
 {
-    match Value::from_slice(alloc, input.bytes.as_slice()) {
+    let Ok(text) = str::from_utf8(input.bytes.as_slice()) else {
+        return Err(file_error(alloc, input.path, "it holds no JSON"));
+    };
+    match read_asked(alloc, text, &["logRoot", "logLength", "mapRoot"], 1) {
         Ok(value) => Ok(value),
-        Err(error) => match error.classify() {
-            Category::Memory => Err(CommandError::OutOfMemory),
-            _ => Err(file_error(alloc, input.path, "it holds no JSON")),
-        },
+        Err(JsonTextError::OutOfMemory) => Err(CommandError::OutOfMemory),
+        Err(JsonTextError::NotJson | JsonTextError::Value(_)) => {
+            Err(file_error(alloc, input.path, "it holds no JSON"))
+        }
     }
 }
 

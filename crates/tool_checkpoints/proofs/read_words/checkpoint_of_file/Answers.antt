@@ -3,20 +3,23 @@ use Rattle.serde_json.specs.View.{view}
 use Rattle.warg_registry.specs.RegistryJson.{checkpoint_in}
 use Rattle.std.proofs.Common.{◌≡◌, Ok}
 use Rattle.tool_checkpoints.specs.Proofs.{IsCheckpoint}
-use Rattle.tool_checkpoints.proofs.WordLemmas.{said_of, unsaid_if, unsaid_json}
+use Rattle.tool_checkpoints.proofs.CheckpointLemmas.{asked_said, said_by_asked}
+use Rattle.tool_checkpoints.proofs.WordLemmas.{unsaid_if, unsaid_json}
 use Rattle.tool_checkpoints.proofs.read_words.checkpoint_of_file.Goals as goal
 
 pub returns-in-Ok-clause-ok : goal.returns-in-Ok-clause-ok
 returns-in-Ok-clause-ok c =
     let it = c.in-Ok.ensures.ok in
+    let bytes = c.args.input.now.bytes.items in
     IfOk-weaker c.checkpoint_of.result _ _
-    (λ checkpoint said. record { utf8 = it.0; value = view c.in-Ok.value; json = it.1; said = said }) c.checkpoint_of.ensures.ok
+    (λ checkpoint said. record { utf8 = it.0; value = it.1.whole; json = it.1.is; said = said_by_asked bytes (view c.in-Ok.value) it.1 checkpoint said })
+    c.checkpoint_of.ensures.ok
 
 pub returns-in-Ok-clause-err : goal.returns-in-Ok-clause-err
 returns-in-Ok-clause-err c =
     let bytes = c.args.input.now.bytes.items in
     unsaid_if (λ checkpoint. checkpoint_in (view c.in-Ok.value) ≡ Ok checkpoint) (IsCheckpoint bytes) c.checkpoint_of.result
-    c.checkpoint_of.ensures.err (said_of bytes (view c.in-Ok.value) c.in-Ok.ensures.ok.1)
+    c.checkpoint_of.ensures.err (asked_said bytes (view c.in-Ok.value) c.in-Ok.ensures.ok.1)
 
 pub returns-in-Err-clause-err : goal.returns-in-Err-clause-err
 returns-in-Err-clause-err c = unsaid_json c.args.input.now.bytes.items c.in-Err.error c.in-Err.ensures.err
