@@ -148,13 +148,13 @@ export function answerOf(library, asked, path) {
   let older;
   if (asked.goesOnFrom !== undefined) {
     try {
-      older = bytesOfPath(asked.goesOnFrom);
+      older = bytesOfPath(asked.goesOnFrom, asked.limit);
     } catch (error) {
       throw Object.assign(error, { path: asked.goesOnFrom });
     }
   }
   try {
-    return judged(library, asked, path, bytesOfPath(path), older);
+    return judged(library, asked, path, bytesOfPath(path, asked.limit), older);
   } catch (error) {
     if (error instanceof OutOfMemory) return unread("out of memory", 3);
     if (error instanceof Trapped) return unread(error.message, 3);

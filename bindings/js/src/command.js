@@ -21,17 +21,17 @@ class Stop extends Error {
 
 const object = (members, status) => printableJson({ command: "audit", ...members, status });
 
-function readOrStop(path) {
+function readOrStop(path, most) {
   try {
-    return bytesOfPath(path);
+    return bytesOfPath(path, most);
   } catch (error) {
     if (error instanceof Unread) throw new Stop(sentenceOf(path, error.message), error.status);
     throw error;
   }
 }
 
-function textOrStop(path, fault) {
-  const bytes = readOrStop(path);
+function textOrStop(path, most, fault) {
+  const bytes = readOrStop(path, most);
   try {
     return textOf(bytes);
   } catch {
@@ -40,8 +40,8 @@ function textOrStop(path, fault) {
 }
 
 /** The claims in a file. */
-function claimsIn(path) {
-  const text = textOrStop(path, "it is no UTF-8");
+function claimsIn(path, most) {
+  const text = textOrStop(path, most, "it is no UTF-8");
   try {
     return claimsOf(text);
   } catch (error) {
@@ -50,9 +50,9 @@ function claimsIn(path) {
 }
 
 /** The paths that a word stands for: itself, or those that a file lists, a line each. */
-function pathsOf(word) {
+function pathsOf(word, most) {
   if (!word.startsWith("@")) return { paths: [word] };
-  const lines = textOrStop(word.slice(1), "its paths are no UTF-8").split("\n");
+  const lines = textOrStop(word.slice(1), most, "its paths are no UTF-8").split("\n");
   const whole = lines.map((it, place) => (place < lines.length - 1 ? it.replace(/\r$/, "") : it));
   return { list: word.slice(1), paths: whole.filter((it) => it !== "") };
 }
@@ -93,16 +93,16 @@ function auditOne(library, asked, path) {
 }
 
 async function audit(asked) {
-  const { expectHead, verified, logs } = asked;
+  const { expectHead, limit, verified, logs } = asked;
   if (expectHead !== undefined && !/^sha256:[0-9a-fA-F]{8,64}$/.test(expectHead)) {
     throw new Stop(printable(`weoldrin: "${expectHead}" is no id of a record`), 2);
   }
-  const claims = verified === undefined ? undefined : claimsIn(verified);
+  const claims = verified === undefined ? undefined : claimsIn(verified, limit);
   const library = await Library.load();
   if (logs.length < 2 && !logs[0]?.startsWith("@")) {
     return auditOne(library, { ...asked, claims }, logs[0] ?? "-");
   }
-  return auditMany(library, { ...asked, claims }, logs.map(pathsOf));
+  return auditMany(library, { ...asked, claims }, logs.map((it) => pathsOf(it, limit)));
 }
 
 async function auditByWords(words) {

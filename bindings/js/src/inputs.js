@@ -5,7 +5,7 @@
 import { closeSync, openSync, readSync, writeSync } from "node:fs";
 import { printable } from "./printing.js";
 
-/** No command reads more of a file. */
+/** How many bytes a file may have, where no other limit is asked for. */
 export const MOST = 16_777_216;
 
 /** Why a file's bytes are not there, in the words of the tool, and the status for want of them. */
@@ -39,7 +39,7 @@ function opened(path) {
   }
 }
 
-function wholeOf(file) {
+function wholeOf(file, most) {
   const parts = [];
   let size = 0;
   for (;;) {
@@ -48,15 +48,15 @@ function wholeOf(file) {
     if (!count) return Buffer.concat(parts);
     parts.push(part.subarray(0, count));
     size += count;
-    if (size > MOST) throw new Unread(`it has more than ${MOST} bytes`, 2);
+    if (size > most) throw new Unread("it has more bytes than the limit; --limit BYTES sets another", 2);
   }
 }
 
-/** The bytes of the file of a path; `-` is standard input. Throws `Unread`. */
-export function bytesOfPath(path) {
+/** The bytes of the file of a path, at most so many; `-` is standard input. Throws `Unread`. */
+export function bytesOfPath(path, most) {
   const file = path === "-" ? 0 : opened(path);
   try {
-    return wholeOf(file);
+    return wholeOf(file, most);
   } catch (error) {
     if (error instanceof Unread) throw error;
     if (error.code === "EISDIR") throw new Unread("it is a folder", 2);

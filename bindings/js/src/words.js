@@ -2,6 +2,7 @@
  * The words of the command.
  * @module
  */
+import { MOST } from "./inputs.js";
 import { printable } from "./printing.js";
 
 /** Words that can't be used, and the whole of what is said of them. */
@@ -39,6 +40,7 @@ Arguments:
 
 Options:
       --json                 Answers in JSON, an object a line
+      --limit <BYTES>        How many bytes a file may have, 16777216 where this is not given
       --verified <FILE>      Takes the signatures that this file lists, and no others
       --toy                  Also takes signatures of the toy scheme, which anyone can forge
       --allow-empty          Takes a log without records
@@ -57,6 +59,7 @@ Examples:
 
 const FLAGS = ["--json", "--toy", "--allow-empty", "--paths"];
 const VALUES = {
+  "--limit": "<BYTES>",
   "--verified": "<FILE>",
   "--expect-head": "<ID>",
   "--at-least": "<N>",
@@ -134,16 +137,17 @@ function parted(words) {
   return [options, places];
 }
 
+/** Whether an option says a number below 2^64, where it is given. */
+const isNumber = (digits) => digits === undefined || (/^[0-9]+$/.test(digits) && BigInt(digits) < 2n ** 64n);
+
 function checkTogether(options, logs) {
   const files = [...logs, options.get("--verified"), options.get("--goes-on-from")];
   if (files.filter((it) => it === "-").length > 1 || (!logs.length && files.includes("-"))) {
     throw wrong("standard input, which is -, can be read once alone");
   }
   if (options.has("--toy") && options.has("--verified")) throw wrong("--toy and --verified can't stand together");
-  const least = options.get("--at-least");
-  if (least !== undefined && (!/^[0-9]+$/.test(least) || BigInt(least) >= 2n ** 64n)) {
-    throw wrong("--at-least takes decimal digits, a number below 2^64");
-  }
+  if (!isNumber(options.get("--at-least"))) throw wrong("--at-least takes decimal digits, a number below 2^64");
+  if (!isNumber(options.get("--limit"))) throw wrong("--limit takes decimal digits, a number of bytes below 2^64");
   const isOne = logs.length < 2 && !logs.some((it) => it.startsWith("@"));
   const demands = ["--expect-head", "--at-least", "--goes-on-from"];
   if (!isOne && demands.some((it) => options.has(it))) {
@@ -165,11 +169,12 @@ export function askedOf(words) {
     throw wrong(`invalid value '${printable(kind)}' for '<KIND>'`, `\n  [possible values: package, operator]${near}`);
   }
   checkTogether(options, logs);
-  const least = options.get("--at-least");
+  const [least, limit] = ["--at-least", "--limit"].map((it) => options.get(it));
   return {
     kind,
     logs,
     json: options.has("--json"),
+    limit: limit === undefined ? MOST : Number(limit),
     toy: options.has("--toy"),
     allowEmpty: options.has("--allow-empty"),
     paths: options.has("--paths"),

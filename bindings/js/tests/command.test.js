@@ -112,7 +112,9 @@ test("beside the tool", { skip: LEFT_OUT }, async () => {
   const capitals = `sha256:${head.slice(7, 20).toUpperCase()}`;
   const all = [
     "package good", "package two", "operator good", "package blank", "package odd", "package big", "package most",
-    "package folder", "package good/x", "package none", "package", "package -", "package - --goes-on-from good",
+    "package folder", "package big --limit 16777217", "package most --limit 16777215", "package good --limit 0",
+    "package good two --limit 2000", "package two --limit 2000 --goes-on-from good", "package @list --limit 9",
+    "package good --verified claims --limit 9", "package good --limit 18446744073709551615", "package good --limit=+9", "package good/x", "package none", "package", "package -", "package - --goes-on-from good",
     "package good two none folder odd big", "package none good", "package @list-cr", "package mixed --toy",
     "package good --expect-head sha256:", `package good --expect-head ${capitals}`,
     "package @list", "package @no-list", "package @empty-list", "package @none",

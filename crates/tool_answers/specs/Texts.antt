@@ -1,5 +1,5 @@
 -- The texts that commands print.
-use Rattle.std.specs.Prelude.{◌≡◌, ℕ, ◌<◌, Bool, List, [], ◌∷◌, ◌++◌, codes, length, Option, Some, None, unwrap_or, if◌then◌else◌, slice_index_or, filter, map, Result, Ok, Err}
+use Rattle.std.specs.Prelude.{◌≡◌, ℕ, ◌<◌, Bool, List, [], ◌∷◌, ◌++◌, codes, length, nat_lt, Option, Some, None, unwrap_or, if◌then◌else◌, slice_index_or, filter, map, Result, Ok, Err}
 use Rattle.std.specs.Fmt.{decimal}
 use Rattle.std.specs.List.{slice_get}
 use Rattle.std.specs.Option.{option_map}
@@ -9,17 +9,22 @@ use Rattle.warg_protocol.specs.Json.{JsonError}
 use Rattle.warg_audit.specs.Files.OutputData.{OutputData}
 use Rattle.warg_printable.specs.Json.{json_printable}
 use Rattle.warg_printable.specs.Printable.{printable}
-use Rattle.warg_audit.specs.Files.Texts.{yes, no, line, all_lines}
+use Rattle.warg_audit.specs.Files.Texts.{yes, no, silent, line, all_lines}
 use Rattle.warg_audit.specs.LogAnswers.{head_text}
 use Rattle.warg_replay.specs.declared.audited_log.link.Link.{Link}
 use Rattle.warg_replay.specs.declared.audited_log.comparison.Comparison.{Comparison}
 use Rattle.warg_replay.specs.declared.audited_log.comparison.Comparison.TheVariants.{Same, LeftIsPrefix, RightIsPrefix, Fork, Collision}
 use Rattle.tool_answers.specs.ShownWords.{IsLineOf, IsTimeText, RecordWords}
 
--- the JSON of a state on a line, with no hidden character in it; where a time in it lies before the epoch, there is none
-abbrev pub json_text : Result (List ℕ) JsonError → OutputData
-json_text (Ok text) = yes (line (json_printable text))
-json_text (Err fault) = no (codes "no json TimeBeforeEpoch\n")
+-- what is printed, unless its text has more bytes than the limit
+abbrev pub within : ℕ → OutputData → OutputData
+within limit printed = if nat_lt limit (length printed.text) then silent 2 else printed
+
+-- the JSON of a state on a line, with no hidden character in it, within the limit; where a time in it lies before the
+-- epoch, there is none
+abbrev pub json_text : ℕ → Result (List ℕ) JsonError → OutputData
+json_text limit (Ok text) = within limit (yes (line (json_printable text)))
+json_text limit (Err fault) = no (codes "no json TimeBeforeEpoch\n")
 
 -- the permissions that pass the test, a line each in the order of the kind; `unknown` of a key that no record spoke of
 abbrev pub permissions_text : {P : Type 0} → Bool → List P → (P → List ℕ) → (P → Bool) → OutputData

@@ -5,6 +5,7 @@ pub mod hint;
 pub mod id_word;
 mod key_ids;
 pub mod kind;
+pub mod limit;
 pub mod loading;
 mod operator_log;
 mod package_log;

@@ -17,6 +17,7 @@ use Rattle.warg_audit.specs.declared.files.command_output.CommandOutput.{Command
 use Rattle.warg_audit.specs.declared.files.command_error.CommandError.{CommandError}
 use Rattle.warg_audit.proofs.FilesLemmas.AnswerLemmas.{Answers-to, IfOutput-to}
 use Rattle.warg_audit.specs.Files.Texts.{all_lines, line, no, yes}
+use Rattle.tool_answers.specs.Texts.{within}
 
 all_lines-append : (texts : List (List ℕ)) (text : List ℕ) → all_lines (texts ++ text ∷ []) ≡ all_lines texts ++ (text ++ 10 ∷ [])
 all_lines-append [] text = append_nil_line text
@@ -71,15 +72,13 @@ module _ {View Offence F : Type 0} (k : Kind View Offence) (read : List ℕ → 
       Answers-to (λ printed. (printed ≡ no text) × (is_none (named_by cause) ≡ false)) (IsClaimList k read inputs)
       (λ printed it. cut_list named_by cause inputs claims text printed it.0 it.1 own e ends) result h
 
-  pub list_answers : (ls inputs : List (List ℕ)) (result : Result CommandOutput CommandError) → inputs_of ls ≡ Ok inputs
-      → Answers (IsClaimList k read inputs) result → Answers (IsClaimsAnswer k read ls) result
-  list_answers ls inputs result e h =
-      Answers-to (IsClaimList k read inputs) (IsClaimsAnswer k read ls)
-      (λ printed it. listed inputs (lines.spell_from 0 ls inputs e) it) result h
+  pub list_answers : (limit : ℕ) (ls inputs : List (List ℕ)) (list printed : OutputData) → inputs_of ls ≡ Ok inputs → IsClaimList k read inputs list
+      → printed ≡ within limit list → IsClaimsAnswer limit k read ls printed
+  list_answers limit ls inputs list printed e h is = listed inputs (lines.spell_from 0 ls inputs e) list h is
 
-  pub bad_line_answers : (ls : List (List ℕ)) (end : CommandError)
+  pub bad_line_answers : (limit : ℕ) (ls : List (List ℕ)) (end : CommandError)
       → IfOutput (λ printed. (index : ℕ) × ((inputs_of ls ≡ Err (Bad index)) × (printed ≡ bad_line index))) end
-      → IfOutput (IsClaimsAnswer k read ls) end
-  bad_line_answers ls end h =
+      → IfOutput (IsClaimsAnswer limit k read ls) end
+  bad_line_answers limit ls end h =
       IfOutput-to (λ printed. (index : ℕ) × ((inputs_of ls ≡ Err (Bad index)) × (printed ≡ bad_line index)))
-      (IsClaimsAnswer k read ls) (λ printed bad. first_bad bad.0 (lines.first_bad ls bad.0 bad.1.0) bad.1.1) end h
+      (IsClaimsAnswer limit k read ls) (λ printed bad. first_bad bad.0 (lines.first_bad ls bad.0 bad.1.0) bad.1.1) end h

@@ -5,6 +5,7 @@ use Rattle.warg_audit.specs.Printouts.{OutputData, bad_line}
 use Rattle.warg_claims.specs.Claimed.{AreClaims, IsRefusedAnyway}
 use Rattle.warg_protocol.specs.Logs.{Cause, EnvelopeData, Kind}
 use Rattle.warg_audit.specs.Files.Texts.{all_lines, no, yes}
+use Rattle.tool_answers.specs.Texts.{within}
 use Rattle.warg_claims.specs.Verified.Claims.{ClaimData, claim_text}
 
 -- what is printed are the claims of the inputs, a line each; or those of the inputs before one that can't come next whatever its signature
@@ -15,7 +16,8 @@ pub data IsClaimList {View Offence F : Type 0} (k : Kind View Offence) (read : L
       → IsRefusedAnyway k read inputs (length claims) why
       → printed ≡ no (all_lines (map claim_text claims)) → IsClaimList k read inputs printed
 
--- what is printed to lines: of the first that spells no bytes, or the claims of the inputs that they spell
-pub data IsClaimsAnswer {View Offence F : Type 0} (k : Kind View Offence) (read : List ℕ → Result EnvelopeData F) (lines : List (List ℕ)) (printed : OutputData) : Type 0 where
-  first_bad : (index : ℕ) → IsFirstBad lines index → printed ≡ bad_line index → IsClaimsAnswer k read lines printed
-  listed : (inputs : List (List ℕ)) → Spell lines inputs → IsClaimList k read inputs printed → IsClaimsAnswer k read lines printed
+-- what is printed to lines: of the first that spells no bytes, or the claims of the inputs that they spell, within the limit
+pub data IsClaimsAnswer {View Offence F : Type 0} (limit : ℕ) (k : Kind View Offence) (read : List ℕ → Result EnvelopeData F) (lines : List (List ℕ)) (printed : OutputData) : Type 0 where
+  first_bad : (index : ℕ) → IsFirstBad lines index → printed ≡ bad_line index → IsClaimsAnswer limit k read lines printed
+  listed : (inputs : List (List ℕ)) → Spell lines inputs → (list : OutputData) → IsClaimList k read inputs list → printed ≡ within limit list
+      → IsClaimsAnswer limit k read lines printed

@@ -22,17 +22,17 @@ use Rattle.tool_words.specs.declared.task.Task.TheVariants as task
 module _ {Meaning Fault View Offence : Type 0} (log : LogDisplay Meaning Fault View Offence) (belongs : SignatureRelation) (old new : Option Files) where
   -- what files hold after a task: what they held, or, after records are added, what goes with an answer to that
   abbrev pub Leaves : Task → Type 0
-  Leaves (task.Claims path) = new ≡ old
+  Leaves (task.Claims path limit) = new ≡ old
   Leaves (task.Make path draft) = new ≡ old
-  Leaves (task.Append path lines) = (new ≡ old) ⊎ ((printed : OutputData) × IsAppended log belongs old new path.now lines.now printed)
+  Leaves (task.Append path lines limit) = (new ≡ old) ⊎ ((printed : OutputData) × IsAppended log belongs limit old new path.now lines.now printed)
 
 module _ {Meaning Fault View Offence T : Type 0} (Says : List ℕ → T → Type 0) (Lacks : List ℕ → EntryFault → Type 0) (content : Option RecordId → Time → List T → List ℕ) (prefix : List ℕ)
     (log : LogDisplay Meaning Fault View Offence) (belongs : SignatureRelation) (old new : Option Files) where
   -- what is answered when a task is done
   abbrev pub IsTaskAnswer : Task → OutputData → Type 0
-  IsTaskAnswer (task.Claims path) printed = IsOfLines old path.now (IsClaimsAnswer log.kind (envelope_of log.read)) printed
+  IsTaskAnswer (task.Claims path limit) printed = IsOfLines old path.now (IsClaimsAnswer limit log.kind (envelope_of log.read)) printed
   IsTaskAnswer (task.Make path draft) printed = IsMade Says Lacks content prefix log draft belongs old path.now printed
-  IsTaskAnswer (task.Append path lines) printed = IsAppended log belongs old new path.now lines.now printed
+  IsTaskAnswer (task.Append path lines limit) printed = IsAppended log belongs limit old new path.now lines.now printed
 
 -- the same of a task on a log of a kind
 abbrev pub IsDoneAnswer : LogKind → SignatureRelation → Option Files → Option Files → Task → OutputData → Type 0

@@ -13,6 +13,7 @@ ghost use Rattle.warg_audit.specs.Files.Texts.{all_lines, line, no};
 
 use std::alloc::{AllocError, Global};
 use tool_answers::kind::ToolLog;
+use tool_answers::limit::within;
 use tool_answers::loading::{file_inputs, run_error_sentence};
 use warg_audit::files::command_error::CommandError;
 use warg_audit::files::command_output::CommandOutput;
@@ -118,16 +119,22 @@ fn list_answer<L: ToolLog + ExternallyVerified>(
     }
 }
 
-/// The claims of the log in a file, up to the first record that can't come next whatever its signature.
+/// The claims of the log in a file, up to the first record that can't come next whatever its signature, unless they have
+/// more bytes than the limit.
 pub fn claims_answer<L: ToolLog + ExternallyVerified>(
     alloc: Global,
+    limit: u64,
     input: Input<'_>,
 ) -> Result<CommandOutput, CommandError>
-    ensures { Answers (IsClaimsAnswer L.kind (envelope_in L.Record.reading)
+    ensures { Answers (IsClaimsAnswer limit L.kind (envelope_in L.Record.reading)
         (record_lines input.entry.bytes.items)) result }
 {
     match file_inputs(alloc, input.path, input.bytes) {
-        Ok(inputs) => list_answer::<L>(alloc, input.path, inputs.as_slice()),
+        Ok(inputs) => match list_answer::<L>(alloc, input.path, inputs.as_slice()) {
+            Ok(answer) => Ok(within(alloc, limit, answer)?),
+            // It ends so for want of memory alone.
+            Err(_) => Err(CommandError::OutOfMemory),
+        },
         Err(error) => Err(error),
     }
 }

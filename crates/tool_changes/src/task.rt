@@ -25,15 +25,16 @@ use warg_replay::external::ExternallyVerified;
 // The claims of the log in a file.
 fn claims_of_file<L: ToolLog + ExternallyVerified, S: Store>(
     alloc: Global,
+    limit: u64,
     log: &str,
     store: &mut S,
 ) -> Result<CommandOutput, CommandError>
     ensures answered { Answers (IsOfLines (S.files store.old) log.now
-        (IsClaimsAnswer L.kind (envelope_in L.Record.reading))) result }
+        (IsClaimsAnswer limit L.kind (envelope_in L.Record.reading))) result }
     ensures kept { S.files store.new ≡ S.files store.old }
 {
     match read_input(alloc, store, log) {
-        Ok(input) => claims_answer::<L>(alloc, input),
+        Ok(input) => claims_answer::<L>(alloc, limit, input),
         Err(error) => Err(error),
     }
 }
@@ -71,12 +72,12 @@ pub fn task_answer<L: ToolLog + ExternallyVerified + EntryFromWords, V: Verifier
         Leaves shown (V.belongs verifier.now) (S.files store.old) (S.files store.new) task.now) }
 {
     match task {
-        Task::Claims { log } => claims_of_file::<L, S>(alloc, log, store),
+        Task::Claims { log, limit } => claims_of_file::<L, S>(alloc, *limit, log, store),
         Task::Make { log, draft } => {
             made_for_file::<L, V, S>(alloc, verifier, log, draft, store)
         }
-        Task::Append { log, lines } => {
-            append_answer::<L, V, S>(alloc, verifier, log, lines, store)
+        Task::Append { log, lines, limit } => {
+            append_answer::<L, V, S>(alloc, verifier, log, lines, *limit, store)
         }
     }
 }

@@ -96,22 +96,22 @@ module _ {Meaning Fault View Offence : Type 0} (log : LogDisplay Meaning Fault V
   put_clean path bytes verdict old new printed told (unflushed puts is) h = silent_clean 3 printed is.failed
   put_clean path bytes verdict old new printed told (unwritten cause same is) h = silent_clean 3 printed is.failed
 
-  all_clean : (path file added : List ℕ) (old new : Option Files) (printed : OutputData) → IsAllOrNone log belongs path file added old new printed
+  all_clean : (limit : ℕ) (path file added : List ℕ) (old new : Option Files) (printed : OutputData) → IsAllOrNone log belongs limit path file added old new printed
       → IsClean printed
-  all_clean path file added old new printed (too_long long same is) = silent_clean 2 printed is
-  all_clean path file added old new printed (refused fits h same) = run_error_clean file (with_lines file added) printed h
-  all_clean path file added old new printed (taken verdict fits h told is_put) =
+  all_clean limit path file added old new printed (too_long long same is) = silent_clean 2 printed is
+  all_clean limit path file added old new printed (refused fits h same) = run_error_clean file (with_lines file added) printed h
+  all_clean limit path file added old new printed (taken verdict fits h told is_put) =
       put_clean path (with_lines file added) verdict old new printed told is_put (added_clean file (with_lines file added) verdict h)
 
-  to_clean : (old new : Option Files) (path added : List ℕ) (printed : OutputData) → IsAddedTo log belongs old new path added printed → IsClean printed
-  to_clean old new path added printed (bad index at is same) = clean_line printed (bad_line index) is (bad_one index)
-  to_clean old new path added printed (no_record spell is same) = clean_line printed (no (codes "empty\n")) is (plain_line (codes "empty") refl)
-  to_clean old new path added printed (no_log inputs spell some unheld same) = unheld_clean printed unheld
-  to_clean old new path added printed (to_log inputs spell some file reads h) = all_clean path file added old new printed h
+  to_clean : (limit : ℕ) (old new : Option Files) (path added : List ℕ) (printed : OutputData) → IsAddedTo log belongs limit old new path added printed → IsClean printed
+  to_clean limit old new path added printed (bad index at is same) = clean_line printed (bad_line index) is (bad_one index)
+  to_clean limit old new path added printed (no_record spell is same) = clean_line printed (no (codes "empty\n")) is (plain_line (codes "empty") refl)
+  to_clean limit old new path added printed (no_log inputs spell some unheld same) = unheld_clean printed unheld
+  to_clean limit old new path added printed (to_log inputs spell some file reads h) = all_clean limit path file added old new printed h
 
   -- the answer to lines that are added
-  pub append_clean : (old new : Option Files) (path lines : List ℕ) (printed : OutputData) → IsAppended log belongs old new path lines printed
+  pub append_clean : (limit : ℕ) (old new : Option Files) (path lines : List ℕ) (printed : OutputData) → IsAppended log belongs limit old new path lines printed
       → IsClean printed
-  append_clean old new path lines printed (no_file is_input is same) = silent_clean 2 printed is
-  append_clean old new path lines printed (lines_unread is_file is same) = unread_clean old lines printed is
-  append_clean old new path lines printed (of_lines is_file added reads h) = to_clean old new path added printed h
+  append_clean limit old new path lines printed (no_file is_input is same) = silent_clean 2 printed is
+  append_clean limit old new path lines printed (lines_unread is_file is same) = unread_clean old lines printed is
+  append_clean limit old new path lines printed (of_lines is_file added reads h) = to_clean limit old new path added printed h

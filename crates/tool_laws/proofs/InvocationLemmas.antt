@@ -36,8 +36,8 @@ use Rattle.tool_laws.proofs.RequestLemmas.{request_clean}
 
 module _ (look : Look) (names : ArePrintable look.names) (text : List ℕ) (h : IsPrintedText text) where
   question_layout : (it : LogQuery) → IsPrintedText (layout_of_question it look text)
-  question_layout (question.State log) = h
-  question_layout (question.Resume state log) = h
+  question_layout (question.State log limit) = h
+  question_layout (question.Resume state log limit) = h
   question_layout (question.Permissions key_id log) = h
   question_layout (question.Chain key_id permission log) = (chain_lines look 0 (lines text), shown-chain_layout look names text (lines_shown text h))
   question_layout (question.Compare old new) = h

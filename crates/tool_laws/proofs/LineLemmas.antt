@@ -1,10 +1,11 @@
 -- Single lines in which no hidden character stands, and the texts that are put together of them.
 use Rattle.std.proofs.Common.{◌≡◌, ℕ, Bool, true, false, List, [], ◌∷◌, ◌++◌, codes, Option, Some, None, refl, sym, ap, subst, ◌∙◌, append_assoc, map}
-use Rattle.std.specs.Prelude.{if◌then◌else◌}
+use Rattle.std.specs.Prelude.{if◌then◌else◌, length, nat_lt}
 use Rattle.std.specs.List.{AllByRecursion, filter}
 use Rattle.std.proofs.lemmas.Str.{NoCharPasses-append}
 use Rattle.warg_audit.specs.Files.OutputData.{OutputData}
-use Rattle.warg_audit.specs.Files.Texts.{all_lines, line}
+use Rattle.warg_audit.specs.Files.Texts.{all_lines, line, silent}
+use Rattle.tool_answers.specs.Texts.{within}
 use Rattle.tool_laws.specs.Plain.Plain.{is_plain}
 use Rattle.tool_laws.proofs.PlainLemmas.PlainLemmas.{plain_shown}
 use Rattle.warg_printable.specs.Characters.{is_hidden}
@@ -54,6 +55,14 @@ pub word_front : (word text : List ℕ) → is_plain word ≡ true → IsOneLine
 word_front word text x h = plain_front word (codes " " ++ text) x (plain_front (codes " ") text refl h)
 
 -- ---- choices
+
+if_clean : (b : Bool) (x y : OutputData) → IsClean x → IsClean y → IsClean (if b then x else y)
+if_clean true x y h k = h
+if_clean false x y h k = k
+
+-- what is printed within a limit
+pub within_clean : (limit : ℕ) (it : OutputData) → IsClean it → IsClean (within limit it)
+within_clean limit it h = if_clean (nat_lt limit (length it.text)) (silent 2) it no_lines h
 
 pub if_line : (b : Bool) (x y : Option (List ℕ)) → IfLine x → IfLine y → IfLine (if b then x else y)
 if_line true x y h k = h

@@ -15,7 +15,7 @@ use Rattle.tool_answers.specs.Texts.{AreLinkLines, IsChainPrinted, IsComparisonP
 use Rattle.tool_answers.specs.Verdicts.{IsPrintedOf, envelopes_of}
 use Rattle.tool_answers.specs.Words.{IsByWord, by_value, unsaid}
 use Rattle.warg_audit.specs.Files.Files.{Files}
-use Rattle.warg_audit.specs.Files.Texts.{no, side_text, yes}
+use Rattle.warg_audit.specs.Files.Texts.{line, no, side_text, yes}
 use Rattle.warg_crypto.specs.declared.json.error.Incoherence.{Incoherence}
 use Rattle.warg_crypto.specs.declared.json.error.Incoherence.TheVariants as case
 use Rattle.warg_crypto.specs.declared.json.error.JsonError.{JsonError as ValueError}
@@ -36,14 +36,14 @@ use Rattle.warg_printable.specs.Printable.{IsPrintable}
 use Rattle.warg_printable.proofs.JsonLemmas.{json_shown}
 use Rattle.warg_printable.proofs.LineLemmas.{both_lines, no_lines, one_line, one_shown, same_lines}
 use Rattle.tool_laws.proofs.FileLemmas.{file_clean, lines_clean, silent_clean}
-use Rattle.tool_laws.proofs.LineLemmas.{IsClean, IsOneLine, all_mapped, clean_line, clean_same, line_text, plain_front, plain_line, shown_lines, word_front}
+use Rattle.tool_laws.proofs.LineLemmas.{IsClean, IsOneLine, all_mapped, clean_line, clean_same, line_text, plain_front, plain_line, shown_lines, word_front, within_clean}
 use Rattle.tool_laws.proofs.LogLemmas.{IsPlainLog, bad_one, collision_one, fork_one, lawful_clean, negative_one, run_error_one, side_one}
 
 -- ---- states
 
-state_text_clean : (state : Result (List ℕ) JsonError) → IsPrintedText (json_text state).text
-state_text_clean (Ok text) = one_shown (json_printable text) (json_shown text)
-state_text_clean (Err fault) = line_text (codes "no json TimeBeforeEpoch\n") (plain_line (codes "no json TimeBeforeEpoch") refl)
+state_text_clean : (limit : ℕ) (state : Result (List ℕ) JsonError) → IsPrintedText (json_text limit state).text
+state_text_clean limit (Ok text) = within_clean limit (yes (line (json_printable text))) (one_shown (json_printable text) (json_shown text))
+state_text_clean limit (Err fault) = line_text (codes "no json TimeBeforeEpoch\n") (plain_line (codes "no json TimeBeforeEpoch") refl)
 
 case_plain : (it : Incoherence) → is_plain (case_name it) ≡ true
 case_plain case.AlgorithmWithoutHead = refl
@@ -139,21 +139,21 @@ by_word_clean Says P each printed (by_value it says h) = each it printed h
 
 module _ {Meaning Fault View Offence S P : Type 0} (kind : Askable Meaning Fault View Offence S P) (Says : List ℕ → RecordWords → Type 0)
     (plain : IsPlainLog kind.shown) (texts : (p : P) → is_plain (kind.text_of p) ≡ true) (belongs : SignatureRelation) where
-  state_clean : (inputs : List (List ℕ)) (printed : OutputData) → IsStateText kind.shown kind.view kind.json inputs printed → IsClean printed
-  state_clean inputs printed h = clean_same printed (json_text (kind.json h.state)) h.is (state_text_clean (kind.json h.state))
+  state_clean : (limit : ℕ) (inputs : List (List ℕ)) (printed : OutputData) → IsStateText kind.shown kind.view (λ it. json_text limit (kind.json it)) inputs printed → IsClean printed
+  state_clean limit inputs printed h = clean_same printed (json_text limit (kind.json h.state)) h.is (state_text_clean limit (kind.json h.state))
 
-  gone_clean : (state : S) (lines : List (List ℕ)) (printed : OutputData) → IsGoneOn kind.shown belongs kind.view kind.json state lines printed
+  gone_clean : (limit : ℕ) (state : S) (lines : List (List ℕ)) (printed : OutputData) → IsGoneOn kind.shown belongs kind.view (λ it. json_text limit (kind.json it)) state lines printed
       → IsClean printed
-  gone_clean state lines printed (first_bad index at is) = clean_line printed (bad_line index) is (bad_one index)
-  gone_clean state lines printed (first_refused inputs spell index cause first is) =
+  gone_clean limit state lines printed (first_bad index at is) = clean_line printed (bad_line index) is (bad_one index)
+  gone_clean limit state lines printed (first_refused inputs spell index cause first is) =
       clean_line printed (run_error kind.shown index cause) is (run_error_one kind.shown plain index cause)
-  gone_clean state lines printed (resumed inputs spell lawful next stands is) =
-      clean_same printed (json_text (kind.json next)) is (state_text_clean (kind.json next))
+  gone_clean limit state lines printed (resumed inputs spell lawful next stands is) =
+      clean_same printed (json_text limit (kind.json next)) is (state_text_clean limit (kind.json next))
 
-  resumed_clean : (saved : List ℕ) (lines : List (List ℕ)) (printed : OutputData)
-      → IsResumed kind.shown belongs kind.view kind.json kind.reads saved lines printed → IsClean printed
-  resumed_clean saved lines printed (no_state fault is_fault is) = clean_same printed (bad_state fault) is (bad_state_clean fault)
-  resumed_clean saved lines printed (gone_on state reads h) = gone_clean state lines printed h
+  resumed_clean : (limit : ℕ) (saved : List ℕ) (lines : List (List ℕ)) (printed : OutputData)
+      → IsResumed kind.shown belongs kind.view (λ it. json_text limit (kind.json it)) kind.reads saved lines printed → IsClean printed
+  resumed_clean limit saved lines printed (no_state fault is_fault is) = clean_same printed (bad_state fault) is (bad_state_clean fault)
+  resumed_clean limit saved lines printed (gone_on state reads h) = gone_clean limit state lines printed h
 
   permissions_clean : (word : List ℕ) (inputs : List (List ℕ)) (printed : OutputData)
       → IsPermissionsText kind.shown kind.view kind.has_key kind.knows kind.held kind.order kind.text_of word inputs printed → IsClean printed
@@ -184,11 +184,11 @@ module _ {Meaning Fault View Offence S P : Type 0} (kind : Askable Meaning Fault
 
   -- the answer to a question
   pub question_clean : (files : Option Files) (it : LogQuery) (printed : OutputData) → IsQuestionAnswer kind Says belongs files it printed → IsClean printed
-  question_clean files (question.State log) printed h =
-      lines_clean files log.now (IsPrintedOf kind.shown belongs (IsStateText kind.shown kind.view kind.json))
-      (lawful_clean kind.shown plain belongs (IsStateText kind.shown kind.view kind.json) state_clean) printed h
-  question_clean files (question.Resume state log) printed h =
-      file_clean files state.now _ (λ saved it. lines_clean files log.now (IsResumed kind.shown belongs kind.view kind.json kind.reads saved) (resumed_clean saved) it) printed h
+  question_clean files (question.State log limit) printed h =
+      lines_clean files log.now (IsPrintedOf kind.shown belongs (IsStateText kind.shown kind.view (λ it. json_text limit (kind.json it))))
+      (lawful_clean kind.shown plain belongs (IsStateText kind.shown kind.view (λ it. json_text limit (kind.json it))) (state_clean limit)) printed h
+  question_clean files (question.Resume state log limit) printed h =
+      file_clean files state.now _ (λ saved it. lines_clean files log.now (IsResumed kind.shown belongs kind.view (λ it. json_text limit (kind.json it)) kind.reads saved) (resumed_clean limit saved) it) printed h
   question_clean files (question.Permissions key_id log) printed h =
       lines_clean files log.now _ (lawful_clean kind.shown plain belongs _ (permissions_clean key_id.now)) printed h
   question_clean files (question.Chain key_id permission log) printed h =

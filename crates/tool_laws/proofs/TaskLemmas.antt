@@ -42,7 +42,8 @@ use Rattle.tool_laws.proofs.ContentBytes.{spelled_bytes, taken_bytes}
 use Rattle.tool_laws.proofs.FileLemmas.{lines_clean, log_unread_clean, silent_clean}
 use Rattle.tool_laws.proofs.HexLemmas.{front_no_nul, hex_no_nul, rest_no_nul}
 use Rattle.tool_laws.proofs.KindLemmas.{operator_plain, package_plain}
-use Rattle.tool_laws.proofs.LineLemmas.{IsClean, clean_line, clean_same, plain_line}
+use Rattle.tool_laws.proofs.LineLemmas.{IsClean, clean_line, clean_same, plain_line, within_clean}
+use Rattle.tool_answers.specs.Texts.{within}
 use Rattle.tool_laws.proofs.LogLemmas.{IsPlainLog, bad_one, negative_clean, run_error_one}
 
 -- ---- claims
@@ -71,9 +72,10 @@ module _ {Meaning Fault View Offence : Type 0} (log : LogDisplay Meaning Fault V
       clean_same printed _ is
       (claims_clean claims (plain.claims (take (length claims) inputs) claims are (taken_bytes (length claims) inputs bytes)))
 
-  answer_clean : (lines : List (List ℕ)) (printed : OutputData) → IsClaimsAnswer log.kind (envelope_of log.read) lines printed → IsClean printed
-  answer_clean lines printed (first_bad index at is) = clean_line printed (bad_line index) is (bad_one index)
-  answer_clean lines printed (listed inputs spell it) = list_clean inputs (spelled_bytes lines inputs spell) printed it
+  answer_clean : (limit : ℕ) (lines : List (List ℕ)) (printed : OutputData) → IsClaimsAnswer limit log.kind (envelope_of log.read) lines printed → IsClean printed
+  answer_clean limit lines printed (first_bad index at is) = clean_line printed (bad_line index) is (bad_one index)
+  answer_clean limit lines printed (listed inputs spell list it is) =
+      clean_same printed (within limit list) is (within_clean limit list (list_clean inputs (spelled_bytes lines inputs spell) list it))
 
 same_no_nul : (printed it : OutputData) → printed ≡ it → HasNoNul printed.text → HasNoNul it.text
 same_no_nul printed it e h = subst (λ (p : OutputData). HasNoNul p.text) e h
@@ -144,10 +146,10 @@ module _ {Meaning Fault View Offence T : Type 0} (Says : List ℕ → T → Type
     (log : LogDisplay Meaning Fault View Offence) (plain : IsPlainLog log) (belongs : SignatureRelation) (old new : Option Files) where
   task_clean : (it : Task) (printed : OutputData) → IsTaskAnswer Says Lacks content prefix log belongs old new it printed → IfMade it printed.text
       → IsClean printed
-  task_clean (task.Claims path) printed it h =
-      lines_clean old path.now (IsClaimsAnswer log.kind (envelope_of log.read)) (answer_clean log plain) printed it
+  task_clean (task.Claims path limit) printed it h =
+      lines_clean old path.now (IsClaimsAnswer limit log.kind (envelope_of log.read)) (answer_clean log plain limit) printed it
   task_clean (task.Make path draft) printed it h = made_clean Says Lacks content prefix log plain draft belongs old path.now printed it h
-  task_clean (task.Append path lines) printed it h = append_clean log plain belongs old new path.now lines.now printed it
+  task_clean (task.Append path lines limit) printed it h = append_clean log plain belongs limit old new path.now lines.now printed it
 
 -- the answer when a task is done
 pub done_clean : (kind : LogKind) (belongs : SignatureRelation) (old new : Option Files) (it : Task) (printed : OutputData)

@@ -13,9 +13,9 @@ HasNoNul text = AllByRecursion (λ b. b ≢ 0) text
 
 -- the same of what is answered to a task, if that makes a record
 abbrev pub IfMade : Task → List ℕ → Type 0
-IfMade (task.Claims path) text = Unit {0}
+IfMade (task.Claims path limit) text = Unit {0}
 IfMade (task.Make path draft) text = HasNoNul text
-IfMade (task.Append path lines) text = Unit {0}
+IfMade (task.Append path lines limit) text = Unit {0}
 
 -- the same of a request, if it is such a task
 abbrev pub IfMakes : Request → List ℕ → Type 0

@@ -52,11 +52,11 @@ pub record ArePermissionsTold {P : Type 0} (has_key knows : List ℕ → Bool) (
   pub is : printed ≡ permissions_text (knows key) order text_of (held key)
 
 module _ {Meaning Fault View Offence : Type 0} (log : LogDisplay Meaning Fault View Offence) where
-  -- the JSON of a state that stands for the inputs
-  pub record IsStateText {S : Type 0} (view : S → View) (json : S → Result (List ℕ) JsonError) (inputs : List (List ℕ)) (printed : OutputData) : Type 0 where
+  -- what is printed of a state that stands for the inputs
+  pub record IsStateText {S : Type 0} (view : S → View) (text : S → OutputData) (inputs : List (List ℕ)) (printed : OutputData) : Type 0 where
     pub state : S
     pub stands : IsViewOf log (view state) inputs
-    pub is : printed ≡ json_text (json state)
+    pub is : printed ≡ text state
 
   -- the permissions, after the inputs, of the key that a word asks for
   pub record IsPermissionsText {S P : Type 0} (view : S → View) (has_key : S → List ℕ → Bool) (knows : S → List ℕ → Bool) (held : View → List ℕ → P → Bool) (order : List P)

@@ -8,6 +8,7 @@ ghost use Rattle.tool_questions.specs.QuestionWords.{askable};
 ghost use Rattle.warg_audit.specs.Files.Unusable.{IsOfFile, IsOfLines};
 ghost use Rattle.tool_questions.specs.Resumption.{IsResumed};
 ghost use Rattle.warg_audit.specs.ReportWords.{ForDisplay};
+ghost use Rattle.tool_answers.specs.Texts.{json_text};
 ghost use Rattle.tool_answers.specs.Verdicts.{IsPrintedOf};
 ghost use Rattle.tool_answers.specs.Words.{IsByWord};
 ghost use Rattle.std.specs.Prelude.{◌≡◌};
@@ -28,16 +29,18 @@ use warg_protocol::signing::Verifier;
 fn state_of_file<L: ToolLog, V: Verifier, S: Store>(
     alloc: Global,
     verifier: &V,
+    limit: u64,
     path: &str,
     store: &mut S,
 ) -> Result<CommandOutput, CommandError>
     ensures answered { ForDisplay L.log L.Record.reading L.report (λ log.
         Answers (IsOfLines (S.files store.old) path.now
-        (IsPrintedOf log (V.belongs verifier.now) (IsStateText log L.view L.json_of))) result) }
+        (IsPrintedOf log (V.belongs verifier.now) (IsStateText log L.view
+        (λ it. json_text limit (L.json_of it))))) result) }
     ensures kept { S.files store.new ≡ S.files store.old }
 {
     match read_input(alloc, store, path) {
-        Ok(input) => state_answer::<L, V>(alloc, verifier, input),
+        Ok(input) => state_answer::<L, V>(alloc, verifier, limit, input),
         Err(error) => Err(error),
     }
 }
@@ -105,17 +108,18 @@ fn chain_of_word<L: ToolLog, V: Verifier, S: Store>(
 fn resumed_from_file<L: ToolLog, V: Verifier, S: Store>(
     alloc: Global,
     verifier: &V,
+    limit: u64,
     saved: Input<'_>,
     path: &str,
     store: &mut S,
 ) -> Result<CommandOutput, CommandError>
     ensures answered { ForDisplay L.log L.Record.reading L.report (λ log.
         Answers (IsOfLines (S.files store.old) path.now (IsResumed log
-        (V.belongs verifier.now) L.view L.json_of L.state_of saved.entry.bytes.items)) result) }
+        (V.belongs verifier.now) L.view (λ it. json_text limit (L.json_of it)) L.state_of saved.entry.bytes.items)) result) }
     ensures kept { S.files store.new ≡ S.files store.old }
 {
     match read_input(alloc, store, path) {
-        Ok(input) => resume_answer::<L, V>(alloc, verifier, saved, input),
+        Ok(input) => resume_answer::<L, V>(alloc, verifier, limit, saved, input),
         Err(error) => Err(error),
     }
 }
@@ -123,17 +127,18 @@ fn resumed_from_file<L: ToolLog, V: Verifier, S: Store>(
 fn resumed_from_files<L: ToolLog, V: Verifier, S: Store>(
     alloc: Global,
     verifier: &V,
+    limit: u64,
     state: &str,
     path: &str,
     store: &mut S,
 ) -> Result<CommandOutput, CommandError>
     ensures answered { ForDisplay L.log L.Record.reading L.report (λ log. Answers
         (IsOfFile (S.files store.old) state.now (λ saved. IsOfLines (S.files store.old) path.now
-        (IsResumed log (V.belongs verifier.now) L.view L.json_of L.state_of saved))) result) }
+        (IsResumed log (V.belongs verifier.now) L.view (λ it. json_text limit (L.json_of it)) L.state_of saved))) result) }
     ensures kept { S.files store.new ≡ S.files store.old }
 {
     match read_input(alloc, store, state) {
-        Ok(saved) => resumed_from_file::<L, V, S>(alloc, verifier, saved, path, store),
+        Ok(saved) => resumed_from_file::<L, V, S>(alloc, verifier, limit, saved, path, store),
         Err(error) => Err(error),
     }
 }
@@ -187,9 +192,11 @@ pub fn question_answer<L: ToolLog, V: Verifier, S: Store>(
     ensures kept { S.files store.new ≡ S.files store.old }
 {
     match question {
-        LogQuery::State { log } => state_of_file::<L, V, S>(alloc, verifier, log, store),
-        LogQuery::Resume { state, log } => {
-            resumed_from_files::<L, V, S>(alloc, verifier, state, log, store)
+        LogQuery::State { log, limit } => {
+            state_of_file::<L, V, S>(alloc, verifier, *limit, log, store)
+        }
+        LogQuery::Resume { state, log, limit } => {
+            resumed_from_files::<L, V, S>(alloc, verifier, *limit, state, log, store)
         }
         LogQuery::Permissions { key_id, log } => {
             permissions_of_file::<L, V, S>(alloc, verifier, key_id, log, store)

@@ -10,6 +10,7 @@ ghost use Rattle.warg_audit.specs.Files.Answers.{output_data, Answers, IfOutput}
 ghost use Rattle.tool_questions.specs.Resumption.{IsGoneOn, IsResumed, read_state};
 ghost use Rattle.warg_audit.specs.Files.RecordLines.{record_lines};
 ghost use Rattle.tool_questions.specs.StateFaults.{bad_state, case_name, state_fault_name, value_name};
+ghost use Rattle.tool_answers.specs.Texts.{json_text};
 ghost use Rattle.warg_audit.specs.ReportWords.{ForDisplay};
 
 use crate::state::json_answer;
@@ -121,16 +122,18 @@ fn saved_state<L: ToolLog>(alloc: Global, input: &Input<'_>) -> Result<L, Comman
 fn state_after_inputs<L: ToolLog, V: Verifier>(
     alloc: Global,
     verifier: &V,
+    limit: u64,
     state: L,
     path: &str,
     inputs: &[Vec<u8>],
 ) -> Result<CommandOutput, CommandError>
     ensures { ForDisplay L.log L.Record.reading L.report (λ log.
         (lines : List (List ℕ)) → inputs_of lines ≡ Ok (map vec_items inputs.now) →
-        Answers (IsGoneOn log (V.belongs verifier.now) L.view L.json_of state lines) result) }
+        Answers (IsGoneOn log (V.belongs verifier.now) L.view
+        (λ it. json_text limit (L.json_of it)) state lines) result) }
 {
     match run_from(alloc, state, verifier, inputs) {
-        Ok(next) => json_answer(alloc, &next),
+        Ok(next) => json_answer(alloc, limit, &next),
         Err(error) => Err(refused::<L>(alloc, path, &error)),
     }
 }
@@ -139,14 +142,17 @@ fn state_after_inputs<L: ToolLog, V: Verifier>(
 fn state_after<L: ToolLog, V: Verifier>(
     alloc: Global,
     verifier: &V,
+    limit: u64,
     state: L,
     input: Input<'_>,
 ) -> Result<CommandOutput, CommandError>
     ensures { ForDisplay L.log L.Record.reading L.report (λ log. Answers (IsGoneOn log (V.belongs
-        verifier.now) L.view L.json_of state (record_lines input.entry.bytes.items)) result) }
+        verifier.now) L.view (λ it. json_text limit (L.json_of it)) state (record_lines input.entry.bytes.items)) result) }
 {
     match file_inputs(alloc, input.path, input.bytes) {
-        Ok(inputs) => { state_after_inputs(alloc, verifier, state, input.path, inputs.as_slice()) }
+        Ok(inputs) => {
+            state_after_inputs(alloc, verifier, limit, state, input.path, inputs.as_slice())
+        }
         Err(error) => Err(error),
     }
 }
@@ -155,15 +161,17 @@ fn state_after<L: ToolLog, V: Verifier>(
 pub fn resume_answer<L: ToolLog, V: Verifier>(
     alloc: Global,
     verifier: &V,
+    limit: u64,
     saved: Input<'_>,
     input: Input<'_>,
 ) -> Result<CommandOutput, CommandError>
     ensures { ForDisplay L.log L.Record.reading L.report (λ log. Answers
-        (IsResumed log (V.belongs verifier.now) L.view L.json_of L.state_of saved.entry.bytes.items
+        (IsResumed log (V.belongs verifier.now) L.view
+        (λ it. json_text limit (L.json_of it)) L.state_of saved.entry.bytes.items
         (record_lines input.entry.bytes.items)) result) }
 {
     match saved_state::<L>(alloc, &saved) {
-        Ok(state) => state_after(alloc, verifier, state, input),
+        Ok(state) => state_after(alloc, verifier, limit, state, input),
         Err(error) => Err(error),
     }
 }

@@ -10,6 +10,7 @@ ghost use Rattle.std.specs.Prelude.{◌≡◌};
 
 use std::alloc::Global;
 use tool_answers::kind::ToolLog;
+use tool_answers::limit::within;
 use tool_answers::loading::load_state;
 use warg_audit::files::command_error::CommandError;
 use warg_audit::files::command_output::CommandOutput;
@@ -21,15 +22,16 @@ use warg_protocol::signing::Verifier;
 /// The state's JSON on one line, with no hidden character in it. There is none where a time lies before the epoch.
 pub(crate) fn json_answer<L: ToolLog>(
     alloc: Global,
+    limit: u64,
     state: &L,
 ) -> Result<CommandOutput, CommandError>
-    ensures { Answers (λ printed. printed ≡ json_text (L.json_of state.now)) result }
+    ensures { Answers (λ printed. printed ≡ json_text limit (L.json_of state.now)) result }
 {
     match state.json_text(alloc) {
         Ok(text) => {
             let mut printed = json_printed(alloc, text.as_str())?;
             printed.push('\n')?;
-            Ok(CommandOutput::new(alloc, printed, 0))
+            Ok(within(alloc, limit, CommandOutput::new(alloc, printed, 0))?)
         }
         Err(JsonError::OutOfMemory) => Err(CommandError::OutOfMemory),
         Err(_) => Ok(CommandOutput::fixed(alloc, "no json TimeBeforeEpoch\n", 1)?),
@@ -40,14 +42,15 @@ pub(crate) fn json_answer<L: ToolLog>(
 pub fn state_answer<L: ToolLog, V: Verifier>(
     alloc: Global,
     verifier: &V,
+    limit: u64,
     input: Input<'_>,
 ) -> Result<CommandOutput, CommandError>
     ensures { ForDisplay L.log L.Record.reading L.report (λ log.
         Answers (IsPrintedOf log (V.belongs verifier.now)
-        (IsStateText log L.view L.json_of) (record_lines input.entry.bytes.items)) result) }
+        (IsStateText log L.view (λ it. json_text limit (L.json_of it))) (record_lines input.entry.bytes.items)) result) }
 {
     match load_state::<L, V>(alloc, verifier, input) {
-        Ok((state, _)) => json_answer(alloc, &state),
+        Ok((state, _)) => json_answer(alloc, limit, &state),
         Err(error) => Err(error),
     }
 }

@@ -133,9 +133,13 @@ has_more (_ ∷ more) = has_more more
 abbrev pub of_all : List (List ℕ × Bool)
 of_all = (codes "--json", false) ∷ []
 
+-- those of commands that read files
+abbrev pub of_files : List (List ℕ × Bool)
+of_files = (codes "--limit", true) ∷ of_all
+
 -- those of commands on logs
 abbrev pub of_logs : List (List ℕ × Bool)
-of_logs = (codes "--verified", true) ∷ (codes "--toy", false) ∷ of_all
+of_logs = (codes "--verified", true) ∷ (codes "--toy", false) ∷ of_files
 
 -- those of commands that show ids and keys
 abbrev pub of_shown : List (List ℕ × Bool)
@@ -157,7 +161,7 @@ of_making = (codes "--key", true) ∷ (codes "--key-text", true) ∷ of_logs
 
 -- the options of a command
 abbrev pub options : Command → List (List ℕ × Bool)
-options command.Id = of_all
+options command.Id = of_files
 options command.Audit = of_audits
 options command.Show = of_shown
 options command.Latest = of_logs
@@ -170,5 +174,5 @@ options (command.Do doing.Claims) = of_logs
 options (command.Do doing.Make) = of_making
 options (command.Do doing.Append) = of_logs
 options (command.LogId it) = of_all
-options (command.Prove it) = of_all
-options (command.Verify it) = of_all
+options (command.Prove it) = of_files
+options (command.Verify it) = of_files

@@ -5,7 +5,7 @@ use Rattle.std.specs.Str.{bytes_eq}
 use Rattle.tool_words.specs.Commands.{command_of, commands, named}
 use Rattle.tool_words.specs.Parts.{has, Parts, parts_of, value}
 use Rattle.tool_words.specs.Requests.{IsRequest, text_in}
-use Rattle.tool_words.specs.Rules.{is_taken}
+use Rattle.tool_words.specs.Rules.{is_taken, limit_in}
 use Rattle.tool_words.specs.declared.command.Command.{Command}
 use Rattle.tool_words.specs.declared.command.Command.TheVariants as command
 use Rattle.tool_words.specs.declared.request.Invocation.{Invocation}
@@ -48,6 +48,7 @@ pub record Says (words : List (List ℕ)) (call : Call) (it : Invocation) : Type
   pub command : it.command.now ≡ word 1 words
   pub request : IsRequest call.called call.parts.places call.parts.given it.request
   pub json : it.json ≡ has (codes "--json") call.parts.given
+  pub limit : it.limit ≡ limit_in call.parts.given
   pub verified : text_in it.verified ≡ value (codes "--verified") call.parts.given
   pub toy : it.toy ≡ has (codes "--toy") call.parts.given
   pub full : it.full ≡ has (codes "--full") call.parts.given

@@ -3,7 +3,7 @@ use Rattle.std.specs.Prelude.{◌≡◌, ℕ, Bool, true, false, List, [], ◌�
 use Rattle.std.specs.Borrow.{Bor}
 use Rattle.std.specs.Option.{option_map}
 use Rattle.tool_words.specs.Parts.{has, place, value}
-use Rattle.tool_words.specs.Rules.{is_one_log, key_text, kind_of, number_in, signer_in, SignerData, toy}
+use Rattle.tool_words.specs.Rules.{is_one_log, key_text, kind_of, limit_in, number_in, signer_in, SignerData, toy}
 use Rattle.tool_words.specs.declared.command.Command.{Command}
 use Rattle.tool_words.specs.declared.command.Command.TheVariants as command
 use Rattle.tool_words.specs.declared.command.Asking.TheVariants as asking
@@ -58,9 +58,9 @@ pub record IsNewRecord (places : List (List ℕ)) (given : List (List ℕ × Lis
 module _ (called : Command) (places : List (List ℕ)) (given : List (List ℕ × List ℕ)) where
   -- the question on logs of one kind
   abbrev pub IsLogQuery : LogQuery → Type 0
-  IsLogQuery (question.State log) = (called ≡ command.Ask asking.State) × (log.now ≡ place 1 places)
-  IsLogQuery (question.Resume state log) =
-      (called ≡ command.Ask asking.Resume) × (state.now ≡ place 1 places) × (log.now ≡ place 2 places)
+  IsLogQuery (question.State log limit) = (called ≡ command.Ask asking.State) × (log.now ≡ place 1 places) × (limit ≡ limit_in given)
+  IsLogQuery (question.Resume state log limit) =
+      (called ≡ command.Ask asking.Resume) × (state.now ≡ place 1 places) × (log.now ≡ place 2 places) × (limit ≡ limit_in given)
   IsLogQuery (question.Permissions key_id log) =
       (called ≡ command.Ask asking.Permissions) × (key_id.now ≡ place 1 places) × (log.now ≡ place 2 places)
   IsLogQuery (question.Chain key_id permission log) =
@@ -70,9 +70,10 @@ module _ (called : Command) (places : List (List ℕ)) (given : List (List ℕ �
 
   -- what is done with a log
   abbrev pub IsTask : Task → Type 0
-  IsTask (task.Claims log) = (called ≡ command.Do doing.Claims) × (log.now ≡ place 1 places)
+  IsTask (task.Claims log limit) = (called ≡ command.Do doing.Claims) × (log.now ≡ place 1 places) × (limit ≡ limit_in given)
   IsTask (task.Make log draft) = (called ≡ command.Do doing.Make) × (log.now ≡ place 1 places) × IsNewRecord places given draft
-  IsTask (task.Append log lines) = (called ≡ command.Do doing.Append) × (log.now ≡ place 1 places) × (lines.now ≡ place 2 places)
+  IsTask (task.Append log lines limit) =
+      (called ≡ command.Do doing.Append) × (log.now ≡ place 1 places) × (lines.now ≡ place 2 places) × (limit ≡ limit_in given)
 
   -- the log whose id is wanted
   abbrev pub IsNamedLog : NamedLog → Type 0

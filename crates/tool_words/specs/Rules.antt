@@ -1,5 +1,5 @@
 -- What the places and the options of a command have to be.
-use Rattle.std.specs.Prelude.{ℕ, ◌+◌, ◌^◌, Bool, true, false, ◌&&◌, ◌||◌, ◌==◌, not, nat_lt, nat_le, if◌then◌else◌, List, [], ◌∷◌, codes, length, count_by, drop, slice_index, Option, Some, None}
+use Rattle.std.specs.Prelude.{ℕ, ◌+◌, ◌^◌, Bool, true, false, ◌&&◌, ◌||◌, ◌==◌, not, nat_lt, nat_le, if◌then◌else◌, List, [], ◌∷◌, codes, length, count_by, drop, slice_index, unwrap_or, Option, Some, None}
 use Rattle.std.specs.List.{starts_with}
 use Rattle.std.specs.Option.{is_some}
 use Rattle.std.specs.Str.{bytes_eq}
@@ -85,6 +85,10 @@ abbrev pub number_in : Option (List ℕ) → Option ℕ
 number_in None = None
 number_in (Some digits) = number digits
 
+-- how many bytes a file may have: 16 MiB where no other number is given
+abbrev pub limit_in : List (List ℕ × List ℕ) → ℕ
+limit_in given = unwrap_or (number_in (value (codes "--limit") given)) 16_777_216
+
 -- whether an option that is given says a number
 abbrev pub is_number : Option (List ℕ) → Bool
 is_number None = true
@@ -123,11 +127,12 @@ is_make _ = false
 abbrev pub takes_places : Command → List (List ℕ) → Bool
 takes_places command places = fills (forms command) (length places) && (not (has_kind (forms command)) || is_kind (place 0 places))
 
--- whether a command takes these options, with one verifier, a number where one is wanted, and who signs
+-- whether a command takes these options, with one verifier, numbers where they are wanted, and who signs
 abbrev pub takes_options : Command → List (List ℕ × List ℕ) → Bool
 takes_options command given =
     not (has (codes "--toy") given && has (codes "--verified") given)
-    && (is_number (value (codes "--at-least") given) && (not (is_make command) || is_some (signer_in given)))
+    && (is_number (value (codes "--at-least") given)
+    && (is_number (value (codes "--limit") given) && (not (is_make command) || is_some (signer_in given))))
 
 -- whether a command takes these places with these options
 abbrev pub is_taken : Command → List (List ℕ) → List (List ℕ × List ℕ) → Bool

@@ -68,10 +68,14 @@ impl<'a> Parts<'a> {
             (parts_view self.now).given result }
     {
         match asking {
-            Asking::State => LogQuery::State { log: self.place(1) },
+            Asking::State => LogQuery::State {
+                log: self.place(1),
+                limit: self.limit(),
+            },
             Asking::Resume => LogQuery::Resume {
                 state: self.place(1),
                 log: self.place(2),
+                limit: self.limit(),
             },
             Asking::Permissions => LogQuery::Permissions {
                 key_id: self.place(1),
@@ -113,7 +117,10 @@ impl<'a> Parts<'a> {
             (IsTask (command.Do doing) (parts_view self.now).places (parts_view self.now).given)) }
     {
         match doing {
-            Doing::Claims => Ok(Some(Task::Claims { log: self.place(1) })),
+            Doing::Claims => Ok(Some(Task::Claims {
+                log: self.place(1),
+                limit: self.limit(),
+            })),
             Doing::Make => match self.draft(alloc)? {
                 Some(draft) => Ok(Some(Task::Make {
                     log: self.place(1),
@@ -124,6 +131,7 @@ impl<'a> Parts<'a> {
             Doing::Append => Ok(Some(Task::Append {
                 log: self.place(1),
                 lines: self.place(2),
+                limit: self.limit(),
             })),
         }
     }
@@ -289,6 +297,7 @@ fn invocation_with<'a>(
             command: word(words, 1),
             request,
             json: parts.has("--json"),
+            limit: parts.limit(),
             verified: parts.value("--verified"),
             toy: parts.has("--toy"),
             full: parts.has("--full"),

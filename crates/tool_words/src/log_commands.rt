@@ -1,6 +1,6 @@
 //! The commands on logs.
 
-use crate::table::{Choice, Form, JSON, Row, Word};
+use crate::table::{Choice, Form, JSON, LIMIT, Row, Word};
 
 const KIND: Word = Word {
     name: "KIND",
@@ -50,12 +50,13 @@ const NAMES: Choice = Choice {
     help: "Names keys as this file does: an id or a key's text, a space, a name",
 };
 
-const OF_LOGS: &[Choice] = &[JSON, VERIFIED, TOY];
+const OF_LOGS: &[Choice] = &[JSON, LIMIT, VERIFIED, TOY];
 
-const OF_SHOWN: &[Choice] = &[JSON, VERIFIED, TOY, FULL, NAMES];
+const OF_SHOWN: &[Choice] = &[JSON, LIMIT, VERIFIED, TOY, FULL, NAMES];
 
 const OF_AUDITS: &[Choice] = &[
     JSON,
+    LIMIT,
     VERIFIED,
     TOY,
     Choice {
@@ -87,6 +88,7 @@ const OF_AUDITS: &[Choice] = &[
 
 const OF_MAKING: &[Choice] = &[
     JSON,
+    LIMIT,
     VERIFIED,
     TOY,
     Choice {
@@ -115,7 +117,7 @@ pub(crate) const LOG_COMMANDS: &[Row] = &[
                 help: "The file with the record's line",
             },
         ],
-        choices: &[JSON],
+        choices: &[JSON, LIMIT],
     },
     Row {
         name: "audit",

@@ -3,7 +3,7 @@
 ghost use Rattle.std.specs.Prelude.{◌≡◌, ◌==◌, IfOk, if◌then◌else◌, length, None, Some, true, map};
 ghost use Rattle.std.specs.Option.{option_map};
 ghost use Rattle.std.specs.List.{before_first, after_first, position_or_len};
-ghost use Rattle.tool_words.specs.Commands.{named, of_all, of_audits, of_logs, of_making, of_shown, options};
+ghost use Rattle.tool_words.specs.Commands.{named, of_all, of_audits, of_files, of_logs, of_making, of_shown, options};
 ghost use Rattle.tool_words.specs.Parts.{and_words, has, is_equals, is_place, no_parts, parts_of, place, value, with_awaited, with_bare, with_dashed, with_joined, with_mark, with_option, with_place, with_word};
 ghost use Rattle.tool_words.specs.PartsViews.{given_view, IfRead, parts_view};
 ghost use Rattle.tool_words.specs.Requests.{text_in, texts};
@@ -31,7 +31,7 @@ fn log_option(name: &str) -> Option<bool>
     ensures { result ≡ named name.now of_logs }
 {
     match name {
-        "--verified" => Some(true),
+        "--verified" | "--limit" => Some(true),
         "--toy" | "--json" => Some(false),
         _ => None,
     }
@@ -66,6 +66,16 @@ fn making_option(name: &str) -> Option<bool>
     }
 }
 
+fn file_option(name: &str) -> Option<bool>
+    ensures { result ≡ named name.now of_files }
+{
+    match name {
+        "--limit" => Some(true),
+        "--json" => Some(false),
+        _ => None,
+    }
+}
+
 fn common_option(name: &str) -> Option<bool>
     ensures { result ≡ named name.now of_all }
 {
@@ -86,8 +96,8 @@ fn option_of(command: Command, name: &str) -> Option<bool>
         Command::Latest | Command::Do(Doing::Claims | Doing::Append) => log_option(name),
         Command::Ask(Asking::State | Asking::Resume | Asking::Permissions | Asking::Compare) =>
             log_option(name),
-        Command::Id | Command::LogId(_) => common_option(name),
-        Command::Prove(_) | Command::Verify(_) => common_option(name),
+        Command::Id | Command::Prove(_) | Command::Verify(_) => file_option(name),
+        Command::LogId(_) => common_option(name),
     }
 }
 

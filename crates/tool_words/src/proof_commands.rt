@@ -1,6 +1,6 @@
 //! The commands on a registry's logs, and on its log of leaves and its map.
 
-use crate::table::{Form, JSON, Row, Word};
+use crate::table::{Form, JSON, LIMIT, Row, Word};
 
 const LEAVES: Word = Word {
     name: "LEAVES",
@@ -67,14 +67,14 @@ pub(crate) const PROVE: &[Row] = &[
         about: "Prints the checkpoint, as JSON",
         example: "Example: weoldrin prove checkpoint leaves.txt > checkpoint.json",
         words: &[LEAVES],
-        choices: &[JSON],
+        choices: &[JSON, LIMIT],
     },
     Row {
         name: "inclusion",
         about: "Proves that a leaf stands at a place",
         example: "Example: weoldrin prove inclusion 5 leaves.txt > proof.txt",
         words: &[PLACE, LEAVES],
-        choices: &[JSON],
+        choices: &[JSON, LIMIT],
     },
     Row {
         name: "consistency",
@@ -88,14 +88,14 @@ pub(crate) const PROVE: &[Row] = &[
             },
             LEAVES,
         ],
-        choices: &[JSON],
+        choices: &[JSON, LIMIT],
     },
     Row {
         name: "head",
         about: "Proves what the map says of a log",
         example: "Example: weoldrin prove head sha256:0a1b.. leaves.txt > proof.txt",
         words: &[LOG_ID, LEAVES],
-        choices: &[JSON],
+        choices: &[JSON, LIMIT],
     },
 ];
 
@@ -106,7 +106,7 @@ pub(crate) const VERIFY: &[Row] = &[
         about: "Whether a leaf stands at a place of the log",
         example: "Example: weoldrin verify inclusion checkpoint.json 5 sha256:0a1b.. sha256:2c3d.. proof.txt",
         words: &[CHECKPOINT, PLACE, LOG_ID, RECORD_ID, PROOF],
-        choices: &[JSON],
+        choices: &[JSON, LIMIT],
     },
     Row {
         name: "consistency",
@@ -125,20 +125,20 @@ pub(crate) const VERIFY: &[Row] = &[
             },
             PROOF,
         ],
-        choices: &[JSON],
+        choices: &[JSON, LIMIT],
     },
     Row {
         name: "head",
         about: "Whether a record is the last of a log",
         example: "Example: weoldrin verify head checkpoint.json sha256:0a1b.. sha256:2c3d.. proof.txt",
         words: &[CHECKPOINT, LOG_ID, RECORD_ID, PROOF],
-        choices: &[JSON],
+        choices: &[JSON, LIMIT],
     },
     Row {
         name: "absence",
         about: "Whether a log has no record",
         example: "Example: weoldrin verify absence checkpoint.json sha256:0a1b.. proof.txt",
         words: &[CHECKPOINT, LOG_ID, PROOF],
-        choices: &[JSON],
+        choices: &[JSON, LIMIT],
     },
 ];

@@ -19,6 +19,8 @@ pub enum LogQuery<'a> {
     State {
         /// The log.
         log: &'a str,
+        /// How many bytes the state may have.
+        limit: u64,
     },
     /// The state after the records of a log, from a saved one.
     Resume {
@@ -26,6 +28,8 @@ pub enum LogQuery<'a> {
         state: &'a str,
         /// The records that came since.
         log: &'a str,
+        /// How many bytes the new state may have.
+        limit: u64,
     },
     /// What a key holds.
     Permissions {
@@ -151,6 +155,8 @@ pub struct Invocation<'a> {
     pub request: Request<'a>,
     /// Whether the answer is printed as JSON, a line an object.
     pub json: bool,
+    /// How many bytes a file may have.
+    pub limit: u64,
     /// The file of the signatures that were verified; none where the program verifies them.
     pub verified: Option<&'a str>,
     /// Whether signatures of the toy scheme, which anyone can forge, are taken too.
@@ -177,6 +183,7 @@ impl Invocation<'_> {
             self.new.request ≡ self.old.request }
         ensures command { self.new.command ≡ self.old.command }
         ensures json { self.new.json ≡ self.old.json }
+        ensures limit { self.new.limit ≡ self.old.limit }
         ensures verified { self.new.verified ≡ self.old.verified }
         ensures toy { self.new.toy ≡ self.old.toy }
         ensures full { self.new.full ≡ self.old.full }

@@ -5,13 +5,13 @@ ghost use Rattle.std.specs.Option.{option_map};
 ghost use Rattle.tool_words.specs.Commands.{forms};
 ghost use Rattle.tool_words.specs.PartsViews.{parts_view};
 ghost use Rattle.tool_words.specs.Requests.{signer_view, text_in, texts};
-ghost use Rattle.tool_words.specs.Rules.{fills, has_demand, is_kind, is_make, is_number, is_one_log, is_some_stdin, is_stdin, is_taken, kind_of, more_files, number, number_in, one_if, read_places, reads_once, signer_in, signer_of, stdin_files, stdin_options, stdin_places, takes_options, takes_places};
+ghost use Rattle.tool_words.specs.Rules.{fills, has_demand, is_kind, is_make, is_number, is_one_log, is_some_stdin, is_stdin, is_taken, kind_of, limit_in, more_files, number, number_in, one_if, read_places, reads_once, signer_in, signer_of, stdin_files, stdin_options, stdin_places, takes_options, takes_places};
 
 use crate::command::{Asking, Command, Doing, Proving, Verifying};
 use crate::invocation::words_from;
 use crate::parts::Parts;
 use crate::task::Signer;
-use warg_audit::LogKind;
+use warg_audit::{LogKind, MAX_INPUT};
 
 // Whether so many words fill the places of a command.
 fn fills(command: Command, count: usize) -> bool
@@ -161,6 +161,13 @@ impl<'a> Parts<'a> {
         signer_of(self.value("--key"), self.value("--key-text"))
     }
 
+    /// How many bytes a file may have.
+    pub(crate) fn limit(&self) -> u64
+        ensures { result ≡ limit_in (parts_view self.now).given }
+    {
+        number_in(self.value("--limit")).unwrap_or(MAX_INPUT as u64)
+    }
+
     /// Whether the words behind `audit` name one log, and no file of paths.
     pub(crate) fn is_one_log(&self) -> bool
         ensures { result ≡ is_one_log (parts_view self.now).places }
@@ -236,7 +243,8 @@ impl<'a> Parts<'a> {
     {
         !(self.has("--toy") && self.has("--verified"))
             && (is_number(self.value("--at-least"))
-                && (!is_make(command) || self.signer().is_some()))
+                && (is_number(self.value("--limit"))
+                    && (!is_make(command) || self.signer().is_some())))
     }
 
     /// Whether a command takes these places with these options.
@@ -255,6 +263,8 @@ impl<'a> Parts<'a> {
             Some("--toy and --verified can't stand together")
         } else if !is_number(self.value("--at-least")) {
             Some("--at-least takes decimal digits, a number below 2^64")
+        } else if !is_number(self.value("--limit")) {
+            Some("--limit takes decimal digits, a number of bytes below 2^64")
         } else if is_make(command) && self.signer().is_none() {
             Some("make takes --key toy:NAME or --key-text TEXT, and one of them alone")
         } else if !self.reads_once(command) {

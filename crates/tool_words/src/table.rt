@@ -52,6 +52,13 @@ pub(crate) const JSON: Choice = Choice {
     help: "Answers in JSON, an object a line",
 };
 
+/// How long files may be.
+pub(crate) const LIMIT: Choice = Choice {
+    name: "limit",
+    value: Some("BYTES"),
+    help: "How many bytes a file may have, 16777216 where this is not given",
+};
+
 fn arg_of<'a>(alloc: Global, word: &Word) -> Arg<'a> {
     let arg = Arg::new(alloc, word.name).help(word.help);
     match word.form {

@@ -31,6 +31,8 @@ pub enum Task<'a> {
     Claims {
         /// The log.
         log: &'a str,
+        /// How many bytes the claims may have.
+        limit: u64,
     },
     /// The next record is made.
     Make {
@@ -45,5 +47,7 @@ pub enum Task<'a> {
         log: &'a str,
         /// The file with the records' lines.
         lines: &'a str,
+        /// How many bytes the log may have then.
+        limit: u64,
     },
 }

@@ -33,20 +33,20 @@ known_long (Some x) None bs n p long = absurd p
 known_long (Some x) (Some y) bs n p long = rw p (omega (arith, length-append bs y))
 
 -- what was read before a turn: each read gave bytes, and these are all
-pub record SoFar {R : Type 0} (remaining : R → Option (List ℕ)) (before now : Input R) (turn : ℕ) (bytes : List ℕ) : Type 0 where
+pub record SoFar {R : Type 0} (limit : ℕ) (remaining : R → Option (List ℕ)) (before now : Input R) (turn : ℕ) (bytes : List ℕ) : Type 0 where
   pub reads : now.reads ≤ before.reads + turn
   pub errors : now.errors ≡ before.errors
   pub bytes_taken : now.bytes_taken ≤ before.bytes_taken + length bytes
   pub late_reads : before.ended ≡ false → (now.ended ≡ false) × (now.late_reads ≡ before.late_reads)
   pub enough : turn ≤ length bytes
-  pub short : length bytes ≤ 16_777_216
+  pub short : length bytes ≤ limit
   pub are_gone : Consumes (bytes_left remaining before) (bytes_left remaining now) bytes
 
-module _ {R : Type 0} (remaining : R → Option (List ℕ)) (before now after : Input R) (turn : ℕ) (bytes front : List ℕ) where
+module _ {R : Type 0} (limit : ℕ) (remaining : R → Option (List ℕ)) (before now after : Input R) (turn : ℕ) (bytes front : List ℕ) where
   -- with the last read
-  pub last_read : SoFar remaining before now turn bytes → after.reads ≤ now.reads + 1 → after.errors ≤ now.errors + 1 → after.bytes_taken ≤ now.bytes_taken + length front
-      → (now.ended ≡ false → after.late_reads ≡ now.late_reads) → Consumes (bytes_left remaining now) (bytes_left remaining after) front → length front + length bytes ≤ 16_777_217
-      → ReadsToEnd remaining before after
+  pub last_read : SoFar limit remaining before now turn bytes → after.reads ≤ now.reads + 1 → after.errors ≤ now.errors + 1 → after.bytes_taken ≤ now.bytes_taken + length front
+      → (now.ended ≡ false → after.late_reads ≡ now.late_reads) → Consumes (bytes_left remaining now) (bytes_left remaining after) front → length front + length bytes ≤ limit + 1
+      → ReadsToEnd limit remaining before after
   last_read far reads errors taken late front_gone few = record {
     late_reads = λ unended. let kept = far.late_reads unended in late kept.0 ∙ kept.1;
     errors = omega arith;

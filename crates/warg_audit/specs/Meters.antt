@@ -18,18 +18,18 @@ abbrev pub bytes_held : {W : Type 0} → (W → Option (List ℕ)) → Output W 
 bytes_held contents output = contents output.writer
 
 -- Reading ends at the first read that fails or gives no bytes, or one byte past the limit.
-pub record ReadsToEnd {R : Type 0} (remaining : R → Option (List ℕ)) (before after : Input R) : Type 0 where
+pub record ReadsToEnd {R : Type 0} (limit : ℕ) (remaining : R → Option (List ℕ)) (before after : Input R) : Type 0 where
   -- no read follows one that failed or gave no bytes
   pub late_reads : before.ended ≡ false → after.late_reads ≡ before.late_reads
   pub errors : after.errors ≤ before.errors + 1
   -- no byte is read past the first one over the limit
-  pub reads : after.reads ≤ before.reads + 16_777_217
-  pub bytes_taken : after.bytes_taken ≤ before.bytes_taken + 16_777_217
+  pub reads : after.reads ≤ before.reads + (limit + 1)
+  pub bytes_taken : after.bytes_taken ≤ before.bytes_taken + (limit + 1)
   -- where its bytes are known: at most one read more than it has bytes, and the bytes that are gone
   pub known_reads : IfSome (bytes_left remaining before) (λ bytes. after.reads ≤ before.reads + (length bytes + 1))
   pub bytes_gone : List ℕ
   pub are_gone : Consumes (bytes_left remaining before) (bytes_left remaining after) bytes_gone
-  pub few_bytes_gone : length bytes_gone ≤ 16_777_217
+  pub few_bytes_gone : length bytes_gone ≤ limit + 1
 
 -- a read failed meanwhile; nothing is known where the count of failed ones was full
 abbrev pub ReadFailed : {R : Type 0} → Input R → Input R → Type 0

@@ -16,7 +16,7 @@ use crate::input::Input;
 use crate::log::log_reply;
 use crate::log_kind::LogKind;
 use crate::output::Output;
-use crate::reading::{InputError, read_all};
+use crate::reading::{InputError, MAX_INPUT, read_all};
 use crate::reply::Reply;
 use std::alloc::{AllocError, Global};
 use std::io::{Read, Write};
@@ -61,12 +61,12 @@ pub fn make_reply<R: Read>(alloc: Global, words: &[String], input: &mut Input<R>
     ensures other_words { command_of (map string_bytes words.now) ≡ None → (input.new ≡ input.old) ×
         (printed_of result ≡ usage) }
     ensures faults { (input.new.errors ≡ input.old.errors) ⊎ (printed_of result ≡ read_error) }
-    ensures reading { ReadsToEnd R.remaining input.old input.new }
+    ensures reading { ReadsToEnd 16_777_216 R.remaining input.old input.new }
 {
     let Some(command) = parse_command(words) else {
         return Reply::fixed(USAGE, 2);
     };
-    match read_all(alloc, input) {
+    match read_all(alloc, input, MAX_INPUT) {
         Ok(bytes) => match command_reply(alloc, command, bytes) {
             Ok(reply) => reply,
             Err(_) => Reply::fixed(OUT_OF_MEMORY, 3),
@@ -106,7 +106,7 @@ pub fn audit<R: Read, W: Write>(
     ensures other_words { command_of (map string_bytes words.now) ≡ None → (input.new ≡ input.old)
         × IsPrintedOrFailed (bytes_held W.contents output.old) (bytes_held W.contents output.new)
         (WriteFailed output.old output.new) result usage }
-    ensures reading { ReadsToEnd R.remaining input.old input.new }
+    ensures reading { ReadsToEnd 16_777_216 R.remaining input.old input.new }
 {
     let reply = make_reply(alloc, words, input);
     match output.write_all(reply.text().as_bytes()) {

@@ -39,6 +39,7 @@ fn answered(
     match parse_words(alloc, words)? {
         Parsed::Invocation(mut invocation) => {
             invocation.tell_time(Timestamp::now(rt).ok());
+            disk.set_limit(invocation.limit);
             let answer = invocation_answer(alloc, &invocation, disk);
             disk.clear_progress();
             answer

@@ -223,7 +223,7 @@ def busy(place: Place, faults: Faults) -> None:
 
 
 def limit(place: Place, faults: Faults) -> None:
-    """A log may reach the limit of what is read, and not one byte more."""
+    """A log may reach the limit of what is read, and not one byte more, unless another limit is given."""
     for over, name in ((0, "at the limit"), (1, "over the limit")):
         log = place.log(f"limit{over}")
         room = LIMIT - len(place.text(3)) + over
@@ -231,7 +231,13 @@ def limit(place: Place, faults: Faults) -> None:
         log.write_text(text, encoding="utf-8")
         done = place.tool.append(log, place.lines[2])
         if over:
-            expect_left(faults, name, done, 2, "more than 16777216 bytes", log, text)
+            expect_left(faults, name, done, 2, "more bytes than the limit", log, text)
+            more = ["--limit", str(LIMIT + 1)]
+            done = place.tool.run("append", "package", log, "--toy", *more, given=place.lines[2])
+            faults.expect("past the usual limit", done.returncode == 0 and log.stat().st_size == LIMIT + 1, done)
+            for words, status in ((more, 0), ([], 2)):
+                done = place.tool.run("audit", "package", log, "--toy", *words)
+                faults.expect(f"past the usual limit: audit {words}", done.returncode == status, done)
         else:
             faults.expect(name, done.returncode == 0 and log.stat().st_size == LIMIT, done)
             faults.expect(f"{name}: it is read", place.tool.run("audit", "package", log, "--toy").returncode == 0, log)

@@ -11,7 +11,7 @@ abbrev pub unread_text : ReadError → OutputData
 unread_text fault.Missing = record { text = codes "there is no such file"; status = 2 }
 unread_text fault.Folder = record { text = codes "it is a folder"; status = 2 }
 unread_text fault.Closed = record { text = codes "it can't be opened"; status = 2 }
-unread_text fault.TooLong = record { text = codes "it has more than 16777216 bytes"; status = 2 }
+unread_text fault.TooLong = record { text = codes "it has more bytes than the limit; --limit BYTES sets another"; status = 2 }
 unread_text fault.Failed = record { text = codes "a read failed"; status = 3 }
 unread_text fault.OutOfMemory = record { text = codes "out of memory"; status = 3 }
 

@@ -50,7 +50,7 @@ impl ReadError {
             ReadError::Missing => "there is no such file",
             ReadError::Folder => "it is a folder",
             ReadError::Closed => "it can't be opened",
-            ReadError::TooLong => "it has more than 16777216 bytes",
+            ReadError::TooLong => "it has more bytes than the limit; --limit BYTES sets another",
             ReadError::Failed => "a read failed",
             ReadError::OutOfMemory => "out of memory",
         }

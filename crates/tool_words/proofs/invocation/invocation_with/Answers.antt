@@ -10,6 +10,7 @@ returns-in-Some c =
       command = c.word.ensures;
       request = search rules;
       json = c.has.ensures;
+      limit = c.limit.ensures;
       verified = c.value.ensures;
       toy = c.has-in-Some.ensures;
       full = c.has-in-Some-2.ensures;
