@@ -235,7 +235,8 @@ def limit(place: Place, faults: Faults) -> None:
             more = ["--limit", str(LIMIT + 1)]
             done = place.tool.run("append", "package", log, "--toy", *more, given=place.lines[2])
             faults.expect("past the usual limit", done.returncode == 0 and log.stat().st_size == LIMIT + 1, done)
-            for words, status in ((more, 0), ([], 2)):
+            audits: list[tuple[list[str], int]] = [(more, 0), ([], 2)]
+            for words, status in audits:
                 done = place.tool.run("audit", "package", log, "--toy", *words)
                 faults.expect(f"past the usual limit: audit {words}", done.returncode == status, done)
         else:
