@@ -110,7 +110,8 @@ fn tell_read(rt: &impl Print, alloc: Global) -> io::Result<()> {
 
 fn tell_trees(rt: &impl Print, alloc: Global) -> io::Result<()> {
     tell(rt, "consistency", trees::consistency(alloc))?;
-    tell(rt, "head", trees::head(alloc))
+    tell(rt, "head", trees::head(alloc))?;
+    tell(rt, "saved", trees::saved(alloc))
 }
 
 fn tell_all(rt: &impl Print, alloc: Global, log: &[Vec<u8>]) -> io::Result<()> {

@@ -1,11 +1,13 @@
 //! Calls on a registry's log and map.
 
 use crate::call_error::CallError;
-use std::alloc::Global;
+use std::alloc::{AllocError, Global};
 use warg_protocol::JsonValue;
 use warg_protocol::hash::HashAlgorithm;
 use warg_protocol::registry::{LogId, LogLeaf, MapLeaf, RecordId};
-use warg_protocol::transparency::{LogProof, LogTree, MapProof, MapTree};
+use warg_protocol::transparency::{
+    LogProof, LogTree, MapProof, MapTree, RegistryTrees, SavedLeavesError,
+};
 
 // The leaf of a record of this name in one log.
 fn leaf(record: &[u8]) -> LogLeaf {
@@ -55,4 +57,23 @@ pub(crate) fn head(alloc: Global) -> Result<String, CallError> {
     }
     let json = map.proof(&log_id)?.to_value(alloc)?;
     Ok(MapProof::from_value(alloc, &json)?.to_text(alloc)?)
+}
+
+// The trees of the saved leaves.
+fn resumed(alloc: Global, bytes: &[u8]) -> Result<RegistryTrees, CallError> {
+    match RegistryTrees::from_bytes(alloc, bytes) {
+        Ok(trees) => Ok(trees),
+        Err(SavedLeavesError::OutOfMemory) => Err(CallError::from(AllocError)),
+        Err(SavedLeavesError::BadLength) => Err(CallError::new("no leaves")),
+    }
+}
+
+/// The proof that the trees of three records go on from their first two leaves, after they were saved and read back.
+pub(crate) fn saved(alloc: Global) -> Result<String, CallError> {
+    let mut leaves = Vec::new(alloc);
+    for record in [b"1", b"2", b"3"] {
+        leaves.push(leaf(record.as_slice()))?;
+    }
+    let bytes = RegistryTrees::of_leaves(alloc, leaves)?.to_bytes(alloc)?;
+    log_proof(alloc, resumed(alloc, bytes.as_slice())?.consistency(2)?)
 }

@@ -10,11 +10,14 @@ pub use Rattle.warg_transparency.specs.Views.{GoesOn, IsLogOf}
 -- heads that are shown under a checkpoint
 pub use Rattle.warg_transparency.specs.Heads.{ShowsHead, ShowsLeaf, head_leaf, path_inputs_for}
 -- the log and the map of leaves, and what they prove
-pub use Rattle.warg_transparency.specs.RegistryTrees.{HasNone, HeadIs, IsCheckpointOf, IsHead, IsMapOf, IsMapRoot, entries_of, leaf_of}
+pub use Rattle.warg_transparency.specs.RegistryTrees.{HasHashes, HasNone, HeadIs, IsCheckpointOf, IsHead, IsMapOf, IsMapRoot, entries_of, leaf_of}
 pub use Rattle.warg_transparency.specs.RegistryTrees.{ProvesBeginning, ProvesHead, ProvesLeaf}
+pub use Rattle.warg_transparency.specs.SavedLeaves.{AreSaved, leaf_bytes, saved_form}
 -- proofs that contradict each other under one checkpoint, and what is hashed where they are tried
 pub use Rattle.warg_transparency.specs.Contradictions.{ShowsBeginning, ShowsLeafAt, ShowsNothing}
 pub use Rattle.warg_transparency.specs.Contradictions.{beginning_inputs, leaf_inputs, nothing_inputs}
+-- what two clients hold
+pub use Rattle.warg_transparency.specs.Forks.{AreShownAt, CollidesAt, IsFork, IsLeafFork, IsNotShownToGoOn, IsOneLeaf, IsShownAt, IsShownToGoOn}
 -- the texts of proofs, and what texts are read as
 pub use Rattle.warg_crypto.specs.OutcomeResults.{ReturnsOr}
 pub use Rattle.warg_transparency.specs.Texts.{log_proof_of, log_proof_text, map_proof_of, map_proof_text}

@@ -1,7 +1,10 @@
 pub mod Encodings
+pub mod LeafLemmas
+pub mod MapFromEnd
 pub mod MapLeafLemmas
 pub mod RegistryLemmas
 pub mod RegistryProofs
 pub mod RegistryTreesKept
 pub mod SameProofs
+pub mod SavedLeavesLemmas
 pub mod TextLemmas

@@ -146,6 +146,45 @@ module _ (leaves : List LogLeaf) (leaf : LogLeaf) (m n : List Side → Option (L
         sets.others way (λ e. All-head (λ (l : LogLeaf). way_of l.log_id ≢ way) leaf [] parts.1 (sym e)) ∙ map_is.others way parts.0;
   }
 
+-- a head stands behind the first leaf, or is that one
+split : (first : LogLeaf) (leaves before after : List LogLeaf) (x : LogLeaf) → first ∷ leaves ≡ before ++ x ∷ after → ((first ≡ x) × (leaves ≡ after)) ⊎ ((rest : List LogLeaf) × (leaves ≡ rest ++ x ∷ after))
+split first leaves [] after x e = inl (same_rest first x leaves after e)
+split first leaves (b ∷ before) after x e = inr (before, (same_rest first b leaves (before ++ x ∷ after) e).1)
+
+-- a log with a head has a leaf
+no_head : (leaves : List LogLeaf) (id : LogId) (record_id : RecordId) → IsHead leaves id record_id → HasNone leaves id → ⊥
+no_head leaves id record_id head none =
+    All-head (λ (l : LogLeaf). l.log_id ≢ id) (leaf_of id record_id) head.after (both_parts (λ (l : LogLeaf). l.log_id ≢ id) head.before (leaf_of id record_id ∷ head.after) (subst (λ ls. HasNone ls id) head.parts none)).1 refl
+
+-- the map of one leaf more in front
+module _ (leaf : LogLeaf) (leaves : List LogLeaf) (m : List Side → Option (List ℕ)) (are : All HasHashes leaves) (is : HasHashes leaf) (map_is : IsMapOf leaves m) where
+  -- the first of its log: the map has its record at the end of the log's way
+  pub put_before : (n : List Side → Option (List ℕ)) → HasNone leaves leaf.log_id → Sets m n (way_of leaf.log_id) (map_leaf_encoding_of (head_leaf leaf.record_id)) → IsMapOf (leaf ∷ leaves) n
+  put_before n alone sets = record {
+    heads = λ id record_id head. elim (split leaf leaves head.before head.after (leaf_of id record_id) head.parts) [
+      | inl first ↦ new_head leaves leaf m n are is map_is sets id record_id first.0
+      | inr found ↦
+          let old : IsHead leaves id record_id = record { before = found.0; after = head.after; parts = found.1; last = head.last } in
+          let none = (both_parts (λ (l : LogLeaf). l.log_id ≢ leaf.log_id) found.0 (leaf_of id record_id ∷ head.after) (subst (λ ls. HasNone ls leaf.log_id) found.1 alone)).1 in
+          let differ = All-head (λ (l : LogLeaf). l.log_id ≢ leaf.log_id) (leaf_of id record_id) head.after none in
+          sets.others (way_of id) (other_way (leaf_of id record_id) leaf.log_id (head_hashes leaves id record_id are old) is.log_id differ) ∙ map_is.heads id record_id old
+    ];
+    others = λ way none.
+        sets.others way (λ e. All-head (λ (l : LogLeaf). way_of l.log_id ≢ way) leaf leaves none (sym e)) ∙ map_is.others way (All-tail (λ (l : LogLeaf). way_of l.log_id ≢ way) leaf leaves none);
+  }
+
+  -- one before another of its log: the map is as it was
+  pub passed_over : (record_id : RecordId) → IsHead leaves leaf.log_id record_id → IsMapOf (leaf ∷ leaves) m
+  passed_over last later = record {
+    heads = λ id record_id head. elim (split leaf leaves head.before head.after (leaf_of id record_id) head.parts) [
+      | inl first ↦
+          let none : HasNone leaves id = subst (λ ls. HasNone ls id) (sym first.1) head.last in
+          absurd (no_head leaves leaf.log_id last later (subst (HasNone leaves) (sym (ap (λ (l : LogLeaf). l.log_id) first.0)) none))
+      | inr found ↦ map_is.heads id record_id record { before = found.0; after = head.after; parts = found.1; last = head.last }
+    ];
+    others = λ way none. map_is.others way (All-tail (λ (l : LogLeaf). way_of l.log_id ≢ way) leaf leaves none);
+  }
+
 -- the map of no leaves
 pub of_none : (m : List Side → Option (List ℕ)) → ((way : List Side) → m way ≡ None) → IsMapOf [] m
 of_none m empty = record { heads = λ id record_id head. absurd (no_parts head.before (leaf_of id record_id) head.after head.parts); others = λ way none. empty way }
@@ -187,6 +226,13 @@ module _ (leaves : List LogLeaf) (m : List Side → Option (List ℕ)) (id : Log
         let head = log_on found in
         let no : None ≡ Some (map_leaf_encoding_of (head_leaf head.0)) = there ∙ map_is.heads id head.0 head.1 in absurd (cc no)
     | inr none ↦ other_logs leaves id none
+  ]
+
+  -- what it has of a log is of a last record
+  pub last_found : (value : List ℕ) → Some value ≡ m (way_of id) → (record_id : RecordId) × IsHead leaves id record_id
+  last_found value there = elim (last_on leaves (way_of id)) [
+    | inl found ↦ log_on found
+    | inr none ↦ let no : Some value ≡ None = there ∙ map_is.others (way_of id) none in absurd (cc no)
   ]
 
   -- the map's own path of a log

@@ -1,9 +1,11 @@
 pub mod Contradictions
+pub mod Forks
 pub mod Heads
 pub mod MapLeaves
 pub mod MapTree
 pub mod ProofJson
 pub mod RegistryTrees
+pub mod SavedLeaves
 pub mod Standings
 pub mod Texts
 pub mod Views

@@ -1,7 +1,8 @@
-//! Why a text is no proof.
+//! Why a text is no proof, and bytes are no leaves.
 
 ghost use Rattle.std.specs.Prelude.{◌≡◌};
-ghost use Rattle.warg_transparency.specs.declared.error.ProofTextError.TheVariants.{OutOfMemory};
+ghost use Rattle.warg_transparency.specs.declared.error.ProofTextError.TheVariants as proof_text;
+ghost use Rattle.warg_transparency.specs.declared.error.SavedLeavesError.TheVariants as saved_leaves;
 
 use std::alloc::AllocError;
 use thiserror::Error;
@@ -27,9 +28,28 @@ pub enum ProofTextError {
 }
 
 impl From<AllocError> for ProofTextError {
-    ghost from_gives = { λ _ e. e ≡ OutOfMemory };
+    ghost from_gives = { λ _ e. e ≡ proof_text.OutOfMemory };
 
     fn from(_e: AllocError) -> ProofTextError {
         ProofTextError::OutOfMemory
+    }
+}
+
+/// Why bytes are not the saved form of leaves, or out of memory. Its text is the name of its case.
+#[derive(Clone, Copy, Debug, PartialEq, Eq, Error)]
+pub enum SavedLeavesError {
+    /// The bytes are no multiple of 64.
+    #[error("BadLength")]
+    BadLength,
+    /// The allocator refused memory. No bytes have this fault.
+    #[error("OutOfMemory")]
+    OutOfMemory,
+}
+
+impl From<AllocError> for SavedLeavesError {
+    ghost from_gives = { λ _ e. e ≡ saved_leaves.OutOfMemory };
+
+    fn from(_e: AllocError) -> SavedLeavesError {
+        SavedLeavesError::OutOfMemory
     }
 }

@@ -21,6 +21,7 @@ ghost use Rattle.warg_transparency.specs.Heads.{head_leaf, ShowsHead, ShowsLeaf,
 ghost use Rattle.warg_transparency.specs.Views.{GoesOn, IsLogOf};
 
 pub mod contradictions;
+pub mod forks;
 
 use warg_merkle::consistency_paths;
 use warg_registry::laws::no_encoding_begins_another;

@@ -6,6 +6,7 @@ mod checkpoint;
 mod decode;
 mod encode;
 mod error;
+mod forks;
 mod json;
 pub mod laws;
 mod log;
@@ -15,10 +16,14 @@ mod map;
 mod map_proof;
 mod map_tree;
 mod registry_trees;
+mod saved_leaves;
 mod text;
 
 pub use checkpoint::OfTrees;
-pub use error::ProofTextError;
+pub use error::{ProofTextError, SavedLeavesError};
+pub use forks::{
+    CheckpointComparison, LeafComparison, ShownLeaf, compare_checkpoints, compare_leaves,
+};
 pub use log::{verify_consistency, verify_inclusion, verify_leaf};
 pub use log_proof::LogProof;
 pub use log_tree::LogTree;

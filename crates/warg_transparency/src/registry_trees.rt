@@ -1,8 +1,13 @@
 //! The trees of a registry: its log and its map.
 
 ghost use Rattle.std.specs.Prelude.{◌≡◌, ◌<◌, ◌≤◌, ◌↔◌, ◌++◌, [], ◌∷◌, length, IsTrue, IsSome, IfOk, IfSome, OnOk, OnErr};
+ghost use Rattle.std.specs.List.{All};
+ghost use Rattle.sha2.specs.Sha256.{sha256};
+ghost use Rattle.warg_merkle.specs.MerkleLog.Logs.{leaf_hashes};
 ghost use Rattle.warg_registry.specs.PrefixEncodings.{IsHash};
-ghost use Rattle.warg_transparency.specs.RegistryTrees.{HasHashes, HeadIs, IsCheckpointOf, ProvesBeginning, ProvesHead, ProvesLeaf};
+ghost use Rattle.warg_transparency.specs.MapTree.{leaves_of};
+ghost use Rattle.warg_transparency.specs.RegistryTrees.{HasHashes, HeadIs, IsCheckpointOf, IsMapOf};
+ghost use Rattle.warg_transparency.specs.RegistryTrees.{ProvesBeginning, ProvesHead, ProvesLeaf, entries_of};
 
 use crate::checkpoint::OfTrees;
 use crate::log_proof::LogProof;
@@ -49,11 +54,43 @@ fn hash_range(hash: &AnyHash)
 }
 
 // The same of both ids of a leaf.
-fn leaf_range(leaf: &LogLeaf)
+pub(crate) fn leaf_range(leaf: &LogLeaf)
     ensures { HasHashes leaf.now }
 {
     hash_range(&AnyHash::from(leaf.log_id));
     hash_range(&AnyHash::from(leaf.record_id));
+}
+
+// The log of the leaves.
+fn log_of(alloc: Global, leaves: &[LogLeaf]) -> Result<LogTree, AllocError>
+    ensures { IfOk result (λ log. log ≡ leaf_hashes sha256 (entries_of leaves.now)) }
+{
+    let mut log = LogTree::new(alloc);
+    for leaf in leaves {
+        log.push(leaf)?;
+    }
+    Ok(log)
+}
+
+// The map of the leaves, from the last leaf on: those before the last one of a log are passed over.
+fn map_of(alloc: Global, leaves: &[LogLeaf]) -> Result<MapTree, AllocError>
+    ensures map { IfOk result (λ map. IsMapOf leaves.now (leaves_of map)) }
+    ensures hashes { IfOk result (λ map. All HasHashes leaves.now) }
+{
+    let mut map = MapTree::new(alloc)?;
+    let mut at = leaves.len();
+    while at > 0 {
+        at -= 1;
+        let leaf = &leaves[at];
+        leaf_range(leaf);
+        if map.get(&leaf.log_id).is_none() {
+            let head = MapLeaf {
+                record_id: leaf.record_id,
+            };
+            map.insert(&leaf.log_id, &head)?;
+        }
+    }
+    Ok(map)
 }
 
 impl RegistryTrees {
@@ -67,6 +104,16 @@ impl RegistryTrees {
             log: LogTree::new(alloc),
             map,
         })
+    }
+
+    /// The trees of these leaves, as if they had been pushed one after another. They cost two hashes for each leaf, and what
+    /// an insertion into the map costs for each log: of its leaves only the last is put there.
+    pub fn of_leaves(alloc: Global, leaves: Vec<LogLeaf>) -> Result<RegistryTrees, AllocError>
+        ensures { IfOk result (λ trees. trees ≡ leaves.items) }
+    {
+        let log = log_of(alloc, leaves.as_slice())?;
+        let map = map_of(alloc, leaves.as_slice())?;
+        Ok(RegistryTrees { leaves, log, map })
     }
 
     /// How many leaves there are.
@@ -85,7 +132,8 @@ impl RegistryTrees {
 
     /// The leaves.
     pub fn leaves(&self) -> &[LogLeaf]
-        ensures { result.now ≡ self.now }
+        ensures value { result.now ≡ self.now }
+        ensures hashes { All HasHashes self.now }
     {
         self.leaves.as_slice()
     }

@@ -1,5 +1,7 @@
-//! Tests of `warg_transparency` for what no row of the conformance suite says: checks under a checkpoint, what a map holds,
-//! JSON of proofs.
+//! Tests of `warg_transparency` for what no row of the conformance suite says: checks under a
+//! checkpoint, forks, what a map holds, JSON of proofs.
+#[cfg(test)]
+mod forks;
 #[cfg(test)]
 mod json;
 #[cfg(test)]
@@ -8,5 +10,7 @@ mod known;
 mod logs;
 #[cfg(test)]
 mod maps;
+#[cfg(test)]
+mod saved;
 #[cfg(test)]
 mod trees;

@@ -4,7 +4,7 @@ use std::alloc::{AllocError, Global};
 use warg_crypto::hash::HashAlgorithm;
 use warg_log_records::RecordId;
 use warg_registry::{Checkpoint, LogId, LogLeaf, MapLeaf};
-use warg_transparency::{LogTree, MapTree, OfTrees};
+use warg_transparency::{LogTree, MapTree, OfTrees, RegistryTrees};
 
 /// The proof that a log of 8 leaves goes on from its first 6.
 pub const CONSISTENCY: &str =
@@ -41,6 +41,15 @@ pub fn log_of(alloc: Global, count: u8) -> Result<LogTree, AllocError> {
         log.push(&leaf(place))?;
     }
     Ok(log)
+}
+
+/// The trees of the first leaves.
+pub fn trees_of(alloc: Global, count: u8) -> Result<RegistryTrees, AllocError> {
+    let mut trees = RegistryTrees::new(alloc)?;
+    for place in 0..count {
+        trees.push(&leaf(place))?;
+    }
+    Ok(trees)
 }
 
 /// The map of the logs 0 and 1, whose heads are the records 6 and 7; of the first of them, or of none.

@@ -1,21 +1,11 @@
 //! The trees of known leaves: their checkpoints, their proofs, and what is left of a push that is refused memory.
 
-use crate::transparency::known::{leaf, log_id, log_of, record_id};
-use std::alloc::{AllocError, Global};
+use crate::transparency::known::{leaf, log_id, log_of, record_id, trees_of};
 use std::test::Fail;
 use warg_registry::{Checkpoint, MapLeaf};
 use warg_transparency::{
     MapTree, OfTrees, RegistryTrees, verify_consistency, verify_head, verify_leaf, verify_no_head,
 };
-
-// The trees of the first leaves.
-fn trees_of(alloc: Global, count: u8) -> Result<RegistryTrees, AllocError> {
-    let mut trees = RegistryTrees::new(alloc)?;
-    for place in 0..count {
-        trees.push(&leaf(place))?;
-    }
-    Ok(trees)
-}
 
 #[test]
 fn the_checkpoint_is_that_of_the_log_and_of_the_last_records(rt: HostRuntime) -> Result<(), Fail> {
