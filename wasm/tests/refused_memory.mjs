@@ -77,6 +77,7 @@ function treesOf(count) {
 }
 
 const kept = treesOf(5);
+const shown = { checkpoint: { ...checkpoint, logLength: 2n ** 40n }, logId: root, recordId: root, proof };
 
 /** The calls by a log, and whether they append to it. */
 const calls = (it) => ({
@@ -134,6 +135,12 @@ const calls = (it) => ({
   warg_verify_presence: () => library.verifyPresence(root, root, root, Buffer.alloc(32, 255).toString("base64")),
   warg_verify_absence: () => library.verifyAbsence(root, root, Buffer.alloc(32, 255).toString("base64")),
   warg_proof_fault: () => library.verifyAbsence(root, root, "x"),
+  warg_compare_checkpoints: () => library.compareCheckpoints(checkpoint, { ...checkpoint, logLength: 2n ** 40n }, proof),
+  "warg_compare_checkpoints of a fork": () =>
+    library.compareCheckpoints(checkpoint, { ...checkpoint, mapRoot: logIds[0] }, proof),
+  "warg_compare_checkpoints of nonsense": () => library.compareCheckpoints(checkpoint, checkpoint, "x"),
+  warg_compare_leaves: () => library.compareLeaves(5, shown, { ...shown, recordId: logIds[0] }),
+  "warg_compare_leaves of nonsense": () => library.compareLeaves(5, shown, { ...shown, proof: "x" }),
   warg_version: () => library.version(),
 });
 /** The calls by the trees of a registry that change nothing. */
@@ -149,6 +156,7 @@ const callsOfTrees = (it) => ({
   warg_registry_head: () => Object.values(it.head(logIds[0])).join(),
   "warg_registry_head of an absent log": () => Object.values(it.head(root)).join(),
   "warg_registry_head of nonsense": () => it.head("sha256:00"),
+  warg_registry_save: () => it.toBytes().join(),
 });
 // Of these the log goes on, where memory is given: each begins with a copy.
 const changing = (make) => ({
@@ -247,6 +255,18 @@ for (const [size, leaf] of [...leaves.entries(), [5, [logIds[4], root]]]) {
     return [it, () => it.push(...leaf)];
   });
 }
+// Those that are made of bytes are made by a promise: here the call alone is made, over trees that are open.
+for (const size of [0, 1, 5, 20]) {
+  const whole = treesOf(size);
+  const bytes = whole.toBytes();
+  whole.close();
+  for (const saved of [bytes, new Uint8Array(63)]) {
+    await trial("warg_registry_resume", () => {
+      const it = treesOf(3);
+      return [it, () => library.isDone("registry_resume", library.status("registry_resume", [it.handle, saved]))];
+    });
+  }
+}
 // One that goes on from a text is made by a promise: its requests are those of the call alone.
 for (const [Class, json] of [[PackageLog, saved[0]], [OperatorLog, saved[1]], [PackageLog, '{"head":1}']]) {
   for (let number = 1; ; number++) {
@@ -261,8 +281,10 @@ for (const [Class, json] of [[PackageLog, saved[0]], [OperatorLog, saved[1]], [P
   }
 }
 console.log(`${tried} requests refused; ${told.size} calls say so: ${[...told].sort().join(", ")}`);
-const trees = ["open", "push", "roots", "inclusion", "consistency", "head"].map((it) => `warg_registry_${it}`);
-const fresh = ["warg_log_id", "warg_leaf", "warg_checkpoint_message", "warg_verify_checkpoint", ...trees];
+const ofTrees = ["open", "push", "roots", "inclusion", "consistency", "head", "save", "resume"];
+const trees = ofTrees.map((it) => `warg_registry_${it}`);
+const compared = ["checkpoints", "leaves"].map((it) => `warg_compare_${it}`);
+const fresh = ["warg_log_id", "warg_leaf", "warg_checkpoint_message", "warg_verify_checkpoint", ...compared, ...trees];
 const silent = fresh.filter((it) => !told.has(it));
 if (silent.length) console.error(`these never say that there is no memory: ${silent.join(", ")}`);
 if (told.size < 26) console.error("fewer than 26 calls say that there is no memory");

@@ -15,6 +15,7 @@ pub mod Places
 pub mod Appending
 pub mod RunLemmas
 pub mod ProofOutcomes
+pub mod ForkLemmas
 pub mod ByStatus
 pub mod HeldByStatus
 pub mod RegistryTexts

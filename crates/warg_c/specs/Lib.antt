@@ -23,4 +23,5 @@ pub mod ProofAnswers
 pub mod ProofFaults
 pub mod LogNames
 pub mod CheckpointAnswers
+pub mod ForkAnswers
 pub mod Registries

@@ -13,7 +13,9 @@ use Rattle.warg_package_log.specs.StateLaws as package_laws
 use Rattle.warg_protobuf.specs.Envelope.{envelope_bytes}
 use Rattle.warg_log_records.specs.declared.record_id.RecordId.{RecordId}
 use Rattle.warg_log_records.specs.Kinds.{Kind}
+use Rattle.warg_log.specs.declared.head.Head.{Head}
 use Rattle.warg_c.specs.declared.exports.records.KeptLengths.{KeptLengths}
+use Rattle.warg_c.specs.declared.exports.records.ShownHead.{ShownHead}
 use Rattle.warg_c.specs.declared.any_log.AnyLog.{AnyLog}
 use Rattle.warg_c.specs.declared.any_log.AnyLog.TheVariants.{Package, Operator}
 use Rattle.warg_c.specs.Logs.{state_of, whole_of}
@@ -52,6 +54,29 @@ module _ {View Offence : Type 0} (k : Kind View Offence) where
     abbrev pub IsRecordAt : Option (StateAndRecords S C) → ℕ → KeptLengths → List ℕ → Type 0
     IsRecordAt None place n bytes = ⊥
     IsRecordAt (Some log) place n bytes = (e : DecodedEnvelope C) × (slice_get log.records place ≡ Some e) × IsRecord e.envelope n bytes
+
+module _ {S C : Type 0} where
+  -- how many records there are, where they are here
+  abbrev pub count_in : Option (StateAndRecords S C) → Option ℕ
+  count_in log = option_map (λ l. length l.records) log
+
+abbrev pub count_of : AnyLog → Option ℕ
+count_of (Package log) = count_in (whole_of log)
+count_of (Operator log) = count_in (whole_of log)
+
+-- the last record: its id, its time, its version
+abbrev pub last_of : AnyLog → Option Head
+last_of (Package log) = (packages.view_of (state_of log)).head
+last_of (Operator log) = (operators.view_of (state_of log)).head
+
+-- the time and the version of a record, and a count, where there is one
+abbrev pub shown_last : Head → Option ℕ → ShownHead
+shown_last head (Some count) = record { seconds = head.timestamp.seconds; count = count; nanos = head.timestamp.nanos; version = head.version; is_counted = 1 }
+shown_last head None = record { seconds = head.timestamp.seconds; count = 0; nanos = head.timestamp.nanos; version = head.version; is_counted = 0 }
+
+-- those of the log are told
+abbrev pub ShowsLast : AnyLog → ShownHead → Type 0
+ShowsLast held shown = (head : Head) × (last_of held ≡ Some head) × (shown ≡ shown_last head (count_of held))
 
 abbrev pub length_tells : AnyLog → ℕ → Type 0
 length_tells (Package log) n = LengthIs (whole_of log) n

@@ -12,7 +12,7 @@ use Rattle.warg_merkle.specs.Extensions.{consistency_proof}
 use Rattle.warg_transparency.specs.RegistryTrees.{HeadIs, IsMapRoot, ProvesHead, entries_of, leaf_of}
 use Rattle.warg_transparency.specs.Texts.{log_proof_of, log_proof_text, map_proof_of, map_proof_text}
 use Rattle.warg_c.specs.ProofAnswers.{AreLeafTexts, ShowsAbsence, ShowsConsistency, ShowsInclusion, ShowsPresence}
-use Rattle.warg_c.specs.declared.exports.registries.HeadLengths.{HeadLengths}
+use Rattle.warg_c.specs.declared.exports.registry_proofs.HeadLengths.{HeadLengths}
 use Rattle.warg_c.specs.declared.exports.registries.RootLengths.{RootLengths}
 
 -- how many leaves were pushed

@@ -27,8 +27,8 @@
 //!
 //! What every call keeps. It returns a status. At any status but WARG_OK all logs and registries stay as they were. Calls that only look also
 //! leave them so at WARG_OK. All texts are UTF-8, with no zero byte behind them. WARG_OUT_OF_MEMORY is an answer of calls that take memory
-//! alone, and only where they came to take some: `warg_length`, `warg_compare`, `warg_registry_length`, `warg_version` and `warg_status_name` never
-//! do.
+//! alone, and only where they came to take some: `warg_length`, `warg_head_of`, `warg_compare`, `warg_registry_length`, `warg_version` and
+//! `warg_status_name` never do.
 //!
 //! Calls that give bytes write them to the start of the caller's buffer, and to `used` how many they are. What stands behind them stays as it
 //! was:
@@ -45,6 +45,7 @@ mod appending;
 mod chains;
 mod checkpoints;
 mod comparing;
+mod forks;
 mod identifying;
 mod keys;
 mod log_names;
@@ -54,6 +55,8 @@ mod proof_faults;
 mod proofs;
 mod records;
 mod registries;
+mod registry_proofs;
+mod registry_saving;
 mod releases;
 mod saving;
 mod statuses;

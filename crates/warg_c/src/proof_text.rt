@@ -2,6 +2,7 @@
 ghost use Rattle.std.specs.Prelude.{◌≡◌, ◌⊎◌, Ok, IfOk, IfErr};
 ghost use Rattle.warg_crypto.specs.HashText.{hash_of};
 ghost use Rattle.warg_transparency.specs.Texts.{log_proof_of, map_proof_of};
+ghost use Rattle.warg_c.specs.ForkAnswers.{IsCheckpointText, IsNoCheckpointText};
 ghost use Rattle.warg_c.specs.ProofAnswers.{AreLeafTexts, IsNoText};
 ghost use Rattle.warg_c.specs.ProofFaults.{tree_numbered};
 ghost use Rattle.warg_c.specs.Texts.{Always, ErrorsAs};
@@ -10,7 +11,7 @@ use crate::call_error::CallError;
 use std::alloc::Global;
 use warg_crypto::hash::AnyHash;
 use warg_log_records::RecordId;
-use warg_registry::{LogId, LogLeaf};
+use warg_registry::{Checkpoint, LogId, LogLeaf};
 use warg_transparency::{LogProof, MapProof, ProofTextError};
 
 /// The trees of a registry, on which proofs are.
@@ -60,6 +61,25 @@ pub(crate) fn leaf_in(log_id: &[u8], record_id: &[u8]) -> Result<LogLeaf, CallEr
     Ok(LogLeaf {
         log_id: LogId::from(log),
         record_id: RecordId::from(record),
+    })
+}
+
+/// The checkpoint of a log of this length, by the texts of both roots.
+pub(crate) fn checkpoint_in(
+    log_length: u64,
+    log_root: &[u8],
+    map_root: &[u8],
+) -> Result<Checkpoint, CallError>
+    ensures ok { IfOk result (IsCheckpointText (log_length, (log_root.now, map_root.now))) }
+    ensures err { IfErr result (ErrorsAs ⊥ ⊥
+        (IsNoCheckpointText (log_length, (log_root.now, map_root.now)))) }
+{
+    let log_root = hash_in(log_root)?;
+    let map_root = hash_in(map_root)?;
+    Ok(Checkpoint {
+        log_root,
+        log_length: log_length as usize,
+        map_root,
     })
 }
 

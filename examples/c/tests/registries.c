@@ -1,5 +1,5 @@
-/* The trees of a registry: their roots, each proof as the verifiers take it, what is answered past the end, and each request for memory refused:
- * both trees then stay as they were. The leaves are 8 records of three logs; the roots of the log are those of tests/proofs.c. */
+/* The trees of a registry: their roots, each proof as the verifiers take it, what is answered past the end, trees that are made of saved leaves,
+ * and each request for memory refused: both trees then stay as they were. The leaves are 8 records of three logs; the roots of the log are those of tests/proofs.c. */
 #include "check.h"
 #include "refusing.h"
 
@@ -186,9 +186,105 @@ static long test_memory(void) {
     return all;
 }
 
+/* The bytes of the first leaves, by their texts. */
+static size_t saved_of(unsigned count, uint8_t *bytes) {
+    size_t used = 0;
+    for (unsigned at = 0; at < count; at++) {
+        const char *const ids[] = {LOGS[at % 3], RECORDS[at]};
+        for (unsigned id = 0; id < 2; id++)
+            for (unsigned place = 0; place < 32; place++) {
+                unsigned byte;
+                CHECK(sscanf(ids[id] + 7 + 2 * place, "%2x", &byte) == 1);
+                bytes[used++] = (uint8_t)byte;
+            }
+    }
+    return used;
+}
+
+/* The registry has these first leaves, and saves them. */
+static void check_leaves(struct warg_registry *registry, unsigned count) {
+    uint8_t wanted[512], saved[513];
+    size_t size = saved_of(count, wanted), used = 7;
+    struct warg_registry pushed = {0};
+    open_with(&pushed, count);
+    struct told left = roots_of(registry), right = roots_of(&pushed);
+    warg_registry_close(&pushed);
+    CHECK(memcmp(left.text, right.text, sizeof left.text) == 0 && length_of(registry) == count);
+    memset(saved, 9, sizeof saved);
+    CHECK(warg_registry_save(registry, saved, sizeof saved, &used) == WARG_OK && used == size);
+    CHECK(memcmp(saved, wanted, size) == 0 && saved[size] == 9);
+    CHECK(warg_registry_save(registry, saved, size, &used) == WARG_OK && used == size);
+    for (unsigned log = 0; log < 3; log++)
+        check_head(registry, LOGS[log], count > log ? RECORDS[(count - 1 - log) / 3 * 3 + log] : NULL);
+    check_head(registry, NO_LOG, NULL);
+}
+
+/* Trees of saved leaves are those to which the leaves were pushed, and go on as they do. */
+static void test_saved(void) {
+    uint8_t bytes[512], byte = 7;
+    size_t used = 7, size = saved_of(8, bytes);
+    struct warg_registry registry = {0};
+    CHECK(warg_registry_save(&registry, &byte, 1, &used) == WARG_NOT_OPEN && used == 0 && byte == 7);
+    for (unsigned count = 0; count <= 8; count++) {
+        /* What was open is closed first. */
+        CHECK(warg_registry_resume(&registry, bytes, 64 * count) == WARG_OK);
+        check_leaves(&registry, count);
+        for (unsigned at = count; at < 8; at++)
+            CHECK(push(&registry, at) == WARG_OK);
+        CHECK(is_root(roots_of(&registry).text, ROOT_8));
+        check_leaves(&registry, 8);
+        if (count == 3 || count == 8)
+            check_log_proofs(&registry);
+    }
+    for (size_t length = 1; length < size; length += 21) {
+        if (length % 64 == 0)
+            continue;
+        CHECK(warg_registry_resume(&registry, bytes, length) == WARG_BAD_ARGUMENT);
+        CHECK(length_of(&registry) == 8);
+    }
+    memset(bytes, 9, sizeof bytes);
+    CHECK(warg_registry_save(&registry, bytes, size - 1, &used) == WARG_TOO_SMALL && used == size && bytes[0] == 9);
+    check_leaves(&registry, 8);
+    warg_registry_close(&registry);
+    CHECK(warg_registry_resume(&registry, bytes, 63) == WARG_BAD_ARGUMENT);
+    CHECK(warg_registry_save(&registry, &byte, 1, &used) == WARG_NOT_OPEN);
+    warg_registry_close(&registry);
+}
+
+/* Each request of saving and of resuming refused in turn: what was open stays as it was. */
+static long test_saved_memory(void) {
+    uint8_t bytes[512], saved[512];
+    size_t used, size = saved_of(8, bytes);
+    long all = 0;
+    struct warg_registry registry = {0};
+    open_with(&registry, 3);
+    for (bool is_refused = true; is_refused; all += is_refused) {
+        refuse_request(all);
+        uint32_t status = warg_registry_save(&registry, saved, sizeof saved, &used);
+        is_refused = was_refused();
+        CHECK(status == WARG_OK || (is_refused && status == WARG_OUT_OF_MEMORY));
+        CHECK(used == (status == WARG_OK ? 192 : 0) && length_of(&registry) == 3);
+    }
+    for (long place = 0;; place++) {
+        refuse_request(place);
+        uint32_t status = warg_registry_resume(&registry, bytes, size);
+        bool is_refused = was_refused();
+        if (status == WARG_OK) {
+            all += place;
+            break;
+        }
+        CHECK(is_refused && status == WARG_OUT_OF_MEMORY);
+        check_leaves(&registry, 3);
+    }
+    check_leaves(&registry, 8);
+    warg_registry_close(&registry);
+    return all;
+}
+
 int main(void) {
     test_answers();
     test_refusals();
-    printf("%ld requests refused\n", test_memory());
+    test_saved();
+    printf("%ld requests refused\n", test_memory() + test_saved_memory());
     return 0;
 }

@@ -20,12 +20,14 @@ static void expect_all(struct warg_log *log, const struct bytes *envelope, uint3
     static struct warg_link links[4];
     uint32_t is_imported = 0;
     size_t length = 0;
+    struct warg_head last = {.seconds = 7, .count = 7};
     struct warg_log other = {0};
     CHECK(warg_ask(log, envelope->at, envelope->len, text, sizeof text, &used, &asked) == status && used == 0);
     CHECK(warg_append(log, envelope->at, envelope->len, text, 0, &asked, true, text + 1, 1, &used) == status && used == 0);
     CHECK(warg_append_signed(log, envelope->at, envelope->len, text, sizeof text, &used) == status && used == 0);
     CHECK(warg_head(log, text, sizeof text, &used) == status && used == 0);
     CHECK(warg_length(log, &length) == status);
+    CHECK(warg_head_of(log, &last) == status && last.seconds == 7 && last.count == 7);
     CHECK(warg_record(log, 0, text, sizeof text, &used, &kept) == status && used == 0);
     CHECK(warg_latest(log, bytes_of("*"), 1, text, sizeof text, &used, &release) == status && used == 0);
     CHECK(warg_release(log, bytes_of("1.0.0"), 5, text, sizeof text, &used, &release) == status && used == 0);
@@ -73,15 +75,18 @@ static void written_anew(const struct bytes *envelope) {
 /* Opening one that is open begins it anew; where that is refused, it stays. */
 static void opened_again(struct warg_log *log, const struct bytes *envelope) {
     size_t length = 0;
+    struct warg_head last = {0};
     struct bytes said = {0};
     CHECK(warg_open(log, 2) == WARG_BAD_ARGUMENT);
     CHECK(warg_open(log, UINT32_MAX) == WARG_BAD_ARGUMENT);
     CHECK(warg_length(log, &length) == WARG_OK && length == 3);
     CHECK(warg_open(log, WARG_OPERATOR) == WARG_OK);
     CHECK(warg_length(log, &length) == WARG_OK && length == 0);
+    CHECK(warg_head_of(log, &last) == WARG_NONE);
     CHECK(warg_open(log, WARG_PACKAGE) == WARG_OK);
     CHECK(append(log, envelope, &said) == WARG_OK);
     CHECK(warg_length(log, &length) == WARG_OK && length == 1);
+    CHECK(warg_head_of(log, &last) == WARG_OK && last.count == 1 && last.is_counted == 1 && last.seconds == 1700000000);
     bytes_free(&said);
 }
 
@@ -213,6 +218,7 @@ static void other_logs(struct warg_log *package, const struct signer *alice) {
     const struct bytes *id = &alice->key_id;
     uint32_t is_imported = 0;
     size_t length = 0;
+    struct warg_head last = {0};
     uint8_t saved[8192] = {0};
     CHECK(warg_latest(&operators, bytes_of("*"), 1, text, sizeof text, &used, &release) == WARG_BAD_ARGUMENT);
     CHECK(BEGINS(text, used, "WrongKind: "));
@@ -235,6 +241,7 @@ static void other_logs(struct warg_log *package, const struct signer *alice) {
     CHECK(warg_compare(package, &resumed, &comparison) == WARG_BAD_ARGUMENT);
     CHECK(warg_compare(&resumed, package, &comparison) == WARG_BAD_ARGUMENT);
     CHECK(warg_length(&resumed, &length) == WARG_BAD_ARGUMENT);
+    CHECK(warg_head_of(&resumed, &last) == WARG_OK && last.count == 0 && last.is_counted == 0 && last.seconds == 1700000002);
     CHECK(warg_record(&resumed, 0, text, sizeof text, &used, &kept) == WARG_BAD_ARGUMENT);
     CHECK(BEGINS(text, used, "Resumed: "));
     CHECK(warg_chain(&resumed, id->at, id->len, bytes_of("yank"), 4, links, 4, &used) == WARG_BAD_ARGUMENT);

@@ -3,6 +3,7 @@ ghost use Rattle.std.specs.Prelude.{◌≡◌, ◌≢◌, ◌≤◌, ◌⊎◌, 
 ghost use Rattle.std.specs.Prelude.{length, take, drop};
 ghost use Rattle.std.specs.Option.{option_copied};
 ghost use Rattle.warg_c.specs.Lookups.{IdText, LengthIs, IsBeyond, IsRecord, IsRecordAt, head_of, length_tells};
+ghost use Rattle.warg_c.specs.Lookups.{ShowsLast, count_in, count_of, last_of, shown_last};
 ghost use Rattle.warg_c.specs.Lookups.{has_no_records, record_takes, record_tells, record_lacks};
 ghost use Rattle.warg_c.specs.Logs.{whole_of};
 ghost use Rattle.warg_c.specs.Statuses.{WARG_OK, WARG_NOT_OPEN, WARG_OUT_OF_MEMORY, WARG_TOO_SMALL, WARG_NONE};
@@ -19,6 +20,7 @@ use crate::handle::WargLog;
 use crate::log_or_state::LogOrState;
 use std::alloc::{AllocError, Global};
 use warg_envelope::ProtoEnvelope;
+use warg_log::Head;
 use warg_log_records::RecordId;
 use warg_replay::Validator;
 
@@ -28,6 +30,19 @@ use warg_replay::Validator;
 pub struct KeptLengths {
     pub envelope_len: usize,
     pub id_len: usize,
+}
+
+/// The time of a log's last record, in seconds and nanoseconds since 1970, its version, and how many records the log has.
+#[repr(C)]
+#[derive(Clone, Copy)]
+pub struct ShownHead {
+    pub seconds: i64,
+    /// 0 where the log was resumed.
+    pub count: usize,
+    pub nanos: u32,
+    pub version: u32,
+    /// 1 if `count` says how many records there are, 0 where the log was resumed.
+    pub is_counted: u32,
 }
 
 // The text of an id.
@@ -93,6 +108,69 @@ pub extern "C" fn warg_head(
     let outcome = head_text(alloc, &held);
     log.put(held);
     finish(outcome, text, used)
+}
+
+// How many records the log has, where they are here.
+fn count_in<L: Validator>(log: &LogOrState<L>) -> Option<usize>
+    ensures { result ≡ count_in (whole_of log.now) }
+{
+    match log.whole() {
+        Some(log) => Some(log.len()),
+        None => None,
+    }
+}
+
+// The last record, and how many there are.
+fn last_of(held: &AnyLog) -> (&Option<Head>, Option<usize>)
+    ensures last { result.0.now ≡ last_of held.now }
+    ensures count { result.1 ≡ count_of held.now }
+{
+    match held {
+        AnyLog::Package(log) => (log.state().head(), count_in(log)),
+        AnyLog::Operator(log) => (log.state().head(), count_in(log)),
+    }
+}
+
+// What is told of the last record.
+fn shown_last(held: &AnyLog) -> Result<ShownHead, CallError>
+    ensures ok { IfOk result (ShowsLast held.now) }
+    ensures err { IfErr result (ErrorsAs ⊥ (last_of held.now ≡ None) ⊥) }
+{
+    let (last, count) = last_of(held);
+    let Some(head) = last else {
+        return Err(CallError::Absent);
+    };
+    let (count, is_counted) = match count {
+        Some(count) => (count, 1),
+        None => (0, 0),
+    };
+    Ok(ShownHead {
+        seconds: head.timestamp.seconds(),
+        count,
+        nanos: head.timestamp.nanos(),
+        version: head.version,
+        is_counted,
+    })
+}
+
+/// The time and the version of the last record, and how many records there are, as far as that is known. Its id is told by
+/// `warg_head`.
+///   WARG_NONE: there was no record yet.
+#[unsafe(no_mangle)]
+pub extern "C" fn warg_head_of(alloc: Global, log: &mut WargLog, head: &mut ShownHead) -> u32
+    ensures statuses { IsOneOf (WARG_OK ∷ WARG_NOT_OPEN ∷ WARG_NONE ∷ []) result }
+    ensures not_open { (result ≡ WARG_NOT_OPEN) ↔ (log.old.owned.kept ≡ None) }
+    ensures ok { result ≡ WARG_OK → IsSomeAnd log.old.owned.kept (λ held. ShowsLast held head.new) }
+    ensures none { result ≡ WARG_NONE → IsSomeAnd log.old.owned.kept (λ held. last_of held ≡ None) }
+    ensures unchanged { log.new.owned.kept ≡ log.old.owned.kept }
+    ensures kept { result ≢ WARG_OK → head.new ≡ head.old }
+{
+    let Some(held) = log.take(alloc) else {
+        return status(Err(CallError::NotOpen));
+    };
+    let outcome = shown_last(&held);
+    log.put(held);
+    finish_value(outcome, head)
 }
 
 fn length_of_log<L: Validator>(log: &LogOrState<L>) -> Result<usize, CallError>
