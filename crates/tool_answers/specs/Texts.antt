@@ -26,6 +26,10 @@ abbrev pub json_text : ℕ → Result (List ℕ) JsonError → OutputData
 json_text limit (Ok text) = within limit (yes (line (json_printable text)))
 json_text limit (Err fault) = no (codes "no json TimeBeforeEpoch\n")
 
+-- the same of a state, by its JSON
+abbrev pub saved_text : {S : Type 0} → ℕ → (S → Result (List ℕ) JsonError) → S → OutputData
+saved_text limit json state = json_text limit (json state)
+
 -- the permissions that pass the test, a line each in the order of the kind; `unknown` of a key that no record spoke of
 abbrev pub permissions_text : {P : Type 0} → Bool → List P → (P → List ℕ) → (P → Bool) → OutputData
 permissions_text known order text_of held = if known then yes (all_lines (map text_of (filter held order))) else no (codes "unknown\n")

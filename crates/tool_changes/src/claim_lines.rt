@@ -132,7 +132,7 @@ pub fn claims_answer<L: ToolLog + ExternallyVerified>(
     match file_inputs(alloc, input.path, input.bytes) {
         Ok(inputs) => match list_answer::<L>(alloc, input.path, inputs.as_slice()) {
             Ok(answer) => Ok(within(alloc, limit, answer)?),
-            // It ends so for want of memory alone.
+            // Out of memory, which is the only way in which the list fails.
             Err(_) => Err(CommandError::OutOfMemory),
         },
         Err(error) => Err(error),

@@ -11,7 +11,7 @@ use Rattle.warg_replay.specs.declared.audited_log.link.Link.{Link}
 use Rattle.warg_audit.specs.LogAnswers.{head_text, run_error}
 use Rattle.warg_audit.specs.Printouts.{OutputData, bad_line}
 use Rattle.tool_answers.specs.ShownWords.{RecordWords}
-use Rattle.tool_answers.specs.Texts.{AreLinkLines, IsChainPrinted, IsComparisonPrinted, IsForkText, IsLinkLine, IsNamedLine, fork_line, json_text, permissions_text, receiver}
+use Rattle.tool_answers.specs.Texts.{AreLinkLines, IsChainPrinted, IsComparisonPrinted, IsForkText, IsLinkLine, IsNamedLine, fork_line, json_text, permissions_text, saved_text, receiver}
 use Rattle.tool_answers.specs.Verdicts.{IsPrintedOf, envelopes_of}
 use Rattle.tool_answers.specs.Words.{IsByWord, by_value, unsaid}
 use Rattle.warg_audit.specs.Files.Files.{Files}
@@ -139,10 +139,10 @@ by_word_clean Says P each printed (by_value it says h) = each it printed h
 
 module _ {Meaning Fault View Offence S P : Type 0} (kind : Askable Meaning Fault View Offence S P) (Says : List ℕ → RecordWords → Type 0)
     (plain : IsPlainLog kind.shown) (texts : (p : P) → is_plain (kind.text_of p) ≡ true) (belongs : SignatureRelation) where
-  state_clean : (limit : ℕ) (inputs : List (List ℕ)) (printed : OutputData) → IsStateText kind.shown kind.view (λ it. json_text limit (kind.json it)) inputs printed → IsClean printed
+  state_clean : (limit : ℕ) (inputs : List (List ℕ)) (printed : OutputData) → IsStateText kind.shown kind.view (saved_text limit kind.json) inputs printed → IsClean printed
   state_clean limit inputs printed h = clean_same printed (json_text limit (kind.json h.state)) h.is (state_text_clean limit (kind.json h.state))
 
-  gone_clean : (limit : ℕ) (state : S) (lines : List (List ℕ)) (printed : OutputData) → IsGoneOn kind.shown belongs kind.view (λ it. json_text limit (kind.json it)) state lines printed
+  gone_clean : (limit : ℕ) (state : S) (lines : List (List ℕ)) (printed : OutputData) → IsGoneOn kind.shown belongs kind.view (saved_text limit kind.json) state lines printed
       → IsClean printed
   gone_clean limit state lines printed (first_bad index at is) = clean_line printed (bad_line index) is (bad_one index)
   gone_clean limit state lines printed (first_refused inputs spell index cause first is) =
@@ -151,7 +151,7 @@ module _ {Meaning Fault View Offence S P : Type 0} (kind : Askable Meaning Fault
       clean_same printed (json_text limit (kind.json next)) is (state_text_clean limit (kind.json next))
 
   resumed_clean : (limit : ℕ) (saved : List ℕ) (lines : List (List ℕ)) (printed : OutputData)
-      → IsResumed kind.shown belongs kind.view (λ it. json_text limit (kind.json it)) kind.reads saved lines printed → IsClean printed
+      → IsResumed kind.shown belongs kind.view (saved_text limit kind.json) kind.reads saved lines printed → IsClean printed
   resumed_clean limit saved lines printed (no_state fault is_fault is) = clean_same printed (bad_state fault) is (bad_state_clean fault)
   resumed_clean limit saved lines printed (gone_on state reads h) = gone_clean limit state lines printed h
 
@@ -185,10 +185,10 @@ module _ {Meaning Fault View Offence S P : Type 0} (kind : Askable Meaning Fault
   -- the answer to a question
   pub question_clean : (files : Option Files) (it : LogQuery) (printed : OutputData) → IsQuestionAnswer kind Says belongs files it printed → IsClean printed
   question_clean files (question.State log limit) printed h =
-      lines_clean files log.now (IsPrintedOf kind.shown belongs (IsStateText kind.shown kind.view (λ it. json_text limit (kind.json it))))
-      (lawful_clean kind.shown plain belongs (IsStateText kind.shown kind.view (λ it. json_text limit (kind.json it))) (state_clean limit)) printed h
+      lines_clean files log.now (IsPrintedOf kind.shown belongs (IsStateText kind.shown kind.view (saved_text limit kind.json)))
+      (lawful_clean kind.shown plain belongs (IsStateText kind.shown kind.view (saved_text limit kind.json)) (state_clean limit)) printed h
   question_clean files (question.Resume state log limit) printed h =
-      file_clean files state.now _ (λ saved it. lines_clean files log.now (IsResumed kind.shown belongs kind.view (λ it. json_text limit (kind.json it)) kind.reads saved) (resumed_clean limit saved) it) printed h
+      file_clean files state.now _ (λ saved it. lines_clean files log.now (IsResumed kind.shown belongs kind.view (saved_text limit kind.json) kind.reads saved) (resumed_clean limit saved) it) printed h
   question_clean files (question.Permissions key_id log) printed h =
       lines_clean files log.now _ (lawful_clean kind.shown plain belongs _ (permissions_clean key_id.now)) printed h
   question_clean files (question.Chain key_id permission log) printed h =

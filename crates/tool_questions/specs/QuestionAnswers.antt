@@ -9,7 +9,7 @@ use Rattle.tool_questions.specs.Questions.{IsStateText, IsPermissionsText, IsCha
 use Rattle.tool_questions.specs.Resumption.{IsResumed}
 use Rattle.warg_audit.specs.Files.Unusable.{IsOfFile, IsOfLines}
 use Rattle.tool_answers.specs.ShownWords.{RecordWords}
-use Rattle.tool_answers.specs.Texts.{json_text}
+use Rattle.tool_answers.specs.Texts.{saved_text}
 use Rattle.tool_answers.specs.Verdicts.{IsPrintedOf}
 use Rattle.tool_answers.specs.Words.{IsByWord}
 use Rattle.tool_words.specs.declared.request.LogQuery.{LogQuery}
@@ -34,10 +34,10 @@ module _ {Meaning Fault View Offence S P : Type 0} (kind : Askable Meaning Fault
   -- what is answered to a question, by what files hold
   abbrev pub IsQuestionAnswer : LogQuery → OutputData → Type 0
   IsQuestionAnswer (question.State log limit) printed =
-      IsOfLines files log.now (IsPrintedOf kind.shown belongs (IsStateText kind.shown kind.view (λ state. json_text limit (kind.json state)))) printed
+      IsOfLines files log.now (IsPrintedOf kind.shown belongs (IsStateText kind.shown kind.view (saved_text limit kind.json))) printed
   IsQuestionAnswer (question.Resume state log limit) printed =
       IsOfFile files state.now (λ saved. IsOfLines files log.now
-      (IsResumed kind.shown belongs kind.view (λ it. json_text limit (kind.json it)) kind.reads saved)) printed
+      (IsResumed kind.shown belongs kind.view (saved_text limit kind.json) kind.reads saved)) printed
   IsQuestionAnswer (question.Permissions key_id log) printed =
       IsOfLines files log.now (IsPrintedOf kind.shown belongs
       (IsPermissionsText kind.shown kind.view kind.has_key kind.knows kind.held kind.order kind.text_of key_id.now)) printed

@@ -8,7 +8,7 @@ ghost use Rattle.tool_questions.specs.QuestionWords.{askable};
 ghost use Rattle.warg_audit.specs.Files.Unusable.{IsOfFile, IsOfLines};
 ghost use Rattle.tool_questions.specs.Resumption.{IsResumed};
 ghost use Rattle.warg_audit.specs.ReportWords.{ForDisplay};
-ghost use Rattle.tool_answers.specs.Texts.{json_text};
+ghost use Rattle.tool_answers.specs.Texts.{saved_text};
 ghost use Rattle.tool_answers.specs.Verdicts.{IsPrintedOf};
 ghost use Rattle.tool_answers.specs.Words.{IsByWord};
 ghost use Rattle.std.specs.Prelude.{◌≡◌};
@@ -35,8 +35,8 @@ fn state_of_file<L: ToolLog, V: Verifier, S: Store>(
 ) -> Result<CommandOutput, CommandError>
     ensures answered { ForDisplay L.log L.Record.reading L.report (λ log.
         Answers (IsOfLines (S.files store.old) path.now
-        (IsPrintedOf log (V.belongs verifier.now) (IsStateText log L.view
-        (λ it. json_text limit (L.json_of it))))) result) }
+        (IsPrintedOf log (V.belongs verifier.now)
+        (IsStateText log L.view (saved_text limit L.json_of)))) result) }
     ensures kept { S.files store.new ≡ S.files store.old }
 {
     match read_input(alloc, store, path) {
@@ -115,7 +115,8 @@ fn resumed_from_file<L: ToolLog, V: Verifier, S: Store>(
 ) -> Result<CommandOutput, CommandError>
     ensures answered { ForDisplay L.log L.Record.reading L.report (λ log.
         Answers (IsOfLines (S.files store.old) path.now (IsResumed log
-        (V.belongs verifier.now) L.view (λ it. json_text limit (L.json_of it)) L.state_of saved.entry.bytes.items)) result) }
+        (V.belongs verifier.now) L.view (saved_text limit L.json_of) L.state_of
+        saved.entry.bytes.items)) result) }
     ensures kept { S.files store.new ≡ S.files store.old }
 {
     match read_input(alloc, store, path) {
@@ -134,7 +135,8 @@ fn resumed_from_files<L: ToolLog, V: Verifier, S: Store>(
 ) -> Result<CommandOutput, CommandError>
     ensures answered { ForDisplay L.log L.Record.reading L.report (λ log. Answers
         (IsOfFile (S.files store.old) state.now (λ saved. IsOfLines (S.files store.old) path.now
-        (IsResumed log (V.belongs verifier.now) L.view (λ it. json_text limit (L.json_of it)) L.state_of saved))) result) }
+        (IsResumed log (V.belongs verifier.now) L.view (saved_text limit L.json_of)
+        L.state_of saved))) result) }
     ensures kept { S.files store.new ≡ S.files store.old }
 {
     match read_input(alloc, store, state) {

@@ -10,7 +10,7 @@ ghost use Rattle.warg_audit.specs.Files.Answers.{output_data, Answers, IfOutput}
 ghost use Rattle.tool_questions.specs.Resumption.{IsGoneOn, IsResumed, read_state};
 ghost use Rattle.warg_audit.specs.Files.RecordLines.{record_lines};
 ghost use Rattle.tool_questions.specs.StateFaults.{bad_state, case_name, state_fault_name, value_name};
-ghost use Rattle.tool_answers.specs.Texts.{json_text};
+ghost use Rattle.tool_answers.specs.Texts.{saved_text};
 ghost use Rattle.warg_audit.specs.ReportWords.{ForDisplay};
 
 use crate::state::json_answer;
@@ -129,8 +129,8 @@ fn state_after_inputs<L: ToolLog, V: Verifier>(
 ) -> Result<CommandOutput, CommandError>
     ensures { ForDisplay L.log L.Record.reading L.report (λ log.
         (lines : List (List ℕ)) → inputs_of lines ≡ Ok (map vec_items inputs.now) →
-        Answers (IsGoneOn log (V.belongs verifier.now) L.view
-        (λ it. json_text limit (L.json_of it)) state lines) result) }
+        Answers (IsGoneOn log (V.belongs verifier.now) L.view (saved_text limit L.json_of)
+        state lines) result) }
 {
     match run_from(alloc, state, verifier, inputs) {
         Ok(next) => json_answer(alloc, limit, &next),
@@ -146,8 +146,9 @@ fn state_after<L: ToolLog, V: Verifier>(
     state: L,
     input: Input<'_>,
 ) -> Result<CommandOutput, CommandError>
-    ensures { ForDisplay L.log L.Record.reading L.report (λ log. Answers (IsGoneOn log (V.belongs
-        verifier.now) L.view (λ it. json_text limit (L.json_of it)) state (record_lines input.entry.bytes.items)) result) }
+    ensures { ForDisplay L.log L.Record.reading L.report (λ log. Answers
+        (IsGoneOn log (V.belongs verifier.now) L.view (saved_text limit L.json_of) state
+        (record_lines input.entry.bytes.items)) result) }
 {
     match file_inputs(alloc, input.path, input.bytes) {
         Ok(inputs) => {
@@ -166,9 +167,8 @@ pub fn resume_answer<L: ToolLog, V: Verifier>(
     input: Input<'_>,
 ) -> Result<CommandOutput, CommandError>
     ensures { ForDisplay L.log L.Record.reading L.report (λ log. Answers
-        (IsResumed log (V.belongs verifier.now) L.view
-        (λ it. json_text limit (L.json_of it)) L.state_of saved.entry.bytes.items
-        (record_lines input.entry.bytes.items)) result) }
+        (IsResumed log (V.belongs verifier.now) L.view (saved_text limit L.json_of) L.state_of
+        saved.entry.bytes.items (record_lines input.entry.bytes.items)) result) }
 {
     match saved_state::<L>(alloc, &saved) {
         Ok(state) => state_after(alloc, verifier, limit, state, input),

@@ -3,7 +3,7 @@
 ghost use Rattle.warg_audit.specs.Files.Answers.{Answers};
 ghost use Rattle.tool_questions.specs.Questions.{IsStateText};
 ghost use Rattle.warg_audit.specs.Files.RecordLines.{record_lines};
-ghost use Rattle.tool_answers.specs.Texts.{json_text};
+ghost use Rattle.tool_answers.specs.Texts.{json_text, saved_text};
 ghost use Rattle.warg_audit.specs.ReportWords.{ForDisplay};
 ghost use Rattle.tool_answers.specs.Verdicts.{IsPrintedOf};
 ghost use Rattle.std.specs.Prelude.{◌≡◌};
@@ -47,7 +47,8 @@ pub fn state_answer<L: ToolLog, V: Verifier>(
 ) -> Result<CommandOutput, CommandError>
     ensures { ForDisplay L.log L.Record.reading L.report (λ log.
         Answers (IsPrintedOf log (V.belongs verifier.now)
-        (IsStateText log L.view (λ it. json_text limit (L.json_of it))) (record_lines input.entry.bytes.items)) result) }
+        (IsStateText log L.view (saved_text limit L.json_of))
+        (record_lines input.entry.bytes.items)) result) }
 {
     match load_state::<L, V>(alloc, verifier, input) {
         Ok((state, _)) => json_answer(alloc, limit, &state),
